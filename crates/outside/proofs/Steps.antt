@@ -1,0 +1,154 @@
+-- One call of a rack after another.
+use Rattle.std.proofs.Common.{◌≡◌, ℕ, ◌≤◌, ◌<◌, ◌⊎◌, ◌+◌, min, List, [], ◌++◌, ◌∷◌, take, length, Result, Ok, Err, IsTrue, IsFalse, rules, arith, inl, inr, refl, sym, ap, ◌∙◌, subst}
+use Rattle.std.proofs.Math.Seq.{take-length, take-append-add}
+use Rattle.std.proofs.lemmas.List.{take-append-le, take_min, length-take-le}
+use Rattle.outside.specs.Causes.{Rose, Asks}
+use Rattle.outside.specs.Rack.{RackState, KeepsRack, Creates, Writes, Finishes, put}
+use borrow.Rule.Slice.PartMut.{put_mid, post_of}
+use Rattle.std.proofs.Common.{append_assoc}
+use Rattle.outside.specs.Tray.{TrayState, KeepsTray, Reads}
+use Rattle.outside.specs.Reading.{Takes}
+use Rattle.outside.specs.Writing.{Grows, WritesOn, FillsFile, WritesFile}
+use Rattle.outside.proofs.Files.{grows_kept, grows_put, grows_then, grows_none}
+
+pub kept_then : (a b c : RackState) → KeepsRack a b → KeepsRack b c → KeepsRack a c
+kept_then a b c one two = record { tells = two.tells ∙ one.tells; faults = omega arith }
+
+-- A rise later on is a rise from the beginning.
+pub rose_before : (a b c : ℕ) → a ≤ b → Rose b c → Rose a c
+rose_before a b c le (inl less) = inl (omega arith)
+rose_before a b c le (inr last) = inr last
+
+-- A rise at first is a rise to the end.
+pub told_on : (a b : RackState) → KeepsRack a b → IsTrue a.tells → IsTrue b.tells
+told_on a b keeps tells = keeps.tells ∙ tells
+
+pub written_then_finished : {T U E D : Type 0} (bytes : List ℕ) (a b c : RackState) (x : T) (r : Result U D) → WritesOn {T = T} {E = E} bytes a b (Ok x) → Finishes b c r → FillsFile bytes a c r
+written_then_finished bytes a b c x (Ok y) wrote finished = record {
+  keeps = kept_then a b c wrote.keeps finished.keeps;
+  asked = finished.asked ∙ wrote.asked;
+  told = λ tells. finished.told (told_on a b wrote.keeps tells) ∙ wrote.told tells;
+  shut = finished.shut;
+  files = λ tells. grows_kept bytes a b c (finished.files (told_on a b wrote.keeps tells)) (wrote.files tells);
+  part = tt;
+  cause = tt;
+}
+written_then_finished bytes a b c x (Err e) wrote finished = record {
+  keeps = kept_then a b c wrote.keeps finished.keeps;
+  asked = finished.asked ∙ wrote.asked;
+  told = λ tells. finished.told (told_on a b wrote.keeps tells) ∙ wrote.told tells;
+  shut = tt;
+  files = tt;
+  part = λ tells. (length bytes, subst (λ (x : List ℕ). Grows x a c) (sym (take-length bytes)) (grows_kept bytes a b c (finished.files (told_on a b wrote.keeps tells)) (wrote.files tells)));
+  cause = rose_before a.faults b.faults c.faults wrote.keeps.faults finished.fails.cause;
+}
+
+pub created_then_filled : {T U E D : Type 0} (name bytes : List ℕ) (a b c : RackState) (x : T) (r : Result U D) → Creates {T = T} {E = E} name a b (Ok x) → FillsFile bytes b c r → WritesFile name bytes a c r
+created_then_filled name bytes a b c x (Ok y) created filled = record {
+  keeps = kept_then a b c created.keeps filled.keeps;
+  asked = subst (λ o. Asks a.asked o (name ∷ [])) (sym filled.asked) created.asked;
+  told = λ tells. filled.told (told_on a b created.keeps tells) ∙ created.told tells;
+  shut = filled.shut;
+  files = λ tells. grows_put name bytes a b c (created.current tells) (created.files tells) (filled.files (told_on a b created.keeps tells));
+  part = tt;
+  cause = tt;
+}
+created_then_filled name bytes a b c x (Err e) created filled = record {
+  keeps = kept_then a b c created.keeps filled.keeps;
+  asked = subst (λ o. Asks a.asked o (name ∷ [])) (sym filled.asked) created.asked;
+  told = λ tells. filled.told (told_on a b created.keeps tells) ∙ created.told tells;
+  shut = tt;
+  files = tt;
+  part = λ tells. let p = filled.part (told_on a b created.keeps tells) in inr (p.0, grows_put name (take p.0 bytes) a b c (created.current tells) (created.files tells) p.1);
+  cause = rose_before a.faults b.faults c.faults created.keeps.faults filled.cause;
+}
+
+-- Where a write fails after some of the piece is written, nothing more is.
+pub write_failed : {U E D : Type 0} (piece rest : List ℕ) (done : ℕ) (a b c : RackState) (e : E) (d : D) → KeepsRack a b → b.asked ≡ a.asked → (IsTrue a.tells → b.told ≡ a.told) → b.is_open ≡ a.is_open → (IsTrue a.tells → b.current ≡ a.current) → (IsTrue a.tells → Grows (take done piece) a b) → Writes rest b c (Err e) → WritesOn {T = U} piece a c (Err d)
+write_failed piece rest done a b c e d keeps asked told is_open current files wrote = record {
+  keeps = kept_then a b c keeps wrote.keeps;
+  asked = wrote.asked ∙ asked;
+  told = λ tells. wrote.told (told_on a b keeps tells) ∙ told tells;
+  is_open = wrote.is_open ∙ is_open;
+  current = λ tells. wrote.current (told_on a b keeps tells) ∙ current tells;
+  files = tt;
+  part = λ tells. (done, grows_kept (take done piece) a b c (wrote.fails.files (told_on a b keeps tells)) (files tells));
+  cause = rose_before a.faults b.faults c.faults keeps.faults wrote.fails.cause;
+}
+
+-- Two pieces, one behind the other.
+pub writes_then : {T U E D : Type 0} (p q : List ℕ) (a b c : RackState) (x : T) (r : Result U D) → WritesOn {T = T} {E = E} p a b (Ok x) → WritesOn q b c r → WritesOn {T = U} {E = D} (p ++ q) a c r
+writes_then p q a b c x (Ok y) one two = record {
+  keeps = kept_then a b c one.keeps two.keeps;
+  asked = two.asked ∙ one.asked;
+  told = λ tells. two.told (told_on a b one.keeps tells) ∙ one.told tells;
+  is_open = two.is_open ∙ one.is_open;
+  current = λ tells. two.current (told_on a b one.keeps tells) ∙ one.current tells;
+  files = λ tells. grows_then p q a b c (one.current tells) (one.files tells) (two.files (told_on a b one.keeps tells));
+  part = tt;
+  cause = tt;
+}
+writes_then p q a b c x (Err e) one two = record {
+  keeps = kept_then a b c one.keeps two.keeps;
+  asked = two.asked ∙ one.asked;
+  told = λ tells. two.told (told_on a b one.keeps tells) ∙ one.told tells;
+  is_open = two.is_open ∙ one.is_open;
+  current = λ tells. two.current (told_on a b one.keeps tells) ∙ one.current tells;
+  files = tt;
+  part = λ tells.
+      let k = two.part (told_on a b one.keeps tells) in
+      (length p + k.0, subst (λ (x : List ℕ). Grows x a c) (sym (take-append-add p q k.0)) (grows_then p (take k.0 q) a b c (one.current tells) (one.files tells) k.1));
+  cause = rose_before a.faults b.faults c.faults one.keeps.faults two.cause;
+}
+
+-- Where a piece fails, nothing of what comes behind it is written.
+pub writes_stopped : {T U E D : Type 0} (p q : List ℕ) (a b : RackState) (e : E) (d : D) → WritesOn {T = T} p a b (Err e) → WritesOn {T = U} (p ++ q) a b (Err d)
+writes_stopped p q a b e d one = record {
+  keeps = one.keeps;
+  asked = one.asked;
+  told = one.told;
+  is_open = one.is_open;
+  current = one.current;
+  files = tt;
+  part = λ tells.
+      let k = one.part tells in
+      (min k.0 (length p), subst (λ (x : List ℕ). Grows x a b) (sym (take-append-le (min k.0 (length p)) p q (omega arith) ∙ take_min k.0 p)) k.1);
+  cause = one.cause;
+}
+
+pub writes_none : {E : Type 0} (a : RackState) → WritesOn {T = Unit {0}} {E = E} [] a a (Ok tt)
+writes_none a = record {
+  keeps = record { tells = refl; faults = omega arith };
+  asked = refl;
+  told = λ tells. refl;
+  is_open = refl;
+  current = λ tells. refl;
+  files = λ tells. grows_none [] a;
+  part = tt;
+  cause = tt;
+}
+
+pub writes_as : {T E : Type 0} (p q : List ℕ) → p ≡ q → (a b : RackState) (r : Result T E) → WritesOn p a b r → WritesOn q a b r
+writes_as {T} {E} p q same a b r wrote = subst (λ (x : List ℕ). WritesOn {T = T} {E = E} x a b r) same wrote
+
+-- One read after another.
+pub takes_then : (p q : List ℕ) (a b c : TrayState) → Takes p a b → Takes q b c → Takes (p ++ q) a c
+takes_then p q a b c one two = record {
+  keeps = record { tells = two.keeps.tells ∙ one.keeps.tells; file = two.keeps.file ∙ one.keeps.file; faults = omega arith };
+  asked = two.asked ∙ one.asked;
+  begun = two.begun;
+  taken = λ tells. one.taken tells ∙ ap (λ (x : List ℕ). p ++ x) (two.taken (one.keeps.tells ∙ tells)) ∙ sym (append_assoc p q c.left);
+}
+
+pub takes_as : (p q : List ℕ) (a b : TrayState) → p ≡ q → Takes p a b → Takes q a b
+takes_as p q a b same takes = subst (λ (x : List ℕ). Takes x a b) same takes
+
+pub takes_read : {E : Type 0} (a b : TrayState) (n : ℕ) (buf : List ℕ) → Reads {E = E} a b (Ok n) buf → Takes (take n buf) a b
+takes_read a b n buf read = record { keeps = read.keeps; asked = read.asked; begun = read.begun; taken = read.taken }
+
+-- what the buffer holds after a read of a part of it
+pub filled_more : (buf part : List ℕ) (done k n : ℕ) → done ≤ length buf → n ≤ length part → take done buf ++ take n part ≡ take (done + n) (put_mid done k buf part)
+filled_more buf part done k n le within =
+    let front : length (take done buf) ≡ done = length-take-le done buf le in
+    let e : take (length (take done buf) + n) (put_mid done k buf part) ≡ take done buf ++ take n (part ++ post_of done k buf) = take-append-add (take done buf) (part ++ post_of done k buf) n in
+    ap (λ (x : List ℕ). take done buf ++ x) (sym (take-append-le n part (post_of done k buf) within)) ∙ sym e ∙ ap (λ (m : ℕ). take (m + n) (put_mid done k buf part)) front

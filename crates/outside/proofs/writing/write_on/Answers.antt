@@ -1,0 +1,49 @@
+use Rattle.std.proofs.Common.{rules, IsTrue, take, drop, length, ◌-◌, ◌≡◌, arith}
+use Rattle.outside.proofs.Files.{grows_none, grows_more, grows_all}
+use Rattle.outside.proofs.Steps.{write_failed}
+use Rattle.outside.proofs.writing.write_on.Goals as goal
+
+pub loop-done-init : goal.loop-done-init
+loop-done-init g c = record {
+  keeps = search rules;
+  asked = search rules;
+  told = search rules;
+  is_open = search rules;
+  current = search rules;
+  files = λ tells. grows_none c.args.piece.now (g.R.Rack.state c.args.rack.now);
+  within = search rules;
+}
+
+pub loop-done-preserved : goal.loop-done-preserved
+loop-done-preserved g c =
+    let write = c.in-Ok.ensures in
+    record {
+      keeps = search rules;
+      asked = search rules;
+      told = search rules;
+      is_open = search rules;
+      current = search rules;
+      files = λ tells.
+          let tells_here : IsTrue (g.R.Rack.state c.loop-done.rack).tells = cc in
+          grows_more c.args.piece.now c.loop-done.done c.in-Ok.count (g.R.Rack.state c.args.rack.now) (g.R.Rack.state c.loop-done.rack) (g.R.Rack.state c.write.new.self) (c.loop-done.invariant.current tells) (c.loop-done.invariant.files tells) (write.files tells_here);
+      within = search rules;
+    }
+
+pub returns-in-Err : goal.returns-in-Err
+returns-in-Err g c =
+    let here = c.loop-done.invariant in
+    write_failed c.args.piece.now (take (length c.args.piece.now - c.loop-done.done) (drop c.loop-done.done c.args.piece.now)) c.loop-done.done (g.R.Rack.state c.args.rack.now) (g.R.Rack.state c.loop-done.rack) (g.R.Rack.state c.write.new.self) _ _ here.keeps here.asked here.told here.is_open here.current here.files c.in-Err.ensures
+
+pub returns : goal.returns
+returns g c =
+    let here = c.loop-done.invariant in
+    record {
+      keeps = here.keeps;
+      asked = here.asked;
+      told = here.told;
+      is_open = here.is_open;
+      current = here.current;
+      files = λ tells. grows_all c.args.piece.now c.loop-done.done (g.R.Rack.state c.args.rack.now) (g.R.Rack.state c.loop-done.rack) (omega arith) (here.files tells);
+      part = tt;
+      cause = tt;
+    }

@@ -1,0 +1,10 @@
+pub mod Causes
+pub mod Tray
+pub mod Rack
+pub mod Reading
+pub mod Writing
+pub mod Memory
+pub mod Counts
+pub mod MemTrays
+pub mod Shelf
+pub mod MemRacks

@@ -1,0 +1,39 @@
+-- What it means to write on in the open file, and to write a whole file.
+use Rattle.std.specs.Prelude.{◌≡◌, ◌⊎◌, ℕ, IsTrue, IsFalse, List, [], ◌∷◌, ◌++◌, take, Option, Result, OnOk, OnErr}
+use Rattle.outside.specs.Causes.{Rose, Asks}
+use Rattle.outside.specs.Rack.{RackState, KeepsRack, put}
+
+-- Whatever bytes the current file has, the piece is put behind them.
+abbrev pub Grows : List ℕ → RackState → RackState → Type 0
+Grows piece before after = (bytes : List ℕ) (files : List ℕ → Option (List ℕ)) → before.file ≡ put before.current bytes files → after.file ≡ put before.current (bytes ++ piece) files
+
+-- The piece is written whole at the end of the open file, or a front of it and a fault.
+pub record WritesOn {T E : Type 0} (piece : List ℕ) (before after : RackState) (result : Result T E) : Type 0 where
+  pub keeps : KeepsRack before after
+  pub asked : after.asked ≡ before.asked
+  pub told : IsTrue before.tells → after.told ≡ before.told
+  pub is_open : after.is_open ≡ before.is_open
+  pub current : IsTrue before.tells → after.current ≡ before.current
+  pub files : OnOk result (IsTrue before.tells → Grows piece before after)
+  pub part : OnErr result (IsTrue before.tells → (k : ℕ) × Grows (take k piece) before after)
+  pub cause : OnErr result (Rose before.faults after.faults)
+
+-- The rest of the open file is written, and the file is finished.
+pub record FillsFile {T E : Type 0} (bytes : List ℕ) (before after : RackState) (result : Result T E) : Type 0 where
+  pub keeps : KeepsRack before after
+  pub asked : after.asked ≡ before.asked
+  pub told : IsTrue before.tells → after.told ≡ before.told
+  pub shut : OnOk result (IsFalse after.is_open)
+  pub files : OnOk result (IsTrue before.tells → Grows bytes before after)
+  pub part : OnErr result (IsTrue before.tells → (k : ℕ) × Grows (take k bytes) before after)
+  pub cause : OnErr result (Rose before.faults after.faults)
+
+-- All bytes stand under the name, and everything else is as it was.
+pub record WritesFile {T E : Type 0} (name bytes : List ℕ) (before after : RackState) (result : Result T E) : Type 0 where
+  pub keeps : KeepsRack before after
+  pub asked : Asks before.asked after.asked (name ∷ [])
+  pub told : IsTrue before.tells → after.told ≡ before.told
+  pub shut : OnOk result (IsFalse after.is_open)
+  pub files : OnOk result (IsTrue before.tells → after.file ≡ put name bytes before.file)
+  pub part : OnErr result (IsTrue before.tells → (after.file ≡ before.file) ⊎ ((k : ℕ) × (after.file ≡ put name (take k bytes) before.file)))
+  pub cause : OnErr result (Rose before.faults after.faults)

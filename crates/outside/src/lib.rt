@@ -1,0 +1,15 @@
+//! Files and text of the world outside, by two traits, and what stands for them in memory and on a disk.
+#![tactic(auto)]
+
+pub mod disk_rack;
+pub mod disk_tray;
+pub mod endless_tray;
+mod mem_calls;
+pub mod mem_rack;
+pub mod mem_tray;
+pub mod memory;
+pub mod rack;
+pub mod reading;
+pub mod shelf;
+pub mod tray;
+pub mod writing;

@@ -1,0 +1,45 @@
+ghost use Rattle.std.specs.Prelude.{◌≡◌, ◌≤◌, ◌==◌, ◌∷◌, [], Some, None, cond};
+ghost use Rattle.std.specs.List.{list_any};
+ghost use Rattle.outside.specs.Counts.{one_more};
+ghost use Rattle.outside.specs.Causes.{Rose, Asks};
+
+use crate::tray::Failed;
+use page_model::list::List;
+use page_model::parts::Name;
+use std::alloc::Global;
+
+// Whether the call of that number is to fail.
+fn is_listed(calls: &[u64], number: u64) -> bool
+    ensures { result ≡ list_any (λ call. call == number) calls.now }
+{
+    calls.iter().any(|call| *call == number)
+}
+
+// Adds a name to those that were asked for, while there is memory and they are told.
+pub(crate) fn note(alloc: Global, asked: &mut List<Name>, is_told: bool, name: &str) -> bool
+    ensures { Asks (cond is_told (Some asked.old) None) (cond result (Some asked.new) None) (name.now ∷ []) }
+{
+    let mut copy: Vec<u8> = Vec::new(alloc);
+    match copy.extend_from_slice(name.as_bytes()) {
+        Ok(()) => is_told && asked.push(List::from_vec(copy)).is_ok(),
+        Err(_) => false,
+    }
+}
+
+// Counts a call, and says whether it is to fail.
+pub(crate) fn is_failing(calls: &mut u64, fails: &[u64]) -> bool
+    ensures answer { result ≡ list_any (λ call. call == calls.old) fails.now }
+    ensures counted { calls.new ≡ one_more calls.old }
+{
+    let number = *calls;
+    *calls = number.saturating_add(1);
+    is_listed(fails, number)
+}
+
+pub(crate) fn fault(faults: &mut u64) -> Failed
+    ensures rose { Rose faults.old faults.new }
+    ensures later { faults.old ≤ faults.new }
+{
+    *faults = faults.saturating_add(1);
+    Failed
+}

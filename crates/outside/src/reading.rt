@@ -1,0 +1,63 @@
+ghost use Rattle.std.specs.Prelude.{◌≡◌, IsTrue, ◌∷◌, [], ◌++◌, ◌≤◌, ◌-◌, length, take, drop, IfOk, IsErrOf};
+ghost use Rattle.outside.specs.Causes.{Rose, Asks};
+ghost use Rattle.outside.specs.Tray.{KeepsTray};
+ghost use Rattle.outside.specs.Reading.{TakesFront};
+
+use crate::tray::{Failed, Tray};
+use page_model::list::List;
+use page_model::parts::Name;
+use std::alloc::Global;
+
+#[derive(Clone, Copy, Debug, Drop, PartialEq, Eq)]
+pub enum ReadRefusal {
+    ReadFault,
+    OutOfMemory,
+}
+
+const PIECE: usize = 4096;
+
+/// Reads the file of that name to its end, or until `most` bytes are taken.
+pub fn read_file<T: Tray>(
+    alloc: Global,
+    tray: &mut T,
+    name: &str,
+    most: u32,
+) -> Result<Name, ReadRefusal>
+    ensures keeps { KeepsTray (T.state tray.old) (T.state tray.new) }
+    ensures asked { Asks (T.state tray.old).asked (T.state tray.new).asked (name.now ∷ []) }
+    ensures taken { IfOk result (λ bytes. IsTrue (T.state tray.old).tells → TakesFront name.now most (T.state tray.old) (T.state tray.new) bytes) }
+    ensures cause { IsErrOf result ReadRefusal.ReadFault → Rose (T.state tray.old).faults (T.state tray.new).faults }
+{
+    match tray.begin(name) {
+        Ok(()) => match read_on(alloc, tray, most as usize) {
+            Ok(bytes) => Ok(List::from_vec(bytes)),
+            Err(refusal) => Err(refusal),
+        },
+        Err(Failed) => Err(ReadRefusal::ReadFault),
+    }
+}
+
+// Reads on in the file that is begun.
+fn read_on<T: Tray>(alloc: Global, tray: &mut T, most: usize) -> Result<Vec<u8>, ReadRefusal>
+    requires { IsTrue (T.state tray.old).begun }
+    ensures keeps { KeepsTray (T.state tray.old) (T.state tray.new) }
+    ensures asked { (T.state tray.new).asked ≡ (T.state tray.old).asked }
+    ensures taken { IfOk result (λ bytes. IsTrue (T.state tray.old).tells → bytes.items ≡ take most (T.state tray.old).left) }
+    ensures left { IfOk result (λ bytes. IsTrue (T.state tray.old).tells → (T.state tray.new).left ≡ drop most (T.state tray.old).left) }
+    ensures cause { IsErrOf result ReadRefusal.ReadFault → Rose (T.state tray.old).faults (T.state tray.new).faults }
+{
+    let mut bytes: Vec<u8> = Vec::new(alloc);
+    let mut piece = [0u8; PIECE];
+    while bytes.len() < most {
+        let want = PIECE.min(most - bytes.len());
+        match tray.read(&mut piece[..want]) {
+            Ok(0) => return Ok(bytes),
+            Ok(count) => match bytes.extend_from_slice(&piece[..count]) {
+                Ok(()) => {}
+                Err(_) => return Err(ReadRefusal::OutOfMemory),
+            },
+            Err(Failed) => return Err(ReadRefusal::ReadFault),
+        }
+    }
+    Ok(bytes)
+}

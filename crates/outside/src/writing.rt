@@ -1,0 +1,41 @@
+ghost use Rattle.std.specs.Prelude.{IsTrue};
+ghost use Rattle.outside.specs.Writing.{WritesFile, WritesOn, FillsFile};
+
+use crate::rack::Rack;
+use crate::tray::Failed;
+
+/// Writes a whole file of that name.
+pub fn write_file<R: Rack>(rack: &mut R, name: &str, bytes: &[u8]) -> Result<(), Failed>
+    ensures { WritesFile name.now bytes.now (R.state rack.old) (R.state rack.new) result }
+{
+    match rack.create(name) {
+        Ok(()) => fill(rack, bytes),
+        Err(Failed) => Err(Failed),
+    }
+}
+
+// Writes all of the open file, and finishes it.
+fn fill<R: Rack>(rack: &mut R, bytes: &[u8]) -> Result<(), Failed>
+    requires { IsTrue (R.state rack.old).is_open }
+    ensures { FillsFile bytes.now (R.state rack.old) (R.state rack.new) result }
+{
+    match write_on(rack, bytes) {
+        Ok(()) => rack.finish(),
+        Err(Failed) => Err(Failed),
+    }
+}
+
+/// Writes a piece at the end of the open file.
+pub fn write_on<R: Rack>(rack: &mut R, piece: &[u8]) -> Result<(), Failed>
+    requires { IsTrue (R.state rack.old).is_open }
+    ensures { WritesOn piece.now (R.state rack.old) (R.state rack.new) result }
+{
+    let mut done = 0usize;
+    while done < piece.len() {
+        match rack.write(&piece[done..]) {
+            Ok(count) => done += count,
+            Err(Failed) => return Err(Failed),
+        }
+    }
+    Ok(())
+}

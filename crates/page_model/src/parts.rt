@@ -1,0 +1,127 @@
+use crate::list::List;
+
+/// Want of memory, where that is the only refusal.
+#[derive(Clone, Copy, Debug, Drop, PartialEq, Eq)]
+pub struct OutOfMemory;
+
+/// Tints or samples, row by row from the top.
+pub type Tints = List<u16>;
+
+/// The bytes of a name or of a text.
+pub type Name = List<u8>;
+
+/// Counts of samples.
+pub type CountList = List<u64>;
+
+/// Numbers of calls, from 0.
+pub type CallList = List<u64>;
+
+/// Names, each a list of bytes.
+pub type NameList = List<Name>;
+
+/// A sample of a page: column from the left and row from the top, from 0.
+#[derive(Clone, Copy, Debug, Drop, PartialEq, Eq)]
+pub struct At {
+    pub x: u32,
+    pub y: u32,
+}
+
+/// An edge between two neighbouring samples, as a point of the doubled grid, in half-samples. One coordinate is odd.
+#[derive(Clone, Copy, Debug, Drop, PartialEq, Eq)]
+pub struct EdgeAt {
+    pub x2: u32,
+    pub y2: u32,
+}
+
+/// How an ink behaves in trapping.
+#[derive(Clone, Copy, Debug, Drop, PartialEq, Eq)]
+pub enum InkKind {
+    /// Counts towards the density, and spreads.
+    Normal,
+    /// Neither counts nor spreads.
+    Transparent,
+    /// Counts towards the density, and does not spread.
+    Opaque,
+    /// Neither counts nor spreads, and shuts each sample that it covers.
+    OpaqueIgnore,
+}
+
+/// The ink of a plate: its colorant's name, its neutral density in ten-thousandths, and its kind.
+#[derive(Drop)]
+pub struct Ink {
+    pub name: Name,
+    pub density: u32,
+    pub kind: InkKind,
+}
+
+/// Inks, one for each plate of a page or for each colorant that a job names.
+pub type InkList = List<Ink>;
+
+/// The inks that a job's TrappingDetails name.
+pub type DetailList = List<Ink>;
+
+/// How a zone is trapped. All numbers are ten-thousandths: of a point for the trap width, of 1 for the others.
+#[derive(Clone, Copy, Debug, Drop, PartialEq, Eq)]
+pub struct TrapParams {
+    pub trap_width: u32,
+    pub black_width: u32,
+    pub black_color_limit: u32,
+    pub black_density_limit: u32,
+    pub step_limit: u32,
+    pub sliding_trap_limit: u32,
+    pub trap_color_scaling: u32,
+    pub enabled: bool,
+}
+
+/// A vertex of a path, in ten-thousandths of a point from the page's lower left corner. `starts` begins a subpath.
+#[derive(Clone, Copy, Debug, Drop, PartialEq, Eq)]
+pub struct Vertex {
+    pub x: i64,
+    pub y: i64,
+    pub starts: bool,
+}
+
+/// The vertices of a path, subpath after subpath.
+pub type VertexList = List<Vertex>;
+
+/// The step limit of one colorant in a zone, in ten-thousandths.
+#[derive(Drop)]
+pub struct Limit {
+    pub name: Name,
+    pub step: u32,
+}
+
+/// The step limits that a zone names.
+pub type LimitList = List<Limit>;
+
+/// A zone: its parameters, the path that it covers, and its step limits for single colorants.
+#[derive(Drop)]
+pub struct Zone {
+    pub params: TrapParams,
+    pub path: VertexList,
+    pub limits: LimitList,
+}
+
+/// The zones of a page, zone 0 first.
+pub type ZoneList = List<Zone>;
+
+/// A plate's tints: `width * height` of them, row by row from the top, 0 for no ink and `maxval` for full ink.
+#[derive(Drop)]
+pub struct Plane {
+    pub width: u32,
+    pub height: u32,
+    pub maxval: u32,
+    pub tints: Tints,
+}
+
+/// The planes of a page, in the order of its plates.
+pub type PlaneList = List<Plane>;
+
+/// All that a page is made of. The resolution is in pixels per inch.
+#[derive(Drop)]
+pub struct PageParts {
+    pub resolution: u32,
+    pub planes: PlaneList,
+    pub inks: InkList,
+    pub zones: ZoneList,
+}
