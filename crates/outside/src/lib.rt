@@ -7,7 +7,7 @@ pub mod endless_tray;
 mod mem_calls;
 pub mod mem_rack;
 pub mod mem_tray;
-pub mod memory;
+pub mod mem_file;
 pub mod rack;
 pub mod reading;
 pub mod shelf;
