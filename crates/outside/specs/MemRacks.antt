@@ -30,7 +30,8 @@ rack_of m = record {
   is_open = m.is_open;
   current = name_of m.current;
   asked = m.asked;
-  faults = m.faults }
+  faults = m.faults;
+}
 
 -- no file, no text, and no call yet
 abbrev pub fresh_rack : ℕ → ℕ → List ℕ → MemRackState

@@ -30,7 +30,8 @@ tray_of m = record {
   begun = is_some m.place;
   left = left_at m.files m.place m.taken;
   asked = m.asked;
-  faults = m.faults }
+  faults = m.faults;
+}
 
 -- these files, of which none is begun, and no call was made
 abbrev pub fresh_tray : List MemFile → ℕ → List ℕ → MemTrayState

@@ -159,5 +159,9 @@ fn most_of(len: usize, grain: usize, room: u64) -> usize
     ensures { result ≡ min (min len grain) room }
 {
     let most = len.min(grain);
-    if room < most as u64 { room as usize } else { most }
+    if room < most as u64 {
+        room as usize
+    } else {
+        most
+    }
 }

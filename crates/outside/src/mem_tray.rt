@@ -32,7 +32,6 @@ impl Model for MemTray {
 
     ghost Value = { MemTrayState };
 
-
     ghost view = { λ m. record { files = m.files; grain = m.grain; fails = m.fails; calls = m.calls; place = m.place; taken = m.taken; asked = cond m.is_asked_told (Some m.asked) None; faults = m.faults } };
 
     ghost use Rattle.outside.specs.MemTrays.{IsTrayInside};
