@@ -232,7 +232,7 @@ same_number from ns bytes b ran e =
 digit_not : (b : ℕ) → is_digit b ≡ true → is_digit b ≡ false → ⊥
 digit_not b does isnt = let e : true ≡ false = sym does ∙ isnt in cc
 
-not_numbered : (bytes : List ℕ) → (Ends bytes → ⊥) → (fault : PlateFault) → NumberFault bytes fault → ⊥
+pub not_numbered : (bytes : List ℕ) → (Ends bytes → ⊥) → (fault : PlateFault) → NumberFault bytes fault → ⊥
 not_numbered bytes none fault h = none (fault_ends bytes fault h)
 
 judged_number : (scan : Scan) (ns bytes : List ℕ) (b : ℕ) → run Start [] bytes ≡ Some (reached Digits ns) → Fits Digits scan ns bytes → InRange scan.sides → number_fault scan.sides scan.number scan.first ≡ None → (fault : PlateFault) → NumberFault (bytes ++ b ∷ []) fault → ⊥
