@@ -1,5 +1,5 @@
 -- What the parts of the reader do. No public clause cites this file.
-use Rattle.std.specs.Prelude.{◌≡◌, ◌⊎◌, ℕ, ◌+◌, ◌*◌, ◌<◌, ◌≤◌, IsTrue, List, [], ◌∷◌, ◌++◌, length, take, drop, Option, Some, None, Result, Ok, Err}
+use Rattle.std.specs.Prelude.{◌≡◌, ◌⊎◌, ℕ, ◌+◌, ◌*◌, ◌<◌, ◌≤◌, IsTrue, List, [], ◌∷◌, ◌++◌, length, take, drop, slice_index, Option, Some, None, Result, Ok, Err}
 use Rattle.std.specs.List.{All}
 use Rattle.outside.specs.Causes.{Rose}
 use Rattle.outside.specs.Tray.{TrayState}
@@ -83,3 +83,19 @@ EndsFile at before after (Ok done) = Takes [] before after × AtEnd before after
 EndsFile at before after (Err (Fault (TrailingBytes place))) = (last : ℕ) × Takes (last ∷ []) before after × (place ≡ at)
 EndsFile at before after (Err ReadFault) = Takes [] before after × Rose before.faults after.faults
 EndsFile at before after (Err other) = ⊥
+
+abbrev pub ReadsRaster : ℕ → ℕ → ℕ → TrayState → TrayState → Result (List ℕ) PlateRefusal → Type 0
+ReadsRaster maxval count start before after (Ok samples) = RasterTaken maxval count before after samples
+ReadsRaster maxval count start before after (Err refusal) = RasterRefused maxval count start before after refusal
+
+-- the bytes of samples, and a byte of one more or none
+pub record IsDecoded (maxval : ℕ) (bytes samples : List ℕ) : Type 0 where
+  pub half : List ℕ
+  pub whole : bytes ≡ raster maxval samples ++ half
+  pub short : length half < sample_size maxval
+
+-- the first sample that does not fit
+pub record FirstAbove (maxval : ℕ) (samples : List ℕ) (place : ℕ) : Type 0 where
+  pub within : place < length samples
+  pub fit : Fit maxval (take place samples)
+  pub above : maxval < slice_index samples place

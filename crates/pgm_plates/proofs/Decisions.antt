@@ -5,6 +5,7 @@ use Rattle.std.proofs.lemmas.Bool.{cases_lt, cases_Bool}
 use Rattle.std.proofs.lemmas.Bool.Decides.{nat_tests}
 use Rattle.std.proofs.lemmas.List.{append_assoc, append-nil, take-append-drop, take-append-le, take_all, same_from_push, length-append, length_push, length-take-le}
 use Rattle.std.proofs.lemmas.List.Elements.{All-head, All-tail}
+use Rattle.std.proofs.Math.Nat.{add-mul, mul-le-mul_right, le-mul_of_pos_right}
 use Rattle.std.proofs.Math.Seq.{take-length, take-append-add, take-append_seam}
 use Rattle.pgm_plates.specs.declared.plate.Plate.{Plate}
 use Rattle.pgm_plates.specs.declared.plate.PlateFault.{PlateFault}
@@ -25,11 +26,14 @@ bytes_size maxval sample =
 pub some_size : (maxval : ℕ) → (1 ≤ sample_size maxval) × (sample_size maxval ≤ 2)
 some_size maxval = elim (ltb maxval 256) as (λ t. (1 ≤ cond t 1 2) × (cond t 1 2 ≤ 2)) [ true ↦ (omega arith, omega arith) | false ↦ (omega arith, omega arith) ]
 
+no_times : (k : ℕ) → 0 ≡ 0 * k
+no_times k = omega arith
+
 more_times : (n k : ℕ) → k + n * k ≡ suc n * k
 more_times n k = grind arith
 
 pub raster_size : (maxval : ℕ) (samples : List ℕ) → length (raster maxval samples) ≡ length samples * sample_size maxval
-raster_size maxval [] = refl
+raster_size maxval [] = no_times (sample_size maxval)
 raster_size maxval (s ∷ samples) =
     let e : length (sample_bytes maxval s ++ raster maxval samples) ≡ sample_size maxval + length samples * sample_size maxval =
       length-append (sample_bytes maxval s) (raster maxval samples) ∙ ap (λ (n : ℕ). n + length (raster maxval samples)) (bytes_size maxval s) ∙ ap (λ (n : ℕ). sample_size maxval + n) (raster_size maxval samples) in
@@ -110,8 +114,8 @@ no_end header t w h m is some ends =
 
 too_long : (n k all size t u : ℕ) → n + k ≤ all → k < size → t ≡ all * size + 1 → t + u ≡ n * size + k → ⊥
 too_long n k all size t u few short long within =
-    let more : n * size + k * size ≤ all * size = grind (arith, common_steps) in
-    let k_size : k ≤ k * size = grind (arith, common_steps) in
+    let more : n * size + k * size ≤ all * size = subst (λ (z : ℕ). z ≤ all * size) (add-mul n k size) (mul-le-mul_right size few) in
+    let k_size : k ≤ k * size = le-mul_of_pos_right k (let h : 0 < size = omega arith in h) in
     omega arith
 
 -- no byte of the raster decides a fault
