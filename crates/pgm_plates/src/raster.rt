@@ -5,7 +5,7 @@ ghost use Rattle.pgm_plates.specs.Plates.{sample_size as bytes_of_sample};
 ghost use Rattle.pgm_plates.specs.Readers.{ReadsPiece, ReadsRaster};
 
 use crate::plate::{PlateFault, PlateRefusal};
-use crate::samples::{decode, first_above, sample_size};
+use crate::samples::{sample_size, take_samples};
 use outside::tray::{Failed, Tray};
 use page_model::list::List;
 use page_model::parts::Tints;
@@ -87,15 +87,14 @@ fn read_piece<T: Tray>(tray: &mut T, samples: &mut [u16], bytes: &mut [u8], maxv
     let size = sample_size(maxval);
     let (filled, end) = fill(tray, bytes);
     let whole = filled / size;
-    decode(&bytes[..filled], maxval, &mut samples[..whole]);
     // What was filled before the file ended or a read failed is judged first.
-    if let Some(place) = first_above(&samples[..whole], maxval) {
-        return Err(PlateRefusal::Fault(PlateFault::SampleAboveMaxval(start + (place * size) as u64)));
-    }
-    match end {
-        Filled::Whole => Ok(()),
-        Filled::End => Err(PlateRefusal::Fault(PlateFault::Truncated(start + filled as u64))),
-        Filled::Broken => Err(PlateRefusal::ReadFault),
+    match take_samples(&bytes[..filled], maxval, &mut samples[..whole]) {
+        Some(place) => Err(PlateRefusal::Fault(PlateFault::SampleAboveMaxval(start + (place * size) as u64))),
+        None => match end {
+            Filled::Whole => Ok(()),
+            Filled::End => Err(PlateRefusal::Fault(PlateFault::Truncated(start + filled as u64))),
+            Filled::Broken => Err(PlateRefusal::ReadFault),
+        },
     }
 }
 

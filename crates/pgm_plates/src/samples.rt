@@ -22,7 +22,7 @@ pub fn are_fit(samples: &[u16], maxval: u32) -> bool
 }
 
 // The place of the first sample that is above the maxval.
-pub fn first_above(samples: &[u16], maxval: u32) -> Option<usize>
+fn first_above(samples: &[u16], maxval: u32) -> Option<usize>
     ensures fit { IfNone result (Fit maxval samples.now) }
     ensures above { IfSome result (FirstAbove maxval samples.now) }
 {
@@ -37,8 +37,18 @@ pub fn first_above(samples: &[u16], maxval: u32) -> Option<usize>
     None
 }
 
-// The samples that these bytes spell.
-pub fn decode(bytes: &[u8], maxval: u32, samples: &mut [u16])
+// Decodes the whole samples in these bytes, and finds the first that is above the maxval.
+pub fn take_samples(bytes: &[u8], maxval: u32, samples: &mut [u16]) -> Option<usize>
+    requires { length samples.old ≡ length bytes.now / bytes_of_sample maxval }
+    ensures decoded { IsDecoded maxval bytes.now samples.new }
+    ensures fit { IfNone result (Fit maxval samples.new) }
+    ensures above { IfSome result (FirstAbove maxval samples.new) }
+{
+    decode(bytes, maxval, samples);
+    first_above(samples, maxval)
+}
+
+fn decode(bytes: &[u8], maxval: u32, samples: &mut [u16])
     requires { length samples.old ≡ length bytes.now / bytes_of_sample maxval }
     ensures { IsDecoded maxval bytes.now samples.new }
 {
