@@ -10,8 +10,10 @@ use Rattle.outside.specs.Reading.{Takes}
 use Rattle.outside.proofs.Steps.{takes_then, takes_as, takes_read, rose_before}
 use Rattle.pgm_plates.specs.declared.stand.Stand.{Stand}
 use Rattle.pgm_plates.specs.declared.stand.Stand.TheVariants.{Start, Ended}
-use Rattle.pgm_plates.specs.declared.header.Sides.TheVariants.{Neither}
+use Rattle.pgm_plates.specs.declared.header.Sides.TheVariants.{Neither, Both}
+use Rattle.pgm_plates.specs.declared.header.Sides.{Sides}
 use Rattle.pgm_plates.specs.declared.header.Scan.{Scan}
+use Rattle.pgm_plates.specs.declared.header.Header.{Header}
 use Rattle.pgm_plates.specs.declared.plate.Plate.{Plate}
 use Rattle.pgm_plates.specs.declared.plate.PlateFault.{PlateFault}
 use Rattle.pgm_plates.specs.declared.plate.PlateFault.TheVariants.{BadMagic, BadHeader, SideRange, TooManySamples, MaxvalRange, SampleAboveMaxval, Truncated, TrailingBytes}
@@ -22,7 +24,7 @@ use Rattle.pgm_plates.specs.Plates.{IsPlateFile, raster}
 use Rattle.pgm_plates.specs.Faults.{Decides, NumberFault, HoldsNoHeader, IsFault}
 use Rattle.pgm_plates.specs.Reading.{AreFew, AnswersPlate, AtEnd, IsTruncated}
 use Rattle.pgm_plates.specs.Runs.{Reached, run}
-use Rattle.pgm_plates.specs.Scanning.{Scanned, scan_step, IsClean}
+use Rattle.pgm_plates.specs.Scanning.{Scanned, Fits, InRange, header_of, scan_step, IsClean}
 use Rattle.pgm_plates.specs.Readers.{Answers, HeaderRead}
 use Rattle.pgm_plates.proofs.HeaderSound.{no_step}
 use Rattle.pgm_plates.proofs.HeaderRun.{reached, runs_begun, unended, header_run, ended_header}
@@ -42,7 +44,7 @@ pub record Came (before now : TrayState) (scan : Scan) (count : ℕ) : Type 0 wh
 no_end : (bytes : List ℕ) → length bytes ≡ 0 → Ends bytes → ⊥
 no_end bytes none e = omega (arith, ap length e.ends.whole, length-append (e.ends.front ++ e.ends.gap ++ e.ends.digits) (e.ends.next ∷ []))
 
-abbrev fresh : Scan
+abbrev pub fresh : Scan
 fresh = record { stand = Start; sides = Neither; number = 0; first = 0 }
 
 pub scanned_none : Scanned [] fresh
@@ -148,15 +150,67 @@ came_more a b c scan next count byte came took short step =
       scan_more bytes byte scan next came.scanned (omega (arith, came.size)) (ap (scan_step scan byte) came.size ∙ step),
       length_push bytes byte ∙ ap (λ (n : ℕ). n + 1) came.size)
 
-pub came_on : (a b c : TrayState) (scan next : Scan) (count byte : ℕ) → Came a b scan count → Takes (byte ∷ []) b c → count < 65536 → scan_step scan byte count ≡ Ok next → (next.stand ≡ Ended → ⊥) → Came a c next (count + 1)
-came_on a b c scan next count byte came took short step going =
-    let on = came_more a b c scan next count byte came took short step in
-    record { bytes = on.0; takes = on.1; scanned = on.2; going = going; size = on.3 }
+some_header : (x y : Header) → Some x ≡ Some y → x ≡ y
+some_header x y e = cc
 
-pub header_ends : (a b c : TrayState) (scan next : Scan) (count byte : ℕ) → Came a b scan count → Takes (byte ∷ []) b c → count < 65536 → scan_step scan byte count ≡ Ok next → next.stand ≡ Ended → HeaderRead a c next (count + 1)
-header_ends a b c scan next count byte came took short step ended =
+none_header : (x : Header) → None ≡ Some x → ⊥
+none_header x e = cc
+
+both_numbers : (n m w h w' h' : ℕ) → n ≡ m → Both w h ≡ Both w' h' → n ∷ h ∷ w ∷ [] ≡ m ∷ h' ∷ w' ∷ []
+both_numbers n m w h w' h' same sides =
+    let e : w ≡ w' = cc in
+    let f : h ≡ h' = cc in
+    cc
+
+header_as : (bytes : List ℕ) (w h m w' h' m' : ℕ) → m' ∷ h' ∷ w' ∷ [] ≡ m ∷ h ∷ w ∷ [] → IsHeader bytes w h m → IsHeader bytes w' h' m'
+header_as bytes w h m w' h' m' same header =
+    let a : w ≡ w' = cc in
+    let b : h ≡ h' = cc in
+    let c : m ≡ m' = cc in
+    subst (λ (x : ℕ). IsHeader bytes x h' m') a (subst (λ (x : ℕ). IsHeader bytes w x m') b (subst (λ (x : ℕ). IsHeader bytes w h x) c header))
+
+header_sides : (stand : Stand) (sides : Sides) (maxval : ℕ) (header : Header) → header_of stand sides maxval ≡ Some header → (stand ≡ Ended) × (sides ≡ Both header.width header.height) × (maxval ≡ header.maxval)
+header_sides Ended (Both w h) maxval header e =
+    let is : record { width = w; height = h; maxval = maxval } ≡ header = some_header _ header e in
+    (refl, ap (λ (x : Header). Both x.width x.height) is, ap (λ (x : Header). x.maxval) is)
+header_sides stand sides maxval header e = absurd (none_header header e)
+
+pub header_ends : (a b c : TrayState) (scan next : Scan) (count byte : ℕ) (header : Header) → Came a b scan count → Takes (byte ∷ []) b c → count < 65536 → scan_step scan byte count ≡ Ok next → header_of next.stand next.sides next.number ≡ Some header → HeaderRead a c header (count + 1)
+header_ends a b c scan next count byte header came took short step e =
     let on = came_more a b c scan next count byte came took short step in
-    record { bytes = on.0; takes = on.1; scanned = on.2; ended = ended; size = on.3; short = omega arith }
+    let bytes = on.0 in
+    let scanned = on.2 in
+    let is = header_sides next.stand next.sides next.number header e in
+    let fits : Fits Ended next scanned.ns bytes = subst (λ (s : Stand). Fits s next scanned.ns bytes) is.0 scanned.fits in
+    let ranges : InRange (Both header.width header.height) = subst InRange is.1 scanned.ranges in
+    let numbers : scanned.ns ≡ header.maxval ∷ header.height ∷ header.width ∷ [] = fits.3 ∙ both_numbers next.number header.maxval fits.0 fits.1 header.width header.height is.2 (sym fits.2 ∙ is.1) in
+    let standing = ended_header (header.maxval ∷ header.height ∷ header.width ∷ []) bytes
+      (scanned.ran ∙ ap (λ (s : Stand). Some (reached s scanned.ns)) is.0 ∙ ap (λ (x : List ℕ). Some (reached Ended x)) numbers) in
+    let same : header.maxval ∷ header.height ∷ header.width ∷ [] ≡ standing.2 ∷ standing.1 ∷ standing.0 ∷ [] = standing.3 in
+    record {
+      bytes = bytes;
+      takes = on.1;
+      is_header = header_as bytes standing.0 standing.1 standing.2 header.width header.height header.maxval same standing.4;
+      clean = still_clean bytes next scanned (inl is.0);
+      size = on.3;
+      short = omega arith;
+      width = ranges.0;
+      height = ranges.1;
+      product = ranges.2;
+      positive = subst (λ (n : ℕ). 0 < n) is.2 fits.4;
+      maxval = subst (λ (n : ℕ). n ≤ 65535) is.2 fits.5;
+    }
+
+pub header_going : (bytes : List ℕ) (next : Scan) → Scanned bytes next → header_of next.stand next.sides next.number ≡ None → next.stand ≡ Ended → ⊥
+header_going bytes next scanned none ended =
+    let fits : Fits Ended next scanned.ns bytes = subst (λ (s : Stand). Fits s next scanned.ns bytes) ended scanned.fits in
+    none_header (record { width = fits.0; height = fits.1; maxval = next.number })
+      (sym none ∙ ap (λ (s : Stand). header_of s next.sides next.number) ended ∙ ap (λ (s : Sides). header_of Ended s next.number) fits.2)
+
+pub came_on : (a b c : TrayState) (scan next : Scan) (count byte : ℕ) → Came a b scan count → Takes (byte ∷ []) b c → count < 65536 → scan_step scan byte count ≡ Ok next → header_of next.stand next.sides next.number ≡ None → Came a c next (count + 1)
+came_on a b c scan next count byte came took short step none =
+    let on = came_more a b c scan next count byte came took short step in
+    record { bytes = on.0; takes = on.1; scanned = on.2; going = header_going on.0 next on.2 none; size = on.3 }
 
 pub header_faults : (a b c : TrayState) (scan : Scan) (count byte : ℕ) (fault : PlateFault) → Came a b scan count → Takes (byte ∷ []) b c → count < 65536 → scan_step scan byte count ≡ Err fault → Answers a c (Err (Fault fault))
 header_faults a b c scan count byte fault came took short step =

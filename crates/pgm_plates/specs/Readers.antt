@@ -4,16 +4,16 @@ use Rattle.std.specs.List.{All}
 use Rattle.outside.specs.Causes.{Rose}
 use Rattle.outside.specs.Tray.{TrayState}
 use Rattle.outside.specs.Reading.{Takes}
-use Rattle.pgm_plates.specs.declared.stand.Stand.TheVariants.{Ended}
-use Rattle.pgm_plates.specs.declared.header.Scan.{Scan}
+use Rattle.pgm_plates.specs.declared.header.Header.{Header}
 use Rattle.pgm_plates.specs.declared.plate.Plate.{Plate}
 use Rattle.pgm_plates.specs.declared.plate.PlateFault.{PlateFault}
 use Rattle.pgm_plates.specs.declared.plate.PlateFault.TheVariants.{SampleAboveMaxval, Truncated, TrailingBytes}
 use Rattle.pgm_plates.specs.declared.plate.PlateRefusal.{PlateRefusal}
 use Rattle.pgm_plates.specs.declared.plate.PlateRefusal.TheVariants.{Fault, ReadFault, OutOfMemory}
-use Rattle.pgm_plates.specs.Plates.{sample_bytes, sample_size, raster}
+use Rattle.pgm_plates.specs.Header.{IsHeader}
+use Rattle.pgm_plates.specs.Plates.{IsSide, sample_bytes, sample_size, raster}
 use Rattle.pgm_plates.specs.Reading.{AreFew, AnswersPlate, AtEnd}
-use Rattle.pgm_plates.specs.Scanning.{Scanned}
+use Rattle.pgm_plates.specs.Scanning.{IsClean}
 
 -- Some bytes are taken, which the answer fits.
 pub record Answers (before after : TrayState) (result : Result Plate PlateRefusal) : Type 0 where
@@ -22,16 +22,21 @@ pub record Answers (before after : TrayState) (result : Result Plate PlateRefusa
   pub few : AreFew bytes
   pub answer : AnswersPlate bytes before after result
 
--- A whole header is taken, of so many bytes.
-pub record HeaderRead (before after : TrayState) (scan : Scan) (count : ℕ) : Type 0 where
+-- A whole header without a fault is taken, of so many bytes.
+pub record HeaderRead (before after : TrayState) (header : Header) (count : ℕ) : Type 0 where
   pub bytes : List ℕ
   pub takes : Takes bytes before after
-  pub scanned : Scanned bytes scan
-  pub ended : scan.stand ≡ Ended
+  pub is_header : IsHeader bytes header.width header.height header.maxval
+  pub clean : IsClean bytes (length bytes + 1)
   pub size : length bytes ≡ count
   pub short : count ≤ 65536
+  pub width : IsSide header.width
+  pub height : IsSide header.height
+  pub product : header.width * header.height ≤ 160000000
+  pub positive : 0 < header.maxval
+  pub maxval : header.maxval ≤ 65535
 
-abbrev pub ReadsHeader : TrayState → TrayState → Result (Scan × ℕ) PlateRefusal → Type 0
+abbrev pub ReadsHeader : TrayState → TrayState → Result (Header × ℕ) PlateRefusal → Type 0
 ReadsHeader before after (Ok r) = HeaderRead before after r.0 r.1
 ReadsHeader before after (Err refusal) = Answers before after (Err refusal)
 

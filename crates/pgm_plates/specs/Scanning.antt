@@ -5,6 +5,7 @@ use Rattle.pgm_plates.specs.declared.stand.Stand.TheVariants.{Start, Digits, End
 use Rattle.pgm_plates.specs.declared.header.Sides.{Sides}
 use Rattle.pgm_plates.specs.declared.header.Sides.TheVariants.{Neither, Width, Both}
 use Rattle.pgm_plates.specs.declared.header.Scan.{Scan}
+use Rattle.pgm_plates.specs.declared.header.Header.{Header}
 use Rattle.pgm_plates.specs.declared.plate.PlateFault.{PlateFault}
 use Rattle.pgm_plates.specs.declared.plate.PlateFault.TheVariants.{BadMagic, BadHeader, SideRange, TooManySamples, MaxvalRange}
 use Rattle.pgm_plates.specs.Header.{IsGap, IsNumber, Numbers}
@@ -58,6 +59,10 @@ stepped (Some to) scan b at = entered scan.stand to scan b at
 
 abbrev pub scan_step : Scan → ℕ → ℕ → Result Scan PlateFault
 scan_step scan b at = stepped (step scan.stand (length (past scan.sides) + 1) b) scan b at
+
+abbrev pub header_of : Stand → Sides → ℕ → Option Header
+header_of Ended (Both w h) maxval = Some (record { width = w; height = h; maxval = maxval })
+header_of stand sides maxval = None
 
 -- The bytes end with the digits of a number, the first of them at that place, behind these numbers.
 pub record AtNumber (bytes : List ℕ) (at number : ℕ) (earlier : List ℕ) : Type 0 where
