@@ -11,7 +11,7 @@ pub fn sample_size(maxval: u32) -> usize
 }
 
 // Whether no sample is above the maxval.
-pub fn are_fit(samples: &[u16], maxval: u32) -> bool
+fn are_fit(samples: &[u16], maxval: u32) -> bool
     ensures { IsTrue result → Fit maxval samples.now }
 {
     let mut most = 0u16;
