@@ -100,7 +100,7 @@ pub record Rastered (bytes header : List ℕ) (width height maxval : ℕ) (sampl
   pub short : length half < sample_size maxval
   pub few : length samples + length half ≤ width * height
 
-no_break : (header t : List ℕ) (w h m at : ℕ) → IsHeader header w h m → 0 < length t → Breaks (header ++ t) at → ⊥
+pub no_break : (header t : List ℕ) (w h m at : ℕ) → IsHeader header w h m → 0 < length t → Breaks (header ++ t) at → ⊥
 no_break header t w h m at is some broken =
     let end = unpush t some in
     let both = same_from_push (header ++ end.front) broken.front end.last broken.last

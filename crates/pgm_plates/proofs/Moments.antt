@@ -41,7 +41,7 @@ late bytes end le clean m (MaxvalRange at) stands = elim (cases_lt m end) [ inl 
 late bytes end le clean m (SampleAboveMaxval at) stands = elim (cases_lt m end) [ inl less ↦ absurd (clean m (SampleAboveMaxval at) less stands.1) | inr ge ↦ ge ]
 late bytes end le clean m (TrailingBytes at) stands = elim (cases_lt m end) [ inl less ↦ absurd (clean m (TrailingBytes at) less stands.1) | inr ge ↦ ge ]
 
-stands_now : (bytes : List ℕ) (m : ℕ) (fault : PlateFault) → m ≤ length bytes → Decides (take m bytes) fault → FaultAt bytes m fault
+pub stands_now : (bytes : List ℕ) (m : ℕ) (fault : PlateFault) → m ≤ length bytes → Decides (take m bytes) fault → FaultAt bytes m fault
 stands_now bytes m (Truncated at) le d = absurd d
 stands_now bytes m (BadMagic at) le d = (le, d)
 stands_now bytes m (BadHeader at) le d = (le, d)

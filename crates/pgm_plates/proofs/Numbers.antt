@@ -36,7 +36,7 @@ pub record Ends (bytes : List ℕ) : Type 0 where
   pub ends : EndsNumber bytes at number earlier
   pub few : length earlier ≤ 2
 
-pub fault_ends : (bytes : List ℕ) (fault : PlateFault) → NumberFault bytes fault → Ends bytes
+unfoldable pub fault_ends : (bytes : List ℕ) (fault : PlateFault) → NumberFault bytes fault → Ends bytes
 fault_ends bytes (SideRange at) h = record { at = at; number = h.0; earlier = h.1; ends = h.2; few = omega (arith, h.3) }
 fault_ends bytes (TooManySamples at) h = record { at = at; number = h.1; earlier = h.0 ∷ []; ends = h.2; few = omega arith }
 fault_ends bytes (MaxvalRange at) h = record { at = at; number = h.2; earlier = h.1 ∷ h.0 ∷ []; ends = h.3; few = omega arith }

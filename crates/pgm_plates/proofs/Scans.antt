@@ -48,7 +48,7 @@ gap_lands b to P gap comment e =
         inl k ↦ subst P (let is : Comment ≡ to = cc (k.1) in is) comment
       | inr k ↦ absurd (no_step to k.1) ] ]
 
-lands : (from to : Stand) (k b : ℕ) → step from k b ≡ Some to → Lands from to k b
+pub lands : (from to : Stand) (k b : ℕ) → step from k b ≡ Some to → Lands from to k b
 lands Start to k b e =
     elim (chosen (eqb b 80) (Some Letter) None (Some to) e) [
       inl h ↦ subst (λ (s : Stand). Lands Start s k b) (let is : Letter ≡ to = cc (h.1) in is) tt
@@ -261,7 +261,7 @@ stays_numbered Comment to scan next ns bytes b ran fits range on e = not_numbere
 stays_numbered Ended to scan next ns bytes b ran fits range on e = not_numbered (bytes ++ b ∷ []) (λ (n : Ends (bytes ++ b ∷ [])). let is : Ended ≡ Digits = (same_number Ended ns bytes b ran n).0 in cc)
 
 -- a sample's bytes are some
-some_bytes : (maxval sample : ℕ) → 0 < length (sample_bytes maxval sample)
+pub some_bytes : (maxval sample : ℕ) → 0 < length (sample_bytes maxval sample)
 some_bytes maxval sample = elim (ltb maxval 256) as (λ t. 0 < length (cond t (sample ∷ []) (sample / 256 ∷ sample % 256 ∷ []))) [ true ↦ omega arith | false ↦ omega arith ]
 
 -- The last of these bytes decides nothing.

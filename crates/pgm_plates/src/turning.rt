@@ -1,17 +1,18 @@
 ghost use Rattle.std.specs.Prelude.{◌≡◌, ◌-◌, ◌≤◌, map};
 ghost use Rattle.std.specs.List.{All};
 ghost use Rattle.pgm_plates.specs.Plates.{IsPlate};
-ghost use Rattle.pgm_plates.specs.Planes.{IsPlane};
+ghost use Rattle.pgm_plates.specs.Planes.{IsPlane, plane_of, plate_of};
 
 use crate::plate::Plate;
 use page_model::list::List;
-use page_model::parts::Plane;
+use page_model::parts::{Plane, Tints};
 
 impl Plate {
-    /// Turns samples into tints, in place.
+    /// Turns the samples into tints, in place: `maxval - sample`, so that 0 is no ink.
     pub fn into_plane(self) -> Plane
         requires { IsPlate self }
-        ensures { result ≡ record { width = self.width; height = self.height; maxval = self.maxval; tints = map (λ s. self.maxval - s) self.samples } }
+        ensures tints { result ≡ plane_of self }
+        ensures in_range { IsPlane result }
     {
         Plane {
             width: self.width,
@@ -21,10 +22,11 @@ impl Plate {
         }
     }
 
-    /// Turns tints into samples, in place.
+    /// Turns the tints of a plane into samples, in place.
     pub fn of_plane(plane: Plane) -> Plate
         requires { IsPlane plane }
-        ensures { result ≡ record { width = plane.width; height = plane.height; maxval = plane.maxval; samples = map (λ t. plane.maxval - t) plane.tints } }
+        ensures samples { result ≡ plate_of plane }
+        ensures in_range { IsPlate result }
     {
         Plate {
             width: plane.width,
@@ -35,7 +37,7 @@ impl Plate {
     }
 }
 
-fn turned(values: List<u16>, most: u32) -> List<u16>
+fn turned(values: Tints, most: u32) -> Tints
     requires fits { most ≤ 65535 }
     requires below { All (λ v. v ≤ most) values }
     ensures { result ≡ map (λ v. most - v) values }
