@@ -34,8 +34,9 @@ cause : (bytes : List ℕ) (fault : PlateFault) → Decides bytes fault → Caus
 cause bytes (BadMagic at) d = breaks at d.1 (sym (cond-true (ltb at 2) (BadMagic at) (BadHeader at) (lt-ltb at 2 d.0)))
 cause bytes (BadHeader at) d =
     elim d [
-      inl broken ↦ breaks at broken.1 (sym (cond-false (ltb at 2) (BadMagic at) (BadHeader at) (le-ltb at 2 broken.0)))
-    | inr far ↦ long far.1 (ap (λ (n : ℕ). BadHeader n) far.0) ]
+      | inl broken ↦ breaks at broken.1 (sym (cond-false (ltb at 2) (BadMagic at) (BadHeader at) (le-ltb at 2 broken.0)))
+      | inr far ↦ long far.1 (ap (λ (n : ℕ). BadHeader n) far.0)
+    ]
 cause bytes (SideRange at) d = number d
 cause bytes (TooManySamples at) d = number d
 cause bytes (MaxvalRange at) d = number d
@@ -70,15 +71,15 @@ above_beyond bytes at d =
 
 behind_beyond : (bytes : List ℕ) (at : ℕ) → EndsBehindRaster bytes at → Beyond bytes
 behind_beyond bytes at d = record {
-    header = d.header;
-    back = raster d.maxval d.samples ++ d.last ∷ [];
-    width = d.width;
-    height = d.height;
-    maxval = d.maxval;
-    is_header = d.is_header;
-    whole = d.whole ∙ append_assoc d.header (raster d.maxval d.samples) (d.last ∷ []);
-    some = omega (arith, length_push (raster d.maxval d.samples) d.last);
-  }
+  header = d.header;
+  back = raster d.maxval d.samples ++ d.last ∷ [];
+  width = d.width;
+  height = d.height;
+  maxval = d.maxval;
+  is_header = d.is_header;
+  whole = d.whole ∙ append_assoc d.header (raster d.maxval d.samples) (d.last ∷ []);
+  some = omega (arith, length_push (raster d.maxval d.samples) d.last);
+}
 
 breaks_beyond : (bytes : List ℕ) (at : ℕ) → Breaks bytes at → Beyond bytes → ⊥
 breaks_beyond bytes at broken b = no_break b.header b.back b.width b.height b.maxval at b.is_header b.some (subst (λ (x : List ℕ). Breaks x at) b.whole broken)
@@ -108,7 +109,7 @@ one_above bytes at at' d e =
     let first = above_beyond bytes at d in
     let second = above_beyond bytes at' e in
     let same = one_header d.header (raster d.maxval d.samples ++ sample_bytes d.maxval d.sample) e.header (raster e.maxval e.samples ++ sample_bytes e.maxval e.sample) d.width d.height d.maxval e.width e.height e.maxval d.is_header e.is_header
-      (sym (append_assoc d.header (raster d.maxval d.samples) (sample_bytes d.maxval d.sample)) ∙ sym d.whole ∙ e.whole ∙ append_assoc e.header (raster e.maxval e.samples) (sample_bytes e.maxval e.sample)) in
+    (sym (append_assoc d.header (raster d.maxval d.samples) (sample_bytes d.maxval d.sample)) ∙ sym d.whole ∙ e.whole ∙ append_assoc e.header (raster e.maxval e.samples) (sample_bytes e.maxval e.sample)) in
     omega (arith, above_place bytes at d, above_place bytes at' e, ap sample_size same.maxval)
 
 fewer_times : (k n size : ℕ) → k < n → k * size + size ≤ n * size
@@ -119,13 +120,13 @@ fewer_times k n size less =
 above_behind : (bytes : List ℕ) (at at' : ℕ) → EndsAboveMaxval bytes at → EndsBehindRaster bytes at' → ⊥
 above_behind bytes at at' d e =
     let same = one_header d.header (raster d.maxval d.samples ++ sample_bytes d.maxval d.sample) e.header (raster e.maxval e.samples ++ e.last ∷ []) d.width d.height d.maxval e.width e.height e.maxval d.is_header e.is_header
-      (sym (append_assoc d.header (raster d.maxval d.samples) (sample_bytes d.maxval d.sample)) ∙ sym d.whole ∙ e.whole ∙ append_assoc e.header (raster e.maxval e.samples) (e.last ∷ [])) in
+    (sym (append_assoc d.header (raster d.maxval d.samples) (sample_bytes d.maxval d.sample)) ∙ sym d.whole ∙ e.whole ∙ append_assoc e.header (raster e.maxval e.samples) (e.last ∷ [])) in
     let m = d.maxval in
     let all : length e.samples ≡ d.width * d.height = e.all ∙ ap (λ (n : ℕ). n * e.height) (sym same.width) ∙ ap (λ (n : ℕ). d.width * n) (sym same.height) in
     let one : length (raster m d.samples ++ sample_bytes m d.sample) ≡ length d.samples * sample_size m + sample_size m =
-      length-append (raster m d.samples) (sample_bytes m d.sample) ∙ ap (λ (n : ℕ). n + length (sample_bytes m d.sample)) (raster_size m d.samples) ∙ ap (λ (n : ℕ). length d.samples * sample_size m + n) (bytes_size m d.sample) in
+    length-append (raster m d.samples) (sample_bytes m d.sample) ∙ ap (λ (n : ℕ). n + length (sample_bytes m d.sample)) (raster_size m d.samples) ∙ ap (λ (n : ℕ). length d.samples * sample_size m + n) (bytes_size m d.sample) in
     let two : length (raster e.maxval e.samples ++ e.last ∷ []) ≡ d.width * d.height * sample_size m + 1 =
-      length_push (raster e.maxval e.samples) e.last ∙ ap (λ (n : ℕ). n + 1) (raster_size e.maxval e.samples ∙ ap (λ (n : ℕ). length e.samples * sample_size n) (sym same.maxval) ∙ ap (λ (n : ℕ). n * sample_size m) all) in
+    length_push (raster e.maxval e.samples) e.last ∙ ap (λ (n : ℕ). n + 1) (raster_size e.maxval e.samples ∙ ap (λ (n : ℕ). length e.samples * sample_size n) (sym same.maxval) ∙ ap (λ (n : ℕ). n * sample_size m) all) in
     let less = fewer_times (length d.samples) (d.width * d.height) (sample_size m) d.within in
     omega (arith, ap length same.rest)
 
@@ -175,9 +176,9 @@ ends_place bytes b at n earlier ends =
     let both = same_from_push bytes (ends.front ++ ends.gap ++ ends.digits) b ends.next ends.whole in
     let end = gap_end ends.gap ends.is_gap in
     let split : bytes ≡ (ends.front ++ end.front) ++ end.last ∷ ends.digits =
-      both.0 ∙ ap (λ (x : List ℕ). ends.front ++ x ++ ends.digits) end.is
-      ∙ ap (λ (x : List ℕ). x ++ ends.digits) (sym (append_assoc ends.front end.front (end.last ∷ [])))
-      ∙ append_assoc (ends.front ++ end.front) (end.last ∷ []) ends.digits in
+    both.0 ∙ ap (λ (x : List ℕ). ends.front ++ x ++ ends.digits) end.is
+    ∙ ap (λ (x : List ℕ). x ++ ends.digits) (sym (append_assoc ends.front end.front (end.last ∷ [])))
+    ∙ append_assoc (ends.front ++ end.front) (end.last ∷ []) ends.digits in
     let count : digits_end bytes 0 ≡ length ends.digits = ap (λ (x : List ℕ). digits_end x 0) split ∙ digits_behind (ends.front ++ end.front) ends.digits end.last 0 end.other ∙ digits_all ends.digits 0 ends.is_number.1 ∙ (let z : 0 + length ends.digits ≡ length ends.digits = omega arith in z) in
     let size : length bytes ≡ at + length ends.digits = ap length both.0 ∙ length-append (ends.front ++ ends.gap) ends.digits ∙ ap (λ (x : ℕ). x + length ends.digits) ends.place in
     size ∙ ap (λ (x : ℕ). at + x) (sym count)
@@ -190,7 +191,7 @@ one_end bytes d e =
     let dd : EndsNumber (front ++ b ∷ []) d.at d.number d.earlier = subst (λ (x : List ℕ). EndsNumber x d.at d.number d.earlier) whole d.ends in
     let ee : EndsNumber (front ++ b ∷ []) e.at e.number e.earlier = subst (λ (x : List ℕ). EndsNumber x e.at e.number e.earlier) whole e.ends in
     let runs : Some (reached Digits (d.number ∷ d.earlier)) ≡ Some (reached Digits (e.number ∷ e.earlier)) =
-      sym ((ends_run front b d.at d.number d.earlier dd d.few).0) ∙ (ends_run front b e.at e.number e.earlier ee e.few).0 in
+    sym ((ends_run front b d.at d.number d.earlier dd d.few).0) ∙ (ends_run front b e.at e.number e.earlier ee e.few).0 in
     let same : reached Digits (d.number ∷ d.earlier) ≡ reached Digits (e.number ∷ e.earlier) = cc in
     let ns : d.number ∷ d.earlier ≡ e.number ∷ e.earlier = ap (λ (r : Reached). r.numbers) same in
     let at : d.at ≡ e.at = omega (arith, ends_place front b d.at d.number d.earlier dd, ends_place front b e.at e.number e.earlier ee) in

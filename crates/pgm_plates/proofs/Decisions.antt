@@ -36,7 +36,7 @@ pub raster_size : (maxval : ℕ) (samples : List ℕ) → length (raster maxval 
 raster_size maxval [] = no_times (sample_size maxval)
 raster_size maxval (s ∷ samples) =
     let e : length (sample_bytes maxval s ++ raster maxval samples) ≡ sample_size maxval + length samples * sample_size maxval =
-      length-append (sample_bytes maxval s) (raster maxval samples) ∙ ap (λ (n : ℕ). n + length (raster maxval samples)) (bytes_size maxval s) ∙ ap (λ (n : ℕ). sample_size maxval + n) (raster_size maxval samples) in
+    length-append (sample_bytes maxval s) (raster maxval samples) ∙ ap (λ (n : ℕ). n + length (raster maxval samples)) (bytes_size maxval s) ∙ ap (λ (n : ℕ). sample_size maxval + n) (raster_size maxval samples) in
     e ∙ more_times (length samples) (sample_size maxval)
 
 pub raster_both : (maxval : ℕ) (xs ys : List ℕ) → raster maxval (xs ++ ys) ≡ raster maxval xs ++ raster maxval ys
@@ -62,8 +62,9 @@ wide_same y x u v e =
 pub one_sample : (maxval y x : ℕ) (u v : List ℕ) → sample_bytes maxval y ++ u ≡ sample_bytes maxval x ++ v → SameSample y x u v
 one_sample maxval y x u v =
     elim (ltb maxval 256) as (λ t. cond t (y ∷ []) (y / 256 ∷ y % 256 ∷ []) ++ u ≡ cond t (x ∷ []) (x / 256 ∷ x % 256 ∷ []) ++ v → SameSample y x u v) [
-      true ↦ λ e. narrow_same y x u v e
-    | false ↦ λ e. wide_same y x u v e ]
+      | true ↦ λ e. narrow_same y x u v e
+      | false ↦ λ e. wide_same y x u v e
+    ]
 
 -- A sample among those that fit, fits.
 pub fits_too : (maxval y : ℕ) (ys xs u half : List ℕ) → Fit maxval xs → length half < sample_size maxval → raster maxval ys ++ (sample_bytes maxval y ++ u) ≡ raster maxval xs ++ half → y ≤ maxval
@@ -76,7 +77,7 @@ fits_too maxval y (z ∷ zs) [] u half fit short e =
     absurd (let size = bytes_size maxval z in omega (arith, size, ap length e, length-append (sample_bytes maxval z ++ raster maxval zs) (sample_bytes maxval y ++ u), length-append (sample_bytes maxval z) (raster maxval zs)))
 fits_too maxval y (z ∷ zs) (x ∷ xs) u half fit short e =
     let same = one_sample maxval z x (raster maxval zs ++ (sample_bytes maxval y ++ u)) (raster maxval xs ++ half)
-      (sym (append_assoc (sample_bytes maxval z) (raster maxval zs) (sample_bytes maxval y ++ u)) ∙ e ∙ append_assoc (sample_bytes maxval x) (raster maxval xs) half) in
+    (sym (append_assoc (sample_bytes maxval z) (raster maxval zs) (sample_bytes maxval y ++ u)) ∙ e ∙ append_assoc (sample_bytes maxval x) (raster maxval xs) half) in
     fits_too maxval y zs xs u half (All-tail (λ (s : ℕ). s ≤ maxval) x xs fit) short same.rest
 
 -- a list that isn't empty, without its last item
@@ -104,7 +105,7 @@ pub no_break : (header t : List ℕ) (w h m at : ℕ) → IsHeader header w h m 
 no_break header t w h m at is some broken =
     let end = unpush t some in
     let both = same_from_push (header ++ end.front) broken.front end.last broken.last
-      (append_assoc header end.front (end.last ∷ []) ∙ ap (λ (z : List ℕ). header ++ z) (sym end.is) ∙ broken.whole) in
+    (append_assoc header end.front (end.last ∷ []) ∙ ap (λ (z : List ℕ). header ++ z) (sym end.is) ∙ broken.whole) in
     holds_header header end.front w h m is (subst HoldsNoHeader (sym both.0) broken.unended)
 
 no_end : (header t : List ℕ) (w h m : ℕ) → IsHeader header w h m → 0 < length t → Ends (header ++ t) → ⊥
@@ -123,8 +124,9 @@ quiet_at : (bytes header : List ℕ) (w h m : ℕ) (xs half : List ℕ) → Rast
 quiet_at bytes header w h m xs half r t u some part (BadMagic at) d = no_break header t w h m at r.is_header some d.1
 quiet_at bytes header w h m xs half r t u some part (BadHeader at) d =
     elim d [
-      inl broken ↦ no_break header t w h m at r.is_header some broken.1
-    | inr long ↦ holds_header header t w h m r.is_header long.1.unended ]
+      | inl broken ↦ no_break header t w h m at r.is_header some broken.1
+      | inr long ↦ holds_header header t w h m r.is_header long.1.unended
+    ]
 quiet_at bytes header w h m xs half r t u some part (SideRange at) d = no_end header t w h m r.is_header some (fault_ends (header ++ t) (SideRange at) d)
 quiet_at bytes header w h m xs half r t u some part (TooManySamples at) d = no_end header t w h m r.is_header some (fault_ends (header ++ t) (TooManySamples at) d)
 quiet_at bytes header w h m xs half r t u some part (MaxvalRange at) d = no_end header t w h m r.is_header some (fault_ends (header ++ t) (MaxvalRange at) d)
@@ -132,9 +134,9 @@ quiet_at bytes header w h m xs half r t u some part (SampleAboveMaxval at) d =
     let back = raster d.maxval d.samples ++ sample_bytes d.maxval d.sample in
     let same = one_header header t d.header back w h m d.width d.height d.maxval r.is_header d.is_header (d.whole ∙ append_assoc d.header (raster d.maxval d.samples) (sample_bytes d.maxval d.sample)) in
     let e : raster m d.samples ++ (sample_bytes m d.sample ++ u) ≡ raster m xs ++ half =
-      sym (append_assoc (raster m d.samples) (sample_bytes m d.sample) u)
-      ∙ ap (λ (n : ℕ). raster n d.samples ++ sample_bytes n d.sample ++ u) same.maxval
-      ∙ ap (λ (z : List ℕ). z ++ u) (sym same.rest) ∙ part in
+    sym (append_assoc (raster m d.samples) (sample_bytes m d.sample) u)
+    ∙ ap (λ (n : ℕ). raster n d.samples ++ sample_bytes n d.sample ++ u) same.maxval
+    ∙ ap (λ (z : List ℕ). z ++ u) (sym same.rest) ∙ part in
     let fits = fits_too m d.sample d.samples xs u half r.fit r.short e in
     omega (arith, d.above, same.maxval)
 quiet_at bytes header w h m xs half r t u some part (TrailingBytes at) d =
@@ -156,11 +158,12 @@ pub clean_raster : (bytes header : List ℕ) (w h m : ℕ) (xs half : List ℕ) 
 clean_raster bytes header w h m xs half clean r n fault less d =
     let back = raster m xs ++ half in
     elim (cases_lt (length header) n) [
-      inr le ↦ clean n fault (omega arith) (subst (λ (z : List ℕ). Decides z fault) (ap (take n) r.whole ∙ take-append-le n header back le) d)
-    | inl past ↦
-        let k = n - length header in
-        let e : take n bytes ≡ header ++ take k back =
+      | inr le ↦ clean n fault (omega arith) (subst (λ (z : List ℕ). Decides z fault) (ap (take n) r.whole ∙ take-append-le n header back le) d)
+      | inl past ↦
+          let k = n - length header in
+          let e : take n bytes ≡ header ++ take k back =
           ap (take n) r.whole ∙ ap (λ (z : ℕ). take z (header ++ back)) (let f : n ≡ length header + k = omega arith in f) ∙ take-append-add header back k in
-        let size : length bytes ≡ length header + length back = ap length r.whole ∙ length-append header back in
-        let some : length (take k back) ≡ k = length-take-le k back (omega arith) in
-        quiet_at bytes header w h m xs half r (take k back) (drop k back) (omega arith) (take-append-drop k back) fault (subst (λ (z : List ℕ). Decides z fault) e d) ]
+          let size : length bytes ≡ length header + length back = ap length r.whole ∙ length-append header back in
+          let some : length (take k back) ≡ k = length-take-le k back (omega arith) in
+          quiet_at bytes header w h m xs half r (take k back) (drop k back) (omega arith) (take-append-drop k back) fault (subst (λ (z : List ℕ). Decides z fault) e d)
+    ]

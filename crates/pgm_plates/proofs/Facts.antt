@@ -39,22 +39,25 @@ moment_of bytes m (TrailingBytes at) stands = inl stands
 longer_first : (bytes more : List ℕ) (m : ℕ) → m ≤ length bytes → ((k : ℕ) (other : PlateFault) → FaultAt bytes k other → m ≤ k) → (k : ℕ) (other : PlateFault) → FaultAt (bytes ++ more) k other → m ≤ k
 longer_first bytes more m le first k other stands =
     elim (moment_of (bytes ++ more) k other stands) [
-      inr end ↦ omega (arith, end.0, length-append bytes more)
-    | inl d ↦ elim (cases_lt k (length bytes + 1)) [
-        inr past ↦ omega arith
-      | inl within ↦
-          let inside : k ≤ length bytes = omega arith in
-          first k other (stands_now bytes k other inside (subst (λ (x : List ℕ). Decides x other) (take-append-le k bytes more inside) d.1)) ] ]
+      | inr end ↦ omega (arith, end.0, length-append bytes more)
+      | inl d ↦ elim (cases_lt k (length bytes + 1)) [
+        | inr past ↦ omega arith
+        | inl within ↦
+            let inside : k ≤ length bytes = omega arith in
+            first k other (stands_now bytes k other inside (subst (λ (x : List ℕ). Decides x other) (take-append-le k bytes more inside) d.1))
+      ]
+    ]
 
 pub fault_stays : FaultStays
 fault_stays bytes more fault whole is =
     elim (moment_of bytes is.moment fault is.stands) [
-      inr end ↦ absurd (whole (subst IsTruncated (sym end.1) tt))
-    | inl d ↦ record {
+      | inr end ↦ absurd (whole (subst IsTruncated (sym end.1) tt))
+      | inl d ↦ record {
         moment = is.moment;
         stands = stands_now (bytes ++ more) is.moment fault (omega (arith, d.0, length-append bytes more)) (subst (λ (x : List ℕ). Decides x fault) (sym (take-append-le is.moment bytes more d.0)) d.1);
         first = longer_first bytes more is.moment d.0 is.first;
-      } ]
+      }
+    ]
 
 raster_same : (m : ℕ) (xs ys : List ℕ) → length xs ≡ length ys → raster m xs ≡ raster m ys → xs ≡ ys
 raster_same m [] [] count e = refl
@@ -86,10 +89,10 @@ pub no_front : NoFront
 no_front bytes more one two first second =
     let back = raster one.maxval one.samples ++ more in
     let same = one_header first.header back second.header (raster two.maxval two.samples) one.width one.height one.maxval two.width two.height two.maxval first.is_header second.is_header
-      (sym (append_assoc first.header (raster one.maxval one.samples) more) ∙ ap (λ (x : List ℕ). x ++ more) (sym first.whole) ∙ second.whole) in
+    (sym (append_assoc first.header (raster one.maxval one.samples) more) ∙ ap (λ (x : List ℕ). x ++ more) (sym first.whole) ∙ second.whole) in
     let size : length (raster one.maxval one.samples) ≡ one.width * one.height * sample_size one.maxval = raster_size one.maxval one.samples ∙ ap (λ (n : ℕ). n * sample_size one.maxval) first.plate_ok.count in
     let other : length (raster two.maxval two.samples) ≡ one.width * one.height * sample_size one.maxval =
-      raster_size two.maxval two.samples ∙ ap (λ (n : ℕ). length two.samples * sample_size n) (sym same.maxval) ∙ ap (λ (n : ℕ). n * sample_size one.maxval) (counted two one.width one.height second.plate_ok same.width same.height) in
+    raster_size two.maxval two.samples ∙ ap (λ (n : ℕ). length two.samples * sample_size n) (sym same.maxval) ∙ ap (λ (n : ℕ). n * sample_size one.maxval) (counted two one.width one.height second.plate_ok same.width same.height) in
     let both : length (raster one.maxval one.samples) + length more ≡ length (raster two.maxval two.samples) = sym (length-append (raster one.maxval one.samples) more) ∙ ap length same.rest in
     nothing more (omega arith)
 
@@ -109,26 +112,29 @@ one_fault bytes f g one two =
     let n = two.moment in
     let same : m ≡ n = let a = one.first n g two.stands in let b = two.first m f one.stands in omega arith in
     elim (moment_of bytes m f one.stands) [
-      inl d ↦ elim (moment_of bytes n g two.stands) [
-        inl e ↦ one_decided (take m bytes) f g d.1 (subst (λ (k : ℕ). Decides (take k bytes) g) (sym same) e.1)
-      | inr end ↦ absurd (omega (arith, d.0, end.0)) ]
-    | inr end ↦ elim (moment_of bytes n g two.stands) [
-        inl e ↦ absurd (omega (arith, e.0, end.0))
-      | inr other ↦ end.1 ∙ sym other.1 ] ]
+      | inl d ↦ elim (moment_of bytes n g two.stands) [
+        | inl e ↦ one_decided (take m bytes) f g d.1 (subst (λ (k : ℕ). Decides (take k bytes) g) (sym same) e.1)
+        | inr end ↦ absurd (omega (arith, d.0, end.0))
+      ]
+      | inr end ↦ elim (moment_of bytes n g two.stands) [
+        | inl e ↦ absurd (omega (arith, e.0, end.0))
+        | inr other ↦ end.1 ∙ sym other.1
+      ]
+    ]
 
 plate_clean : (bytes : List ℕ) (plate : Plate) (file : IsPlateFile bytes plate) → IsClean bytes (length bytes + 1)
 plate_clean bytes plate file =
     let ok = file.plate_ok in
     let size = some_size plate.maxval in
     clean_raster bytes file.header plate.width plate.height plate.maxval plate.samples []
-      (clean_header file.header plate.width plate.height plate.maxval file.is_header ok.width ok.height ok.product ok.positive ok.maxval file.short)
-      (record {
-        is_header = file.is_header;
-        whole = file.whole ∙ ap (λ (x : List ℕ). file.header ++ x) (sym (append-nil (raster plate.maxval plate.samples)));
-        fit = ok.samples;
-        short = omega (arith, size.0);
-        few = omega (arith, ok.count);
-      })
+    (clean_header file.header plate.width plate.height plate.maxval file.is_header ok.width ok.height ok.product ok.positive ok.maxval file.short)
+    (record {
+      is_header = file.is_header;
+      whole = file.whole ∙ ap (λ (x : List ℕ). file.header ++ x) (sym (append-nil (raster plate.maxval plate.samples)));
+      fit = ok.samples;
+      short = omega (arith, size.0);
+      few = omega (arith, ok.count);
+    })
 
 no_early : (bytes : List ℕ) (plate : Plate) (m : ℕ) (fault : PlateFault) → IsPlateFile bytes plate → FaultAt bytes m fault → IsTruncated fault → ⊥
 no_early bytes plate m (Truncated at) file stands cut = stands.no_plate plate file

@@ -80,9 +80,10 @@ takes_one b c buf n byte read len some is = takes_as (take n buf) (byte ∷ []) 
 
 pub takes_end : (b c : TrayState) (buf : List ℕ) (n : ℕ) → Reads {E = Failed} b c (Ok n) buf → n ≡ 0 → length buf ≡ 1 → Takes [] b c × AtEnd b c
 takes_end b c buf n read none len =
-    let nothing : take n buf ≡ [] = ap (λ (k : ℕ). take k buf) none in
-    (takes_as (take n buf) [] b c nothing (takes_read b c n buf read),
-      λ tells. ap (λ (x : List ℕ). x ++ c.left) (sym nothing) ∙ sym (read.taken tells) ∙ read.at_end tells none (omega (arith, len)))
+    let nothing : take n buf ≡ [] = ap (λ (k : ℕ). take k buf) none in (
+      takes_as (take n buf) [] b c nothing (takes_read b c n buf read),
+      λ tells. ap (λ (x : List ℕ). x ++ c.left) (sym nothing) ∙ sym (read.taken tells) ∙ read.at_end tells none (omega (arith, len)),
+    )
 
 pub takes_failed : {E : Type 0} (b c : TrayState) (buf : List ℕ) (e : E) → Reads b c (Err e) buf → Takes [] b c
 takes_failed b c buf e read = record { keeps = read.keeps; asked = read.asked; begun = read.begun; taken = λ tells. sym (read.kept tells) }
@@ -97,8 +98,9 @@ told_on p a b takes tells = takes.keeps.tells ∙ tells
 no_header : (bytes : List ℕ) (b : ℕ) → HoldsNoHeader bytes → (IsShape (bytes ++ b ∷ []) → ⊥) → HoldsNoHeader (bytes ++ b ∷ [])
 no_header bytes b none not_all k shape =
     elim (cases_lt (length bytes) k) [
-      inl past ↦ not_all (subst IsShape (take_all k (bytes ++ b ∷ []) (omega (arith, length_push bytes b))) shape)
-    | inr le ↦ none k (subst IsShape (take-append-le k bytes (b ∷ []) le) shape) ]
+      | inl past ↦ not_all (subst IsShape (take_all k (bytes ++ b ∷ []) (omega (arith, length_push bytes b))) shape)
+      | inr le ↦ none k (subst IsShape (take-append-le k bytes (b ∷ []) le) shape)
+    ]
 
 few_run : (bytes : List ℕ) (b : ℕ) (stand : Stand) (ns : List ℕ) → HoldsNoHeader bytes → length bytes < 65536 → run Start [] (bytes ++ b ∷ []) ≡ Some (reached stand ns) → AreFew (bytes ++ b ∷ [])
 few_run bytes b Ended ns none short is =
@@ -120,9 +122,10 @@ few_more bytes b none short =
     let all = bytes ++ b ∷ [] in
     let size : length all ≡ length bytes + 1 = length_push bytes b in
     let by_run : (o : Option Reached) → run Start [] all ≡ o → AreFew all =
-      λ o. elim o as (λ o. run Start [] all ≡ o → AreFew all) [
-        None ↦ λ is. inl ((let le : length all ≤ 65536 = omega arith in le), no_header bytes b none (λ (shape : IsShape all). no_step (reached Ended (shape.2 ∷ shape.1 ∷ shape.0 ∷ [])) (sym is ∙ header_run all shape.0 shape.1 shape.2 shape.3)))
-      | Some r ↦ λ is. few_run bytes b r.stand r.numbers none short is ] in
+    λ o. elim o as (λ o. run Start [] all ≡ o → AreFew all) [
+      | None ↦ λ is. inl ((let le : length all ≤ 65536 = omega arith in le), no_header bytes b none (λ (shape : IsShape all). no_step (reached Ended (shape.2 ∷ shape.1 ∷ shape.0 ∷ [])) (sym is ∙ header_run all shape.0 shape.1 shape.2 shape.3)))
+      | Some r ↦ λ is. few_run bytes b r.stand r.numbers none short is
+    ] in
     by_run (run Start [] all) refl
 
 no_plate : (bytes : List ℕ) → HoldsNoHeader bytes → (plate : Plate) → IsPlateFile bytes plate → ⊥
@@ -144,11 +147,12 @@ came_unended a b scan count came = unended scan.stand came.scanned.ns came.bytes
 
 pub came_more : (a b c : TrayState) (scan next : Scan) (count byte : ℕ) → Came a b scan count → Takes (byte ∷ []) b c → count < 65536 → scan_step scan byte count ≡ Ok next → (bytes : List ℕ) × Takes bytes a c × Scanned bytes next × (length bytes ≡ count + 1)
 came_more a b c scan next count byte came took short step =
-    let bytes = came.bytes in
-    (bytes ++ byte ∷ [],
+    let bytes = came.bytes in (
+      bytes ++ byte ∷ [],
       takes_then bytes (byte ∷ []) a b c came.takes took,
       scan_more bytes byte scan next came.scanned (omega (arith, came.size)) (ap (scan_step scan byte) came.size ∙ step),
-      length_push bytes byte ∙ ap (λ (n : ℕ). n + 1) came.size)
+      length_push bytes byte ∙ ap (λ (n : ℕ). n + 1) came.size,
+    )
 
 some_header : (x y : Header) → Some x ≡ Some y → x ≡ y
 some_header x y e = cc
@@ -185,7 +189,7 @@ header_ends a b c scan next count byte header came took short step e =
     let ranges : InRange (Both header.width header.height) = subst InRange is.1 scanned.ranges in
     let numbers : scanned.ns ≡ header.maxval ∷ header.height ∷ header.width ∷ [] = fits.3 ∙ both_numbers next.number header.maxval fits.0 fits.1 header.width header.height is.2 (sym fits.2 ∙ is.1) in
     let standing = ended_header (header.maxval ∷ header.height ∷ header.width ∷ []) bytes
-      (scanned.ran ∙ ap (λ (s : Stand). Some (reached s scanned.ns)) is.0 ∙ ap (λ (x : List ℕ). Some (reached Ended x)) numbers) in
+    (scanned.ran ∙ ap (λ (s : Stand). Some (reached s scanned.ns)) is.0 ∙ ap (λ (x : List ℕ). Some (reached Ended x)) numbers) in
     let same : header.maxval ∷ header.height ∷ header.width ∷ [] ≡ standing.2 ∷ standing.1 ∷ standing.0 ∷ [] = standing.3 in
     record {
       bytes = bytes;
@@ -205,7 +209,7 @@ pub header_going : (bytes : List ℕ) (next : Scan) → Scanned bytes next → h
 header_going bytes next scanned none ended =
     let fits : Fits Ended next scanned.ns bytes = subst (λ (s : Stand). Fits s next scanned.ns bytes) ended scanned.fits in
     none_header (record { width = fits.0; height = fits.1; maxval = next.number })
-      (sym none ∙ ap (λ (s : Stand). header_of s next.sides next.number) ended ∙ ap (λ (s : Sides). header_of Ended s next.number) fits.2)
+    (sym none ∙ ap (λ (s : Stand). header_of s next.sides next.number) ended ∙ ap (λ (s : Sides). header_of Ended s next.number) fits.2)
 
 pub came_on : (a b c : TrayState) (scan next : Scan) (count byte : ℕ) → Came a b scan count → Takes (byte ∷ []) b c → count < 65536 → scan_step scan byte count ≡ Ok next → header_of next.stand next.sides next.number ≡ None → Came a c next (count + 1)
 came_on a b c scan next count byte came took short step none =
@@ -222,9 +226,11 @@ header_faults a b c scan count byte fault came took short step =
       bytes = all;
       takes = takes_then bytes (byte ∷ []) a b c came.takes took;
       few = few_more bytes byte (came_unended a b scan count came) less;
-      answer = (took.begun,
+      answer = (
+        took.begun,
         subst (λ (x : List ℕ). IsFault x fault) (append-nil all) (decided all [] fault (clean_push bytes byte (still_clean bytes scan came.scanned (inr less))) d),
-        λ cut. absurd (not_cut all fault d cut));
+        λ cut. absurd (not_cut all fault d cut),
+      );
     }
 
 pub header_stops : (a b c : TrayState) (scan : Scan) (count : ℕ) → Came a b scan count → Takes [] b c × AtEnd b c → count < 65536 → Answers a c (Err (Fault (Truncated count)))
@@ -235,9 +241,11 @@ header_stops a b c scan count came took short =
       bytes = bytes;
       takes = takes_nil bytes a b c came.takes took.0;
       few = inl ((let le : length bytes ≤ 65536 = omega (arith, came.size) in le), none);
-      answer = (took.0.begun,
+      answer = (
+        took.0.begun,
         subst (λ (n : ℕ). IsFault bytes (Truncated n)) came.size (truncated bytes (still_clean bytes scan came.scanned (inr (omega (arith, came.size)))) (no_plate bytes none)),
-        λ cut tells. took.1 (told_on bytes a b came.takes tells));
+        λ cut tells. took.1 (told_on bytes a b came.takes tells),
+      );
     }
 
 pub header_fails : (a b c : TrayState) (scan : Scan) (count : ℕ) → Came a b scan count → Takes [] b c → Rose b.faults c.faults → count < 65536 → Answers a c (Err ReadFault)
@@ -247,25 +255,32 @@ header_fails a b c scan count came took rose short =
       bytes = bytes;
       takes = takes_nil bytes a b c came.takes took;
       few = inl ((let le : length bytes ≤ 65536 = omega (arith, came.size) in le), came_unended a b scan count came);
-      answer = (rose_before a.faults b.faults c.faults came.takes.keeps.faults rose,
-        only_truncated bytes (still_clean bytes scan came.scanned (inr (omega (arith, came.size)))));
+      answer = (
+        rose_before a.faults b.faults c.faults came.takes.keeps.faults rose,
+        only_truncated bytes (still_clean bytes scan came.scanned (inr (omega (arith, came.size)))),
+      );
     }
 
 pub header_long : (a b : TrayState) (scan : Scan) (count : ℕ) → count ≡ 65536 → Came a b scan count → Answers a b (Err (Fault (BadHeader 65536)))
 header_long a b scan count is came =
     let bytes = came.bytes in
     let none = came_unended a b scan count came in
-    let d : Decides bytes (BadHeader 65536) = inr (refl, record {
+    let d : Decides bytes (BadHeader 65536) = inr (
+      refl,
+      record {
         long = came.size ∙ is;
         begun = runs_begun scan.stand came.scanned.ns bytes came.scanned.ran;
         unended = none;
         no_number = came.scanned.numbered;
-      }) in
+      },
+    ) in
     record {
       bytes = bytes;
       takes = came.takes;
       few = inl ((let le : length bytes ≤ 65536 = omega (arith, came.size, is) in le), none);
-      answer = (came.takes.begun,
+      answer = (
+        came.takes.begun,
         subst (λ (x : List ℕ). IsFault x (BadHeader 65536)) (append-nil bytes) (decided bytes [] (BadHeader 65536) came.scanned.early d),
-        λ cut. absurd cut);
+        λ cut. absurd cut,
+      );
     }

@@ -23,8 +23,9 @@ clean_more bytes more end le clean m fault less d =
 pub clean_all : (bytes : List ℕ) → IsClean bytes (length bytes) → ((fault : PlateFault) → Decides bytes fault → ⊥) → IsClean bytes (length bytes + 1)
 clean_all bytes clean last m fault less d =
     elim (cases_lt m (length bytes)) [
-      inl before ↦ clean m fault before d
-    | inr at ↦ last fault (subst (λ (x : List ℕ). Decides x fault) (take_all m bytes at) d) ]
+      | inl before ↦ clean m fault before d
+      | inr at ↦ last fault (subst (λ (x : List ℕ). Decides x fault) (take_all m bytes at) d)
+    ]
 
 pub clean_push : (bytes : List ℕ) (b : ℕ) → IsClean bytes (length bytes + 1) → IsClean (bytes ++ b ∷ []) (length (bytes ++ b ∷ []))
 clean_push bytes b clean m fault less d =

@@ -59,26 +59,31 @@ no_some x e = cc
 pub kept_number : (sides : Sides) (n first : ℕ) → number_fault sides (min n 1000000) first ≡ None → min n 1000000 ≡ n
 kept_number Neither n first none =
     elim (chosen (side_test (min n 1000000)) None (Some (SideRange first)) None none) [
-      inl h ↦ let is = side_is (min n 1000000) h.0 in omega (arith, is.1)
-    | inr h ↦ absurd (no_some (SideRange first) h.1) ]
+      | inl h ↦ let is = side_is (min n 1000000) h.0 in omega (arith, is.1)
+      | inr h ↦ absurd (no_some (SideRange first) h.1)
+    ]
 kept_number (Width w) n first none =
     elim (chosen (side_test (min n 1000000)) (cond (leb (w * min n 1000000) 160000000) None (Some (TooManySamples first))) (Some (SideRange first)) None none) [
-      inl h ↦ let is = side_is (min n 1000000) h.0 in omega (arith, is.1)
-    | inr h ↦ absurd (no_some (SideRange first) h.1) ]
+      | inl h ↦ let is = side_is (min n 1000000) h.0 in omega (arith, is.1)
+      | inr h ↦ absurd (no_some (SideRange first) h.1)
+    ]
 kept_number (Both w g) n first none = grind (arith, nat_tests)
 
 -- what an accepted number makes of the sides
 pub accepted : (sides : Sides) (n first : ℕ) → number_fault sides n first ≡ None → InRange sides → InRange (sides_then sides n)
 accepted Neither n first none range =
     elim (chosen (side_test n) None (Some (SideRange first)) None none) [
-      inl h ↦ side_is n h.0
-    | inr h ↦ absurd (no_some (SideRange first) h.1) ]
+      | inl h ↦ side_is n h.0
+      | inr h ↦ absurd (no_some (SideRange first) h.1)
+    ]
 accepted (Width w) n first none range =
     elim (chosen (side_test n) (cond (leb (w * n) 160000000) None (Some (TooManySamples first))) (Some (SideRange first)) None none) [
-      inl h ↦ elim (chosen (leb (w * n) 160000000) None (Some (TooManySamples first)) None h.1) [
-          inl k ↦ (range, side_is n h.0, grind (arith, nat_tests, k.0))
-        | inr k ↦ absurd (no_some (TooManySamples first) k.1) ]
-    | inr h ↦ absurd (no_some (SideRange first) h.1) ]
+      | inl h ↦ elim (chosen (leb (w * n) 160000000) None (Some (TooManySamples first)) None h.1) [
+        | inl k ↦ (range, side_is n h.0, grind (arith, nat_tests, k.0))
+        | inr k ↦ absurd (no_some (TooManySamples first) k.1)
+      ]
+      | inr h ↦ absurd (no_some (SideRange first) h.1)
+    ]
 accepted (Both w h) n first none range = range
 
 pub accepted_maxval : (w h n first : ℕ) → number_fault (Both w h) n first ≡ None → (0 < n) × (n ≤ 65535)
@@ -144,18 +149,22 @@ out_of_range (suc n) isnt = inr (let big : 65535 < min (suc n) 1000000 = grind (
 pub faulty : (sides : Sides) (n first : ℕ) (bytes : List ℕ) (fault : PlateFault) → number_fault sides (min n 1000000) first ≡ Some fault → InRange sides → EndsNumber bytes first n (past sides) → NumberFault bytes fault
 faulty Neither n first bytes fault some range ends =
     elim (chosen (side_test (min n 1000000)) None (Some (SideRange first)) (Some fault) some) [
-      inl h ↦ absurd (none_some fault h.1)
-    | inr h ↦ subst (NumberFault bytes) (some_fault (SideRange first) fault h.1) (n, [], ends, omega arith, cut_side n h.0) ]
+      | inl h ↦ absurd (none_some fault h.1)
+      | inr h ↦ subst (NumberFault bytes) (some_fault (SideRange first) fault h.1) (n, [], ends, omega arith, cut_side n h.0)
+    ]
 faulty (Width w) n first bytes fault some range ends =
     elim (chosen (side_test (min n 1000000)) (cond (leb (w * min n 1000000) 160000000) None (Some (TooManySamples first))) (Some (SideRange first)) (Some fault) some) [
-      inl h ↦ elim (chosen (leb (w * min n 1000000) 160000000) None (Some (TooManySamples first)) (Some fault) h.1) [
-          inl k ↦ absurd (none_some fault k.1)
+      | inl h ↦ elim (chosen (leb (w * min n 1000000) 160000000) None (Some (TooManySamples first)) (Some fault) h.1) [
+        | inl k ↦ absurd (none_some fault k.1)
         | inr k ↦
             let kept : min n 1000000 ≡ n = cut_kept n h.0 in
             let big : 160000000 < w * min n 1000000 = grind (arith, nat_tests, k.0) in
-            subst (NumberFault bytes) (some_fault (TooManySamples first) fault k.1) (w, n, ends, range, subst IsSide kept (side_is (min n 1000000) h.0), subst (λ (x : ℕ). 160000000 < w * x) kept big) ]
-    | inr h ↦ subst (NumberFault bytes) (some_fault (SideRange first) fault h.1) (n, w ∷ [], ends, omega arith, cut_side n h.0) ]
+            subst (NumberFault bytes) (some_fault (TooManySamples first) fault k.1) (w, n, ends, range, subst IsSide kept (side_is (min n 1000000) h.0), subst (λ (x : ℕ). 160000000 < w * x) kept big)
+      ]
+      | inr h ↦ subst (NumberFault bytes) (some_fault (SideRange first) fault h.1) (n, w ∷ [], ends, omega arith, cut_side n h.0)
+    ]
 faulty (Both w h) n first bytes fault some range ends =
     elim (chosen (ltb 0 (min n 1000000) && leb (min n 1000000) 65535) None (Some (MaxvalRange first)) (Some fault) some) [
-      inl k ↦ absurd (none_some fault k.1)
-    | inr k ↦ subst (NumberFault bytes) (some_fault (MaxvalRange first) fault k.1) (w, h, n, ends, out_of_range n k.0) ]
+      | inl k ↦ absurd (none_some fault k.1)
+      | inr k ↦ subst (NumberFault bytes) (some_fault (MaxvalRange first) fault k.1) (w, h, n, ends, out_of_range n k.0)
+    ]

@@ -26,14 +26,14 @@ use Rattle.pgm_plates.proofs.Decisions.{bytes_size, some_size, raster_size, rast
 pub most_more : (xs : List ℕ) (i most r : ℕ) → i < length xs → r ≡ max most (get_or xs i 0) → All (λ (s : ℕ). s ≤ most) (take i xs) → All (λ (s : ℕ). s ≤ r) (take (i + 1) xs)
 most_more xs i most r here is all =
     All-more (λ (s : ℕ). s ≤ r) xs i 0 here
-      (All-weaker (λ (s : ℕ). s ≤ most) (λ (s : ℕ). s ≤ r) (λ (s : ℕ) (le : s ≤ most). omega (arith, is)) (take i xs) all)
-      (omega (arith, is))
+    (All-weaker (λ (s : ℕ). s ≤ most) (λ (s : ℕ). s ≤ r) (λ (s : ℕ) (le : s ≤ most). omega (arith, is)) (take i xs) all)
+    (omega (arith, is))
 
 pub fit_all : (maxval most n : ℕ) (xs : List ℕ) → length xs ≤ n → All (λ (s : ℕ). s ≤ most) (take n xs) → leb most maxval ≡ true → Fit maxval xs
 fit_all maxval most n xs whole all under =
     let le : most ≤ maxval = grind (arith, nat_tests) in
     All-weaker (λ (s : ℕ). s ≤ most) (λ (s : ℕ). s ≤ maxval) (λ (s : ℕ) (h : s ≤ most). omega arith) xs
-      (All-same (λ (s : ℕ). s ≤ most) xs (take n xs) (sym (take_all n xs whole)) all)
+    (All-same (λ (s : ℕ). s ≤ most) xs (take n xs) (sym (take_all n xs whole)) all)
 
 pub fit_more : (maxval : ℕ) (xs : List ℕ) (i : ℕ) → i < length xs → Fit maxval (take i xs) → get_or xs i 0 ≤ maxval → Fit maxval (take (i + 1) xs)
 fit_more maxval xs i here fit le = All-more (λ (s : ℕ). s ≤ maxval) xs i 0 here fit le
@@ -79,9 +79,9 @@ piece_above maxval count bytes samples place decoded first few within =
       sample = sample;
       more = raster maxval rest ++ decoded.half;
       whole = decoded.whole ∙ ap (λ (x : List ℕ). x ++ decoded.half) spelled
-        ∙ append_assoc (raster maxval front) (sample_bytes maxval sample ++ raster maxval rest) decoded.half
-        ∙ ap (λ (x : List ℕ). raster maxval front ++ x) (append_assoc (sample_bytes maxval sample) (raster maxval rest) decoded.half)
-        ∙ sym (append_assoc (raster maxval front) (sample_bytes maxval sample) (raster maxval rest ++ decoded.half));
+          ∙ append_assoc (raster maxval front) (sample_bytes maxval sample ++ raster maxval rest) decoded.half
+          ∙ ap (λ (x : List ℕ). raster maxval front ++ x) (append_assoc (sample_bytes maxval sample) (raster maxval rest) decoded.half)
+          ∙ sym (append_assoc (raster maxval front) (sample_bytes maxval sample) (raster maxval rest ++ decoded.half));
       fit = first.fit;
       above = first.above;
       at = sym (raster_size maxval front ∙ ap (λ (n : ℕ). n * sample_size maxval) (length-take-le place samples (omega (arith, first.within))));
@@ -151,57 +151,61 @@ behind_raster maxval xs ys more = sym (append_assoc (raster maxval xs) (raster m
 
 part_on : (maxval count want : ℕ) (xs bytes : List ℕ) → Fit maxval xs → length xs + want ≤ count → IsPart maxval want bytes → IsPart maxval count (raster maxval xs ++ bytes)
 part_on maxval count want xs bytes fit few part = record {
-    samples = xs ++ part.samples;
-    half = part.half;
-    whole = ap (λ (z : List ℕ). raster maxval xs ++ z) part.whole ∙ behind_raster maxval xs part.samples part.half;
-    fit = All-append (λ (s : ℕ). s ≤ maxval) xs part.samples fit part.fit;
-    short = part.short;
-    few = omega (arith, part.few, length-append xs part.samples);
-  }
+  samples = xs ++ part.samples;
+  half = part.half;
+  whole = ap (λ (z : List ℕ). raster maxval xs ++ z) part.whole ∙ behind_raster maxval xs part.samples part.half;
+  fit = All-append (λ (s : ℕ). s ≤ maxval) xs part.samples fit part.fit;
+  short = part.short;
+  few = omega (arith, part.few, length-append xs part.samples);
+}
 
 above_on : (maxval count want place : ℕ) (xs bytes : List ℕ) → Fit maxval xs → length xs + want ≤ count → IsAbove maxval want bytes place → IsAbove maxval count (raster maxval xs ++ bytes) (length (raster maxval xs) + place)
 above_on maxval count want place xs bytes fit few above = record {
-    samples = xs ++ above.samples;
-    sample = above.sample;
-    more = above.more;
-    whole = ap (λ (z : List ℕ). raster maxval xs ++ z) (above.whole ∙ append_assoc (raster maxval above.samples) (sample_bytes maxval above.sample) above.more)
+  samples = xs ++ above.samples;
+  sample = above.sample;
+  more = above.more;
+  whole = ap (λ (z : List ℕ). raster maxval xs ++ z) (above.whole ∙ append_assoc (raster maxval above.samples) (sample_bytes maxval above.sample) above.more)
       ∙ behind_raster maxval xs above.samples (sample_bytes maxval above.sample ++ above.more)
       ∙ sym (append_assoc (raster maxval (xs ++ above.samples)) (sample_bytes maxval above.sample) above.more);
-    fit = All-append (λ (s : ℕ). s ≤ maxval) xs above.samples fit above.fit;
-    above = above.above;
-    at = ap (λ (n : ℕ). length (raster maxval xs) + n) above.at ∙ sym (length-append (raster maxval xs) (raster maxval above.samples)) ∙ ap length (sym (raster_both maxval xs above.samples));
-    few = omega (arith, above.few, length-append xs above.samples);
-    within =
+  fit = All-append (λ (s : ℕ). s ≤ maxval) xs above.samples fit above.fit;
+  above = above.above;
+  at = ap (λ (n : ℕ). length (raster maxval xs) + n) above.at ∙ sym (length-append (raster maxval xs) (raster maxval above.samples)) ∙ ap length (sym (raster_both maxval xs above.samples));
+  few = omega (arith, above.few, length-append xs above.samples);
+  within =
       let size = behind_size maxval xs bytes in
       let enough = more_times (length xs) want count (sample_size maxval) few in
       omega (arith, above.within);
-  }
+}
 
 -- A refusal behind some samples is one of the whole raster.
 pub refused_on : (maxval count want start : ℕ) (a b c : TrayState) (xs : List ℕ) (refusal : PlateRefusal) → Takes (raster maxval xs) a b → Fit maxval xs → length xs + want ≤ count → RasterRefused maxval want (start + length xs * sample_size maxval) b c refusal → RasterRefused maxval count start a c refusal
 refused_on maxval count want start a b c xs (Fault (SampleAboveMaxval at)) took fit few r =
     let bytes = r.0 in
-    let place = r.1 in
-    (raster maxval xs ++ bytes, length (raster maxval xs) + place,
+    let place = r.1 in (
+      raster maxval xs ++ bytes,
+      length (raster maxval xs) + place,
       takes_then (raster maxval xs) bytes a b c took r.2,
       above_on maxval count want place xs bytes fit few r.3,
-      (let size = raster_size maxval xs in let is = r.4 in omega arith))
+      (let size = raster_size maxval xs in let is = r.4 in omega arith),
+    )
 refused_on maxval count want start a b c xs (Fault (Truncated at)) took fit few r =
     let bytes = r.0 in
     let size = behind_size maxval xs bytes in
-    let enough = more_times (length xs) want count (sample_size maxval) few in
-    (raster maxval xs ++ bytes,
+    let enough = more_times (length xs) want count (sample_size maxval) few in (
+      raster maxval xs ++ bytes,
       takes_then (raster maxval xs) bytes a b c took r.1,
       part_on maxval count want xs bytes fit few r.2,
       (let less = r.3 in omega arith),
       (let is = r.4 in omega arith),
-      λ tells. r.5 (told_on (raster maxval xs) a b took tells))
+      λ tells. r.5 (told_on (raster maxval xs) a b took tells),
+    )
 refused_on maxval count want start a b c xs ReadFault took fit few r =
-    let bytes = r.0 in
-    (raster maxval xs ++ bytes,
+    let bytes = r.0 in (
+      raster maxval xs ++ bytes,
       takes_then (raster maxval xs) bytes a b c took r.1,
       part_on maxval count want xs bytes fit few r.2,
-      rose_before a.faults b.faults c.faults took.keeps.faults r.3)
+      rose_before a.faults b.faults c.faults took.keeps.faults r.3,
+    )
 refused_on maxval count want start a b c xs OutOfMemory took fit few r =
     let bytes = r.0 in
     let size = behind_size maxval xs bytes in
@@ -223,9 +227,11 @@ taken_on maxval want a b c xs ys took taken =
 pub room_refused : (maxval count want start : ℕ) (a b c : TrayState) (xs ys : List ℕ) → Takes (raster maxval xs) a b → length xs + want ≤ count → RasterTaken maxval want b c ys → RasterRefused maxval count start a c OutOfMemory
 room_refused maxval count want start a b c xs ys took few taken =
     let size = raster_size maxval (xs ++ ys) in
-    let all : length (xs ++ ys) ≤ count = omega (arith, length-append xs ys, taken.all) in
-    (raster maxval (xs ++ ys), taken_on maxval want a b c xs ys took taken,
-      subst (λ (n : ℕ). n ≤ count * sample_size maxval) (sym size) (mul-le-mul_right (sample_size maxval) all))
+    let all : length (xs ++ ys) ≤ count = omega (arith, length-append xs ys, taken.all) in (
+      raster maxval (xs ++ ys),
+      taken_on maxval want a b c xs ys took taken,
+      subst (λ (n : ℕ). n ≤ count * sample_size maxval) (sym size) (mul-le-mul_right (sample_size maxval) all),
+    )
 
 pub within_room : (buf : List ℕ) (filled count n size : ℕ) → filled ≤ length buf → length buf ≡ n * size → count ≡ n → length (take filled buf) ≤ count * size
 within_room buf filled count n size le room same =

@@ -86,9 +86,10 @@ keeps_settled stand ns [] r e =
     subst (λ (q : Reached). Before q.numbers (settled stand ns)) same (settled_end stand ns)
 keeps_settled stand ns (b ∷ bs) r e =
     let by_step : (o : Option Stand) → option_and_then (λ (s : Stand). run s (numbers_then stand s ns b) bs) o ≡ Some r → Before r.numbers (settled stand ns) =
-      λ o. elim o as (λ o. option_and_then (λ (s : Stand). run s (numbers_then stand s ns b) bs) o ≡ Some r → Before r.numbers (settled stand ns)) [
-        None ↦ λ h. absurd (no_step r h)
-      | Some next ↦ λ h. settled_then stand next ns r.numbers b (keeps_settled next (numbers_then stand next ns b) bs r h) ] in
+    λ o. elim o as (λ o. option_and_then (λ (s : Stand). run s (numbers_then stand s ns b) bs) o ≡ Some r → Before r.numbers (settled stand ns)) [
+      | None ↦ λ h. absurd (no_step r h)
+      | Some next ↦ λ h. settled_then stand next ns r.numbers b (keeps_settled next (numbers_then stand next ns b) bs r h)
+    ] in
     by_step (step stand (length ns) b) e
 
 behind_digits : (next : Stand) (n : ℕ) (earlier all : List ℕ) (b : ℕ) → Lands Digits next (length (n ∷ earlier)) b → is_digit b ≡ false → Before all (settled next (numbers_then Digits next (n ∷ earlier) b)) → Before all (n ∷ earlier)
@@ -120,9 +121,10 @@ ended_settled : (front rest ns : List ℕ) (b n : ℕ) (earlier : List ℕ) (r :
 ended_settled front rest ns b n earlier r ran other whole =
     let on : run Digits (n ∷ earlier) (b ∷ rest) ≡ Some r = sym (run_then Start Digits [] (n ∷ earlier) front (b ∷ rest) ran) ∙ whole in
     let by_step : (o : Option Stand) → step Digits (length (n ∷ earlier)) b ≡ o → option_and_then (λ (s : Stand). run s (numbers_then Digits s (n ∷ earlier) b) rest) o ≡ Some r → Before r.numbers (n ∷ earlier) =
-      λ o. elim o as (λ o. step Digits (length (n ∷ earlier)) b ≡ o → option_and_then (λ (s : Stand). run s (numbers_then Digits s (n ∷ earlier) b) rest) o ≡ Some r → Before r.numbers (n ∷ earlier)) [
-        None ↦ λ is h. absurd (no_step r h)
-      | Some next ↦ λ is h. behind_digits next n earlier r.numbers b (lands Digits next (length (n ∷ earlier)) b is) other (keeps_settled next (numbers_then Digits next (n ∷ earlier) b) rest r h) ] in
+    λ o. elim o as (λ o. step Digits (length (n ∷ earlier)) b ≡ o → option_and_then (λ (s : Stand). run s (numbers_then Digits s (n ∷ earlier) b) rest) o ≡ Some r → Before r.numbers (n ∷ earlier)) [
+      | None ↦ λ is h. absurd (no_step r h)
+      | Some next ↦ λ is h. behind_digits next n earlier r.numbers b (lands Digits next (length (n ∷ earlier)) b is) other (keeps_settled next (numbers_then Digits next (n ∷ earlier) b) rest r h)
+    ] in
     by_step (step Digits (length (n ∷ earlier)) b) refl on
 
 -- which number of the header it is
@@ -137,25 +139,31 @@ no_number : (w h m : ℕ) (bytes : List ℕ) (fault : PlateFault) → InHeader w
 unfolding fault_ends
 no_number w h m bytes (SideRange at) range is d =
     elim (which m h w d.0 d.1 (is (fault_ends bytes (SideRange at) d))) [
-      inl a ↦ d.4 (subst IsSide (sym a.1) range.0)
-    | inr more ↦ elim more [
-        inl b ↦ d.4 (subst IsSide (sym b.1) range.1)
-      | inr c ↦ omega (arith, d.3, ap length c.0) ] ]
+      | inl a ↦ d.4 (subst IsSide (sym a.1) range.0)
+      | inr more ↦ elim more [
+        | inl b ↦ d.4 (subst IsSide (sym b.1) range.1)
+        | inr c ↦ omega (arith, d.3, ap length c.0)
+      ]
+    ]
 no_number w h m bytes (TooManySamples at) range is d =
     elim (which m h w d.1 (d.0 ∷ []) (is (fault_ends bytes (TooManySamples at) d))) [
-      inl a ↦ omega (arith, ap length a.0)
-    | inr more ↦ elim more [
-        inl b ↦
-          let same : d.0 ≡ w = let e : d.0 ∷ [] ≡ w ∷ [] = b.0 in cc in
-          let product : d.0 * d.1 ≡ w * h = ap (λ (x : ℕ). x * d.1) same ∙ ap (λ (x : ℕ). w * x) b.1 in
-          omega (arith, d.5, range.2)
-      | inr c ↦ omega (arith, ap length c.0) ] ]
+      | inl a ↦ omega (arith, ap length a.0)
+      | inr more ↦ elim more [
+        | inl b ↦
+            let same : d.0 ≡ w = let e : d.0 ∷ [] ≡ w ∷ [] = b.0 in cc in
+            let product : d.0 * d.1 ≡ w * h = ap (λ (x : ℕ). x * d.1) same ∙ ap (λ (x : ℕ). w * x) b.1 in
+            omega (arith, d.5, range.2)
+        | inr c ↦ omega (arith, ap length c.0)
+      ]
+    ]
 no_number w h m bytes (MaxvalRange at) range is d =
     elim (which m h w d.2 (d.1 ∷ d.0 ∷ []) (is (fault_ends bytes (MaxvalRange at) d))) [
-      inl a ↦ omega (arith, ap length a.0)
-    | inr more ↦ elim more [
-        inl b ↦ omega (arith, ap length b.0)
-      | inr c ↦ elim d.4 [ inl none_at_all ↦ omega (arith, range.3, c.1) | inr big ↦ omega (arith, range.4, c.1) ] ] ]
+      | inl a ↦ omega (arith, ap length a.0)
+      | inr more ↦ elim more [
+        | inl b ↦ omega (arith, ap length b.0)
+        | inr c ↦ elim d.4 [ inl none_at_all ↦ omega (arith, range.3, c.1) | inr big ↦ omega (arith, range.4, c.1) ]
+      ]
+    ]
 no_number w h m bytes (BadMagic at) range is d = d
 no_number w h m bytes (BadHeader at) range is d = d
 no_number w h m bytes (SampleAboveMaxval at) range is d = d
@@ -183,7 +191,7 @@ empty_list (x ∷ xs) none = absurd (omega arith)
 no_inside : (header front back inner x y : List ℕ) (w h m w' h' m' : ℕ) → IsHeader header w h m → IsHeader inner w' h' m' → front ++ back ≡ header → front ≡ inner ++ x ++ y → 0 < length y → ⊥
 no_inside header front back inner x y w h m w' h' m' is inside whole same some =
     let e : header ++ [] ≡ inner ++ (x ++ y ++ back) =
-      append-nil header ∙ sym whole ∙ ap (λ (z : List ℕ). z ++ back) same ∙ append_assoc (inner ++ x) y back ∙ append_assoc inner x (y ++ back) ∙ ap (λ (z : List ℕ). inner ++ z) (sym (append_assoc x y back)) in
+    append-nil header ∙ sym whole ∙ ap (λ (z : List ℕ). z ++ back) same ∙ append_assoc (inner ++ x) y back ∙ append_assoc inner x (y ++ back) ∙ ap (λ (z : List ℕ). inner ++ z) (sym (append_assoc x y back)) in
     let one = one_header header [] inner (x ++ y ++ back) w h m w' h' m' is inside e in
     omega (arith, ap length one.rest, length-append (x ++ y) back, length-append x y)
 
@@ -192,11 +200,12 @@ quiet_front : (header front back : List ℕ) (w h m : ℕ) → IsHeader header w
 quiet_front header front back w h m is range short whole (BadMagic at) d = d.1.broken (back, (w, h, m, subst (λ (x : List ℕ). IsHeader x w h m) (sym whole) is))
 quiet_front header front back w h m is range short whole (BadHeader at) d =
     elim d [
-      inl broken ↦ broken.1.broken (back, (w, h, m, subst (λ (x : List ℕ). IsHeader x w h m) (sym whole) is))
-    | inr long ↦
-        let none : back ≡ [] = empty_list back (omega (arith, long.1.long, ap length whole, length-append front back)) in
-        let all : header ≡ front = sym whole ∙ ap (λ (x : List ℕ). front ++ x) none ∙ append-nil front in
-        holds_header header [] w h m is (subst HoldsNoHeader (sym all ∙ sym (append-nil header)) long.1.unended) ]
+      | inl broken ↦ broken.1.broken (back, (w, h, m, subst (λ (x : List ℕ). IsHeader x w h m) (sym whole) is))
+      | inr long ↦
+          let none : back ≡ [] = empty_list back (omega (arith, long.1.long, ap length whole, length-append front back)) in
+          let all : header ≡ front = sym whole ∙ ap (λ (x : List ℕ). front ++ x) none ∙ append-nil front in
+          holds_header header [] w h m is (subst HoldsNoHeader (sym all ∙ sym (append-nil header)) long.1.unended)
+    ]
 quiet_front header front back w h m is range short whole (SideRange at) d = no_number w h m front (SideRange at) range (header_ends header front back w h m is whole) d
 quiet_front header front back w h m is range short whole (TooManySamples at) d = no_number w h m front (TooManySamples at) range (header_ends header front back w h m is whole) d
 quiet_front header front back w h m is range short whole (MaxvalRange at) d = no_number w h m front (MaxvalRange at) range (header_ends header front back w h m is whole) d

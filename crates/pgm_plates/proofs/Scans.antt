@@ -43,37 +43,46 @@ Lands from to k b = ⊥
 gap_lands : (b : ℕ) (to : Stand) (P : Stand → Type 0) → P Gap → P Comment → gap_step b ≡ Some to → P to
 gap_lands b to P gap comment e =
     elim (chosen (is_space b) (Some Gap) (cond (eqb b 35) (Some Comment) None) (Some to) e) [
-      inl h ↦ subst P (let is : Gap ≡ to = cc (h.1) in is) gap
-    | inr h ↦ elim (chosen (eqb b 35) (Some Comment) None (Some to) h.1) [
-        inl k ↦ subst P (let is : Comment ≡ to = cc (k.1) in is) comment
-      | inr k ↦ absurd (no_step to k.1) ] ]
+      | inl h ↦ subst P (let is : Gap ≡ to = cc (h.1) in is) gap
+      | inr h ↦ elim (chosen (eqb b 35) (Some Comment) None (Some to) h.1) [
+        | inl k ↦ subst P (let is : Comment ≡ to = cc (k.1) in is) comment
+        | inr k ↦ absurd (no_step to k.1)
+      ]
+    ]
 
 pub lands : (from to : Stand) (k b : ℕ) → step from k b ≡ Some to → Lands from to k b
 lands Start to k b e =
     elim (chosen (eqb b 80) (Some Letter) None (Some to) e) [
-      inl h ↦ subst (λ (s : Stand). Lands Start s k b) (let is : Letter ≡ to = cc (h.1) in is) tt
-    | inr h ↦ absurd (no_step to h.1) ]
+      | inl h ↦ subst (λ (s : Stand). Lands Start s k b) (let is : Letter ≡ to = cc (h.1) in is) tt
+      | inr h ↦ absurd (no_step to h.1)
+    ]
 lands Letter to k b e =
     elim (chosen (eqb b 53) (Some Magic) None (Some to) e) [
-      inl h ↦ subst (λ (s : Stand). Lands Letter s k b) (let is : Magic ≡ to = cc (h.1) in is) tt
-    | inr h ↦ absurd (no_step to h.1) ]
+      | inl h ↦ subst (λ (s : Stand). Lands Letter s k b) (let is : Magic ≡ to = cc (h.1) in is) tt
+      | inr h ↦ absurd (no_step to h.1)
+    ]
 lands Magic to k b e = gap_lands b to (λ (s : Stand). Lands Magic s k b) tt tt e
 lands Gap to k b e =
     elim (chosen (is_digit b) (Some Digits) (gap_step b) (Some to) e) [
-      inl h ↦ subst (λ (s : Stand). Lands Gap s k b) (let is : Digits ≡ to = cc (h.1) in is) h.0
-    | inr h ↦ gap_lands b to (λ (s : Stand). Lands Gap s k b) tt tt h.1 ]
+      | inl h ↦ subst (λ (s : Stand). Lands Gap s k b) (let is : Digits ≡ to = cc (h.1) in is) h.0
+      | inr h ↦ gap_lands b to (λ (s : Stand). Lands Gap s k b) tt tt h.1
+    ]
 lands Comment to k b e =
     elim (chosen (is_line_end b) (Some Gap) (Some Comment) (Some to) e) [
-      inl h ↦ subst (λ (s : Stand). Lands Comment s k b) (let is : Gap ≡ to = cc (h.1) in is) tt
-    | inr h ↦ subst (λ (s : Stand). Lands Comment s k b) (let is : Comment ≡ to = cc (h.1) in is) tt ]
+      | inl h ↦ subst (λ (s : Stand). Lands Comment s k b) (let is : Gap ≡ to = cc (h.1) in is) tt
+      | inr h ↦ subst (λ (s : Stand). Lands Comment s k b) (let is : Comment ≡ to = cc (h.1) in is) tt
+    ]
 lands Digits to k b e =
     elim (chosen (is_digit b) (Some Digits) (cond (ltb k 3) (gap_step b) (cond (is_space b) (Some Ended) None)) (Some to) e) [
-      inl h ↦ subst (λ (s : Stand). Lands Digits s k b) (let is : Digits ≡ to = cc (h.1) in is) h.0
-    | inr h ↦ elim (chosen (ltb k 3) (gap_step b) (cond (is_space b) (Some Ended) None) (Some to) h.1) [
-        inl j ↦ let few : k < 3 = grind (arith, nat_tests, j.0) in gap_lands b to (λ (s : Stand). Lands Digits s k b) (h.0, few) (h.0, few) j.1
-      | inr j ↦ elim (chosen (is_space b) (Some Ended) None (Some to) j.1) [
-          inl i ↦ subst (λ (s : Stand). Lands Digits s k b) (let is : Ended ≡ to = cc (i.1) in is) (h.0, grind (arith, nat_tests, j.0))
-        | inr i ↦ absurd (no_step to i.1) ] ] ]
+      | inl h ↦ subst (λ (s : Stand). Lands Digits s k b) (let is : Digits ≡ to = cc (h.1) in is) h.0
+      | inr h ↦ elim (chosen (ltb k 3) (gap_step b) (cond (is_space b) (Some Ended) None) (Some to) h.1) [
+        | inl j ↦ let few : k < 3 = grind (arith, nat_tests, j.0) in gap_lands b to (λ (s : Stand). Lands Digits s k b) (h.0, few) (h.0, few) j.1
+        | inr j ↦ elim (chosen (is_space b) (Some Ended) None (Some to) j.1) [
+          | inl i ↦ subst (λ (s : Stand). Lands Digits s k b) (let is : Ended ≡ to = cc (i.1) in is) (h.0, grind (arith, nat_tests, j.0))
+          | inr i ↦ absurd (no_step to i.1)
+        ]
+      ]
+    ]
 lands Ended to k b e = absurd (no_step to e)
 
 -- the number of numbers matters behind digits alone
@@ -127,7 +136,8 @@ goes_on scan ns bytes b at fits range digit =
     let here = fits.3 in
     record {
       stand = refl;
-      fits = (n * 10 + (b - 48),
+      fits = (
+        n * 10 + (b - 48),
         ap (λ (x : List ℕ). numbers_then Digits Digits x b) fits.1,
         ap (λ (x : ℕ). digit_more x b) fits.2 ∙ cut_more n b,
         record {
@@ -139,28 +149,31 @@ goes_on scan ns bytes b at fits range digit =
           is_number = number_more here.digits n b here.is_number digit;
           place = here.place;
           whole = ap (λ (x : List ℕ). x ++ b ∷ []) here.whole ∙ append_assoc (here.front ++ here.gap) here.digits (b ∷ []);
-        });
+        },
+      );
       ranges = range;
     }
 
 begins : (scan : Scan) (ns bytes : List ℕ) (b : ℕ) → Standing Gap ns bytes → ns ≡ past scan.sides → InRange scan.sides → is_digit b ≡ true → Moved Digits (record { stand = Digits; sides = scan.sides; number = digit_more 0 b; first = length bytes }) ((b - 48) ∷ ns) (bytes ++ b ∷ [])
 begins scan ns bytes b standing same range digit = record {
-    stand = refl;
-    fits = (b - 48,
-      ap (λ (x : List ℕ). (b - 48) ∷ x) same,
-      (let e : digit_more 0 b ≡ min (b - 48) 1000000 = omega arith in e),
-      record {
-        front = standing.0;
-        gap = standing.1;
-        digits = b ∷ [];
-        numbers = subst (λ (x : List ℕ). Numbers standing.0 x) same standing.3;
-        is_gap = standing.4;
-        is_number = one_digit b digit;
-        place = ap length (sym standing.5);
-        whole = ap (λ (x : List ℕ). x ++ b ∷ []) standing.5;
-      });
-    ranges = range;
-  }
+  stand = refl;
+  fits = (
+    b - 48,
+    ap (λ (x : List ℕ). (b - 48) ∷ x) same,
+    (let e : digit_more 0 b ≡ min (b - 48) 1000000 = omega arith in e),
+    record {
+      front = standing.0;
+      gap = standing.1;
+      digits = b ∷ [];
+      numbers = subst (λ (x : List ℕ). Numbers standing.0 x) same standing.3;
+      is_gap = standing.4;
+      is_number = one_digit b digit;
+      place = ap length (sym standing.5);
+      whole = ap (λ (x : List ℕ). x ++ b ∷ []) standing.5;
+    },
+  );
+  ranges = range;
+}
 
 -- what ends a number that was accepted
 past_then : (sides : Sides) (n : ℕ) → length (past sides) + 1 < 3 → n ∷ past sides ≡ past (sides_then sides n)
@@ -192,10 +205,14 @@ ends_header scan ns bytes after fits range many none =
     let fine = accepted_maxval w h scan.number scan.first (ap (λ (s : Sides). number_fault s scan.number scan.first) (sym both.2) ∙ none) in
     record {
       stand = refl;
-      fits = (w, h,
+      fits = (
+        w,
+        h,
         ap (λ (s : Sides). sides_then s scan.number) both.2,
         fits.1 ∙ ap (λ (n : ℕ). n ∷ past scan.sides) (sym (kept scan ns bytes fits none)) ∙ ap (λ (s : Sides). scan.number ∷ past s) both.2,
-        fine.0, fine.1);
+        fine.0,
+        fine.1,
+      );
       ranges = accepted scan.sides scan.number scan.first none range;
     }
 
@@ -238,12 +255,12 @@ not_numbered bytes none fault h = none (fault_ends bytes fault h)
 judged_number : (scan : Scan) (ns bytes : List ℕ) (b : ℕ) → run Start [] bytes ≡ Some (reached Digits ns) → Fits Digits scan ns bytes → InRange scan.sides → number_fault scan.sides scan.number scan.first ≡ None → (fault : PlateFault) → NumberFault (bytes ++ b ∷ []) fault → ⊥
 judged_number scan ns bytes b ran fits range none =
     no_fault scan.sides scan.number scan.first (bytes ++ b ∷ []) none range
-      (λ (e : Ends (bytes ++ b ∷ [])).
-        let is = same_number Digits ns bytes b ran e in
-        let both : fits.0 ∷ past scan.sides ≡ e.number ∷ e.earlier = sym fits.1 ∙ is.1 in
-        let head : e.number ≡ fits.0 = cc in
-        let rest : e.earlier ≡ past scan.sides = cc in
-        (head ∙ sym (kept scan ns bytes fits none), rest))
+    (λ (e : Ends (bytes ++ b ∷ [])).
+    let is = same_number Digits ns bytes b ran e in
+    let both : fits.0 ∷ past scan.sides ≡ e.number ∷ e.earlier = sym fits.1 ∙ is.1 in
+    let head : e.number ≡ fits.0 = cc in
+    let rest : e.earlier ≡ past scan.sides = cc in
+    (head ∙ sym (kept scan ns bytes fits none), rest))
 
 stays_numbered : (from to : Stand) (scan next : Scan) (ns bytes : List ℕ) (b : ℕ) → run Start [] bytes ≡ Some (reached from ns) → Fits from scan ns bytes → InRange scan.sides → Lands from to (length (past scan.sides) + 1) b → entered from to scan b (length bytes) ≡ Ok next → (fault : PlateFault) → NumberFault (bytes ++ b ∷ []) fault → ⊥
 stays_numbered Digits Digits scan next ns bytes b ran fits range on e = not_numbered (bytes ++ b ∷ []) (λ (n : Ends (bytes ++ b ∷ [])). digit_not b on ((same_number Digits ns bytes b ran n).2))
@@ -269,12 +286,14 @@ pub quiet : (bytes : List ℕ) (scan : Scan) → Scanned bytes scan → ((scan.s
 quiet bytes scan scanned fine (BadMagic at) d = d.1.broken (runs_begun scan.stand scanned.ns bytes scanned.ran)
 quiet bytes scan scanned fine (BadHeader at) d =
     elim d [
-      inl broken ↦ broken.1.broken (runs_begun scan.stand scanned.ns bytes scanned.ran)
-    | inr long ↦ elim fine [
-        inl ended ↦
-          let header = ended_header scanned.ns bytes (scanned.ran ∙ ap (λ (s : Stand). Some (reached s scanned.ns)) ended) in
-          holds_header bytes [] header.0 header.1 header.2 header.4 (subst HoldsNoHeader (sym (append-nil bytes)) long.1.unended)
-      | inr short ↦ omega (arith, long.1.long) ] ]
+      | inl broken ↦ broken.1.broken (runs_begun scan.stand scanned.ns bytes scanned.ran)
+      | inr long ↦ elim fine [
+        | inl ended ↦
+            let header = ended_header scanned.ns bytes (scanned.ran ∙ ap (λ (s : Stand). Some (reached s scanned.ns)) ended) in
+            holds_header bytes [] header.0 header.1 header.2 header.4 (subst HoldsNoHeader (sym (append-nil bytes)) long.1.unended)
+        | inr short ↦ omega (arith, long.1.long)
+      ]
+    ]
 quiet bytes scan scanned fine (SideRange at) d = scanned.numbered (SideRange at) d
 quiet bytes scan scanned fine (TooManySamples at) d = scanned.numbered (TooManySamples at) d
 quiet bytes scan scanned fine (MaxvalRange at) d = scanned.numbered (MaxvalRange at) d
@@ -302,8 +321,8 @@ pub scan_more : (bytes : List ℕ) (b : ℕ) (scan next : Scan) → Scanned byte
 scan_more bytes b scan next scanned short e =
     let k = length (past scan.sides) + 1 in
     let by_step : (o : Option Stand) → step scan.stand k b ≡ o → stepped o scan b (length bytes) ≡ Ok next → Scanned (bytes ++ b ∷ []) next =
-      λ o. elim o as (λ o. step scan.stand k b ≡ o → stepped o scan b (length bytes) ≡ Ok next → Scanned (bytes ++ b ∷ []) next) [
-        None ↦ λ is h. absurd (no_err (header_fault (length bytes)) next h)
+    λ o. elim o as (λ o. step scan.stand k b ≡ o → stepped o scan b (length bytes) ≡ Ok next → Scanned (bytes ++ b ∷ []) next) [
+      | None ↦ λ is h. absurd (no_err (header_fault (length bytes)) next h)
       | Some to ↦ λ is h.
           let on = lands scan.stand to k b is in
           let standing : Standing scan.stand scanned.ns bytes = run_sound Start [] [] bytes (reached scan.stand scanned.ns) (refl, refl) scanned.ran in
@@ -316,14 +335,16 @@ scan_more bytes b scan next scanned short e =
             ranges = moved.ranges;
             early = clean_push bytes b (still_clean bytes scan scanned (inr short));
             numbered = stays_numbered scan.stand to scan next scanned.ns bytes b scanned.ran scanned.fits scanned.ranges on h;
-          } ] in
+          }
+    ] in
     by_step (step scan.stand k b) refl e
 
 header_decides : (bytes : List ℕ) (at : ℕ) → Breaks bytes at → Decides bytes (header_fault at)
 header_decides bytes at broken =
     elim (chosen (ltb at 2) (BadMagic at) (BadHeader at) (header_fault at) refl) [
-      inl h ↦ subst (Decides bytes) h.1 (grind (arith, nat_tests, h.0), broken)
-    | inr h ↦ subst (Decides bytes) h.1 (inl (grind (arith, nat_tests, h.0), broken)) ]
+      | inl h ↦ subst (Decides bytes) h.1 (grind (arith, nat_tests, h.0), broken)
+      | inr h ↦ subst (Decides bytes) h.1 (inl (grind (arith, nat_tests, h.0), broken))
+    ]
 
 number_decides : (bytes : List ℕ) (fault : PlateFault) → NumberFault bytes fault → Decides bytes fault
 number_decides bytes (SideRange at) h = h
@@ -340,20 +361,20 @@ judged_fault to scan ns bytes b fault fits range other begun e =
     let here = fits.3 in
     let is = judged_err (number_fault scan.sides scan.number scan.first) (closed to scan) fault e in
     number_decides (bytes ++ b ∷ []) fault (faulty scan.sides fits.0 scan.first (bytes ++ b ∷ []) fault
-      (ap (λ (n : ℕ). number_fault scan.sides n scan.first) (sym fits.2) ∙ is) range
-      (record {
-        front = here.front;
-        gap = here.gap;
-        digits = here.digits;
-        next = b;
-        whole = ap (λ (x : List ℕ). x ++ b ∷ []) here.whole;
-        numbers = here.numbers;
-        is_gap = here.is_gap;
-        place = here.place;
-        is_number = here.is_number;
-        ended = other;
-        begun = begun;
-      }))
+    (ap (λ (n : ℕ). number_fault scan.sides n scan.first) (sym fits.2) ∙ is) range
+    (record {
+      front = here.front;
+      gap = here.gap;
+      digits = here.digits;
+      next = b;
+      whole = ap (λ (x : List ℕ). x ++ b ∷ []) here.whole;
+      numbers = here.numbers;
+      is_gap = here.is_gap;
+      place = here.place;
+      is_number = here.is_number;
+      ended = other;
+      begun = begun;
+    }))
 
 faults : (from to : Stand) (scan : Scan) (ns bytes : List ℕ) (b : ℕ) (fault : PlateFault) → Fits from scan ns bytes → InRange scan.sides → Lands from to (length (past scan.sides) + 1) b → IsBegun (bytes ++ b ∷ []) → entered from to scan b (length bytes) ≡ Err fault → Decides (bytes ++ b ∷ []) fault
 faults Digits Gap scan ns bytes b fault fits range on begun e = judged_fault Gap scan ns bytes b fault fits range on.0 begun e
@@ -376,21 +397,22 @@ pub scan_faults : (bytes : List ℕ) (b : ℕ) (scan : Scan) (fault : PlateFault
 scan_faults bytes b scan fault scanned open_yet e =
     let k = length (past scan.sides) + 1 in
     let by_step : (o : Option Stand) → step scan.stand k b ≡ o → stepped o scan b (length bytes) ≡ Err fault → Decides (bytes ++ b ∷ []) fault =
-      λ o. elim o as (λ o. step scan.stand k b ≡ o → stepped o scan b (length bytes) ≡ Err fault → Decides (bytes ++ b ∷ []) fault) [
-        None ↦ λ is h.
+    λ o. elim o as (λ o. step scan.stand k b ≡ o → stepped o scan b (length bytes) ≡ Err fault → Decides (bytes ++ b ∷ []) fault) [
+      | None ↦ λ is h.
           let here : step scan.stand (length scanned.ns) b ≡ None = same_step scan.stand scan scanned.ns bytes b scanned.fits ∙ is in
           subst (Decides (bytes ++ b ∷ [])) (err_same (header_fault (length bytes)) fault h)
-            (header_decides (bytes ++ b ∷ []) (length bytes) (record {
-              front = bytes;
-              last = b;
-              whole = refl;
-              place = refl;
-              begun = runs_begun scan.stand scanned.ns bytes scanned.ran;
-              unended = unended scan.stand scanned.ns bytes scanned.ran open_yet;
-              broken = breaks scan.stand scanned.ns bytes b scanned.ran here;
-            }))
+          (header_decides (bytes ++ b ∷ []) (length bytes) (record {
+            front = bytes;
+            last = b;
+            whole = refl;
+            place = refl;
+            begun = runs_begun scan.stand scanned.ns bytes scanned.ran;
+            unended = unended scan.stand scanned.ns bytes scanned.ran open_yet;
+            broken = breaks scan.stand scanned.ns bytes b scanned.ran here;
+          }))
       | Some to ↦ λ is h.
           let here : step scan.stand (length scanned.ns) b ≡ Some to = same_step scan.stand scan scanned.ns bytes b scanned.fits ∙ is in
           let next : run Start [] (bytes ++ b ∷ []) ≡ Some (reached to (numbers_then scan.stand to scanned.ns b)) = run_more scan.stand to scanned.ns bytes b scanned.ran here in
-          faults scan.stand to scan scanned.ns bytes b fault scanned.fits scanned.ranges (lands scan.stand to k b is) (runs_begun to (numbers_then scan.stand to scanned.ns b) (bytes ++ b ∷ []) next) h ] in
+          faults scan.stand to scan scanned.ns bytes b fault scanned.fits scanned.ranges (lands scan.stand to k b is) (runs_begun to (numbers_then scan.stand to scanned.ns b) (bytes ++ b ∷ []) next) h
+    ] in
     by_step (step scan.stand k b) refl e

@@ -34,8 +34,9 @@ shorter_same a x b y ms ns ra rb same le =
 pub one_run : (a x b y ms ns : List ℕ) → run Start [] a ≡ Some (reached Ended ms) → run Start [] b ≡ Some (reached Ended ns) → a ++ x ≡ b ++ y → a ≡ b
 one_run a x b y ms ns ra rb same =
     elim (cases_lt (length a) (length b)) [
-      inl less ↦ shorter_same a x b y ms ns ra rb same (omega arith)
-    | inr le ↦ sym (shorter_same b y a x ns ms rb ra (sym same) le) ]
+      | inl less ↦ shorter_same a x b y ms ns ra rb same (omega arith)
+      | inr le ↦ sym (shorter_same b y a x ns ms rb ra (sym same) le)
+    ]
 
 pub record SameHeader (a x b y : List ℕ) (w h m w' h' m' : ℕ) : Type 0 where
   pub bytes : a ≡ b
@@ -70,7 +71,7 @@ begun_stops a x w h m header begun =
     let more = begun.0 in
     let shape = begun.1 in
     let e : x ++ more ≡ [] = through a (x ++ more) (m ∷ h ∷ w ∷ []) (reached Ended (shape.2 ∷ shape.1 ∷ shape.0 ∷ [])) (header_run a w h m header)
-      (ap (run Start []) (sym (append_assoc a x more)) ∙ header_run (a ++ x ++ more) shape.0 shape.1 shape.2 shape.3) in
+    (ap (run Start []) (sym (append_assoc a x more)) ∙ header_run (a ++ x ++ more) shape.0 shape.1 shape.2 shape.3) in
     empty_front x more e
 
 pub holds_header : (a x : List ℕ) (w h m : ℕ) → IsHeader a w h m → HoldsNoHeader (a ++ x) → ⊥

@@ -13,22 +13,22 @@ turned_fit m xs = All-map (λ (s : ℕ). s ≤ m) (λ (s : ℕ). m - s) xs (λ k
 
 pub plane_in_range : (plate : Plate) (tints : List ℕ) → IsPlate plate → tints ≡ map (λ (s : ℕ). plate.maxval - s) plate.samples → IsPlane (record { width = plate.width; height = plate.height; maxval = plate.maxval; tints = tints })
 plane_in_range plate tints ok is = record {
-    width = ok.width;
-    height = ok.height;
-    product = ok.product;
-    positive = ok.positive;
-    maxval = ok.maxval;
-    count = ap length is ∙ length-map plate.samples (λ (s : ℕ). plate.maxval - s) ∙ ok.count;
-    tints = subst (λ (xs : List ℕ). All (λ (s : ℕ). s ≤ plate.maxval) xs) (sym is) (turned_fit plate.maxval plate.samples);
-  }
+  width = ok.width;
+  height = ok.height;
+  product = ok.product;
+  positive = ok.positive;
+  maxval = ok.maxval;
+  count = ap length is ∙ length-map plate.samples (λ (s : ℕ). plate.maxval - s) ∙ ok.count;
+  tints = subst (λ (xs : List ℕ). All (λ (s : ℕ). s ≤ plate.maxval) xs) (sym is) (turned_fit plate.maxval plate.samples);
+}
 
 pub plate_in_range : (plane : Plane) (samples : List ℕ) → IsPlane plane → samples ≡ map (λ (t : ℕ). plane.maxval - t) plane.tints → IsPlate (record { width = plane.width; height = plane.height; maxval = plane.maxval; samples = samples })
 plate_in_range plane samples ok is = record {
-    width = ok.width;
-    height = ok.height;
-    product = ok.product;
-    positive = ok.positive;
-    maxval = ok.maxval;
-    count = ap length is ∙ length-map plane.tints (λ (t : ℕ). plane.maxval - t) ∙ ok.count;
-    samples = subst (λ (xs : List ℕ). All (λ (s : ℕ). s ≤ plane.maxval) xs) (sym is) (turned_fit plane.maxval plane.tints);
-  }
+  width = ok.width;
+  height = ok.height;
+  product = ok.product;
+  positive = ok.positive;
+  maxval = ok.maxval;
+  count = ap length is ∙ length-map plane.tints (λ (t : ℕ). plane.maxval - t) ∙ ok.count;
+  samples = subst (λ (xs : List ℕ). All (λ (s : ℕ). s ≤ plane.maxval) xs) (sym is) (turned_fit plane.maxval plane.tints);
+}

@@ -31,13 +31,13 @@ use Rattle.pgm_plates.proofs.Decisions.{Rastered, some_size, bytes_size, raster_
 -- a header and no more behind it than its raster and a byte
 few_behind : (header back : List ℕ) (w h m : ℕ) → IsHeader header w h m → length back ≤ w * h * sample_size m + 1 → AreFew (header ++ back)
 few_behind header back w h m is le = inr (record {
-    count = length header;
-    width = w;
-    height = h;
-    maxval = m;
-    is_header = subst (λ (x : List ℕ). IsHeader x w h m) (sym (take-append_seam header back)) is;
-    few = omega (arith, length-append header back);
-  })
+  count = length header;
+  width = w;
+  height = h;
+  maxval = m;
+  is_header = subst (λ (x : List ℕ). IsHeader x w h m) (sym (take-append_seam header back)) is;
+  few = omega (arith, length-append header back);
+})
 
 -- bytes with a header and less than its raster are no plate file
 not_whole : (header back : List ℕ) (w h m : ℕ) → IsHeader header w h m → length back < w * h * sample_size m → (plate : Plate) → IsPlateFile (header ++ back) plate → ⊥
@@ -45,18 +45,18 @@ not_whole header back w h m is less plate file =
     let same = one_header header back file.header (raster plate.maxval plate.samples) w h m plate.width plate.height plate.maxval is file.is_header file.whole in
     let all : length plate.samples ≡ w * h = file.plate_ok.count ∙ ap (λ (n : ℕ). n * plate.height) (sym same.width) ∙ ap (λ (n : ℕ). w * n) (sym same.height) in
     let size : length back ≡ w * h * sample_size m =
-      ap length same.rest ∙ raster_size plate.maxval plate.samples ∙ ap (λ (n : ℕ). length plate.samples * sample_size n) (sym same.maxval) ∙ ap (λ (n : ℕ). n * sample_size m) all in
+    ap length same.rest ∙ raster_size plate.maxval plate.samples ∙ ap (λ (n : ℕ). length plate.samples * sample_size n) (sym same.maxval) ∙ ap (λ (n : ℕ). n * sample_size m) all in
     omega arith
 
 -- the bytes of a header's samples, one of which may be cut
 rastered_part : (header bytes : List ℕ) (w h m : ℕ) → IsHeader header w h m → (part : IsPart m (w * h) bytes) → Rastered (header ++ bytes) header w h m part.samples part.half
 rastered_part header bytes w h m is part = record {
-    is_header = is;
-    whole = ap (λ (x : List ℕ). header ++ x) part.whole;
-    fit = part.fit;
-    short = part.short;
-    few = part.few;
-  }
+  is_header = is;
+  whole = ap (λ (x : List ℕ). header ++ x) part.whole;
+  fit = part.fit;
+  short = part.short;
+  few = part.few;
+}
 
 rastered_all : (header : List ℕ) (w h m : ℕ) (xs : List ℕ) → IsHeader header w h m → Fit m xs → length xs ≤ w * h → Rastered (header ++ raster m xs) header w h m xs []
 rastered_all header w h m xs is fit few =
@@ -72,10 +72,11 @@ rastered_all header w h m xs is fit few =
 sample_cases : (m s : ℕ) (front : List ℕ) → IsClean front (length front + 1) → (1 < sample_size m → IsClean (front ++ (s / 256) ∷ []) (length (front ++ (s / 256) ∷ []) + 1)) → IsClean (front ++ sample_bytes m s) (length (front ++ sample_bytes m s))
 sample_cases m s front none half =
     elim (ltb m 256) as (λ t. (1 < cond {A = ℕ} t 1 2 → IsClean (front ++ (s / 256) ∷ []) (length (front ++ (s / 256) ∷ []) + 1)) → IsClean (front ++ cond t (s ∷ []) (s / 256 ∷ s % 256 ∷ [])) (length (front ++ cond t (s ∷ []) (s / 256 ∷ s % 256 ∷ [])))) [
-      true ↦ λ h. clean_push front s none
-    | false ↦ λ h.
-        let e : front ++ (s / 256) ∷ [] ++ (s % 256) ∷ [] ≡ front ++ (s / 256 ∷ s % 256 ∷ []) = append_assoc front ((s / 256) ∷ []) ((s % 256) ∷ []) in
-        subst (λ (x : List ℕ). IsClean x (length x)) e (clean_push (front ++ (s / 256) ∷ []) (s % 256) (h (omega arith))) ] half
+      | true ↦ λ h. clean_push front s none
+      | false ↦ λ h.
+          let e : front ++ (s / 256) ∷ [] ++ (s % 256) ∷ [] ≡ front ++ (s / 256 ∷ s % 256 ∷ []) = append_assoc front ((s / 256) ∷ []) ((s % 256) ∷ []) in
+          subst (λ (x : List ℕ). IsClean x (length x)) e (clean_push (front ++ (s / 256) ∷ []) (s % 256) (h (omega arith)))
+    ] half
 
 -- Up to its last byte, a sample decides nothing.
 clean_sample : (header : List ℕ) (w h m : ℕ) (xs : List ℕ) (s : ℕ) → IsHeader header w h m → IsClean header (length header + 1) → Fit m xs → length xs < w * h → IsClean (header ++ raster m xs ++ sample_bytes m s) (length (header ++ raster m xs ++ sample_bytes m s))
@@ -106,30 +107,32 @@ raster_refused a b c header start (Fault (SampleAboveMaxval at)) read r =
     let m = header.maxval in
     let front = read.bytes ++ raster m above.samples ++ sample_bytes m above.sample in
     let e : front ++ above.more ≡ read.bytes ++ bytes =
-      ap (λ (x : List ℕ). x ++ above.more) (append_assoc read.bytes (raster m above.samples) (sample_bytes m above.sample))
-      ∙ append_assoc read.bytes (raster m above.samples ++ sample_bytes m above.sample) above.more
-      ∙ ap (λ (x : List ℕ). read.bytes ++ x) (sym above.whole) in
+    ap (λ (x : List ℕ). x ++ above.more) (append_assoc read.bytes (raster m above.samples) (sample_bytes m above.sample))
+    ∙ append_assoc read.bytes (raster m above.samples ++ sample_bytes m above.sample) above.more
+    ∙ ap (λ (x : List ℕ). read.bytes ++ x) (sym above.whole) in
     let place : at ≡ length (read.bytes ++ raster m above.samples) = r.4 ∙ ap (λ (n : ℕ). n + r.1) (sym read.size) ∙ ap (λ (n : ℕ). length read.bytes + n) above.at ∙ sym (length-append read.bytes (raster m above.samples)) in
     let d : Decides front (SampleAboveMaxval at) = record {
-        header = read.bytes;
-        width = w;
-        height = h;
-        maxval = m;
-        samples = above.samples;
-        sample = above.sample;
-        is_header = read.is_header;
-        within = above.few;
-        whole = refl;
-        place = sym place;
-        above = above.above;
-      } in
+      header = read.bytes;
+      width = w;
+      height = h;
+      maxval = m;
+      samples = above.samples;
+      sample = above.sample;
+      is_header = read.is_header;
+      within = above.few;
+      whole = refl;
+      place = sym place;
+      above = above.above;
+    } in
     record {
       bytes = read.bytes ++ bytes;
       takes = takes_then read.bytes bytes a b c read.takes r.2;
       few = few_behind read.bytes bytes w h m read.is_header (omega (arith, above.within));
-      answer = (r.2.begun,
+      answer = (
+        r.2.begun,
         subst (λ (x : List ℕ). IsFault x (SampleAboveMaxval at)) e (decided front above.more (SampleAboveMaxval at) (clean_sample read.bytes w h m above.samples above.sample read.is_header read.clean above.fit above.few) d),
-        λ cut. absurd cut);
+        λ cut. absurd cut,
+      );
     }
 raster_refused a b c header start (Fault (Truncated at)) read r =
     let bytes = r.0 in
@@ -143,9 +146,11 @@ raster_refused a b c header start (Fault (Truncated at)) read r =
       bytes = all;
       takes = takes_then read.bytes bytes a b c read.takes r.1;
       few = few_behind read.bytes bytes w h m read.is_header (omega arith);
-      answer = (r.1.begun,
+      answer = (
+        r.1.begun,
         subst (λ (n : ℕ). IsFault all (Truncated n)) place (truncated all (clean_raster all read.bytes w h m r.2.samples r.2.half read.clean (rastered_part read.bytes bytes w h m read.is_header r.2)) (not_whole read.bytes bytes w h m read.is_header r.3)),
-        λ cut tells. r.5 (told_on read.bytes a b read.takes tells));
+        λ cut tells. r.5 (told_on read.bytes a b read.takes tells),
+      );
     }
 raster_refused a b c header start ReadFault read r =
     let bytes = r.0 in
@@ -157,8 +162,10 @@ raster_refused a b c header start ReadFault read r =
       bytes = all;
       takes = takes_then read.bytes bytes a b c read.takes r.1;
       few = few_behind read.bytes bytes w h m read.is_header (part_within m (w * h) bytes r.2);
-      answer = (rose_before a.faults b.faults c.faults read.takes.keeps.faults r.3,
-        only_truncated all (clean_raster all read.bytes w h m r.2.samples r.2.half read.clean (rastered_part read.bytes bytes w h m read.is_header r.2)));
+      answer = (
+        rose_before a.faults b.faults c.faults read.takes.keeps.faults r.3,
+        only_truncated all (clean_raster all read.bytes w h m r.2.samples r.2.half read.clean (rastered_part read.bytes bytes w h m read.is_header r.2)),
+      );
     }
 raster_refused a b c header start OutOfMemory read r =
     let bytes = r.0 in
@@ -193,24 +200,26 @@ end_refused a b c d header start at samples (Fault (TrailingBytes place)) read t
     let count = taken.all in
     let clean : IsClean front (length front + 1) = clean_raster front read.bytes w h m samples [] read.clean (rastered_all read.bytes w h m samples read.is_header taken.fit (omega arith)) in
     let dec : Decides all (TrailingBytes place) = record {
-        header = read.bytes;
-        width = w;
-        height = h;
-        maxval = m;
-        samples = samples;
-        last = last;
-        is_header = read.is_header;
-        all = taken.all;
-        whole = refl;
-        place = sym where_it_is;
-      } in
+      header = read.bytes;
+      width = w;
+      height = h;
+      maxval = m;
+      samples = samples;
+      last = last;
+      is_header = read.is_header;
+      all = taken.all;
+      whole = refl;
+      place = sym where_it_is;
+    } in
     record {
       bytes = all;
       takes = takes_then front (last ∷ []) a c d (takes_then read.bytes back a b c read.takes taken.takes) r.1;
       few = subst AreFew (sym (append_assoc read.bytes back (last ∷ []))) (few_behind read.bytes (back ++ last ∷ []) w h m read.is_header (omega (arith, length_push back last)));
-      answer = (r.1.begun,
+      answer = (
+        r.1.begun,
         subst (λ (x : List ℕ). IsFault x (TrailingBytes place)) (append-nil all) (decided all [] (TrailingBytes place) (clean_push front last clean) dec),
-        λ cut. absurd cut);
+        λ cut. absurd cut,
+      );
     }
 end_refused a b c d header start at samples ReadFault read taken is r =
     let w = header.width in
@@ -250,7 +259,8 @@ plate_read a b c d header start samples read taken end =
       bytes = front;
       takes = takes_nil front a c d so_far end.0;
       few = few_behind read.bytes back w h m read.is_header (omega arith);
-      answer = (end.0.begun,
+      answer = (
+        end.0.begun,
         record {
           header = read.bytes;
           is_header = read.is_header;
@@ -266,7 +276,8 @@ plate_read a b c d header start samples read taken end =
             samples = taken.fit;
           };
         },
-        λ tells. end.1 (told_on front a c so_far tells));
+        λ tells. end.1 (told_on front a c so_far tells),
+      );
     }
 
 answers_from : (a b c : TrayState) (bytes : List ℕ) (result : Result Plate PlateRefusal) → KeepsTray a b → AnswersPlate bytes b c result → AnswersPlate bytes a c result
@@ -281,20 +292,20 @@ no_shape = unended Start [] [] refl (λ e. let f : Start ≡ Ended = e in cc)
 -- The file is begun, and then read.
 pub begun_then : (name : List ℕ) (a b c : TrayState) (x : Unit {0}) (result : Result Plate PlateRefusal) → Begins {E = Failed} name a b (Ok x) → Answers b c result → ReadsPlate name a c result
 begun_then name a b c x result begun answers = record {
-    keeps = record { tells = answers.takes.keeps.tells ∙ begun.keeps.tells; file = answers.takes.keeps.file ∙ begun.keeps.file; faults = omega (arith, answers.takes.keeps.faults, begun.keeps.faults) };
-    asked = subst (λ o. Asks a.asked o (name ∷ [])) (sym answers.takes.asked) begun.asked;
-    bytes = answers.bytes;
-    taken = λ is tells. begun.left tells ∙ ap (λ (x : List ℕ). Some x) (answers.takes.taken (begun.keeps.tells ∙ tells));
-    few = answers.few;
-    answer = answers_from a b c answers.bytes result begun.keeps answers.answer;
-  }
+  keeps = record { tells = answers.takes.keeps.tells ∙ begun.keeps.tells; file = answers.takes.keeps.file ∙ begun.keeps.file; faults = omega (arith, answers.takes.keeps.faults, begun.keeps.faults) };
+  asked = subst (λ o. Asks a.asked o (name ∷ [])) (sym answers.takes.asked) begun.asked;
+  bytes = answers.bytes;
+  taken = λ is tells. begun.left tells ∙ ap (λ (x : List ℕ). Some x) (answers.takes.taken (begun.keeps.tells ∙ tells));
+  few = answers.few;
+  answer = answers_from a b c answers.bytes result begun.keeps answers.answer;
+}
 
 pub not_begun : {E : Type 0} (name : List ℕ) (a b : TrayState) (e : E) → Begins {T = Unit {0}} name a b (Err e) → ReadsPlate name a b (Err ReadFault)
 not_begun name a b e begun = record {
-    keeps = begun.keeps;
-    asked = begun.asked;
-    bytes = [];
-    taken = λ is tells. absurd (let no : true ≡ false = sym is ∙ begun.begun in cc);
-    few = inl (omega arith, no_shape);
-    answer = (begun.cause, only_truncated [] (clean_all [] clean_none (quiet [] fresh scanned_none (inr (omega arith)))));
-  }
+  keeps = begun.keeps;
+  asked = begun.asked;
+  bytes = [];
+  taken = λ is tells. absurd (let no : true ≡ false = sym is ∙ begun.begun in cc);
+  few = inl (omega arith, no_shape);
+  answer = (begun.cause, only_truncated [] (clean_all [] clean_none (quiet [] fresh scanned_none (inr (omega arith)))));
+}

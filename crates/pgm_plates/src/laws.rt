@@ -5,35 +5,29 @@ ghost use Rattle.pgm_plates.specs.Laws.{PlateOrFault, NotBoth, OnePlate, OneFaul
 /// A plate file has no fault.
 pub fn not_both()
     ensures { NotBoth }
-{
-}
+{}
 
 /// A plate file has one plate.
 pub fn one_plate()
     ensures { OnePlate }
-{
-}
+{}
 
 /// Bytes have at most one fault.
 pub fn one_fault()
     ensures { OneFault }
-{
-}
+{}
 
 /// No plate file is a proper front of another.
 pub fn no_front()
     ensures { NoFront }
-{
-}
+{}
 
 /// A fault stays, whatever comes behind the bytes that have it, but for an early end.
 pub fn fault_stays()
     ensures { FaultStays }
-{
-}
+{}
 
 /// A plate that is turned into a plane and back is as before.
 pub fn turns_back()
     ensures { TurnsBack }
-{
-}
+{}

@@ -15,7 +15,13 @@ use std::alloc::{AllocError, Global};
 const PIECE: usize = 65_536;
 
 // Reads that many samples, whose first byte is at that place of the file.
-pub fn read_raster<T: Tray>(alloc: Global, tray: &mut T, count: usize, maxval: u32, start: u64) -> Result<Tints, PlateRefusal>
+pub fn read_raster<T: Tray>(
+    alloc: Global,
+    tray: &mut T,
+    count: usize,
+    maxval: u32,
+    start: u64,
+) -> Result<Tints, PlateRefusal>
     requires begun { IsTrue (T.state tray.old).begun }
     requires start { start ≤ 65536 }
     requires some { 0 < count }
@@ -32,7 +38,15 @@ pub fn read_raster<T: Tray>(alloc: Global, tray: &mut T, count: usize, maxval: u
     let Ok(mut samples) = Vec::with_capacity(alloc, count) else {
         return Err(PlateRefusal::OutOfMemory);
     };
-    match read_pieces(tray, &mut samples, &mut piece, &mut bytes, count, maxval, start) {
+    match read_pieces(
+        tray,
+        &mut samples,
+        &mut piece,
+        &mut bytes,
+        count,
+        maxval,
+        start,
+    ) {
         Ok(()) => Ok(List::from_vec(samples)),
         Err(refusal) => Err(refusal),
     }
@@ -52,7 +66,15 @@ fn no_bytes(alloc: Global, len: usize) -> Result<Vec<u8>, AllocError>
 }
 
 // Reads samples behind the ones that are there, until there are that many.
-fn read_pieces<T: Tray>(tray: &mut T, samples: &mut Vec<u16>, piece: &mut [u16], bytes: &mut [u8], count: usize, maxval: u32, start: u64) -> Result<(), PlateRefusal>
+fn read_pieces<T: Tray>(
+    tray: &mut T,
+    samples: &mut Vec<u16>,
+    piece: &mut [u16],
+    bytes: &mut [u8],
+    count: usize,
+    maxval: u32,
+    start: u64,
+) -> Result<(), PlateRefusal>
     requires begun { IsTrue (T.state tray.old).begun }
     requires start { start ≤ 65536 }
     requires count { count < 2 ^ 30 }
@@ -65,7 +87,13 @@ fn read_pieces<T: Tray>(tray: &mut T, samples: &mut Vec<u16>, piece: &mut [u16],
     while samples.len() < count {
         let done = samples.len();
         let want = piece.len().min(count - done);
-        match read_piece(tray, &mut piece[..want], &mut bytes[..want * size], maxval, start + (done * size) as u64) {
+        match read_piece(
+            tray,
+            &mut piece[..want],
+            &mut bytes[..want * size],
+            maxval,
+            start + (done * size) as u64,
+        ) {
             Ok(()) => match samples.extend_from_slice(&piece[..want]) {
                 Ok(()) => {}
                 Err(_) => return Err(PlateRefusal::OutOfMemory),
@@ -77,7 +105,13 @@ fn read_pieces<T: Tray>(tray: &mut T, samples: &mut Vec<u16>, piece: &mut [u16],
 }
 
 // Reads as many samples as there is room for.
-fn read_piece<T: Tray>(tray: &mut T, samples: &mut [u16], bytes: &mut [u8], maxval: u32, start: u64) -> Result<(), PlateRefusal>
+fn read_piece<T: Tray>(
+    tray: &mut T,
+    samples: &mut [u16],
+    bytes: &mut [u8],
+    maxval: u32,
+    start: u64,
+) -> Result<(), PlateRefusal>
     requires begun { IsTrue (T.state tray.old).begun }
     requires start { start < 2 ^ 40 }
     requires count { length samples.old < 2 ^ 30 }
@@ -89,7 +123,9 @@ fn read_piece<T: Tray>(tray: &mut T, samples: &mut [u16], bytes: &mut [u8], maxv
     let whole = filled / size;
     // What was filled before the file ended or a read failed is judged first.
     match take_samples(&bytes[..filled], maxval, &mut samples[..whole]) {
-        Some(place) => Err(PlateRefusal::Fault(PlateFault::SampleAboveMaxval(start + (place * size) as u64))),
+        Some(place) => Err(PlateRefusal::Fault(PlateFault::SampleAboveMaxval(
+            start + (place * size) as u64,
+        ))),
         None => match end {
             Filled::Whole => Ok(()),
             Filled::End => Err(PlateRefusal::Fault(PlateFault::Truncated(start + filled as u64))),

@@ -13,6 +13,7 @@ loop-done-preserved g c =
     let d = g.T.Tray.state c.read.new.self in
     record {
       takes = takes_as (take done c.loop-done.buf ++ take n c.read.new.buf) (take (done + n) (put_mid done k c.loop-done.buf c.read.new.buf)) a d
-        (filled_more c.loop-done.buf c.read.new.buf done k n c.loop-done.invariant.within c.in-Ok.ensures.within)
-        (takes_then (take done c.loop-done.buf) (take n c.read.new.buf) a b d c.loop-done.invariant.takes (takes_read b d n c.read.new.buf c.in-Ok.ensures));
-      within = search rules }
+          (filled_more c.loop-done.buf c.read.new.buf done k n c.loop-done.invariant.within c.in-Ok.ensures.within)
+          (takes_then (take done c.loop-done.buf) (take n c.read.new.buf) a b d c.loop-done.invariant.takes (takes_read b d n c.read.new.buf c.in-Ok.ensures));
+      within = search rules;
+    }

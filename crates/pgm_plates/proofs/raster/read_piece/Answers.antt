@@ -12,11 +12,14 @@ returns-in-Some g c =
     let samples = c.take_samples.new.samples in
     let rest = drop (filled / c.sample_size-size.result) c.args.samples.now in
     let count : length (samples ++ rest) ≡ length c.args.samples.now = grind (arith, common_steps) in
-    let room : length buf ≡ length c.args.samples.now * sample_size c.args.maxval = search rules in
-    (take filled buf, c.in-Some.place * sample_size c.args.maxval, c.fill-filled.ensures.takes,
+    let room : length buf ≡ length c.args.samples.now * sample_size c.args.maxval = search rules in (
+      take filled buf,
+      c.in-Some.place * sample_size c.args.maxval,
+      c.fill-filled.ensures.takes,
       piece_above c.args.maxval (length (samples ++ rest)) (take filled buf) samples c.in-Some.place c.take_samples.ensures.decoded c.in-Some.ensures.above
-        (omega (arith, length-append samples rest)) (within_room buf filled (length (samples ++ rest)) (length c.args.samples.now) (sample_size c.args.maxval) c.fill-filled.ensures.within room count),
-      ap (λ (n : ℕ). c.args.start + c.in-Some.place * n) c.sample_size-size.ensures)
+          (omega (arith, length-append samples rest)) (within_room buf filled (length (samples ++ rest)) (length c.args.samples.now) (sample_size c.args.maxval) c.fill-filled.ensures.within room count),
+      ap (λ (n : ℕ). c.args.start + c.in-Some.place * n) c.sample_size-size.ensures,
+    )
 
 pub returns-in-Whole : goal.returns-in-Whole
 returns-in-Whole g c =
@@ -28,8 +31,8 @@ returns-in-Whole g c =
     let room : length buf ≡ length c.args.samples.now * sample_size c.args.maxval = search rules in
     let all : filled ≡ length buf = c.fill-filled.ensures.whole c.in-Whole.is in
     taken_whole c.args.maxval (length c.args.samples.now) (take filled buf) samples rest (g.T.Tray.state c.args.tray.now) (g.T.Tray.state c.fill-filled.new.tray)
-      c.fill-filled.ensures.takes c.take_samples.ensures.decoded c.in-None.ensures.fit
-      (length-take-le filled buf c.fill-filled.ensures.within ∙ all ∙ room) count
+    c.fill-filled.ensures.takes c.take_samples.ensures.decoded c.in-None.ensures.fit
+    (length-take-le filled buf c.fill-filled.ensures.within ∙ all ∙ room) count
 
 pub returns-in-End : goal.returns-in-End
 returns-in-End g c =
@@ -39,13 +42,15 @@ returns-in-End g c =
     let rest = drop (filled / c.sample_size-size.result) c.args.samples.now in
     let count : length (samples ++ rest) ≡ length c.args.samples.now = grind (arith, common_steps) in
     let room : length buf ≡ length c.args.samples.now * sample_size c.args.maxval = search rules in
-    let end = c.fill-filled.ensures.ended c.in-End.is in
-    (take filled buf, c.fill-filled.ensures.takes,
+    let end = c.fill-filled.ensures.ended c.in-End.is in (
+      take filled buf,
+      c.fill-filled.ensures.takes,
       piece_part c.args.maxval (length (samples ++ rest)) (take filled buf) samples c.take_samples.ensures.decoded c.in-None.ensures.fit
-        (within_room buf filled (length (samples ++ rest)) (length c.args.samples.now) (sample_size c.args.maxval) c.fill-filled.ensures.within room count),
+          (within_room buf filled (length (samples ++ rest)) (length c.args.samples.now) (sample_size c.args.maxval) c.fill-filled.ensures.within room count),
       short_of_room buf filled (length (samples ++ rest)) (length c.args.samples.now) (sample_size c.args.maxval) end.0 room count,
       ap (λ (n : ℕ). c.args.start + n) (sym (length-take-le filled buf c.fill-filled.ensures.within)),
-      end.1)
+      end.1,
+    )
 
 pub returns-in-Broken : goal.returns-in-Broken
 returns-in-Broken g c =
@@ -54,8 +59,10 @@ returns-in-Broken g c =
     let samples = c.take_samples.new.samples in
     let rest = drop (filled / c.sample_size-size.result) c.args.samples.now in
     let count : length (samples ++ rest) ≡ length c.args.samples.now = grind (arith, common_steps) in
-    let room : length buf ≡ length c.args.samples.now * sample_size c.args.maxval = search rules in
-    (take filled buf, c.fill-filled.ensures.takes,
+    let room : length buf ≡ length c.args.samples.now * sample_size c.args.maxval = search rules in (
+      take filled buf,
+      c.fill-filled.ensures.takes,
       piece_part c.args.maxval (length (samples ++ rest)) (take filled buf) samples c.take_samples.ensures.decoded c.in-None.ensures.fit
-        (within_room buf filled (length (samples ++ rest)) (length c.args.samples.now) (sample_size c.args.maxval) c.fill-filled.ensures.within room count),
-      c.fill-filled.ensures.broken c.in-Broken.is)
+          (within_room buf filled (length (samples ++ rest)) (length c.args.samples.now) (sample_size c.args.maxval) c.fill-filled.ensures.within room count),
+      c.fill-filled.ensures.broken c.in-Broken.is,
+    )

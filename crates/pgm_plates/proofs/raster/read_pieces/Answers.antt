@@ -11,7 +11,7 @@ returns-in-Err-extend_from_slice g c =
     let ys = c.read_piece.new.samples in
     let few : length xs + length ys ≤ c.args.count = grind (arith, common_steps) in
     room_refused c.args.maxval c.args.count (length ys) c.args.start (g.T.Tray.state c.args.tray.now) (g.T.Tray.state c.loop-samples.tray) (g.T.Tray.state c.read_piece.new.tray) xs ys
-      c.loop-samples.invariant.takes few c.in-Ok.ensures
+    c.loop-samples.invariant.takes few c.in-Ok.ensures
 
 pub returns-in-Err : goal.returns-in-Err
 returns-in-Err g c =
@@ -19,7 +19,7 @@ returns-in-Err g c =
     let ys = c.read_piece.new.samples in
     let few : length xs + length ys ≤ c.args.count = grind (arith, common_steps) in
     let at : c.len-done.result * c.sample_size-size.result ≡ length xs * sample_size c.args.maxval =
-      ap (λ (n : ℕ). c.len-done.result * n) c.sample_size-size.ensures ∙ ap (λ (n : ℕ). n * sample_size c.args.maxval) (let e : c.len-done.result ≡ length xs = search rules in e) in
+    ap (λ (n : ℕ). c.len-done.result * n) c.sample_size-size.ensures ∙ ap (λ (n : ℕ). n * sample_size c.args.maxval) (let e : c.len-done.result ≡ length xs = search rules in e) in
     refused_on c.args.maxval c.args.count (length ys) c.args.start (g.T.Tray.state c.args.tray.now) (g.T.Tray.state c.loop-samples.tray) (g.T.Tray.state c.read_piece.new.tray) xs c.in-Err.refusal
-      c.loop-samples.invariant.takes c.loop-samples.invariant.fit few
-      (subst (λ (n : ℕ). RasterRefused c.args.maxval (length ys) (c.args.start + n) (g.T.Tray.state c.loop-samples.tray) (g.T.Tray.state c.read_piece.new.tray) c.in-Err.refusal) at c.in-Err.ensures)
+    c.loop-samples.invariant.takes c.loop-samples.invariant.fit few
+    (subst (λ (n : ℕ). RasterRefused c.args.maxval (length ys) (c.args.start + n) (g.T.Tray.state c.loop-samples.tray) (g.T.Tray.state c.read_piece.new.tray) c.in-Err.refusal) at c.in-Err.ensures)
