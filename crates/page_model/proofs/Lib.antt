@@ -1,0 +1,12 @@
+pub mod ZoneLemmas
+pub mod PageLemmas
+pub mod FirstLeast
+pub mod Rows
+pub mod ArmLemmas
+pub mod Grid
+pub mod DeciderLemmas
+pub mod Sums
+pub mod FaultLemmas
+pub mod ReachLemmas
+pub mod ColumnDecider
+pub mod ReachLaws
