@@ -1,7 +1,10 @@
 pub mod ZoneLemmas
 pub mod PageLemmas
 pub mod FirstLeast
-pub mod Rows
+pub mod WorkedPages
+mod WorkedTraps
+mod WorkedZones
+mod WorkedEdges
 pub mod ArmLemmas
 pub mod Grid
 pub mod DeciderLemmas

@@ -19,10 +19,10 @@ greatest_cover-is page p (suc n) =
     elim (cases_Bool (covers page p (suc n))) [
       | inl t ↦ rw t (record { most = omega arith; covered = λ _. t; last = λ k above most. absurd (omega (arith, above, most)) })
       | inr f ↦ rw f (record {
-          most = omega (arith, before.most);
-          covered = before.covered;
-          last = λ k above most. elim (cases_eq k (suc n)) [ inl e ↦ rw e f | inr ne ↦ before.last k above (omega (arith, most, ne)) ];
-        })
+        most = omega (arith, before.most);
+        covered = before.covered;
+        last = λ k above most. elim (cases_eq k (suc n)) [ inl e ↦ rw e f | inr ne ↦ before.last k above (omega (arith, most, ne)) ];
+      })
     ]
 
 pub zone_of-is : (page : PageParts) (p : At) → IsPage page → IsZoneOf page p (zone_of page p)
