@@ -1,6 +1,6 @@
-use Rattle.std.proofs.Common.{◌≡◌, ℕ, zero, suc, ◌+◌, ◌*◌, ◌-◌, ◌<◌, ◌≤◌, Bool, true, false, nat_lt, not, ◌&&◌, ◌||◌, inl, inr, refl, sym, ◌∙◌, ap, arith, length, if◌then◌else◌, Option, Some, None}
+use Rattle.std.proofs.Common.{◌≡◌, ℕ, ◌+◌, ◌*◌, ◌<◌, ◌≤◌, Bool, true, false, nat_lt, not, ◌&&◌, ◌||◌, inl, inr, refl, sym, ◌∙◌, ap, arith, length, if◌then◌else◌, Option, Some, None}
 use Rattle.std.specs.Option.{MatchOption}
-use Rattle.std.proofs.lemmas.Bool.{cases_lt, cases_Bool}
+use Rattle.std.proofs.lemmas.Bool.{cases_lt}
 use Rattle.page_model.specs.declared.parts.At.{At}
 use Rattle.page_model.specs.declared.parts.EdgeAt.{EdgeAt}
 use Rattle.page_model.specs.declared.parts.PageParts.{PageParts}

@@ -4,13 +4,11 @@ use Rattle.page_model.specs.declared.parts.InkKind.TheVariants.{Normal}
 use Rattle.page_model.specs.declared.parts.Limit.{Limit}
 use Rattle.page_model.specs.declared.parts.PageParts.{PageParts}
 use Rattle.page_model.specs.declared.parts.TrapParams.{TrapParams}
-use Rattle.page_model.specs.Decider.{decider}
 use Rattle.page_model.specs.Deciding.{decides, decides_in}
-use Rattle.page_model.specs.Page.{no_params}
 use Rattle.page_model.specs.Reach.{params_reach, page_reach}
-use Rattle.page_model.specs.Within.{within_in, black, black_sample, edge_slid}
+use Rattle.page_model.specs.Within.{within_in, black, black_sample}
 use Rattle.page_model.specs.Zones.{zone_of, covers}
-use Rattle.page_model.proofs.WorkedPages.{at, edge, usual, off, wide, page, planes, cyan, magenta, ink, everywhere, zone, limit, box, pair, stripes, shop}
+use Rattle.page_model.proofs.WorkedPages.{at, edge, usual, off, wide, page, planes, ink, everywhere, zone, limit, box, pair, stripes, shop}
 
 -- not slid and not black, at 72 pixels an inch: a point of trap width is two half-samples
 abbrev at_width : ℕ → ℕ → ℕ → Bool

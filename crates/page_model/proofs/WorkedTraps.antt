@@ -1,11 +1,9 @@
 -- Whole pages with their new tints and counts, worked out by hand.
 use Rattle.std.proofs.Common.{◌≡◌, ℕ, List, [], ◌∷◌, refl}
-use Rattle.page_model.specs.declared.parts.Counts.{Counts}
 use Rattle.page_model.specs.declared.parts.InkKind.TheVariants.{Transparent, Opaque, OpaqueIgnore}
 use Rattle.page_model.specs.Counts.{page_counts}
 use Rattle.page_model.specs.Decider.{decider}
 use Rattle.page_model.specs.Deciding.{decides, decides_in}
-use Rattle.page_model.specs.Reach.{page_reach}
 use Rattle.page_model.specs.Tints.{new_in}
 use Rattle.page_model.specs.Trapped.{trapped_in}
 use Rattle.page_model.specs.Within.{within_in}

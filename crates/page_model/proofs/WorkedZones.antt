@@ -1,7 +1,6 @@
 -- The zones of small pages, worked out by hand.
 use Rattle.std.proofs.Common.{◌≡◌, ℕ, List, [], ◌∷◌, ◌++◌, refl, true, false}
 use Rattle.page_model.specs.declared.parts.PageParts.{PageParts}
-use Rattle.page_model.specs.declared.parts.Vertex.{Vertex}
 use Rattle.page_model.specs.declared.parts.Zone.{Zone}
 use Rattle.page_model.specs.Page.{sample_at, samples}
 use Rattle.page_model.specs.Words.{list_below}

@@ -6,7 +6,7 @@ use Rattle.page_model.specs.declared.parts.Plane.{Plane}
 use Rattle.page_model.specs.declared.parts.TrapParams.{TrapParams}
 use Rattle.page_model.specs.declared.parts.Vertex.{Vertex}
 use Rattle.page_model.specs.declared.parts.Zone.{Zone}
-use Rattle.page_model.specs.Page.{plates, width, height, maxval, ink_at, zone_at, params_at, path_at}
+use Rattle.page_model.specs.Page.{plates, width, height, maxval, params_at, path_at}
 use Rattle.page_model.specs.Planes.{plane_at}
 use Rattle.page_model.specs.Reach.{zone_reach}
 

@@ -1,4 +1,4 @@
-use Rattle.std.specs.Prelude.{◌≡◌, ℕ, ◌*◌, ◌≤◌, ◌<◌, true, false, Option, Some, None}
+use Rattle.std.specs.Prelude.{◌≡◌, ℕ, ◌*◌, ◌≤◌, ◌<◌, true, false, Some, None}
 use Rattle.page_model.specs.declared.parts.At.{At}
 use Rattle.page_model.specs.declared.parts.EdgeAt.{EdgeAt}
 use Rattle.page_model.specs.declared.parts.PageParts.{PageParts}

@@ -1,4 +1,4 @@
-use Rattle.std.proofs.Common.{sym, ◌∙◌}
+use Rattle.std.proofs.Common.{sym}
 use Rattle.page_model.proofs.FaultLemmas.{page_from}
 use Rattle.page_model.proofs.page.Page.new.Goals as goal
 
