@@ -1,8 +1,7 @@
 // Laws over the definitions: each function does nothing, and its contract is the law.
 
-ghost use Rattle.std.specs.Prelude.{◌≡◌, ◌<◌, ◌≤◌, true, length, IfSome, None};
+ghost use Rattle.std.specs.Prelude.{◌≡◌, ◌<◌, ◌≤◌, ℕ, true, IfSome, None};
 ghost use Rattle.page_model.specs.Apart.{apart};
-ghost use Rattle.page_model.specs.Conditions.{IsPage};
 ghost use Rattle.page_model.specs.Decider.{decider, IsDecider, NoneDecides};
 ghost use Rattle.page_model.specs.Density.{density};
 ghost use Rattle.page_model.specs.Faults.{page_fault};
@@ -46,9 +45,9 @@ pub fn decider_law(page: &Page, p: At)
 }
 
 /// A sample's full tints are at least as dense as its tints, and those of a trapped sample have a density above 0.
-pub fn full_density_law(page: &Page, zone: u32, p: At, e: EdgeAt)
+pub fn full_density_law(page: &Page, p: At, e: EdgeAt)
     ensures grows { density page.now p ≤ full_density page.now p e }
-    ensures some { trapped_in page.now zone p e ≡ true → 0 < full_density page.now p e }
+    ensures some { (z : ℕ) → trapped_in page.now z p e ≡ true → 0 < full_density page.now p e }
 {
     let _valid = page.plates();
 }

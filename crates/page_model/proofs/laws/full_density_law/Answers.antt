@@ -5,4 +5,4 @@ pub returns-clause-grows : goal.returns-clause-grows
 returns-clause-grows c = density-le-full c.args.page.now c.args.p c.args.e
 
 pub returns-clause-some : goal.returns-clause-some
-returns-clause-some c = trapped-pos c.args.page.now c.args.zone c.args.p c.args.e c.plates-valid.ensures.valid
+returns-clause-some c = λ z t. trapped-pos c.args.page.now z c.args.p c.args.e c.plates-valid.ensures.valid t
