@@ -7,7 +7,7 @@ use Rattle.page_model.specs.declared.parts.TrapParams.{TrapParams}
 use Rattle.page_model.specs.Deciding.{decides, decides_in}
 use Rattle.page_model.specs.Reach.{params_reach, page_reach}
 use Rattle.page_model.specs.Within.{within_in, black, black_sample}
-use Rattle.page_model.specs.Zones.{zone_of, covers}
+use Rattle.page_model.specs.Zones.{zone_of, covers, turn, lean}
 use Rattle.page_model.proofs.WorkedPages.{at, edge, usual, off, wide, page, planes, ink, everywhere, zone, limit, box, pair, stripes, shop}
 
 -- not slid and not black, at 72 pixels an inch: a point of trap width is two half-samples
@@ -111,23 +111,23 @@ halves left right one two = page 72
 
 -- each zone judges by its limits alone, and may find another pair of inks apart than its neighbour
 pub other_pairs : decides (halves wide wide (limit 65 6000 ∷ limit 66 6000 ∷ []) (limit 67 6000 ∷ limit 68 6000 ∷ [])) (edge 1 0) ≡ true
-unfolding decides decides_in zone_of covers
+unfolding decides decides_in zone_of covers turn lean
 other_pairs = refl
 
 -- one zone's limits are not enough
 pub left_limits : decides (halves wide wide (limit 65 6000 ∷ limit 67 6000 ∷ []) []) (edge 1 0) ≡ false
-unfolding decides decides_in zone_of covers
+unfolding decides decides_in zone_of covers turn lean
 left_limits = refl
 
 pub right_limits : decides (halves wide wide [] (limit 65 6000 ∷ limit 67 6000 ∷ [])) (edge 1 0) ≡ false
-unfolding decides decides_in zone_of covers
+unfolding decides decides_in zone_of covers turn lean
 right_limits = refl
 
 -- an edge with an enabled zone on one side alone does not decide
 pub left_disabled : decides (halves off wide [] []) (edge 1 0) ≡ false
-unfolding decides decides_in zone_of covers
+unfolding decides decides_in zone_of covers turn lean
 left_disabled = refl
 
 pub right_disabled : decides (halves wide off [] []) (edge 1 0) ≡ false
-unfolding decides decides_in zone_of covers
+unfolding decides decides_in zone_of covers turn lean
 right_disabled = refl

@@ -19,11 +19,11 @@ abbrev pub corner : ℕ → Vertex → Point
 corner resolution v = record { px = v.x *ℤ pos resolution; py = v.y *ℤ pos resolution }
 
 -- twice the area of the triangle from a to b to p: above 0 where p lies to the left of the way from a to b
-abbrev pub lean : Point → Point → Point → ℤ
+unfoldable pub lean : Point → Point → Point → ℤ
 lean a b p = ((b.px -ℤ a.px) *ℤ (p.py -ℤ a.py)) -ℤ ((p.px -ℤ a.px) *ℤ (b.py -ℤ a.py))
 
 -- what the segment from a to b adds to the winding number of p: 1 where it passes p's right side upwards, -1 downwards
-abbrev pub turn : Point → Point → Point → ℤ
+unfoldable pub turn : Point → Point → Point → ℤ
 turn p a b =
     if int_le a.py p.py && int_lt p.py b.py && int_lt (pos 0) (lean a b p) then pos 1
     else if int_le b.py p.py && int_lt p.py a.py && int_lt (lean a b p) (pos 0) then pos 0 -ℤ pos 1
