@@ -12,7 +12,7 @@ use Rattle.page_model.specs.declared.parts.TrapParams.{TrapParams}
 use Rattle.page_model.specs.declared.parts.Vertex.{Vertex}
 use Rattle.page_model.specs.declared.parts.Zone.{Zone}
 use Rattle.page_model.specs.Page.{sample_at, samples}
-use Rattle.page_model.specs.Tints.{new}
+use Rattle.page_model.specs.Tints.{new_tints}
 use Rattle.page_model.specs.Words.{list_below}
 
 abbrev pub at : ℕ → ℕ → At
@@ -121,4 +121,4 @@ shop = page 600
 
 -- the new tints of plate c, row by row
 abbrev pub news : PageParts → ℕ → List ℕ
-news p c = list_below (λ k. new p (sample_at p k) c) (samples p)
+news p c = new_tints p c

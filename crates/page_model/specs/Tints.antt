@@ -1,12 +1,14 @@
-use Rattle.std.specs.Prelude.{ℕ, ◌+◌, ◌-◌, ◌*◌, ◌/◌, ◌&&◌, max, Option, Some, None, if◌then◌else◌}
+use Rattle.std.specs.Prelude.{ℕ, List, ◌+◌, ◌-◌, ◌*◌, ◌/◌, ◌&&◌, max, Option, Some, None, if◌then◌else◌}
 use Rattle.page_model.specs.declared.parts.At.{At}
 use Rattle.page_model.specs.declared.parts.EdgeAt.{EdgeAt}
 use Rattle.page_model.specs.declared.parts.PageParts.{PageParts}
-use Rattle.page_model.specs.Page.{ink_at, params_at, tint}
+use Rattle.page_model.specs.declared.parts.Plane.{Plane}
+use Rattle.page_model.specs.Page.{ink_at, params_at, tint, plates, width, height, maxval, samples, sample_at}
 use Rattle.page_model.specs.Decider.{decider}
 use Rattle.page_model.specs.Density.{density, density_of, spreads}
 use Rattle.page_model.specs.Edges.{across}
 use Rattle.page_model.specs.Trapped.{trapped_in}
+use Rattle.page_model.specs.Words.{list_below}
 use Rattle.page_model.specs.Zones.{zone_of}
 
 -- the tint of plate c where the inks of both sides lie one over the other
@@ -38,3 +40,15 @@ new_from page p c (Some e) = new_by page p e c
 -- the new tint of plate c at p
 abbrev pub new : PageParts → At → ℕ → ℕ
 new page p c = new_from page p c (decider page p)
+
+-- the new tints of plate c, row by row
+unfoldable pub new_tints : PageParts → ℕ → List ℕ
+new_tints page c = list_below (λ k. new page (sample_at page k) c) (samples page)
+
+-- plate c after trapping
+abbrev pub trapped_plane : PageParts → ℕ → Plane
+trapped_plane page c = record { width = width page; height = height page; maxval = maxval page; tints = new_tints page c }
+
+-- all plates after trapping
+unfoldable pub trapped_planes : PageParts → List Plane
+trapped_planes page = list_below (trapped_plane page) (plates page)

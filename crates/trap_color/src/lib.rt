@@ -1,7 +1,6 @@
 //! The trap of one sample at a given edge: whether it is trapped, and its new tints.
 #![tactic(auto)]
 
-mod edges;
 pub mod laws;
 mod sample;
 mod tints;

@@ -5,9 +5,9 @@ ghost use Rattle.page_model.specs.Page.{plates, InPage, ink_at};
 ghost use Rattle.page_model.specs.Tints.{full, full_density, new_in};
 ghost use Rattle.page_model.specs.Trapped.{trapped_in};
 
-use crate::edges::across_of;
 use crate::widths::scaled_tint;
 use neutral_density::weight_of;
+use page_model::edges::across_of;
 use page_model::laws::full_density_law;
 use page_model::page::Page;
 use page_model::parts::{At, EdgeAt, InkKind};

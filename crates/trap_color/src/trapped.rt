@@ -4,9 +4,9 @@ ghost use Rattle.page_model.specs.Page.{InPage};
 ghost use Rattle.page_model.specs.Trapped.{trapped_in};
 ghost use Rattle.page_model.specs.Within.{black, edge_slid, within_in};
 
-use crate::edges::{across_of, first_of, own_of, second_of, squared_distance};
 use crate::widths::is_near;
 use neutral_density::{density, is_black, is_shut, slid, steps_apart};
+use page_model::edges::{across_of, first_of, own_of, second_of, squared_distance};
 use page_model::page::Page;
 use page_model::parts::{At, EdgeAt, TrapParams};
 

@@ -2,7 +2,7 @@ ghost use Rattle.std.specs.Prelude.{◌≡◌, ◌+◌, ◌<◌, ◌≤◌, ◌^
 ghost use Rattle.page_model.specs.Edges.{first, second, on_first_side, own, across, d2};
 ghost use Rattle.page_model.specs.Words.{gap, square};
 
-use page_model::parts::{At, EdgeAt};
+use crate::parts::{At, EdgeAt};
 
 /// The edge's left or upper sample.
 pub fn first_of(e: EdgeAt) -> At
