@@ -1,12 +1,18 @@
 //! The job language's tokens and objects: what a job's bytes spell, and the first fault where they spell nothing.
 #![tactic(auto)]
 
+pub mod brackets;
 mod bytes;
 pub mod faults;
+mod judging;
 mod numbers;
+pub mod object;
 pub mod pieces;
+mod reader;
 mod scanner;
 mod texts;
 pub mod token;
+mod words;
 
+pub use reader::objects;
 pub use scanner::tokens;
