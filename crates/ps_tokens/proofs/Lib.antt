@@ -1,4 +1,5 @@
 pub mod Counting
+pub mod Entries
 pub mod Fronts
 pub mod Judgements
 pub mod Scanning

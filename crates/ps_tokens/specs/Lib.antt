@@ -1,5 +1,6 @@
 pub mod Brackets
 pub mod Bytes
+pub mod Dictionaries
 pub mod Numbers
 pub mod Objects
 pub mod Pieces

@@ -3,6 +3,7 @@
 
 pub mod brackets;
 mod bytes;
+pub mod dictionary;
 pub mod faults;
 mod judging;
 mod numbers;
@@ -14,5 +15,6 @@ mod texts;
 pub mod token;
 mod words;
 
+pub use dictionary::last;
 pub use reader::objects;
 pub use scanner::tokens;
