@@ -1,5 +1,9 @@
 -- The entries of a dictionary among a job's objects.
-use Rattle.std.specs.Prelude.{◌≡◌, ◌≤◌, ℕ, zero, suc, Bool, false, List, [], ◌∷◌, length, take, drop, fold, Option, Some, None, Ok, slice_get, ◌+◌, if◌then◌else◌}
+use Rattle.std.specs.Prelude.{◌≡◌, ◌≤◌, ℕ, zero, suc, Bool, false, List, [], ◌∷◌, length, take, drop, fold, map, Option, Some, None, Ok, slice_get, ◌+◌, if◌then◌else◌}
+use Rattle.std.specs.Borrow.{Bor}
+use Rattle.std.specs.Ordering.{nat_cmp}
+use Rattle.std.specs.BTreeMap.{insert_entry}
+use Rattle.std.specs.Cmp.Lexicographic.{slice_cmp}
 use Rattle.std.specs.Str.{bytes_eq}
 use Rattle.ps_tokens.specs.declared.token.Token.{Token}
 use Rattle.ps_tokens.specs.declared.object.Body.{Body}
@@ -59,3 +63,31 @@ last_among objects name = fold (λ found key. if names name (slice_get objects k
 -- the place of the value of the last entry of that key
 unfoldable pub last_of : List Object → ℕ → List ℕ → Option ℕ
 last_of objects dict name = last_among objects name None (keys_of objects dict)
+
+-- the name of a literal, empty for any other object
+abbrev pub name_in : Body → List ℕ
+name_in (Number n) = []
+name_in (Truth b) = []
+name_in Null = []
+name_in Text = []
+name_in (Literal bytes) = bytes
+name_in (Operator bytes) = []
+name_in Array = []
+name_in Dict = []
+
+-- the name of the literal at a place
+abbrev pub name_of : Option Object → List ℕ
+name_of None = []
+name_of (Some object) = name_in object.body
+
+-- a name by reference with its place, as bytes with a place
+abbrev pub seen : Bor (List ℕ) × ℕ → List ℕ × ℕ
+seen e = (e.0.now, e.1)
+
+-- names with places, in ascending byte order; a name that is there takes its new place
+abbrev pub put_key : List Object → List (List ℕ × ℕ) → ℕ → List (List ℕ × ℕ)
+put_key objects named key = insert_entry (slice_cmp nat_cmp) named (name_of (slice_get objects key)) key
+
+-- the places of the last key of each name of a dictionary, in ascending byte order of the names
+unfoldable pub last_keys_of : List Object → ℕ → List ℕ
+last_keys_of objects dict = map (λ e. e.1) (fold (put_key objects) [] (keys_of objects dict))

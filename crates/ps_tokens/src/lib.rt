@@ -6,6 +6,8 @@ mod bytes;
 pub mod dictionary;
 pub mod faults;
 mod judging;
+pub mod misfits;
+pub mod names;
 mod numbers;
 pub mod object;
 pub mod pieces;
