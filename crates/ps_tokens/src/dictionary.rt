@@ -45,6 +45,15 @@ pub fn keys(alloc: Global, objects: &ObjectList, dict: u32) -> Result<Vec<u32>, 
     Ok(keys)
 }
 
+/// How many objects a list has that `objects` gave: at most as many as a job has bytes.
+pub fn count(objects: &ObjectList) -> u32
+    requires { AreObjects objects.now }
+    ensures value { result ≡ length objects.now }
+    ensures few { result ≤ 1048576 }
+{
+    objects.len() as u32
+}
+
 // The objects within the one at a place.
 fn within(objects: &[Object], place: usize) -> &[Object]
     requires { place < 2 ^ 40 }

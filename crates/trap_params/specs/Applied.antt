@@ -1,13 +1,14 @@
 -- The parameters after a `settrapparams` dictionary.
-use Rattle.std.specs.Prelude.{ℕ, List, Option, Some, None, Result, Ok, Err}
+use Rattle.std.specs.Prelude.{ℕ, List, Option, Result}
 use Rattle.std.specs.Result.{result_unwrap_or}
 use Rattle.ps_tokens.specs.declared.faults.Key.TheVariants.{TrapWidth, BlackWidth, BlackColorLimit, BlackDensityLimit, StepLimit, SlidingTrapLimit, TrapColorScaling, Enabled}
 use Rattle.ps_tokens.specs.declared.faults.JobFault.{JobFault}
 use Rattle.ps_tokens.specs.declared.object.Object.{Object}
 use Rattle.page_model.specs.declared.parts.TrapParams.{TrapParams}
-use Rattle.trap_params.specs.declared.settings.Misfit.{Misfit}
+use Rattle.ps_tokens.specs.declared.misfits.Misfit.{Misfit}
+use Rattle.ps_tokens.specs.Misfits.{misfit_of, earlier, unless}
 use Rattle.trap_params.specs.declared.applying.Settings.{Settings}
-use Rattle.trap_params.specs.Settings.{number_after, truth_after, misfit_of, earlier}
+use Rattle.trap_params.specs.Settings.{number_after, truth_after}
 
 -- what the dictionary sets of each parameter
 abbrev pub settings_of : TrapParams → List Object → ℕ → Settings
@@ -46,11 +47,6 @@ params_set set now = record {
   trap_color_scaling = result_unwrap_or set.trap_color_scaling now.trap_color_scaling;
   enabled = result_unwrap_or set.enabled now.enabled;
 }
-
--- a value, or the fault that stands first
-abbrev pub unless : {X : Type 0} → Option Misfit → X → Result X JobFault
-unless None x = Ok x
-unless (Some misfit) x = Err misfit.fault
 
 -- the parameters after a dictionary, or the fault of the faulty entry whose key stands first
 abbrev pub applied : TrapParams → List Object → ℕ → Result TrapParams JobFault

@@ -1,3 +1,4 @@
 pub mod Applied
+pub mod Limits
 pub mod Parameters
 pub mod Settings

@@ -1,16 +1,14 @@
 -- What a dictionary sets: the value of the last entry of each key, judged by its kind and range.
-use Rattle.std.specs.Prelude.{ℕ, ℤ, pos, negsuc, Bool, List, Option, Some, None, Result, Ok, Err, slice_get, nat_le, nat_lt, ◌&&◌, if◌then◌else◌}
+use Rattle.std.specs.Prelude.{ℕ, ℤ, pos, negsuc, Bool, List, Option, Some, None, Result, Ok, Err, slice_get, nat_le, ◌&&◌, if◌then◌else◌}
 use Rattle.ps_tokens.specs.declared.faults.Key.{Key}
-use Rattle.ps_tokens.specs.declared.faults.Key.TheVariants as keys
 use Rattle.ps_tokens.specs.declared.faults.FaultKind.{FaultKind}
 use Rattle.ps_tokens.specs.declared.faults.FaultKind.TheVariants.{WrongKind, OutOfRange}
-use Rattle.ps_tokens.specs.declared.faults.JobFault.{JobFault}
 use Rattle.ps_tokens.specs.declared.object.Body.{Body}
 use Rattle.ps_tokens.specs.declared.object.Body.TheVariants.{Number, Truth, Null, Text, Literal, Operator, Array, Dict}
 use Rattle.ps_tokens.specs.declared.object.Object.{Object}
 use Rattle.ps_tokens.specs.Dictionaries.{last_of}
-use Rattle.page_model.specs.declared.parts.TrapParams.{TrapParams}
-use Rattle.trap_params.specs.declared.settings.Misfit.{Misfit}
+use Rattle.ps_tokens.specs.declared.misfits.Misfit.{Misfit}
+use Rattle.ps_tokens.specs.Misfits.{judged_at}
 use Rattle.trap_params.specs.Parameters.{name_of, least_of, most_of}
 
 -- a number in the parameter's range
@@ -40,11 +38,6 @@ truth_of key (Operator name) = Err (WrongKind key)
 truth_of key Array = Err (WrongKind key)
 truth_of key Dict = Err (WrongKind key)
 
--- what a value at a place sets, or its fault there
-abbrev pub judged_at : {X : Type 0} → ℕ → ℕ → Result X FaultKind → Result X Misfit
-judged_at place at (Ok x) = Ok x
-judged_at place at (Err kind) = Err (record { place = place; fault = record { kind = kind; at = at } })
-
 -- what an object at a place sets; where there is none, all stays
 abbrev pub set_by : {X : Type 0} → (Body → Result X FaultKind) → X → ℕ → Option Object → Result X Misfit
 set_by judge now place None = Ok now
@@ -62,14 +55,3 @@ number_after objects dict key now = set_at (number_of key) objects now (last_of 
 -- a truth after a dictionary
 unfoldable pub truth_after : List Object → ℕ → Key → Bool → Result Bool Misfit
 truth_after objects dict key now = set_at (truth_of key) objects now (last_of objects dict (name_of key))
-
--- a value's fault, if it has one
-abbrev pub misfit_of : {X : Type 0} → Result X Misfit → Option Misfit
-misfit_of (Ok x) = None
-misfit_of (Err misfit) = Some misfit
-
--- of two faults the one that stands first
-abbrev pub earlier : Option Misfit → Option Misfit → Option Misfit
-earlier None second = second
-earlier (Some first) None = Some first
-earlier (Some first) (Some second) = if nat_lt second.place first.place then Some second else Some first

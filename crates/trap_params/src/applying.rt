@@ -2,9 +2,10 @@ ghost use Rattle.std.specs.Prelude.{◌≡◌};
 ghost use Rattle.ps_tokens.specs.Dictionaries.{AreObjects};
 ghost use Rattle.trap_params.specs.Applied.{settings_of, first_misfit_of, params_set, applied};
 
-use crate::settings::{Misfit, earlier, number_after, truth_after};
+use crate::settings::{number_after, truth_after};
 use page_model::parts::TrapParams;
 use ps_tokens::faults::{JobFault, Key};
+use ps_tokens::misfits::{Misfit, earlier};
 use ps_tokens::object::ObjectList;
 
 /// What a dictionary sets of each parameter, or the fault of its value.
@@ -89,9 +90,7 @@ fn params_of(settings: &Settings, now: &TrapParams) -> TrapParams
     TrapParams {
         trap_width: settings.trap_width.unwrap_or(now.trap_width),
         black_width: settings.black_width.unwrap_or(now.black_width),
-        black_color_limit: settings
-            .black_color_limit
-            .unwrap_or(now.black_color_limit),
+        black_color_limit: settings.black_color_limit.unwrap_or(now.black_color_limit),
         black_density_limit: settings
             .black_density_limit
             .unwrap_or(now.black_density_limit),

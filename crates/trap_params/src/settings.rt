@@ -1,18 +1,12 @@
 ghost use Rattle.std.specs.Prelude.{◌≡◌, ◌≤◌, ◌<◌, ◌^◌, IfOk};
 ghost use Rattle.ps_tokens.specs.Dictionaries.{AreObjects};
 ghost use Rattle.trap_params.specs.Parameters.{name_of, least_of, most_of};
-ghost use Rattle.trap_params.specs.Settings.{in_range, number_of, truth_of, number_after, truth_after, misfit_of, earlier};
+ghost use Rattle.trap_params.specs.Settings.{in_range, number_of, truth_of, number_after, truth_after};
 
 use ps_tokens::faults::{FaultKind, JobFault, Key};
 use ps_tokens::last;
+use ps_tokens::misfits::Misfit;
 use ps_tokens::object::{Body, ObjectList};
-
-/// A fault of an entry's value, with the value's place among the objects.
-#[derive(Clone, Copy, Debug, Drop, PartialEq, Eq)]
-pub struct Misfit {
-    pub place: u32,
-    pub fault: JobFault,
-}
 
 // A parameter's name in a job.
 fn name_of(key: Key) -> &'static [u8]
@@ -126,22 +120,5 @@ pub fn truth_after(objects: &ObjectList, dict: u32, key: Key, now: bool) -> Resu
                 at: object.at,
             },
         }),
-    }
-}
-
-/// Of two faults the one that stands first.
-pub fn earlier(first: Option<Misfit>, second: Option<Misfit>) -> Option<Misfit>
-    ensures { result ≡ earlier first second }
-{
-    match (first, second) {
-        (None, second) => second,
-        (first, None) => first,
-        (Some(one), Some(two)) => {
-            if two.place < one.place {
-                second
-            } else {
-                first
-            }
-        }
     }
 }
