@@ -20,3 +20,6 @@ mod words;
 pub use dictionary::last;
 pub use reader::objects;
 pub use scanner::tokens;
+
+#[cfg(test)]
+mod tests;

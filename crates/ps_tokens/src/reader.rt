@@ -1,6 +1,7 @@
 ghost use Rattle.std.specs.Prelude.{◌≡◌, ◌≤◌, ◌+◌, ◌++◌, ◌∷◌, [], length, reverse, drop, slice_index, Ok, IfOk, OnOk};
 ghost use Rattle.ps_tokens.specs.Tokens.{Gives, tokens_of};
 ghost use Rattle.ps_tokens.specs.Words.{spelling};
+ghost use Rattle.ps_tokens.specs.Dictionaries.{AreObjects};
 ghost use Rattle.ps_tokens.specs.Objects.{AreEnds, is_opening, is_closing, body_as, word_body, objects_in, objects_of};
 
 use crate::faults::JobRefusal;
@@ -20,7 +21,8 @@ use std::alloc::Global;
 pub fn objects(alloc: Global, bytes: &[u8], tokens: &TokenList) -> Result<ObjectList, JobRefusal>
     requires size { length bytes.now ≤ 1048576 }
     requires of_bytes { tokens_of bytes.now ≡ Ok tokens.now }
-    ensures { Gives result (objects_of bytes.now tokens.now) }
+    ensures given { Gives result (objects_of bytes.now tokens.now) }
+    ensures are { IfOk result (λ objects. AreObjects objects) }
 {
     let tokens = tokens.as_slice();
     match judge(bytes, tokens) {
