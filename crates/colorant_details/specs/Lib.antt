@@ -1,0 +1,3 @@
+pub mod Colorants
+pub mod Details
+pub mod Shades

@@ -1,0 +1,121 @@
+ghost use Rattle.std.specs.Prelude.{◌≡◌};
+ghost use Rattle.ps_tokens.specs.Tokens.{Gives};
+ghost use Rattle.ps_tokens.specs.Dictionaries.{AreObjects};
+ghost use Rattle.colorant_details.specs.Details.{type_in, type_of, details_from, details_of};
+
+use crate::colorants::colorants_at;
+use crate::shades::is_dict;
+use page_model::list::List;
+use page_model::parts::{DetailList, OutOfMemory};
+use ps_tokens::faults::{FaultKind, JobFault, JobRefusal};
+use ps_tokens::last;
+use ps_tokens::misfits::Misfit;
+use ps_tokens::object::{Body, ObjectList};
+use std::alloc::Global;
+
+/// The inks that the value of TrappingDetails at a place names, in ascending byte order of their names (PLRM3's trapping
+/// section, in this project's profile).
+///
+/// `NotDictionary` where the value, that of ColorantDetails or a colorant's is no dictionary; `WrongType` where Type is
+/// not 1001; `BadDensity` where NeutralDensity is no number from 0.001 to 10; `BadKind` where ColorantType is none of the
+/// four names; `MissingKey` where a dictionary lacks Type or NeutralDensity, at its `<<`. Entries are judged in the order
+/// of their keys, the last of each key alone, and a missing one after them.
+pub fn inks(alloc: Global, objects: &ObjectList, details: u32) -> Result<DetailList, JobRefusal>
+    requires { AreObjects objects.now }
+    ensures { Gives result (details_of objects.now details) }
+{
+    let Some(object) = objects.get(details as usize) else {
+        return Ok(List::new(alloc));
+    };
+    if !is_dict(&object.body) {
+        return Err(JobRefusal::Fault(JobFault {
+            kind: FaultKind::NotDictionary,
+            at: object.at,
+        }));
+    }
+    let typed = type_of(objects, details);
+    let value = last(objects, details, b"ColorantDetails");
+    let colorants = match colorants_at(alloc, objects, value) {
+        Ok(colorants) => colorants,
+        Err(OutOfMemory) => return Err(JobRefusal::OutOfMemory),
+    };
+    match details_from(object.at, typed, colorants) {
+        Ok(inks) => Ok(inks),
+        Err(fault) => Err(JobRefusal::Fault(fault)),
+    }
+}
+
+// Whether a value of Type is the one that is known.
+fn type_in(value: &Body) -> Result<bool, FaultKind>
+    ensures { result ≡ type_in value.now }
+{
+    match value {
+        Body::Number(number) => {
+            if *number == 10_010_000 {
+                Ok(true)
+            } else {
+                Err(FaultKind::WrongType)
+            }
+        }
+        _ => Err(FaultKind::WrongType),
+    }
+}
+
+// Whether a dictionary has that type, false where it has none.
+#[tactic(auto, unfolding(crate::specs::Details::type_of))]
+fn type_of(objects: &ObjectList, dict: u32) -> Result<bool, Misfit>
+    requires { AreObjects objects.now }
+    ensures { result ≡ type_of objects.now dict }
+{
+    let Some(place) = last(objects, dict, b"Type") else {
+        return Ok(false);
+    };
+    let Some(object) = objects.get(place as usize) else {
+        return Ok(false);
+    };
+    match type_in(&object.body) {
+        Ok(known) => Ok(known),
+        Err(kind) => Err(Misfit {
+            place,
+            fault: JobFault {
+                kind,
+                at: object.at,
+            },
+        }),
+    }
+}
+
+// The inks, or the fault that stands first.
+fn details_from(
+    at: u32,
+    typed: Result<bool, Misfit>,
+    colorants: Result<DetailList, Misfit>,
+) -> Result<DetailList, JobFault>
+    ensures { result ≡ details_from at typed colorants }
+{
+    match typed {
+        Ok(known) => match colorants {
+            Ok(inks) => {
+                if known {
+                    Ok(inks)
+                } else {
+                    Err(JobFault {
+                        kind: FaultKind::MissingKey,
+                        at,
+                    })
+                }
+            }
+            Err(misfit) => Err(misfit.fault),
+        },
+        Err(first) => match colorants {
+            Ok(_) => Err(first.fault),
+            Err(second) => {
+                if second.place < first.place {
+                    Err(second.fault)
+                } else {
+                    Err(first.fault)
+                }
+            }
+        },
+    }
+}

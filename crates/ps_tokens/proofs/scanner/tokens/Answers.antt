@@ -1,0 +1,9 @@
+use Rattle.std.proofs.Common.{sym, ◌∙◌, rules}
+use Rattle.ps_tokens.proofs.Scanning.{tokens_from-end}
+use Rattle.ps_tokens.proofs.scanner.tokens.Goals as goal
+
+pub returns : goal.returns
+returns c =
+    sym c.loop-rest.invariant.same
+    ∙ tokens_from-end c.loop-rest.found.items c.loop-rest.at c.loop-rest.rest.now (search rules)
+    ∙ search rules

@@ -1,0 +1,10 @@
+pub mod Brackets
+pub mod Bytes
+pub mod Dictionaries
+pub mod Misfits
+pub mod Numbers
+pub mod Objects
+pub mod Pieces
+pub mod Texts
+pub mod Tokens
+pub mod Words

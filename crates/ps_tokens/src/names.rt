@@ -1,0 +1,74 @@
+ghost use Rattle.std.specs.Prelude.{◌≡◌, [], map, fold, slice_get, IfOk};
+ghost use Rattle.std.specs.BTreeMap.{values};
+ghost use Rattle.ps_tokens.specs.Dictionaries.{AreObjects, name_of, last_keys_of, seen, put_key};
+
+use crate::dictionary::keys;
+use crate::object::{Body, Object, ObjectList};
+use page_model::parts::OutOfMemory;
+use std::alloc::Global;
+use std::collections::BTreeMap;
+
+/// The name of the literal at a place, empty where another object or none stands there.
+pub fn name_at(objects: &[Object], place: usize) -> &[u8]
+    ensures { result.now ≡ name_of (slice_get objects.now place) }
+{
+    match objects.get(place) {
+        Some(object) => match &object.body {
+            Body::Literal(name) => name.as_slice(),
+            _ => &[],
+        },
+        None => &[],
+    }
+}
+
+/// The places of the last key of each name in the dictionary at a place, in ascending byte order of the names. The list
+/// is one that `objects` gave.
+#[tactic(auto, unfolding(crate::specs::Dictionaries::last_keys_of))]
+pub fn last_keys(alloc: Global, objects: &ObjectList, dict: u32) -> Result<Vec<u32>, OutOfMemory>
+    requires { AreObjects objects.now }
+    ensures { IfOk result (λ places. places.items ≡ last_keys_of objects.now dict) }
+{
+    let all = objects.as_slice();
+    let keys = match keys(alloc, objects, dict) {
+        Ok(keys) => keys,
+        Err(OutOfMemory) => return Err(OutOfMemory),
+    };
+    let named = match by_name(alloc, all, &keys) {
+        Ok(named) => named,
+        Err(OutOfMemory) => return Err(OutOfMemory),
+    };
+    places_of(alloc, &named)
+}
+
+// The names of keys, each with the last of its places.
+#[tactic(auto, using(crate::proofs::Naming::naming))]
+fn by_name<'a>(
+    alloc: Global,
+    objects: &'a [Object],
+    keys: &[u32],
+) -> Result<BTreeMap<&'a [u8], u32>, OutOfMemory>
+    ensures { IfOk result (λ named. map seen named.entries ≡ fold (put_key objects.now) [] keys.now) }
+{
+    let mut named = BTreeMap::new(alloc);
+    for key in keys {
+        match named.insert(name_at(objects, *key as usize), *key) {
+            Ok(_) => {}
+            Err(_) => return Err(OutOfMemory),
+        }
+    }
+    Ok(named)
+}
+
+// The places, in the order of their names.
+fn places_of(alloc: Global, named: &BTreeMap<&[u8], u32>) -> Result<Vec<u32>, OutOfMemory>
+    ensures { IfOk result (λ places. places.items ≡ values named.now) }
+{
+    let mut places = Vec::new(alloc);
+    for place in named.values() {
+        match places.push(*place) {
+            Ok(()) => {}
+            Err(_) => return Err(OutOfMemory),
+        }
+    }
+    Ok(places)
+}

@@ -1,0 +1,32 @@
+use page_model::list::List;
+use page_model::parts::Name;
+
+/// What an object is. A number is in ten-thousandths.
+#[derive(Drop)]
+pub enum Body {
+    Number(i64),
+    Truth(bool),
+    Null,
+    /// A string, whose content nothing asks for.
+    Text,
+    /// The name behind a `/`.
+    Literal(Name),
+    /// A word that is neither `true` nor `false` nor `null`.
+    Operator(Name),
+    Array,
+    Dict,
+}
+
+/// An object, with the offset of its first token.
+///
+/// The objects within an array or a dictionary follow it: `inside` of them, at whatever depth. Within a dictionary
+/// each entry is its key, a literal, and then its value with all that stands within the value.
+#[derive(Drop)]
+pub struct Object {
+    pub at: u32,
+    pub inside: u32,
+    pub body: Body,
+}
+
+/// The objects of a job, in the order of their first tokens. A place is a number in this list, from 0.
+pub type ObjectList = List<Object>;

@@ -1,0 +1,58 @@
+ghost use Rattle.std.specs.Prelude.{◌≡◌, ◌≤◌, ◌<◌, ◌+◌, length, drop, IfOk, IfErr, Ok};
+ghost use Rattle.ps_tokens.specs.Tokens.{Gives, Fails, joined, tokens_from, tokens_of};
+
+use crate::faults::{JobFault, JobRefusal};
+use crate::pieces::{Piece, piece_at};
+use crate::token::{Token, TokenList};
+use page_model::list::List;
+use std::alloc::Global;
+
+/// The tokens that a job's bytes spell, each the longest that stands at its place, with whitespace and comments
+/// between them (after PLRM3's token syntax, in this project's profile).
+///
+/// The fault is the first from the left: `BadToken` at the first byte where no token stands, or `NumberTooLarge`.
+/// A job has at most 1,048,576 bytes.
+pub fn tokens(alloc: Global, bytes: &[u8]) -> Result<TokenList, JobRefusal>
+    requires { length bytes.now ≤ 1048576 }
+    ensures { Gives result (tokens_of bytes.now) }
+{
+    let mut found = Vec::new(alloc);
+    let mut rest = bytes;
+    let mut at = 0u32;
+    while !rest.is_empty() {
+        match take_piece(&mut found, rest, at) {
+            Ok(len) => {
+                rest = &rest[len..];
+                at += len as u32;
+            }
+            Err(refusal) => return Err(refusal),
+        }
+    }
+    Ok(List::from_vec(found))
+}
+
+// Adds the token that stands at the front of the rest, if it is one, and tells how many bytes were taken.
+fn take_piece(found: &mut Vec<Token>, rest: &[u8], at: u32) -> Result<usize, JobRefusal>
+    requires some { 0 < length rest.now }
+    requires size { at + length rest.now ≤ 1048576 }
+    ensures within { IfOk result (λ len. (1 ≤ len) × (len ≤ length rest.now)) }
+    ensures taken { IfOk result (λ len. joined (Ok found.old.items) (tokens_from at 0 rest.now)
+        ≡ joined (Ok found.new.items) (tokens_from (at + len) 0 (drop len rest.now))) }
+    ensures refused { IfErr result (λ refusal. Fails refusal (joined (Ok found.old.items) (tokens_from at 0 rest.now))) }
+{
+    match piece_at(rest) {
+        Piece::Blank(len) => Ok(len),
+        Piece::Spelled(kind, len) => {
+            let token = Token {
+                at,
+                len: len as u32,
+                kind,
+            };
+            match found.push(token) {
+                Ok(()) => Ok(len),
+                Err(_) => Err(JobRefusal::OutOfMemory),
+            }
+        }
+        Piece::Broken(kind) => Err(JobRefusal::Fault(JobFault { kind, at })),
+    }
+}

@@ -1,0 +1,4 @@
+pub mod Applied
+pub mod Limits
+pub mod Parameters
+pub mod Settings

@@ -1,0 +1,40 @@
+-- The trapping parameters: their names in a job, and their ranges in ten-thousandths.
+use Rattle.std.specs.Prelude.{ℕ, List, codes}
+use Rattle.ps_tokens.specs.declared.faults.Key.{Key}
+use Rattle.ps_tokens.specs.declared.faults.Key.TheVariants.{TrapWidth, BlackWidth, BlackColorLimit, BlackDensityLimit, StepLimit, SlidingTrapLimit, TrapColorScaling, Enabled, Trapping}
+
+-- a parameter's name
+abbrev pub name_of : Key → List ℕ
+name_of TrapWidth = codes "TrapWidth"
+name_of BlackWidth = codes "BlackWidth"
+name_of BlackColorLimit = codes "BlackColorLimit"
+name_of BlackDensityLimit = codes "BlackDensityLimit"
+name_of StepLimit = codes "StepLimit"
+name_of SlidingTrapLimit = codes "SlidingTrapLimit"
+name_of TrapColorScaling = codes "TrapColorScaling"
+name_of Enabled = codes "Enabled"
+name_of Trapping = codes "Trapping"
+
+-- the least number that a parameter may be; the two truths have none
+abbrev pub least_of : Key → ℕ
+least_of TrapWidth = 1
+least_of BlackWidth = 1
+least_of BlackColorLimit = 0
+least_of BlackDensityLimit = 10
+least_of StepLimit = 0
+least_of SlidingTrapLimit = 0
+least_of TrapColorScaling = 0
+least_of Enabled = 0
+least_of Trapping = 0
+
+-- the greatest number that a parameter may be
+abbrev pub most_of : Key → ℕ
+most_of TrapWidth = 1000000
+most_of BlackWidth = 100000
+most_of BlackColorLimit = 10000
+most_of BlackDensityLimit = 100000
+most_of StepLimit = 10000
+most_of SlidingTrapLimit = 10000
+most_of TrapColorScaling = 10000
+most_of Enabled = 0
+most_of Trapping = 0

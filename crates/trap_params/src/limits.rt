@@ -1,0 +1,200 @@
+ghost use Rattle.std.specs.Prelude.{◌≡◌, ◌++◌, ◌∷◌, [], IfOk, OnOk};
+ghost use Rattle.ps_tokens.specs.Tokens.{Gives};
+ghost use Rattle.ps_tokens.specs.Dictionaries.{AreObjects, last_keys_of};
+ghost use Rattle.ps_tokens.specs.Misfits.{unless};
+ghost use Rattle.trap_params.specs.Limits.{is_dict, step_of, kept, limits_of, first_misfit, limits_after};
+
+use crate::settings::number_of;
+use page_model::list::List;
+use page_model::parts::{Limit, LimitList, Name, OutOfMemory};
+use ps_tokens::dictionary::count;
+use ps_tokens::faults::{FaultKind, JobFault, JobRefusal, Key};
+use ps_tokens::last;
+use ps_tokens::misfits::{Misfit, earlier};
+use ps_tokens::names::{last_keys, name_at};
+use ps_tokens::object::{Body, ObjectList};
+use std::alloc::Global;
+
+/// The longest name whose limit is kept, in bytes.
+pub const LONGEST_NAME: usize = 64;
+
+/// The step limits after the dictionary at a place: those of its last ColorantZoneDetails entry, in ascending byte order
+/// of the names, or a copy of `now` where it has none (this project's own).
+///
+/// A colorant without StepLimit has no limit. Names longer than 64 bytes are judged and not kept. The faults stand at
+/// the value: `NotDictionary` where the entry's value or a colorant's is no dictionary, and `WrongKind(StepLimit)` and
+/// `OutOfRange(StepLimit)` for a colorant's last StepLimit. The names' last entries are judged in the order of their keys.
+pub fn zone_limits(
+    alloc: Global,
+    now: &LimitList,
+    objects: &ObjectList,
+    dict: u32,
+) -> Result<LimitList, JobRefusal>
+    requires { AreObjects objects.now }
+    ensures { Gives result (limits_after now.now objects.now dict) }
+{
+    let Some(place) = last(objects, dict, b"ColorantZoneDetails") else {
+        return match copy_of(alloc, now) {
+            Ok(limits) => Ok(limits),
+            Err(OutOfMemory) => Err(JobRefusal::OutOfMemory),
+        };
+    };
+    let Some(object) = objects.get(place as usize) else {
+        return Ok(List::new(alloc));
+    };
+    if is_dict(&object.body) {
+        limits_in(alloc, objects, place)
+    } else {
+        Err(JobRefusal::Fault(JobFault {
+            kind: FaultKind::NotDictionary,
+            at: object.at,
+        }))
+    }
+}
+
+// Whether an object is a dictionary.
+fn is_dict(body: &Body) -> bool
+    ensures { result ≡ is_dict body.now }
+{
+    match body {
+        Body::Dict => true,
+        _ => false,
+    }
+}
+
+// The limits of the colorants that the dictionary at a place names.
+fn limits_in(alloc: Global, objects: &ObjectList, place: u32) -> Result<LimitList, JobRefusal>
+    requires { AreObjects objects.now }
+    ensures { Gives result (unless (first_misfit objects.now (last_keys_of objects.now place)) (limits_of objects.now (last_keys_of objects.now place))) }
+{
+    let keys = match last_keys(alloc, objects, place) {
+        Ok(keys) => keys,
+        Err(OutOfMemory) => return Err(JobRefusal::OutOfMemory),
+    };
+    match first_misfit(objects, &keys) {
+        Some(misfit) => Err(JobRefusal::Fault(misfit.fault)),
+        None => match limits_of(alloc, objects, &keys) {
+            Ok(limits) => Ok(List::from_vec(limits)),
+            Err(OutOfMemory) => Err(JobRefusal::OutOfMemory),
+        },
+    }
+}
+
+// Of the faults of these keys the one that stands first.
+fn first_misfit(objects: &ObjectList, keys: &[u32]) -> Option<Misfit>
+    requires { AreObjects objects.now }
+    ensures { result ≡ first_misfit objects.now keys.now }
+{
+    let mut first = None;
+    for key in keys {
+        first = earlier(first, step_of(objects, *key).err());
+    }
+    first
+}
+
+// The limits of these keys, in their order.
+fn limits_of(alloc: Global, objects: &ObjectList, keys: &[u32]) -> Result<Vec<Limit>, OutOfMemory>
+    requires { AreObjects objects.now }
+    ensures { IfOk result (λ limits. limits.items ≡ limits_of objects.now keys.now) }
+{
+    let mut limits = Vec::new(alloc);
+    for key in keys {
+        let name = name_at(objects.as_slice(), *key as usize);
+        match keep(alloc, &mut limits, name, step_of(objects, *key)) {
+            Ok(()) => {}
+            Err(OutOfMemory) => return Err(OutOfMemory),
+        }
+    }
+    Ok(limits)
+}
+
+// Adds a step under a name of at most 64 bytes.
+fn keep(
+    alloc: Global,
+    limits: &mut Vec<Limit>,
+    name: &[u8],
+    step: Result<Option<u32>, Misfit>,
+) -> Result<(), OutOfMemory>
+    ensures { OnOk result (limits.new.items ≡ limits.old.items ++ kept name.now step) }
+{
+    match step {
+        Ok(Some(step)) => {
+            if name.len() <= LONGEST_NAME {
+                put_limit(alloc, limits, name, step)
+            } else {
+                Ok(())
+            }
+        }
+        Ok(None) => Ok(()),
+        Err(_) => Ok(()),
+    }
+}
+
+// Adds a limit with a copy of its name.
+fn put_limit(
+    alloc: Global,
+    limits: &mut Vec<Limit>,
+    name: &[u8],
+    step: u32,
+) -> Result<(), OutOfMemory>
+    ensures { OnOk result (limits.new.items ≡ limits.old.items ++ record { name = name.now; step = step } ∷ []) }
+{
+    let name: Name = match Vec::from_slice(alloc, name) {
+        Ok(bytes) => List::from_vec(bytes),
+        Err(_) => return Err(OutOfMemory),
+    };
+    match limits.push(Limit { name, step }) {
+        Ok(()) => Ok(()),
+        Err(_) => Err(OutOfMemory),
+    }
+}
+
+// The step that the entry of a colorant's key names, none where it has no StepLimit.
+#[tactic(auto, unfolding(crate::specs::Limits::step_of))]
+fn step_of(objects: &ObjectList, key: u32) -> Result<Option<u32>, Misfit>
+    requires { AreObjects objects.now }
+    ensures { result ≡ step_of objects.now key }
+{
+    if key as usize + 1 >= count(objects) as usize {
+        return Ok(None);
+    }
+    let Some(object) = objects.get(key as usize + 1) else {
+        return Ok(None);
+    };
+    if !is_dict(&object.body) {
+        return Err(Misfit {
+            place: key,
+            fault: JobFault {
+                kind: FaultKind::NotDictionary,
+                at: object.at,
+            },
+        });
+    }
+    let Some(place) = last(objects, key + 1, b"StepLimit") else {
+        return Ok(None);
+    };
+    let Some(step) = objects.get(place as usize) else {
+        return Ok(None);
+    };
+    match number_of(Key::StepLimit, &step.body) {
+        Ok(number) => Ok(Some(number)),
+        Err(kind) => Err(Misfit {
+            place: key,
+            fault: JobFault { kind, at: step.at },
+        }),
+    }
+}
+
+// A copy of limits.
+fn copy_of(alloc: Global, now: &LimitList) -> Result<LimitList, OutOfMemory>
+    ensures { IfOk result (λ limits. limits ≡ now.now) }
+{
+    let mut limits = Vec::new(alloc);
+    for limit in now.as_slice() {
+        match put_limit(alloc, &mut limits, limit.name.as_slice(), limit.step) {
+            Ok(()) => {}
+            Err(OutOfMemory) => return Err(OutOfMemory),
+        }
+    }
+    Ok(List::from_vec(limits))
+}
