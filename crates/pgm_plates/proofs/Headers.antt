@@ -1,5 +1,5 @@
 -- How the reader of a header comes on, and what it answers.
-use Rattle.std.proofs.Common.{◌≡◌, ◌≢◌, ◌⊎◌, ℕ, ◌<◌, ◌≤◌, ◌+◌, ◌-◌, ◌^◌, min, Bool, true, false, List, [], ◌∷◌, ◌++◌, length, take, drop, get_or, Option, Some, None, Result, Ok, Err, IsTrue, refl, sym, ap, ◌∙◌, subst, inl, inr, arith}
+use Rattle.std.proofs.Common.{◌≡◌, ◌≢◌, ◌⊎◌, ℕ, ◌<◌, ◌≤◌, ◌+◌, ◌-◌, ◌*◌, ◌^◌, min, Bool, true, false, List, [], ◌∷◌, ◌++◌, length, take, drop, get_or, Option, Some, None, Result, Ok, Err, IsTrue, refl, sym, ap, ◌∙◌, subst, inl, inr, arith}
 use Rattle.std.proofs.lemmas.Grind.{common_steps}
 use Rattle.std.proofs.lemmas.Bool.{cases_lt}
 use Rattle.std.proofs.lemmas.List.{append_assoc, append-nil, take-append-le, take_all, length-append, length_push}
@@ -20,7 +20,7 @@ use Rattle.pgm_plates.specs.declared.plate.PlateFault.TheVariants.{BadMagic, Bad
 use Rattle.pgm_plates.specs.declared.plate.PlateRefusal.{PlateRefusal}
 use Rattle.pgm_plates.specs.declared.plate.PlateRefusal.TheVariants.{Fault, ReadFault, OutOfMemory}
 use Rattle.pgm_plates.specs.Header.{IsHeader, IsShape, IsBegun}
-use Rattle.pgm_plates.specs.Plates.{IsPlateFile, raster}
+use Rattle.pgm_plates.specs.Plates.{IsSide, IsPlateFile, raster}
 use Rattle.pgm_plates.specs.Faults.{Decides, NumberFault, HoldsNoHeader, IsFault}
 use Rattle.pgm_plates.specs.Reading.{AreFew, AnswersPlate, AtEnd, IsTruncated}
 use Rattle.pgm_plates.specs.Runs.{Reached, run}
@@ -128,7 +128,7 @@ few_more bytes b none short =
     ] in
     by_run (run Start [] all) refl
 
-no_plate : (bytes : List ℕ) → HoldsNoHeader bytes → (plate : Plate) → IsPlateFile bytes plate → ⊥
+pub no_plate : (bytes : List ℕ) → HoldsNoHeader bytes → (plate : Plate) → IsPlateFile bytes plate → ⊥
 no_plate bytes none plate file =
     holds_header file.header (raster plate.maxval plate.samples) plate.width plate.height plate.maxval file.is_header (subst HoldsNoHeader file.whole none)
 
@@ -179,11 +179,18 @@ header_sides Ended (Both w h) maxval header e =
     (refl, ap (λ (x : Header). Both x.width x.height) is, ap (λ (x : Header). x.maxval) is)
 header_sides stand sides maxval header e = absurd (none_header header e)
 
-pub header_ends : (a b c : TrayState) (scan next : Scan) (count byte : ℕ) (header : Header) → Came a b scan count → Takes (byte ∷ []) b c → count < 65536 → scan_step scan byte count ≡ Ok next → header_of next.stand next.sides next.number ≡ Some header → HeaderRead a c header (count + 1)
-header_ends a b c scan next count byte header came took short step e =
-    let on = came_more a b c scan next count byte came took short step in
-    let bytes = on.0 in
-    let scanned = on.2 in
+-- what a scan that has ended tells
+pub record WholeHeader (bytes : List ℕ) (header : Header) : Type 0 where
+  pub is_header : IsHeader bytes header.width header.height header.maxval
+  pub clean : IsClean bytes (length bytes + 1)
+  pub width : IsSide header.width
+  pub height : IsSide header.height
+  pub product : header.width * header.height ≤ 160000000
+  pub positive : 0 < header.maxval
+  pub maxval : header.maxval ≤ 65535
+
+pub whole_header : (bytes : List ℕ) (next : Scan) (header : Header) → Scanned bytes next → header_of next.stand next.sides next.number ≡ Some header → WholeHeader bytes header
+whole_header bytes next header scanned e =
     let is = header_sides next.stand next.sides next.number header e in
     let fits : Fits Ended next scanned.ns bytes = subst (λ (s : Stand). Fits s next scanned.ns bytes) is.0 scanned.fits in
     let ranges : InRange (Both header.width header.height) = subst InRange is.1 scanned.ranges in
@@ -192,17 +199,31 @@ header_ends a b c scan next count byte header came took short step e =
     (scanned.ran ∙ ap (λ (s : Stand). Some (reached s scanned.ns)) is.0 ∙ ap (λ (x : List ℕ). Some (reached Ended x)) numbers) in
     let same : header.maxval ∷ header.height ∷ header.width ∷ [] ≡ standing.2 ∷ standing.1 ∷ standing.0 ∷ [] = standing.3 in
     record {
-      bytes = bytes;
-      takes = on.1;
       is_header = header_as bytes standing.0 standing.1 standing.2 header.width header.height header.maxval same standing.4;
       clean = still_clean bytes next scanned (inl is.0);
-      size = on.3;
-      short = omega arith;
       width = ranges.0;
       height = ranges.1;
       product = ranges.2;
       positive = subst (λ (n : ℕ). 0 < n) is.2 fits.4;
       maxval = subst (λ (n : ℕ). n ≤ 65535) is.2 fits.5;
+    }
+
+pub header_ends : (a b c : TrayState) (scan next : Scan) (count byte : ℕ) (header : Header) → Came a b scan count → Takes (byte ∷ []) b c → count < 65536 → scan_step scan byte count ≡ Ok next → header_of next.stand next.sides next.number ≡ Some header → HeaderRead a c header (count + 1)
+header_ends a b c scan next count byte header came took short step e =
+    let on = came_more a b c scan next count byte came took short step in
+    let whole = whole_header on.0 next header on.2 e in
+    record {
+      bytes = on.0;
+      takes = on.1;
+      is_header = whole.is_header;
+      clean = whole.clean;
+      size = on.3;
+      short = omega arith;
+      width = whole.width;
+      height = whole.height;
+      product = whole.product;
+      positive = whole.positive;
+      maxval = whole.maxval;
     }
 
 pub header_going : (bytes : List ℕ) (next : Scan) → Scanned bytes next → header_of next.stand next.sides next.number ≡ None → next.stand ≡ Ended → ⊥

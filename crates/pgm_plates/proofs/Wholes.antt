@@ -40,7 +40,7 @@ few_behind header back w h m is le = inr (record {
 })
 
 -- bytes with a header and less than its raster are no plate file
-not_whole : (header back : List ℕ) (w h m : ℕ) → IsHeader header w h m → length back < w * h * sample_size m → (plate : Plate) → IsPlateFile (header ++ back) plate → ⊥
+pub not_whole : (header back : List ℕ) (w h m : ℕ) → IsHeader header w h m → length back < w * h * sample_size m → (plate : Plate) → IsPlateFile (header ++ back) plate → ⊥
 not_whole header back w h m is less plate file =
     let same = one_header header back file.header (raster plate.maxval plate.samples) w h m plate.width plate.height plate.maxval is file.is_header file.whole in
     let all : length plate.samples ≡ w * h = file.plate_ok.count ∙ ap (λ (n : ℕ). n * plate.height) (sym same.width) ∙ ap (λ (n : ℕ). w * n) (sym same.height) in
@@ -58,7 +58,7 @@ rastered_part header bytes w h m is part = record {
   few = part.few;
 }
 
-rastered_all : (header : List ℕ) (w h m : ℕ) (xs : List ℕ) → IsHeader header w h m → Fit m xs → length xs ≤ w * h → Rastered (header ++ raster m xs) header w h m xs []
+pub rastered_all : (header : List ℕ) (w h m : ℕ) (xs : List ℕ) → IsHeader header w h m → Fit m xs → length xs ≤ w * h → Rastered (header ++ raster m xs) header w h m xs []
 rastered_all header w h m xs is fit few =
     let size = some_size m in
     record {
@@ -79,7 +79,7 @@ sample_cases m s front none half =
     ] half
 
 -- Up to its last byte, a sample decides nothing.
-clean_sample : (header : List ℕ) (w h m : ℕ) (xs : List ℕ) (s : ℕ) → IsHeader header w h m → IsClean header (length header + 1) → Fit m xs → length xs < w * h → IsClean (header ++ raster m xs ++ sample_bytes m s) (length (header ++ raster m xs ++ sample_bytes m s))
+pub clean_sample : (header : List ℕ) (w h m : ℕ) (xs : List ℕ) (s : ℕ) → IsHeader header w h m → IsClean header (length header + 1) → Fit m xs → length xs < w * h → IsClean (header ++ raster m xs ++ sample_bytes m s) (length (header ++ raster m xs ++ sample_bytes m s))
 clean_sample header w h m xs s is clean fit few =
     let front = header ++ raster m xs in
     let none : IsClean front (length front + 1) = clean_raster front header w h m xs [] clean (rastered_all header w h m xs is fit (omega arith)) in

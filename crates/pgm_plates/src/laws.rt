@@ -31,3 +31,13 @@ pub fn fault_stays()
 pub fn turns_back()
     ensures { TurnsBack }
 {}
+
+/// The canonical spelling of a plate is a plate file of it.
+pub fn spelled_reads()
+    ensures { SpelledReads }
+{}
+
+/// Bytes are a plate file or have a fault.
+pub fn plate_or_fault()
+    ensures { PlateOrFault }
+{}
