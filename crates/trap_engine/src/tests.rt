@@ -91,8 +91,14 @@ fn traps_both_sides(rt: HostRuntime) -> Result<(), Fail> {
     let trapped = trap_alone(rt.alloc(), &page)?;
     let planes = trapped.planes.as_slice();
     assert_eq!(rt; planes.len(), 2);
-    assert_eq!(rt; planes[0].tints.as_slice(), [255, 255, 255, 255, 0, 0].as_slice());
-    assert_eq!(rt; planes[1].tints.as_slice(), [0, 0, 255, 255, 255, 255].as_slice());
+    assert_eq!(rt;
+        planes[0].tints.as_slice(),
+        [255, 255, 255, 255, 0, 0].as_slice()
+    );
+    assert_eq!(rt;
+        planes[1].tints.as_slice(),
+        [0, 0, 255, 255, 255, 255].as_slice()
+    );
     assert_eq!(rt; trapped.counts.zone_samples.as_slice(), [6].as_slice());
     assert_eq!(rt; trapped.counts.zone_changed.as_slice(), [2].as_slice());
     assert_eq!(rt; trapped.counts.edges, 1);
