@@ -12,3 +12,5 @@ pub mod parts;
 pub mod planes;
 pub mod reach;
 pub mod steps;
+#[cfg(test)]
+mod tests;

@@ -6,7 +6,7 @@ ghost use Rattle.page_model.specs.Tints.{new_in, new_from};
 ghost use Rattle.page_model.specs.Trapped.{trapped_in, trapped_by};
 ghost use Rattle.page_model.specs.Zones.{zone_of};
 
-use crate::tints::{density_of_full, new_at, Densities};
+use crate::tints::{Densities, density_of_full, new_at};
 use crate::trapped::is_trapped;
 use neutral_density::density;
 use page_model::laws::zone_law;

@@ -73,8 +73,13 @@ pub column_below : (k w r : ℕ) → 0 < r → k < w * r → k / r < w
 column_below k w r some l = (div-lt_iff_lt-mul some).1 l
 
 pub ruleset zone_reads = (sample_zones-length, sample_zones-at)
+
 pub ruleset mark_reads = (edge_marks-length, edge_marks-at)
+
 pub ruleset decider_reads = (sample_deciders-length, sample_deciders-at)
+
 pub ruleset change_reads = (sample_changes_of-length, sample_changes_of-at)
+
 pub ruleset plane_reads = (trapped_planes-length, trapped_planes-at, new_tints-length, new_tints-at)
+
 pub ruleset places = (sample_at-place, place-below)

@@ -83,7 +83,12 @@ pub fn zone_samples_of(alloc: Global, page: &Page, zones: &[u8]) -> Result<Count
 }
 
 /// For each zone how many of its samples change.
-pub fn zone_changed_of(alloc: Global, page: &Page, zones: &[u8], changes: &[bool]) -> Result<CountList, OutOfMemory>
+pub fn zone_changed_of(
+    alloc: Global,
+    page: &Page,
+    zones: &[u8],
+    changes: &[bool],
+) -> Result<CountList, OutOfMemory>
     requires zones { zones.now ≡ sample_zones page.now }
     requires changes { changes.now ≡ sample_changes_of page.now }
     ensures { IfOk result (λ counts. counts ≡ list_below (zone_changed page.now) (length page.now.zones)) }
@@ -96,7 +101,11 @@ pub fn zone_changed_of(alloc: Global, page: &Page, zones: &[u8], changes: &[bool
 }
 
 /// For each plate how many of its samples change.
-pub fn plate_changed_of(alloc: Global, page: &Page, planes: &PlaneList) -> Result<CountList, OutOfMemory>
+pub fn plate_changed_of(
+    alloc: Global,
+    page: &Page,
+    planes: &PlaneList,
+) -> Result<CountList, OutOfMemory>
     requires { planes.now ≡ trapped_planes page.now }
     ensures { IfOk result (λ counts. counts ≡ list_below (plate_changed page.now) (plates page.now)) }
 {

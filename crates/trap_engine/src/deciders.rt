@@ -73,7 +73,11 @@ fn decider_of(page: &Page, marks: &[bool], p: At) -> Option<EdgeAt>
 
 /// The decider of each sample, row by row.
 #[tactic(auto, unfolding(crate::specs::Whole::sample_deciders))]
-pub fn deciders_of(alloc: Global, page: &Page, marks: &[bool]) -> Result<List<Option<EdgeAt>>, OutOfMemory>
+pub fn deciders_of(
+    alloc: Global,
+    page: &Page,
+    marks: &[bool],
+) -> Result<List<Option<EdgeAt>>, OutOfMemory>
     requires { marks.now ≡ edge_marks page.now }
     ensures { IfOk result (λ deciders. deciders ≡ sample_deciders page.now) }
 {

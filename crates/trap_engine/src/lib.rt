@@ -10,6 +10,8 @@ mod marks;
 mod memory;
 mod planes;
 mod reads;
+#[cfg(test)]
+mod tests;
 mod zones;
 
-pub use alone::{trap_alone, Trapped};
+pub use alone::{Trapped, trap_alone};

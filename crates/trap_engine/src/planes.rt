@@ -14,7 +14,14 @@ use std::alloc::Global;
 use trap_color::trap_sample;
 
 /// The new tint of plate c at sample k. The buffer has a place for each plate.
-fn new_tint(page: &Page, zones: &[u8], deciders: &[Option<EdgeAt>], k: usize, c: u32, buffer: &mut [u16]) -> u16
+fn new_tint(
+    page: &Page,
+    zones: &[u8],
+    deciders: &[Option<EdgeAt>],
+    k: usize,
+    c: u32,
+    buffer: &mut [u16],
+) -> u16
     requires zones { zones.now ≡ sample_zones page.now }
     requires deciders { deciders.now ≡ sample_deciders page.now }
     requires sample { k < samples page.now }
@@ -67,7 +74,12 @@ fn buffer_of(alloc: Global, page: &Page) -> Result<Tints, OutOfMemory>
 
 /// The planes after trapping.
 #[tactic(auto, unfolding(page_model::specs::Tints::trapped_planes))]
-pub fn planes_of(alloc: Global, page: &Page, zones: &[u8], deciders: &[Option<EdgeAt>]) -> Result<PlaneList, OutOfMemory>
+pub fn planes_of(
+    alloc: Global,
+    page: &Page,
+    zones: &[u8],
+    deciders: &[Option<EdgeAt>],
+) -> Result<PlaneList, OutOfMemory>
     requires zones { zones.now ≡ sample_zones page.now }
     requires deciders { deciders.now ≡ sample_deciders page.now }
     ensures { IfOk result (λ planes. planes ≡ trapped_planes page.now) }

@@ -7,7 +7,7 @@ use page_model::list::List;
 use page_model::page::Page;
 use page_model::parts::OutOfMemory;
 use std::alloc::Global;
-use zone_map::{zone_row, SpanBuf};
+use zone_map::{SpanBuf, zone_row};
 
 /// So many zeros.
 fn zeros(alloc: Global, count: u32) -> Result<List<u8>, OutOfMemory>
