@@ -8,6 +8,7 @@ use ps_tokens::faults::{FaultKind, JobFault, JobRefusal, Key};
 use ps_tokens::object::ObjectList;
 use ps_tokens::{objects, tokens};
 use std::alloc::{AllocError, Global};
+use std::process::Abort;
 use std::test::Fail;
 
 const LONGEST: usize = 1_048_576;
@@ -34,7 +35,7 @@ fn read(alloc: Global, bytes: &[u8]) -> Result<ObjectList, JobRefusal>
 }
 
 // A dictionary, and the parameters after it.
-const SETTINGS: [(&[u8], TrapParams); 18] = [
+static SETTINGS: [(&[u8], TrapParams); 18] = [
     (b"<< >>", NOW),
     (b"<< /TrapWidth 0.0001 >>", TrapParams { trap_width: 1, ..NOW }),
     (b"<< /TrapWidth 100 >>", TrapParams { trap_width: 1_000_000, ..NOW }),
@@ -56,7 +57,7 @@ const SETTINGS: [(&[u8], TrapParams); 18] = [
 ];
 
 // A dictionary, and the fault of its parameters.
-const MISFITS: [(&[u8], FaultKind, u32); 29] = [
+static MISFITS: [(&[u8], FaultKind, u32); 29] = [
     (b"<< /TrapWidth 0 >>", FaultKind::OutOfRange(Key::TrapWidth), 14),
     (b"<< /TrapWidth 0.00009 >>", FaultKind::OutOfRange(Key::TrapWidth), 14),
     (b"<< /TrapWidth 100.0001 >>", FaultKind::OutOfRange(Key::TrapWidth), 14),
@@ -88,25 +89,34 @@ const MISFITS: [(&[u8], FaultKind, u32); 29] = [
     (b"<< /StepLimit 2 /TrapWidth 0 /StepLimit (x) >>", FaultKind::OutOfRange(Key::TrapWidth), 27),
 ];
 
+fn expect_settings(rt: &impl Abort, alloc: Global, table: &[(&[u8], TrapParams)]) {
+    for (bytes, want) in table {
+        assert!(rt; bytes.len() <= LONGEST);
+        match read(alloc, bytes) {
+            Ok(all) => assert_eq!(rt; apply(&NOW, &all, 0), Ok(*want), "{bytes:?}"),
+            Err(_) => assert!(rt; false, "{bytes:?}"),
+        }
+    }
+}
+
+fn expect_misfits(rt: &impl Abort, alloc: Global, table: &[(&[u8], FaultKind, u32)]) {
+    for (bytes, kind, at) in table {
+        assert!(rt; bytes.len() <= LONGEST);
+        let fault = JobFault {
+            kind: *kind,
+            at: *at,
+        };
+        match read(alloc, bytes) {
+            Ok(all) => assert_eq!(rt; apply(&NOW, &all, 0), Err(fault), "{bytes:?}"),
+            Err(_) => assert!(rt; false, "{bytes:?}"),
+        }
+    }
+}
+
 #[test]
-fn applies_parameters(rt: HostRuntime) -> Result<(), Fail> {
-    for (bytes, want) in SETTINGS {
-        assert!(rt; bytes.len() <= LONGEST);
-        match read(rt.alloc(), bytes) {
-            Ok(all) => assert_eq!(rt; apply(&NOW, &all, 0), Ok(want), "{bytes:?}"),
-            Err(_) => assert!(rt; false, "{bytes:?}"),
-        }
-    }
-    for (bytes, kind, at) in MISFITS {
-        assert!(rt; bytes.len() <= LONGEST);
-        match read(rt.alloc(), bytes) {
-            Ok(all) => {
-                assert_eq!(rt; apply(&NOW, &all, 0), Err(JobFault { kind, at }), "{bytes:?}");
-            }
-            Err(_) => assert!(rt; false, "{bytes:?}"),
-        }
-    }
-    Ok(())
+fn applies_parameters(rt: HostRuntime) {
+    expect_settings(&rt, rt.alloc(), &SETTINGS);
+    expect_misfits(&rt, rt.alloc(), &MISFITS);
 }
 
 fn limits_text(alloc: Global, limits: &LimitList) -> Result<String, AllocError> {
@@ -139,7 +149,7 @@ fn limited(alloc: Global, now: &LimitList, bytes: &[u8]) -> Result<String, Fail>
 
 // A dictionary, and the limits after it, each as the length and the first byte of its name and its step; or the fault.
 // There was a limit of 9 under `Old` before.
-const LIMITS: [(&[u8], &str); 20] = [
+static LIMITS: [(&[u8], &str); 20] = [
     (b"<< /TrapWidth 2 >>", "3 79 9;"),
     (b"<< /ColorantZoneDetails << >> >>", ""),
     (b"<< /ColorantZoneDetails << /Cyan << /StepLimit .3 >> >> >>", "4 67 3000;"),
@@ -163,20 +173,40 @@ const LIMITS: [(&[u8], &str); 20] = [
     (b"<< /ColorantZoneDetails << /B 7 /A << /StepLimit 2 >> /B << >> >> >>", "OutOfRange(StepLimit) at 49"),
 ];
 
-#[test]
-fn keeps_limits(rt: HostRuntime) -> Result<(), Fail> {
-    let none = List::new(rt.alloc());
-    let before = match read(rt.alloc(), b"<< /ColorantZoneDetails << /Old << /StepLimit .0009 >> >> >>") {
-        Ok(all) => match zone_limits(rt.alloc(), &none, &all, 0) {
-            Ok(limits) => limits,
-            Err(_) => List::new(rt.alloc()),
-        },
-        Err(_) => List::new(rt.alloc()),
+// The limits of a dictionary, none where it has a fault.
+fn limits_before(alloc: Global, bytes: &[u8]) -> LimitList
+    requires { length bytes.now ≤ 1048576 }
+{
+    let none = List::new(alloc);
+    let all = match read(alloc, bytes) {
+        Ok(all) => all,
+        Err(_) => return none,
     };
-    for (bytes, want) in LIMITS {
+    match zone_limits(alloc, &none, &all, 0) {
+        Ok(limits) => limits,
+        Err(_) => none,
+    }
+}
+
+fn expect_limits(
+    rt: &impl Abort,
+    alloc: Global,
+    before: &LimitList,
+    table: &[(&[u8], &str)],
+) -> Result<(), Fail> {
+    for (bytes, want) in table {
         assert!(rt; bytes.len() <= LONGEST);
-        let text = limited(rt.alloc(), &before, bytes)?;
-        assert_eq!(rt; text.as_str(), want, "{bytes:?}");
+        let text = limited(alloc, before, bytes)?;
+        assert_eq!(rt; text.as_str(), *want, "{bytes:?}");
     }
     Ok(())
+}
+
+#[test]
+fn keeps_limits(rt: HostRuntime) -> Result<(), Fail> {
+    let before = limits_before(
+        rt.alloc(),
+        b"<< /ColorantZoneDetails << /Old << /StepLimit .0009 >> >> >>",
+    );
+    expect_limits(&rt, rt.alloc(), &before, &LIMITS)
 }
