@@ -6,3 +6,6 @@ mod details;
 pub mod shades;
 
 pub use details::inks;
+
+#[cfg(test)]
+mod tests;

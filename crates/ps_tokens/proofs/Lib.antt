@@ -1,7 +1,9 @@
+pub mod Completing
 pub mod Counting
 pub mod Entries
 pub mod Fronts
 pub mod Judgements
+pub mod Moving
 pub mod Naming
 pub mod Scanning
 pub mod Stacks

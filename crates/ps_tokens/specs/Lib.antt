@@ -1,6 +1,7 @@
 pub mod Brackets
 pub mod Bytes
 pub mod Dictionaries
+pub mod Laws
 pub mod Misfits
 pub mod Numbers
 pub mod Objects

@@ -6,6 +6,7 @@ mod bytes;
 pub mod dictionary;
 pub mod faults;
 mod judging;
+pub mod laws;
 pub mod misfits;
 pub mod names;
 mod numbers;

@@ -6,6 +6,7 @@ use crate::object::{Body, Object, ObjectList};
 use crate::token::TokenList;
 use crate::{last, objects, tokens};
 use std::alloc::{AllocError, Global};
+use std::process::Abort;
 use std::test::Fail;
 
 const LONGEST: usize = 1_048_576;
@@ -85,7 +86,7 @@ fn objects_text(alloc: Global, bytes: &[u8]) -> Result<String, AllocError>
 }
 
 // Bytes and the tokens that they spell, each as offset, length and kind; or the fault and its offset.
-const SPELLINGS: [(&[u8], &str); 77] = [
+static SPELLINGS: [(&[u8], &str); 77] = [
     (b"", ""),
     (b".25", "0+3 Number(2500);"),
     (b"72", "0+2 Number(720000);"),
@@ -181,7 +182,7 @@ const SPELLINGS: [(&[u8], &str); 77] = [
 ];
 
 // Bytes and the objects that they write out, each as offset, number of objects within and body; or the fault.
-const OBJECTS: [(&[u8], &str); 45] = [
+static OBJECTS: [(&[u8], &str); 45] = [
     (b"", ""),
     (
         b"1 (a) <41> true false null",
@@ -245,7 +246,7 @@ const OBJECTS: [(&[u8], &str); 45] = [
 ];
 
 // The bytes of a dictionary, a key, and the place of the value of its last entry.
-const ENTRIES: [(&[u8], &[u8], Option<u32>); 12] = [
+static ENTRIES: [(&[u8], &[u8], Option<u32>); 12] = [
     (b"<< /a 1 /b [ 2 /a 3 ] /a 4 >>", b"a", Some(9)),
     (b"<< /a 1 /b [ 2 /a 3 ] /a 4 >>", b"b", Some(4)),
     (b"<< /a 1 /b [ 2 /a 3 ] /a 4 >>", b"c", None),
@@ -260,36 +261,55 @@ const ENTRIES: [(&[u8], &[u8], Option<u32>); 12] = [
     (b"<< /a 1 /a 2 /a 3 >>", b"a", Some(6)),
 ];
 
+fn expect_tokens(
+    rt: &impl Abort,
+    alloc: Global,
+    table: &[(&[u8], &str)],
+) -> Result<(), AllocError> {
+    for (bytes, want) in table {
+        assert!(rt; bytes.len() <= LONGEST);
+        let text = tokens_text(alloc, bytes)?;
+        assert_eq!(rt; text.as_str(), *want, "{bytes:?}");
+    }
+    Ok(())
+}
+
+fn expect_objects(
+    rt: &impl Abort,
+    alloc: Global,
+    table: &[(&[u8], &str)],
+) -> Result<(), AllocError> {
+    for (bytes, want) in table {
+        assert!(rt; bytes.len() <= LONGEST);
+        let text = objects_text(alloc, bytes)?;
+        assert_eq!(rt; text.as_str(), *want, "{bytes:?}");
+    }
+    Ok(())
+}
+
+fn expect_entries(rt: &impl Abort, alloc: Global, table: &[(&[u8], &[u8], Option<u32>)]) {
+    for (bytes, key, want) in table {
+        assert!(rt; bytes.len() <= LONGEST);
+        match read(alloc, bytes) {
+            Ok(all) => assert_eq!(rt; last(&all, 0, key), *want, "{key:?} in {bytes:?}"),
+            Err(_) => assert!(rt; false, "{bytes:?}"),
+        }
+    }
+}
+
 #[test]
 fn spells_tokens(rt: HostRuntime) -> Result<(), Fail> {
-    for (bytes, want) in SPELLINGS {
-        assert!(rt; bytes.len() <= LONGEST);
-        let text = tokens_text(rt.alloc(), bytes)?;
-        assert_eq!(rt; text.as_str(), want, "at {bytes:?}");
-    }
+    expect_tokens(&rt, rt.alloc(), &SPELLINGS)?;
     Ok(())
 }
 
 #[test]
 fn writes_out_objects(rt: HostRuntime) -> Result<(), Fail> {
-    for (bytes, want) in OBJECTS {
-        assert!(rt; bytes.len() <= LONGEST);
-        let text = objects_text(rt.alloc(), bytes)?;
-        assert_eq!(rt; text.as_str(), want, "at {bytes:?}");
-    }
+    expect_objects(&rt, rt.alloc(), &OBJECTS)?;
     Ok(())
 }
 
 #[test]
-fn finds_the_last_entry(rt: HostRuntime) -> Result<(), Fail> {
-    for (bytes, key, want) in ENTRIES {
-        assert!(rt; bytes.len() <= LONGEST);
-        match read(rt.alloc(), bytes) {
-            Ok(all) => {
-                assert_eq!(rt; last(&all, 0, key), want, "{key:?} in {bytes:?}");
-            }
-            Err(_) => assert!(rt; false, "{bytes:?}"),
-        }
-    }
-    Ok(())
+fn finds_the_last_entry(rt: HostRuntime) {
+    expect_entries(&rt, rt.alloc(), &ENTRIES);
 }

@@ -7,3 +7,6 @@ pub mod settings;
 
 pub use applying::apply;
 pub use limits::zone_limits;
+
+#[cfg(test)]
+mod tests;

@@ -1,0 +1,18 @@
+-- Words of the laws about tokens and objects.
+use Rattle.std.specs.Prelude.{◌≡◌, ℕ, List, [], ◌++◌, map, Result, Ok, Err, ◌+◌}
+use Rattle.ps_tokens.specs.declared.faults.JobFault.{JobFault}
+use Rattle.ps_tokens.specs.declared.token.Token.{Token}
+use Rattle.ps_tokens.specs.Brackets.{brackets_after}
+
+-- a token that stands so many bytes further on
+abbrev pub moved : ℕ → Token → Token
+moved n token = record { at = n + token.at; len = token.len; kind = token.kind }
+
+-- tokens, or a fault, that stand so many bytes further on
+abbrev pub all_moved : ℕ → Result (List Token) JobFault → Result (List Token) JobFault
+all_moved n (Ok tokens) = Ok (map (moved n) tokens)
+all_moved n (Err fault) = Err (record { kind = fault.kind; at = n + fault.at })
+
+-- some further tokens leave no bracket open
+abbrev pub CanBeCompleted : List ℕ → List Token → Type 0
+CanBeCompleted bytes tokens = (more : List Token) × (brackets_after bytes (tokens ++ more) ≡ Ok [])
