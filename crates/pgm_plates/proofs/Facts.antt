@@ -14,7 +14,7 @@ use Rattle.pgm_plates.specs.Plates.{IsPlate, IsPlateFile, sample_bytes, sample_s
 use Rattle.pgm_plates.specs.Planes.{plane_of, plate_of}
 use Rattle.pgm_plates.specs.Faults.{Decides, FaultAt, IsFault, HoldsNoHeader}
 use Rattle.pgm_plates.specs.Reading.{IsTruncated}
-use Rattle.pgm_plates.specs.Laws.{PlateOrFault, NotBoth, OnePlate, OneFault, NoFront, FaultStays, SpelledReads, TurnsBack}
+use Rattle.pgm_plates.specs.Laws.{PlateOrFault, NotBoth, OnePlate, OneFault, NoFront, FaultStays, SpelledReads, TurnsBack, FilePlate, FileFault}
 use Rattle.pgm_plates.specs.Scanning.{IsClean}
 use Rattle.pgm_plates.proofs.Shapes.{one_header}
 use Rattle.pgm_plates.proofs.Moments.{stands_now, late, only_truncated}
@@ -148,3 +148,27 @@ no_early bytes plate m (TrailingBytes at) file stands cut = cut
 
 pub not_both : NotBoth
 not_both bytes plate fault file is = no_early bytes plate is.moment fault file is.stands (only_truncated bytes (plate_clean bytes plate file) fault is)
+
+cut_or_not : (fault : PlateFault) → IsTruncated fault ⊎ (IsTruncated fault → ⊥)
+cut_or_not (Truncated at) = inl tt
+cut_or_not (BadMagic at) = inr (λ cut. cut)
+cut_or_not (BadHeader at) = inr (λ cut. cut)
+cut_or_not (SideRange at) = inr (λ cut. cut)
+cut_or_not (TooManySamples at) = inr (λ cut. cut)
+cut_or_not (MaxvalRange at) = inr (λ cut. cut)
+cut_or_not (SampleAboveMaxval at) = inr (λ cut. cut)
+cut_or_not (TrailingBytes at) = inr (λ cut. cut)
+
+all_taken : (file : Option (List ℕ)) (bytes left : List ℕ) → file ≡ Some (bytes ++ left) → left ≡ [] → file ≡ Some bytes
+all_taken file bytes left is none = is ∙ ap (λ (x : List ℕ). Some (bytes ++ x)) none ∙ ap (λ (x : List ℕ). Some x) (append-nil bytes)
+
+pub file_plate : FilePlate
+file_plate name before after plate reads tells =
+    (reads.bytes, all_taken (before.file name) reads.bytes after.left (reads.taken reads.answer.0 tells) (reads.answer.2 tells), reads.answer.1)
+
+pub file_fault : FileFault
+file_fault name before after fault reads tells =
+    elim (cut_or_not fault) [
+      | inl cut ↦ (reads.bytes, all_taken (before.file name) reads.bytes after.left (reads.taken reads.answer.0 tells) (reads.answer.2 cut tells), reads.answer.1)
+      | inr whole ↦ (reads.bytes ++ after.left, reads.taken reads.answer.0 tells, fault_stays reads.bytes after.left fault whole reads.answer.1)
+    ]
