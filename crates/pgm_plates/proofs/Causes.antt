@@ -1,26 +1,25 @@
 -- Of bytes the last byte decides one fault at most.
-use Rattle.std.proofs.Common.{◌≡◌, ◌⊎◌, ℕ, zero, suc, ◌<◌, ◌≤◌, ◌+◌, ◌-◌, ◌*◌, Bool, true, false, cond, ltb, not, List, [], ◌∷◌, ◌++◌, length, take, drop, Option, Some, None, IsTrue, refl, sym, ap, ◌∙◌, subst, inl, inr, arith}
+use Rattle.std.proofs.Common.{◌≡◌, ℕ, ◌<◌, ◌≤◌, ◌+◌, ◌*◌, Bool, true, false, cond, ltb, List, [], ◌∷◌, ◌++◌, length, Some, refl, sym, ap, ◌∙◌, subst, inl, inr, arith}
 use Rattle.std.proofs.lemmas.Bool.{cond-true, cond-false, lt-ltb, le-ltb}
 use Rattle.std.proofs.lemmas.Bool.Decides.{nat_tests}
-use Rattle.std.proofs.lemmas.List.{append_assoc, append-nil, same_from_push, length-append, length_push}
+use Rattle.std.proofs.lemmas.List.{append_assoc, same_from_push, length-append, length_push}
 use Rattle.std.proofs.Math.Nat.{add-mul, mul-le-mul_right}
 use Rattle.std.specs.List.{list_all}
-use Rattle.pgm_plates.specs.declared.stand.Stand.{Stand}
-use Rattle.pgm_plates.specs.declared.stand.Stand.TheVariants.{Start, Digits}
+use Rattle.pgm_plates.specs.declared.stand.Stand.TheVariants.{Digits}
 use Rattle.pgm_plates.specs.declared.plate.PlateFault.{PlateFault}
 use Rattle.pgm_plates.specs.declared.plate.PlateFault.TheVariants.{BadMagic, BadHeader, SideRange, TooManySamples, MaxvalRange, SampleAboveMaxval, Truncated, TrailingBytes}
-use Rattle.pgm_plates.specs.Header.{is_digit, is_space, is_line_end, IsItem, IsGap, IsHeader, IsBegun}
+use Rattle.pgm_plates.specs.Header.{is_digit, is_line_end, IsItem, IsGap, IsHeader, IsBegun}
 use Rattle.pgm_plates.specs.Header.IsItem.{space, comment}
 use Rattle.pgm_plates.specs.Header.IsGap.{one, more}
 use Rattle.pgm_plates.specs.Plates.{IsSide, sample_bytes, sample_size, raster}
 use Rattle.pgm_plates.specs.Faults.{Decides, Breaks, NumberFault, EndsNumber, EndsAboveMaxval, EndsBehindRaster, EndsTooLong, HoldsNoHeader}
-use Rattle.pgm_plates.specs.Runs.{Reached, run}
+use Rattle.pgm_plates.specs.Runs.{Reached}
 use Rattle.pgm_plates.proofs.HeaderSound.{and_true}
 use Rattle.pgm_plates.proofs.HeaderRun.{reached, space_other}
 use Rattle.pgm_plates.proofs.Shapes.{one_header, begun_stops, holds_header}
 use Rattle.pgm_plates.proofs.Numbers.{Ends, ends_run, fault_ends}
 use Rattle.pgm_plates.proofs.Scans.{some_bytes}
-use Rattle.pgm_plates.proofs.Decisions.{bytes_size, raster_size, some_size, unpush, no_break}
+use Rattle.pgm_plates.proofs.Decisions.{bytes_size, raster_size, no_break}
 
 -- what the last byte does
 data Cause (bytes : List ℕ) (fault : PlateFault) : Type 0 where

@@ -1,22 +1,19 @@
 -- Samples and their bytes: which bytes decide a fault of the raster.
-use Rattle.std.proofs.Common.{◌≡◌, ◌⊎◌, ℕ, zero, suc, ◌<◌, ◌≤◌, ◌+◌, ◌-◌, ◌*◌, ◌/◌, ◌%◌, Bool, true, false, cond, ltb, List, [], ◌∷◌, ◌++◌, length, take, drop, refl, sym, ap, ◌∙◌, subst, inl, inr, arith}
-use Rattle.std.proofs.lemmas.Grind.{common_steps, flat_map-append}
-use Rattle.std.proofs.lemmas.Bool.{cases_lt, cases_Bool}
-use Rattle.std.proofs.lemmas.Bool.Decides.{nat_tests}
-use Rattle.std.proofs.lemmas.List.{append_assoc, append-nil, take-append-drop, take-append-le, take_all, same_from_push, length-append, length_push, length-take-le}
+use Rattle.std.proofs.Common.{◌≡◌, ℕ, suc, ◌<◌, ◌≤◌, ◌+◌, ◌-◌, ◌*◌, ◌/◌, ◌%◌, true, false, cond, ltb, List, [], ◌∷◌, ◌++◌, length, take, drop, refl, sym, ap, ◌∙◌, subst, inl, inr, arith}
+use Rattle.std.proofs.lemmas.Grind.{flat_map-append}
+use Rattle.std.proofs.lemmas.Bool.{cases_lt}
+use Rattle.std.proofs.lemmas.List.{append_assoc, take-append-drop, take-append-le, same_from_push, length-append, length_push, length-take-le}
 use Rattle.std.proofs.lemmas.List.Elements.{All-head, All-tail}
 use Rattle.std.proofs.Math.Nat.{add-mul, mul-le-mul_right, le-mul_of_pos_right}
-use Rattle.std.proofs.Math.Seq.{take-length, take-append-add, take-append_seam}
-use Rattle.pgm_plates.specs.declared.plate.Plate.{Plate}
+use Rattle.std.proofs.Math.Seq.{take-append-add}
 use Rattle.pgm_plates.specs.declared.plate.PlateFault.{PlateFault}
 use Rattle.pgm_plates.specs.declared.plate.PlateFault.TheVariants.{BadMagic, BadHeader, SideRange, TooManySamples, MaxvalRange, SampleAboveMaxval, Truncated, TrailingBytes}
-use Rattle.pgm_plates.specs.Header.{IsHeader, IsBegun}
-use Rattle.pgm_plates.specs.Plates.{sample_bytes, sample_size, raster, IsPlateFile}
-use Rattle.pgm_plates.specs.Faults.{Decides, NumberFault, HoldsNoHeader, Breaks}
+use Rattle.pgm_plates.specs.Header.{IsHeader}
+use Rattle.pgm_plates.specs.Plates.{sample_bytes, sample_size, raster}
+use Rattle.pgm_plates.specs.Faults.{Decides, HoldsNoHeader, Breaks}
 use Rattle.pgm_plates.specs.Scanning.{IsClean}
 use Rattle.pgm_plates.specs.Readers.{Fit}
 use Rattle.pgm_plates.proofs.Shapes.{one_header, begun_stops, holds_header}
-use Rattle.pgm_plates.proofs.Moments.{clean_more, clean_all, clean_push}
 use Rattle.pgm_plates.proofs.Numbers.{Ends, fault_ends}
 
 pub bytes_size : (maxval sample : ℕ) → length (sample_bytes maxval sample) ≡ sample_size maxval

@@ -1,24 +1,20 @@
 -- What holds of plate files and of faults, whoever reads them.
-use Rattle.std.proofs.Common.{◌≡◌, ◌⊎◌, ℕ, ◌<◌, ◌≤◌, ◌+◌, ◌-◌, ◌*◌, ◌/◌, ◌%◌, Bool, true, false, cond, ltb, List, [], ◌∷◌, ◌++◌, length, map, take, drop, Option, Some, None, IsTrue, refl, sym, ap, ◌∙◌, subst, inl, inr, arith}
+use Rattle.std.proofs.Common.{◌≡◌, ◌⊎◌, ℕ, ◌≤◌, ◌+◌, ◌-◌, ◌*◌, List, [], ◌∷◌, ◌++◌, length, map, take, Option, Some, refl, sym, ap, ◌∙◌, subst, inl, inr, arith}
 use Rattle.std.proofs.lemmas.Bool.{cases_lt}
-use Rattle.std.proofs.lemmas.List.{append_assoc, append-nil, take-append-drop, take-append-le, take_all, same_from_push, length-append, length_push, length-take-le, append_cancel_left}
+use Rattle.std.proofs.lemmas.List.{append_assoc, append-nil, take-append-le, length-append}
 use Rattle.std.proofs.lemmas.List.Elements.{All-head, All-tail}
 use Rattle.std.specs.List.{All}
-use Rattle.pgm_plates.specs.declared.stand.Stand.{Stand}
-use Rattle.pgm_plates.specs.declared.stand.Stand.TheVariants.{Start, Letter, Magic, Gap, Comment, Digits, Ended}
 use Rattle.pgm_plates.specs.declared.plate.Plate.{Plate}
 use Rattle.pgm_plates.specs.declared.plate.PlateFault.{PlateFault}
 use Rattle.pgm_plates.specs.declared.plate.PlateFault.TheVariants.{BadMagic, BadHeader, SideRange, TooManySamples, MaxvalRange, SampleAboveMaxval, Truncated, TrailingBytes}
-use Rattle.pgm_plates.specs.Header.{IsHeader, IsBegun, IsShape}
-use Rattle.pgm_plates.specs.Plates.{IsPlate, IsPlateFile, sample_bytes, sample_size, raster}
-use Rattle.pgm_plates.specs.Planes.{plane_of, plate_of}
-use Rattle.pgm_plates.specs.Faults.{Decides, FaultAt, IsFault, HoldsNoHeader}
+use Rattle.pgm_plates.specs.Plates.{IsPlate, IsPlateFile, sample_size, raster}
+use Rattle.pgm_plates.specs.Faults.{Decides, FaultAt}
 use Rattle.pgm_plates.specs.Reading.{IsTruncated}
-use Rattle.pgm_plates.specs.Laws.{PlateOrFault, NotBoth, OnePlate, OneFault, NoFront, FaultStays, SpelledReads, TurnsBack}
+use Rattle.pgm_plates.specs.Laws.{NotBoth, OnePlate, OneFault, NoFront, FaultStays, TurnsBack, FilePlate, FileFault}
 use Rattle.pgm_plates.specs.Scanning.{IsClean}
 use Rattle.pgm_plates.proofs.Shapes.{one_header}
-use Rattle.pgm_plates.proofs.Moments.{stands_now, late, only_truncated}
-use Rattle.pgm_plates.proofs.Decisions.{one_sample, some_size, raster_size, clean_raster, Rastered}
+use Rattle.pgm_plates.proofs.Moments.{stands_now, only_truncated}
+use Rattle.pgm_plates.proofs.Decisions.{one_sample, some_size, raster_size, clean_raster}
 use Rattle.pgm_plates.proofs.Prefixes.{clean_header}
 use Rattle.pgm_plates.proofs.Causes.{one_decided}
 
@@ -148,3 +144,27 @@ no_early bytes plate m (TrailingBytes at) file stands cut = cut
 
 pub not_both : NotBoth
 not_both bytes plate fault file is = no_early bytes plate is.moment fault file is.stands (only_truncated bytes (plate_clean bytes plate file) fault is)
+
+cut_or_not : (fault : PlateFault) → IsTruncated fault ⊎ (IsTruncated fault → ⊥)
+cut_or_not (Truncated at) = inl tt
+cut_or_not (BadMagic at) = inr (λ cut. cut)
+cut_or_not (BadHeader at) = inr (λ cut. cut)
+cut_or_not (SideRange at) = inr (λ cut. cut)
+cut_or_not (TooManySamples at) = inr (λ cut. cut)
+cut_or_not (MaxvalRange at) = inr (λ cut. cut)
+cut_or_not (SampleAboveMaxval at) = inr (λ cut. cut)
+cut_or_not (TrailingBytes at) = inr (λ cut. cut)
+
+all_taken : (file : Option (List ℕ)) (bytes left : List ℕ) → file ≡ Some (bytes ++ left) → left ≡ [] → file ≡ Some bytes
+all_taken file bytes left is none = is ∙ ap (λ (x : List ℕ). Some (bytes ++ x)) none ∙ ap (λ (x : List ℕ). Some x) (append-nil bytes)
+
+pub file_plate : FilePlate
+file_plate name before after plate reads tells =
+    (reads.bytes, all_taken (before.file name) reads.bytes after.left (reads.taken reads.answer.0 tells) (reads.answer.2 tells), reads.answer.1)
+
+pub file_fault : FileFault
+file_fault name before after fault reads tells =
+    elim (cut_or_not fault) [
+      | inl cut ↦ (reads.bytes, all_taken (before.file name) reads.bytes after.left (reads.taken reads.answer.0 tells) (reads.answer.2 cut tells), reads.answer.1)
+      | inr whole ↦ (reads.bytes ++ after.left, reads.taken reads.answer.0 tells, fault_stays reads.bytes after.left fault whole reads.answer.1)
+    ]

@@ -1,11 +1,10 @@
 -- How the reader of a header comes on, and what it answers.
-use Rattle.std.proofs.Common.{◌≡◌, ◌≢◌, ◌⊎◌, ℕ, ◌<◌, ◌≤◌, ◌+◌, ◌-◌, ◌*◌, ◌^◌, min, Bool, true, false, List, [], ◌∷◌, ◌++◌, length, take, drop, get_or, Option, Some, None, Result, Ok, Err, IsTrue, refl, sym, ap, ◌∙◌, subst, inl, inr, arith}
-use Rattle.std.proofs.lemmas.Grind.{common_steps}
+use Rattle.std.proofs.Common.{◌≡◌, ◌≢◌, ℕ, ◌<◌, ◌≤◌, ◌+◌, ◌*◌, List, [], ◌∷◌, ◌++◌, length, take, get_or, Option, Some, None, Ok, Err, IsTrue, refl, sym, ap, ◌∙◌, subst, inl, inr, arith}
 use Rattle.std.proofs.lemmas.Bool.{cases_lt}
-use Rattle.std.proofs.lemmas.List.{append_assoc, append-nil, take-append-le, take_all, length-append, length_push}
+use Rattle.std.proofs.lemmas.List.{append-nil, take-append-le, take_all, length-append, length_push}
 use Rattle.outside.specs.declared.tray.Failed.{Failed}
 use Rattle.outside.specs.Causes.{Rose}
-use Rattle.outside.specs.Tray.{TrayState, KeepsTray, Reads}
+use Rattle.outside.specs.Tray.{TrayState, Reads}
 use Rattle.outside.specs.Reading.{Takes}
 use Rattle.outside.proofs.Steps.{takes_then, takes_as, takes_read, rose_before}
 use Rattle.pgm_plates.specs.declared.stand.Stand.{Stand}
@@ -17,12 +16,11 @@ use Rattle.pgm_plates.specs.declared.header.Header.{Header}
 use Rattle.pgm_plates.specs.declared.plate.Plate.{Plate}
 use Rattle.pgm_plates.specs.declared.plate.PlateFault.{PlateFault}
 use Rattle.pgm_plates.specs.declared.plate.PlateFault.TheVariants.{BadMagic, BadHeader, SideRange, TooManySamples, MaxvalRange, SampleAboveMaxval, Truncated, TrailingBytes}
-use Rattle.pgm_plates.specs.declared.plate.PlateRefusal.{PlateRefusal}
-use Rattle.pgm_plates.specs.declared.plate.PlateRefusal.TheVariants.{Fault, ReadFault, OutOfMemory}
-use Rattle.pgm_plates.specs.Header.{IsHeader, IsShape, IsBegun}
+use Rattle.pgm_plates.specs.declared.plate.PlateRefusal.TheVariants.{Fault, ReadFault}
+use Rattle.pgm_plates.specs.Header.{IsHeader, IsShape}
 use Rattle.pgm_plates.specs.Plates.{IsSide, IsPlateFile, raster}
-use Rattle.pgm_plates.specs.Faults.{Decides, NumberFault, HoldsNoHeader, IsFault}
-use Rattle.pgm_plates.specs.Reading.{AreFew, AnswersPlate, AtEnd, IsTruncated}
+use Rattle.pgm_plates.specs.Faults.{Decides, HoldsNoHeader, IsFault}
+use Rattle.pgm_plates.specs.Reading.{AreFew, AtEnd, IsTruncated}
 use Rattle.pgm_plates.specs.Runs.{Reached, run}
 use Rattle.pgm_plates.specs.Scanning.{Scanned, Fits, InRange, header_of, scan_step, IsClean}
 use Rattle.pgm_plates.specs.Readers.{Answers, HeaderRead}
@@ -30,7 +28,7 @@ use Rattle.pgm_plates.proofs.HeaderSound.{no_step}
 use Rattle.pgm_plates.proofs.HeaderRun.{reached, runs_begun, unended, header_run, ended_header}
 use Rattle.pgm_plates.proofs.Shapes.{holds_header}
 use Rattle.pgm_plates.proofs.Moments.{clean_none, clean_push, decided, truncated, only_truncated}
-use Rattle.pgm_plates.proofs.Numbers.{Ends, fault_ends}
+use Rattle.pgm_plates.proofs.Numbers.{Ends}
 use Rattle.pgm_plates.proofs.Scans.{still_clean, scan_more, scan_faults, not_numbered}
 
 -- So many bytes were taken, and this is their scan, which has not ended.

@@ -1,5 +1,5 @@
 -- Bytes are a plate file or have a fault.
-use Rattle.std.proofs.Common.{◌≡◌, ◌⊎◌, ℕ, zero, suc, ◌<◌, ◌≤◌, ◌+◌, ◌-◌, ◌*◌, ◌/◌, ◌%◌, Bool, true, false, cond, ltb, List, [], ◌∷◌, ◌++◌, length, Option, Some, None, Result, Ok, Err, refl, sym, ap, ◌∙◌, subst, inl, inr, arith}
+use Rattle.std.proofs.Common.{◌≡◌, ◌⊎◌, ℕ, ◌<◌, ◌≤◌, ◌+◌, ◌*◌, ◌/◌, ◌%◌, ltb, List, [], ◌∷◌, ◌++◌, length, Option, Some, None, Result, Ok, Err, refl, sym, ap, ◌∙◌, subst, inl, inr, arith}
 use Rattle.std.proofs.lemmas.Bool.{cases_lt, cond-true, cond-false, lt-ltb, le-ltb}
 use Rattle.std.proofs.lemmas.List.{append_assoc, append-nil, length-append, length_push}
 use Rattle.std.proofs.lemmas.List.Elements.{All-head, All-tail, All-push}
@@ -11,8 +11,7 @@ use Rattle.pgm_plates.specs.declared.header.Header.{Header}
 use Rattle.pgm_plates.specs.declared.plate.Plate.{Plate}
 use Rattle.pgm_plates.specs.declared.plate.PlateFault.{PlateFault}
 use Rattle.pgm_plates.specs.declared.plate.PlateFault.TheVariants.{BadHeader, SampleAboveMaxval, Truncated, TrailingBytes}
-use Rattle.pgm_plates.specs.Header.{IsHeader}
-use Rattle.pgm_plates.specs.Plates.{IsPlate, IsPlateFile, sample_bytes, sample_size, raster}
+use Rattle.pgm_plates.specs.Plates.{IsPlateFile, sample_bytes, sample_size, raster}
 use Rattle.pgm_plates.specs.Faults.{Decides, IsFault}
 use Rattle.pgm_plates.specs.Laws.{PlateOrFault}
 use Rattle.pgm_plates.specs.Scanning.{Scanned, scan_step, header_of, IsClean}
@@ -21,7 +20,7 @@ use Rattle.pgm_plates.proofs.HeaderRun.{runs_begun, unended}
 use Rattle.pgm_plates.proofs.Moments.{clean_push, decided, truncated}
 use Rattle.pgm_plates.proofs.Scans.{still_clean, scan_more, scan_faults}
 use Rattle.pgm_plates.proofs.Headers.{WholeHeader, whole_header, header_going, scanned_none, fresh, no_plate}
-use Rattle.pgm_plates.proofs.Decisions.{Rastered, some_size, raster_size, raster_both, clean_raster}
+use Rattle.pgm_plates.proofs.Decisions.{some_size, raster_size, raster_both, clean_raster}
 use Rattle.pgm_plates.proofs.Wholes.{not_whole, rastered_all, clean_sample}
 
 abbrev pub Judged : List ℕ → Type 0

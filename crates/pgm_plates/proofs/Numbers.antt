@@ -1,25 +1,19 @@
 -- The numbers of a header, and where they end.
-use Rattle.std.proofs.Common.{◌≡◌, ◌⊎◌, ℕ, zero, suc, ◌<◌, ◌≤◌, ◌+◌, ◌-◌, ◌*◌, min, Bool, true, false, cond, ltb, leb, not, ◌&&◌, List, [], ◌∷◌, ◌++◌, length, take, drop, Option, Some, None, IsTrue, IsFalse, refl, sym, ap, ◌∙◌, subst, inl, inr, arith}
-use Rattle.std.proofs.lemmas.Grind.{common_steps}
+use Rattle.std.proofs.Common.{◌≡◌, ◌⊎◌, ℕ, zero, suc, ◌<◌, ◌≤◌, ◌*◌, min, true, false, cond, ltb, leb, ◌&&◌, List, [], ◌∷◌, ◌++◌, length, Some, None, refl, sym, ap, ◌∙◌, subst, inl, inr, arith}
 use Rattle.std.proofs.lemmas.Bool.Decides.{nat_tests}
-use Rattle.std.proofs.lemmas.Bool.{not-true, cases_lt}
-use Rattle.std.proofs.lemmas.List.{append_assoc, append-nil, same_from_push, length-append, length_push}
-use Rattle.std.specs.List.{list_all}
-use Rattle.pgm_plates.specs.declared.stand.Stand.{Stand}
-use Rattle.pgm_plates.specs.declared.stand.Stand.TheVariants.{Start, Letter, Magic, Gap, Comment, Digits, Ended}
+use Rattle.std.proofs.lemmas.List.{same_from_push}
+use Rattle.pgm_plates.specs.declared.stand.Stand.TheVariants.{Start, Digits}
 use Rattle.pgm_plates.specs.declared.header.Sides.{Sides}
 use Rattle.pgm_plates.specs.declared.header.Sides.TheVariants.{Neither, Width, Both}
 use Rattle.pgm_plates.specs.declared.plate.PlateFault.{PlateFault}
 use Rattle.pgm_plates.specs.declared.plate.PlateFault.TheVariants.{BadMagic, BadHeader, SideRange, TooManySamples, MaxvalRange, SampleAboveMaxval, Truncated, TrailingBytes}
-use Rattle.pgm_plates.specs.Header.{is_space, is_digit, is_line_end, IsItem, IsGap, IsNumber, Numbers, IsBegun}
-use Rattle.pgm_plates.specs.Header.IsItem.{space, comment}
-use Rattle.pgm_plates.specs.Header.IsGap.{one, more}
+use Rattle.pgm_plates.specs.Header.{is_digit}
 use Rattle.pgm_plates.specs.Plates.{IsSide}
 use Rattle.pgm_plates.specs.Faults.{EndsNumber, NumberFault}
-use Rattle.pgm_plates.specs.Runs.{Reached, run}
-use Rattle.pgm_plates.specs.Scanning.{past, side_test, number_fault, sides_then, InRange, AtNumber}
-use Rattle.pgm_plates.proofs.HeaderSound.{chosen, and_true}
-use Rattle.pgm_plates.proofs.HeaderRun.{reached, numbers_run, space_other}
+use Rattle.pgm_plates.specs.Runs.{run}
+use Rattle.pgm_plates.specs.Scanning.{past, side_test, number_fault, sides_then, InRange}
+use Rattle.pgm_plates.proofs.HeaderSound.{chosen}
+use Rattle.pgm_plates.proofs.HeaderRun.{reached, numbers_run}
 
 -- Before the byte that ends a number, a run is behind its digits.
 pub ends_run : (bytes : List ℕ) (b at n : ℕ) (earlier : List ℕ) → EndsNumber (bytes ++ b ∷ []) at n earlier → length earlier ≤ 2 → (run Start [] bytes ≡ Some (reached Digits (n ∷ earlier))) × (is_digit b ≡ false)

@@ -1,27 +1,22 @@
 -- A piece of a raster: its bytes, its samples, and what they say of the file.
-use Rattle.std.proofs.Common.{◌≡◌, ◌⊎◌, ℕ, zero, suc, ◌<◌, ◌≤◌, ◌+◌, ◌-◌, ◌*◌, ◌/◌, ◌%◌, max, Bool, true, false, cond, ltb, leb, List, [], ◌∷◌, ◌++◌, length, take, drop, get_or, Result, Ok, Err, IsTrue, refl, sym, ap, ◌∙◌, subst, inl, inr, arith}
-use Rattle.std.proofs.lemmas.Grind.{common_steps, flat_map-append}
+use Rattle.std.proofs.Common.{◌≡◌, ◌⊎◌, ℕ, ◌<◌, ◌≤◌, ◌+◌, ◌*◌, ◌/◌, ◌%◌, max, true, false, cond, ltb, leb, List, [], ◌∷◌, ◌++◌, length, take, drop, get_or, IsTrue, refl, sym, ap, ◌∙◌, subst, inl, inr, arith}
 use Rattle.std.proofs.lemmas.Bool.{le-ltb, cond-false}
 use Rattle.std.proofs.lemmas.Bool.Decides.{nat_tests}
-use Rattle.std.proofs.lemmas.List.{append_assoc, append-nil, take-append-drop, take-append-le, take_all, length-append, length-take-le, take_more, drop_more, length-drop}
-use Rattle.std.proofs.lemmas.List.Elements.{All-weaker, All-more, All-take, All-same, All-append}
+use Rattle.std.proofs.lemmas.List.{append_assoc, append-nil, take-append-drop, take_all, length-append, length-take-le, drop_more, length-drop}
+use Rattle.std.proofs.lemmas.List.Elements.{All-weaker, All-more, All-same, All-append}
 use Rattle.std.proofs.Math.Nat.{add-mul, mul-le-mul_right}
-use Rattle.std.proofs.Math.Seq.{take-length, take-append_seam}
 use Rattle.std.specs.List.{All, flat_map}
-use Rattle.outside.specs.Causes.{Rose}
 use Rattle.outside.specs.Tray.{TrayState}
 use Rattle.outside.specs.Reading.{Takes}
 use Rattle.outside.proofs.Steps.{takes_then, takes_as, rose_before}
-use Rattle.pgm_plates.specs.declared.plate.PlateFault.{PlateFault}
 use Rattle.pgm_plates.specs.declared.plate.PlateFault.TheVariants.{BadMagic, BadHeader, SideRange, TooManySamples, MaxvalRange, SampleAboveMaxval, Truncated, TrailingBytes}
 use Rattle.pgm_plates.specs.declared.plate.PlateRefusal.{PlateRefusal}
 use Rattle.pgm_plates.specs.declared.plate.PlateRefusal.TheVariants.{Fault, ReadFault, OutOfMemory}
 use Rattle.pgm_plates.specs.Plates.{sample_bytes, sample_size, raster}
-use Rattle.pgm_plates.specs.Reading.{AtEnd}
 use Rattle.pgm_plates.specs.Readers.{Fit, IsPart, IsAbove, RasterRefused, RasterTaken, IsDecoded, FirstAbove}
 use Rattle.pgm_plates.proofs.Rasters.{narrow_raster}
 use Rattle.pgm_plates.proofs.Headers.{takes_none, told_on}
-use Rattle.pgm_plates.proofs.Decisions.{bytes_size, some_size, raster_size, raster_both}
+use Rattle.pgm_plates.proofs.Decisions.{some_size, raster_size, raster_both}
 
 pub most_more : (xs : List ℕ) (i most r : ℕ) → i < length xs → r ≡ max most (get_or xs i 0) → All (λ (s : ℕ). s ≤ most) (take i xs) → All (λ (s : ℕ). s ≤ r) (take (i + 1) xs)
 most_more xs i most r here is all =

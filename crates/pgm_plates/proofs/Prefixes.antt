@@ -1,21 +1,20 @@
 -- A header in range has no fault at any of its fronts.
-use Rattle.std.proofs.Common.{◌≡◌, ◌⊎◌, ℕ, zero, suc, ◌<◌, ◌≤◌, ◌+◌, ◌-◌, ◌*◌, Bool, true, false, cond, ltb, List, [], ◌∷◌, ◌++◌, length, take, drop, Option, Some, None, IsTrue, refl, sym, ap, ◌∙◌, subst, inl, inr, arith}
-use Rattle.std.proofs.lemmas.Bool.{cases_lt}
-use Rattle.std.proofs.lemmas.List.{append_assoc, append-nil, take-append-drop, take_all, same_from_push, length-append, length_push, length-take}
+use Rattle.std.proofs.Common.{◌≡◌, ◌⊎◌, ℕ, ◌<◌, ◌≤◌, ◌+◌, ◌*◌, true, false, List, [], ◌∷◌, ◌++◌, length, take, drop, Option, Some, None, refl, sym, ap, ◌∙◌, subst, inl, inr, arith}
+use Rattle.std.proofs.lemmas.List.{append_assoc, append-nil, take-append-drop, length-append}
 use Rattle.std.specs.Option.{option_and_then}
 use Rattle.pgm_plates.specs.declared.stand.Stand.{Stand}
 use Rattle.pgm_plates.specs.declared.stand.Stand.TheVariants.{Start, Letter, Magic, Gap, Comment, Digits, Ended}
 use Rattle.pgm_plates.specs.declared.plate.PlateFault.{PlateFault}
 use Rattle.pgm_plates.specs.declared.plate.PlateFault.TheVariants.{BadMagic, BadHeader, SideRange, TooManySamples, MaxvalRange, SampleAboveMaxval, Truncated, TrailingBytes}
-use Rattle.pgm_plates.specs.Header.{is_digit, IsHeader, IsBegun, IsShape}
-use Rattle.pgm_plates.specs.Plates.{IsSide, sample_bytes, sample_size, raster}
+use Rattle.pgm_plates.specs.Header.{is_digit, IsHeader}
+use Rattle.pgm_plates.specs.Plates.{IsSide, sample_bytes, raster}
 use Rattle.pgm_plates.specs.Faults.{Decides, NumberFault, EndsNumber, HoldsNoHeader}
 use Rattle.pgm_plates.specs.Steps.{step}
 use Rattle.pgm_plates.specs.Standing.{numbers_then}
 use Rattle.pgm_plates.specs.Runs.{Reached, run}
 use Rattle.pgm_plates.specs.Scanning.{IsClean}
 use Rattle.pgm_plates.proofs.HeaderSound.{no_step}
-use Rattle.pgm_plates.proofs.HeaderRun.{reached, run_then, header_run, begun_runs}
+use Rattle.pgm_plates.proofs.HeaderRun.{reached, run_then, header_run}
 use Rattle.pgm_plates.proofs.Shapes.{one_header, holds_header}
 use Rattle.pgm_plates.proofs.Numbers.{Ends, ends_run, fault_ends}
 use Rattle.pgm_plates.proofs.Scans.{some_bytes, Lands, lands}

@@ -1,8 +1,7 @@
 -- The scan of a header takes one byte more.
-use Rattle.std.proofs.Common.{◌≡◌, ◌⊎◌, ℕ, zero, suc, ◌<◌, ◌≤◌, ◌+◌, ◌-◌, ◌*◌, ◌/◌, ◌%◌, min, Bool, true, false, cond, ltb, leb, eqb, List, [], ◌∷◌, ◌++◌, length, take, drop, Option, Some, None, Result, Ok, Err, IsTrue, IsFalse, refl, sym, ap, ◌∙◌, subst, inl, inr, arith}
-use Rattle.std.proofs.lemmas.Grind.{common_steps}
+use Rattle.std.proofs.Common.{◌≡◌, ◌⊎◌, ℕ, ◌<◌, ◌≤◌, ◌+◌, ◌-◌, ◌*◌, ◌/◌, ◌%◌, min, true, false, cond, ltb, eqb, List, [], ◌∷◌, ◌++◌, length, Option, Some, None, Result, Ok, Err, refl, sym, ap, ◌∙◌, subst, inl, inr, arith}
 use Rattle.std.proofs.lemmas.Bool.Decides.{nat_tests}
-use Rattle.std.proofs.lemmas.List.{append_assoc, append-nil, same_from_push, length-append, length_push}
+use Rattle.std.proofs.lemmas.List.{append_assoc, append-nil, length-append}
 use Rattle.pgm_plates.specs.declared.stand.Stand.{Stand}
 use Rattle.pgm_plates.specs.declared.stand.Stand.TheVariants.{Start, Letter, Magic, Gap, Comment, Digits, Ended}
 use Rattle.pgm_plates.specs.declared.header.Sides.{Sides}
@@ -10,14 +9,14 @@ use Rattle.pgm_plates.specs.declared.header.Sides.TheVariants.{Neither, Width, B
 use Rattle.pgm_plates.specs.declared.header.Scan.{Scan}
 use Rattle.pgm_plates.specs.declared.plate.PlateFault.{PlateFault}
 use Rattle.pgm_plates.specs.declared.plate.PlateFault.TheVariants.{BadMagic, BadHeader, SideRange, TooManySamples, MaxvalRange, SampleAboveMaxval, Truncated, TrailingBytes}
-use Rattle.pgm_plates.specs.Header.{is_space, is_digit, is_line_end, IsGap, IsNumber, Numbers, IsHeader, IsBegun}
+use Rattle.pgm_plates.specs.Header.{is_space, is_digit, is_line_end, Numbers, IsBegun}
 use Rattle.pgm_plates.specs.Plates.{sample_bytes, raster}
-use Rattle.pgm_plates.specs.Faults.{EndsNumber, NumberFault, Decides, Breaks, HoldsNoHeader}
+use Rattle.pgm_plates.specs.Faults.{NumberFault, Decides, Breaks, HoldsNoHeader}
 use Rattle.pgm_plates.specs.Steps.{step, gap_step}
 use Rattle.pgm_plates.specs.Standing.{Standing, numbers_then}
 use Rattle.pgm_plates.specs.Runs.{Reached, run}
-use Rattle.pgm_plates.specs.Scanning.{past, number_fault, sides_then, header_fault, digit_more, judged, entered, stepped, scan_step, AtNumber, Fits, InRange, IsClean, Scanned}
-use Rattle.pgm_plates.proofs.HeaderSound.{chosen, no_step, kept_at_gap, kept_at_comment, one_digit, digit_more as number_more}
+use Rattle.pgm_plates.specs.Scanning.{past, number_fault, sides_then, header_fault, digit_more, judged, entered, stepped, scan_step, Fits, InRange, IsClean, Scanned}
+use Rattle.pgm_plates.proofs.HeaderSound.{chosen, no_step, one_digit, digit_more as number_more}
 use Rattle.pgm_plates.proofs.HeaderRun.{reached, run_sound, run_more, runs_begun, unended, breaks, ended_header}
 use Rattle.pgm_plates.proofs.Shapes.{begun_stops, holds_header}
 use Rattle.pgm_plates.proofs.Moments.{clean_all, clean_push}

@@ -1,6 +1,5 @@
 -- The canonical spelling of a plate is a plate file of it.
-use Rattle.std.proofs.Common.{◌≡◌, ℕ, zero, suc, ◌<◌, ◌≤◌, ◌+◌, ◌-◌, ◌*◌, ◌^◌, Bool, true, false, ◌&&◌, List, [], ◌∷◌, ◌++◌, length, map, refl, sym, ap, ◌∙◌, subst, inl, inr, arith}
-use Rattle.std.proofs.lemmas.Grind.{common_steps}
+use Rattle.std.proofs.Common.{◌≡◌, ℕ, ◌<◌, ◌≤◌, ◌+◌, ◌-◌, ◌^◌, true, List, [], ◌∷◌, ◌++◌, length, map, refl, sym, ap, ◌∙◌, arith}
 use Rattle.std.proofs.lemmas.Bool.{and_from}
 use Rattle.std.proofs.lemmas.Bool.Decides.{nat_tests}
 use Rattle.std.proofs.lemmas.List.{append_assoc, length-append, length_push}
@@ -9,11 +8,10 @@ use Rattle.std.proofs.lemmas.Int.Digits.{number_digits_of, all_below_base_digits
 use Rattle.std.specs.Fmt.{decimal}
 use Rattle.std.specs.List.{list_all}
 use Rattle.std.specs.Int.Digits.{AllBelowBase, digits_of, number_from_digits}
-use Rattle.pgm_plates.specs.declared.plate.Plate.{Plate}
 use Rattle.pgm_plates.specs.Header.{is_digit, is_space, IsGap, IsNumber, Numbers, IsHeader}
 use Rattle.pgm_plates.specs.Header.IsItem.{space}
 use Rattle.pgm_plates.specs.Header.IsGap.{one}
-use Rattle.pgm_plates.specs.Plates.{IsPlate, IsPlateFile, spelled, spelled_header, raster}
+use Rattle.pgm_plates.specs.Plates.{spelled_header}
 use Rattle.pgm_plates.specs.Laws.{SpelledReads}
 
 digits_back : (ds : List ℕ) → map (λ (b : ℕ). b - 48) (map (λ (d : ℕ). 48 + d) ds) ≡ ds

@@ -1,32 +1,31 @@
 -- The whole reader: what the parts come to.
-use Rattle.std.proofs.Common.{◌≡◌, ◌⊎◌, ℕ, ◌<◌, ◌≤◌, ◌+◌, ◌-◌, ◌*◌, ◌/◌, ◌%◌, Bool, true, false, cond, ltb, List, [], ◌∷◌, ◌++◌, length, take, drop, Option, Some, None, Result, Ok, Err, IsTrue, refl, sym, ap, ◌∙◌, subst, inl, inr, arith}
+use Rattle.std.proofs.Common.{◌≡◌, ℕ, ◌<◌, ◌≤◌, ◌+◌, ◌*◌, ◌/◌, ◌%◌, true, false, cond, ltb, List, [], ◌∷◌, ◌++◌, length, Some, Result, Ok, Err, refl, sym, ap, ◌∙◌, subst, inl, inr, arith}
 use Rattle.std.proofs.lemmas.List.{append_assoc, append-nil, length-append, length_push}
 use Rattle.std.proofs.Math.Nat.{mul-le-mul_right}
 use Rattle.std.proofs.Math.Seq.{take-append_seam}
 use Rattle.outside.specs.declared.tray.Failed.{Failed}
-use Rattle.outside.specs.Causes.{Rose, Asks}
+use Rattle.outside.specs.Causes.{Asks}
 use Rattle.outside.specs.Tray.{TrayState, KeepsTray, Begins}
 use Rattle.outside.specs.Reading.{Takes}
-use Rattle.outside.proofs.Steps.{takes_then, takes_as, rose_before}
+use Rattle.outside.proofs.Steps.{takes_then, rose_before}
 use Rattle.pgm_plates.specs.declared.stand.Stand.TheVariants.{Start, Ended}
 use Rattle.pgm_plates.specs.declared.plate.Plate.{Plate}
-use Rattle.pgm_plates.specs.declared.plate.PlateFault.{PlateFault}
 use Rattle.pgm_plates.specs.declared.plate.PlateFault.TheVariants.{BadMagic, BadHeader, SideRange, TooManySamples, MaxvalRange, SampleAboveMaxval, Truncated, TrailingBytes}
 use Rattle.pgm_plates.specs.declared.plate.PlateRefusal.{PlateRefusal}
 use Rattle.pgm_plates.specs.declared.plate.PlateRefusal.TheVariants.{Fault, ReadFault, OutOfMemory}
 use Rattle.pgm_plates.specs.declared.header.Header.{Header}
 use Rattle.pgm_plates.specs.Header.{IsHeader}
-use Rattle.pgm_plates.specs.Plates.{IsPlate, IsPlateFile, IsSide, sample_bytes, sample_size, raster}
+use Rattle.pgm_plates.specs.Plates.{IsPlateFile, sample_bytes, sample_size, raster}
 use Rattle.pgm_plates.specs.Faults.{Decides, IsFault, HoldsNoHeader}
-use Rattle.pgm_plates.specs.Reading.{AreFew, AnswersPlate, AtEnd, IsTruncated, ReadsPlate}
+use Rattle.pgm_plates.specs.Reading.{AreFew, AnswersPlate, AtEnd, ReadsPlate}
 use Rattle.pgm_plates.specs.Scanning.{IsClean}
-use Rattle.pgm_plates.specs.Readers.{Answers, HeaderRead, Fit, IsPart, IsAbove, RasterRefused, RasterTaken, EndsFile}
+use Rattle.pgm_plates.specs.Readers.{Answers, HeaderRead, Fit, IsPart, RasterRefused, RasterTaken, EndsFile}
 use Rattle.pgm_plates.proofs.Shapes.{one_header}
 use Rattle.pgm_plates.proofs.Moments.{clean_none, clean_all, clean_push, decided, truncated, only_truncated}
 use Rattle.pgm_plates.proofs.Headers.{takes_nil, told_on, scanned_none, fresh}
 use Rattle.pgm_plates.proofs.HeaderRun.{unended}
 use Rattle.pgm_plates.proofs.Scans.{quiet}
-use Rattle.pgm_plates.proofs.Decisions.{Rastered, some_size, bytes_size, raster_size, clean_raster}
+use Rattle.pgm_plates.proofs.Decisions.{Rastered, some_size, raster_size, clean_raster}
 
 -- a header and no more behind it than its raster and a byte
 few_behind : (header back : List ℕ) (w h m : ℕ) → IsHeader header w h m → length back ≤ w * h * sample_size m + 1 → AreFew (header ++ back)

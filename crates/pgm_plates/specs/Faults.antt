@@ -68,7 +68,7 @@ pub record EndsBehindRaster (bytes : List ℕ) (at : ℕ) : Type 0 where
   pub whole : bytes ≡ header ++ raster maxval samples ++ last ∷ []
   pub place : length (header ++ raster maxval samples) ≡ at
 
--- The first 65,536 bytes begin a header and hold none, and no number in them is out of range.
+-- These are 65,536 bytes that begin a header and hold none, and no number that ends with them is out of range.
 pub record EndsTooLong (bytes : List ℕ) : Type 0 where
   pub long : length bytes ≡ 65536
   pub begun : IsBegun bytes

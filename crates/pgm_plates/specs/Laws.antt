@@ -1,12 +1,14 @@
 -- Laws of plate files, of their faults and of the canonical spelling.
-use Rattle.std.specs.Prelude.{◌≡◌, ◌⊎◌, ℕ, ◌<◌, List, [], ◌++◌}
+use Rattle.std.specs.Prelude.{◌≡◌, ◌⊎◌, ℕ, ◌<◌, IsTrue, List, [], ◌++◌, Some, Ok, Err}
 use Rattle.std.specs.List.{All}
+use Rattle.outside.specs.Tray.{TrayState}
 use Rattle.pgm_plates.specs.declared.plate.Plate.{Plate}
 use Rattle.pgm_plates.specs.declared.plate.PlateFault.{PlateFault}
+use Rattle.pgm_plates.specs.declared.plate.PlateRefusal.TheVariants.{Fault}
 use Rattle.pgm_plates.specs.Plates.{IsPlate, IsPlateFile, spelled}
 use Rattle.pgm_plates.specs.Planes.{plane_of, plate_of}
 use Rattle.pgm_plates.specs.Faults.{IsFault}
-use Rattle.pgm_plates.specs.Reading.{IsTruncated}
+use Rattle.pgm_plates.specs.Reading.{IsTruncated, ReadsPlate}
 
 -- Bytes are a plate file or have a fault.
 abbrev pub PlateOrFault : Type 0
@@ -39,3 +41,11 @@ SpelledReads = (plate : Plate) → IsPlate plate → IsPlateFile (spelled plate)
 -- A plate that is turned into a plane and back is as before.
 abbrev pub TurnsBack : Type 0
 TurnsBack = (plate : Plate) → IsPlate plate → plate_of (plane_of plate) ≡ plate
+
+-- A plate that is read is the one that the whole file spells, where the tray tells its bytes.
+abbrev pub FilePlate : Type 0
+FilePlate = (name : List ℕ) (before after : TrayState) (plate : Plate) → ReadsPlate name before after (Ok plate) → IsTrue before.tells → (all : List ℕ) × (before.file name ≡ Some all) × IsPlateFile all plate
+
+-- A fault that is answered is the one of the whole file, where the tray tells its bytes.
+abbrev pub FileFault : Type 0
+FileFault = (name : List ℕ) (before after : TrayState) (fault : PlateFault) → ReadsPlate name before after (Err (Fault fault)) → IsTrue before.tells → (all : List ℕ) × (before.file name ≡ Some all) × IsFault all fault

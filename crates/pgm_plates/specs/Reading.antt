@@ -11,6 +11,7 @@ use Rattle.pgm_plates.specs.Header.{IsHeader}
 use Rattle.pgm_plates.specs.Plates.{IsPlateFile, sample_size}
 use Rattle.pgm_plates.specs.Faults.{HoldsNoHeader, IsFault}
 
+-- whether a fault is an early end
 abbrev pub IsTruncated : PlateFault → Type 0
 IsTruncated (Truncated at) = Unit {0}
 IsTruncated other = ⊥

@@ -11,7 +11,7 @@ use Rattle.pgm_plates.specs.declared.plate.PlateFault.TheVariants.{BadMagic, Bad
 use Rattle.pgm_plates.specs.Header.{IsGap, IsNumber, Numbers}
 use Rattle.pgm_plates.specs.Plates.{IsSide}
 use Rattle.pgm_plates.specs.Faults.{NumberFault, Decides}
-use Rattle.pgm_plates.specs.Runs.{Reached, run}
+use Rattle.pgm_plates.specs.Runs.{run}
 use Rattle.pgm_plates.specs.Steps.{step}
 
 -- the sides that are known, from the last to the first

@@ -1,6 +1,6 @@
 //! Laws of plate files, each the contract of an empty function: a caller that calls it has the law.
 
-ghost use Rattle.pgm_plates.specs.Laws.{PlateOrFault, NotBoth, OnePlate, OneFault, NoFront, FaultStays, SpelledReads, TurnsBack};
+ghost use Rattle.pgm_plates.specs.Laws.{FilePlate, FileFault, PlateOrFault, NotBoth, OnePlate, OneFault, NoFront, FaultStays, SpelledReads, TurnsBack};
 
 /// A plate file has no fault.
 pub fn not_both()
@@ -40,4 +40,14 @@ pub fn spelled_reads()
 /// Bytes are a plate file or have a fault.
 pub fn plate_or_fault()
     ensures { PlateOrFault }
+{}
+
+/// A plate that is read is the one that the whole file spells, where the tray tells its bytes.
+pub fn file_plate()
+    ensures { FilePlate }
+{}
+
+/// A fault that is answered is the one of the whole file, where the tray tells its bytes.
+pub fn file_fault()
+    ensures { FileFault }
 {}

@@ -1,4 +1,4 @@
-use Rattle.std.proofs.Common.{◌≡◌, ◌≤◌, ◌+◌, ◌-◌, ◌++◌, take, length, rules, arith}
+use Rattle.std.proofs.Common.{◌+◌, ◌-◌, ◌++◌, take, length, rules}
 use borrow.Rule.Slice.PartMut.{put_mid}
 use Rattle.outside.proofs.Steps.{takes_then, takes_as, takes_read, filled_more}
 use Rattle.pgm_plates.proofs.raster.fill.Goals as goal

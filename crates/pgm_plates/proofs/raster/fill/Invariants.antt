@@ -1,4 +1,4 @@
-use Rattle.std.proofs.Common.{◌≡◌, ◌≤◌, ◌-◌, take, length}
+use Rattle.std.proofs.Common.{◌≤◌, ◌-◌, take, length}
 use Rattle.outside.specs.Reading.{Takes}
 use Rattle.pgm_plates.proofs.raster.fill.Given as goal
 

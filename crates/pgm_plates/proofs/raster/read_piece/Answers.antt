@@ -1,6 +1,6 @@
-use Rattle.std.proofs.Common.{rules, arith, ◌≡◌, ◌≤◌, ◌<◌, ◌*◌, ◌+◌, ◌/◌, ◌++◌, length, take, drop, ap, sym, ◌∙◌, ℕ, subst}
+use Rattle.std.proofs.Common.{rules, arith, ◌≡◌, ◌*◌, ◌+◌, ◌/◌, ◌++◌, length, take, drop, ap, sym, ◌∙◌, ℕ}
 use Rattle.std.proofs.lemmas.Grind.{common_steps}
-use Rattle.std.proofs.lemmas.List.{length-append, length-drop, length-take-le}
+use Rattle.std.proofs.lemmas.List.{length-append, length-take-le}
 use Rattle.pgm_plates.specs.Plates.{sample_size}
 use Rattle.pgm_plates.proofs.Pieces.{piece_above, piece_part, taken_whole, within_room, short_of_room}
 use Rattle.pgm_plates.proofs.raster.read_piece.Goals as goal

@@ -1,4 +1,4 @@
-use Rattle.std.proofs.Common.{◌≡◌, ◌<◌, ◌≤◌, ◌-◌, length}
+use Rattle.std.proofs.Common.{◌≤◌, ◌-◌, length}
 use Rattle.outside.specs.Reading.{Takes}
 use Rattle.pgm_plates.specs.Plates.{raster}
 use Rattle.pgm_plates.specs.Readers.{Fit}

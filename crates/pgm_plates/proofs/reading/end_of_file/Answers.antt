@@ -1,4 +1,4 @@
-use Rattle.std.proofs.Common.{rules, arith, ◌≡◌, get_or, refl}
+use Rattle.std.proofs.Common.{rules, arith, get_or, refl}
 use Rattle.std.proofs.lemmas.Grind.{common_steps}
 use Rattle.pgm_plates.proofs.Headers.{takes_one, takes_end, takes_failed}
 use Rattle.pgm_plates.proofs.reading.end_of_file.Goals as goal

@@ -1,4 +1,4 @@
-use Rattle.std.proofs.Common.{◌≡◌, ◌*◌, ◌+◌, ap, ℕ}
+use Rattle.std.proofs.Common.{◌*◌, ◌+◌, ap, ℕ}
 use Rattle.pgm_plates.proofs.Wholes.{raster_refused, end_refused, plate_read}
 use Rattle.pgm_plates.proofs.reading.read_begun.Goals as goal
 

@@ -1,5 +1,4 @@
-use Rattle.std.proofs.Common.{rules, arith, refl}
-use Rattle.std.proofs.lemmas.Grind.{common_steps}
+use Rattle.std.proofs.Common.{rules}
 use Rattle.pgm_plates.proofs.Pieces.{most_more, fit_all}
 use Rattle.pgm_plates.proofs.samples.are_fit.Goals as goal
 

@@ -1,5 +1,4 @@
-use Rattle.std.proofs.Common.{rules, arith, refl}
-use Rattle.std.proofs.lemmas.Grind.{common_steps}
+use Rattle.std.proofs.Common.{rules}
 use Rattle.pgm_plates.proofs.Pieces.{fit_more, fit_end}
 use Rattle.pgm_plates.proofs.samples.first_above.Goals as goal
 
