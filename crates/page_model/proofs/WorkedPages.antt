@@ -11,9 +11,7 @@ use Rattle.page_model.specs.declared.parts.Plane.{Plane}
 use Rattle.page_model.specs.declared.parts.TrapParams.{TrapParams}
 use Rattle.page_model.specs.declared.parts.Vertex.{Vertex}
 use Rattle.page_model.specs.declared.parts.Zone.{Zone}
-use Rattle.page_model.specs.Page.{sample_at, samples}
 use Rattle.page_model.specs.Tints.{new_tints}
-use Rattle.page_model.specs.Words.{list_below}
 
 abbrev pub at : ℕ → ℕ → At
 at x y = record { x = x; y = y }

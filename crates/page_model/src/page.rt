@@ -1,4 +1,4 @@
-ghost use Rattle.std.specs.Prelude.{◌≡◌, ◌<◌, ◌≤◌, length, find, option_copied, MatchResult, Some, None};
+ghost use Rattle.std.specs.Prelude.{◌≡◌, ◌<◌, ◌≤◌, length, find, option_copied, IfErr, IfOk, OnOk, Some, None};
 ghost use Rattle.std.specs.Str.{bytes_eq};
 ghost use Rattle.page_model.specs.Conditions.{IsParts, IsPage};
 ghost use Rattle.page_model.specs.Faults.{difference, too_many, too_wide, page_fault};
@@ -134,7 +134,10 @@ impl Page {
     /// number of samples, then of the first zone that reaches too far. A refusal hands the parts back as they were.
     pub fn new(parts: PageParts) -> Result<Page, (PageFault, PageParts)>
         requires { IsParts parts }
-        ensures { MatchResult result (λ page. (page ≡ parts) × (page_fault parts ≡ None)) (λ refused. (refused.1 ≡ parts) × (page_fault parts ≡ Some refused.0)) }
+        ensures page { IfOk result (λ page. page ≡ parts) }
+        ensures faultless { OnOk result (page_fault parts ≡ None) }
+        ensures fault { IfErr result (λ refused. page_fault parts ≡ Some refused.0) }
+        ensures handed_back { IfErr result (λ refused. refused.1 ≡ parts) }
     {
         match fault_of(&parts) {
             Some(fault) => Err((fault, parts)),

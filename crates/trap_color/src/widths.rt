@@ -26,3 +26,32 @@ pub fn is_near(d2: u32, slid: bool, width: u32, factor: u32, resolution: u32) ->
     let reach = u64::from(width) * u64::from(factor) * u64::from(resolution);
     u128::from(d2) * (unit * unit) <= u128::from(reach) * u128::from(reach)
 }
+
+#[cfg(test)]
+mod tests {
+    use super::*;
+
+    /// The greatest squared distance within, for widths whose exact values are 4, 2, 0.5, 4 and 1/6, 2 and 1/12, 8 and
+    /// 1/3, 10 and 12.5 half-samples.
+    #[test]
+    fn widths_are_compared_exactly(rt: HostRuntime) {
+        for (width, factor, resolution, slid, most) in [
+            (20_000, 10_000, 72, false, 16),
+            (20_000, 10_000, 72, true, 4),
+            (2_500, 10_000, 72, false, 0),
+            (2_500, 10_000, 600, false, 17),
+            (2_500, 10_000, 600, true, 4),
+            (2_500, 20_000, 600, false, 69),
+            (50_000, 10_000, 72, false, 100),
+            (7_500, 10_000, 600, false, 156),
+        ] {
+            assert!(rt; width <= 1_000_000 && factor <= 100_000);
+            assert!(rt; resolution <= 10_000 && most < 1_000);
+            assert!(rt; is_near(most, slid, width, factor, resolution), "{most}");
+            assert!(rt;
+                !is_near(most + 1, slid, width, factor, resolution),
+                "{most}"
+            );
+        }
+    }
+}

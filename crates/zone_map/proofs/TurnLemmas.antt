@@ -1,4 +1,4 @@
-use Rattle.std.proofs.Common.{◌≡◌, ℕ, suc, Bool, if◌then◌else◌, ◌+◌, ◌<◌, ◌≤◌, true, false, inl, inr, refl, List, [], ◌∷◌, length, drop, arith, ap, ◌∙◌, add-one}
+use Rattle.std.proofs.Common.{◌≡◌, ℕ, suc, Bool, if◌then◌else◌, ◌+◌, ◌<◌, ◌≤◌, true, false, inl, inr, refl, List, ◌∷◌, length, drop, add-one}
 use Rattle.std.specs.Prelude.{◌+ℤ◌, slice_index_or}
 use Rattle.std.proofs.lemmas.Bool.{cases_Bool}
 use Rattle.std.proofs.Math.Seq.{drop-cons}

@@ -1,4 +1,4 @@
-use Rattle.std.proofs.Common.{◌≡◌, refl, pos, ℕ, ◌+◌, ◌*◌, ◌≤◌, ◌<◌, arith, w32, w64}
+use Rattle.std.proofs.Common.{◌≡◌, refl, pos, ℕ, ◌+◌, ◌*◌, ◌≤◌, arith, w32, w64}
 use Rattle.std.specs.Int.{w128}
 use Rattle.std.specs.Prelude.{ℤ, nat_eq, ◌+ℤ◌, ◌-ℤ◌, ◌*ℤ◌, nat_abs}
 use Rattle.std.proofs.Math.Nat.{mul-le-mul}

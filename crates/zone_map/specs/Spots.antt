@@ -1,4 +1,4 @@
-use Rattle.std.specs.Prelude.{ℕ, ◌≤◌, nat_abs}
+use Rattle.std.specs.Prelude.{◌≤◌, nat_abs}
 use Rattle.page_model.specs.Zones.{Point}
 use Rattle.zone_map.specs.declared.turns.Spot.{Spot}
 

@@ -1,5 +1,4 @@
-use Rattle.std.proofs.Common.{◌∙◌, refl}
-use Rattle.std.specs.Prelude.{◌-ℤ◌}
+use Rattle.std.proofs.Common.{◌∙◌}
 use Rattle.page_model.specs.Zones.{lean}
 use Rattle.zone_map.proofs.Widths.{difference_fits, difference_is, same_difference, way_is}
 use Rattle.zone_map.proofs.turns.lean_of.Goals as goal

@@ -1,8 +1,6 @@
-use Rattle.std.proofs.Common.{◌≡◌, ◌<◌, arith, w64, sym, ◌∙◌, ap, rules}
+use Rattle.std.proofs.Common.{arith}
 use Rattle.std.specs.Int.{w128}
-use Rattle.std.specs.Prelude.{ℤ, ◌*ℤ◌}
-use Rattle.std.specs.Int.RustNames.{FitsSigned}
-use Rattle.std.proofs.lemmas.Int.{ints, to_z-of_z, fits_signed_mul, unsigned_abs-mul}
+use Rattle.std.proofs.lemmas.Int.{to_z-of_z, fits_signed_mul}
 use Rattle.zone_map.proofs.Widths.{widened, product_at_most}
 use Rattle.zone_map.proofs.turns.product.Goals as goal
 

@@ -1,5 +1,5 @@
-use Rattle.std.proofs.Common.{◌≡◌, ◌<◌, ◌≤◌, length, sym, ◌+◌, ℕ, arith, w32, drop, false, pos, ◌∙◌, ap}
-use Rattle.std.specs.Prelude.{◌+ℤ◌, nat_abs, slice_index_or}
+use Rattle.std.proofs.Common.{◌<◌, ◌≤◌, length, sym, ◌+◌, arith, w32, drop, false, pos, ◌∙◌}
+use Rattle.std.specs.Prelude.{nat_abs, slice_index_or}
 use Rattle.page_model.specs.declared.parts.Vertex.{Vertex}
 use Rattle.page_model.specs.Zones.{corner, turn, turns, winding}
 use Rattle.zone_map.specs.Spots.{point}
@@ -8,7 +8,7 @@ use Rattle.zone_map.proofs.TurnLemmas.{turns-drop, turns-end, start_at-near}
 use Rattle.zone_map.proofs.Widths.{sum_is, sum_at_most, regrouped}
 use Rattle.zone_map.proofs.turns.winding_of.Goals as goal
 use Rattle.std.proofs.lemmas.Bool.{ltb-true}
-use mir.Val.{to_z, of_z}
+use mir.Val.{to_z}
 
 abbrev zero_vertex : Vertex
 zero_vertex = record { x = pos 0; y = pos 0; starts = false }

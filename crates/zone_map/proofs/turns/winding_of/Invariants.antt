@@ -1,4 +1,4 @@
-use Rattle.std.proofs.Common.{◌≡◌, ◌≤◌, ℕ, length, drop}
+use Rattle.std.proofs.Common.{◌≡◌, ◌≤◌, drop}
 use Rattle.std.specs.Prelude.{◌+ℤ◌, nat_abs}
 use Rattle.page_model.specs.Conditions.{IsVertex}
 use Rattle.page_model.specs.Zones.{turns, winding}
