@@ -291,7 +291,11 @@ fn a_read_that_fails_before_a_fault_is_a_read_fault(rt: HostRuntime) -> Result<(
             "call {call}"
         );
     }
-    // A sample that was read before the failure is judged.
+    Ok(())
+}
+
+#[test]
+fn a_sample_that_was_read_before_a_failure_is_judged(rt: HostRuntime) -> Result<(), Fail> {
     let above = b"P5 6 1 1 \x01\x02\x00\x00\x00\x00";
     for place in 10..15 {
         let want = if place < 11 {
