@@ -1,4 +1,4 @@
-use Rattle.std.proofs.Common.{◌≡◌, length}
+use Rattle.std.proofs.Common.{◌≡◌}
 use Rattle.page_model.specs.Page.{plates}
 use Rattle.page_model.specs.Tints.{trapped_plane}
 use Rattle.page_model.specs.Words.{list_below}

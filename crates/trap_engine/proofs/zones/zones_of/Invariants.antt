@@ -1,4 +1,4 @@
-use Rattle.std.proofs.Common.{◌≡◌, ◌*◌, length}
+use Rattle.std.proofs.Common.{◌≡◌, ◌*◌}
 use Rattle.std.specs.Prelude.{vec_len}
 use Rattle.page_model.specs.Page.{height, sample_at, width}
 use Rattle.page_model.specs.Words.{list_below}
