@@ -3,8 +3,10 @@ pub mod Tray
 pub mod Rack
 pub mod Reading
 pub mod Writing
-pub mod Memory
+pub mod MemFiles
 pub mod Counts
 pub mod MemTrays
 pub mod Shelf
 pub mod MemRacks
+pub mod Endless
+pub mod Disk

@@ -1,19 +1,80 @@
--- What a rack in memory means.
-use Rattle.std.specs.Prelude.{ℕ, Bool, true, false, cond, List, [], Option, Some, None}
-use Rattle.outside.specs.declared.mem_rack.MemRack.{MemRack}
+-- What a rack in memory is, and what its calls do.
+use Rattle.std.specs.Prelude.{◌≡◌, ◌⊎◌, ℕ, ◌+◌, ◌-◌, ◌<◌, Bool, true, false, IsTrue, min, List, [], length, Option, Some, None, is_ok, is_err, not, Result, IfOk, OnOk, OnErr, IsSome}
+use Rattle.outside.specs.declared.shelf.RackFile.{RackFile}
+use Rattle.outside.specs.Counts.{one_more, is_listed}
 use Rattle.outside.specs.Shelf.{files_of, name_of}
 use Rattle.outside.specs.Rack.{RackState}
 
-abbrev pub rack_state : MemRack → RackState
-rack_state m = record {
+pub record MemRackState : Type 0 where
+  -- the files that were created before the last one, and that one
+  pub done : List RackFile
+  pub current : Option RackFile
+  pub told : List ℕ
+  pub is_open : Bool
+  -- the most bytes that one write takes, and the bytes that there is still room for
+  pub grain : ℕ
+  pub room : ℕ
+  -- the numbers of the calls that fail, and how many calls were made
+  pub fails : List ℕ
+  pub calls : ℕ
+  -- the names handed to `create`, while there was memory for them
+  pub asked : Option (List (List ℕ))
+  pub faults : ℕ
+
+-- what it means as a rack: it tells all
+abbrev pub rack_of : MemRackState → RackState
+rack_of m = record {
   tells = true;
-  file = files_of m.done.items m.current;
-  told = m.text.items;
+  file = files_of m.done m.current;
+  told = m.told;
   is_open = m.is_open;
   current = name_of m.current;
-  asked = cond m.is_asked_told (Some m.asked) None;
+  asked = m.asked;
   faults = m.faults;
 }
 
-abbrev pub fresh_rack : RackState
-fresh_rack = record { tells = true; file = λ name. None; told = []; is_open = false; current = []; asked = Some []; faults = 0 }
+-- no file, no text, and no call yet
+abbrev pub fresh_rack : ℕ → ℕ → List ℕ → MemRackState
+fresh_rack grain room fails = record { done = []; current = None; told = []; is_open = false; grain = grain; room = room; fails = fails; calls = 0; asked = Some []; faults = 0 }
+
+-- A call counts, and it counts as a fault exactly where it fails. It fails where its number is listed.
+pub record CountsRack {T E : Type 0} (before after : MemRackState) (result : Result T E) : Type 0 where
+  pub grain : after.grain ≡ before.grain
+  pub fails : after.fails ≡ before.fails
+  pub calls : after.calls ≡ one_more before.calls
+  pub listed : IsTrue (is_listed before.fails before.calls) → IsTrue (is_err result)
+  pub well : OnOk result (after.faults ≡ before.faults)
+  pub fault : OnErr result (after.faults ≡ one_more before.faults)
+
+-- how many bytes of a piece of that length the next write takes
+abbrev pub most_taken : MemRackState → ℕ → ℕ
+most_taken m len = min (min len m.grain) m.room
+
+-- `write` takes as many bytes as the piece, the grain and the room allow, and fails where a piece that isn't empty meets no room.
+pub record WritesMem {E : Type 0} (piece : List ℕ) (before after : MemRackState) (result : Result ℕ E) : Type 0 where
+  pub counts : CountsRack before after result
+  pub full : before.room ≡ 0 → 0 < length piece → IsTrue (is_err result)
+  pub count : IfOk result (λ n. n ≡ most_taken before (length piece))
+  pub room : IfOk result (λ n. after.room + n ≡ before.room)
+  pub kept : OnErr result (after.room ≡ before.room)
+
+-- `finish` fails exactly where its number is listed.
+pub record FinishesMem {T E : Type 0} (before after : MemRackState) (result : Result T E) : Type 0 where
+  pub counts : CountsRack before after result
+  pub exact : is_ok result ≡ not (is_listed before.fails before.calls)
+  pub room : after.room ≡ before.room
+
+-- A `tell` that fails appends nothing.
+pub record TellsMem {T E : Type 0} (before after : MemRackState) (result : Result T E) : Type 0 where
+  pub counts : CountsRack before after result
+  pub room : after.room ≡ before.room
+  pub kept : OnErr result (after.told ≡ before.told)
+
+pub record CreatesMem {T E : Type 0} (before after : MemRackState) (result : Result T E) : Type 0 where
+  pub counts : CountsRack before after result
+  pub room : after.room ≡ before.room
+
+-- Some bytes are taken by each write, and a file that is open is there.
+pub record IsRackInside (grain : ℕ) (is_open : Bool) (current : Option RackFile) : Type 0 where
+  pub some : 0 < grain
+  pub there : IsTrue is_open → IsSome current

@@ -1,10 +1,11 @@
-ghost use Rattle.std.specs.Prelude.{IsTrue, length, ◌≤◌, ◌≡◌, min, Some, None, true, false, is_some, List, ℕ, []};
-ghost use Rattle.outside.specs.Rack.{RackState, Creates, Writes, Finishes, Tells};
+ghost use Rattle.std.specs.Prelude.{◌≡◌};
+ghost use Rattle.outside.specs.Disk.{fresh_disk};
 
 use crate::mem_calls::fault;
 use crate::rack::Rack;
 use crate::tray::Failed;
 use std::io::Write;
+use std::marker::Model;
 use std::rt::Files;
 use std::{fs, io};
 
@@ -16,8 +17,19 @@ pub struct DiskRack<'a, R: Files + Print> {
     faults: u64,
 }
 
+impl<'a, R: Files + Print> Model for DiskRack<'a, R> {
+    ghost use Rattle.outside.specs.Disk.{DiskState};
+    ghost use Rattle.std.specs.Prelude.{is_some};
+
+    ghost Value = { DiskState };
+
+    ghost view = { λ d. record { is_open = is_some d.current; faults = d.faults } };
+}
+
 impl<'a, R: Files + Print> DiskRack<'a, R> {
-    pub fn new(files: &'a R) -> DiskRack<'a, R> {
+    pub fn new(files: &'a R) -> DiskRack<'a, R>
+        ensures { result ≡ fresh_disk }
+    {
         DiskRack {
             files,
             current: None,
@@ -27,7 +39,9 @@ impl<'a, R: Files + Print> DiskRack<'a, R> {
 }
 
 impl<R: Files + Print> Rack for DiskRack<'_, R> {
-    ghost state = { λ m. record { tells = false; file = λ _. None; told = []; is_open = is_some m.current; current = []; asked = None; faults = m.faults } };
+    ghost use Rattle.outside.specs.Disk.{disk_rack_of};
+
+    ghost state = { disk_rack_of };
 
     fn create(&mut self, name: &str) -> Result<(), Failed> {
         match fs::create(self.files, name) {

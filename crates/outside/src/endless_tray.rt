@@ -1,47 +1,71 @@
-ghost use Rattle.std.specs.Prelude.{IsTrue, length, ◌≤◌, ◌≡◌, min, Some, None, true, false, List, ℕ, []};
-ghost use Rattle.outside.specs.Tray.{TrayState, Begins, Reads};
+ghost use Rattle.std.specs.Prelude.{◌≡◌, ◌+◌, IsTrue, OnErr, Ok, length, min, true, false};
+ghost use Rattle.outside.specs.Tray.{Begins, Reads};
 
 use crate::tray::{Failed, Tray};
 use page_model::parts::Name;
+use std::marker::Model;
 
-/// Files that give the bytes of the head, and then the tail byte without end. It tells no bytes.
+/// Files that give the bytes of the head, and then the tail byte without end. It tells no bytes and never fails.
 #[derive(Drop)]
 pub struct EndlessTray {
     head: Name,
     tail: u8,
     is_begun: bool,
-    at: usize,
+    taken: usize,
+}
+
+impl Model for EndlessTray {
+    ghost use Rattle.std.specs.Prelude.{◌≤◌, length};
+    ghost use Rattle.outside.specs.Endless.{EndlessState};
+
+    ghost Value = { EndlessState };
+
+    ghost view = { λ e. record { head = e.head; tail = e.tail; begun = e.is_begun; taken = e.taken } };
+
+    ghost invariant = { λ e. e.taken ≤ length e.head };
 }
 
 impl EndlessTray {
-    pub fn new(head: Name, tail: u8) -> EndlessTray {
+    /// A tray whose files all begin with the head.
+    pub fn new(head: Name, tail: u8) -> EndlessTray
+        ensures { result ≡ record { head = head; tail = tail; begun = false; taken = 0 } }
+    {
         EndlessTray {
             head,
             tail,
             is_begun: false,
-            at: 0,
+            taken: 0,
         }
     }
 }
 
 impl Tray for EndlessTray {
-    ghost state = { λ m. record { tells = false; file = λ _. None; begun = m.is_begun; left = []; asked = None; faults = 0 } };
+    ghost use Rattle.outside.specs.Endless.{endless_tray_of, next_bytes};
 
-    fn begin(&mut self, _name: &str) -> Result<(), Failed> {
+    ghost state = { endless_tray_of };
+
+    fn begin(&mut self, name: &str) -> Result<(), Failed>
+        ensures tray { Begins name.now (endless_tray_of self.old) (endless_tray_of self.new) result }
+        ensures begun { self.new ≡ record self.old { begun = true; taken = 0 } }
+        ensures never_fails { OnErr result ⊥ }
+    {
         self.is_begun = true;
-        self.at = 0;
+        self.taken = 0;
         Ok(())
     }
 
-    fn read(&mut self, buf: &mut [u8]) -> Result<usize, Failed> {
-        let left = self.head.len().saturating_sub(self.at);
-        if left == 0 {
-            buf.fill(self.tail);
-            return Ok(buf.len());
-        }
-        let count = left.min(buf.len());
-        buf[..count].copy_from_slice(&self.head.as_slice()[self.at..self.at + count]);
-        self.at += count;
-        Ok(count)
+    fn read(&mut self, buf: &mut [u8]) -> Result<usize, Failed>
+        requires { IsTrue self.old.begun }
+        ensures tray { Reads (endless_tray_of self.old) (endless_tray_of self.new) result buf.new }
+        ensures filled { result ≡ Ok (length buf.new) }
+        ensures given { buf.new ≡ next_bytes self.old (length buf.new) }
+        ensures taken { self.new ≡ record self.old { taken = min (self.old.taken + length buf.new) (length self.old.head) } }
+    {
+        let count = (self.head.len() - self.taken).min(buf.len());
+        let (front, rest) = buf.split_at_mut(count);
+        front.copy_from_slice(&self.head.as_slice()[self.taken..self.taken + count]);
+        rest.fill(self.tail);
+        self.taken += count;
+        Ok(buf.len())
     }
 }

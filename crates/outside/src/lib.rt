@@ -3,13 +3,16 @@
 
 pub mod disk_rack;
 pub mod disk_tray;
+pub mod distinct_names;
 pub mod endless_tray;
 mod mem_calls;
+pub mod mem_file;
 pub mod mem_rack;
 pub mod mem_tray;
-pub mod memory;
 pub mod rack;
 pub mod reading;
 pub mod shelf;
+#[cfg(test)]
+mod tests;
 pub mod tray;
 pub mod writing;

@@ -1,6 +1,5 @@
-ghost use Rattle.std.specs.Prelude.{◌≡◌, ◌≤◌, ◌==◌, ◌∷◌, [], Some, None, cond};
-ghost use Rattle.std.specs.List.{list_any};
-ghost use Rattle.outside.specs.Counts.{one_more};
+ghost use Rattle.std.specs.Prelude.{◌≡◌, ◌≤◌, ◌∷◌, [], Some, None, cond};
+ghost use Rattle.outside.specs.Counts.{one_more, is_listed};
 ghost use Rattle.outside.specs.Causes.{Rose, Asks};
 
 use crate::tray::Failed;
@@ -8,14 +7,7 @@ use page_model::list::List;
 use page_model::parts::Name;
 use std::alloc::Global;
 
-// Whether the call of that number is to fail.
-fn is_listed(calls: &[u64], number: u64) -> bool
-    ensures { result ≡ list_any (λ call. call == number) calls.now }
-{
-    calls.iter().any(|call| *call == number)
-}
-
-// Adds a name to those that were asked for, while there is memory and they are told.
+// Adds a name to those that were asked for, and says whether they are still told: for want of memory they no longer are.
 pub(crate) fn note(alloc: Global, asked: &mut List<Name>, is_told: bool, name: &str) -> bool
     ensures { Asks (cond is_told (Some asked.old) None) (cond result (Some asked.new) None) (name.now ∷ []) }
 {
@@ -28,15 +20,17 @@ pub(crate) fn note(alloc: Global, asked: &mut List<Name>, is_told: bool, name: &
 
 // Counts a call, and says whether it is to fail.
 pub(crate) fn is_failing(calls: &mut u64, fails: &[u64]) -> bool
-    ensures answer { result ≡ list_any (λ call. call == calls.old) fails.now }
+    ensures answer { result ≡ is_listed fails.now calls.old }
     ensures counted { calls.new ≡ one_more calls.old }
 {
     let number = *calls;
     *calls = number.saturating_add(1);
-    is_listed(fails, number)
+    fails.iter().any(|call| *call == number)
 }
 
+// Counts a fault.
 pub(crate) fn fault(faults: &mut u64) -> Failed
+    ensures counted { faults.new ≡ one_more faults.old }
     ensures rose { Rose faults.old faults.new }
     ensures later { faults.old ≤ faults.new }
 {

@@ -1,26 +1,25 @@
-ghost use Rattle.std.specs.Prelude.{◌≡◌, ◌<◌, ◌≤◌, ◌+◌, ◌-◌, ◌^◌, ◌==◌, min, ◌∷◌, [], ◌++◌, IsTrue, IfSome, IfOk, OnOk, OnErr, true, false, not, is_ok, IsSome, cond, is_some, length, take, slice_set, option_copied, Some, None};
-ghost use Rattle.std.specs.List.{list_any};
-ghost use Rattle.outside.specs.Counts.{one_more};
-ghost use Rattle.outside.specs.Causes.{Rose, Asks};
-ghost use Rattle.outside.specs.Rack.{RackState, Creates, Writes, Finishes, Tells, put, append_to};
+ghost use Rattle.std.specs.Prelude.{◌≡◌, ◌<◌, IsTrue, min, option_copied};
+ghost use Rattle.outside.specs.Rack.{RackState, Creates, Writes, Finishes, Tells};
+ghost use Rattle.outside.specs.MemRacks.{rack_of};
 
 use crate::mem_calls::{fault, is_failing, note};
-use crate::memory::CallList;
 use crate::rack::Rack;
-use crate::shelf::{RackFile, begin_file, file_named};
+use crate::shelf::{RackFile, append, begin_file, file_named, grow};
 use crate::tray::Failed;
 use page_model::list::List;
-use page_model::parts::Name;
+use page_model::parts::{CallList, Name};
 use std::alloc::Global;
+use std::marker::Model;
 
-/// Files in memory, which take at most `grain` bytes per write and `room` bytes in all.
+/// Files and text in memory. Each write takes at most `grain` bytes, and all together at most `room`; calls fail as
+/// they are told to.
 #[derive(Drop)]
 pub struct MemRack {
     alloc: Global,
     done: Vec<RackFile>,
     current: Option<RackFile>,
     is_open: bool,
-    text: Vec<u8>,
+    text: Name,
     grain: usize,
     room: u64,
     fails: CallList,
@@ -28,23 +27,36 @@ pub struct MemRack {
     faults: u64,
     asked: List<Name>,
     is_asked_told: bool,
-    ghost takes_some: { 0 < grain },
-    ghost open_there: { IsTrue is_open → IsSome current },
+}
+
+impl Model for MemRack {
+    ghost use Rattle.outside.specs.MemRacks.{MemRackState};
+    ghost use Rattle.std.specs.Prelude.{Some, None, cond};
+
+    ghost Value = { MemRackState };
+
+    ghost view = { λ m. record { done = m.done.items; current = m.current; told = m.text; is_open = m.is_open; grain = m.grain; room = m.room; fails = m.fails; calls = m.calls; asked = cond m.is_asked_told (Some m.asked) None; faults = m.faults } };
+
+    ghost use Rattle.outside.specs.MemRacks.{IsRackInside};
+
+    ghost invariant = { λ m. IsRackInside m.grain m.is_open m.current };
 }
 
 impl MemRack {
-    ghost use Rattle.outside.specs.MemRacks.{rack_state, fresh_rack};
+    ghost use Rattle.outside.specs.MemRacks.{fresh_rack, rack_of};
 
+    /// A rack with no file and no text. A call fails where its number, from 0 over `create`, `write`, `finish` and
+    /// `tell`, is in `fails`, where a piece that is not empty meets no room, or for want of memory.
     pub fn new(alloc: Global, grain: usize, room: u64, fails: CallList) -> MemRack
         requires { 0 < grain }
-        ensures { rack_state result ≡ fresh_rack }
+        ensures { result ≡ fresh_rack grain room fails }
     {
         MemRack {
             alloc,
             done: Vec::new(alloc),
             current: None,
             is_open: false,
-            text: Vec::new(alloc),
+            text: List::new(alloc),
             grain,
             room,
             fails,
@@ -57,19 +69,19 @@ impl MemRack {
 
     /// The text that was told.
     pub fn told(&self) -> &[u8]
-        ensures { result.now ≡ (rack_state self.now).told }
+        ensures { result.now ≡ self.now.told }
     {
-        &self.text
+        self.text.as_slice()
     }
 
-    /// The bytes of the file of that name, finished or not.
+    /// The bytes of the file of that name, finished or not, or `None` exactly where there is no such file.
     pub fn file(&self, name: &str) -> Option<&[u8]>
-        ensures { option_copied result ≡ (rack_state self.now).file name.now }
+        ensures { option_copied result ≡ (rack_of self.now).file name.now }
     {
         match &self.current {
             Some(file) => {
                 if file.name.as_slice() == name.as_bytes() {
-                    Some(&file.bytes)
+                    Some(file.bytes.as_slice())
                 } else {
                     file_named(&self.done, name)
                 }
@@ -80,11 +92,14 @@ impl MemRack {
 }
 
 impl Rack for MemRack {
-    ghost use Rattle.outside.specs.MemRacks.{rack_state};
+    ghost use Rattle.outside.specs.MemRacks.{CreatesMem, WritesMem, FinishesMem, TellsMem, rack_of};
 
-    ghost state = { rack_state };
+    ghost state = { rack_of };
 
-    fn create(&mut self, name: &str) -> Result<(), Failed> {
+    fn create(&mut self, name: &str) -> Result<(), Failed>
+        ensures rack { Creates name.now (rack_of self.old) (rack_of self.new) result }
+        ensures exact { CreatesMem self.old self.new result }
+    {
         self.is_asked_told = note(self.alloc, &mut self.asked, self.is_asked_told, name);
         self.is_open = false;
         if is_failing(&mut self.calls, self.fails.as_slice()) {
@@ -97,25 +112,28 @@ impl Rack for MemRack {
         Ok(())
     }
 
-    fn write(&mut self, piece: &[u8]) -> Result<usize, Failed> {
+    fn write(&mut self, piece: &[u8]) -> Result<usize, Failed>
+        requires { IsTrue self.old.is_open }
+        ensures rack { Writes piece.now (rack_of self.old) (rack_of self.new) result }
+        ensures exact { WritesMem piece.now self.old self.new result }
+    {
         let is_failing = is_failing(&mut self.calls, self.fails.as_slice());
         if is_failing || (self.room == 0 && !piece.is_empty()) {
             return Err(fault(&mut self.faults));
         }
-        let count = within(piece.len(), self.grain, self.room);
-        match &mut self.current {
-            None => Err(fault(&mut self.faults)),
-            Some(file) => match file.bytes.extend_from_slice(&piece[..count]) {
-                Ok(()) => {
-                    self.room -= count as u64;
-                    Ok(count)
-                }
-                Err(_) => Err(fault(&mut self.faults)),
-            },
+        let count = most_of(piece.len(), self.grain, self.room);
+        if !grow(self.alloc, &mut self.current, &piece[..count]) {
+            return Err(fault(&mut self.faults));
         }
+        self.room -= count as u64;
+        Ok(count)
     }
 
-    fn finish(&mut self) -> Result<(), Failed> {
+    fn finish(&mut self) -> Result<(), Failed>
+        requires { IsTrue self.old.is_open }
+        ensures rack { Finishes (rack_of self.old) (rack_of self.new) result }
+        ensures exact { FinishesMem self.old self.new result }
+    {
         if is_failing(&mut self.calls, self.fails.as_slice()) {
             return Err(fault(&mut self.faults));
         }
@@ -123,18 +141,21 @@ impl Rack for MemRack {
         Ok(())
     }
 
-    fn tell(&mut self, text: &[u8]) -> Result<(), Failed> {
+    fn tell(&mut self, text: &[u8]) -> Result<(), Failed>
+        ensures rack { Tells text.now (rack_of self.old) (rack_of self.new) result }
+        ensures exact { TellsMem self.old self.new result }
+    {
         if is_failing(&mut self.calls, self.fails.as_slice()) {
             return Err(fault(&mut self.faults));
         }
-        match self.text.extend_from_slice(text) {
-            Ok(()) => Ok(()),
-            Err(_) => Err(fault(&mut self.faults)),
+        if !append(self.alloc, &mut self.text, text) {
+            return Err(fault(&mut self.faults));
         }
+        Ok(())
     }
 }
 
-fn within(len: usize, grain: usize, room: u64) -> usize
+fn most_of(len: usize, grain: usize, room: u64) -> usize
     ensures { result ≡ min (min len grain) room }
 {
     let most = len.min(grain);

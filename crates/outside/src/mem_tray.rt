@@ -1,20 +1,17 @@
-ghost use Rattle.std.specs.Prelude.{◌≡◌, ◌<◌, ◌≤◌, ◌+◌, ◌-◌, ◌==◌, min, ◌∷◌, [], ◌++◌, IsTrue, IfSome, OnOk, OnErr, true, false, not, ◌&&◌, is_ok, IsSome, cond, is_some, is_none, Some, None, ◌^◌, length, take, drop, option_copied};
-ghost use Rattle.std.specs.List.{list_any};
+ghost use Rattle.std.specs.Prelude.{◌≡◌, ◌<◌, ◌≤◌, ◌+◌, ◌-◌, ◌^◌, ◌++◌, ◌==◌, min, IsTrue, is_some, is_none, Some, None, cond, length, take, drop};
 ghost use Rattle.std.specs.Option.{ForSome};
 ghost use Rattle.std.specs.Str.{bytes_eq};
-ghost use Rattle.outside.specs.Tray.{TrayState, Begins, Reads};
-ghost use Rattle.outside.specs.Memory.{file_at, place_of, left_at, bytes_at, end_in};
-ghost use Rattle.outside.specs.Counts.{one_more};
-ghost use Rattle.outside.specs.Causes.{Rose, Asks};
+ghost use Rattle.outside.specs.MemFiles.{HaveDistinctNames, place_of, is_at, end_before};
 
 use crate::mem_calls::{fault, is_failing, note};
-use crate::memory::{CallList, FileList, MemFile};
+use crate::mem_file::{FileList, MemFile};
 use crate::tray::{Failed, Tray};
 use page_model::list::List;
-use page_model::parts::Name;
+use page_model::parts::{CallList, Name};
 use std::alloc::Global;
+use std::marker::Model;
 
-/// Files in memory, which give at most `grain` bytes per read.
+/// Files in memory, of which each read gives at most `grain` bytes, and of which calls fail as they are told to.
 #[derive(Drop)]
 pub struct MemTray {
     alloc: Global,
@@ -24,19 +21,33 @@ pub struct MemTray {
     calls: u64,
     faults: u64,
     place: Option<usize>,
-    at: usize,
+    taken: usize,
     asked: List<Name>,
     is_asked_told: bool,
-    ghost gives_some: { 0 < grain },
-    ghost in_range: { ForSome place (λ k. k < length files) },
+}
+
+impl Model for MemTray {
+    ghost use Rattle.outside.specs.MemTrays.{MemTrayState};
+    ghost use Rattle.std.specs.Prelude.{Some, None, cond};
+
+    ghost Value = { MemTrayState };
+
+    ghost view = { λ m. record { files = m.files; grain = m.grain; fails = m.fails; calls = m.calls; place = m.place; taken = m.taken; asked = cond m.is_asked_told (Some m.asked) None; faults = m.faults } };
+
+    ghost use Rattle.outside.specs.MemTrays.{IsTrayInside};
+
+    ghost invariant = { λ m. IsTrayInside m.files m.grain m.place m.taken };
 }
 
 impl MemTray {
-    ghost use Rattle.outside.specs.MemTrays.{tray_state, fresh_tray};
+    ghost use Rattle.outside.specs.MemTrays.{fresh_tray};
 
+    /// A tray of these files, whose names are distinct. A call fails exactly where its number, from 0 over `begin` and
+    /// `read`, is in `fails`, where there is no file of the name, or where a read would begin at the file's `fails_at`.
     pub fn new(alloc: Global, files: FileList, grain: usize, fails: CallList) -> MemTray
-        requires { 0 < grain }
-        ensures { tray_state result ≡ fresh_tray files }
+        requires grain { 0 < grain }
+        requires distinct { HaveDistinctNames files }
+        ensures { result ≡ fresh_tray files grain fails }
     {
         MemTray {
             alloc,
@@ -46,7 +57,7 @@ impl MemTray {
             calls: 0,
             faults: 0,
             place: None,
-            at: 0,
+            taken: 0,
             asked: List::new(alloc),
             is_asked_told: true,
         }
@@ -56,10 +67,10 @@ impl MemTray {
 fn place_in(files: &[MemFile], name: &str) -> Option<usize>
     ensures { result ≡ place_of files.now name.now }
 {
-    files.iter().position(|file| is_name(file, name))
+    files.iter().position(|file| is_named(file, name))
 }
 
-fn is_name(file: &MemFile, name: &str) -> bool
+fn is_named(file: &MemFile, name: &str) -> bool
     ensures { result ≡ bytes_eq file.now.name name.now }
 {
     file.name.as_slice() == name.as_bytes()
@@ -77,80 +88,81 @@ fn give(bytes: &[u8], at: usize, most: usize, buf: &mut [u8]) -> usize
     count
 }
 
-// Where a read that begins at that place has to end, if it does not fail.
-fn end_of(file: &MemFile, at: usize) -> Option<usize>
-    ensures { result ≡ end_in file.now at }
+fn is_stop(fails_at: Option<u64>, taken: usize) -> bool
+    ensures { result ≡ is_at fails_at taken }
 {
-    let len = file.bytes.len();
-    match file.fails_at {
-        Some(fails_at) => {
-            if at as u64 == fails_at {
-                None
-            } else if (at as u64) < fails_at && fails_at < len as u64 {
-                Some(fails_at as usize)
-            } else {
-                Some(len)
-            }
-        }
-        None => Some(len),
+    match fails_at {
+        Some(stop) => stop == taken as u64,
+        None => false,
     }
 }
 
-// Reads in a file from that place on. None is a failure.
-fn read_at(file: &MemFile, at: usize, grain: usize, buf: &mut [u8]) -> Option<usize>
-    requires { 0 < grain }
-    ensures none { is_none result ≡ is_none (end_in file.now at) }
-    ensures within { IfSome result (λ n. n ≤ length buf.new) }
-    ensures fits { IfSome result (λ n. at + n < 2 ^ 64) }
-    ensures taken { IfSome result (λ n. drop at file.now.bytes ≡ take n buf.new ++ drop (at + n) file.now.bytes) }
-    ensures at_end { IfSome result (λ n. n ≡ 0 → 0 < length buf.new → drop at file.now.bytes ≡ []) }
+// Where a read has to end, in a file of that length of which so many bytes were taken.
+fn end_of_read(fails_at: Option<u64>, len: usize, taken: usize) -> usize
+    ensures { result ≡ end_before fails_at len taken }
 {
-    let end = end_of(file, at)?;
-    Some(give(&file.bytes.as_slice()[..end], at, grain, buf))
+    match fails_at {
+        Some(stop) => {
+            if (taken as u64) < stop && stop < len as u64 {
+                stop as usize
+            } else {
+                len
+            }
+        }
+        None => len,
+    }
+}
+
+// Reads on in a file of which so many bytes were taken.
+fn read_on(file: &MemFile, taken: usize, grain: usize, buf: &mut [u8]) -> usize
+    requires { taken ≤ length file.now.bytes }
+    ensures count { result ≡ min (min grain (length buf.old)) (end_before file.now.fails_at (length file.now.bytes) taken - taken) }
+    ensures within { taken + result ≤ length file.now.bytes }
+    ensures fits { taken + result < 2 ^ 64 }
+    ensures given { drop taken file.now.bytes ≡ take result buf.new ++ drop (taken + result) file.now.bytes }
+{
+    let end = end_of_read(file.fails_at, file.bytes.len(), taken);
+    give(&file.bytes.as_slice()[..end], taken, grain, buf)
 }
 
 impl Tray for MemTray {
-    ghost use Rattle.outside.specs.MemTrays.{tray_state};
+    ghost use Rattle.outside.specs.MemTrays.{tray_of, BeginsMem, ReadsMem};
+    ghost use Rattle.outside.specs.Tray.{Begins, Reads};
 
-    ghost state = { tray_state };
+    ghost state = { tray_of };
 
     fn begin(&mut self, name: &str) -> Result<(), Failed>
-        ensures tray { Begins name.now (tray_state self.old) (tray_state self.new) result }
-        // It fails exactly where its number is listed, or there is no file of that name.
-        ensures exact { is_ok result ≡ (not (list_any (λ call. call == self.old.calls) self.old.fails) && is_some (place_of self.old.files name.now)) }
+        ensures tray { Begins name.now (tray_of self.old) (tray_of self.new) result }
+        ensures exact { BeginsMem name.now self.old self.new result }
     {
         self.is_asked_told = note(self.alloc, &mut self.asked, self.is_asked_told, name);
         self.place = None;
-        self.at = 0;
+        self.taken = 0;
         if is_failing(&mut self.calls, self.fails.as_slice()) {
             return Err(fault(&mut self.faults));
         }
-        match place_in(self.files.as_slice(), name) {
-            Some(place) => {
-                self.place = Some(place);
-                Ok(())
-            }
+        self.place = place_in(self.files.as_slice(), name);
+        match self.place {
+            Some(_) => Ok(()),
             None => Err(fault(&mut self.faults)),
         }
     }
 
     fn read(&mut self, buf: &mut [u8]) -> Result<usize, Failed>
         requires { IsTrue (is_some self.old.place) }
-        ensures tray { Reads (tray_state self.old) (tray_state self.new) result buf.new }
+        ensures tray { Reads (tray_of self.old) (tray_of self.new) result buf.new }
+        ensures exact { ReadsMem self.old self.new result buf.new }
     {
         let is_failing = is_failing(&mut self.calls, self.fails.as_slice());
         let Some(place) = self.place else {
-            return Err(fault(&mut self.faults));
+            unreachable!()
         };
-        if is_failing {
+        let file = &self.files.as_slice()[place];
+        if is_failing || is_stop(file.fails_at, self.taken) {
             return Err(fault(&mut self.faults));
         }
-        match read_at(&self.files.as_slice()[place], self.at, self.grain, buf) {
-            Some(count) => {
-                self.at += count;
-                Ok(count)
-            }
-            None => Err(fault(&mut self.faults)),
-        }
+        let count = read_on(file, self.taken, self.grain, buf);
+        self.taken += count;
+        Ok(count)
     }
 }

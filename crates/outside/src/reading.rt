@@ -7,10 +7,15 @@ use crate::tray::{Failed, Tray};
 use page_model::list::List;
 use page_model::parts::Name;
 use std::alloc::Global;
+use thiserror::Error;
 
-#[derive(Clone, Copy, Debug, Drop, PartialEq, Eq)]
+/// Why a file is not read whole.
+#[derive(Clone, Copy, Debug, Drop, Error, PartialEq, Eq)]
 pub enum ReadRefusal {
+    /// The tray has a fault.
+    #[error("the file could not be read")]
     ReadFault,
+    #[error("out of memory")]
     OutOfMemory,
 }
 

@@ -1,5 +1,16 @@
-//! A page: its plates' planes, its inks and its zones, and the lists that they are kept in.
+//! A page: its plates' planes, its inks and its zones, the lists that they are kept in, and the rule of its traps.
 #![tactic(auto)]
 
+pub mod arms;
+pub mod edges;
+pub mod laws;
+pub mod limits;
 pub mod list;
+pub mod marks;
+pub mod page;
 pub mod parts;
+pub mod planes;
+pub mod reach;
+pub mod steps;
+#[cfg(test)]
+mod tests;

@@ -73,6 +73,33 @@ pub struct TrapParams {
     pub enabled: bool,
 }
 
+impl TrapParams {
+    ghost use Rattle.std.specs.Prelude.{◌≡◌, true};
+
+    /// The parameters of a job that sets none: a quarter of a point, this project's defaults throughout.
+    pub fn usual() -> TrapParams
+        ensures width { result.trap_width ≡ 2500 }
+        ensures black_width { result.black_width ≡ 10000 }
+        ensures black_color { result.black_color_limit ≡ 9500 }
+        ensures black_density { result.black_density_limit ≡ 16000 }
+        ensures step { result.step_limit ≡ 2500 }
+        ensures sliding { result.sliding_trap_limit ≡ 7000 }
+        ensures scaling { result.trap_color_scaling ≡ 10000 }
+        ensures enabled { result.enabled ≡ true }
+    {
+        TrapParams {
+            trap_width: 2_500,
+            black_width: 10_000,
+            black_color_limit: 9_500,
+            black_density_limit: 16_000,
+            step_limit: 2_500,
+            sliding_trap_limit: 7_000,
+            trap_color_scaling: 10_000,
+            enabled: true,
+        }
+    }
+}
+
 /// A vertex of a path, in ten-thousandths of a point from the page's lower left corner. `starts` begins a subpath.
 #[derive(Clone, Copy, Debug, Drop, PartialEq, Eq)]
 pub struct Vertex {
@@ -124,4 +151,14 @@ pub struct PageParts {
     pub planes: PlaneList,
     pub inks: InkList,
     pub zones: ZoneList,
+}
+
+/// What trapping a page did: for each zone its samples and how many of these changed, the deciding edges of the page,
+/// and for each plate its changed samples.
+#[derive(Drop)]
+pub struct Counts {
+    pub zone_samples: CountList,
+    pub zone_changed: CountList,
+    pub edges: u64,
+    pub plate_changed: CountList,
 }

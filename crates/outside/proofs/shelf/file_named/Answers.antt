@@ -15,12 +15,12 @@ loop-file-preserved c =
     let item = c.file-item.result in
     let name = c.args.name.now in
     let grown : take (i + 1) done ≡ take i done ++ item ∷ [] = take_more done i item c.loop-file-test.true ∙ ap (λ (x : RackFile). take i done ++ x ∷ []) (sym c.file-item.is) in
-    let here : file_in (take (i + 1) done) name ≡ cond (bytes_eq item.name.items name) (Some item.bytes.items) (file_in (take i done) name) = ap (λ (l : List RackFile). file_in l name) grown ∙ file_in_more (take i done) item name in
+    let here : file_in (take (i + 1) done) name ≡ cond (bytes_eq item.name name) (Some item.bytes) (file_in (take i done) name) = ap (λ (l : List RackFile). file_in l name) grown ∙ file_in_more (take i done) item name in
     elim c.if-is_named.branch [
       | then-is_named w ↦
-          let yes : bytes_eq item.name.items name ≡ true = sym c.is_named.ensures ∙ w.if-is_named.true in
-          ap option_copied w.found-is ∙ ap (λ (b : List ℕ). Some b) (search rules) ∙ sym (here ∙ ap (λ (t : Bool). cond t (Some item.bytes.items) (file_in (take i done) name)) yes)
+          let yes : bytes_eq item.name name ≡ true = sym c.is_named.ensures ∙ w.if-is_named.true in
+          ap option_copied w.found-is ∙ ap (λ (b : List ℕ). Some b) (search rules) ∙ sym (here ∙ ap (λ (t : Bool). cond t (Some item.bytes) (file_in (take i done) name)) yes)
       | else-is_named w ↦
-          let no : bytes_eq item.name.items name ≡ false = sym c.is_named.ensures ∙ w.if-is_named.false in
-          ap option_copied w.found-is ∙ c.loop-file.invariant ∙ sym (here ∙ ap (λ (t : Bool). cond t (Some item.bytes.items) (file_in (take i done) name)) no)
+          let no : bytes_eq item.name name ≡ false = sym c.is_named.ensures ∙ w.if-is_named.false in
+          ap option_copied w.found-is ∙ c.loop-file.invariant ∙ sym (here ∙ ap (λ (t : Bool). cond t (Some item.bytes) (file_in (take i done) name)) no)
     ]

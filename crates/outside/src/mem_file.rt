@@ -1,0 +1,14 @@
+use page_model::list::List;
+use page_model::parts::Name;
+
+/// A file of a tray in memory. Where it has a `fails_at`, no read passes that many bytes, and a read that would begin
+/// there fails.
+#[derive(Drop)]
+pub struct MemFile {
+    pub name: Name,
+    pub bytes: Name,
+    pub fails_at: Option<u64>,
+}
+
+/// The files of a tray in memory.
+pub type FileList = List<MemFile>;

@@ -1,0 +1,15 @@
+pub mod ZoneLemmas
+pub mod PageLemmas
+pub mod FirstLeast
+pub mod WorkedPages
+mod WorkedTraps
+mod WorkedZones
+mod WorkedEdges
+pub mod ArmLemmas
+pub mod Grid
+pub mod DeciderLemmas
+pub mod Sums
+pub mod FaultLemmas
+pub mod ReachLemmas
+pub mod ColumnDecider
+pub mod ReachLaws

@@ -1,0 +1,5 @@
+use Rattle.page_model.proofs.Sums.{apart_comm}
+use Rattle.page_model.proofs.laws.apart_law.Goals as goal
+
+pub returns : goal.returns
+returns c = apart_comm c.args.page.now c.args.zone c.args.p c.args.q

@@ -1,0 +1,5 @@
+use Rattle.page_model.proofs.FaultLemmas.{faultless}
+use Rattle.page_model.proofs.laws.faultless_law.Goals as goal
+
+pub returns : goal.returns
+returns c = faultless c.args.page.now c.plates-valid.ensures.valid

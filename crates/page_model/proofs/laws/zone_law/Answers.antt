@@ -1,0 +1,5 @@
+use Rattle.page_model.proofs.ZoneLemmas.{zone_of-is}
+use Rattle.page_model.proofs.laws.zone_law.Goals as goal
+
+pub returns : goal.returns
+returns c = zone_of-is c.args.page.now c.args.p c.plates-valid.ensures.valid

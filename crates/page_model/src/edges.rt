@@ -1,0 +1,90 @@
+ghost use Rattle.std.specs.Prelude.{◌≡◌, ◌+◌, ◌<◌, ◌≤◌, ◌^◌};
+ghost use Rattle.page_model.specs.Edges.{first, second, on_first_side, own, across, d2};
+ghost use Rattle.page_model.specs.Words.{gap, square};
+
+use crate::parts::{At, EdgeAt};
+
+/// The edge's left or upper sample.
+pub fn first_of(e: EdgeAt) -> At
+    ensures { result ≡ first e }
+{
+    At {
+        x: e.x2 / 2,
+        y: e.y2 / 2,
+    }
+}
+
+/// The edge's right or lower sample.
+pub fn second_of(e: EdgeAt) -> At
+    requires x { e.x2 < 2 ^ 15 }
+    requires y { e.y2 < 2 ^ 15 }
+    ensures { result ≡ second e }
+{
+    At {
+        x: e.x2.div_ceil(2),
+        y: e.y2.div_ceil(2),
+    }
+}
+
+fn is_on_first_side(p: At, e: EdgeAt) -> bool
+    requires x { p.x < 2 ^ 14 }
+    requires y { p.y < 2 ^ 14 }
+    ensures { result ≡ on_first_side p e }
+{
+    if e.x2 % 2 == 1 {
+        2 * p.x < e.x2
+    } else {
+        2 * p.y < e.y2
+    }
+}
+
+/// The edge's sample on p's side.
+pub fn own_of(p: At, e: EdgeAt) -> At
+    requires px { p.x < 2 ^ 14 }
+    requires py { p.y < 2 ^ 14 }
+    requires ex { e.x2 < 2 ^ 15 }
+    requires ey { e.y2 < 2 ^ 15 }
+    ensures { result ≡ own p e }
+{
+    if is_on_first_side(p, e) {
+        first_of(e)
+    } else {
+        second_of(e)
+    }
+}
+
+/// The edge's sample across from p.
+pub fn across_of(p: At, e: EdgeAt) -> At
+    requires px { p.x < 2 ^ 14 }
+    requires py { p.y < 2 ^ 14 }
+    requires ex { e.x2 < 2 ^ 15 }
+    requires ey { e.y2 < 2 ^ 15 }
+    ensures { result ≡ across p e }
+{
+    if is_on_first_side(p, e) {
+        second_of(e)
+    } else {
+        first_of(e)
+    }
+}
+
+fn squared(a: u32, b: u32) -> u32
+    requires a { a < 2 ^ 15 }
+    requires b { b < 2 ^ 15 }
+    ensures value { result ≡ square (gap a b) }
+    ensures bound { result < 2 ^ 30 }
+{
+    let away = a.abs_diff(b);
+    away * away
+}
+
+/// The squared distance of p's middle from the edge, in half-samples.
+pub fn squared_distance(p: At, e: EdgeAt) -> u32
+    requires px { p.x < 2 ^ 14 }
+    requires py { p.y < 2 ^ 14 }
+    requires ex { e.x2 < 2 ^ 15 }
+    requires ey { e.y2 < 2 ^ 15 }
+    ensures { result ≡ d2 p e }
+{
+    squared(e.x2, 2 * p.x) + squared(e.y2, 2 * p.y)
+}

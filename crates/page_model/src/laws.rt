@@ -1,0 +1,76 @@
+// Laws over the definitions: each function does nothing, and its contract is the law.
+
+ghost use Rattle.std.specs.Prelude.{◌≡◌, ◌<◌, ◌≤◌, ℕ, true, IfSome, None};
+ghost use Rattle.page_model.specs.Apart.{apart};
+ghost use Rattle.page_model.specs.Decider.{decider, IsDecider, NoneDecides};
+ghost use Rattle.page_model.specs.Density.{density};
+ghost use Rattle.page_model.specs.Faults.{page_fault};
+ghost use Rattle.page_model.specs.Laws.{IsZoneOf, Keeps, KeepsUnlessWithin};
+ghost use Rattle.page_model.specs.ReachLaw.{NoneWithin, ReachLaw, TrapsByColumns};
+ghost use Rattle.page_model.specs.Tints.{full_density};
+ghost use Rattle.page_model.specs.Trapped.{trapped_in};
+ghost use Rattle.page_model.specs.Zones.{zone_of};
+
+use crate::page::Page;
+use crate::parts::{At, EdgeAt};
+
+/// A page has none of the faults for which parts are refused.
+pub fn faultless_law(page: &Page)
+    ensures { page_fault page.now ≡ None }
+{
+    let _valid = page.plates();
+}
+
+/// The zone of a sample is the last one whose path winds round it, and zone 0 where there is none.
+pub fn zone_law(page: &Page, p: At)
+    ensures { IsZoneOf page.now p (zone_of page.now p) }
+{
+    let _valid = page.plates();
+}
+
+/// Whether two samples are apart does not depend on their order.
+pub fn apart_law(page: &Page, zone: u32, p: At, q: At)
+    ensures { apart page.now zone p q ≡ apart page.now zone q p }
+{
+    let _valid = page.plates();
+}
+
+/// The decider of a sample decides, and no deciding edge of the page is less in squared distance, column and row. There
+/// is none exactly where no edge of the page decides.
+pub fn decider_law(page: &Page, p: At)
+    ensures found { IfSome (decider page.now p) (IsDecider page.now p) }
+    ensures none { decider page.now p ≡ None → NoneDecides page.now }
+{
+    let _valid = page.plates();
+}
+
+/// A sample's full tints are at least as dense as its tints, and those of a trapped sample have a density above 0.
+pub fn full_density_law(page: &Page, p: At, e: EdgeAt)
+    ensures grows { density page.now p ≤ full_density page.now p e }
+    ensures some { (z : ℕ) → trapped_in page.now z p e ≡ true → 0 < full_density page.now p e }
+{
+    let _valid = page.plates();
+}
+
+/// A sample without a decider, or whose decider is not within, keeps its tints.
+pub fn locality_law(page: &Page, p: At)
+    ensures decider { KeepsUnlessWithin page.now p }
+    ensures edges { NoneWithin page.now p → Keeps page.now p }
+{
+    let _valid = page.plates();
+}
+
+/// Where the decider's row offset is within the page's reach, the column answers of its sample's row give it. Else no
+/// deciding edge is within of the sample, if its zone is enabled.
+pub fn reach_law(page: &Page, p: At)
+    ensures { ReachLaw page.now p }
+{
+    let _valid = page.plates();
+}
+
+/// The edge that the column answers of a row give traps its samples as their deciders do.
+pub fn columns_trap_law(page: &Page, p: At)
+    ensures { TrapsByColumns page.now p }
+{
+    let _valid = page.plates();
+}

@@ -1,0 +1,7 @@
+use Rattle.std.proofs.Common.{◌≡◌}
+use Rattle.page_model.specs.Words.{list_below}
+use Rattle.page_source.specs.Sample.{tint_at}
+use Rattle.page_source.proofs.sample.plane_tints.Given as goal
+
+abbrev pub invariant-loop-place : goal.invariant-loop-place
+invariant-loop-place l = l.made.items ≡ list_below (tint_at l.tints l.number l.width) l.place

@@ -1,0 +1,9 @@
+use Rattle.std.proofs.Common.{◌≡◌, ◌*◌, ◌≤◌, Some, sym, ap, ◌∙◌, arith, subst}
+use Rattle.page_model.specs.Conditions.{IsParts}
+use Rattle.page_model.specs.Faults.{page_fault}
+use Rattle.page_source.specs.Sample.{sample_parts}
+use Rattle.page_source.proofs.SampleLemmas.{is_parts, faultless}
+use Rattle.page_source.proofs.sample.sample_page.Goals as goal
+
+pub new-requires : goal.new-requires
+new-requires c = subst IsParts (sym c.in-Ok.ensures) (is_parts c.args.number c.args.width c.args.height c.requires.some_width c.requires.narrow c.requires.some_height c.requires.low)

@@ -1,0 +1,5 @@
+use Rattle.pgm_plates.proofs.Facts.{not_both}
+use Rattle.pgm_plates.proofs.laws.not_both.Goals as goal
+
+pub returns : goal.returns
+returns c = not_both

@@ -1,0 +1,105 @@
+-- What the parts of the reader do. No public clause cites this file.
+use Rattle.std.specs.Prelude.{◌≡◌, ℕ, ◌+◌, ◌*◌, ◌<◌, ◌≤◌, List, [], ◌∷◌, ◌++◌, length, take, slice_index, Result, Ok, Err}
+use Rattle.std.specs.List.{All}
+use Rattle.outside.specs.Causes.{Rose}
+use Rattle.outside.specs.Tray.{TrayState}
+use Rattle.outside.specs.Reading.{Takes}
+use Rattle.pgm_plates.specs.declared.header.Header.{Header}
+use Rattle.pgm_plates.specs.declared.plate.Plate.{Plate}
+use Rattle.pgm_plates.specs.declared.plate.PlateFault.TheVariants.{SampleAboveMaxval, Truncated, TrailingBytes}
+use Rattle.pgm_plates.specs.declared.plate.PlateRefusal.{PlateRefusal}
+use Rattle.pgm_plates.specs.declared.plate.PlateRefusal.TheVariants.{Fault, ReadFault, OutOfMemory}
+use Rattle.pgm_plates.specs.Header.{IsHeader}
+use Rattle.pgm_plates.specs.Plates.{IsSide, sample_bytes, sample_size, raster}
+use Rattle.pgm_plates.specs.Reading.{AreFew, AnswersPlate, AtEnd}
+use Rattle.pgm_plates.specs.Scanning.{IsClean}
+
+-- Some bytes are taken, which the answer fits.
+pub record Answers (before after : TrayState) (result : Result Plate PlateRefusal) : Type 0 where
+  pub bytes : List ℕ
+  pub takes : Takes bytes before after
+  pub few : AreFew bytes
+  pub answer : AnswersPlate bytes before after result
+
+-- A whole header without a fault is taken, of so many bytes.
+pub record HeaderRead (before after : TrayState) (header : Header) (count : ℕ) : Type 0 where
+  pub bytes : List ℕ
+  pub takes : Takes bytes before after
+  pub is_header : IsHeader bytes header.width header.height header.maxval
+  pub clean : IsClean bytes (length bytes + 1)
+  pub size : length bytes ≡ count
+  pub short : count ≤ 65536
+  pub width : IsSide header.width
+  pub height : IsSide header.height
+  pub product : header.width * header.height ≤ 160000000
+  pub positive : 0 < header.maxval
+  pub maxval : header.maxval ≤ 65535
+
+abbrev pub ReadsHeader : TrayState → TrayState → Result (Header × ℕ) PlateRefusal → Type 0
+ReadsHeader before after (Ok r) = HeaderRead before after r.0 r.1
+ReadsHeader before after (Err refusal) = Answers before after (Err refusal)
+
+abbrev pub Fit : ℕ → List ℕ → Type 0
+Fit maxval samples = All (λ (s : ℕ). s ≤ maxval) samples
+
+-- samples that fit, and a byte of one more or none
+pub record IsPart (maxval count : ℕ) (bytes : List ℕ) : Type 0 where
+  pub samples : List ℕ
+  pub half : List ℕ
+  pub whole : bytes ≡ raster maxval samples ++ half
+  pub fit : Fit maxval samples
+  pub short : length half < sample_size maxval
+  pub few : length samples + length half ≤ count
+
+-- samples that fit, then one at that place that doesn't, and what was taken behind it
+pub record IsAbove (maxval count : ℕ) (bytes : List ℕ) (place : ℕ) : Type 0 where
+  pub samples : List ℕ
+  pub sample : ℕ
+  pub more : List ℕ
+  pub whole : bytes ≡ raster maxval samples ++ sample_bytes maxval sample ++ more
+  pub fit : Fit maxval samples
+  pub above : maxval < sample
+  pub at : place ≡ length (raster maxval samples)
+  pub few : length samples < count
+  pub within : length bytes ≤ count * sample_size maxval
+
+-- What a refusal in a raster of so many samples says, which begins at that place of the file.
+abbrev pub RasterRefused : ℕ → ℕ → ℕ → TrayState → TrayState → PlateRefusal → Type 0
+RasterRefused maxval count start before after (Fault (SampleAboveMaxval at)) = (bytes : List ℕ) × (place : ℕ) × Takes bytes before after × IsAbove maxval count bytes place × (at ≡ start + place)
+RasterRefused maxval count start before after (Fault (Truncated at)) = (bytes : List ℕ) × Takes bytes before after × IsPart maxval count bytes × (length bytes < count * sample_size maxval) × (at ≡ start + length bytes) × AtEnd before after
+RasterRefused maxval count start before after ReadFault = (bytes : List ℕ) × Takes bytes before after × IsPart maxval count bytes × Rose before.faults after.faults
+RasterRefused maxval count start before after OutOfMemory = (bytes : List ℕ) × Takes bytes before after × (length bytes ≤ count * sample_size maxval)
+RasterRefused maxval count start before after other = ⊥
+
+-- All samples are taken.
+pub record RasterTaken (maxval count : ℕ) (before after : TrayState) (samples : List ℕ) : Type 0 where
+  pub takes : Takes (raster maxval samples) before after
+  pub fit : Fit maxval samples
+  pub all : length samples ≡ count
+
+abbrev pub ReadsPiece : ℕ → ℕ → ℕ → TrayState → TrayState → Result (Unit {0}) PlateRefusal → List ℕ → Type 0
+ReadsPiece maxval count start before after (Ok done) samples = RasterTaken maxval count before after samples
+ReadsPiece maxval count start before after (Err refusal) samples = RasterRefused maxval count start before after refusal
+
+-- what is found behind the raster
+abbrev pub EndsFile : ℕ → TrayState → TrayState → Result (Unit {0}) PlateRefusal → Type 0
+EndsFile at before after (Ok done) = Takes [] before after × AtEnd before after
+EndsFile at before after (Err (Fault (TrailingBytes place))) = (last : ℕ) × Takes (last ∷ []) before after × (place ≡ at)
+EndsFile at before after (Err ReadFault) = Takes [] before after × Rose before.faults after.faults
+EndsFile at before after (Err other) = ⊥
+
+abbrev pub ReadsRaster : ℕ → ℕ → ℕ → TrayState → TrayState → Result (List ℕ) PlateRefusal → Type 0
+ReadsRaster maxval count start before after (Ok samples) = RasterTaken maxval count before after samples
+ReadsRaster maxval count start before after (Err refusal) = RasterRefused maxval count start before after refusal
+
+-- the bytes of samples, and a byte of one more or none
+pub record IsDecoded (maxval : ℕ) (bytes samples : List ℕ) : Type 0 where
+  pub half : List ℕ
+  pub whole : bytes ≡ raster maxval samples ++ half
+  pub short : length half < sample_size maxval
+
+-- the first sample that does not fit
+pub record FirstAbove (maxval : ℕ) (samples : List ℕ) (place : ℕ) : Type 0 where
+  pub within : place < length samples
+  pub fit : Fit maxval (take place samples)
+  pub above : maxval < slice_index samples place

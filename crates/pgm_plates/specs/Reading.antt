@@ -1,0 +1,50 @@
+-- What it means to read a plate from the file of a name.
+use Rattle.std.specs.Prelude.{◌≡◌, ◌⊎◌, ℕ, ◌+◌, ◌*◌, ◌≤◌, IsTrue, List, [], ◌∷◌, ◌++◌, length, take, Some, Result, Ok, Err}
+use Rattle.outside.specs.Causes.{Rose, Asks}
+use Rattle.outside.specs.Tray.{TrayState, KeepsTray}
+use Rattle.pgm_plates.specs.declared.plate.Plate.{Plate}
+use Rattle.pgm_plates.specs.declared.plate.PlateFault.{PlateFault}
+use Rattle.pgm_plates.specs.declared.plate.PlateFault.TheVariants.{Truncated}
+use Rattle.pgm_plates.specs.declared.plate.PlateRefusal.{PlateRefusal}
+use Rattle.pgm_plates.specs.declared.plate.PlateRefusal.TheVariants.{Fault, ReadFault, OutOfMemory}
+use Rattle.pgm_plates.specs.Header.{IsHeader}
+use Rattle.pgm_plates.specs.Plates.{IsPlateFile, sample_size}
+use Rattle.pgm_plates.specs.Faults.{HoldsNoHeader, IsFault}
+
+-- whether a fault is an early end
+abbrev pub IsTruncated : PlateFault → Type 0
+IsTruncated (Truncated at) = Unit {0}
+IsTruncated other = ⊥
+
+-- a header, and so many bytes behind it as its samples take, and one
+pub record IsWithinPlate (bytes : List ℕ) : Type 0 where
+  pub count : ℕ
+  pub width : ℕ
+  pub height : ℕ
+  pub maxval : ℕ
+  pub is_header : IsHeader (take count bytes) width height maxval
+  pub few : length bytes ≤ count + width * height * sample_size maxval + 1
+
+-- No more bytes than these are owed: as many as a header may have, where they hold none; else the header, the raster and one byte.
+abbrev pub AreFew : List ℕ → Type 0
+AreFew bytes = ((length bytes ≤ 65536) × HoldsNoHeader bytes) ⊎ IsWithinPlate bytes
+
+-- nothing of the file is left
+abbrev pub AtEnd : TrayState → TrayState → Type 0
+AtEnd before after = IsTrue before.tells → after.left ≡ []
+
+-- What the answer says of the bytes that were taken.
+abbrev pub AnswersPlate : List ℕ → TrayState → TrayState → Result Plate PlateRefusal → Type 0
+AnswersPlate bytes before after (Ok plate) = IsTrue after.begun × IsPlateFile bytes plate × AtEnd before after
+AnswersPlate bytes before after (Err (Fault fault)) = IsTrue after.begun × IsFault bytes fault × (IsTruncated fault → AtEnd before after)
+AnswersPlate bytes before after (Err ReadFault) = Rose before.faults after.faults × ((fault : PlateFault) → IsFault bytes fault → IsTruncated fault)
+AnswersPlate bytes before after (Err OutOfMemory) = IsTrue after.begun
+
+-- The file of that name is begun, and some bytes are taken off its front, which the answer fits.
+pub record ReadsPlate (name : List ℕ) (before after : TrayState) (result : Result Plate PlateRefusal) : Type 0 where
+  pub keeps : KeepsTray before after
+  pub asked : Asks before.asked after.asked (name ∷ [])
+  pub bytes : List ℕ
+  pub taken : IsTrue after.begun → IsTrue before.tells → before.file name ≡ Some (bytes ++ after.left)
+  pub few : AreFew bytes
+  pub answer : AnswersPlate bytes before after result

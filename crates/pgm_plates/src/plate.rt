@@ -1,0 +1,45 @@
+use page_model::parts::Tints;
+
+/// A plate as its file has it: `width * height` samples, row by row from the top, 0 for black and `maxval` for white.
+///
+/// A plate that was read has sides from 1 to 16,384, at most 160,000,000 samples, and a maxval from 1 to 65,535 which
+/// no sample is above. Netpbm's PGM manual gives the raw format; this project's profile says what of it is taken.
+#[derive(Drop)]
+pub struct Plate {
+    pub width: u32,
+    pub height: u32,
+    pub maxval: u32,
+    pub samples: Tints,
+}
+
+/// What is wrong with a plate file, and at which byte, counted from 0.
+#[derive(Clone, Copy, Debug, Drop, PartialEq, Eq)]
+pub enum PlateFault {
+    /// The file does not begin with `P5`: at the first byte that differs.
+    BadMagic(u64),
+    /// The byte cannot stand there in a header, or the header has not ended within 65,536 bytes.
+    BadHeader(u64),
+    /// The width or the height is 0 or above 16,384: at its first digit.
+    SideRange(u64),
+    /// There are more than 160,000,000 samples: at the height's first digit.
+    TooManySamples(u64),
+    /// The maxval is 0 or above 65,535: at its first digit.
+    MaxvalRange(u64),
+    /// The sample is above the maxval: at its first byte.
+    SampleAboveMaxval(u64),
+    /// The file ends there before the plate is whole.
+    Truncated(u64),
+    /// A byte stands directly behind the raster.
+    TrailingBytes(u64),
+}
+
+/// Why no plate was read.
+#[derive(Clone, Copy, Debug, Drop, PartialEq, Eq)]
+pub enum PlateRefusal {
+    /// The file is no plate file.
+    Fault(PlateFault),
+    /// The file could not be begun, or a read failed before there was a fault.
+    ReadFault,
+    /// Memory was wanting.
+    OutOfMemory,
+}

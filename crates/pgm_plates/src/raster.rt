@@ -1,0 +1,163 @@
+ghost use Rattle.std.specs.Prelude.{IsTrue, ◌≡◌, ◌≤◌, ◌<◌, ◌*◌, ◌^◌, [], length, take, IfOk};
+ghost use Rattle.outside.specs.Causes.{Rose};
+ghost use Rattle.outside.specs.Reading.{Takes};
+ghost use Rattle.pgm_plates.specs.Plates.{sample_size as bytes_of_sample};
+ghost use Rattle.pgm_plates.specs.Readers.{ReadsPiece, ReadsRaster};
+
+use crate::plate::{PlateFault, PlateRefusal};
+use crate::samples::{sample_size, take_samples};
+use outside::tray::{Failed, Tray};
+use page_model::list::List;
+use page_model::parts::Tints;
+use std::alloc::{AllocError, Global};
+
+// How many samples are read in one go at most.
+const PIECE: usize = 65_536;
+
+// Reads that many samples, whose first byte is at that place of the file.
+pub fn read_raster<T: Tray>(
+    alloc: Global,
+    tray: &mut T,
+    count: usize,
+    maxval: u32,
+    start: u64,
+) -> Result<Tints, PlateRefusal>
+    requires begun { IsTrue (T.state tray.old).begun }
+    requires start { start ≤ 65536 }
+    requires some { 0 < count }
+    requires count { count < 2 ^ 30 }
+    ensures { ReadsRaster maxval count start (T.state tray.old) (T.state tray.new) result }
+{
+    let most = count.min(PIECE);
+    let Ok(mut piece) = no_samples(alloc, most) else {
+        return Err(PlateRefusal::OutOfMemory);
+    };
+    let Ok(mut bytes) = no_bytes(alloc, 2 * most) else {
+        return Err(PlateRefusal::OutOfMemory);
+    };
+    let Ok(mut samples) = Vec::with_capacity(alloc, count) else {
+        return Err(PlateRefusal::OutOfMemory);
+    };
+    match read_pieces(
+        tray,
+        &mut samples,
+        &mut piece,
+        &mut bytes,
+        count,
+        maxval,
+        start,
+    ) {
+        Ok(()) => Ok(List::from_vec(samples)),
+        Err(refusal) => Err(refusal),
+    }
+}
+
+// The lengths of the two buffers are parameters, so that no proof unfolds lists of so many.
+fn no_samples(alloc: Global, len: usize) -> Result<Vec<u16>, AllocError>
+    ensures { IfOk result (λ samples. length samples.items ≡ len) }
+{
+    vec![in alloc; 0u16; len]
+}
+
+fn no_bytes(alloc: Global, len: usize) -> Result<Vec<u8>, AllocError>
+    ensures { IfOk result (λ bytes. length bytes.items ≡ len) }
+{
+    vec![in alloc; 0u8; len]
+}
+
+// Reads samples behind the ones that are there, until there are that many.
+fn read_pieces<T: Tray>(
+    tray: &mut T,
+    samples: &mut Vec<u16>,
+    piece: &mut [u16],
+    bytes: &mut [u8],
+    count: usize,
+    maxval: u32,
+    start: u64,
+) -> Result<(), PlateRefusal>
+    requires begun { IsTrue (T.state tray.old).begun }
+    requires start { start ≤ 65536 }
+    requires count { count < 2 ^ 30 }
+    requires some { 0 < length piece.old }
+    requires room { 2 * length piece.old ≤ length bytes.old }
+    requires empty { samples.old.items ≡ [] }
+    ensures { ReadsPiece maxval count start (T.state tray.old) (T.state tray.new) result samples.new.items }
+{
+    let size = sample_size(maxval);
+    while samples.len() < count {
+        let done = samples.len();
+        let want = piece.len().min(count - done);
+        match read_piece(
+            tray,
+            &mut piece[..want],
+            &mut bytes[..want * size],
+            maxval,
+            start + (done * size) as u64,
+        ) {
+            Ok(()) => match samples.extend_from_slice(&piece[..want]) {
+                Ok(()) => {}
+                Err(_) => return Err(PlateRefusal::OutOfMemory),
+            },
+            Err(refusal) => return Err(refusal),
+        }
+    }
+    Ok(())
+}
+
+// Reads as many samples as there is room for.
+fn read_piece<T: Tray>(
+    tray: &mut T,
+    samples: &mut [u16],
+    bytes: &mut [u8],
+    maxval: u32,
+    start: u64,
+) -> Result<(), PlateRefusal>
+    requires begun { IsTrue (T.state tray.old).begun }
+    requires start { start < 2 ^ 40 }
+    requires count { length samples.old < 2 ^ 30 }
+    requires room { length bytes.old ≡ length samples.old * bytes_of_sample maxval }
+    ensures { ReadsPiece maxval (length samples.new) start (T.state tray.old) (T.state tray.new) result samples.new }
+{
+    let size = sample_size(maxval);
+    let (filled, end) = fill(tray, bytes);
+    let whole = filled / size;
+    // What was filled before the file ended or a read failed is judged first.
+    match take_samples(&bytes[..filled], maxval, &mut samples[..whole]) {
+        Some(place) => Err(PlateRefusal::Fault(PlateFault::SampleAboveMaxval(
+            start + (place * size) as u64,
+        ))),
+        None => match end {
+            Filled::Whole => Ok(()),
+            Filled::End => Err(PlateRefusal::Fault(PlateFault::Truncated(start + filled as u64))),
+            Filled::Broken => Err(PlateRefusal::ReadFault),
+        },
+    }
+}
+
+// Why no more was read into a buffer.
+#[derive(Clone, Copy, Debug, Drop, PartialEq, Eq)]
+pub enum Filled {
+    Whole,
+    End,
+    Broken,
+}
+
+// Reads until the buffer is full, the file ends or a read fails, and says how many bytes are there.
+fn fill<T: Tray>(tray: &mut T, buf: &mut [u8]) -> (usize, Filled)
+    requires { IsTrue (T.state tray.old).begun }
+    ensures within { result.0 ≤ length buf.new }
+    ensures takes { Takes (take result.0 buf.new) (T.state tray.old) (T.state tray.new) }
+    ensures whole { result.1 ≡ Filled.Whole → result.0 ≡ length buf.new }
+    ensures ended { result.1 ≡ Filled.End → (result.0 < length buf.new) × (IsTrue (T.state tray.old).tells → (T.state tray.new).left ≡ []) }
+    ensures broken { result.1 ≡ Filled.Broken → Rose (T.state tray.old).faults (T.state tray.new).faults }
+{
+    let mut done = 0usize;
+    while done < buf.len() {
+        match tray.read(&mut buf[done..]) {
+            Ok(0) => return (done, Filled::End),
+            Ok(count) => done += count,
+            Err(Failed) => return (done, Filled::Broken),
+        }
+    }
+    (done, Filled::Whole)
+}

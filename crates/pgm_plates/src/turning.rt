@@ -1,0 +1,50 @@
+ghost use Rattle.std.specs.Prelude.{◌≡◌, ◌-◌, ◌≤◌, map};
+ghost use Rattle.std.specs.List.{All};
+ghost use Rattle.pgm_plates.specs.Plates.{IsPlate};
+ghost use Rattle.pgm_plates.specs.Planes.{IsPlane, plane_of, plate_of};
+
+use crate::plate::Plate;
+use page_model::list::List;
+use page_model::parts::{Plane, Tints};
+
+impl Plate {
+    /// Turns the samples into tints, in place: `maxval - sample`, so that 0 is no ink.
+    pub fn into_plane(self) -> Plane
+        requires { IsPlate self }
+        ensures tints { result ≡ plane_of self }
+        ensures in_range { IsPlane result }
+    {
+        Plane {
+            width: self.width,
+            height: self.height,
+            maxval: self.maxval,
+            tints: turned(self.samples, self.maxval),
+        }
+    }
+
+    /// Turns the tints of a plane into samples, in place.
+    pub fn of_plane(plane: Plane) -> Plate
+        requires { IsPlane plane }
+        ensures samples { result ≡ plate_of plane }
+        ensures in_range { IsPlate result }
+    {
+        Plate {
+            width: plane.width,
+            height: plane.height,
+            maxval: plane.maxval,
+            samples: turned(plane.tints, plane.maxval),
+        }
+    }
+}
+
+fn turned(values: Tints, most: u32) -> Tints
+    requires fits { most ≤ 65535 }
+    requires below { All (λ v. v ≤ most) values }
+    ensures { result ≡ map (λ v. most - v) values }
+{
+    let mut values = values.into_vec();
+    for at in 0..values.len() {
+        values[at] = most as u16 - values[at];
+    }
+    List::from_vec(values)
+}

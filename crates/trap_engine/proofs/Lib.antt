@@ -1,0 +1,3 @@
+pub mod ListBelow
+pub mod WholeLemmas
+pub mod ZoneRows

@@ -1,0 +1,116 @@
+-- The line and the status of each refusal.
+use Rattle.std.specs.Prelude.{ℕ, List, [], ◌∷◌, ◌++◌, Option, Some, None, codes, decimal}
+use Rattle.page_model.specs.declared.page.PageFault.{PageFault}
+use Rattle.page_model.specs.declared.page.PageFault.TheVariants.{SizeDiffers, MaxvalDiffers, TooManySamples as PageTooLarge, ReachTooWide}
+use Rattle.pgm_plates.specs.declared.plate.PlateFault.{PlateFault}
+use Rattle.pgm_plates.specs.declared.plate.PlateFault.TheVariants.{BadMagic, BadHeader, SideRange, TooManySamples, MaxvalRange, SampleAboveMaxval, Truncated, TrailingBytes}
+use Rattle.ps_tokens.specs.declared.faults.FaultKind.{FaultKind}
+use Rattle.ps_tokens.specs.declared.faults.FaultKind.TheVariants.{JobTooLong, BadToken, NumberTooLarge, Unclosed, Unmatched, OddDictionary, KeyNotName, NameInside, TooDeep, UnknownOperator, WrongOperands, WrongKind, OutOfRange, NotDictionary, MissingKey, WrongType, BadDensity, BadKind, BadResolution, NoCurrentPoint, CoordinateRange, TooManyVertices, TooManyZones, NoPageDevice, NoShowpage, AfterShowpage}
+use Rattle.ps_tokens.specs.declared.faults.JobFault.{JobFault}
+use Rattle.ps_tokens.specs.declared.faults.Key.{Key}
+use Rattle.ps_tokens.specs.declared.faults.Key.TheVariants.{TrapWidth, BlackWidth, BlackColorLimit, BlackDensityLimit, StepLimit, SlidingTrapLimit, TrapColorScaling, Enabled, Trapping}
+use Rattle.trap_report.specs.declared.refusal.Refusal.{Refusal}
+use Rattle.trap_report.specs.declared.refusal.Refusal.TheVariants.{Usage, Job, NoDetails, Plate, Page, Read, Write, Memory}
+use Rattle.trap_report.specs.Report.{line}
+
+abbrev pub key_name : Key → List ℕ
+key_name TrapWidth = codes "TrapWidth"
+key_name BlackWidth = codes "BlackWidth"
+key_name BlackColorLimit = codes "BlackColorLimit"
+key_name BlackDensityLimit = codes "BlackDensityLimit"
+key_name StepLimit = codes "StepLimit"
+key_name SlidingTrapLimit = codes "SlidingTrapLimit"
+key_name TrapColorScaling = codes "TrapColorScaling"
+key_name Enabled = codes "Enabled"
+key_name Trapping = codes "Trapping"
+
+-- the name of a kind of fault; where a parameter is named too, a space stands behind it
+abbrev pub kind_name : FaultKind → List ℕ
+kind_name JobTooLong = codes "JobTooLong"
+kind_name BadToken = codes "BadToken"
+kind_name NumberTooLarge = codes "NumberTooLarge"
+kind_name Unclosed = codes "Unclosed"
+kind_name Unmatched = codes "Unmatched"
+kind_name OddDictionary = codes "OddDictionary"
+kind_name KeyNotName = codes "KeyNotName"
+kind_name NameInside = codes "NameInside"
+kind_name TooDeep = codes "TooDeep"
+kind_name UnknownOperator = codes "UnknownOperator"
+kind_name WrongOperands = codes "WrongOperands"
+kind_name (WrongKind key) = codes "WrongKind "
+kind_name (OutOfRange key) = codes "OutOfRange "
+kind_name NotDictionary = codes "NotDictionary"
+kind_name MissingKey = codes "MissingKey"
+kind_name WrongType = codes "WrongType"
+kind_name BadDensity = codes "BadDensity"
+kind_name BadKind = codes "BadKind"
+kind_name BadResolution = codes "BadResolution"
+kind_name NoCurrentPoint = codes "NoCurrentPoint"
+kind_name CoordinateRange = codes "CoordinateRange"
+kind_name TooManyVertices = codes "TooManyVertices"
+kind_name TooManyZones = codes "TooManyZones"
+kind_name NoPageDevice = codes "NoPageDevice"
+kind_name NoShowpage = codes "NoShowpage"
+kind_name AfterShowpage = codes "AfterShowpage"
+
+-- the parameter that a fault names, if any
+abbrev pub named_key : FaultKind → List ℕ
+named_key (WrongKind key) = key_name key
+named_key (OutOfRange key) = key_name key
+named_key other = []
+
+abbrev pub job_line : JobFault → List ℕ
+job_line fault = line (codes "job: " ++ kind_name fault.kind ++ named_key fault.kind ++ codes " at " ++ decimal fault.at)
+
+abbrev pub plate_fault_name : PlateFault → List ℕ
+plate_fault_name (BadMagic at) = codes "BadMagic"
+plate_fault_name (BadHeader at) = codes "BadHeader"
+plate_fault_name (SideRange at) = codes "SideRange"
+plate_fault_name (TooManySamples at) = codes "TooManySamples"
+plate_fault_name (MaxvalRange at) = codes "MaxvalRange"
+plate_fault_name (SampleAboveMaxval at) = codes "SampleAboveMaxval"
+plate_fault_name (Truncated at) = codes "Truncated"
+plate_fault_name (TrailingBytes at) = codes "TrailingBytes"
+
+abbrev pub plate_fault_place : PlateFault → ℕ
+plate_fault_place (BadMagic at) = at
+plate_fault_place (BadHeader at) = at
+plate_fault_place (SideRange at) = at
+plate_fault_place (TooManySamples at) = at
+plate_fault_place (MaxvalRange at) = at
+plate_fault_place (SampleAboveMaxval at) = at
+plate_fault_place (Truncated at) = at
+plate_fault_place (TrailingBytes at) = at
+
+abbrev pub plate_fault_line : ℕ → PlateFault → List ℕ
+plate_fault_line plate fault = line (codes "plate " ++ decimal plate ++ codes ": " ++ plate_fault_name fault ++ codes " at " ++ decimal (plate_fault_place fault))
+
+abbrev pub page_fault_line : PageFault → List ℕ
+page_fault_line (SizeDiffers plate) = line (codes "page: SizeDiffers plate " ++ decimal plate)
+page_fault_line (MaxvalDiffers plate) = line (codes "page: MaxvalDiffers plate " ++ decimal plate)
+page_fault_line PageTooLarge = line (codes "page: TooManySamples")
+page_fault_line (ReachTooWide zone) = line (codes "page: ReachTooWide zone " ++ decimal zone)
+
+-- the line that a refusal tells
+abbrev pub line_of : Refusal → List ℕ
+line_of Usage = line (codes "usage: trap page [--workers N] [--band B] JOB REPORT NAME:IN:OUT ... | trap sample NUMBER WIDTH HEIGHT WORKERS")
+line_of (Job fault) = job_line fault
+line_of (NoDetails plate) = line (codes "job: NoDetails for plate " ++ decimal plate)
+line_of (Plate plate fault) = plate_fault_line plate fault
+line_of (Page fault) = page_fault_line fault
+line_of (Read None) = line (codes "read fault: job")
+line_of (Read (Some plate)) = line (codes "read fault: plate " ++ decimal plate)
+line_of (Write None) = line (codes "write fault: report")
+line_of (Write (Some plate)) = line (codes "write fault: plate " ++ decimal plate)
+line_of Memory = line (codes "out of memory")
+
+-- the status that the program ends with after a refusal
+abbrev pub status_of : Refusal → ℕ
+status_of Usage = 2
+status_of (Job fault) = 3
+status_of (NoDetails plate) = 3
+status_of (Plate plate fault) = 4
+status_of (Page fault) = 4
+status_of (Read file) = 5
+status_of (Write file) = 6
+status_of Memory = 7

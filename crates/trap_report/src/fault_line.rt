@@ -1,0 +1,90 @@
+ghost use Rattle.std.specs.Prelude.{◌≡◌, ◌≤◌, ◌++◌, length, decimal, codes};
+ghost use Rattle.trap_report.specs.Report.{line};
+ghost use Rattle.trap_report.specs.Refusals.{line_of, job_line as job_text, plate_fault_line as plate_text, page_fault_line as page_text};
+
+use crate::kind_names::{kind_name, named_key, plate_fault_name, plate_fault_place};
+use crate::line::Line;
+use crate::refusal::Refusal;
+use page_model::page::PageFault;
+use pgm_plates::plate::PlateFault;
+use ps_tokens::faults::JobFault;
+
+/// The line that a refusal tells, its LF included. It takes no memory, and has fewer than 160 bytes. The form is this
+/// project's own.
+pub fn fault_line(refusal: &Refusal) -> Line
+    ensures { result ≡ line_of refusal.now }
+{
+    match refusal {
+        Refusal::Usage => text_line(
+            b"usage: trap page [--workers N] [--band B] JOB REPORT NAME:IN:OUT ... | trap sample NUMBER WIDTH HEIGHT WORKERS",
+        ),
+        Refusal::Job(fault) => job_line(fault),
+        Refusal::NoDetails(plate) => number_line(b"job: NoDetails for plate ", *plate),
+        Refusal::Plate(plate, fault) => plate_fault_line(*plate, fault),
+        Refusal::Page(fault) => page_fault_line(fault),
+        Refusal::Read(None) => text_line(b"read fault: job"),
+        Refusal::Read(Some(plate)) => number_line(b"read fault: plate ", *plate),
+        Refusal::Write(None) => text_line(b"write fault: report"),
+        Refusal::Write(Some(plate)) => number_line(b"write fault: plate ", *plate),
+        Refusal::Memory => text_line(b"out of memory"),
+    }
+}
+
+fn text_line(text: &[u8]) -> Line
+    requires { length text.now ≤ 150 }
+    ensures { result ≡ line text.now }
+{
+    let mut told = Line::new();
+    told.push(text);
+    told.push(b"\n");
+    told
+}
+
+fn number_line(text: &[u8], number: u32) -> Line
+    requires { length text.now ≤ 50 }
+    ensures { result ≡ line (text.now ++ decimal number) }
+{
+    let mut told = Line::new();
+    told.push(text);
+    told.push_number(number as u64);
+    told.push(b"\n");
+    told
+}
+
+fn job_line(fault: &JobFault) -> Line
+    ensures { result ≡ job_text fault.now }
+{
+    let mut told = Line::new();
+    told.push(b"job: ");
+    told.push(kind_name(fault.kind));
+    told.push(named_key(fault.kind));
+    told.push(b" at ");
+    told.push_number(fault.at as u64);
+    told.push(b"\n");
+    told
+}
+
+fn plate_fault_line(plate: u32, fault: &PlateFault) -> Line
+    ensures { result ≡ plate_text plate fault.now }
+{
+    let mut told = Line::new();
+    told.push(b"plate ");
+    told.push_number(plate as u64);
+    told.push(b": ");
+    told.push(plate_fault_name(*fault));
+    told.push(b" at ");
+    told.push_number(plate_fault_place(*fault));
+    told.push(b"\n");
+    told
+}
+
+fn page_fault_line(fault: &PageFault) -> Line
+    ensures { result ≡ page_text fault.now }
+{
+    match fault {
+        PageFault::SizeDiffers(plate) => number_line(b"page: SizeDiffers plate ", *plate),
+        PageFault::MaxvalDiffers(plate) => number_line(b"page: MaxvalDiffers plate ", *plate),
+        PageFault::TooManySamples => text_line(b"page: TooManySamples"),
+        PageFault::ReachTooWide(zone) => number_line(b"page: ReachTooWide zone ", *zone),
+    }
+}

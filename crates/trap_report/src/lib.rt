@@ -1,0 +1,8 @@
+//! What the program tells: the report of a page, and the line and the status of each refusal.
+#![tactic(auto)]
+
+pub mod fault_line;
+mod kind_names;
+pub mod line;
+pub mod refusal;
+pub mod report;

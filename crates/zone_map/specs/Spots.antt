@@ -1,0 +1,11 @@
+use Rattle.std.specs.Prelude.{◌≤◌, nat_abs}
+use Rattle.page_model.specs.Zones.{Point}
+use Rattle.zone_map.specs.declared.turns.Spot.{Spot}
+
+abbrev pub point : Spot → Point
+point s = record { px = s.x; py = s.y }
+
+-- within the range of vertices, a million points at 10,000 pixels an inch
+pub record IsNear (s : Spot) : Type 0 where
+  pub x_near : nat_abs s.x ≤ 100000000000000
+  pub y_near : nat_abs s.y ≤ 100000000000000
