@@ -1,3 +1,4 @@
+pub mod Balancing
 pub mod Completing
 pub mod Counting
 pub mod Entries

@@ -1,3 +1,4 @@
+pub mod Balance
 pub mod Brackets
 pub mod Bytes
 pub mod Dictionaries

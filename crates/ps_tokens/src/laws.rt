@@ -6,6 +6,8 @@ ghost use Rattle.ps_tokens.specs.declared.token.Token.{Token};
 ghost use Rattle.ps_tokens.specs.declared.brackets.Bracket.{Bracket};
 ghost use Rattle.ps_tokens.specs.declared.faults.JobFault.{JobFault};
 ghost use Rattle.ps_tokens.specs.Bytes.{is_whitespace, is_in_comment};
+ghost use Rattle.ps_tokens.specs.Balance.{IsBalanced, Closes};
+ghost use Rattle.ps_tokens.specs.Texts.{text_end};
 ghost use Rattle.ps_tokens.specs.Tokens.{tokens_from, tokens_of};
 ghost use Rattle.ps_tokens.specs.Brackets.{brackets_after};
 ghost use Rattle.ps_tokens.specs.Objects.{objects_of};
@@ -40,4 +42,10 @@ pub fn faultless_is_completable()
 /// After a token with a fault no further tokens complete the list, and whatever they are, the fault is that one.
 pub fn faulty_is_never_completed()
     ensures { (bytes : List ℕ) (tokens more : List Token) (fault : JobFault) → brackets_after bytes tokens ≡ Err fault → objects_of bytes (tokens ++ more) ≡ Err fault }
+{}
+
+/// A string ends with the first parenthesis before which everything is balanced, and nowhere else.
+pub fn string_ends_where_balanced()
+    ensures read { (inner after : List ℕ) → IsBalanced inner → text_end false 0 1 (inner ++ 41 ∷ after) ≡ Some (length inner + 2) }
+    ensures balanced { (bytes : List ℕ) (n : ℕ) → text_end false 0 1 bytes ≡ Some n → Closes bytes n }
 {}

@@ -1,10 +1,13 @@
 ghost use Rattle.std.specs.Prelude.{◌≤◌, length, IfOk};
 ghost use Rattle.ps_tokens.specs.Dictionaries.{AreObjects};
 
+use crate::dictionary::keys;
 use crate::faults::{JobFault, JobRefusal};
+use crate::names::last_keys;
 use crate::object::{Body, Object, ObjectList};
 use crate::token::TokenList;
 use crate::{last, objects, tokens};
+use page_model::parts::OutOfMemory;
 use std::alloc::{AllocError, Global};
 use std::process::Abort;
 use std::test::Fail;
@@ -295,6 +298,36 @@ fn expect_entries(rt: &impl Abort, alloc: Global, table: &[(&[u8], &[u8], Option
             Err(_) => assert!(rt; false, "{bytes:?}"),
         }
     }
+}
+
+fn expect_last_keys(
+    rt: &impl Abort,
+    alloc: Global,
+    bytes: &[u8],
+    every: &[u32],
+    by_name: &[u32],
+) -> Result<(), AllocError> {
+    assert!(rt; bytes.len() <= LONGEST);
+    let Ok(all) = read(alloc, bytes) else {
+        assert!(rt; false, "{bytes:?}");
+        return Ok(());
+    };
+    match keys(alloc, &all, 0) {
+        Ok(found) => assert_eq!(rt; found.as_slice(), every),
+        Err(OutOfMemory) => assert!(rt; false),
+    }
+    match last_keys(alloc, &all, 0) {
+        Ok(found) => assert_eq!(rt; found.as_slice(), by_name),
+        Err(OutOfMemory) => assert!(rt; false),
+    }
+    Ok(())
+}
+
+#[test]
+fn orders_names(rt: HostRuntime) -> Result<(), Fail> {
+    let bytes = b"<< /b 1 /a [ 2 ] /b 3 /aa 4 /B 5 >>";
+    expect_last_keys(&rt, rt.alloc(), bytes, &[1, 3, 6, 8, 10], &[10, 3, 8, 6])?;
+    Ok(())
 }
 
 #[test]
