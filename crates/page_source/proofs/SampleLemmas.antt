@@ -45,7 +45,8 @@ plane_ok tints number w h tested w1 w2 h1 h2 = record {
   some_maxval = omega arith;
   maxval_fits = omega arith;
   full = length-list_below (tint_at tints number w) (w * h);
-  below = All-list_below (tint_at tints number w) 255 (w * h) (λ k. fits tints (colour number (k % w) (k / w)) tested) }
+  below = All-list_below (tint_at tints number w) 255 (w * h) (λ k. fits tints (colour number (k % w) (k / w)) tested);
+}
 
 ink_ok : (name : List ℕ) (density : ℕ) → 10 ≤ density → density ≤ 100000 → IsInk (normal_ink name density)
 ink_ok name density some most = record { some_density = some; most_density = most }
@@ -54,7 +55,8 @@ zone_ok : IsZone sample_zone
 zone_ok = record {
   params = record { some_width = omega arith; width = omega arith; some_factor = omega arith; factor = omega arith; color = omega arith; some_density = omega arith; density = omega arith; step = omega arith; sliding = omega arith; scaling = omega arith };
   path = record { begun = refl; few = omega arith; near = all_none IsVertex };
-  limits = record { once = λ i j d before within. absurd (omega arith); steps = all_none (λ (l : Limit). l.step ≤ 10000) } }
+  limits = record { once = λ i j d before within. absurd (omega arith); steps = all_none (λ (l : Limit). l.step ≤ 10000) };
+}
 
 pub is_parts : (number w h : ℕ) → 1 ≤ w → w ≤ 16384 → 1 ≤ h → h ≤ 16384 → IsParts (sample_parts number w h)
 is_parts number w h w1 w2 h1 h2 = record {
@@ -64,14 +66,15 @@ is_parts number w h w1 w2 h1 h2 = record {
   some_zones = omega arith;
   few_zones = omega arith;
   planes_in_range = all_four IsPlane (sample_plane cyan_tints number w h) (sample_plane magenta_tints number w h) (sample_plane yellow_tints number w h) (sample_plane black_tints number w h)
-    (plane_ok cyan_tints number w h refl w1 w2 h1 h2) (plane_ok magenta_tints number w h refl w1 w2 h1 h2) (plane_ok yellow_tints number w h refl w1 w2 h1 h2) (plane_ok black_tints number w h refl w1 w2 h1 h2);
+      (plane_ok cyan_tints number w h refl w1 w2 h1 h2) (plane_ok magenta_tints number w h refl w1 w2 h1 h2) (plane_ok yellow_tints number w h refl w1 w2 h1 h2) (plane_ok black_tints number w h refl w1 w2 h1 h2);
   inks_in_range = all_four IsInk (normal_ink (codes "Cyan") 6100) (normal_ink (codes "Magenta") 7600) (normal_ink (codes "Yellow") 1600) (normal_ink (codes "Black") 17000)
-    (ink_ok (codes "Cyan") 6100 (omega arith) (omega arith)) (ink_ok (codes "Magenta") 7600 (omega arith) (omega arith)) (ink_ok (codes "Yellow") 1600 (omega arith) (omega arith)) (ink_ok (codes "Black") 17000 (omega arith) (omega arith));
+      (ink_ok (codes "Cyan") 6100 (omega arith) (omega arith)) (ink_ok (codes "Magenta") 7600 (omega arith) (omega arith)) (ink_ok (codes "Yellow") 1600 (omega arith) (omega arith)) (ink_ok (codes "Black") 17000 (omega arith) (omega arith));
   zones_in_range = all_one IsZone sample_zone zone_ok;
   zone_0 = refl;
   few_vertices = omega arith;
   fine = omega arith;
-  resolved = λ none. absurd (omega arith) }
+  resolved = λ none. absurd (omega arith);
+}
 
 -- the sides of all plates are the same
 same_sides : (w h : ℕ) → eqb w w && eqb h h ≡ true

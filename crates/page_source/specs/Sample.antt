@@ -51,4 +51,5 @@ sample_parts number width height = record {
   resolution = 600;
   planes = sample_plane cyan_tints number width height ∷ sample_plane magenta_tints number width height ∷ sample_plane yellow_tints number width height ∷ sample_plane black_tints number width height ∷ [];
   inks = normal_ink (codes "Cyan") 6100 ∷ normal_ink (codes "Magenta") 7600 ∷ normal_ink (codes "Yellow") 1600 ∷ normal_ink (codes "Black") 17000 ∷ [];
-  zones = sample_zone ∷ [] }
+  zones = sample_zone ∷ [];
+}

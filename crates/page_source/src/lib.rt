@@ -2,3 +2,5 @@
 #![tactic(auto)]
 
 pub mod sample;
+#[cfg(test)]
+mod tests;

@@ -3,7 +3,9 @@ ghost use Rattle.page_source.specs.Sample.{colour as colour_of, tint_at, sample_
 
 use page_model::list::List;
 use page_model::page::Page;
-use page_model::parts::{Ink, InkKind, InkList, OutOfMemory, PageParts, Plane, PlaneList, TrapParams, Zone, ZoneList};
+use page_model::parts::{
+    Ink, InkKind, InkList, OutOfMemory, PageParts, Plane, PlaneList, TrapParams, Zone, ZoneList,
+};
 use std::alloc::Global;
 use thiserror::Error;
 
@@ -29,7 +31,12 @@ const MOST_SAMPLES: u64 = 160_000_000;
 
 /// The sample page of that number: four plates of `width * height` samples at 600 pixels per inch, in tiles of eight
 /// samples a side, and zone 0 alone. The page is this project's own.
-pub fn sample_page(alloc: Global, number: u32, width: u32, height: u32) -> Result<Page, SampleRefusal>
+pub fn sample_page(
+    alloc: Global,
+    number: u32,
+    width: u32,
+    height: u32,
+) -> Result<Page, SampleRefusal>
     requires some_width { 1 ≤ width }
     requires narrow { width ≤ 16384 }
     requires some_height { 1 ≤ height }

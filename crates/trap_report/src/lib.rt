@@ -6,3 +6,5 @@ mod kind_names;
 pub mod line;
 pub mod refusal;
 pub mod report;
+#[cfg(test)]
+mod tests;
