@@ -1,3 +1,9 @@
+pub mod ArmsLemmas
+pub mod CountLemmas
+pub mod EdgeCount
 pub mod ListBelow
+pub mod MarkLemmas
+pub mod StandingLemmas
 pub mod WholeLemmas
 pub mod ZoneRows
+pub mod AssemblyLemmas

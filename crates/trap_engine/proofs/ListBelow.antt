@@ -21,5 +21,8 @@ list_below-add f n zero = rw add-zero (sym (append-nil (list_below f n)))
 list_below-add f n (suc m) = rw (add-suc, list_below-add f n m) (append_assoc (list_below f n) (list_below (λ i. f (n + i)) m) (f (n + m) ∷ []))
 
 -- a list that has these items
+pub list_below-of : {X : Type 0} (d : X) (f : ℕ → X) (n : ℕ) (xs : List X) → length xs ≡ n → ((k : ℕ) → k < n → slice_index_or xs k d ≡ f k) → xs ≡ list_below f n
+list_below-of d f n xs long each = ext_get_or d xs (list_below f n) (long ∙ sym (length-list_below f n)) (λ k l. each k (omega (arith, l, long)) ∙ sym (list_below-at f n k d (omega (arith, l, long))))
+
 pub list_below-from : (f : ℕ → ℕ) (n : ℕ) (xs : List ℕ) → length xs ≡ n → ((k : ℕ) → k < n → slice_index_or xs k 0 ≡ f k) → xs ≡ list_below f n
-list_below-from f n xs long each = ext_get_or 0 xs (list_below f n) (long ∙ sym (length-list_below f n)) (λ k l. each k (omega (arith, l, long)) ∙ sym (list_below-at f n k 0 (omega (arith, l, long))))
+list_below-from = list_below-of 0

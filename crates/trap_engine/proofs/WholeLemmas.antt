@@ -1,17 +1,15 @@
-use Rattle.std.proofs.Common.{◌≡◌, ℕ, ◌*◌, ◌/◌, ◌<◌, Bool, length, refl, Option}
+use Rattle.std.proofs.Common.{◌≡◌, ℕ, ◌/◌, ◌%◌, ◌<◌, Bool, length, refl}
 use Rattle.std.specs.Prelude.{slice_index_or}
-use Rattle.std.proofs.Math.Nat.{div-lt_iff_lt-mul}
 use Rattle.std.proofs.lemmas.Nat.{div-mul-add, mod-mul-add, mul-add-lt}
 use Rattle.page_model.specs.declared.parts.At.{At}
-use Rattle.page_model.specs.declared.parts.EdgeAt.{EdgeAt}
 use Rattle.page_model.specs.declared.parts.PageParts.{PageParts}
 use Rattle.page_model.specs.declared.parts.Plane.{Plane}
 use Rattle.page_model.specs.Counts.{sample_changes}
-use Rattle.page_model.specs.Decider.{decider, grid_point, grid_points, is_candidate}
+use Rattle.page_model.specs.Deciding.{mark}
 use Rattle.page_model.specs.Page.{InPage, place, plates, samples, sample_at, width, height}
 use Rattle.page_model.specs.Tints.{new, new_tints, trapped_plane, trapped_planes}
 use Rattle.page_model.specs.Zones.{zone_of}
-use Rattle.trap_engine.specs.Whole.{edge_marks, sample_changes_of, sample_deciders, sample_zones}
+use Rattle.trap_engine.specs.Whole.{sample_changes_of, sample_marks, sample_zones}
 use Rattle.trap_engine.proofs.ListBelow.{length-list_below, list_below-at}
 
 pub sample_zones-length : (page : PageParts) → length (sample_zones page) ≡ samples page
@@ -22,21 +20,13 @@ pub sample_zones-at : (page : PageParts) (k d : ℕ) → k < samples page → sl
 unfolding sample_zones
 sample_zones-at page k d l = list_below-at _ (samples page) k d l
 
-pub edge_marks-length : (page : PageParts) → length (edge_marks page) ≡ grid_points page
-unfolding edge_marks
-edge_marks-length page = length-list_below _ (grid_points page)
+pub sample_marks-length : (page : PageParts) → length (sample_marks page) ≡ samples page
+unfolding sample_marks
+sample_marks-length page = length-list_below _ (samples page)
 
-pub edge_marks-at : (page : PageParts) (k : ℕ) (d : Bool) → k < grid_points page → slice_index_or (edge_marks page) k d ≡ is_candidate page (grid_point page k)
-unfolding edge_marks
-edge_marks-at page k d l = list_below-at _ (grid_points page) k d l
-
-pub sample_deciders-length : (page : PageParts) → length (sample_deciders page) ≡ samples page
-unfolding sample_deciders
-sample_deciders-length page = length-list_below _ (samples page)
-
-pub sample_deciders-at : (page : PageParts) (k : ℕ) (d : Option EdgeAt) → k < samples page → slice_index_or (sample_deciders page) k d ≡ decider page (sample_at page k)
-unfolding sample_deciders
-sample_deciders-at page k d l = list_below-at _ (samples page) k d l
+pub sample_marks-at : (page : PageParts) (k d : ℕ) → k < samples page → slice_index_or (sample_marks page) k d ≡ mark page (k / width page) (k % width page)
+unfolding sample_marks
+sample_marks-at page k d l = list_below-at _ (samples page) k d l
 
 pub sample_changes_of-length : (page : PageParts) → length (sample_changes_of page) ≡ samples page
 unfolding sample_changes_of
@@ -69,14 +59,9 @@ sample_at-place page p h = rw (div-mul-add p.y (width page) p.x h.x, mod-mul-add
 pub place-below : (page : PageParts) (p : At) → InPage page p → place page p < samples page
 place-below page p h = mul-add-lt p.y (width page) p.x (height page) h.y h.x
 
-pub column_below : (k w r : ℕ) → 0 < r → k < w * r → k / r < w
-column_below k w r some l = (div-lt_iff_lt-mul some).1 l
-
 pub ruleset zone_reads = (sample_zones-length, sample_zones-at)
 
-pub ruleset mark_reads = (edge_marks-length, edge_marks-at)
-
-pub ruleset decider_reads = (sample_deciders-length, sample_deciders-at)
+pub ruleset mark_reads = (sample_marks-length, sample_marks-at)
 
 pub ruleset change_reads = (sample_changes_of-length, sample_changes_of-at)
 

@@ -1,1 +1,5 @@
+pub mod Arms
+pub mod Rows
+pub mod Standing
 pub mod Whole
+pub mod Assembly

@@ -1,9 +1,8 @@
-use Rattle.std.specs.Prelude.{ℕ, Bool, List, Option, ◌+◌, ◌*◌, ◌≤◌}
-use Rattle.page_model.specs.declared.parts.EdgeAt.{EdgeAt}
+use Rattle.std.specs.Prelude.{ℕ, Bool, List, ◌/◌, ◌%◌}
 use Rattle.page_model.specs.declared.parts.PageParts.{PageParts}
 use Rattle.page_model.specs.Counts.{sample_changes}
-use Rattle.page_model.specs.Decider.{decider, grid_point, grid_points, is_candidate}
-use Rattle.page_model.specs.Page.{sample_at, samples, width, height}
+use Rattle.page_model.specs.Deciding.{mark}
+use Rattle.page_model.specs.Page.{sample_at, samples, width}
 use Rattle.page_model.specs.Words.{list_below}
 use Rattle.page_model.specs.Zones.{zone_of}
 
@@ -11,19 +10,10 @@ use Rattle.page_model.specs.Zones.{zone_of}
 unfoldable pub sample_zones : PageParts → List ℕ
 sample_zones page = list_below (λ k. zone_of page (sample_at page k)) (samples page)
 
--- whether each point of the doubled grid is an edge that decides
-unfoldable pub edge_marks : PageParts → List Bool
-edge_marks page = list_below (λ k. is_candidate page (grid_point page k)) (grid_points page)
-
--- the decider of each sample
-unfoldable pub sample_deciders : PageParts → List (Option EdgeAt)
-sample_deciders page = list_below (λ k. decider page (sample_at page k)) (samples page)
+-- the two marks of each sample, row by row
+unfoldable pub sample_marks : PageParts → List ℕ
+sample_marks page = list_below (λ k. mark page (k / width page) (k % width page)) (samples page)
 
 -- whether each sample changes in some plate
 unfoldable pub sample_changes_of : PageParts → List Bool
 sample_changes_of page = list_below (λ k. sample_changes page (sample_at page k)) (samples page)
-
--- a point of the doubled grid
-pub record InGrid (page : PageParts) (e : EdgeAt) : Type 0 where
-  pub across_page : e.x2 + 2 ≤ 2 * width page
-  pub down_page : e.y2 + 2 ≤ 2 * height page

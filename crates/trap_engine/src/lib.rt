@@ -2,14 +2,18 @@
 #![tactic(auto)]
 
 mod alone;
+mod arms;
+pub mod assemble;
 mod changes;
 mod counting;
-mod deciders;
 mod grid;
 mod marks;
 mod memory;
+mod nearest;
 mod planes;
 mod reads;
+mod samples;
+mod strips;
 #[cfg(test)]
 mod tests;
 mod zones;

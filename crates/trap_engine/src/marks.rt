@@ -1,25 +1,30 @@
-ghost use Rattle.std.specs.Prelude.{◌≡◌, ◌<◌, IfOk, length};
-ghost use Rattle.page_model.specs.Decider.{is_candidate};
-ghost use Rattle.page_model.specs.Deciding.{decides, decides_in};
-ghost use Rattle.page_model.specs.Edges.{IsEdge};
-ghost use Rattle.page_model.specs.Page.{InPage};
-ghost use Rattle.page_model.specs.Zones.{zone_of};
-ghost use Rattle.trap_engine.specs.Whole.{InGrid, edge_marks, sample_zones};
+// The marks of the page's samples: whether the edges to their right and below them decide.
 
-use crate::grid::{grid_point_of, grid_points_of};
+ghost use Rattle.std.specs.Prelude.{◌≡◌, ◌<◌, ◌≤◌, ◌+◌, ◌*◌, ◌-◌, IfOk, length};
+ghost use Rattle.page_model.specs.Columns.{AreMarks};
+ghost use Rattle.page_model.specs.Deciding.{decides, decides_in, lower_mark, mark, right_mark};
+ghost use Rattle.page_model.specs.Edges.{IsEdge};
+ghost use Rattle.page_model.specs.Marks.{held_rows};
+ghost use Rattle.page_model.specs.Page.{InPage, height, samples, sample_at};
+ghost use Rattle.page_model.specs.Zones.{zone_of};
+ghost use Rattle.trap_engine.specs.Rows.{AreRows};
+ghost use Rattle.trap_engine.specs.Whole.{sample_marks, sample_zones};
+
+use crate::grid::{sample_of, samples_of};
 use crate::memory::push;
 use crate::reads::zone_number;
 use neutral_density::{is_shut, steps_apart};
 use page_model::edges::{first_of, second_of};
 use page_model::laws::zone_law;
 use page_model::list::List;
+use page_model::marks::Marks;
 use page_model::page::Page;
 use page_model::parts::{At, EdgeAt, OutOfMemory};
 use std::alloc::Global;
 
 /// The zone of a sample, from the zones of all.
 #[tactic(auto, using(crate::proofs::WholeLemmas::places))]
-pub fn zone_among(page: &Page, zones: &[u8], p: At) -> u32
+fn zone_among(page: &Page, zones: &[u8], p: At) -> u32
     requires sample { InPage page.now p }
     requires zones { zones.now ≡ sample_zones page.now }
     ensures value { result ≡ zone_of page.now p }
@@ -63,25 +68,84 @@ fn decides_at(page: &Page, zones: &[u8], e: EdgeAt) -> bool
     is_deciding(page, a, b, e)
 }
 
-/// Whether a point of the doubled grid is an edge that decides.
-fn is_marked(page: &Page, zones: &[u8], e: EdgeAt) -> bool
-    requires point { InGrid page.now e }
+/// Whether the edge to the right of p decides.
+fn is_right_marked(page: &Page, zones: &[u8], p: At) -> bool
+    requires sample { InPage page.now p }
     requires zones { zones.now ≡ sample_zones page.now }
-    ensures { result ≡ is_candidate page.now e }
+    ensures { result ≡ right_mark page.now p.y p.x }
 {
     let _valid = page.plates();
-    (e.x2 + e.y2) % 2 == 1 && decides_at(page, zones, e)
+    let x2 = 2 * p.x + 1;
+    let y2 = 2 * p.y;
+    p.x + 1 < page.width() && decides_at(page, zones, EdgeAt { x2, y2 })
 }
 
-/// For each point of the doubled grid, column by column, whether it is an edge that decides.
-#[tactic(auto, unfolding(crate::specs::Whole::edge_marks))]
-pub fn marks_of(alloc: Global, page: &Page, zones: &[u8]) -> Result<List<bool>, OutOfMemory>
+/// Whether the edge below p decides.
+fn is_lower_marked(page: &Page, zones: &[u8], p: At) -> bool
+    requires sample { InPage page.now p }
+    requires zones { zones.now ≡ sample_zones page.now }
+    ensures { result ≡ lower_mark page.now p.y p.x }
+{
+    let _valid = page.plates();
+    let x2 = 2 * p.x;
+    let y2 = 2 * p.y + 1;
+    p.y + 1 < page.height() && decides_at(page, zones, EdgeAt { x2, y2 })
+}
+
+/// The marks of p: 1 for its right edge and 2 for its lower edge.
+fn marks_at(page: &Page, zones: &[u8], p: At) -> u8
+    requires sample { InPage page.now p }
+    requires zones { zones.now ≡ sample_zones page.now }
+    ensures { result ≡ mark page.now p.y p.x }
+{
+    let right = if is_right_marked(page, zones, p) {
+        1
+    } else {
+        0
+    };
+    let lower = if is_lower_marked(page, zones, p) {
+        2
+    } else {
+        0
+    };
+    right + lower
+}
+
+/// The marks of all samples, row by row.
+#[tactic(auto, unfolding(crate::specs::Whole::sample_marks))]
+pub fn marks_of(alloc: Global, page: &Page, zones: &[u8]) -> Result<List<u8>, OutOfMemory>
     requires { zones.now ≡ sample_zones page.now }
-    ensures { IfOk result (λ marks. marks ≡ edge_marks page.now) }
+    ensures { IfOk result (λ marks. marks ≡ sample_marks page.now) }
 {
     let mut marks = List::new(alloc);
-    for k in 0..grid_points_of(page) {
-        push(&mut marks, is_marked(page, zones, grid_point_of(page, k)))?;
+    for k in 0..samples_of(page) {
+        push(&mut marks, marks_at(page, zones, sample_of(page, k)))?;
     }
     Ok(marks)
+}
+
+/// Of a list with `width` items for each row, the rows from one on and before another.
+fn rows_between<'a>(all: &'a [u8], width: u32, from: u32, to: u32) -> &'a [u8]
+    requires narrow { width ≤ 16384 }
+    requires order { from ≤ to }
+    requires low { to ≤ 16384 }
+    requires inside { from * width + (to - from) * width ≤ length all.now }
+    ensures { AreRows width from to all.now result.now }
+{
+    let start = from as usize * width as usize;
+    let long = (to - from) as usize * width as usize;
+    &all[start..start + long]
+}
+
+/// The marks of the rows from one on and before another.
+pub fn marks_between<'a>(page: &Page, marks: &'a [u8], from: u32, to: u32) -> Marks<'a>
+    requires marks { marks.now ≡ sample_marks page.now }
+    requires some { from < to }
+    requires inside { to ≤ height page.now }
+    ensures marks { AreMarks page.now result }
+    ensures top { result.top ≡ from }
+    ensures rows { held_rows result ≡ to - from }
+{
+    let width = page.width();
+    Marks::new(width, from, rows_between(marks, width, from, to))
 }

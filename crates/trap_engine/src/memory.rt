@@ -1,7 +1,8 @@
-ghost use Rattle.std.specs.Prelude.{◌≡◌, ◌∷◌, ◌++◌, [], OnOk};
+ghost use Rattle.std.specs.Prelude.{◌≡◌, ◌∷◌, ◌++◌, [], IfOk, OnOk, false, replicate, vec_len};
 
 use page_model::list::List;
 use page_model::parts::OutOfMemory;
+use std::alloc::Global;
 
 /// Adds the item at the end.
 pub fn push<T: Drop>(list: &mut List<T>, item: T) -> Result<(), OutOfMemory>
@@ -9,6 +10,36 @@ pub fn push<T: Drop>(list: &mut List<T>, item: T) -> Result<(), OutOfMemory>
 {
     match list.push(item) {
         Ok(()) => Ok(()),
+        Err(_) => Err(OutOfMemory),
+    }
+}
+
+/// So many copies of an item.
+pub fn filled<T: Copy + Drop>(alloc: Global, item: T, count: usize) -> Result<Vec<T>, OutOfMemory>
+    ensures { IfOk result (λ items. vec_len items ≡ count) }
+{
+    match vec![in alloc; item; count] {
+        Ok(items) => Ok(items),
+        Err(_) => Err(OutOfMemory),
+    }
+}
+
+/// So many counts, all 0.
+pub fn no_counts(alloc: Global, count: usize) -> Result<Vec<u64>, OutOfMemory>
+    ensures { IfOk result (λ counts. counts.items ≡ replicate count 0) }
+{
+    match vec![in alloc; 0u64; count] {
+        Ok(items) => Ok(items),
+        Err(_) => Err(OutOfMemory),
+    }
+}
+
+/// So many times `false`.
+pub fn no_changes(alloc: Global, count: usize) -> Result<Vec<bool>, OutOfMemory>
+    ensures { IfOk result (λ changes. changes.items ≡ replicate count false) }
+{
+    match vec![in alloc; false; count] {
+        Ok(items) => Ok(items),
         Err(_) => Err(OutOfMemory),
     }
 }

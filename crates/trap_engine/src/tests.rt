@@ -1,4 +1,4 @@
-ghost use Rattle.std.specs.Prelude.{◌≡◌, ◌≤◌, [], All, IfOk, length};
+ghost use Rattle.std.specs.Prelude.{◌≡◌, ◌≤◌, ◌∷◌, [], All, IfOk, length};
 ghost use Rattle.page_model.specs.Conditions.{IsInk, IsParts, IsPlane, IsZone};
 
 use crate::memory::push;

@@ -1,7 +1,8 @@
-use Rattle.std.proofs.Common.{◌≡◌}
-use Rattle.page_model.specs.Decider.{grid_point, grid_points, is_candidate}
+use Rattle.std.proofs.Common.{◌≡◌, ◌/◌, ◌%◌}
+use Rattle.page_model.specs.Deciding.{mark}
+use Rattle.page_model.specs.Page.{samples, width}
 use Rattle.page_model.specs.Words.{list_below}
 use Rattle.trap_engine.proofs.marks.marks_of.Given as goal
 
 abbrev pub invariant-loop-k : goal.invariant-loop-k
-invariant-loop-k l = record { end : l.k-end ≡ grid_points l.page; done : l.marks ≡ list_below (λ k. is_candidate l.page (grid_point l.page k)) l.k }
+invariant-loop-k l = record { end : l.k-end ≡ samples l.page; done : l.marks ≡ list_below (λ k. mark l.page (k / width l.page) (k % width l.page)) l.k }

@@ -1,0 +1,7 @@
+use Rattle.std.proofs.Common.{◌≡◌, ◌+◌, ◌-◌}
+use Rattle.page_model.specs.Marks.{held_rows}
+use Rattle.column_scan.specs.Sweep.{passes, first_before}
+use Rattle.column_scan.proofs.looks.first_after.Given as goal
+
+abbrev pub invariant-loop-k : goal.invariant-loop-k
+invariant-loop-k g l = record { end : l.k-end ≡ held_rows l.marks - l.end; next : l.next ≡ first_before (passes l.marks l.x2) (held_rows l.marks) l.k; steps : l.steps ≡ l.initial.steps + l.k }

@@ -1,0 +1,22 @@
+use Rattle.std.proofs.Common.{arith, ◌∙◌, ◌+◌, ◌-◌}
+use Rattle.column_scan.proofs.ColumnLemmas.{column-meets}
+use Rattle.column_scan.proofs.RowLemmas.{all_steps}
+use Rattle.column_scan.proofs.sweeps.columns.Goals as goal
+
+pub last_row_of-requires-clause-rows : goal.last_row_of-requires-clause-rows
+last_row_of-requires-clause-rows g c = omega (arith, c.requires.from, c.requires.to, c.rows-valid.ensures.valid.ends)
+
+pub returns-clause-answers : goal.returns-clause-answers
+returns-clause-answers g c = λ page marks cover k x2 lk lx.
+    let top = c.first_row.ensures in
+    let from = c.requires.from in
+    let to = c.requires.to in
+    c.rows_up.ensures.columns k x2 lk lx ∙ column-meets page c.args.marks.now x2 (c.args.first_row - c.first_row.result + k) c.args.first_row c.args.rows c.args.reach2 k marks cover c.requires.reach (omega (arith, lx, c.requires.width)) lk (omega (arith, top, from)) (omega (arith, top, from, to, lk))
+
+pub returns-clause-steps : goal.returns-clause-steps
+returns-clause-steps g c =
+    let top = c.first_row.ensures in
+    let from = c.requires.from in
+    let to = c.requires.to in
+    let some = c.requires.some in
+    all_steps _ _ _ _ _ _ _ c.rows_down.ensures.steps c.last_row_of.ensures.steps (omega (arith, from, to, top, some)) (omega (arith, from, to, top, some))

@@ -1,0 +1,11 @@
+//! For each doubled column and row of a page the nearest deciding edge.
+#![tactic(auto)]
+
+mod codes;
+mod looks;
+mod rows;
+mod sweeps;
+#[cfg(test)]
+mod tests;
+
+pub use sweeps::columns;

@@ -1,0 +1,153 @@
+// One row of column answers.
+
+ghost use Rattle.std.specs.Prelude.{◌≡◌, ◌≤◌, ◌<◌, ◌+◌, ◌*◌, ◌-◌, ℕ, length, slice_index, slice_set};
+ghost use Rattle.page_model.specs.Marks.{held_rows};
+ghost use Rattle.column_scan.specs.Sweep.{above_of, column_of, raised, slot, IsRowWritten};
+
+use crate::codes::{above, lifted, nearer, stepped};
+use crate::looks::{decides, first_after, last_before, pass_down, pass_up};
+use page_model::marks::Marks;
+use page_model::steps::Steps;
+use std::sync::ledger::Ledger;
+
+fn put(out: &mut [u16], columns: u32, row: u32, x2: u32, code: u16)
+    requires column { x2 < columns }
+    requires place { row * columns + x2 < length out.old }
+    requires columns { columns ≤ 32767 }
+    requires row { row ≤ 16384 }
+    ensures { out.new ≡ slice_set out.old (row * columns + x2) code }
+{
+    out[row as usize * columns as usize + x2 as usize] = code;
+}
+
+fn get(out: &[u16], columns: u32, row: u32, x2: u32) -> u16
+    requires column { x2 < columns }
+    requires place { row * columns + x2 < length out.now }
+    requires columns { columns ≤ 32767 }
+    requires row { row ≤ 16384 }
+    ensures { result ≡ slice_index out.now (row * columns + x2) }
+{
+    out[row as usize * columns as usize + x2 as usize]
+}
+
+/// Row r + 1 of the marks, from row r.
+fn enter<L: Ledger>(
+    marks: &Marks,
+    x2: u32,
+    r: u32,
+    reach2: u32,
+    code: u16,
+    steps: &mut Steps<L>,
+) -> u16
+    requires column { x2 + 2 ≤ 2 * marks.now.wide }
+    requires row { r + 1 < held_rows marks.now }
+    requires reach { reach2 ≤ 256 }
+    requires code { code ≡ above_of marks.now x2 reach2 r }
+    ensures code { result ≡ above_of marks.now x2 reach2 (r + 1) }
+    ensures step { steps.new ≡ steps.old + 1 }
+{
+    let _valid = marks.rows();
+    let seen = decides(marks, x2, r + x2 % 2, steps);
+    stepped(x2, reach2, seen, code)
+}
+
+/// The first asked row: the edges at or above it.
+pub(crate) fn first_row_of<L: Ledger>(
+    marks: &Marks,
+    columns: u32,
+    r: u32,
+    reach2: u32,
+    out: &mut [u16],
+    steps: &mut Steps<L>,
+)
+    requires columns { columns + 1 ≡ 2 * marks.now.wide }
+    requires row { r < held_rows marks.now }
+    requires reach { reach2 ≤ 256 }
+    requires out { columns ≤ length out.old }
+    ensures written { IsRowWritten out.old out.new columns 0 (λ x2. above_of marks.now x2 reach2 r) columns }
+    ensures steps { steps.new ≡ steps.old + columns * (r + 1) }
+{
+    let _valid = marks.rows();
+    for x2 in 0..columns {
+        let last = last_before(marks, x2, r, steps);
+        let passed = pass_down(marks, x2, r, last, steps);
+        put(out, columns, 0, x2, above(x2, r, reach2, passed.shown));
+    }
+}
+
+/// Row k + 1 of the asked rows from row k, by one look at the marks for each column.
+pub(crate) fn row_down<L: Ledger>(
+    marks: &Marks,
+    columns: u32,
+    rows: u32,
+    k: u32,
+    r: u32,
+    reach2: u32,
+    out: &mut [u16],
+    steps: &mut Steps<L>,
+)
+    requires columns { columns + 1 ≡ 2 * marks.now.wide }
+    requires row { r + 1 < held_rows marks.now }
+    requires reach { reach2 ≤ 256 }
+    requires k { k + 1 < rows }
+    requires rows { rows ≤ 16384 }
+    requires out { length out.old ≡ rows * columns }
+    requires above { (x2 : ℕ) → x2 < columns → slot out.old columns k x2 ≡ above_of marks.now x2 reach2 r }
+    ensures written { IsRowWritten out.old out.new columns (k + 1) (λ x2. above_of marks.now x2 reach2 (r + 1)) columns }
+    ensures steps { steps.new ≡ steps.old + columns }
+{
+    let _valid = marks.rows();
+    for x2 in 0..columns {
+        let code = enter(marks, x2, r, reach2, get(out, columns, k, x2), steps);
+        put(out, columns, k + 1, x2, code);
+    }
+}
+
+/// The last asked row: the nearer one of the edges above and below it.
+pub(crate) fn last_row_of<L: Ledger>(
+    marks: &Marks,
+    columns: u32,
+    rows: u32,
+    k: u32,
+    r: u32,
+    reach2: u32,
+    out: &mut [u16],
+    steps: &mut Steps<L>,
+)
+    requires columns { columns + 1 ≡ 2 * marks.now.wide }
+    requires row { r < held_rows marks.now }
+    requires reach { reach2 ≤ 256 }
+    requires k { k < rows }
+    requires rows { rows ≤ 16384 }
+    requires out { length out.old ≡ rows * columns }
+    requires above { (x2 : ℕ) → x2 < columns → slot out.old columns k x2 ≡ above_of marks.now x2 reach2 r }
+    ensures written { IsRowWritten out.old out.new columns k (λ x2. column_of marks.now x2 reach2 r) columns }
+    ensures steps { steps.new ≡ steps.old + columns * (held_rows marks.now - r) }
+{
+    let _valid = marks.rows();
+    for x2 in 0..columns {
+        let next = first_after(marks, x2, r + 1, steps);
+        let passed = pass_up(marks, x2, r, next, steps);
+        let code = nearer(x2, r, reach2, get(out, columns, k, x2), passed.shown);
+        put(out, columns, k, x2, code);
+    }
+}
+
+/// Row k of the asked rows with the edges below it, from row k + 1.
+pub(crate) fn row_up(columns: u32, rows: u32, k: u32, reach2: u32, out: &mut [u16])
+    requires columns { columns ≤ 32767 }
+    requires reach { reach2 ≤ 256 }
+    requires k { k + 1 < rows }
+    requires rows { rows ≤ 16384 }
+    requires out { length out.old ≡ rows * columns }
+    ensures written { IsRowWritten out.old out.new columns k (λ x2. raised reach2 (slot out.old columns k x2) (slot out.old columns (k + 1) x2)) columns }
+{
+    for x2 in 0..columns {
+        let code = lifted(
+            reach2,
+            get(out, columns, k, x2),
+            get(out, columns, k + 1, x2),
+        );
+        put(out, columns, k, x2, code);
+    }
+}

@@ -1,0 +1,11 @@
+use Rattle.std.proofs.Common.{◌≡◌, ◌≤◌}
+use Rattle.job_reader.specs.Starts.{nothing_read}
+use Rattle.job_reader.proofs.Reading.{read_on}
+use Rattle.job_reader.proofs.reader.read_statements.Given as goal
+
+-- what is left gives what all does
+abbrev pub invariant-loop-place : goal.invariant-loop-place
+invariant-loop-place l = record {
+  same : read_on l.objects l.len l.state l.from l.place ≡ read_on l.objects l.len nothing_read 0 0;
+  behind : l.from ≤ l.place;
+}

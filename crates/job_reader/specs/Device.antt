@@ -1,0 +1,95 @@
+-- What a `setpagedevice` dictionary sets.
+use Rattle.std.specs.Prelude.{ℕ, ℤ, pos, negsuc, Bool, List, Option, Some, None, Result, Ok, Err, slice_get, nat_le, ◌+◌, ◌/◌, ◌%◌, ◌==◌, ◌&&◌, true, false, codes, if◌then◌else◌}
+use Rattle.std.specs.Result.{result_unwrap_or}
+use Rattle.page_model.specs.declared.parts.Ink.{Ink}
+use Rattle.ps_tokens.specs.declared.faults.FaultKind.{FaultKind}
+use Rattle.ps_tokens.specs.declared.faults.FaultKind.TheVariants.{BadResolution}
+use Rattle.ps_tokens.specs.declared.faults.JobFault.{JobFault}
+use Rattle.ps_tokens.specs.declared.faults.Key.TheVariants.{Trapping}
+use Rattle.ps_tokens.specs.declared.misfits.Misfit.{Misfit}
+use Rattle.ps_tokens.specs.declared.object.Body.{Body}
+use Rattle.ps_tokens.specs.declared.object.Body.TheVariants.{Number, Truth, Null, Text, Literal, Operator, Array, Dict}
+use Rattle.ps_tokens.specs.declared.object.Object.{Object}
+use Rattle.ps_tokens.specs.Dictionaries.{last_of}
+use Rattle.ps_tokens.specs.Misfits.{judged_at, misfit_of, earlier, unless}
+use Rattle.trap_params.specs.Settings.{truth_after}
+use Rattle.colorant_details.specs.Details.{details_of}
+use Rattle.job_reader.specs.declared.state.State.{State}
+use Rattle.job_reader.specs.Operands.{number_at}
+
+-- whether an object is an array
+abbrev pub is_array : Body → Bool
+is_array (Number n) = false
+is_array (Truth b) = false
+is_array Null = false
+is_array Text = false
+is_array (Literal name) = false
+is_array (Operator name) = false
+is_array Array = true
+is_array Dict = false
+
+-- a whole number from 1 to 10,000, in ten-thousandths, as pixels per inch
+abbrev pub pixels_in : ℤ → Option ℕ
+pixels_in (pos n) = if (n % 10000 == 0) && nat_le 10000 n && nat_le n 100000000 then Some (n / 10000) else None
+pixels_in (negsuc n) = None
+
+-- the same, where there is a number
+abbrev pub pixels_of : Option ℤ → Option ℕ
+pixels_of None = None
+pixels_of (Some n) = pixels_in n
+
+-- two equal resolutions
+abbrev pub equal_pixels : Option ℕ → Option ℕ → Result ℕ FaultKind
+equal_pixels None y = Err BadResolution
+equal_pixels (Some x) None = Err BadResolution
+equal_pixels (Some x) (Some y) = if x == y then Ok x else Err BadResolution
+
+-- the resolution that an object at a place is: an array of two equal whole numbers
+abbrev pub resolution_in : List Object → ℕ → Object → Result ℕ FaultKind
+resolution_in objects place object =
+    if is_array object.body && (object.inside == 2) then equal_pixels (pixels_of (number_at objects (place + 1))) (pixels_of (number_at objects (place + 2)))
+    else Err BadResolution
+
+abbrev pub resolution_by : List Object → ℕ → ℕ → Option Object → Result ℕ Misfit
+resolution_by objects now place None = Ok now
+resolution_by objects now place (Some object) = judged_at place object.at (resolution_in objects place object)
+
+abbrev pub resolution_at : List Object → ℕ → Option ℕ → Result ℕ Misfit
+resolution_at objects now None = Ok now
+resolution_at objects now (Some place) = resolution_by objects now place (slice_get objects place)
+
+-- the resolution after a dictionary: that of the last HWResolution entry, or the one now
+unfoldable pub resolution_after : List Object → ℕ → ℕ → Result ℕ Misfit
+resolution_after objects dict now = resolution_at objects now (last_of objects dict (codes "HWResolution"))
+
+-- details that are named at a place
+abbrev pub named_details : ℕ → Result (List Ink) JobFault → Result (Option (List Ink)) Misfit
+named_details place (Ok inks) = Ok (Some inks)
+named_details place (Err fault) = Err (record { place = place; fault = fault })
+
+abbrev pub details_at : List Object → Option ℕ → Result (Option (List Ink)) Misfit
+details_at objects None = Ok None
+details_at objects (Some place) = named_details place (details_of objects place)
+
+-- the details that the last TrappingDetails entry of a dictionary names, if there is one
+unfoldable pub details_in : List Object → ℕ → Result (Option (List Ink)) Misfit
+details_in objects dict = details_at objects (last_of objects dict (codes "TrappingDetails"))
+
+-- the details that are named, or else those now
+abbrev pub details_or : Result (Option (List Ink)) Misfit → List Ink → List Ink
+details_or (Ok None) now = now
+details_or (Ok (Some inks)) now = inks
+details_or (Err misfit) now = now
+
+-- `dict setpagedevice`, of what is named; of several faults the one whose key stands first
+abbrev pub device_from : Result ℕ Misfit → Result Bool Misfit → Result (Option (List Ink)) Misfit → State → Result State JobFault
+device_from resolution trapping details now =
+    unless (earlier (misfit_of resolution) (earlier (misfit_of trapping) (misfit_of details)))
+    (record now {
+      resolution = result_unwrap_or resolution now.resolution;
+      trapping = result_unwrap_or trapping now.trapping;
+      details = details_or details now.details;
+    })
+
+abbrev pub device_set : List Object → ℕ → State → Result State JobFault
+device_set objects dict now = device_from (resolution_after objects dict now.resolution) (truth_after objects dict Trapping now.trapping) (details_in objects dict) now

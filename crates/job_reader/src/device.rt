@@ -1,0 +1,187 @@
+ghost use Rattle.std.specs.Prelude.{◌≡◌, ◌<◌, ◌^◌, IfOk};
+ghost use Rattle.ps_tokens.specs.Dictionaries.{AreObjects};
+ghost use Rattle.colorant_details.specs.Details.{details_of};
+ghost use Rattle.job_reader.specs.Device.{pixels_of, resolution_in, resolution_after, named_details, details_in, device_from, device_set};
+ghost use Rattle.job_reader.specs.Performing.{Performs};
+
+use crate::operands::number_at;
+use crate::state::State;
+use colorant_details::inks;
+use page_model::parts::{DetailList, OutOfMemory};
+use ps_tokens::faults::{FaultKind, JobFault, JobRefusal, Key};
+use ps_tokens::last;
+use ps_tokens::misfits::{Misfit, earlier};
+use ps_tokens::object::{Body, Object, ObjectList};
+use std::alloc::Global;
+use trap_params::settings::truth_after;
+
+/// What a `setpagedevice` dictionary at a place sets: those of HWResolution, Trapping and TrappingDetails that it names.
+///
+/// `BadResolution`, `WrongKind` of Trapping and the faults of `inks`, in the order of their keys.
+pub fn set_page_device(
+    alloc: Global,
+    objects: &ObjectList,
+    dict: u32,
+    state: &mut State,
+) -> Result<(), JobRefusal>
+    requires { AreObjects objects.now }
+    ensures { Performs result state.new (device_set objects.now dict state.old) }
+{
+    let resolution = resolution_after(objects, dict, state.resolution);
+    let trapping = truth_after(objects, dict, Key::Trapping, state.trapping);
+    match details_in(alloc, objects, dict) {
+        Ok(details) => set_from(resolution, trapping, details, state),
+        Err(OutOfMemory) => Err(JobRefusal::OutOfMemory),
+    }
+}
+
+// What is named, set; or the fault that stands first.
+fn set_from(
+    resolution: Result<u32, Misfit>,
+    trapping: Result<bool, Misfit>,
+    details: Result<Option<DetailList>, Misfit>,
+    state: &mut State,
+) -> Result<(), JobRefusal>
+    ensures { Performs result state.new (device_from resolution trapping details state.old) }
+{
+    let (details, misfit) = match details {
+        Ok(details) => (details, None),
+        Err(misfit) => (None, Some(misfit)),
+    };
+    let first = earlier(resolution.err(), earlier(trapping.err(), misfit));
+    if let Some(misfit) = first {
+        return Err(JobRefusal::Fault(misfit.fault));
+    }
+    if let Ok(resolution) = resolution {
+        state.resolution = resolution;
+    }
+    if let Ok(trapping) = trapping {
+        state.trapping = trapping;
+    }
+    if let Some(details) = details {
+        state.details = details;
+    }
+    Ok(())
+}
+
+// The resolution of the last HWResolution entry, or the one now.
+#[tactic(auto, unfolding(crate::specs::Device::resolution_after))]
+fn resolution_after(objects: &ObjectList, dict: u32, now: u32) -> Result<u32, Misfit>
+    requires { AreObjects objects.now }
+    ensures { result ≡ resolution_after objects.now dict now }
+{
+    let Some(place) = last(objects, dict, b"HWResolution") else {
+        return Ok(now);
+    };
+    let Some(object) = objects.get(place as usize) else {
+        return Ok(now);
+    };
+    match resolution_in(objects.as_slice(), place, object) {
+        Ok(resolution) => Ok(resolution),
+        Err(kind) => Err(Misfit {
+            place,
+            fault: JobFault {
+                kind,
+                at: object.at,
+            },
+        }),
+    }
+}
+
+// The resolution that an object at a place is.
+fn resolution_in(objects: &[Object], place: u32, object: &Object) -> Result<u32, FaultKind>
+    ensures { result ≡ resolution_in objects.now place object.now }
+{
+    let is_array = match &object.body {
+        Body::Array => true,
+        _ => false,
+    };
+    if !(is_array && object.inside == 2) {
+        return Err(FaultKind::BadResolution);
+    }
+    let x = pixels_of(number_at(objects, place as usize + 1));
+    let y = pixels_of(number_at(objects, place as usize + 2));
+    match x {
+        Some(x) => match y {
+            Some(y) => {
+                if x == y {
+                    Ok(x)
+                } else {
+                    Err(FaultKind::BadResolution)
+                }
+            }
+            None => Err(FaultKind::BadResolution),
+        },
+        None => Err(FaultKind::BadResolution),
+    }
+}
+
+// A whole number from 1 to 10,000.
+fn pixels_of(number: Option<i64>) -> Option<u32>
+    ensures { result ≡ pixels_of number }
+{
+    match number {
+        Some(number) => {
+            if number < 0 {
+                return None;
+            }
+            let size = number.unsigned_abs();
+            if size % 10_000 == 0 && size >= 10_000 && size <= 100_000_000 {
+                Some((size / 10_000) as u32)
+            } else {
+                None
+            }
+        }
+        None => None,
+    }
+}
+
+// The details that the last TrappingDetails entry names, if there is one.
+#[tactic(auto, unfolding(crate::specs::Device::details_in))]
+fn details_in(
+    alloc: Global,
+    objects: &ObjectList,
+    dict: u32,
+) -> Result<Result<Option<DetailList>, Misfit>, OutOfMemory>
+    requires { AreObjects objects.now }
+    ensures { IfOk result (λ details. details ≡ details_in objects.now dict) }
+{
+    let Some(place) = last(objects, dict, b"TrappingDetails") else {
+        return Ok(Ok(None));
+    };
+    match inks_at(alloc, objects, place) {
+        Ok(found) => Ok(named_details(place, found)),
+        Err(OutOfMemory) => Err(OutOfMemory),
+    }
+}
+
+// Details that are named at a place.
+fn named_details(
+    place: u32,
+    found: Result<DetailList, JobFault>,
+) -> Result<Option<DetailList>, Misfit>
+    ensures { result ≡ named_details place found }
+{
+    match found {
+        Ok(inks) => Ok(Some(inks)),
+        Err(fault) => Err(Misfit { place, fault }),
+    }
+}
+
+// The inks that the value of TrappingDetails at a place names, or its fault.
+fn inks_at(
+    alloc: Global,
+    objects: &ObjectList,
+    place: u32,
+) -> Result<Result<DetailList, JobFault>, OutOfMemory>
+    requires { AreObjects objects.now }
+    ensures { IfOk result (λ inks. inks ≡ details_of objects.now place) }
+{
+    match inks(alloc, objects, place) {
+        Ok(inks) => Ok(Ok(inks)),
+        Err(refusal) => match refusal {
+            JobRefusal::Fault(fault) => Ok(Err(fault)),
+            JobRefusal::OutOfMemory => Err(OutOfMemory),
+        },
+    }
+}

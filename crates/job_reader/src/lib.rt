@@ -1,0 +1,17 @@
+//! The whole job: its statements, what is in force at each of them, its zones, and its first fault.
+#![tactic(auto)]
+
+pub mod calls;
+mod device;
+mod drawing;
+pub mod job;
+mod operands;
+pub mod operators;
+mod parameters;
+mod performing;
+pub mod reader;
+mod showing;
+pub mod state;
+#[cfg(test)]
+mod tests;
+mod zones;

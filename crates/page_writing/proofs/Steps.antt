@@ -1,0 +1,171 @@
+-- Files that are written one after another.
+use Rattle.std.proofs.Common.{◌≡◌, ◌⊎◌, inl, inr, ℕ, ◌+◌, ◌<◌, ◌≤◌, List, [], ◌∷◌, ◌++◌, length, get_or, map, take, Option, Some, None, Result, Ok, Err, IsTrue, refl, sym, ap, ◌∙◌, subst, arith}
+use Rattle.std.proofs.lemmas.List.{append_assoc, append-nil, map-append, length-append}
+use Rattle.std.proofs.lemmas.Option.{same_Some}
+use Rattle.std.proofs.Math.Seq.{take-append_seam}
+use Rattle.outside.specs.Causes.{Asks}
+use Rattle.outside.specs.Rack.{RackState, KeepsRack, put}
+use Rattle.outside.specs.Writing.{WritesFile}
+use Rattle.outside.proofs.Steps.{kept_then, rose_before, told_on}
+use Rattle.page_model.specs.declared.parts.Plane.{Plane}
+use Rattle.pgm_plates.specs.Plates.{spelled}
+use Rattle.pgm_plates.specs.Planes.{plate_of}
+use Rattle.trap_report.specs.declared.refusal.Refusal.{Refusal}
+use Rattle.trap_report.specs.declared.refusal.Refusal.TheVariants.{Write}
+use Rattle.page_writing.specs.Files.{Written, plate_files, page_files, names_of, put_all}
+use Rattle.page_writing.specs.Names.{AsksFront}
+use Rattle.page_writing.specs.Writing.{WritesAll, BreaksAt, WritesPage, WritesPlates}
+
+asks_none : (o : Option (List (List ℕ))) → Asks o o []
+asks_none None = tt
+asks_none (Some all) = (all, refl, sym (append-nil all))
+
+asks_then : (a m b : Option (List (List ℕ))) (xs ys : List (List ℕ)) → Asks a m xs → Asks m b ys → Asks a b (xs ++ ys)
+asks_then a m None xs ys one two = tt
+asks_then a None (Some all) xs ys one two = absurd (let e : None ≡ Some two.0 = two.1 in cc)
+asks_then a (Some mid) (Some all) xs ys one two =
+    let same : mid ≡ two.0 = same_Some mid two.0 two.1 in
+    (one.0, one.1, two.2 ∙ ap (λ (l : List (List ℕ)). l ++ ys) (sym same ∙ one.2) ∙ append_assoc one.0 xs ys)
+
+asks_front : (a b : Option (List (List ℕ))) (xs ys : List (List ℕ)) → Asks a b xs → AsksFront a b (xs ++ ys)
+asks_front a None xs ys one = tt
+asks_front a (Some all) xs ys one = (one.0, length xs, one.1, one.2 ∙ ap (λ (l : List (List ℕ)). one.0 ++ l) (sym (take-append_seam xs ys)))
+
+put_all_more : (files : List Written) (w : Written) (held : List ℕ → Option (List ℕ)) → put_all (files ++ w ∷ []) held ≡ put w.name w.bytes (put_all files held)
+put_all_more [] w held = refl
+put_all_more (f ∷ fs) w held = put_all_more fs w (put f.name f.bytes held)
+
+names_append : (files more : List Written) → names_of (files ++ more) ≡ names_of files ++ names_of more
+names_append files more = map-append (λ (f : Written). f.name) files more
+
+-- nothing is written
+pub wrote_none : (files : List Written) (a : RackState) → files ≡ [] → WritesAll files a a
+wrote_none files a none = subst (λ (fs : List Written). WritesAll fs a a) (sym none) (record { asked = asks_none a.asked; whole = λ tells. refl })
+
+-- one file more
+pub wrote_more : {T E : Type 0} (files : List Written) (w : Written) (a b c : RackState) (x : T) → KeepsRack a b → WritesAll files a b → WritesFile {T = T} {E = E} w.name w.bytes b c (Ok x) → WritesAll (files ++ w ∷ []) a c
+wrote_more files w a b c x keeps before now = record {
+  asked = subst (λ (names : List (List ℕ)). Asks a.asked c.asked names) (sym (names_append files (w ∷ []))) (asks_then a.asked b.asked c.asked (names_of files) (w.name ∷ []) before.asked now.asked);
+  whole = λ tells. now.files (told_on a b keeps tells) ∙ ap (put w.name w.bytes) (before.whole tells) ∙ sym (put_all_more files w a.file);
+}
+
+-- a front of one file more, or none of it
+part_more : (name bytes : List ℕ) (old mid new : List ℕ → Option (List ℕ)) → mid ≡ old → (new ≡ mid) ⊎ ((k : ℕ) × (new ≡ put name (take k bytes) mid)) → (new ≡ old) ⊎ ((k : ℕ) × (new ≡ put name (take k bytes) old))
+part_more name bytes old mid new same (inl none) = inl (none ∙ same)
+part_more name bytes old mid new same (inr front) = inr (front.0, front.1 ∙ ap (put name (take front.0 bytes)) same)
+
+-- the next file breaks
+pub breaks_next : {T E : Type 0} (files : List Written) (w : Written) (later : List Written) (a b c : RackState) (e : E) → KeepsRack a b → WritesAll files a b → WritesFile {T = T} {E = E} w.name w.bytes b c (Err e) → BreaksAt (files ++ w ∷ later) (length files) a c
+breaks_next files w later a b c e keeps before now = record {
+  earlier = files;
+  file = w;
+  later = later;
+  all = refl;
+  place = refl;
+  asked = asks_then a.asked b.asked c.asked (names_of files) (w.name ∷ []) before.asked now.asked;
+  part = λ tells. part_more w.name w.bytes (put_all files a.file) b.file c.file (before.whole tells) (now.part (told_on a b keeps tells));
+  cause = rose_before a.faults b.faults c.faults keeps.faults now.cause;
+}
+
+-- what breaks, breaks with more files behind it
+breaks_before : (files more : List Written) (k : ℕ) (a b : RackState) → BreaksAt files k a b → BreaksAt (files ++ more) k a b
+breaks_before files more k a b broke = record {
+  earlier = broke.earlier;
+  file = broke.file;
+  later = broke.later ++ more;
+  all = ap (λ (l : List Written). l ++ more) broke.all ∙ append_assoc broke.earlier (broke.file ∷ broke.later) more;
+  place = broke.place;
+  asked = broke.asked;
+  part = broke.part;
+  cause = broke.cause;
+}
+
+breaks_below : (files : List Written) (k : ℕ) (a b : RackState) → BreaksAt files k a b → k < length files
+breaks_below files k a b broke =
+    let long : length files ≡ length broke.earlier + length (broke.file ∷ broke.later) = ap length broke.all ∙ length-append broke.earlier (broke.file ∷ broke.later) in
+    omega (arith, long, broke.place)
+
+-- the names up to the file that breaks are a front of all names
+breaks_front : (files : List Written) (k : ℕ) (a b : RackState) → BreaksAt files k a b → AsksFront a.asked b.asked (names_of files)
+breaks_front files k a b broke =
+    let whole : names_of files ≡ (names_of broke.earlier ++ broke.file.name ∷ []) ++ names_of broke.later =
+    ap names_of broke.all ∙ names_append broke.earlier (broke.file ∷ broke.later) ∙ sym (append_assoc (names_of broke.earlier) (broke.file.name ∷ []) (names_of broke.later)) in
+    subst (λ (names : List (List ℕ)). AsksFront a.asked b.asked names) (sym whole) (asks_front a.asked b.asked (names_of broke.earlier ++ broke.file.name ∷ []) (names_of broke.later) broke.asked)
+
+all_front : (files : List Written) (a b : RackState) → WritesAll files a b → AsksFront a.asked b.asked (names_of files)
+all_front files a b wrote = subst (λ (names : List (List ℕ)). AsksFront a.asked b.asked names) (append-nil (names_of files)) (asks_front a.asked b.asked (names_of files) [] wrote.asked)
+
+pub no_plates : (outputs : List (List ℕ)) → plate_files outputs [] ≡ []
+no_plates [] = refl
+no_plates (o ∷ os) = refl
+
+-- a plate and those behind it
+pub plates_split : (outputs : List (List ℕ)) (planes : List Plane) (plane : Plane) (rest : List Plane) (name : List ℕ) → length planes < length outputs → name ≡ get_or outputs (length planes) name
+    → (later : List Written) × (plate_files outputs (planes ++ plane ∷ rest) ≡ plate_files outputs planes ++ record { name = name; bytes = spelled (plate_of plane) } ∷ later)
+plates_split [] planes plane rest name less at = let e : ⊥ = omega (arith, less) in absurd e
+plates_split (o ∷ os) [] plane rest name less at = (plate_files os rest, ap (λ (n : List ℕ). record { name = n; bytes = spelled (plate_of plane) } ∷ plate_files os rest) (sym at))
+plates_split (o ∷ os) (p ∷ ps) plane rest name less at =
+    let behind = plates_split os ps plane rest name (omega (arith, less)) at in
+    (behind.0, ap (λ (l : List Written). record { name = o; bytes = spelled (plate_of p) } ∷ l) behind.1)
+
+-- one plate more
+pub plates_more : (outputs : List (List ℕ)) (planes : List Plane) (plane : Plane) (name : List ℕ) → length planes < length outputs → name ≡ get_or outputs (length planes) name
+    → plate_files outputs (planes ++ plane ∷ []) ≡ plate_files outputs planes ++ record { name = name; bytes = spelled (plate_of plane) } ∷ []
+plates_more [] planes plane name less at = let e : ⊥ = omega (arith, less) in absurd e
+plates_more (o ∷ os) [] plane name less at = ap (λ (l : List Written). record { name = o; bytes = spelled (plate_of plane) } ∷ l) (no_plates os) ∙ ap (λ (n : List ℕ). record { name = n; bytes = spelled (plate_of plane) } ∷ []) (sym at)
+plates_more (o ∷ os) (p ∷ ps) plane name less at = ap (λ (l : List Written). record { name = o; bytes = spelled (plate_of p) } ∷ l) (plates_more os ps plane name (omega (arith, less)) at)
+
+pub plates_length : (outputs : List (List ℕ)) (planes : List Plane) → length planes ≤ length outputs → length (plate_files outputs planes) ≡ length planes
+plates_length [] [] less = refl
+plates_length [] (p ∷ ps) less = let e : ⊥ = omega (arith, less) in absurd e
+plates_length (o ∷ os) [] less = refl
+plates_length (o ∷ os) (p ∷ ps) less = omega (arith, plates_length os ps (omega (arith, less)))
+
+plates_names : (outputs : List (List ℕ)) (planes : List Plane) → length planes ≡ length outputs → names_of (plate_files outputs planes) ≡ outputs
+plates_names [] planes same = refl
+plates_names (o ∷ os) [] same = let e : ⊥ = omega (arith, same) in absurd e
+plates_names (o ∷ os) (p ∷ ps) same = ap (λ (l : List (List ℕ)). o ∷ l) (plates_names os ps (omega (arith, same)))
+
+page_names : (outputs : List (List ℕ)) (planes : List Plane) (report text : List ℕ) → length planes ≡ length outputs → names_of (page_files outputs planes report text) ≡ outputs ++ report ∷ []
+page_names outputs planes report text same = names_append (plate_files outputs planes) _ ∙ ap (λ (l : List (List ℕ)). l ++ report ∷ []) (plates_names outputs planes same)
+
+as_front : (outputs : List (List ℕ)) (planes : List Plane) (report text : List ℕ) (a b : RackState) → length planes ≡ length outputs → AsksFront a.asked b.asked (names_of (page_files outputs planes report text)) → AsksFront a.asked b.asked (outputs ++ report ∷ [])
+as_front outputs planes report text a b same front = subst (λ (names : List (List ℕ)). AsksFront a.asked b.asked names) (page_names outputs planes report text same) front
+
+-- the plates, and then the report
+pub page_written : {T U E : Type 0} (outputs : List (List ℕ)) (planes : List Plane) (report text : List ℕ) (a b c : RackState) (x y : T) (z : U) → length planes ≡ length outputs → WritesPlates outputs planes a b (Ok x) → WritesFile {T = U} {E = E} report text b c (Ok z) → WritesPage outputs planes report text a c (Ok y)
+page_written outputs planes report text a b c x y z same plates now =
+    let all = wrote_more (plate_files outputs planes) (record { name = report; bytes = text }) a b c z plates.keeps plates.answer now in
+    record {
+      keeps = kept_then a b c plates.keeps now.keeps;
+      told = λ tells. now.told (told_on a b plates.keeps tells) ∙ plates.told tells;
+      asked = as_front outputs planes report text a c same (all_front (page_files outputs planes report text) a c all);
+      answer = all;
+    }
+
+-- the plates, and then a fault at the report
+pub report_broken : {T U E : Type 0} (outputs : List (List ℕ)) (planes : List Plane) (report text : List ℕ) (a b c : RackState) (x : T) (e : E) → length planes ≡ length outputs → WritesPlates outputs planes a b (Ok x) → WritesFile {T = U} {E = E} report text b c (Err e) → WritesPage {T = T} outputs planes report text a c (Err (Write None))
+report_broken outputs planes report text a b c x e same plates now =
+    let files = plate_files outputs planes in
+    let count : length files ≡ length outputs = plates_length outputs planes (omega (arith, same)) ∙ same in
+    let broke : BreaksAt (page_files outputs planes report text) (length outputs) a c =
+    subst (λ (k : ℕ). BreaksAt (page_files outputs planes report text) k a c) count (breaks_next files (record { name = report; bytes = text }) [] a b c e plates.keeps plates.answer now) in
+    record {
+      keeps = kept_then a b c plates.keeps now.keeps;
+      told = λ tells. now.told (told_on a b plates.keeps tells) ∙ plates.told tells;
+      asked = as_front outputs planes report text a c same (breaks_front (page_files outputs planes report text) (length outputs) a c broke);
+      answer = broke;
+    }
+
+-- a fault at a plate
+pub plates_broken : {T : Type 0} (outputs : List (List ℕ)) (planes : List Plane) (report text : List ℕ) (a b : RackState) (refusal : Refusal) → length planes ≡ length outputs → WritesPlates {T = T} outputs planes a b (Err refusal) → WritesPage {T = T} outputs planes report text a b (Err refusal)
+plates_broken outputs planes report text a b (Write (Some k)) same plates =
+    let files = plate_files outputs planes in
+    let broke = breaks_before files (record { name = report; bytes = text } ∷ []) k a b plates.answer in
+    record {
+      keeps = plates.keeps;
+      told = plates.told;
+      asked = as_front outputs planes report text a b same (breaks_front (page_files outputs planes report text) k a b broke);
+      answer = (omega (arith, breaks_below files k a b plates.answer, plates_length outputs planes (omega (arith, same)), same), broke);
+    }
+plates_broken outputs planes report text a b other same plates = absurd plates.answer

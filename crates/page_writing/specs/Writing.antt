@@ -1,0 +1,52 @@
+-- What it means to write files one after another, and all files of a page.
+use Rattle.std.specs.Prelude.{◌≡◌, ◌⊎◌, ℕ, ◌<◌, IsTrue, List, [], ◌∷◌, ◌++◌, length, take, Option, Some, None, Result, Ok, Err}
+use Rattle.outside.specs.Causes.{Rose, Asks}
+use Rattle.outside.specs.Rack.{RackState, KeepsRack, put}
+use Rattle.page_model.specs.declared.parts.Plane.{Plane}
+use Rattle.trap_report.specs.declared.refusal.Refusal.{Refusal}
+use Rattle.trap_report.specs.declared.refusal.Refusal.TheVariants.{Write}
+use Rattle.page_writing.specs.Files.{Written, plate_files, page_files, names_of, put_all}
+use Rattle.page_writing.specs.Names.{AsksFront}
+
+-- Each of the files stands whole under its name, and all else is as it was.
+pub record WritesAll (files : List Written) (before after : RackState) : Type 0 where
+  pub asked : Asks before.asked after.asked (names_of files)
+  pub whole : IsTrue before.tells → after.file ≡ put_all files before.file
+
+-- The rack has a fault at file k: the earlier ones stand whole, and of this one a front of its bytes, or nothing is
+-- changed, since it could not be created. None of the later ones is begun.
+pub record BreaksAt (files : List Written) (k : ℕ) (before after : RackState) : Type 0 where
+  pub earlier : List Written
+  pub file : Written
+  pub later : List Written
+  pub all : files ≡ earlier ++ file ∷ later
+  pub place : length earlier ≡ k
+  pub asked : Asks before.asked after.asked (names_of earlier ++ file.name ∷ [])
+  pub part : IsTrue before.tells → (after.file ≡ put_all earlier before.file) ⊎ ((n : ℕ) × (after.file ≡ put file.name (take n file.bytes) (put_all earlier before.file)))
+  pub cause : Rose before.faults after.faults
+
+-- by the answer, where so many of the files are plates and the last is the report
+abbrev pub AnswersWriting : {T : Type 0} → ℕ → List Written → RackState → RackState → Result T Refusal → Type 0
+AnswersWriting plates files before after (Ok x) = WritesAll files before after
+AnswersWriting plates files before after (Err (Write (Some k))) = (k < plates) × BreaksAt files k before after
+AnswersWriting plates files before after (Err (Write None)) = BreaksAt files plates before after
+AnswersWriting plates files before after (Err other) = ⊥
+
+-- The plates and then the report are written. No text is told.
+pub record WritesPage {T : Type 0} (outputs : List (List ℕ)) (planes : List Plane) (report text : List ℕ) (before after : RackState) (result : Result T Refusal) : Type 0 where
+  pub keeps : KeepsRack before after
+  pub told : IsTrue before.tells → after.told ≡ before.told
+  pub asked : AsksFront before.asked after.asked (outputs ++ report ∷ [])
+  pub answer : AnswersWriting (length outputs) (page_files outputs planes report text) before after result
+
+-- by the answer, where all files are plates
+abbrev pub AnswersPlates : {T : Type 0} → List Written → RackState → RackState → Result T Refusal → Type 0
+AnswersPlates files before after (Ok x) = WritesAll files before after
+AnswersPlates files before after (Err (Write (Some k))) = BreaksAt files k before after
+AnswersPlates files before after (Err other) = ⊥
+
+-- The plates are written. No text is told.
+pub record WritesPlates {T : Type 0} (outputs : List (List ℕ)) (planes : List Plane) (before after : RackState) (result : Result T Refusal) : Type 0 where
+  pub keeps : KeepsRack before after
+  pub told : IsTrue before.tells → after.told ≡ before.told
+  pub answer : AnswersPlates (plate_files outputs planes) before after result

@@ -1,0 +1,25 @@
+use Rattle.std.proofs.Common.{arith, ◌∙◌, sym}
+use Rattle.std.proofs.lemmas.Bool.{eqb-true}
+use Rattle.row_envelope.proofs.HullLemmas.{nearest_none, few_arms}
+use Rattle.row_envelope.proofs.row.nearest_row.Goals as goal
+
+pub returns-then-is_empty-clause-nearest : goal.returns-then-is_empty-clause-nearest
+returns-then-is_empty-clause-nearest g c = λ x l. (c.clear.ensures x (omega arith) ∙ nearest_none c.args.arms.now x (eqb-true _ _ (sym c.is_empty.ensures ∙ c.if-is_empty.true)))
+
+pub raised-held-requires-clause-few : goal.raised-held-requires-clause-few
+raised-held-requires-clause-few g c = omega (arith, few_arms c.args.arms.now c.args.width c.requires.some c.requires.order c.requires.inside)
+
+pub raised-held-requires-clause-places : goal.raised-held-requires-clause-places
+raised-held-requires-clause-places g c = (let few = few_arms c.args.arms.now c.args.width c.requires.some c.requires.order c.requires.inside in omega (arith, few, c.as_mut_slice-places.ensures.len, c.hull.view_is, c.requires.hull))
+
+pub raised-held-requires-clause-starts : goal.raised-held-requires-clause-starts
+raised-held-requires-clause-starts g c = (let few = few_arms c.args.arms.now c.args.width c.requires.some c.requires.order c.requires.inside in omega (arith, few, c.as_mut_slice-starts.ensures.len, c.hull.view_is, c.hull.invariant, c.requires.hull))
+
+pub spread-requires-clause-places : goal.spread-requires-clause-places
+spread-requires-clause-places g c = (let few = few_arms c.args.arms.now c.args.width c.requires.some c.requires.order c.requires.inside in omega (arith, few, c.raised-held.ensures.hull.few, c.raised-held.ensures.places, c.as_mut_slice-places.ensures.len, c.hull.view_is, c.requires.hull))
+
+pub spread-requires-clause-starts : goal.spread-requires-clause-starts
+spread-requires-clause-starts g c = (let few = few_arms c.args.arms.now c.args.width c.requires.some c.requires.order c.requires.inside in omega (arith, few, c.raised-held.ensures.hull.few, c.raised-held.ensures.starts, c.as_mut_slice-starts.ensures.len, c.hull.view_is, c.hull.invariant, c.requires.hull))
+
+pub returns-clause-cost : goal.returns-clause-cost
+returns-clause-cost g c = omega (arith, c.raised-held.ensures.cost, few_arms c.args.arms.now c.args.width c.requires.some c.requires.order c.requires.inside)

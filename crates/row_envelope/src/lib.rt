@@ -1,0 +1,10 @@
+//! For each sample of a row the nearest of its arms.
+#![tactic(auto)]
+
+mod hull;
+mod row;
+#[cfg(test)]
+mod tests;
+
+pub use hull::HullBuf;
+pub use row::nearest_row;

@@ -1,0 +1,70 @@
+-- The page that a job and plates make.
+use Rattle.std.specs.Prelude.{◌≡◌, ◌⊎◌, ℕ, Bool, ◌≤◌, length, List, Option, Some, None, Result, Ok, Err, map, filter, find, is_none, if◌then◌else◌, All}
+use Rattle.std.specs.List.{list_any, position}
+use Rattle.std.specs.Str.{bytes_eq}
+use Rattle.job_reader.specs.declared.job.Job.{Job}
+use Rattle.page_model.specs.declared.parts.Ink.{Ink}
+use Rattle.page_model.specs.declared.parts.InkKind.TheVariants.{Normal}
+use Rattle.page_model.specs.declared.parts.Limit.{Limit}
+use Rattle.page_model.specs.declared.page.PageFault.{PageFault}
+use Rattle.page_model.specs.declared.parts.PageParts.{PageParts}
+use Rattle.page_model.specs.declared.parts.Zone.{Zone}
+use Rattle.page_model.specs.Faults.{page_fault}
+use Rattle.pgm_plates.specs.declared.plate.Plate.{Plate}
+use Rattle.pgm_plates.specs.Planes.{plane_of}
+use Rattle.pgm_plates.specs.Plates.{IsPlate}
+use Rattle.trap_report.specs.declared.refusal.Refusal.{Refusal}
+use Rattle.trap_report.specs.declared.refusal.Refusal.TheVariants.{NoDetails, Page, Memory}
+
+-- the details of a colorant's name, if the job has any
+abbrev pub detail_of : List Ink → List ℕ → Option Ink
+detail_of details name = find (λ (ink : Ink). bytes_eq ink.name name) details
+
+-- a colorant without details: it is used only where no zone is enabled
+abbrev pub plain_ink : List ℕ → Ink
+plain_ink name = record { name = name; density = 10000; kind = Normal }
+
+abbrev pub ink_or : Option Ink → Ink → Ink
+ink_or None plain = plain
+ink_or (Some ink) plain = ink
+
+abbrev pub ink_of : List Ink → List ℕ → Ink
+ink_of details name = ink_or (detail_of details name) (plain_ink name)
+
+-- a zone, with the limits of the plates' names alone
+abbrev pub zone_for : List (List ℕ) → Zone → Zone
+zone_for names zone = record zone { limits = filter (λ (l : Limit). list_any (λ n. bytes_eq n l.name) names) zone.limits }
+
+-- the parts of the page, plate by plate in the order of the names
+abbrev pub assembled : Job → List Plate → List (List ℕ) → PageParts
+assembled job plates names = record {
+  resolution = job.resolution;
+  planes = map plane_of plates;
+  inks = map (ink_of job.details) names;
+  zones = map (zone_for names) job.zones }
+
+abbrev pub some_enabled : Job → Bool
+some_enabled job = list_any (λ (z : Zone). z.params.enabled) job.zones
+
+-- the first plate whose name has no details, where some zone is enabled
+abbrev pub without_details : Job → List (List ℕ) → Option ℕ
+without_details job names = if some_enabled job then position (λ name. is_none (detail_of job.details name)) names else None
+
+abbrev pub faulted : PageParts → Option PageFault → Result PageParts Refusal
+faulted parts None = Ok parts
+faulted parts (Some fault) = Err (Page fault)
+
+abbrev pub detailed : Option ℕ → PageParts → Result PageParts Refusal
+detailed None parts = faulted parts (page_fault parts)
+detailed (Some plate) parts = Err (NoDetails plate)
+
+-- the page, or why there is none: a plate without details, and then the first fault of the parts
+abbrev pub assembly : Job → List Plate → List (List ℕ) → Result PageParts Refusal
+assembly job plates names = detailed (without_details job names) (assembled job plates names)
+
+-- as many names as plates, and each plate in range
+pub record CanAssemble (plates : List Plate) (names : List (List ℕ)) : Type 0 where
+  pub some : 1 ≤ length plates
+  pub few : length plates ≤ 16
+  pub named : length names ≡ length plates
+  pub in_range : All IsPlate plates

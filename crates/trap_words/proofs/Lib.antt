@@ -1,0 +1,5 @@
+pub mod ArgLemmas
+pub mod NumberLemmas
+pub mod PageLemmas
+pub mod PlateLemmas
+mod WorkedWords

@@ -1,0 +1,5 @@
+pub mod Held
+pub mod Numbers
+pub mod PageApp
+pub mod Plates
+pub mod Words

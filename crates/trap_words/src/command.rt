@@ -1,0 +1,85 @@
+ghost use Rattle.std.specs.Prelude.{◌≡◌, map, option_map, string_bytes, IfOk, IfSome};
+ghost use Rattle.trap_words.specs.Words.{command_of, page_of_words, sample_of_words, Page as page, Sample as sample};
+ghost use Rattle.trap_words.specs.Held.{command_in, IsWithin};
+
+use crate::page::read_page;
+use crate::sample::read_sample;
+use page_model::parts::OutOfMemory;
+use std::alloc::Global;
+
+/// A plate's word NAME:IN:OUT: the name of its colorant, the file that is read and the one that is written.
+#[derive(Clone, Copy, Debug, PartialEq, Eq)]
+pub struct PlateWord<'a> {
+    pub name: &'a str,
+    pub input: &'a str,
+    pub output: &'a str,
+}
+
+/// A command of one page: its workers, the rows of its bands, and the files that are read and written.
+#[derive(Debug, Drop)]
+pub struct PageCommand<'a> {
+    pub workers: u32,
+    pub band: u32,
+    pub job: &'a str,
+    pub report: &'a str,
+    pub plates: Vec<PlateWord<'a>>,
+}
+
+/// A command of a sample page: its number, its sides in samples and its workers.
+#[derive(Clone, Copy, Debug, PartialEq, Eq)]
+pub struct SampleCommand {
+    pub number: u32,
+    pub width: u32,
+    pub height: u32,
+    pub workers: u32,
+}
+
+/// What the words ask for.
+#[derive(Debug, Drop)]
+pub enum Command<'a> {
+    Page(PageCommand<'a>),
+    Sample(SampleCommand),
+}
+
+/// The command that the words after the program's name mean; `None` where they mean nothing.
+pub fn read_words<'a>(
+    alloc: Global,
+    words: &'a [String],
+) -> Result<Option<Command<'a>>, OutOfMemory>
+    ensures meaning { IfOk result (λ r. option_map command_in r ≡ command_of (map string_bytes words.now)) }
+    ensures limits { IfOk result (λ r. IfSome r IsWithin) }
+{
+    match words {
+        [] => Ok(None),
+        [first, rest @ ..] => {
+            if first.as_str() == "page" {
+                page_command(alloc, words)
+            } else if first.as_str() == "sample" {
+                Ok(sample_command(rest))
+            } else {
+                Ok(None)
+            }
+        }
+    }
+}
+
+fn page_command<'a>(alloc: Global, words: &'a [String]) -> Result<Option<Command<'a>>, OutOfMemory>
+    ensures meaning { IfOk result (λ r. option_map command_in r ≡ option_map page (page_of_words (map string_bytes words.now))) }
+    ensures limits { IfOk result (λ r. IfSome r IsWithin) }
+{
+    match read_page(alloc, words) {
+        Ok(Some(page)) => Ok(Some(Command::Page(page))),
+        Ok(None) => Ok(None),
+        Err(OutOfMemory) => Err(OutOfMemory),
+    }
+}
+
+fn sample_command<'a>(words: &[String]) -> Option<Command<'a>>
+    ensures meaning { option_map command_in result ≡ option_map sample (sample_of_words (map string_bytes words.now)) }
+    ensures limits { IfSome result IsWithin }
+{
+    match read_sample(words) {
+        Some(sample) => Some(Command::Sample(sample)),
+        None => None,
+    }
+}

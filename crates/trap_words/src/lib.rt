@@ -1,0 +1,10 @@
+//! The words of a command: what `trap` is asked to do.
+#![tactic(auto)]
+
+pub mod command;
+mod numbers;
+mod page;
+mod plates;
+mod sample;
+#[cfg(test)]
+mod tests;

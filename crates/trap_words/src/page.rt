@@ -1,0 +1,157 @@
+ghost use Rattle.std.specs.Prelude.{◌≡◌, ◌≢◌, ◌≤◌, false, IfOk, IfSome, OnOk, is_some, map, option_map, string_bytes, vec_len};
+ghost use Rattle.std.specs.Option.{ForSome};
+ghost use Rattle.clap.specs.Words.{app_of, found_of, rows_of};
+ghost use Rattle.trap_words.specs.PageApp.{is_taken, page_app, rows_in};
+ghost use Rattle.trap_words.specs.Words.{page_of as page_meant, page_of_rows, page_of_words, page_with as page_made};
+ghost use Rattle.trap_words.specs.Held.{IsPageWithin, page_in, plates_in};
+
+use crate::command::{PageCommand, PlateWord};
+use crate::numbers::option_number;
+use crate::plates::read_plates;
+use clap::error::ErrorKind;
+use clap::{Arg, ArgMatches, Command};
+use page_model::parts::OutOfMemory;
+use std::alloc::{AllocError, Global};
+
+// The page that the words mean, `page` being the first of them.
+pub(crate) fn read_page<'a>(
+    alloc: Global,
+    words: &'a [String],
+) -> Result<Option<PageCommand<'a>>, OutOfMemory>
+    ensures meaning { IfOk result (λ r. option_map page_in r ≡ page_of_words (map string_bytes words.now)) }
+    ensures limits { IfOk result (λ r. IfSome r IsPageWithin) }
+{
+    match matches_in(alloc, words) {
+        Ok(Some(matches)) => page_of_matches(alloc, &matches),
+        Ok(None) => Ok(None),
+        Err(OutOfMemory) => Err(OutOfMemory),
+    }
+}
+
+// What `clap` finds in the words; `None` where it refuses them or they ask for help.
+fn matches_in<'a>(alloc: Global, words: &'a [String]) -> Result<Option<ArgMatches<'a>>, OutOfMemory>
+    ensures taken { IfOk result (λ r. is_some r ≡ is_taken (map string_bytes words.now)) }
+    ensures rows { IfOk result (λ r. IfSome r (λ m. rows_of (found_of m) ≡ rows_in (map string_bytes words.now))) }
+{
+    match page_command(alloc) {
+        Ok(command) => matches_by(command, words),
+        Err(_) => Err(OutOfMemory),
+    }
+}
+
+fn matches_by<'a>(
+    command: Command<'a>,
+    words: &'a [String],
+) -> Result<Option<ArgMatches<'a>>, OutOfMemory>
+    requires { app_of command ≡ page_app }
+    ensures taken { IfOk result (λ r. is_some r ≡ is_taken (map string_bytes words.now)) }
+    ensures rows { IfOk result (λ r. IfSome r (λ m. rows_of (found_of m) ≡ rows_in (map string_bytes words.now))) }
+{
+    match command.try_get_matches_from(words) {
+        Ok(matches) => Ok(Some(matches)),
+        Err(error) => without_matches(error.kind()),
+    }
+}
+
+// Want of memory is an error of its own, and every other one refuses the words.
+fn without_matches<'a>(kind: ErrorKind) -> Result<Option<ArgMatches<'a>>, OutOfMemory>
+    ensures none { IfOk result (λ r. is_some r ≡ false) }
+    ensures cause { OnOk result (kind ≢ ErrorKind.OutOfMemory) }
+{
+    match kind {
+        ErrorKind::OutOfMemory => Err(OutOfMemory),
+        _ => Ok(None),
+    }
+}
+
+// page [--workers N] [--band B] JOB REPORT PLATE ..
+fn page_command<'a>(alloc: Global) -> Result<Command<'a>, AllocError>
+    ensures { IfOk result (λ c. app_of c ≡ page_app) }
+{
+    let workers = Arg::new(alloc, "workers").long("workers");
+    let band = Arg::new(alloc, "band").long("band");
+    let job = Arg::new(alloc, "job").required(true);
+    let report = Arg::new(alloc, "report").required(true);
+    let plates = Arg::new(alloc, "plate").required(true).num_args(1..);
+    let command = Command::new(alloc, "page")
+        .arg(workers)?
+        .arg(band)?
+        .arg(job)?
+        .arg(report)?
+        .arg(plates)?;
+    Ok(command)
+}
+
+fn page_of_matches<'a>(
+    alloc: Global,
+    matches: &ArgMatches<'a>,
+) -> Result<Option<PageCommand<'a>>, OutOfMemory>
+    ensures meaning { IfOk result (λ r. option_map page_in r ≡ page_of_rows (rows_of (found_of matches.now))) }
+    ensures limits { IfOk result (λ r. IfSome r IsPageWithin) }
+{
+    page_of(
+        alloc,
+        matches.get_str("workers"),
+        matches.get_str("band"),
+        matches.get_str("job"),
+        matches.get_str("report"),
+        matches.get_raw("plate"),
+    )
+}
+
+// The page of the texts that were found, where each of them has its form.
+fn page_of<'a>(
+    alloc: Global,
+    workers: Option<&str>,
+    band: Option<&str>,
+    job: Option<&'a str>,
+    report: Option<&'a str>,
+    plates: Option<&[&'a str]>,
+) -> Result<Option<PageCommand<'a>>, OutOfMemory>
+    ensures meaning { IfOk result (λ r. option_map page_in r ≡ page_meant (option_map (λ w. w.now) workers.entry)
+        (option_map (λ w. w.now) band.entry) (option_map (λ w. w.now) job.entry) (option_map (λ w. w.now) report.entry)
+        (option_map (λ s. map (λ w. w.now) s.now) plates.entry)) }
+    ensures limits { IfOk result (λ r. IfSome r IsPageWithin) }
+{
+    let Some(job) = job else {
+        return Ok(None);
+    };
+    let Some(report) = report else {
+        return Ok(None);
+    };
+    let Some(plates) = plates else {
+        return Ok(None);
+    };
+    match read_plates(alloc, report, plates) {
+        Ok(plates) => Ok(page_with(
+            option_number(workers, 1, 64, 4),
+            option_number(band, 1, 4096, 64),
+            job,
+            report,
+            plates,
+        )),
+        Err(OutOfMemory) => Err(OutOfMemory),
+    }
+}
+
+fn page_with<'a>(
+    workers: Option<u32>,
+    band: Option<u32>,
+    job: &'a str,
+    report: &'a str,
+    plates: Option<Vec<PlateWord<'a>>>,
+) -> Option<PageCommand<'a>>
+    requires workers_range { ForSome workers (λ n. (1 ≤ n) × (n ≤ 64)) }
+    requires band_range { ForSome band (λ n. (1 ≤ n) × (n ≤ 4096)) }
+    requires plates_count { ForSome plates (λ v. (1 ≤ vec_len v) × (vec_len v ≤ 16)) }
+    ensures meaning { option_map page_in result ≡ page_made workers band job.now report.now (option_map (λ v. plates_in v.items) plates.entry) }
+    ensures limits { IfSome result IsPageWithin }
+{
+    Some(PageCommand {
+        workers: workers?,
+        band: band?,
+        job,
+        report,
+        plates: plates?,
+    })
+}

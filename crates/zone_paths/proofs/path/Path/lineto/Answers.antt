@@ -1,0 +1,5 @@
+use Rattle.zone_paths.proofs.Drawings.{lined_to-drawing}
+use Rattle.zone_paths.proofs.path.Path.lineto.Goals as goal
+
+pub invariant_of-self : goal.invariant_of-self
+invariant_of-self c = lined_to-drawing _ _ _ _ c.self.invariant.path (rw c.in-Some.is at c.self.invariant.pen) c.in-Ok.ensures

@@ -1,0 +1,13 @@
+use Rattle.std.proofs.Common.{◌≡◌, sym, ap, ◌∙◌, arith, rules, w64}
+use Rattle.std.proofs.lemmas.Int.{ints}
+use mir.Val.{to_z, of_z}
+use Rattle.zone_paths.specs.Paths.{Drawing}
+use Rattle.zone_paths.proofs.Drawings.{rmoveto-far}
+use Rattle.zone_paths.proofs.path.Path.rmoveto.Goals as goal
+
+pub returns-in-None : goal.returns-in-None
+returns-in-None c =
+    let x : to_z w64 (of_z w64 c.args.dx) ≡ c.args.dx = omega (arith, ints) in
+    let y : to_z w64 (of_z w64 c.args.dy) ≡ c.args.dy = omega (arith, ints) in
+    let far = rw (x, y) at c.in-None.ensures in
+    (rmoveto-far c.args.self.now c.in-Some.pen c.args.dx c.args.dy (sym (ap (λ (d : Drawing). d.pen) c.self.view_is) ∙ c.in-Some.is) far, search rules)

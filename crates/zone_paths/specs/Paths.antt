@@ -1,0 +1,91 @@
+-- What the path statements of a job draw.
+use Rattle.std.specs.Prelude.{◌≡◌, ℤ, ◌+◌, ◌+ℤ◌, ◌<◌, Bool, true, false, List, [], ◌∷◌, ◌++◌, length, Option, Some, None, Result, Ok, Err, nat_abs, nat_le, ◌&&◌, if◌then◌else◌}
+use Rattle.page_model.specs.declared.parts.Vertex.{Vertex}
+use Rattle.page_model.specs.Conditions.{IsPath}
+use Rattle.ps_tokens.specs.declared.faults.FaultKind.{FaultKind}
+use Rattle.ps_tokens.specs.declared.faults.FaultKind.TheVariants.{NoCurrentPoint, CoordinateRange, TooManyVertices}
+use Rattle.zone_paths.specs.declared.pen.Point.{Point}
+use Rattle.zone_paths.specs.declared.pen.Pen.{Pen}
+
+-- a path as its statements leave it: its vertices, and the pen at its current point, if it has one
+pub record Drawing : Type 0 where
+  pub vertices : List Vertex
+  pub pen : Option Pen
+
+-- the empty path
+abbrev pub nothing_drawn : Drawing
+nothing_drawn = record { vertices = []; pen = None }
+
+-- whether a point is at most a million points from the origin in x and in y
+abbrev pub is_near : Point → Bool
+is_near p = nat_le (nat_abs p.x) 10000000000 && nat_le (nat_abs p.y) 10000000000
+
+-- the vertex at a point; it begins a subpath or not
+abbrev pub vertex_at : Point → Bool → Vertex
+vertex_at p starts = record { x = p.x; y = p.y; starts = starts }
+
+-- the point that lies so far away from another
+abbrev pub shifted : Point → ℤ → ℤ → Point
+shifted p dx dy = record { x = p.x +ℤ dx; y = p.y +ℤ dy }
+
+-- these vertices more and the pen behind them; a path has at most 4,096
+abbrev pub extended : List Vertex → List Vertex → Pen → Result Drawing FaultKind
+extended vertices more pen =
+    if nat_le (length vertices + length more) 4096 then Ok (record { vertices = vertices ++ more; pen = Some pen })
+    else Err TooManyVertices
+
+-- one more subpath, which begins at a point
+unfoldable pub begun_at : List Vertex → Point → Result Drawing FaultKind
+begun_at vertices p =
+    if is_near p then extended vertices (vertex_at p true ∷ []) (record { first = p; at = p; closed = false })
+    else Err CoordinateRange
+
+-- the vertices of a line to a point: behind a closed subpath it first begins one at the current point
+abbrev pub line_vertices : Pen → Point → List Vertex
+line_vertices pen p = if pen.closed then vertex_at pen.at true ∷ vertex_at p false ∷ [] else vertex_at p false ∷ []
+
+-- one more line, from the pen to a point
+unfoldable pub lined_to : List Vertex → Pen → Point → Result Drawing FaultKind
+lined_to vertices pen p =
+    if is_near p then extended vertices (line_vertices pen p) (record { first = pen.first; at = p; closed = false })
+    else Err CoordinateRange
+
+-- what is drawn from the pen; without one there is no current point
+abbrev pub from_pen : Option Pen → (Pen → Result Drawing FaultKind) → Result Drawing FaultKind
+from_pen None draw = Err NoCurrentPoint
+from_pen (Some pen) draw = draw pen
+
+-- `x y moveto`
+abbrev pub moveto : ℤ → ℤ → Drawing → Result Drawing FaultKind
+moveto x y d = begun_at d.vertices (record { x = x; y = y })
+
+-- `dx dy rmoveto`
+abbrev pub rmoveto : ℤ → ℤ → Drawing → Result Drawing FaultKind
+rmoveto dx dy d = from_pen d.pen (λ pen. begun_at d.vertices (shifted pen.at dx dy))
+
+-- `x y lineto`
+abbrev pub lineto : ℤ → ℤ → Drawing → Result Drawing FaultKind
+lineto x y d = from_pen d.pen (λ pen. lined_to d.vertices pen (record { x = x; y = y }))
+
+-- `dx dy rlineto`
+abbrev pub rlineto : ℤ → ℤ → Drawing → Result Drawing FaultKind
+rlineto dx dy d = from_pen d.pen (λ pen. lined_to d.vertices pen (shifted pen.at dx dy))
+
+-- the pen behind `closepath` stands at the first point of the subpath, which is closed
+abbrev pub closed_pen : Option Pen → Option Pen
+closed_pen None = None
+closed_pen (Some pen) = Some (record { first = pen.first; at = pen.first; closed = true })
+
+-- `closepath`
+abbrev pub closepath : Drawing → Drawing
+closepath d = record { vertices = d.vertices; pen = closed_pen d.pen }
+
+-- a pen stands within a million points of the origin, behind at least one vertex
+abbrev pub IsPen : List Vertex → Option Pen → Type 0
+IsPen vertices None = Unit {0}
+IsPen vertices (Some pen) = (is_near pen.first ≡ true) × (is_near pen.at ≡ true) × (0 < length vertices)
+
+-- the path of a zone, and a pen behind it
+pub record IsDrawing (d : Drawing) : Type 0 where
+  pub path : IsPath d.vertices
+  pub pen : IsPen d.vertices d.pen
