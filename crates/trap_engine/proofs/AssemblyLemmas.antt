@@ -10,7 +10,6 @@ use Rattle.std.proofs.lemmas.Option.{same_Some}
 use Rattle.std.specs.Prelude.{slice_get, zero, suc}
 use Rattle.std.proofs.lemmas.List.Kept.{AllPairs-filter}
 use Rattle.job_reader.specs.declared.job.Job.{Job}
-use Rattle.job_reader.specs.Jobs.{IsJob}
 use Rattle.page_model.specs.declared.parts.Ink.{Ink}
 use Rattle.page_model.specs.declared.parts.Limit.{Limit}
 use Rattle.page_model.specs.declared.parts.Zone.{Zone}
@@ -19,7 +18,7 @@ use Rattle.page_model.specs.Page.{no_zone}
 use Rattle.pgm_plates.specs.declared.plate.Plate.{Plate}
 use Rattle.pgm_plates.specs.Planes.{plane_of}
 use Rattle.pgm_plates.specs.Plates.{IsPlate}
-use Rattle.trap_engine.specs.Assembly.{CanAssemble, assembled, detail_of, ink_of, ink_or, plain_ink, zone_for}
+use Rattle.trap_engine.specs.Assembly.{CanAssemble, IsJob, assembled, detail_of, ink_of, ink_or, plain_ink, zone_for}
 
 plane_ok : (plate : Plate) → IsPlate plate → IsPlane (plane_of plate)
 plane_ok plate is = record {

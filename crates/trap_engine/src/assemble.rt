@@ -1,11 +1,10 @@
 ghost use Rattle.std.specs.Prelude.{◌≡◌, ◌⊎◌, ◌<◌, ◌≤◌, IfOk, OnOk, Ok, Err, map, length, All, is_none, MatchResult, option_copied, option_map};
 ghost use Rattle.std.specs.List.{position, list_any};
 ghost use Rattle.std.specs.Str.{bytes_eq};
-ghost use Rattle.job_reader.specs.Jobs.{IsJob};
 ghost use Rattle.page_model.specs.Conditions.{IsParts};
 ghost use Rattle.pgm_plates.specs.Planes.{plane_of};
 ghost use Rattle.pgm_plates.specs.Plates.{IsPlate};
-ghost use Rattle.trap_engine.specs.Assembly.{CanAssemble, assembled, assembly, without_details as plate_without, detail_of as detail_meant, ink_of as ink_meant, zone_for, some_enabled as some_zone_enabled};
+ghost use Rattle.trap_engine.specs.Assembly.{CanAssemble, IsJob, assembled, assembly, without_details as plate_without, detail_of as detail_meant, ink_of as ink_meant, zone_for, some_enabled as some_zone_enabled};
 
 use job_reader::job::Job;
 use page_model::list::List;
