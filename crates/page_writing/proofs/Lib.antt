@@ -1,3 +1,4 @@
 pub mod Plates
 pub mod Range
 pub mod Steps
+mod Worked

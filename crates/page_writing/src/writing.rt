@@ -15,8 +15,12 @@ use pgm_plates::writing::write_plate;
 use trap_report::refusal::Refusal;
 use trap_words::command::PlateWord;
 
-/// Writes each plane as a plate into the file of its word, and then the text into the report. It takes no memory, and
-/// stops at the first file at which the rack has a fault: `Write` with the plate's number, or with none for the report.
+/// Writes each plane, turned into a plate, into the file of its word, and then the text into the report, as this project
+/// orders them. It takes no memory.
+///
+/// It stops at the first file at which a call of the rack fails, and answers `Write` with the plate's number from 0, or
+/// with none for the report. The files before it then stand whole; of it a front of its bytes stands under its name, or,
+/// where it could not be created, nothing; no later file is begun.
 pub fn write_page<R: Rack>(
     rack: &mut R,
     plates: &[PlateWord<'_>],

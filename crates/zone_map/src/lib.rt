@@ -1,9 +1,10 @@
 //! The zones of a row of samples.
 #![tactic(auto)]
 
+mod crossings;
 mod row;
 mod spans;
-mod turns;
+mod tally;
 
 pub use row::zone_row;
 pub use spans::SpanBuf;

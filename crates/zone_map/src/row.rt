@@ -1,49 +1,44 @@
-ghost use Rattle.std.specs.Prelude.{◌≡◌, ◌≢◌, ◌<◌, length};
-ghost use Rattle.page_model.specs.Page.{InPage, width, height};
-ghost use Rattle.page_model.specs.Zones.{AreZones, centre, covers, zone_of};
-ghost use Rattle.zone_map.specs.Spots.{point, IsNear};
+ghost use Rattle.std.specs.Prelude.{◌≡◌, ℕ, ◌<◌, ◌≤◌, ◌+◌, ◌-◌, ◌*◌, if◌then◌else◌, length, nat_abs, pos, slice_index, sum};
+ghost use Rattle.page_model.specs.Page.{height, width};
+ghost use Rattle.page_model.specs.Zones.{AreZones, covers};
 
-use crate::spans::SpanBuf;
-use crate::turns::{Spot, winding_of};
+use crate::spans::{SpanBuf, write_spans};
+use crate::tally::tally_path;
 use page_model::page::Page;
-use page_model::parts::At;
 
-/// The middle of a sample.
-fn middle_of(page: &Page, p: At) -> Spot
-    requires { InPage page.now p }
-    ensures value { point result ≡ centre page.now p }
-    ensures near { IsNear result }
+/// The height of the middles of a row's samples.
+fn middle_of_row(page: &Page, y: u32) -> i64
+    requires { y < height page.now }
+    ensures value { result ≡ pos ((2 * (height page.now - y) - 1) * 360000) }
+    ensures near { nat_abs result ≤ 100000000000000 }
 {
     let _valid = page.plates();
-    Spot {
-        x: i64::from(2 * p.x + 1) * 360_000,
-        y: i64::from(2 * (page.height() - p.y) - 1) * 360_000,
-    }
+    i64::from(2 * (page.height() - y) - 1) * 360_000
 }
 
-fn is_covered(page: &Page, p: At, z: u32) -> bool
-    requires sample { InPage page.now p }
+/// Writes zone z for each sample of row y that its path covers.
+fn cover(page: &Page, z: u32, y: u32, out: &mut [u8], ups: &mut [u32], downs: &mut [u32])
     requires zone { z < length page.now.zones }
-    ensures { result ≡ covers page.now p z }
+    requires row { y < height page.now }
+    requires out { length out.old ≡ width page.now }
+    requires ups { length ups.old ≡ width page.now + 1 }
+    requires downs { length downs.old ≡ width page.now + 1 }
+    requires no_ups { sum ups.old ≡ 0 }
+    requires no_downs { sum downs.old ≡ 0 }
+    ensures each { (x : ℕ) → x < width page.now → slice_index out.new x ≡ (if covers page.now (record { x = x; y = y }) z then z else slice_index out.old x) }
+    ensures out { length out.new ≡ width page.now }
+    ensures ups { length ups.new ≡ width page.now + 1 }
+    ensures downs { length downs.new ≡ width page.now + 1 }
+    ensures no_ups { sum ups.new ≡ 0 }
+    ensures no_downs { sum downs.new ≡ 0 }
 {
     let path = page.path(z).as_slice();
-    winding_of(path, middle_of(page, p), page.resolution()) != 0
-}
-
-/// The zone of a sample: the last whose path winds round its middle, else zone 0.
-#[tactic(auto, unfolding(page_model::specs::Zones::zone_of))]
-fn zone_at(page: &Page, p: At) -> u8
-    requires { InPage page.now p }
-    ensures { result ≡ zone_of page.now p }
-{
-    let mut zone = 0;
-    for n in 0..page.zones() - 1 {
-        let z = n + 1;
-        if is_covered(page, p, z) {
-            zone = z as u8;
-        }
+    let height = middle_of_row(page, y);
+    if tally_path(ups, downs, path, page.resolution(), height, page.width()) > 0 {
+        write_spans(out, ups, downs, z as u8);
+        ups.fill(0);
+        downs.fill(0);
     }
-    zone
 }
 
 /// Writes the zone of each sample of row y, from the left.
@@ -54,7 +49,12 @@ pub fn zone_row(page: &Page, y: u32, out: &mut [u8], spans: &mut SpanBuf)
     ensures zones { AreZones page.now y out.new }
     ensures spans { spans.new ≡ spans.old }
 {
-    for x in 0..page.width() {
-        out[x as usize] = zone_at(page, At { x, y });
+    let ups = spans.ups.as_mut_slice();
+    let downs = spans.downs.as_mut_slice();
+    ups.fill(0);
+    downs.fill(0);
+    out.fill(0);
+    for n in 0..page.zones() - 1 {
+        cover(page, n + 1, y, out, ups, downs);
     }
 }

@@ -1,28 +1,63 @@
-ghost use Rattle.std.specs.Prelude.{◌≡◌, ◌≤◌, IfOk};
+ghost use Rattle.std.specs.Prelude.{◌≡◌, ℕ, ◌<◌, ◌≤◌, ◌+◌, IfOk, if◌then◌else◌, length, pos, slice_index, sum};
+ghost use Rattle.std.specs.Ordering.{int_eq};
+ghost use Rattle.zone_map.specs.Tallies.{left};
 
 use page_model::parts::OutOfMemory;
 use std::alloc::Global;
 use std::marker::Model;
 
-/// Room for the work on a row. Contracts see it as the width of the rows that it was made for.
+/// Room for the work on a row: how many segments of a path cross it upwards, and how many downwards, with so many samples
+/// left of the crossing. Contracts see it as the width of the rows that it was made for.
 #[derive(Drop)]
 pub struct SpanBuf {
-    width: u32,
+    pub(crate) width: u32,
+    pub(crate) ups: Vec<u32>,
+    pub(crate) downs: Vec<u32>,
 }
 
 impl Model for SpanBuf {
-    ghost use Rattle.std.specs.Prelude.{ℕ};
+    ghost use Rattle.std.specs.Prelude.{◌≡◌, ◌+◌, ◌<◌, ◌^◌, ℕ, length};
 
     ghost Value = { ℕ };
 
     ghost view = { λ s. s.width };
+
+    ghost invariant = { λ s. (length s.ups.items ≡ s.width + 1) × (length s.downs.items ≡ s.width + 1) };
 }
 
 impl SpanBuf {
     /// Room for rows of so many samples.
-    pub fn new(_alloc: Global, width: u32) -> Result<SpanBuf, OutOfMemory>
+    pub fn new(alloc: Global, width: u32) -> Result<SpanBuf, OutOfMemory>
         ensures { IfOk result (λ spans. spans ≡ width) }
     {
-        Ok(SpanBuf { width })
+        let places = width as usize + 1;
+        let Ok(ups) = vec![in alloc; 0u32; places] else {
+            return Err(OutOfMemory);
+        };
+        let Ok(downs) = vec![in alloc; 0u32; places] else {
+            return Err(OutOfMemory);
+        };
+        Ok(SpanBuf { width, ups, downs })
+    }
+}
+
+/// Writes the zone wherever the crossings to the right do not cancel out.
+pub(crate) fn write_spans(out: &mut [u8], ups: &[u32], downs: &[u32], zone: u8)
+    requires ups { length ups.now ≡ length out.old + 1 }
+    requires downs { length downs.now ≡ length out.old + 1 }
+    requires few { sum ups.now + sum downs.now ≤ 5000 }
+    ensures each { (x : ℕ) → x < length out.old → slice_index out.new x ≡ (if int_eq (left ups.now downs.now x) (pos 0) then slice_index out.old x else zone) }
+    ensures long { length out.new ≡ length out.old }
+{
+    let mut up = 0u32;
+    let mut down = 0u32;
+    let mut x = out.len();
+    while 0 < x {
+        up += ups[x];
+        down += downs[x];
+        x -= 1;
+        if up != down {
+            out[x] = zone;
+        }
     }
 }

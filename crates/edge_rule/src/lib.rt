@@ -1,0 +1,7 @@
+//! The deciding edges of a row of samples.
+#![tactic(auto)]
+
+mod deciding;
+mod row;
+
+pub use row::edge_row;

@@ -1,0 +1,75 @@
+ghost use Rattle.std.specs.Prelude.{◌≡◌, ℕ, ◌+◌, ◌<◌, ◌≤◌, [], length, slice_index};
+ghost use Rattle.page_model.specs.Deciding.{lower_mark, mark, right_mark};
+ghost use Rattle.page_model.specs.Page.{height, width};
+ghost use Rattle.page_model.specs.Zones.{AreZones};
+
+use crate::deciding::decides_at;
+use page_model::page::Page;
+use page_model::parts::{At, EdgeAt};
+
+/// Whether the edge to the right of sample x of row y decides.
+#[tactic(auto, using(crate::proofs::Sides::sides))]
+fn right_decides(page: &Page, y: u32, zones: &[u8], x: u32) -> bool
+    requires row { y < height page.now }
+    requires column { x < width page.now }
+    requires zones { AreZones page.now y zones.now }
+    ensures { result ≡ right_mark page.now y x }
+{
+    let _valid = page.plates();
+    if x + 1 < page.width() {
+        let e = EdgeAt {
+            x2: 2 * x + 1,
+            y2: 2 * y,
+        };
+        decides_at(page, At { x, y }, zones, At { x: x + 1, y }, zones, e)
+    } else {
+        false
+    }
+}
+
+/// Whether the edge below sample x of row y decides.
+#[tactic(auto, using(crate::proofs::Sides::sides))]
+fn lower_decides(page: &Page, y: u32, here: &[u8], below: &[u8], x: u32) -> bool
+    requires row { y < height page.now }
+    requires column { x < width page.now }
+    requires here { AreZones page.now y here.now }
+    requires below { y + 1 < height page.now → AreZones page.now (y + 1) below.now }
+    ensures { result ≡ lower_mark page.now y x }
+{
+    let _valid = page.plates();
+    if y + 1 < page.height() {
+        let e = EdgeAt {
+            x2: 2 * x,
+            y2: 2 * y + 1,
+        };
+        decides_at(page, At { x, y }, here, At { x, y: y + 1 }, below, e)
+    } else {
+        false
+    }
+}
+
+/// Writes the marks of each sample of row y, from the left: the sum of 1 where the edge to its right decides and 2 where
+/// the edge below it does. The zones are those of row y and of the row below; in the last row there are none below.
+pub fn edge_row(page: &Page, y: u32, zones_here: &[u8], zones_below: &[u8], out: &mut [u8])
+    requires row { y < height page.now }
+    requires here { AreZones page.now y zones_here.now }
+    requires below { y + 1 < height page.now → AreZones page.now (y + 1) zones_below.now }
+    requires last { y + 1 ≡ height page.now → zones_below.now ≡ [] }
+    requires out { length out.old ≡ width page.now }
+    ensures marks { (x : ℕ) → x < width page.now → slice_index out.new x ≡ mark page.now y x }
+    ensures long { length out.new ≡ length out.old }
+{
+    for x in 0..page.width() {
+        let right = if right_decides(page, y, zones_here, x) {
+            1
+        } else {
+            0
+        };
+        let lower = if lower_decides(page, y, zones_here, zones_below, x) {
+            2
+        } else {
+            0
+        };
+        out[x as usize] = right + lower;
+    }
+}

@@ -1,0 +1,4 @@
+pub mod NameLemmas
+pub mod JobLemmas
+pub mod PlateLemmas
+pub mod PageLemmas

@@ -1,0 +1,137 @@
+-- Plates that are read one after another.
+use Rattle.std.proofs.Common.{◌≡◌, ℕ, zero, suc, ◌<◌, ◌≤◌, ◌+◌, List, [], ◌∷◌, ◌++◌, length, map, take, get_or, All, Option, Some, None, Result, Ok, Err, IsTrue, refl, sym, ap, ◌∙◌, subst, arith, length-append, below_more}
+use Rattle.std.proofs.lemmas.List.{get_or_append_left, take_more, length-map}
+use Rattle.std.proofs.lemmas.List.Elements.{All-append, All-cons}
+use Rattle.std.proofs.Math.Seq.{get_or-append_seam}
+use Rattle.outside.specs.Causes.{Rose, Asks}
+use Rattle.outside.specs.Tray.{TrayState, KeepsTray}
+use Rattle.outside.proofs.Steps.{rose_before}
+use Rattle.pgm_plates.specs.declared.plate.Plate.{Plate as PlateRead}
+use Rattle.pgm_plates.specs.declared.plate.PlateFault.{PlateFault}
+use Rattle.pgm_plates.specs.declared.plate.PlateRefusal.TheVariants.{Fault, ReadFault, OutOfMemory}
+use Rattle.pgm_plates.specs.Laws.{FilePlate, FileFault}
+use Rattle.pgm_plates.specs.Plates.{IsPlate, IsPlateFile}
+use Rattle.pgm_plates.specs.Faults.{IsFault}
+use Rattle.pgm_plates.specs.Reading.{ReadsPlate}
+use Rattle.trap_report.specs.declared.refusal.Refusal.{Refusal}
+use Rattle.trap_report.specs.declared.refusal.Refusal.TheVariants.{Usage, Job as JobRefusal, NoDetails, Plate, Page, Read, Write, Memory}
+use Rattle.trap_words.specs.declared.command.PlateWord.{PlateWord}
+use Rattle.trap_words.specs.Held.{plates_in}
+use Rattle.page_reading.specs.Inputs.{Holds, AreRead, name_at, plate_at, no_plate, inputs_of}
+use Rattle.page_reading.specs.Steps.{ReadsOne, ReadsPlates, AnswersPlate, AnswersPlates, Stops}
+use Rattle.page_reading.proofs.NameLemmas.{asks_none, asks_then, asks_front}
+
+pub one_read : FilePlate → (k : ℕ) (name : List ℕ) (a b : TrayState) (plate : PlateRead) → ReadsPlate name a b (Ok plate) → ReadsOne k name a b (Ok plate)
+one_read law k name a b plate reads = record {
+  keeps = reads.keeps;
+  asked = reads.asked;
+  answer = (reads.answer.1.plate_ok, law name a b plate reads);
+}
+
+pub one_refused : FileFault → (k : ℕ) (name : List ℕ) (a b : TrayState) (fault : PlateFault) → ReadsPlate name a b (Err (Fault fault)) → ReadsOne k name a b (Err (Plate k fault))
+one_refused law k name a b fault reads = record {
+  keeps = reads.keeps;
+  asked = reads.asked;
+  answer = (refl, law name a b fault reads);
+}
+
+-- as many files as words
+pub length-inputs : (words : List PlateWord) → length (inputs_of (plates_in words)) ≡ length words
+length-inputs [] = refl
+length-inputs (w ∷ words) = ap suc (length-inputs words)
+
+-- what stands after some plates were read
+pub record SoFar (names : List (List ℕ)) (k : ℕ) (a b : TrayState) (plates : List PlateRead) : Type 0 where
+  pub keeps : KeepsTray a b
+  pub asked : Asks a.asked b.asked (take k names)
+  pub count : length plates ≡ k
+  pub in_range : All IsPlate plates
+  pub read : IsTrue a.tells → AreRead a.file names k plates
+
+pub none_so_far : (names : List (List ℕ)) (a : TrayState) → SoFar names 0 a a []
+none_so_far names a = record {
+  keeps = record { tells = refl; file = refl; faults = omega arith };
+  asked = asks_none a.asked;
+  count = refl;
+  in_range = λ k d within. absurd (omega arith);
+  read = λ tells. record { all = refl; each = λ k within. absurd (omega arith) };
+}
+
+kept : (a b c : TrayState) → KeepsTray a b → KeepsTray b c → KeepsTray a c
+kept a b c one two = record { tells = two.tells ∙ one.tells; file = two.file ∙ one.file; faults = omega arith }
+
+-- The files of a tray are what they were before.
+pub held_before : (a b : TrayState) (name : List ℕ) (Fact : List ℕ → Type 0) → KeepsTray a b → (IsTrue b.tells → Holds b.file name Fact) → IsTrue a.tells → Holds a.file name Fact
+held_before a b name Fact keeps held tells =
+    let there = held (keeps.tells ∙ tells) in
+    (there.0, ap (λ (files : List ℕ → Option (List ℕ)). files name) (sym keeps.file) ∙ there.1, there.2)
+
+asked_more : (names : List (List ℕ)) (k : ℕ) (a b c : TrayState) → k < length names → Asks a.asked b.asked (take k names) → Asks b.asked c.asked (name_at names k ∷ []) → Asks a.asked c.asked (take (k + 1) names)
+asked_more names k a b c within one two = subst (λ (l : List (List ℕ)). Asks a.asked c.asked l) (sym (take_more names k [] within)) (asks_then a.asked b.asked c.asked (take k names) (name_at names k ∷ []) one two)
+
+read_more : (files : List ℕ → Option (List ℕ)) (names : List (List ℕ)) (k : ℕ) (plates : List PlateRead) (plate : PlateRead) → AreRead files names k plates → Holds files (name_at names k) (λ bytes. IsPlateFile bytes plate) → AreRead files names (k + 1) (plates ++ plate ∷ [])
+read_more files names k plates plate before here = record {
+  all = length-append plates (plate ∷ []) ∙ ap (λ (n : ℕ). n + 1) before.all;
+  each = below_more (λ (j : ℕ). Holds files (name_at names j) (λ bytes. IsPlateFile bytes (plate_at (plates ++ plate ∷ []) j))) k
+      (λ j within.
+      let lt : j < length plates = omega (arith, before.all) in
+      subst (λ (p : PlateRead). Holds files (name_at names j) (λ bytes. IsPlateFile bytes p)) (sym (get_or_append_left plates (plate ∷ []) no_plate j lt)) (before.each j within))
+      (subst (λ (p : PlateRead). Holds files (name_at names k) (λ bytes. IsPlateFile bytes p)) (sym (ap (λ (n : ℕ). plate_at (plates ++ plate ∷ []) n) (sym before.all) ∙ get_or-append_seam plates plate [] no_plate)) here);
+}
+
+pub more_so_far : (names : List (List ℕ)) (k : ℕ) (a b c : TrayState) (plates : List PlateRead) (plate : PlateRead) → k < length names → SoFar names k a b plates → ReadsOne k (name_at names k) b c (Ok plate) → SoFar names (k + 1) a c (plates ++ plate ∷ [])
+more_so_far names k a b c plates plate within so_far one = record {
+  keeps = kept a b c so_far.keeps one.keeps;
+  asked = asked_more names k a b c within so_far.asked one.asked;
+  count = length-append plates (plate ∷ []) ∙ ap (λ (n : ℕ). n + 1) so_far.count;
+  in_range = All-append IsPlate plates (plate ∷ []) so_far.in_range (All-cons IsPlate plate [] one.answer.0 (λ j d none. absurd (omega arith)));
+  read = λ tells. read_more a.file names k plates plate (so_far.read tells) (held_before a b (name_at names k) (λ bytes. IsPlateFile bytes plate) so_far.keeps one.answer.1 tells);
+}
+
+-- a refusal at plate k
+pub stops : (names : List (List ℕ)) (k : ℕ) (a b c : TrayState) (plates : List PlateRead) → k < length names → SoFar names k a b plates → KeepsTray b c → Asks b.asked c.asked (name_at names k ∷ []) → Stops names k a c
+stops names k a b c plates within so_far keeps asked = record {
+  known = within;
+  asked = asked_more names k a b c within so_far.asked asked;
+  plates = plates;
+  before_it = so_far.read;
+}
+
+-- the step at a word, seen by the list of the files' names
+input_of : (words : List PlateWord) (k : ℕ) (d : PlateWord) → k < length words → (get_or words k d).input.now ≡ name_at (inputs_of (plates_in words)) k
+input_of [] k d within = absurd (omega arith)
+input_of (w ∷ words) zero d within = refl
+input_of (w ∷ words) (suc k) d within = input_of words k d (omega arith)
+
+pub at_word : (words : List PlateWord) (k : ℕ) (d : PlateWord) (b c : TrayState) (result : Result PlateRead Refusal) → k < length words → ReadsOne k (get_or words k d).input.now b c result → ReadsOne k (name_at (inputs_of (plates_in words)) k) b c result
+at_word words k d b c result within one = subst (λ (name : List ℕ). ReadsOne k name b c result) (input_of words k d within) one
+
+pub no_room : (names : List (List ℕ)) (k : ℕ) (a b c : TrayState) (plates : List PlateRead) (plate : PlateRead) → k < length names → SoFar names k a b plates → ReadsOne k (name_at names k) b c (Ok plate) → ReadsPlates names a c (Err Memory)
+no_room names k a b c plates plate within so_far one = record {
+  keeps = kept a b c so_far.keeps one.keeps;
+  answer = asks_front a.asked c.asked (k + 1) names (asked_more names k a b c within so_far.asked one.asked);
+}
+
+at_plate : (names : List (List ℕ)) (k at : ℕ) (a b c : TrayState) → at ≡ k → Stops names k a c → Stops names at a c
+at_plate names k at a b c same there = subst (λ (n : ℕ). Stops names n a c) (sym same) there
+
+answer_refused : (names : List (List ℕ)) (k : ℕ) (a b c : TrayState) (plates : List PlateRead) (refusal : Refusal) → k < length names → SoFar names k a b plates → KeepsTray b c → Asks b.asked c.asked (name_at names k ∷ []) → AnswersPlate k (name_at names k) b c (Err refusal) → AnswersPlates names a c (Err refusal)
+answer_refused names k a b c plates (Plate at fault) within so_far keeps asked answer = (
+  at_plate names k at a b c answer.0 (stops names k a b c plates within so_far keeps asked),
+  λ tells. subst (λ (n : ℕ). Holds a.file (name_at names n) (λ bytes. IsFault bytes fault)) (sym answer.0) (held_before a b (name_at names k) (λ bytes. IsFault bytes fault) so_far.keeps answer.1 tells),
+)
+answer_refused names k a b c plates (Read (Some at)) within so_far keeps asked answer =
+    (at_plate names k at a b c answer.0 (stops names k a b c plates within so_far keeps asked), rose_before a.faults b.faults c.faults so_far.keeps.faults answer.1)
+answer_refused names k a b c plates Memory within so_far keeps asked answer = asks_front a.asked c.asked (k + 1) names (asked_more names k a b c within so_far.asked asked)
+answer_refused names k a b c plates Usage within so_far keeps asked answer = absurd answer
+answer_refused names k a b c plates (JobRefusal fault) within so_far keeps asked answer = absurd answer
+answer_refused names k a b c plates (NoDetails at) within so_far keeps asked answer = absurd answer
+answer_refused names k a b c plates (Page fault) within so_far keeps asked answer = absurd answer
+answer_refused names k a b c plates (Read None) within so_far keeps asked answer = absurd answer
+answer_refused names k a b c plates (Write file) within so_far keeps asked answer = absurd answer
+
+pub plates_refused : (names : List (List ℕ)) (k : ℕ) (a b c : TrayState) (plates : List PlateRead) (refusal : Refusal) → k < length names → SoFar names k a b plates → ReadsOne k (name_at names k) b c (Err refusal) → ReadsPlates names a c (Err refusal)
+plates_refused names k a b c plates refusal within so_far one = record {
+  keeps = kept a b c so_far.keeps one.keeps;
+  answer = answer_refused names k a b c plates refusal within so_far one.keeps one.asked one.answer;
+}

@@ -1,0 +1,11 @@
+use Rattle.std.proofs.Common.{◌≡◌, sym, subst, List, ℕ}
+use Rattle.job_reader.specs.Jobs.{job_of}
+use Rattle.ps_tokens.specs.Tokens.{Gives}
+use Rattle.page_reading.proofs.JobLemmas.{job_judged}
+use Rattle.page_reading.proofs.job.read_job_file.Goals as goal
+
+pub returns-in-Ok : goal.returns-in-Ok
+returns-in-Ok g c =
+    let read = c.in-Ok.ensures in
+    job_judged c.args.name.now (g.T.Tray.state c.args.tray.now) (g.T.Tray.state c.read_file.new.tray) c.in-Ok.bytes c.read_job.result c.judged.result read.keeps read.asked read.taken
+    (subst (λ (b : List ℕ). Gives c.read_job.result (job_of b)) c.as_slice.ensures c.read_job.ensures.given) c.judged.ensures

@@ -1,0 +1,4 @@
+pub mod Names
+pub mod Inputs
+pub mod Steps
+pub mod Reading

@@ -1,0 +1,41 @@
+-- What it means to read the page that a command names.
+use Rattle.std.specs.Prelude.{◌≡◌, ℕ, ◌+◌, IsTrue, List, [], ◌∷◌, length, take, Option, Some, None, Result, Ok, Err}
+use Rattle.outside.specs.Causes.{Rose, Asks}
+use Rattle.outside.specs.Tray.{TrayState, KeepsTray}
+use Rattle.job_reader.specs.declared.job.Job.{Job}
+use Rattle.job_reader.specs.Jobs.{job_of}
+use Rattle.page_model.specs.declared.parts.PageParts.{PageParts}
+use Rattle.page_model.specs.Page.{plates}
+use Rattle.pgm_plates.specs.declared.plate.Plate.{Plate as PlateRead}
+use Rattle.trap_engine.specs.Assembly.{assembly}
+use Rattle.trap_report.specs.declared.refusal.Refusal.{Refusal}
+use Rattle.trap_report.specs.declared.refusal.Refusal.TheVariants.{Usage, Job as JobRefusal, NoDetails, Plate, Page, Read, Write, Memory}
+use Rattle.trap_words.specs.Words.{PageWords}
+use Rattle.page_reading.specs.Names.{AsksFront}
+use Rattle.page_reading.specs.Inputs.{Holds, Inputs, PlateFails, inputs_of, names_of}
+
+-- all files that are read, the job first
+abbrev pub read_files : PageWords → List (List ℕ)
+read_files words = words.job ∷ inputs_of words.plates
+
+-- what the job and the plates make
+abbrev pub Makes : (List ℕ → Option (List ℕ)) → PageWords → Result PageParts Refusal → Type 0
+Makes files words made = (job : Job) × (plates : List PlateRead) × Inputs files words job plates × (assembly job plates (names_of words.plates) ≡ made)
+
+-- What the answer says of the files' bytes, where they are told, and of the names that were handed out.
+abbrev pub AnswersPage : PageWords → TrayState → TrayState → Result PageParts Refusal → Type 0
+AnswersPage words before after (Ok page) = (plates page ≡ length words.plates) × Asks before.asked after.asked (read_files words) × (IsTrue before.tells → Makes before.file words (Ok page))
+AnswersPage words before after (Err (JobRefusal fault)) = IsTrue before.tells → Holds before.file words.job (λ bytes. job_of bytes ≡ Err fault)
+AnswersPage words before after (Err (NoDetails plate)) = IsTrue before.tells → Makes before.file words (Err (NoDetails plate))
+AnswersPage words before after (Err (Plate plate fault)) = IsTrue before.tells → PlateFails before.file words plate fault
+AnswersPage words before after (Err (Page fault)) = IsTrue before.tells → Makes before.file words (Err (Page fault))
+AnswersPage words before after (Err (Read None)) = Rose before.faults after.faults × Asks before.asked after.asked (words.job ∷ [])
+AnswersPage words before after (Err (Read (Some plate))) = Rose before.faults after.faults × Asks before.asked after.asked (take (plate + 2) (read_files words))
+AnswersPage words before after (Err Memory) = Unit {0}
+AnswersPage words before after (Err Usage) = ⊥
+AnswersPage words before after (Err (Write file)) = ⊥
+
+pub record ReadsPage (words : PageWords) (before after : TrayState) (result : Result PageParts Refusal) : Type 0 where
+  pub keeps : KeepsTray before after
+  pub asked : AsksFront before.asked after.asked (read_files words)
+  pub answer : AnswersPage words before after result

@@ -1,0 +1,65 @@
+-- The steps in which a page is read.
+use Rattle.std.specs.Prelude.{◌≡◌, ℕ, ◌<◌, ◌+◌, IsTrue, List, [], ◌∷◌, length, take, All, Option, Some, None, Result, Ok, Err}
+use Rattle.outside.specs.Causes.{Rose, Asks}
+use Rattle.outside.specs.Tray.{TrayState, KeepsTray}
+use Rattle.job_reader.specs.declared.job.Job.{Job}
+use Rattle.job_reader.specs.Jobs.{job_of}
+use Rattle.pgm_plates.specs.declared.plate.Plate.{Plate as PlateRead}
+use Rattle.pgm_plates.specs.Faults.{IsFault}
+use Rattle.pgm_plates.specs.Plates.{IsPlate, IsPlateFile}
+use Rattle.ps_tokens.specs.declared.faults.JobRefusal.{JobRefusal as JobRefusals}
+use Rattle.ps_tokens.specs.declared.faults.JobRefusal.TheVariants.{Fault, OutOfMemory}
+use Rattle.trap_report.specs.declared.refusal.Refusal.{Refusal}
+use Rattle.trap_report.specs.declared.refusal.Refusal.TheVariants.{Usage, Job as JobRefusal, NoDetails, Plate, Page, Read, Write, Memory}
+use Rattle.page_reading.specs.Names.{AsksFront}
+use Rattle.page_reading.specs.Inputs.{Holds, AreRead, name_at}
+
+-- what the answer says of the job's bytes
+abbrev pub AnswersJob : List ℕ → TrayState → TrayState → Result Job Refusal → Type 0
+AnswersJob name before after (Ok job) = IsTrue before.tells → Holds before.file name (λ bytes. job_of bytes ≡ Ok job)
+AnswersJob name before after (Err (JobRefusal fault)) = IsTrue before.tells → Holds before.file name (λ bytes. job_of bytes ≡ Err fault)
+AnswersJob name before after (Err (Read None)) = Rose before.faults after.faults
+AnswersJob name before after (Err Memory) = Unit {0}
+AnswersJob name before after (Err other) = ⊥
+
+pub record ReadsJob (name : List ℕ) (before after : TrayState) (result : Result Job Refusal) : Type 0 where
+  pub keeps : KeepsTray before after
+  pub asked : Asks before.asked after.asked (name ∷ [])
+  pub answer : AnswersJob name before after result
+
+-- what the answer says of the bytes of plate k
+abbrev pub AnswersPlate : ℕ → List ℕ → TrayState → TrayState → Result PlateRead Refusal → Type 0
+AnswersPlate k name before after (Ok plate) = IsPlate plate × (IsTrue before.tells → Holds before.file name (λ bytes. IsPlateFile bytes plate))
+AnswersPlate k name before after (Err (Plate at fault)) = (at ≡ k) × (IsTrue before.tells → Holds before.file name (λ bytes. IsFault bytes fault))
+AnswersPlate k name before after (Err (Read (Some at))) = (at ≡ k) × Rose before.faults after.faults
+AnswersPlate k name before after (Err Memory) = Unit {0}
+AnswersPlate k name before after (Err other) = ⊥
+
+pub record ReadsOne (k : ℕ) (name : List ℕ) (before after : TrayState) (result : Result PlateRead Refusal) : Type 0 where
+  pub keeps : KeepsTray before after
+  pub asked : Asks before.asked after.asked (name ∷ [])
+  pub answer : AnswersPlate k name before after result
+
+-- so many plates are read, and the next one is refused
+pub record Stops (names : List (List ℕ)) (k : ℕ) (before after : TrayState) : Type 0 where
+  pub known : k < length names
+  pub asked : Asks before.asked after.asked (take (k + 1) names)
+  pub plates : List PlateRead
+  pub before_it : IsTrue before.tells → AreRead before.file names k plates
+
+abbrev pub AnswersPlates : List (List ℕ) → TrayState → TrayState → Result (List PlateRead) Refusal → Type 0
+AnswersPlates names before after (Ok plates) = Asks before.asked after.asked names × (length plates ≡ length names) × All IsPlate plates × (IsTrue before.tells → AreRead before.file names (length names) plates)
+AnswersPlates names before after (Err (Plate k fault)) = Stops names k before after × (IsTrue before.tells → Holds before.file (name_at names k) (λ bytes. IsFault bytes fault))
+AnswersPlates names before after (Err (Read (Some k))) = Stops names k before after × Rose before.faults after.faults
+AnswersPlates names before after (Err Memory) = AsksFront before.asked after.asked names
+AnswersPlates names before after (Err other) = ⊥
+
+pub record ReadsPlates (names : List (List ℕ)) (before after : TrayState) (result : Result (List PlateRead) Refusal) : Type 0 where
+  pub keeps : KeepsTray before after
+  pub answer : AnswersPlates names before after result
+
+-- a job that was read, or its refusal as the program tells it
+abbrev pub Judges : Result Job JobRefusals → Result Job Refusal → Type 0
+Judges (Ok job) result = result ≡ Ok job
+Judges (Err (Fault fault)) result = result ≡ Err (JobRefusal fault)
+Judges (Err OutOfMemory) result = result ≡ Err Memory

@@ -1,0 +1,6 @@
+//! The job and the plates that a command of a page names, read from a tray.
+#![tactic(auto)]
+
+pub mod job;
+pub mod names;
+pub mod plates;

@@ -1,0 +1,9 @@
+use Rattle.std.proofs.Common.{◌≡◌, ◌-◌, arith, length}
+use Rattle.page_model.specs.Zones.{zone_of}
+use Rattle.zone_map.proofs.row.zone_row.Goals as goal
+
+pub returns-clause-zones : goal.returns-clause-zones
+unfolding zone_of
+returns-clause-zones c =
+    let all : c.loop-n.n ≡ length c.args.page.now.zones - 1 = omega (arith, c.loop-n-test.false, c.loop-n.invariant.end, c.loop-n.auto.n-end) in
+    record { wide = c.loop-n.invariant.out; each = λ x l. rw (← all) (c.loop-n.invariant.done x l) }

@@ -1,0 +1,5 @@
+use Rattle.zone_map.proofs.TallyLemmas.{past-more}
+use Rattle.zone_map.proofs.tally.add_at.Goals as goal
+
+pub returns-clause-past : goal.returns-clause-past
+returns-clause-past c = λ x. past-more c.args.counts.now c.args.n x c.requires.place

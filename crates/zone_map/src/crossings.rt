@@ -1,0 +1,94 @@
+ghost use Rattle.std.specs.Prelude.{◌≡◌, ℕ, ◌<◌, ◌≤◌, ◌+◌, ◌*◌, ◌+ℤ◌, ◌*ℤ◌, ◌-ℤ◌, int_lt, nat_abs, nat_lt, pos, true};
+ghost use Rattle.page_model.specs.Conditions.{IsVertex};
+ghost use Rattle.page_model.specs.Zones.{corner, lean};
+ghost use Rattle.zone_map.specs.Spots.{middle, point, IsNear};
+
+use page_model::parts::Vertex;
+
+/// A point of the page, in ten-thousandths of a 72nd of an inch times the resolution, from the lower left corner.
+#[derive(Clone, Copy, Debug, Drop)]
+pub struct Spot {
+    pub x: i64,
+    pub y: i64,
+}
+
+/// Where a vertex stands.
+pub fn spot_of(v: Vertex, resolution: u32) -> Spot
+    requires vertex { IsVertex v }
+    requires resolution { resolution ≤ 10000 }
+    ensures value { point result ≡ corner resolution v }
+    ensures near { IsNear result }
+{
+    Spot {
+        x: v.x * i64::from(resolution),
+        y: v.y * i64::from(resolution),
+    }
+}
+
+/// The way from one coordinate to another.
+fn way(from: i64, to: i64) -> i64
+    requires from { nat_abs from ≤ 100000000000000 }
+    requires to { nat_abs to ≤ 100000000000000 }
+    ensures value { result ≡ to -ℤ from }
+    ensures bound { nat_abs result ≤ 200000000000000 }
+{
+    to - from
+}
+
+/// The product of two lengths on the page.
+fn product(one: i64, two: i64) -> i128
+    requires one { nat_abs one ≤ 200000000000000 }
+    requires two { nat_abs two ≤ 200000000000000 }
+    ensures value { result ≡ one *ℤ two }
+    ensures bound { nat_abs result ≤ 40000000000000000000000000000 }
+{
+    i128::from(one) * i128::from(two)
+}
+
+/// Where the segment from a to b stands at height y, times its rise.
+fn across_of(a: Spot, b: Spot, y: i64) -> i128
+    requires a { IsNear a }
+    requires b { IsNear b }
+    requires y { nat_abs y ≤ 100000000000000 }
+    ensures value { result ≡ ((b.x -ℤ a.x) *ℤ (y -ℤ a.y)) +ℤ (a.x *ℤ (b.y -ℤ a.y)) }
+    ensures bound { nat_abs result ≤ 80000000000000000000000000000 }
+{
+    let along = product(way(a.x, b.x), way(a.y, y));
+    let aside = product(a.x, way(a.y, b.y));
+    along + aside
+}
+
+/// How many samples of a row have their middles left of a point of it, which is given times the rise.
+fn samples_below(across: u128, rise: u64, width: u32) -> u32
+    requires across { across ≤ 80000000000000000000000000000 }
+    requires rises { 0 < rise }
+    requires rise { rise ≤ 200000000000000 }
+    ensures bound { result ≤ width }
+    ensures left { (x : ℕ) → x < width → nat_lt x result ≡ nat_lt ((2 * x + 1) * 360000 * rise) across }
+{
+    let half = 360_000 * u128::from(rise);
+    let count = (across + half - 1) / (2 * half);
+    if count < u128::from(width) {
+        count as u32
+    } else {
+        width
+    }
+}
+
+/// How many samples have their middles left of where the rising segment from a to b crosses the row at height y.
+pub fn samples_left_of(a: Spot, b: Spot, y: i64, width: u32) -> u32
+    requires a { IsNear a }
+    requires b { IsNear b }
+    requires y { nat_abs y ≤ 100000000000000 }
+    requires rising { int_lt a.y b.y ≡ true }
+    ensures bound { result ≤ width }
+    ensures left { (x : ℕ) → x < width → nat_lt x result ≡ int_lt (pos 0) (lean (point a) (point b) (middle x y)) }
+{
+    let across = across_of(a, b, y);
+    let rise = way(a.y, b.y).unsigned_abs();
+    if across < 0 {
+        0
+    } else {
+        samples_below(across.unsigned_abs(), rise, width)
+    }
+}
