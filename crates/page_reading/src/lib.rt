@@ -4,3 +4,5 @@
 pub mod job;
 pub mod names;
 pub mod plates;
+#[cfg(test)]
+mod tests;
