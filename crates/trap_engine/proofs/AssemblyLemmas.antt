@@ -29,7 +29,8 @@ plane_ok plate is = record {
   some_maxval = is.positive;
   maxval_fits = is.maxval;
   full = length-map plate.samples (λ s. plate.maxval - s) ∙ is.count;
-  below = All-map (λ t. t ≤ plate.maxval) (λ s. plate.maxval - s) plate.samples (λ k d within. omega arith) }
+  below = All-map (λ t. t ≤ plate.maxval) (λ s. plate.maxval - s) plate.samples (λ k d within. omega arith);
+}
 
 -- what is found in a list is one of its elements
 picked : (inks : List Ink) (k : ℕ) (ink : Ink) → All IsInk inks → slice_get inks k ≡ Some ink → IsInk ink
@@ -50,7 +51,9 @@ zone_ok names zone is = record {
   path = is.path;
   limits = record {
     once = AllPairs-filter (λ (a : Limit) (b : Limit). a.name ≡ b.name → ⊥) (λ (l : Limit). list_any (λ n. bytes_eq n l.name) names) zone.limits is.limits.once;
-    steps = All-filter (λ (l : Limit). list_any (λ n. bytes_eq n l.name) names) (λ (l : Limit). l.step ≤ 10000) zone.limits is.limits.steps } }
+    steps = All-filter (λ (l : Limit). list_any (λ n. bytes_eq n l.name) names) (λ (l : Limit). l.step ≤ 10000) zone.limits is.limits.steps;
+  };
+}
 
 first_zone : (names : List (List ℕ)) (zones : List Zone) → 1 ≤ length zones → get_or (map (zone_for names) zones) 0 no_zone ≡ zone_for names (get_or zones 0 no_zone)
 first_zone names [] some = absurd (omega arith)
@@ -77,5 +80,6 @@ is_parts job plates names is can = record {
   few_vertices = subst (λ (n : ℕ). n ≤ 16384) (sym (sum_by-zones names job.zones)) is.few_vertices;
   fine = is.fine;
   resolved = λ none.
-    let alone = is.resolved none in
-    (length-map job.zones (zone_for names) ∙ alone.0, ap (λ (z : Zone). z.params.enabled) (first_zone names job.zones is.some_zones) ∙ alone.1) }
+      let alone = is.resolved none in
+      (length-map job.zones (zone_for names) ∙ alone.0, ap (λ (z : Zone). z.params.enabled) (first_zone names job.zones is.some_zones) ∙ alone.1);
+}

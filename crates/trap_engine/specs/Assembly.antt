@@ -43,7 +43,8 @@ assembled job plates names = record {
   resolution = job.resolution;
   planes = map plane_of plates;
   inks = map (ink_of job.details) names;
-  zones = map (zone_for names) job.zones }
+  zones = map (zone_for names) job.zones;
+}
 
 abbrev pub some_enabled : Job → Bool
 some_enabled job = list_any (λ (z : Zone). z.params.enabled) job.zones

@@ -9,7 +9,9 @@ ghost use Rattle.trap_engine.specs.Assembly.{CanAssemble, IsJob, assembled, asse
 use job_reader::job::Job;
 use page_model::list::List;
 use page_model::page::Page;
-use page_model::parts::{DetailList, Ink, InkKind, InkList, Name, NameList, OutOfMemory, PageParts, PlaneList, ZoneList};
+use page_model::parts::{
+    DetailList, Ink, InkKind, InkList, Name, NameList, OutOfMemory, PageParts, PlaneList, ZoneList,
+};
 use pgm_plates::plate::Plate;
 use std::alloc::Global;
 use trap_report::refusal::Refusal;
@@ -23,7 +25,12 @@ pub type PlateList = List<Plate>;
 /// Where some zone is enabled, the first plate without details is refused. Where none is, such a plate gets a density of
 /// 10,000 ten-thousandths and the kind Normal. Then come the faults of `Page::new`, and want of memory. A refusal hands
 /// nothing back. The rule is this project's own.
-pub fn assemble(alloc: Global, job: Job, plates: PlateList, names: &NameList) -> Result<Page, Refusal>
+pub fn assemble(
+    alloc: Global,
+    job: Job,
+    plates: PlateList,
+    names: &NameList,
+) -> Result<Page, Refusal>
     requires job { IsJob job }
     requires plates { CanAssemble plates names.now }
     ensures { MatchResult result (λ page. assembly job plates names.now ≡ Ok page) (λ refusal. (refusal ≡ Refusal.Memory) ⊎ (assembly job plates names.now ≡ Err refusal)) }
@@ -57,7 +64,10 @@ fn without_details(job: &Job, names: &NameList) -> Option<u32>
 fn first_without(details: &DetailList, names: &NameList) -> Option<usize>
     ensures { result ≡ position (λ name. is_none (detail_meant details.now name)) names.now }
 {
-    names.as_slice().iter().position(|name| is_without(details, name))
+    names
+        .as_slice()
+        .iter()
+        .position(|name| is_without(details, name))
 }
 
 fn is_without(details: &DetailList, name: &Name) -> bool
@@ -85,7 +95,12 @@ fn is_named(ink: &Ink, name: &[u8]) -> bool
     ink.name.as_slice() == name
 }
 
-fn parts_of(alloc: Global, job: Job, plates: PlateList, names: &NameList) -> Result<PageParts, OutOfMemory>
+fn parts_of(
+    alloc: Global,
+    job: Job,
+    plates: PlateList,
+    names: &NameList,
+) -> Result<PageParts, OutOfMemory>
     requires plates { CanAssemble plates names.now }
     ensures { IfOk result (λ parts. parts ≡ assembled job plates names.now) }
 {

@@ -6,4 +6,5 @@ use Rattle.trap_engine.proofs.assemble.planes_of.Given as goal
 abbrev pub invariant-loop-plate : goal.invariant-loop-plate
 invariant-loop-plate l = record {
   made : l.planes ≡ map plane_of l.yielded;
-  left : l.fn.plates ≡ l.yielded ++ into_iter_items l.plate-iterator }
+  left : l.fn.plates ≡ l.yielded ++ into_iter_items l.plate-iterator;
+}
