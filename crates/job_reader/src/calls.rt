@@ -11,7 +11,7 @@ pub struct Call {
     pub operator: Option<Operator>,
 }
 
-// The call of an operator at a place, none where another object or none stands there.
+/// The call of an operator at a place, none where another object or none stands there.
 pub fn call_at(objects: &[Object], place: usize) -> Option<Call>
     ensures { result ≡ call_of (slice_get objects.now place) }
 {
@@ -27,7 +27,7 @@ pub fn call_at(objects: &[Object], place: usize) -> Option<Call>
     }
 }
 
-// Whether an operator ends the job.
+/// Whether an operator ends the job.
 pub fn is_showpage(operator: Operator) -> bool
     ensures { result ≡ is_showpage operator }
 {

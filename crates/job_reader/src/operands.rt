@@ -4,7 +4,7 @@ ghost use Rattle.job_reader.specs.Operands.{is_one_dict, is_dict_between, two_nu
 use colorant_details::shades::is_dict;
 use ps_tokens::object::{Body, Object};
 
-// Whether the operands between two places are one dictionary.
+/// Whether the operands between two places are one dictionary.
 pub fn is_one_dict(objects: &[Object], from: u32, place: u32) -> bool
     ensures { result ≡ is_one_dict objects.now from place }
 {
@@ -22,7 +22,7 @@ fn is_dict_between(from: u32, place: u32, object: &Object) -> bool
     is_dict(&object.body) && from as u64 + 1 + inside as u64 == place as u64
 }
 
-// The two numbers that are the operands between two places, none where these are not two numbers.
+/// The two numbers that are the operands between two places, none where these are not two numbers.
 pub fn two_numbers(objects: &[Object], from: u32, place: u32) -> Option<(i64, i64)>
     requires { from < 2 ^ 31 }
     ensures { result ≡ two_numbers objects.now from place }
@@ -39,7 +39,7 @@ pub fn two_numbers(objects: &[Object], from: u32, place: u32) -> Option<(i64, i6
     }
 }
 
-// The number at a place, none where another object or none stands there.
+/// The number at a place, none where another object or none stands there.
 pub fn number_at(objects: &[Object], place: usize) -> Option<i64>
     ensures { result ≡ number_at objects.now place }
 {

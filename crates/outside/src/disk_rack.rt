@@ -27,6 +27,7 @@ impl<'a, R: Files + Print> Model for DiskRack<'a, R> {
 }
 
 impl<'a, R: Files + Print> DiskRack<'a, R> {
+    /// A rack over the files of the system and its standard output, with no file in hand.
     pub fn new(files: &'a R) -> DiskRack<'a, R>
         ensures { result ≡ fresh_disk }
     {

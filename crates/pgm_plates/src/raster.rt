@@ -14,7 +14,7 @@ use std::alloc::{AllocError, Global};
 // How many samples are read in one go at most.
 const PIECE: usize = 65_536;
 
-// Reads that many samples, whose first byte is at that place of the file.
+/// Reads that many samples, whose first byte is at that place of the file.
 pub fn read_raster<T: Tray>(
     alloc: Global,
     tray: &mut T,
@@ -134,7 +134,7 @@ fn read_piece<T: Tray>(
     }
 }
 
-// Why no more was read into a buffer.
+/// Why no more was read into a buffer.
 #[derive(Clone, Copy, Debug, Drop, PartialEq, Eq)]
 pub enum Filled {
     Whole,

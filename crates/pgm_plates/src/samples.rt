@@ -3,7 +3,7 @@ ghost use Rattle.std.specs.List.{flat_map};
 ghost use Rattle.pgm_plates.specs.Plates.{sample_size as bytes_of_sample};
 ghost use Rattle.pgm_plates.specs.Readers.{Fit, FirstAbove, IsDecoded};
 
-// How many bytes a sample has.
+/// How many bytes a sample has.
 pub fn sample_size(maxval: u32) -> usize
     ensures { result ≡ bytes_of_sample maxval }
 {
@@ -37,7 +37,7 @@ fn first_above(samples: &[u16], maxval: u32) -> Option<usize>
     None
 }
 
-// Decodes the whole samples in these bytes, and finds the first that is above the maxval.
+/// Decodes the whole samples in these bytes, and finds the first that is above the maxval.
 pub fn take_samples(bytes: &[u8], maxval: u32, samples: &mut [u16]) -> Option<usize>
     requires { length samples.old ≡ length bytes.now / bytes_of_sample maxval }
     ensures decoded { IsDecoded maxval bytes.now samples.new }

@@ -24,7 +24,7 @@ pub struct Bracket {
 }
 
 /// The brackets that are open at a place, the innermost first.
-// They stand at the end of `items`, from `start` on.
+/// They stand at the end of `items`, from `start` on.
 #[derive(Drop)]
 pub struct Brackets {
     items: [Bracket; 16],

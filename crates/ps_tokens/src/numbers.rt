@@ -13,7 +13,7 @@ use crate::token::TokenKind;
 /// The greatest whole part of a number.
 pub const MOST_WHOLE: u32 = 1_000_000;
 
-// Whether the first byte is this one.
+/// Whether the first byte is this one.
 pub fn begins_with(bytes: &[u8], byte: u8) -> bool
     ensures value { result ≡ begins_with byte bytes.now }
     ensures some { OnTrue result (0 < length bytes.now) }
@@ -103,7 +103,7 @@ fn signed(negative: bool, magnitude: u64) -> i64
     if negative { -number } else { number }
 }
 
-// What a run of regular bytes is: a number, a word, or neither.
+/// What a run of regular bytes is: a number, a word, or neither.
 #[tactic(auto, unfolding(crate::specs::Pieces::run_piece))]
 pub fn run_piece(run: &[u8]) -> Piece
     requires { 0 < length run.now }

@@ -3,7 +3,7 @@ ghost use Rattle.ps_tokens.specs.Words.{spelling, is_value_word};
 
 use crate::token::Token;
 
-// A token's bytes.
+/// A token's bytes.
 pub fn spelling<'a>(bytes: &'a [u8], token: &Token) -> &'a [u8]
     ensures { result.now ≡ spelling bytes.now token.now }
 {
@@ -12,7 +12,7 @@ pub fn spelling<'a>(bytes: &'a [u8], token: &Token) -> &'a [u8]
     &bytes[from..to]
 }
 
-// Whether a word is `true`, `false` or `null`.
+/// Whether a word is `true`, `false` or `null`.
 #[tactic(auto, unfolding(crate::specs::Words::is_value_word))]
 pub fn is_value_word(word: &[u8]) -> bool
     ensures { result ≡ is_value_word word.now }

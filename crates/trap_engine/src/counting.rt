@@ -15,6 +15,7 @@ use page_model::page::Page;
 use page_model::parts::{CountList, OutOfMemory};
 use std::alloc::Global;
 
+/// 1 where the test holds, else 0.
 pub fn one_if(test: bool) -> u64
     ensures { result ≡ (if test then 1 else 0) }
 {

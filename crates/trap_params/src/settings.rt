@@ -55,7 +55,7 @@ fn in_range(key: Key, number: i64) -> Result<u32, FaultKind>
     }
 }
 
-// The number that a value sets.
+/// The number that a value sets.
 pub fn number_of(key: Key, value: &Body) -> Result<u32, FaultKind>
     ensures { result ≡ number_of key value.now }
 {

@@ -22,14 +22,14 @@ pub struct Pen {
     pub closed: bool,
 }
 
-// Whether a point is at most a million points from the origin in x and in y.
+/// Whether a point is at most a million points from the origin in x and in y.
 pub fn is_near(point: Point) -> bool
     ensures { result ≡ is_near point }
 {
     point.x.unsigned_abs() <= FARTHEST && point.y.unsigned_abs() <= FARTHEST
 }
 
-// The vertex at a point.
+/// The vertex at a point.
 pub fn vertex_at(point: Point, starts: bool) -> Vertex
     ensures { result ≡ vertex_at point starts }
 {
@@ -40,7 +40,7 @@ pub fn vertex_at(point: Point, starts: bool) -> Vertex
     }
 }
 
-// The point that lies so far away from a near one; none where it is so far that it is no near one.
+/// The point that lies so far away from a near one; none where it is so far that it is no near one.
 pub fn shifted(point: Point, dx: i64, dy: i64) -> Option<Point>
     requires { is_near point ≡ true }
     ensures { MatchOption result (is_near (shifted point dx dy) ≡ false) (λ p. p ≡ shifted point dx dy) }
