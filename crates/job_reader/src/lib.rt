@@ -5,6 +5,7 @@ pub mod calls;
 mod device;
 mod drawing;
 pub mod job;
+pub mod laws;
 mod operands;
 pub mod operators;
 mod parameters;

@@ -18,7 +18,8 @@ use Rattle.page_model.specs.Page.{no_zone}
 use Rattle.pgm_plates.specs.declared.plate.Plate.{Plate}
 use Rattle.pgm_plates.specs.Planes.{plane_of}
 use Rattle.pgm_plates.specs.Plates.{IsPlate}
-use Rattle.trap_engine.specs.Assembly.{CanAssemble, IsJob, assembled, detail_of, ink_of, ink_or, plain_ink, zone_for}
+use Rattle.job_reader.specs.InRange.{IsJob}
+use Rattle.trap_engine.specs.Assembly.{CanAssemble, assembled, detail_of, ink_of, ink_or, plain_ink, zone_for}
 
 plane_ok : (plate : Plate) → IsPlate plate → IsPlane (plane_of plate)
 plane_ok plate is = record {

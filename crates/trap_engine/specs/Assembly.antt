@@ -1,5 +1,5 @@
 -- The page that a job and plates make.
-use Rattle.std.specs.Prelude.{◌≡◌, ◌⊎◌, ℕ, Bool, ◌≤◌, length, List, Option, Some, None, Result, Ok, Err, map, filter, find, is_none, if◌then◌else◌, All, [], false, slice_index_or, sum_by}
+use Rattle.std.specs.Prelude.{◌≡◌, ◌⊎◌, ℕ, Bool, ◌≤◌, length, List, Option, Some, None, Result, Ok, Err, map, filter, find, is_none, if◌then◌else◌, All}
 use Rattle.std.specs.List.{list_any, position}
 use Rattle.std.specs.Str.{bytes_eq}
 use Rattle.job_reader.specs.declared.job.Job.{Job}
@@ -9,9 +9,7 @@ use Rattle.page_model.specs.declared.parts.Limit.{Limit}
 use Rattle.page_model.specs.declared.page.PageFault.{PageFault}
 use Rattle.page_model.specs.declared.parts.PageParts.{PageParts}
 use Rattle.page_model.specs.declared.parts.Zone.{Zone}
-use Rattle.page_model.specs.Conditions.{IsZone, IsInk}
 use Rattle.page_model.specs.Faults.{page_fault}
-use Rattle.page_model.specs.Page.{no_zone}
 use Rattle.pgm_plates.specs.declared.plate.Plate.{Plate}
 use Rattle.pgm_plates.specs.Planes.{plane_of}
 use Rattle.pgm_plates.specs.Plates.{IsPlate}
@@ -64,17 +62,6 @@ detailed (Some plate) parts = Err (NoDetails plate)
 -- the page, or why there is none: a plate without details, and then the first fault of the parts
 abbrev pub assembly : Job → List Plate → List (List ℕ) → Result PageParts Refusal
 assembly job plates names = detailed (without_details job names) (assembled job plates names)
-
--- a job in range: what each job that a file spells meets
-pub record IsJob (job : Job) : Type 0 where
-  pub some_zones : 1 ≤ length job.zones
-  pub few_zones : length job.zones ≤ 251
-  pub zones : All IsZone job.zones
-  pub zone_0 : (slice_index_or job.zones 0 no_zone).path ≡ []
-  pub few_vertices : sum_by (λ (z : Zone). length z.path) job.zones ≤ 16384
-  pub fine : job.resolution ≤ 10000
-  pub resolved : job.resolution ≡ 0 → (length job.zones ≡ 1) × ((slice_index_or job.zones 0 no_zone).params.enabled ≡ false)
-  pub details : All IsInk job.details
 
 -- as many names as plates, and each plate in range
 pub record CanAssemble (plates : List Plate) (names : List (List ℕ)) : Type 0 where

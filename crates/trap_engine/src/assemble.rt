@@ -4,7 +4,8 @@ ghost use Rattle.std.specs.Str.{bytes_eq};
 ghost use Rattle.page_model.specs.Conditions.{IsParts};
 ghost use Rattle.pgm_plates.specs.Planes.{plane_of};
 ghost use Rattle.pgm_plates.specs.Plates.{IsPlate};
-ghost use Rattle.trap_engine.specs.Assembly.{CanAssemble, IsJob, assembled, assembly, without_details as plate_without, detail_of as detail_meant, ink_of as ink_meant, zone_for, some_enabled as some_zone_enabled};
+ghost use Rattle.job_reader.specs.InRange.{IsJob};
+ghost use Rattle.trap_engine.specs.Assembly.{CanAssemble, assembled, assembly, without_details as plate_without, detail_of as detail_meant, ink_of as ink_meant, zone_for, some_enabled as some_zone_enabled};
 
 use job_reader::job::Job;
 use page_model::list::List;

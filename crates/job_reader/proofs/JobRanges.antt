@@ -1,0 +1,131 @@
+-- Each job that bytes spell is in range.
+use Rattle.std.proofs.Common.{◌≡◌, ℕ, ◌≤◌, ◌+◌, ◌==◌, Bool, true, false, cond, List, [], ◌∷◌, length, map, Option, Some, None, Result, Ok, Err, refl, sym, ap, ◌∙◌, subst, arith, All, suc}
+use Rattle.std.specs.Prelude.{nat_lt, ◌&&◌, ◌||◌, slice_get, slice_index_or, sum_by}
+use Rattle.std.proofs.lemmas.Bool.{true≢false}
+use Rattle.std.proofs.lemmas.Bool.Decides.{nat_tests}
+use Rattle.std.proofs.lemmas.List.{length-map}
+use Rattle.std.proofs.lemmas.List.Elements.{All-nil, All-cons, All-map, All-weaker}
+use Rattle.std.proofs.lemmas.List.Sums.{sum_by-cons}
+use Rattle.page_model.specs.declared.parts.Vertex.{Vertex}
+use Rattle.page_model.specs.declared.parts.Zone.{Zone}
+use Rattle.page_model.specs.Conditions.{IsPath, IsVertex, IsZone}
+use Rattle.ps_tokens.specs.declared.faults.FaultKind.TheVariants.{JobTooLong, NoPageDevice, NoShowpage, UnknownOperator, WrongOperands}
+use Rattle.ps_tokens.specs.declared.faults.JobFault.{JobFault}
+use Rattle.ps_tokens.specs.declared.object.Object.{Object}
+use Rattle.ps_tokens.specs.declared.token.Token.{Token}
+use Rattle.ps_tokens.specs.Tokens.{tokens_of}
+use Rattle.ps_tokens.specs.Objects.{objects_of}
+use Rattle.job_reader.specs.declared.job.Job.{Job}
+use Rattle.job_reader.specs.declared.operators.Operator.{Operator}
+use Rattle.job_reader.specs.declared.state.State.{State}
+use Rattle.job_reader.specs.Calls.{Statement, is_showpage, statements_of}
+use Rattle.job_reader.specs.InRange.{IsJob}
+use Rattle.job_reader.specs.Jobs.{followed, stepped, read_from, job_of_objects, job_of_tokens, job_of}
+use Rattle.job_reader.specs.Starts.{nothing_read}
+use Rattle.job_reader.specs.Statements.{behind_fault, fault, job_at, job_unless, performed, shown, shown_fault, switched, wants_device, zone_0}
+use Rattle.job_reader.proofs.StateRanges.{IsState, nothing_read-state, performed-leaves}
+
+-- a job that is made, or a fault
+abbrev Makes : Result Job JobFault → Type 0
+Makes r = (job : Job) → r ≡ Ok job → IsJob job
+
+-- a switched zone is a zone of the same path
+switched-zones : (trapping : Bool) (zones : List Zone) → All IsZone zones → All IsZone (map (switched trapping) zones)
+switched-zones trapping zones are =
+    All-map IsZone (switched trapping) zones (All-weaker IsZone (λ (z : Zone). IsZone (switched trapping z)) (λ z is. record { params = record { some_width = is.params.some_width; width = is.params.width; some_factor = is.params.some_factor; factor = is.params.factor; color = is.params.color; some_density = is.params.some_density; density = is.params.density; step = is.params.step; sliding = is.params.sliding; scaling = is.params.scaling }; path = is.path; limits = is.limits }) zones are)
+
+switched-vertices : (trapping : Bool) (zones : List Zone) → sum_by (λ (z : Zone). length z.path) (map (switched trapping) zones) ≡ sum_by (λ (z : Zone). length z.path) zones
+switched-vertices trapping [] = refl
+switched-vertices trapping (z ∷ zs) =
+    sum_by-cons (λ (z : Zone). length z.path) (switched trapping z) (map (switched trapping) zs)
+    ∙ ap (λ n. length z.path + n) (switched-vertices trapping zs)
+    ∙ sym (sum_by-cons (λ (z : Zone). length z.path) z zs)
+
+zone_0-zone : (now : State) → IsState now → IsZone (zone_0 now)
+zone_0-zone now here = record {
+  params = record { some_width = here.params.some_width; width = here.params.width; some_factor = here.params.some_factor; factor = here.params.factor; color = here.params.color; some_density = here.params.some_density; density = here.params.density; step = here.params.step; sliding = here.params.sliding; scaling = here.params.scaling };
+  path = record { begun = refl; few = omega arith; near = All-nil IsVertex };
+  limits = here.limits;
+}
+
+-- without a resolution nothing wants one
+idle : (zones : List Zone) (enabled trapping : Bool) → (nat_lt 0 (length zones) || (enabled && trapping)) ≡ false → (length zones ≡ 0) × ((enabled && trapping && (length zones == 0)) ≡ false)
+idle [] true true wants = absurd (cc)
+idle [] true false wants = (refl, refl)
+idle [] false true wants = (refl, refl)
+idle [] false false wants = (refl, refl)
+idle (z ∷ zs) enabled trapping wants = let some : nat_lt 0 (suc (length zs)) ≡ true = grind (arith, nat_tests) in let wanted : true ≡ false = ap (λ b. b || (enabled && trapping)) (sym some) ∙ wants in absurd (true≢false wanted)
+
+not_both : (n : ℕ) (wants : Bool) → ((n == 0) && wants) ≡ false → n ≡ 0 → wants ≡ false
+not_both n true neither none = let zero : (n == 0) ≡ true = ap (λ m. m == 0) none in absurd (cc)
+not_both n false neither none = refl
+
+job_at-job : (now : State) → IsState now → ((now.resolution == 0) && wants_device now) ≡ false → IsJob (job_at now)
+job_at-job now here neither =
+    let others : List Zone = map (switched now.trapping) now.zones in
+    let count : length others ≡ length now.zones = length-map now.zones (switched now.trapping) in
+    let vertices : sum_by (λ (z : Zone). length z.path) (zone_0 now ∷ others) ≡ 0 + sum_by (λ (z : Zone). length z.path) others = sum_by-cons (λ (z : Zone). length z.path) (zone_0 now) others in
+    let same = switched-vertices now.trapping now.zones in
+    record {
+      some_zones = omega arith;
+      few_zones = omega (arith, here.few_zones);
+      zones = All-cons IsZone (zone_0 now) others (zone_0-zone now here) (switched-zones now.trapping now.zones here.zones);
+      zone_0 = refl;
+      few_vertices = omega (arith, vertices, same, here.counted, here.few_vertices);
+      fine = here.fine;
+      resolved = λ none.
+          let rest = idle now.zones now.params.enabled now.trapping (not_both now.resolution (wants_device now) neither none) in
+          let none_made : length now.zones ≡ 0 = rest.0 in
+          (omega (arith, count), rest.1);
+      details = here.details;
+    }
+
+made_if : (b : Bool) (at : ℕ) (o : Option Object) (now : State) → IsState now → ((now.resolution == 0) && wants_device now) ≡ b → Makes (job_unless (cond b (Some (record { kind = NoPageDevice; at = at })) (behind_fault o)) (job_at now))
+made_if true at o now here neither = λ job is. absurd (cc)
+made_if false at None now here neither = λ job is. let same : job_at now ≡ job = cc in subst (λ (j : Job). IsJob j) same (job_at-job now here neither)
+made_if false at (Some object) now here neither = λ job is. absurd (cc)
+
+alone_if : (b : Bool) (objects : List Object) (place at : ℕ) (now : State) → IsState now
+    → Makes (job_unless (cond b (cond ((now.resolution == 0) && wants_device now) (Some (record { kind = NoPageDevice; at = at })) (behind_fault (slice_get objects (place + 1)))) (Some (record { kind = WrongOperands; at = at }))) (job_at now))
+alone_if true objects place at now here = made_if ((now.resolution == 0) && wants_device now) at (slice_get objects (place + 1)) now here refl
+alone_if false objects place at now here = λ job is. absurd (cc)
+
+-- `showpage`
+shown-makes : (objects : List Object) (from place at : ℕ) (now : State) → IsState now → Makes (shown objects from place at now)
+unfolding shown_fault
+shown-makes objects from place at now here = alone_if (from == place) objects place at now here
+
+followed-makes : (r : Result State JobFault) (rest : State → Result Job JobFault) → ((next : State) → r ≡ Ok next → IsState next) → ((next : State) → IsState next → Makes (rest next)) → Makes (followed r rest)
+followed-makes (Ok next) rest leaves makes = makes next (leaves next refl)
+followed-makes (Err first) rest leaves makes = λ job is. absurd (cc)
+
+shown_or : (b : Bool) (objects : List Object) (s : Statement) (operator : Operator) (now : State) (rest : State → Result Job JobFault) → IsState now → ((next : State) → IsState next → Makes (rest next))
+    → Makes (cond b (shown objects s.from s.place s.call.at now) (followed (performed objects s.from s.place s.call.at operator now) rest))
+shown_or true objects s operator now rest here makes = shown-makes objects s.from s.place s.call.at now here
+shown_or false objects s operator now rest here makes = followed-makes (performed objects s.from s.place s.call.at operator now) rest (performed-leaves objects s.from s.place s.call.at operator now here) makes
+
+stepped-makes : (objects : List Object) (s : Statement) (o : Option Operator) (now : State) (rest : State → Result Job JobFault) → IsState now → ((next : State) → IsState next → Makes (rest next)) → Makes (stepped objects s o now rest)
+stepped-makes objects s None now rest here makes = λ job is. absurd (cc)
+stepped-makes objects s (Some operator) now rest here makes = shown_or (is_showpage operator) objects s operator now rest here makes
+
+read_from-makes : (objects : List Object) (len : ℕ) (now : State) (ss : List Statement) → IsState now → Makes (read_from objects len now ss)
+unfolding read_from
+read_from-makes objects len now [] here = λ job is. absurd (cc)
+read_from-makes objects len now (s ∷ ss) here = stepped-makes objects s s.call.operator now (λ next. read_from objects len next ss) here (λ next there. read_from-makes objects len next ss there)
+
+objects-make : (len : ℕ) (r : Result (List Object) JobFault) → Makes (job_of_objects len r)
+objects-make len (Ok objects) = read_from-makes objects len nothing_read (statements_of objects) nothing_read-state
+objects-make len (Err first) = λ job is. absurd (cc)
+
+tokens-make : (bytes : List ℕ) (r : Result (List Token) JobFault) → Makes (job_of_tokens bytes r)
+tokens-make bytes (Ok tokens) = objects-make (length bytes) (objects_of bytes tokens)
+tokens-make bytes (Err first) = λ job is. absurd (cc)
+
+short_if : (b : Bool) (bytes : List ℕ) → Makes (cond b (fault JobTooLong 1048576) (job_of_tokens bytes (tokens_of bytes)))
+short_if true bytes = λ job is. absurd (cc)
+short_if false bytes = tokens-make bytes (tokens_of bytes)
+
+-- a job that bytes spell
+pub job_of-in_range : (bytes : List ℕ) (job : Job) → job_of bytes ≡ Ok job → IsJob job
+unfolding job_of
+job_of-in_range bytes = short_if (nat_lt 1048576 (length bytes)) bytes

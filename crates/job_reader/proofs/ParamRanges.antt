@@ -1,0 +1,100 @@
+-- The parameters stay in range, whatever a dictionary names.
+use Rattle.std.proofs.Common.{◌≡◌, ℕ, ℤ, pos, negsuc, ◌≤◌, Bool, true, false, cond, List, Option, Some, None, Result, Ok, Err, refl, subst, arith}
+use Rattle.std.specs.Prelude.{nat_le, ◌&&◌, slice_get}
+use Rattle.std.specs.Result.{result_unwrap_or}
+use Rattle.std.proofs.lemmas.Bool.{and_parts}
+use Rattle.std.proofs.lemmas.Bool.Decides.{nat_tests}
+use Rattle.page_model.specs.declared.parts.TrapParams.{TrapParams}
+use Rattle.page_model.specs.Conditions.{InRange}
+use Rattle.ps_tokens.specs.declared.faults.FaultKind.{FaultKind}
+use Rattle.ps_tokens.specs.declared.faults.FaultKind.TheVariants.{OutOfRange}
+use Rattle.ps_tokens.specs.declared.faults.JobFault.{JobFault}
+use Rattle.ps_tokens.specs.declared.faults.Key.{Key}
+use Rattle.ps_tokens.specs.declared.faults.Key.TheVariants.{TrapWidth, BlackWidth, BlackColorLimit, BlackDensityLimit, StepLimit, SlidingTrapLimit, TrapColorScaling}
+use Rattle.ps_tokens.specs.declared.misfits.Misfit.{Misfit}
+use Rattle.ps_tokens.specs.declared.object.Body.{Body}
+use Rattle.ps_tokens.specs.declared.object.Body.TheVariants.{Number, Truth, Null, Text, Literal, Operator, Array, Dict}
+use Rattle.ps_tokens.specs.declared.object.Object.{Object}
+use Rattle.ps_tokens.specs.Dictionaries.{last_of}
+use Rattle.ps_tokens.specs.Misfits.{judged_at, unless}
+use Rattle.trap_params.specs.Parameters.{name_of, least_of, most_of}
+use Rattle.trap_params.specs.Settings.{in_range, number_of, number_after, set_at, set_by}
+use Rattle.trap_params.specs.Applied.{applied, first_misfit_of, params_set, settings_of}
+
+-- what is read unless there is a fault is that
+pub unless-is : {X : Type 0} (m : Option Misfit) (x y : X) → unless m x ≡ Ok y → x ≡ y
+unless-is None x y is = cc
+unless-is (Some misfit) x y is = absurd (cc)
+
+-- a number from the least to the greatest that a parameter may be
+pub record IsWithin (key : Key) (n : ℕ) : Type 0 where
+  pub least : least_of key ≤ n
+  pub most : n ≤ most_of key
+
+passed : (b : Bool) (key : Key) (m n : ℕ) → (nat_le (least_of key) m && nat_le m (most_of key)) ≡ b → cond b (Ok m) (Err (OutOfRange key)) ≡ Ok n → IsWithin key n
+passed true key m n tests is =
+    let same : m ≡ n = cc in
+    let both = and_parts (nat_le (least_of key) m) (nat_le m (most_of key)) tests in
+    let low : nat_le (least_of key) m ≡ true = both.0 in
+    let high : nat_le m (most_of key) ≡ true = both.1 in
+    record { least = grind (arith, nat_tests); most = grind (arith, nat_tests) }
+passed false key m n tests is = absurd (cc)
+
+in_range-within : (key : Key) (z : ℤ) (n : ℕ) → in_range key z ≡ Ok n → IsWithin key n
+in_range-within key (pos m) n is = passed (nat_le (least_of key) m && nat_le m (most_of key)) key m n refl is
+in_range-within key (negsuc m) n is = absurd (cc)
+
+-- the number that a value sets
+pub number_of-within : (key : Key) (body : Body) (n : ℕ) → number_of key body ≡ Ok n → IsWithin key n
+number_of-within key (Number z) n is = in_range-within key z n is
+number_of-within key (Truth b) n is = absurd (cc)
+number_of-within key Null n is = absurd (cc)
+number_of-within key Text n is = absurd (cc)
+number_of-within key (Literal name) n is = absurd (cc)
+number_of-within key (Operator name) n is = absurd (cc)
+number_of-within key Array n is = absurd (cc)
+number_of-within key Dict n is = absurd (cc)
+
+judged-within : (key : Key) (place at now : ℕ) (r : Result ℕ FaultKind) → ((n : ℕ) → r ≡ Ok n → IsWithin key n) → IsWithin key now → IsWithin key (result_unwrap_or (judged_at place at r) now)
+judged-within key place at now (Ok n) gives here = gives n refl
+judged-within key place at now (Err kind) gives here = here
+
+set_by-within : (key : Key) (now place : ℕ) (o : Option Object) → IsWithin key now → IsWithin key (result_unwrap_or (set_by (number_of key) now place o) now)
+set_by-within key now place None here = here
+set_by-within key now place (Some object) here = judged-within key place object.at now (number_of key object.body) (number_of-within key object.body) here
+
+set_at-within : (key : Key) (objects : List Object) (now : ℕ) (place : Option ℕ) → IsWithin key now → IsWithin key (result_unwrap_or (set_at (number_of key) objects now place) now)
+set_at-within key objects now None here = here
+set_at-within key objects now (Some place) here = set_by-within key now place (slice_get objects place) here
+
+number_after-within : (key : Key) (objects : List Object) (dict now : ℕ) → IsWithin key now → IsWithin key (result_unwrap_or (number_after objects dict key now) now)
+unfolding number_after
+number_after-within key objects dict now here = set_at-within key objects now (last_of objects dict (name_of key)) here
+
+params_set-in_range : (now : TrapParams) (objects : List Object) (dict : ℕ) → InRange now → InRange (params_set (settings_of now objects dict) now)
+params_set-in_range now objects dict here =
+    let width = number_after-within TrapWidth objects dict now.trap_width (record { least = here.some_width; most = here.width }) in
+    let factor = number_after-within BlackWidth objects dict now.black_width (record { least = here.some_factor; most = here.factor }) in
+    let color = number_after-within BlackColorLimit objects dict now.black_color_limit (record { least = omega arith; most = here.color }) in
+    let density = number_after-within BlackDensityLimit objects dict now.black_density_limit (record { least = here.some_density; most = here.density }) in
+    let step = number_after-within StepLimit objects dict now.step_limit (record { least = omega arith; most = here.step }) in
+    let sliding = number_after-within SlidingTrapLimit objects dict now.sliding_trap_limit (record { least = omega arith; most = here.sliding }) in
+    let scaling = number_after-within TrapColorScaling objects dict now.trap_color_scaling (record { least = omega arith; most = here.scaling }) in
+    record {
+      some_width = width.least;
+      width = width.most;
+      some_factor = factor.least;
+      factor = factor.most;
+      color = color.most;
+      some_density = density.least;
+      density = density.most;
+      step = step.most;
+      sliding = sliding.most;
+      scaling = scaling.most;
+    }
+
+-- the parameters after a dictionary
+pub applied-in_range : (now after : TrapParams) (objects : List Object) (dict : ℕ) → InRange now → applied now objects dict ≡ Ok after → InRange after
+applied-in_range now after objects dict here is =
+    let P : TrapParams → Type 0 = λ p. InRange p in
+    subst P (unless-is (first_misfit_of (settings_of now objects dict)) (params_set (settings_of now objects dict) now) after is) (params_set-in_range now objects dict here)
