@@ -9,7 +9,6 @@ use Rattle.page_model.specs.declared.parts.InkKind.{InkKind}
 use Rattle.page_model.specs.Conditions.{IsInk}
 use Rattle.ps_tokens.specs.declared.faults.FaultKind.{FaultKind}
 use Rattle.ps_tokens.specs.declared.faults.FaultKind.TheVariants.{BadDensity, NotDictionary}
-use Rattle.ps_tokens.specs.declared.faults.JobFault.{JobFault}
 use Rattle.ps_tokens.specs.declared.misfits.Misfit.{Misfit}
 use Rattle.ps_tokens.specs.declared.object.Body.{Body}
 use Rattle.ps_tokens.specs.declared.object.Body.TheVariants.{Number, Truth, Null, Text, Literal, Operator, Array, Dict}

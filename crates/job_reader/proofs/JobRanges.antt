@@ -1,19 +1,19 @@
 -- Each job that bytes spell is in range.
-use Rattle.std.proofs.Common.{◌≡◌, ℕ, ◌≤◌, ◌+◌, ◌==◌, Bool, true, false, cond, List, [], ◌∷◌, length, map, Option, Some, None, Result, Ok, Err, refl, sym, ap, ◌∙◌, subst, arith, All, suc}
-use Rattle.std.specs.Prelude.{nat_lt, ◌&&◌, ◌||◌, slice_get, slice_index_or, sum_by}
+use Rattle.std.proofs.Common.{◌≡◌, ℕ, ◌+◌, ◌==◌, Bool, true, false, cond, List, [], ◌∷◌, length, map, Option, Some, None, Result, Ok, Err, refl, sym, ap, ◌∙◌, subst, arith, All, suc}
+use Rattle.std.specs.Prelude.{IfOk, nat_lt, ◌&&◌, ◌||◌, slice_get, sum_by}
 use Rattle.std.proofs.lemmas.Bool.{true≢false}
 use Rattle.std.proofs.lemmas.Bool.Decides.{nat_tests}
 use Rattle.std.proofs.lemmas.List.{length-map}
 use Rattle.std.proofs.lemmas.List.Elements.{All-nil, All-cons, All-map, All-weaker}
 use Rattle.std.proofs.lemmas.List.Sums.{sum_by-cons}
-use Rattle.page_model.specs.declared.parts.Vertex.{Vertex}
 use Rattle.page_model.specs.declared.parts.Zone.{Zone}
-use Rattle.page_model.specs.Conditions.{IsPath, IsVertex, IsZone}
-use Rattle.ps_tokens.specs.declared.faults.FaultKind.TheVariants.{JobTooLong, NoPageDevice, NoShowpage, UnknownOperator, WrongOperands}
+use Rattle.page_model.specs.Conditions.{IsVertex, IsZone}
+use Rattle.ps_tokens.specs.declared.faults.FaultKind.TheVariants.{JobTooLong, NoPageDevice, WrongOperands}
 use Rattle.ps_tokens.specs.declared.faults.JobFault.{JobFault}
 use Rattle.ps_tokens.specs.declared.object.Object.{Object}
 use Rattle.ps_tokens.specs.declared.token.Token.{Token}
-use Rattle.ps_tokens.specs.Tokens.{tokens_of}
+use Rattle.ps_tokens.specs.declared.faults.JobRefusal.{JobRefusal}
+use Rattle.ps_tokens.specs.Tokens.{Gives, tokens_of}
 use Rattle.ps_tokens.specs.Objects.{objects_of}
 use Rattle.job_reader.specs.declared.job.Job.{Job}
 use Rattle.job_reader.specs.declared.operators.Operator.{Operator}
@@ -129,3 +129,11 @@ short_if false bytes = tokens-make bytes (tokens_of bytes)
 pub job_of-in_range : (bytes : List ℕ) (job : Job) → job_of bytes ≡ Ok job → IsJob job
 unfolding job_of
 job_of-in_range bytes = short_if (nat_lt 1048576 (length bytes)) bytes
+
+gives-in_range : (meant : Result Job JobFault) (r : Result Job JobRefusal) → Makes meant → Gives r meant → IfOk r (λ job. IsJob job)
+gives-in_range meant (Ok job) makes given = makes job given
+gives-in_range meant (Err refusal) makes given = tt
+
+-- a job that is given, of bytes that are not too many
+pub tokens_given-in_range : (bytes : List ℕ) (r : Result Job JobRefusal) → Gives r (job_of_tokens bytes (tokens_of bytes)) → IfOk r (λ job. IsJob job)
+tokens_given-in_range bytes r given = gives-in_range (job_of_tokens bytes (tokens_of bytes)) r (tokens-make bytes (tokens_of bytes)) given

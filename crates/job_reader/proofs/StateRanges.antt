@@ -1,5 +1,5 @@
 -- What is in force stays in range, statement after statement.
-use Rattle.std.proofs.Common.{◌≡◌, ℕ, ℤ, pos, negsuc, ◌≤◌, ◌<◌, ◌+◌, ◌/◌, ◌%◌, ◌==◌, Bool, true, false, cond, List, [], ◌∷◌, ◌++◌, length, Option, Some, None, Result, Ok, Err, refl, sym, ap, ◌∙◌, subst, arith, All}
+use Rattle.std.proofs.Common.{◌≡◌, ℕ, ℤ, pos, negsuc, ◌≤◌, ◌<◌, ◌+◌, ◌/◌, ◌%◌, ◌==◌, Bool, true, false, cond, List, [], ◌∷◌, ◌++◌, length, Option, Some, None, Result, Ok, Err, refl, ap, ◌∙◌, subst, arith, All}
 use Rattle.std.specs.Prelude.{nat_le, nat_lt, ◌&&◌, slice_get, codes, sum_by}
 use Rattle.std.specs.Result.{result_unwrap_or}
 use Rattle.std.proofs.lemmas.Bool.{and_parts}
@@ -12,15 +12,14 @@ use Rattle.page_model.specs.declared.parts.Limit.{Limit}
 use Rattle.page_model.specs.declared.parts.TrapParams.{TrapParams}
 use Rattle.page_model.specs.declared.parts.Vertex.{Vertex}
 use Rattle.page_model.specs.declared.parts.Zone.{Zone}
-use Rattle.page_model.specs.Conditions.{InRange, AreLimits, IsInk, IsPath, IsVertex, IsZone}
+use Rattle.page_model.specs.Conditions.{InRange, AreLimits, IsInk, IsVertex, IsZone}
 use Rattle.ps_tokens.specs.declared.faults.FaultKind.{FaultKind}
 use Rattle.ps_tokens.specs.declared.faults.FaultKind.TheVariants.{BadResolution, TooManyVertices, TooManyZones, WrongOperands}
 use Rattle.ps_tokens.specs.declared.faults.JobFault.{JobFault}
 use Rattle.ps_tokens.specs.declared.faults.Key.TheVariants.{Trapping}
-use Rattle.ps_tokens.specs.declared.misfits.Misfit.{Misfit}
 use Rattle.ps_tokens.specs.declared.object.Object.{Object}
 use Rattle.ps_tokens.specs.Dictionaries.{last_of}
-use Rattle.ps_tokens.specs.Misfits.{judged_at, misfit_of, earlier, unless}
+use Rattle.ps_tokens.specs.Misfits.{judged_at, misfit_of, earlier}
 use Rattle.trap_params.specs.Applied.{applied}
 use Rattle.trap_params.specs.Limits.{limits_after}
 use Rattle.trap_params.specs.Settings.{truth_after}

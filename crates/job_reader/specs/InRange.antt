@@ -1,5 +1,5 @@
 -- What each job that bytes spell meets.
-use Rattle.std.specs.Prelude.{◌≡◌, ℕ, ◌≤◌, length, List, [], All, false, slice_index_or, sum_by}
+use Rattle.std.specs.Prelude.{◌≡◌, ◌≤◌, length, [], All, false, slice_index_or, sum_by}
 use Rattle.page_model.specs.declared.parts.Zone.{Zone}
 use Rattle.page_model.specs.Conditions.{IsZone, IsInk}
 use Rattle.page_model.specs.Page.{no_zone}

@@ -1,7 +1,8 @@
-ghost use Rattle.std.specs.Prelude.{◌≡◌, ◌≤◌, Ok, length};
+ghost use Rattle.std.specs.Prelude.{◌≡◌, ◌≤◌, Ok, length, IfOk};
 ghost use Rattle.ps_tokens.specs.Tokens.{Gives, tokens_of};
 ghost use Rattle.ps_tokens.specs.Objects.{objects_of};
 ghost use Rattle.ps_tokens.specs.Dictionaries.{AreObjects};
+ghost use Rattle.job_reader.specs.InRange.{IsJob};
 ghost use Rattle.job_reader.specs.Jobs.{job_of, job_of_tokens, job_of_objects};
 
 use crate::calls::{call_at, is_showpage};
@@ -26,6 +27,7 @@ pub const LONGEST: usize = 1_048_576;
 #[tactic(auto, unfolding(crate::specs::Jobs::job_of))]
 pub fn read_job(alloc: Global, bytes: &[u8]) -> Result<Job, JobRefusal>
     ensures given { Gives result (job_of bytes.now) }
+    ensures in_range { IfOk result (λ job. IsJob job) }
 {
     if bytes.len() > LONGEST {
         Err(JobRefusal::Fault(JobFault {
