@@ -147,8 +147,8 @@ limits_of-once objects [] keys = λ i j d lt within. absurd (omega arith)
 limits_of-once objects (e ∷ es) keys =
     let above = subst (λ (n : List ℕ). IsBefore n es) keys.0 keys.1 in
     pairs_kept (name_of (slice_get objects e.1)) (step_of objects e.1) (limits_of objects (places_of es))
-        (All-weaker (λ (l : Limit). before (name_of (slice_get objects e.1)) l.name ≡ Less) (λ (l : Limit). name_of (slice_get objects e.1) ≢ l.name) (λ l lt. before-differs (name_of (slice_get objects e.1)) l.name lt) (limits_of objects (places_of es)) (limits-behind objects (name_of (slice_get objects e.1)) es above keys.2))
-        (limits_of-once objects es keys.2)
+    (All-weaker (λ (l : Limit). before (name_of (slice_get objects e.1)) l.name ≡ Less) (λ (l : Limit). name_of (slice_get objects e.1) ≢ l.name) (λ l lt. before-differs (name_of (slice_get objects e.1)) l.name lt) (limits_of objects (places_of es)) (limits-behind objects (name_of (slice_get objects e.1)) es above keys.2))
+    (limits_of-once objects es keys.2)
 
 last_keys-limits : (objects : List Object) (dict : ℕ) → AreLimits (limits_of objects (last_keys_of objects dict))
 unfolding last_keys_of

@@ -147,7 +147,7 @@ both_set-leaves (Err first) (Err second) now here ranged once = λ next is. absu
 params_set-leaves : (objects : List Object) (dict : ℕ) (now : State) → IsState now → Leaves (params_set objects dict now)
 params_set-leaves objects dict now here =
     both_set-leaves (applied now.params objects dict) (limits_after now.limits objects dict) now here
-        (λ p. applied-in_range now.params p objects dict here.params) (λ l. limits_after-limits now.limits objects dict l here.limits)
+    (λ p. applied-in_range now.params p objects dict here.params) (λ l. limits_after-limits now.limits objects dict l here.limits)
 
 -- Paths.
 
