@@ -18,7 +18,7 @@ use Rattle.trap_report.specs.declared.refusal.Refusal.TheVariants.{Usage, Job as
 use Rattle.trap_words.specs.declared.command.PlateWord.{PlateWord}
 use Rattle.trap_words.specs.Held.{plates_in}
 use Rattle.page_reading.specs.Inputs.{Holds, AreRead, name_at, plate_at, no_plate, inputs_of}
-use Rattle.page_reading.specs.Steps.{ReadsOne, ReadsPlates, AnswersPlate, AnswersPlates, Stops}
+use Rattle.page_reading.specs.Steps.{ReadsOne, ReadsPlates, AnswersPlate, AnswersPlates, Stops, IsFaultless}
 use Rattle.page_reading.proofs.NameLemmas.{asks_none, asks_then, asks_front}
 
 pub one_read : FilePlate → (k : ℕ) (name : List ℕ) (a b : TrayState) (plate : PlateRead) → ReadsPlate name a b (Ok plate) → ReadsOne k name a b (Ok plate)
@@ -33,6 +33,14 @@ one_refused law k name a b fault reads = record {
   keeps = reads.keeps;
   asked = reads.asked;
   answer = (refl, law name a b fault reads);
+}
+
+-- The read of the plate failed.
+pub one_broken : (k : ℕ) (name : List ℕ) (a b : TrayState) → ReadsPlate name a b (Err ReadFault) → ReadsOne k name a b (Err (Read (Some k)))
+one_broken k name a b reads = record {
+  keeps = reads.keeps;
+  asked = reads.asked;
+  answer = (refl, reads.answer.0, λ begun tells. (reads.bytes, reads.taken begun tells, reads.answer.1));
 }
 
 -- as many files as words
@@ -112,6 +120,12 @@ no_room names k a b c plates plate within so_far one = record {
   answer = asks_front a.asked c.asked (k + 1) names (asked_more names k a b c within so_far.asked one.asked);
 }
 
+-- the same of an earlier tray, whose files and whose wish to tell them are the same
+pub faultless_before : (a b c : TrayState) (name : List ℕ) → KeepsTray a b → IsFaultless name b c → IsFaultless name a c
+faultless_before a b c name keeps here begun tells =
+    let there = here begun (keeps.tells ∙ tells) in
+    (there.0, ap (λ (files : List ℕ → Option (List ℕ)). files name) (sym keeps.file) ∙ there.1, there.2)
+
 at_plate : (names : List (List ℕ)) (k at : ℕ) (a b c : TrayState) → at ≡ k → Stops names k a c → Stops names at a c
 at_plate names k at a b c same there = subst (λ (n : ℕ). Stops names n a c) (sym same) there
 
@@ -121,7 +135,11 @@ answer_refused names k a b c plates (Plate at fault) within so_far keeps asked a
   λ tells. subst (λ (n : ℕ). Holds a.file (name_at names n) (λ bytes. IsFault bytes fault)) (sym answer.0) (held_before a b (name_at names k) (λ bytes. IsFault bytes fault) so_far.keeps answer.1 tells),
 )
 answer_refused names k a b c plates (Read (Some at)) within so_far keeps asked answer =
-    (at_plate names k at a b c answer.0 (stops names k a b c plates within so_far keeps asked), rose_before a.faults b.faults c.faults so_far.keeps.faults answer.1)
+    (
+      at_plate names k at a b c answer.0 (stops names k a b c plates within so_far keeps asked),
+      rose_before a.faults b.faults c.faults so_far.keeps.faults answer.1,
+      subst (λ (n : ℕ). IsFaultless (name_at names n) a c) (sym answer.0) (faultless_before a b c (name_at names k) so_far.keeps answer.2),
+    )
 answer_refused names k a b c plates Memory within so_far keeps asked answer = asks_front a.asked c.asked (k + 1) names (asked_more names k a b c within so_far.asked asked)
 answer_refused names k a b c plates Usage within so_far keeps asked answer = absurd answer
 answer_refused names k a b c plates (JobRefusal fault) within so_far keeps asked answer = absurd answer

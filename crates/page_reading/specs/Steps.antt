@@ -1,12 +1,14 @@
 -- The steps in which a page is read.
-use Rattle.std.specs.Prelude.{◌≡◌, ℕ, ◌<◌, ◌+◌, IsTrue, List, [], ◌∷◌, length, take, All, Option, Some, None, Result, Ok, Err}
+use Rattle.std.specs.Prelude.{◌≡◌, ℕ, ◌<◌, ◌+◌, IsTrue, List, [], ◌∷◌, ◌++◌, length, take, All, Option, Some, None, Result, Ok, Err}
 use Rattle.outside.specs.Causes.{Rose, Asks}
 use Rattle.outside.specs.Tray.{TrayState, KeepsTray}
 use Rattle.job_reader.specs.declared.job.Job.{Job}
 use Rattle.job_reader.specs.Jobs.{job_of}
 use Rattle.pgm_plates.specs.declared.plate.Plate.{Plate as PlateRead}
+use Rattle.pgm_plates.specs.declared.plate.PlateFault.{PlateFault}
 use Rattle.pgm_plates.specs.Faults.{IsFault}
 use Rattle.pgm_plates.specs.Plates.{IsPlate, IsPlateFile}
+use Rattle.pgm_plates.specs.Reading.{IsTruncated}
 use Rattle.ps_tokens.specs.declared.faults.JobRefusal.{JobRefusal as JobRefusals}
 use Rattle.ps_tokens.specs.declared.faults.JobRefusal.TheVariants.{Fault, OutOfMemory}
 use Rattle.trap_report.specs.declared.refusal.Refusal.{Refusal}
@@ -27,11 +29,15 @@ pub record ReadsJob (name : List ℕ) (before after : TrayState) (result : Resul
   pub asked : Asks before.asked after.asked (name ∷ [])
   pub answer : AnswersJob name before after result
 
+-- Some bytes were taken off the front of the plate's file that is in hand: but for an early end they have no fault.
+abbrev pub IsFaultless : List ℕ → TrayState → TrayState → Type 0
+IsFaultless name before after = IsTrue after.begun → IsTrue before.tells → (bytes : List ℕ) × (before.file name ≡ Some (bytes ++ after.left)) × ((fault : PlateFault) → IsFault bytes fault → IsTruncated fault)
+
 -- what the answer says of the bytes of plate k
 abbrev pub AnswersPlate : ℕ → List ℕ → TrayState → TrayState → Result PlateRead Refusal → Type 0
 AnswersPlate k name before after (Ok plate) = IsPlate plate × (IsTrue before.tells → Holds before.file name (λ bytes. IsPlateFile bytes plate))
 AnswersPlate k name before after (Err (Plate at fault)) = (at ≡ k) × (IsTrue before.tells → Holds before.file name (λ bytes. IsFault bytes fault))
-AnswersPlate k name before after (Err (Read (Some at))) = (at ≡ k) × Rose before.faults after.faults
+AnswersPlate k name before after (Err (Read (Some at))) = (at ≡ k) × Rose before.faults after.faults × IsFaultless name before after
 AnswersPlate k name before after (Err Memory) = Unit {0}
 AnswersPlate k name before after (Err other) = ⊥
 
@@ -50,7 +56,7 @@ pub record Stops (names : List (List ℕ)) (k : ℕ) (before after : TrayState) 
 abbrev pub AnswersPlates : List (List ℕ) → TrayState → TrayState → Result (List PlateRead) Refusal → Type 0
 AnswersPlates names before after (Ok plates) = Asks before.asked after.asked names × (length plates ≡ length names) × All IsPlate plates × (IsTrue before.tells → AreRead before.file names (length names) plates)
 AnswersPlates names before after (Err (Plate k fault)) = Stops names k before after × (IsTrue before.tells → Holds before.file (name_at names k) (λ bytes. IsFault bytes fault))
-AnswersPlates names before after (Err (Read (Some k))) = Stops names k before after × Rose before.faults after.faults
+AnswersPlates names before after (Err (Read (Some k))) = Stops names k before after × Rose before.faults after.faults × IsFaultless (name_at names k) before after
 AnswersPlates names before after (Err Memory) = AsksFront before.asked after.asked names
 AnswersPlates names before after (Err other) = ⊥
 

@@ -1,92 +1,91 @@
 -- How the steps of a command end.
-use Rattle.std.specs.Prelude.{◌≡◌, ◌⊎◌, ℕ, IsTrue, List, [], ◌∷◌, take, Option, Result, Ok, Err}
-use Rattle.outside.specs.Causes.{Rose, Asks}
+use Rattle.std.specs.Prelude.{◌≡◌, ℕ, ◌*◌, ◌≤◌, IsTrue, true, List, ◌++◌, length, take, Option, Some, None, Result, Ok, Err}
+use Rattle.outside.specs.Causes.{Rose}
 use Rattle.outside.specs.Tray.{TrayState, KeepsTray}
-use Rattle.outside.specs.Rack.{RackState, put}
-use Rattle.outside.specs.Writing.{WritesFile}
-use Rattle.pgm_plates.specs.declared.plate.Plate.{Plate}
-use Rattle.pgm_plates.specs.Plates.{IsPlateFile, spelled}
-use Rattle.pgm_plates.specs.Faults.{IsFault}
-use Rattle.trap_cli.specs.declared.refusal.Refusal.{Refusal}
-use Rattle.trap_cli.specs.declared.refusal.Refusal.TheVariants.{Usage, Job, Plate as PlateRefusal, Read, Write, Memory}
-use Rattle.trap_cli.specs.Jobs.{IsAccepted}
-use Rattle.trap_cli.specs.Names.{AsksFront}
-use Rattle.trap_cli.specs.Verdicts.{Verdict, IsVerdict, Holds}
-use Rattle.trap_cli.specs.Verdicts.Verdict.{JobRefused, PlateRefused, Out}
-use Rattle.trap_cli.specs.Words.{Command, PlateNames}
+use Rattle.outside.specs.Rack.{RackState, KeepsRack}
+use Rattle.page_model.specs.declared.parts.PageParts.{PageParts}
+use Rattle.page_model.specs.declared.page.PageFault.TheVariants.{TooManySamples}
+use Rattle.page_model.specs.Counts.{page_counts}
+use Rattle.page_reading.specs.Names.{AsksFront}
+use Rattle.page_reading.specs.Reading.{AnswersPage, read_files}
+use Rattle.page_source.specs.Sample.{sample_parts}
+use Rattle.page_writing.specs.Files.{Written, put_all}
+use Rattle.page_writing.specs.Writing.{WritesAll, BreaksAt}
+use Rattle.trap_report.specs.declared.refusal.Refusal.{Refusal}
+use Rattle.trap_report.specs.declared.refusal.Refusal.TheVariants.{Usage, Job, NoDetails, Plate, Page, Read, Write, Memory}
+use Rattle.trap_report.specs.Report.{report_of}
+use Rattle.trap_words.specs.Words.{PageWords, SampleWords, begins_with_page, command_of, Page as page_command, Sample as sample_command}
+use Rattle.trap_cli.specs.Lines.{KeepsFiles, Refuses}
+use Rattle.trap_cli.specs.Verdicts.{IsVerdict, Out, outcome, written_names}
 
-abbrev pub status_of : {T : Type 0} → Result T Refusal → ℕ
-status_of (Ok x) = 0
-status_of (Err Usage) = 2
-status_of (Err Job) = 3
-status_of (Err (PlateRefusal fault)) = 4
-status_of (Err Read) = 5
-status_of (Err Write) = 6
-status_of (Err Memory) = 7
+-- the place of a file among those that are written; without a number it is the report
+abbrev pub place_of : PageWords → Option ℕ → ℕ
+place_of words None = length words.plates
+place_of words (Some plate) = plate
 
-abbrev pub JudgesJob : {T : Type 0} → List ℕ → Result T Refusal → Type 0
-JudgesJob bytes (Ok x) = IsAccepted bytes
-JudgesJob bytes (Err Job) = IsAccepted bytes → ⊥
-JudgesJob bytes (Err other) = ⊥
+-- What the answer says where the page is put out.
+abbrev pub AnswersPut : PageWords → PageParts → RackState → RackState → Result (Unit {0}) Refusal → Type 0
+AnswersPut words page before after (Ok done) = WritesAll (outcome words page) before after
+AnswersPut words page before after (Err (Write file)) = BreaksAt (outcome words page) (place_of words file) before after
+AnswersPut words page before after (Err Memory) = after ≡ before
+AnswersPut words page before after (Err other) = ⊥
 
--- What the answer says of the job's bytes, where they are told.
-abbrev pub AnswersJob : {T : Type 0} → List ℕ → TrayState → TrayState → Result T Refusal → Type 0
-AnswersJob name before after (Ok x) = IsTrue before.tells → Holds before.file name IsAccepted
-AnswersJob name before after (Err Job) = IsTrue before.tells → Holds before.file name (λ bytes. IsAccepted bytes → ⊥)
-AnswersJob name before after (Err Read) = Rose before.faults after.faults
-AnswersJob name before after (Err Memory) = Unit {0}
-AnswersJob name before after (Err other) = ⊥
+-- A page is trapped, and its files are written.
+pub record PutsOut (words : PageWords) (page : PageParts) (before after : RackState) (result : Result (Unit {0}) Refusal) : Type 0 where
+  pub keeps : KeepsRack before after
+  pub told : IsTrue before.tells → after.told ≡ before.told
+  pub asked : AsksFront before.asked after.asked (written_names words)
+  pub answer : AnswersPut words page before after result
 
-pub record ReadsJob {T : Type 0} (name : List ℕ) (before after : TrayState) (result : Result T Refusal) : Type 0 where
-  pub keeps : KeepsTray before after
-  pub asked : Asks before.asked after.asked (name ∷ [])
-  pub answer : AnswersJob name before after result
+-- What the answer says where the page is read first.
+abbrev pub AnswersCommand : PageWords → TrayState → TrayState → RackState → RackState → Result (Unit {0}) Refusal → Type 0
+AnswersCommand words tray tray' rack rack' (Ok done) = (written : List Written) × (IsTrue tray.tells → IsVerdict tray.file words (Out written)) × WritesAll written rack rack'
+AnswersCommand words tray tray' rack rack' (Err (Write file)) = (written : List Written) × (IsTrue tray.tells → IsVerdict tray.file words (Out written)) × BreaksAt written (place_of words file) rack rack'
+AnswersCommand words tray tray' rack rack' (Err refusal) = AnswersPage words tray tray' (Err refusal) × (rack' ≡ rack)
 
--- The plate is written whole under the name; or a front of it is, or the files are as they were, and the rack has a fault.
-abbrev pub EndsWriting : {T : Type 0} → List ℕ → Plate → RackState → RackState → Result T Refusal → Type 0
-EndsWriting name plate before after (Ok x) = WritesFile {T = Unit {0}} {E = Unit {0}} name (spelled plate) before after (Ok tt)
-EndsWriting name plate before after (Err Write) = WritesFile {T = Unit {0}} {E = Unit {0}} name (spelled plate) before after (Err tt)
-EndsWriting name plate before after (Err other) = ⊥
-
--- The plate of the file that is read, where it is told, stands whole in the file that is written.
-pub record Writes (input output : List ℕ) (plate : Plate) (tray : TrayState) (rack rack' : RackState) : Type 0 where
-  pub read : IsTrue tray.tells → Holds tray.file input (λ bytes. IsPlateFile bytes plate)
-  pub written : IsTrue rack.tells → rack'.file ≡ put output (spelled plate) rack.file
-
--- The rack has a fault: a front of the plate stands in the file, or the files are as they were, since it could not be created.
-pub record Breaks (input output : List ℕ) (plate : Plate) (tray : TrayState) (rack rack' : RackState) : Type 0 where
-  pub read : IsTrue tray.tells → Holds tray.file input (λ bytes. IsPlateFile bytes plate)
-  pub written : IsTrue rack.tells → (rack'.file ≡ rack.file) ⊎ ((count : ℕ) × (rack'.file ≡ put output (take count (spelled plate)) rack.file))
-  pub cause : Rose rack.faults rack'.faults
-
-abbrev pub AnswersPlate : {T : Type 0} → PlateNames → TrayState → TrayState → RackState → RackState → Result T Refusal → Type 0
-AnswersPlate names tray tray' rack rack' (Ok x) = (plate : Plate) × Writes names.input names.output plate tray rack rack'
-AnswersPlate names tray tray' rack rack' (Err (PlateRefusal fault)) = (IsTrue tray.tells → Holds tray.file names.input (λ bytes. IsFault bytes fault)) × (rack'.file ≡ rack.file)
-AnswersPlate names tray tray' rack rack' (Err Read) = Rose tray.faults tray'.faults × (rack'.file ≡ rack.file)
-AnswersPlate names tray tray' rack rack' (Err Write) = (plate : Plate) × Breaks names.input names.output plate tray rack rack'
-AnswersPlate names tray tray' rack rack' (Err Memory) = rack'.file ≡ rack.file
-AnswersPlate names tray tray' rack rack' (Err other) = ⊥
-
--- One plate is read and written again.
-pub record EndsPlate {T : Type 0} (names : PlateNames) (tray tray' : TrayState) (rack rack' : RackState) (result : Result T Refusal) : Type 0 where
-  pub asked : Asks tray.asked tray'.asked (names.input ∷ [])
-  pub created : AsksFront rack.asked rack'.asked (names.output ∷ [])
+-- A command of a page is carried out.
+pub record CarriesOut (words : PageWords) (tray tray' : TrayState) (rack rack' : RackState) (result : Result (Unit {0}) Refusal) : Type 0 where
+  pub tray_keeps : KeepsTray tray tray'
+  pub asked : AsksFront tray.asked tray'.asked (read_files words)
+  pub rack_keeps : KeepsRack rack rack'
   pub told : IsTrue rack.tells → rack'.told ≡ rack.told
-  pub answer : AnswersPlate names tray tray' rack rack' result
+  pub created : AsksFront rack.asked rack'.asked (written_names words)
+  pub answer : AnswersCommand words tray tray' rack rack' result
 
--- The verdict that the answer is, where the tray's files are told, and what stands after it.
-abbrev pub AnswersPage : {T : Type 0} → Command → TrayState → TrayState → RackState → RackState → Result T Refusal → Type 0
-AnswersPage command tray tray' rack rack' (Ok x) = (plate : Plate) × (IsTrue tray.tells → IsVerdict tray.file command (Out plate)) × (IsTrue rack.tells → rack'.file ≡ put command.plate.output (spelled plate) rack.file)
-AnswersPage command tray tray' rack rack' (Err Job) = (IsTrue tray.tells → IsVerdict tray.file command JobRefused) × (rack'.file ≡ rack.file)
-AnswersPage command tray tray' rack rack' (Err (PlateRefusal fault)) = (IsTrue tray.tells → IsVerdict tray.file command (PlateRefused fault)) × (rack'.file ≡ rack.file)
-AnswersPage command tray tray' rack rack' (Err Read) = Rose tray.faults tray'.faults × (rack'.file ≡ rack.file)
-AnswersPage command tray tray' rack rack' (Err Write) = (plate : Plate) × (IsTrue tray.tells → IsVerdict tray.file command (Out plate)) × (IsTrue rack.tells → (rack'.file ≡ rack.file) ⊎ ((count : ℕ) × (rack'.file ≡ put command.plate.output (take count (spelled plate)) rack.file))) × Rose rack.faults rack'.faults
-AnswersPage command tray tray' rack rack' (Err Memory) = rack'.file ≡ rack.file
-AnswersPage command tray tray' rack rack' (Err Usage) = ⊥
+-- the status, and the line where there is a refusal
+abbrev pub Closes : Result (Unit {0}) Refusal → RackState → RackState → ℕ → Type 0
+Closes (Ok done) before after status = (after ≡ before) × (status ≡ 0)
+Closes (Err refusal) before after status = Refuses refusal before after status
 
--- A command is carried out.
-pub record EndsPage {T : Type 0} (command : Command) (tray tray' : TrayState) (rack rack' : RackState) (result : Result T Refusal) : Type 0 where
-  pub asked : AsksFront tray.asked tray'.asked (command.job ∷ command.plate.input ∷ [])
-  pub created : AsksFront rack.asked rack'.asked (command.plate.output ∷ [])
-  pub told : IsTrue rack.tells → rack'.told ≡ rack.told
-  pub answer : AnswersPage command tray tray' rack rack' result
+-- A command of a page is carried out and closed.
+pub record EndsPage (words : PageWords) (tray tray' : TrayState) (rack rack' : RackState) (status : ℕ) : Type 0 where
+  pub result : Result (Unit {0}) Refusal
+  pub between : RackState
+  pub carried : CarriesOut words tray tray' rack between result
+  pub closed : Closes result between rack' status
+
+-- the report of a sample page
+abbrev pub sample_report : SampleWords → List ℕ
+sample_report words = let page = sample_parts words.number words.width words.height in report_of page (page_counts page)
+
+-- The four plates of the sample page have no more samples than a page may have.
+abbrev pub IsSmall : SampleWords → Type 0
+IsSmall words = 4 * words.width * words.height ≤ 160000000
+
+-- A command of a sample page: its report is told, whole or in part, or it is refused.
+pub data AnswersSample (words : SampleWords) (rack rack' : RackState) (status : ℕ) : Type 0 where
+  told : IsSmall words → status ≡ 0 → (IsTrue rack.tells → rack'.told ≡ rack.told ++ sample_report words) → AnswersSample words rack rack' status
+  told_in_part : IsSmall words → status ≡ 6 → Rose rack.faults rack'.faults → (IsTrue rack.tells → (count : ℕ) × (rack'.told ≡ rack.told ++ take count (sample_report words))) → AnswersSample words rack rack' status
+  too_many : (IsSmall words → ⊥) → Refuses (Page TooManySamples) rack rack' status → AnswersSample words rack rack' status
+  no_memory : IsSmall words → Refuses Memory rack rack' status → AnswersSample words rack rack' status
+
+pub record EndsSample (words : SampleWords) (rack rack' : RackState) (status : ℕ) : Type 0 where
+  pub files : KeepsFiles rack rack'
+  pub answer : AnswersSample words rack rack' status
+
+-- The words of a command are carried out. Want of memory for the words comes only where `page` is the first of them.
+pub data Ends (words : List (List ℕ)) (tray tray' : TrayState) (rack rack' : RackState) (status : ℕ) : Type 0 where
+  no_memory : begins_with_page words ≡ true → tray' ≡ tray → Refuses Memory rack rack' status → Ends words tray tray' rack rack' status
+  no_command : command_of words ≡ None → tray' ≡ tray → Refuses Usage rack rack' status → Ends words tray tray' rack rack' status
+  page : (page : PageWords) → command_of words ≡ Some (page_command page) → EndsPage page tray tray' rack rack' status → Ends words tray tray' rack rack' status
+  sample : (sample : SampleWords) → command_of words ≡ Some (sample_command sample) → tray' ≡ tray → EndsSample sample rack rack' status → Ends words tray tray' rack rack' status

@@ -1,6 +1,5 @@
-pub mod Words
-pub mod Jobs
 pub mod Verdicts
-pub mod Names
+pub mod Lines
 pub mod Endings
+pub mod Locality
 pub mod Clauses

@@ -1,26 +1,37 @@
--- What is to come of a command, by the bytes of its files.
-use Rattle.std.specs.Prelude.{◌≡◌, ℕ, List, Option, Some}
-use Rattle.pgm_plates.specs.declared.plate.Plate.{Plate}
-use Rattle.pgm_plates.specs.declared.plate.PlateFault.{PlateFault}
-use Rattle.pgm_plates.specs.Plates.{IsPlateFile}
-use Rattle.pgm_plates.specs.Faults.{IsFault}
-use Rattle.trap_cli.specs.Words.{Command}
-use Rattle.trap_cli.specs.Jobs.{IsAccepted}
+-- What is to come of a command of a page, by the bytes of its files. The numbers of its workers and of its bands' rows are not looked at.
+use Rattle.std.specs.Prelude.{◌≡◌, ℕ, List, ◌∷◌, [], ◌++◌, Option, Result, Ok, Err}
+use Rattle.job_reader.specs.Jobs.{job_of}
+use Rattle.page_model.specs.declared.parts.PageParts.{PageParts}
+use Rattle.page_model.specs.Counts.{page_counts}
+use Rattle.page_model.specs.Tints.{trapped_planes}
+use Rattle.page_reading.specs.Inputs.{Holds, PlateFails}
+use Rattle.page_reading.specs.Reading.{Makes}
+use Rattle.page_writing.specs.Files.{Written, page_files}
+use Rattle.trap_report.specs.declared.refusal.Refusal.{Refusal}
+use Rattle.trap_report.specs.declared.refusal.Refusal.TheVariants.{Job, NoDetails, Plate, Page}
+use Rattle.trap_report.specs.Report.{report_of}
+use Rattle.trap_words.specs.Plates.{outputs_of}
+use Rattle.trap_words.specs.Words.{PageWords}
 
 pub data Verdict : Type 0 where
-  -- the job is another one than is read so far
-  JobRefused : Verdict
-  -- the plate's file has this fault
-  PlateRefused : PlateFault → Verdict
-  -- this plate is to be written
-  Out : Plate → Verdict
+  -- the job, a plate or the page is refused
+  Refused : Refusal → Verdict
+  -- these files are to be written, in this order
+  Out : List Written → Verdict
 
--- The file's bytes are such.
-abbrev pub Holds : (List ℕ → Option (List ℕ)) → List ℕ → (List ℕ → Type 0) → Type 0
-Holds files name Fact = (bytes : List ℕ) × (files name ≡ Some bytes) × Fact bytes
+-- all files that are written: the plates, and then the report
+abbrev pub written_names : PageWords → List (List ℕ)
+written_names words = outputs_of words.plates ++ words.report ∷ []
 
--- The job is judged first, and then the plate. Where one of them is missing, there is no verdict.
-abbrev pub IsVerdict : (List ℕ → Option (List ℕ)) → Command → Verdict → Type 0
-IsVerdict files command JobRefused = Holds files command.job (λ bytes. IsAccepted bytes → ⊥)
-IsVerdict files command (PlateRefused fault) = Holds files command.job IsAccepted × Holds files command.plate.input (λ bytes. IsFault bytes fault)
-IsVerdict files command (Out plate) = Holds files command.job IsAccepted × Holds files command.plate.input (λ bytes. IsPlateFile bytes plate)
+-- what becomes of a page: its trapped planes as plates, and the report of what changed
+abbrev pub outcome : PageWords → PageParts → List Written
+outcome words page = page_files (outputs_of words.plates) (trapped_planes page) words.report (report_of page (page_counts page))
+
+-- The job is judged first, then each plate in order, then what they make. Where a file that this comes to is not there, there is no verdict.
+abbrev pub IsVerdict : (List ℕ → Option (List ℕ)) → PageWords → Verdict → Type 0
+IsVerdict files words (Refused (Job fault)) = Holds files words.job (λ bytes. job_of bytes ≡ Err fault)
+IsVerdict files words (Refused (Plate plate fault)) = PlateFails files words plate fault
+IsVerdict files words (Refused (NoDetails plate)) = Makes files words (Err (NoDetails plate))
+IsVerdict files words (Refused (Page fault)) = Makes files words (Err (Page fault))
+IsVerdict files words (Refused other) = ⊥
+IsVerdict files words (Out written) = (page : PageParts) × Makes files words (Ok page) × (written ≡ outcome words page)

@@ -1,5 +1,5 @@
 -- What the words of a command mean.
-use Rattle.std.specs.Prelude.{ℕ, if◌then◌else◌, List, [], ◌∷◌, Option, Some, None, codes}
+use Rattle.std.specs.Prelude.{ℕ, Bool, false, if◌then◌else◌, List, [], ◌∷◌, Option, Some, None, codes}
 use Rattle.std.specs.Option.{option_map}
 use Rattle.std.specs.Str.{bytes_eq}
 use Rattle.clap.specs.Walk.{Row, all_of, first_of}
@@ -52,6 +52,11 @@ sample_with _ _ _ _ = None
 abbrev pub sample_of_words : List (List ℕ) → Option SampleWords
 sample_of_words (number ∷ width ∷ height ∷ workers ∷ []) = sample_with (number_of 0 4294967295 number) (number_of 1 16384 width) (number_of 1 16384 height) (number_of 1 64 workers)
 sample_of_words _ = None
+
+-- whether `page` is the first word, so that the words go to `clap`
+abbrev pub begins_with_page : List (List ℕ) → Bool
+begins_with_page [] = false
+begins_with_page (first ∷ rest) = bytes_eq first (codes "page")
 
 -- the command that the words after the program's name mean
 abbrev pub command_of : List (List ℕ) → Option Command

@@ -1,5 +1,5 @@
-ghost use Rattle.std.specs.Prelude.{◌≡◌, map, option_map, string_bytes, IfOk, IfSome};
-ghost use Rattle.trap_words.specs.Words.{command_of, page_of_words, sample_of_words, Page as page, Sample as sample};
+ghost use Rattle.std.specs.Prelude.{◌≡◌, true, map, option_map, string_bytes, IfOk, IfSome, OnErr};
+ghost use Rattle.trap_words.specs.Words.{begins_with_page, command_of, page_of_words, sample_of_words, Page as page, Sample as sample};
 ghost use Rattle.trap_words.specs.Held.{command_in, IsWithin};
 
 use crate::page::read_page;
@@ -41,13 +41,15 @@ pub enum Command<'a> {
     Sample(SampleCommand),
 }
 
-/// The command that the words after the program's name mean; `None` where they mean nothing.
+/// The command that the words after the program's name mean; `None` where they mean nothing. Memory is wanted only for the
+/// words of a page.
 pub fn read_words<'a>(
     alloc: Global,
     words: &'a [String],
 ) -> Result<Option<Command<'a>>, OutOfMemory>
     ensures meaning { IfOk result (λ r. option_map command_in r ≡ command_of (map string_bytes words.now)) }
     ensures limits { IfOk result (λ r. IfSome r IsWithin) }
+    ensures memory { OnErr result (begins_with_page (map string_bytes words.now) ≡ true) }
 {
     match words {
         [] => Ok(None),

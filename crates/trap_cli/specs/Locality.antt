@@ -1,0 +1,42 @@
+-- Where a trap may lie: the samples that change are near the edge that they answer to.
+use Rattle.std.specs.Prelude.{◌≡◌, ◌≢◌, ℕ, ◌*◌, ◌<◌, ◌≤◌, true, false, List, slice_index_or, Option, Some, Ok}
+use Rattle.job_reader.specs.declared.job.Job.{Job}
+use Rattle.page_model.specs.declared.parts.At.{At}
+use Rattle.page_model.specs.declared.parts.EdgeAt.{EdgeAt}
+use Rattle.page_model.specs.declared.parts.PageParts.{PageParts}
+use Rattle.page_model.specs.Decider.{decider}
+use Rattle.page_model.specs.Edges.{d2}
+use Rattle.page_model.specs.Page.{params_at, plates, samples, sample_at}
+use Rattle.page_model.specs.Tints.{trapped_plane}
+use Rattle.page_model.specs.Within.{black, within}
+use Rattle.page_model.specs.Words.{square}
+use Rattle.page_model.specs.Zones.{zone_of}
+use Rattle.page_reading.specs.Inputs.{Inputs, names_of, plate_at}
+use Rattle.pgm_plates.specs.declared.plate.Plate.{Plate as PlateRead}
+use Rattle.pgm_plates.specs.Planes.{plate_of}
+use Rattle.trap_engine.specs.Assembly.{assembly}
+use Rattle.trap_words.specs.Words.{PageWords}
+
+-- The edge is at most so far from the sample, in ten-thousandths of a point at the page's resolution; both sides are squared.
+abbrev pub IsUpTo : PageParts → At → EdgeAt → ℕ → Type 0
+IsUpTo page p e width = d2 p e * square 3600000000 ≤ square (width * page.resolution)
+
+-- The sample's edge traps up to its place: at most the trap width of the sample's zone away, or, at a black edge, at most that width times the black width.
+pub record IsNear (page : PageParts) (p : At) (e : EdgeAt) : Type 0 where
+  pub decides : decider page p ≡ Some e
+  pub is_within : within page p e ≡ true
+  pub plain : black page (params_at page (zone_of page p)) e ≡ false → IsUpTo page p e ((params_at page (zone_of page p)).trap_width * 10000)
+  pub at_black : black page (params_at page (zone_of page p)) e ≡ true → IsUpTo page p e ((params_at page (zone_of page p)).trap_width * (params_at page (zone_of page p)).black_width)
+
+-- the sample of that number in a plate, row by row
+abbrev pub sample_in : PlateRead → ℕ → ℕ
+sample_in plate k = slice_index_or plate.samples k 0
+
+-- the plate that becomes of plate c
+abbrev pub plate_after : PageParts → ℕ → PlateRead
+plate_after page c = plate_of (trapped_plane page c)
+
+-- A sample changes only near an edge: for each page that the files make, by plate and sample.
+pub record ChangesNearEdges (files : List ℕ → Option (List ℕ)) (words : PageWords) (page : PageParts) : Type 0 where
+  pub changed : (job : Job) (read : List PlateRead) → Inputs files words job read → assembly job read (names_of words.plates) ≡ Ok page → (c k : ℕ) → c < plates page → k < samples page → sample_in (plate_after page c) k ≢ sample_in (plate_at read c) k → (e : EdgeAt) × IsNear page (sample_at page k) e
+  pub kept : (job : Job) (read : List PlateRead) → Inputs files words job read → assembly job read (names_of words.plates) ≡ Ok page → (c k : ℕ) → c < plates page → k < samples page → ((e : EdgeAt) → IsNear page (sample_at page k) e → ⊥) → sample_in (plate_after page c) k ≡ sample_in (plate_at read c) k
