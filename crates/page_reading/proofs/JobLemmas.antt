@@ -1,9 +1,10 @@
 -- The job by its first 1,048,577 bytes.
-use Rattle.std.proofs.Common.{◌≡◌, ℕ, ◌<◌, ◌≤◌, min, Bool, true, false, cond, ltb, List, [], ◌∷◌, length, take, Result, Ok, Err, IsTrue, refl, sym, ap, ◌∙◌, subst, arith}
+use Rattle.std.proofs.Common.{◌≡◌, ℕ, ◌<◌, ◌≤◌, min, Bool, true, false, cond, ltb, List, [], ◌∷◌, length, take, Result, Ok, Err, IfOk, IsTrue, refl, sym, ap, ◌∙◌, subst, arith}
 use Rattle.std.proofs.lemmas.Bool.Decides.{nat_tests}
 use Rattle.std.proofs.lemmas.List.{take_all, length-take}
 use Rattle.job_reader.specs.declared.job.Job.{Job}
 use Rattle.job_reader.specs.Jobs.{job_of}
+use Rattle.job_reader.specs.InRange.{IsJob}
 use Rattle.outside.specs.Causes.{Asks}
 use Rattle.outside.specs.Tray.{TrayState, KeepsTray}
 use Rattle.outside.specs.Reading.{TakesFront}
@@ -34,18 +35,18 @@ front_by bytes false short =
 job_front : (bytes : List ℕ) → job_of (take 1048577 bytes) ≡ job_of bytes
 job_front bytes = front_by bytes (ltb 1048576 (length bytes)) refl
 
-pub job_judged : (name : List ℕ) (a b : TrayState) (bytes : List ℕ) (read : Result Job JobRefusals) (result : Result Job Refusal) → KeepsTray a b → Asks a.asked b.asked (name ∷ []) → (IsTrue a.tells → TakesFront name 1048577 a b bytes) → Gives read (job_of bytes) → Judges read result → ReadsJob name a b result
-job_judged name a b bytes (Ok job) result keeps asked taken given judged =
+pub job_judged : (name : List ℕ) (a b : TrayState) (bytes : List ℕ) (read : Result Job JobRefusals) (result : Result Job Refusal) → KeepsTray a b → Asks a.asked b.asked (name ∷ []) → (IsTrue a.tells → TakesFront name 1048577 a b bytes) → Gives read (job_of bytes) → IfOk read IsJob → Judges read result → ReadsJob name a b result
+job_judged name a b bytes (Ok job) result keeps asked taken given in_range judged =
+    subst (λ (r : Result Job Refusal). ReadsJob name a b r) (sym judged) (record {
+      keeps = keeps;
+      asked = asked;
+      answer = (in_range, λ tells. let front = taken tells in (front.all, front.found, sym (job_front front.all) ∙ ap job_of (sym front.taken) ∙ given));
+    })
+job_judged name a b bytes (Err (Fault fault)) result keeps asked taken given in_range judged =
     subst (λ (r : Result Job Refusal). ReadsJob name a b r) (sym judged) (record {
       keeps = keeps;
       asked = asked;
       answer = λ tells. let front = taken tells in (front.all, front.found, sym (job_front front.all) ∙ ap job_of (sym front.taken) ∙ given);
     })
-job_judged name a b bytes (Err (Fault fault)) result keeps asked taken given judged =
-    subst (λ (r : Result Job Refusal). ReadsJob name a b r) (sym judged) (record {
-      keeps = keeps;
-      asked = asked;
-      answer = λ tells. let front = taken tells in (front.all, front.found, sym (job_front front.all) ∙ ap job_of (sym front.taken) ∙ given);
-    })
-job_judged name a b bytes (Err OutOfMemory) result keeps asked taken given judged =
+job_judged name a b bytes (Err OutOfMemory) result keeps asked taken given in_range judged =
     subst (λ (r : Result Job Refusal). ReadsJob name a b r) (sym judged) (record { keeps = keeps; asked = asked; answer = tt })

@@ -18,6 +18,7 @@ use Rattle.pgm_plates.specs.Planes.{plane_of}
 use Rattle.std.proofs.lemmas.List.{length-map}
 use Rattle.trap_report.specs.declared.refusal.Refusal.{Refusal}
 use Rattle.trap_report.specs.declared.refusal.Refusal.TheVariants.{Usage, Job as JobRefusal, NoDetails, Plate, Page, Read, Write, Memory}
+use Rattle.trap_words.specs.Plates.{PlateNames}
 use Rattle.trap_words.specs.Words.{PageWords}
 use Rattle.page_reading.specs.Names.{AsksFront}
 use Rattle.page_reading.specs.Inputs.{Holds, AreRead, Inputs, PlateFails, inputs_of, names_of, name_at}
@@ -129,7 +130,7 @@ pub plates_refused : (words : PageWords) (a b c : TrayState) (job : Job) (refusa
 plates_refused words a b c job refusal count first next = record {
   keeps = kept a b c first.keeps next.keeps;
   asked = asks_first a.asked b.asked c.asked words.job (inputs_of words.plates) first.asked (front_of (inputs_of words.plates) b c refusal next.answer);
-  answer = answer_plates words a b c job refusal first.keeps first.asked first.answer count next.answer;
+  answer = answer_plates words a b c job refusal first.keeps first.asked first.answer.1 count next.answer;
 }
 
 -- all names were handed out
@@ -170,7 +171,7 @@ page_made words a b c job plates result count first next met =
       asked = asks_all a.asked c.asked (read_files words) asked;
       answer = answer_met words a c result job plates (next.answer.1 ∙ count) asked
           (λ tells. record {
-            job_read = first.answer tells;
+            job_read = first.answer.1 tells;
             plates_read = subst (λ (n : ℕ). AreRead a.file (inputs_of words.plates) n plates) count (read_before a b (inputs_of words.plates) (length (inputs_of words.plates)) plates first.keeps (next.answer.3 (first.keeps.tells ∙ tells)));
           })
           met;
@@ -182,3 +183,6 @@ no_names words a b c job plates first next = record {
   asked = asks_all a.asked c.asked (read_files words) (asked_all words a b c first.asked next.answer.0);
   answer = tt;
 }
+
+pub as_many_inputs : (words : PageWords) → length (inputs_of words.plates) ≡ length words.plates
+as_many_inputs words = length-map words.plates (λ (p : PlateNames). p.input)

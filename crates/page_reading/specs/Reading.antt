@@ -13,7 +13,7 @@ use Rattle.trap_report.specs.declared.refusal.Refusal.TheVariants.{Usage, Job as
 use Rattle.trap_words.specs.Words.{PageWords}
 use Rattle.page_reading.specs.Names.{AsksFront}
 use Rattle.page_reading.specs.Inputs.{Holds, AreRead, Inputs, PlateFails, inputs_of, names_of, name_at}
-use Rattle.page_reading.specs.Steps.{IsFaultless}
+use Rattle.page_reading.specs.Steps.{IsFaultless, ReadsJob}
 
 -- all files that are read, the job first
 abbrev pub read_files : PageWords → List (List ℕ)
@@ -45,7 +45,12 @@ AnswersPage words before after (Err Memory) = Unit {0}
 AnswersPage words before after (Err Usage) = ⊥
 AnswersPage words before after (Err (Write file)) = ⊥
 
+-- The job and the plates are read, and the page is made of them.
 pub record ReadsPage (words : PageWords) (before after : TrayState) (result : Result PageParts Refusal) : Type 0 where
   pub keeps : KeepsTray before after
   pub asked : AsksFront before.asked after.asked (read_files words)
   pub answer : AnswersPage words before after result
+
+-- Behind a job that was read, the rest of the page is read.
+abbrev pub ReadsRest : PageWords → Job → TrayState → TrayState → Result PageParts Refusal → Type 0
+ReadsRest words job between after result = (before : TrayState) → ReadsJob words.job before between (Ok job) → ReadsPage words before after result

@@ -4,6 +4,7 @@ use Rattle.outside.specs.Causes.{Rose, Asks}
 use Rattle.outside.specs.Tray.{TrayState, KeepsTray}
 use Rattle.job_reader.specs.declared.job.Job.{Job}
 use Rattle.job_reader.specs.Jobs.{job_of}
+use Rattle.job_reader.specs.InRange.{IsJob}
 use Rattle.pgm_plates.specs.declared.plate.Plate.{Plate as PlateRead}
 use Rattle.pgm_plates.specs.declared.plate.PlateFault.{PlateFault}
 use Rattle.pgm_plates.specs.Faults.{IsFault}
@@ -16,9 +17,9 @@ use Rattle.trap_report.specs.declared.refusal.Refusal.TheVariants.{Usage, Job as
 use Rattle.page_reading.specs.Names.{AsksFront}
 use Rattle.page_reading.specs.Inputs.{Holds, AreRead, name_at}
 
--- what the answer says of the job's bytes
+-- what the answer says of the job's bytes; a job that is read is in range
 abbrev pub AnswersJob : List ℕ → TrayState → TrayState → Result Job Refusal → Type 0
-AnswersJob name before after (Ok job) = IsTrue before.tells → Holds before.file name (λ bytes. job_of bytes ≡ Ok job)
+AnswersJob name before after (Ok job) = IsJob job × (IsTrue before.tells → Holds before.file name (λ bytes. job_of bytes ≡ Ok job))
 AnswersJob name before after (Err (JobRefusal fault)) = IsTrue before.tells → Holds before.file name (λ bytes. job_of bytes ≡ Err fault)
 AnswersJob name before after (Err (Read None)) = Rose before.faults after.faults
 AnswersJob name before after (Err Memory) = Unit {0}

@@ -3,6 +3,7 @@
 
 pub mod job;
 pub mod names;
+pub mod page;
 pub mod plates;
 #[cfg(test)]
 mod tests;

@@ -72,6 +72,13 @@ sample_report words = let page = sample_parts words.number words.width words.hei
 abbrev pub IsSmall : SampleWords → Type 0
 IsSmall words = 4 * words.width * words.height ≤ 160000000
 
+-- what is made of a sample page
+abbrev pub MakesReport : SampleWords → Result (List ℕ) Refusal → Type 0
+MakesReport words (Ok text) = IsSmall words × (text ≡ sample_report words)
+MakesReport words (Err (Page TooManySamples)) = IsSmall words → ⊥
+MakesReport words (Err Memory) = IsSmall words
+MakesReport words (Err other) = ⊥
+
 -- A command of a sample page: its report is told, whole or in part, or it is refused.
 pub data AnswersSample (words : SampleWords) (rack rack' : RackState) (status : ℕ) : Type 0 where
   told : IsSmall words → status ≡ 0 → (IsTrue rack.tells → rack'.told ≡ rack.told ++ sample_report words) → AnswersSample words rack rack' status

@@ -1,6 +1,5 @@
 -- Where a trap may lie: the samples that change are near the edge that they answer to.
-use Rattle.std.specs.Prelude.{◌≡◌, ◌≢◌, ℕ, ◌*◌, ◌<◌, ◌≤◌, true, false, List, slice_index_or, Option, Some, Ok}
-use Rattle.job_reader.specs.declared.job.Job.{Job}
+use Rattle.std.specs.Prelude.{◌≡◌, ◌≢◌, ℕ, ◌*◌, ◌<◌, ◌≤◌, true, false, List, slice_index_or, Some}
 use Rattle.page_model.specs.declared.parts.At.{At}
 use Rattle.page_model.specs.declared.parts.EdgeAt.{EdgeAt}
 use Rattle.page_model.specs.declared.parts.PageParts.{PageParts}
@@ -11,11 +10,9 @@ use Rattle.page_model.specs.Tints.{trapped_plane}
 use Rattle.page_model.specs.Within.{black, within}
 use Rattle.page_model.specs.Words.{square}
 use Rattle.page_model.specs.Zones.{zone_of}
-use Rattle.page_reading.specs.Inputs.{Inputs, names_of, plate_at}
+use Rattle.page_reading.specs.Inputs.{plate_at}
 use Rattle.pgm_plates.specs.declared.plate.Plate.{Plate as PlateRead}
 use Rattle.pgm_plates.specs.Planes.{plate_of}
-use Rattle.trap_engine.specs.Assembly.{assembly}
-use Rattle.trap_words.specs.Words.{PageWords}
 
 -- The edge is at most so far from the sample, in ten-thousandths of a point at the page's resolution; both sides are squared.
 abbrev pub IsUpTo : PageParts → At → EdgeAt → ℕ → Type 0
@@ -36,7 +33,7 @@ sample_in plate k = slice_index_or plate.samples k 0
 abbrev pub plate_after : PageParts → ℕ → PlateRead
 plate_after page c = plate_of (trapped_plane page c)
 
--- A sample changes only near an edge: for each page that the files make, by plate and sample.
-pub record ChangesNearEdges (files : List ℕ → Option (List ℕ)) (words : PageWords) (page : PageParts) : Type 0 where
-  pub changed : (job : Job) (read : List PlateRead) → Inputs files words job read → assembly job read (names_of words.plates) ≡ Ok page → (c k : ℕ) → c < plates page → k < samples page → sample_in (plate_after page c) k ≢ sample_in (plate_at read c) k → (e : EdgeAt) × IsNear page (sample_at page k) e
-  pub kept : (job : Job) (read : List PlateRead) → Inputs files words job read → assembly job read (names_of words.plates) ≡ Ok page → (c k : ℕ) → c < plates page → k < samples page → ((e : EdgeAt) → IsNear page (sample_at page k) e → ⊥) → sample_in (plate_after page c) k ≡ sample_in (plate_at read c) k
+-- The plates that were read change only near edges of the page that they make: by plate and sample.
+pub record ChangesNearEdges (page : PageParts) (read : List PlateRead) : Type 0 where
+  pub changed : (c k : ℕ) → c < plates page → k < samples page → sample_in (plate_after page c) k ≢ sample_in (plate_at read c) k → (e : EdgeAt) × IsNear page (sample_at page k) e
+  pub kept : (c k : ℕ) → c < plates page → k < samples page → ((e : EdgeAt) → IsNear page (sample_at page k) e → ⊥) → sample_in (plate_after page c) k ≡ sample_in (plate_at read c) k

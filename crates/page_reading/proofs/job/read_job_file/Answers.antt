@@ -8,4 +8,4 @@ pub returns-in-Ok : goal.returns-in-Ok
 returns-in-Ok g c =
     let read = c.in-Ok.ensures in
     job_judged c.args.name.now (g.T.Tray.state c.args.tray.now) (g.T.Tray.state c.read_file.new.tray) c.in-Ok.bytes c.read_job.result c.judged.result read.keeps read.asked read.taken
-    (subst (λ (b : List ℕ). Gives c.read_job.result (job_of b)) c.as_slice.ensures c.read_job.ensures.given) c.judged.ensures
+    (subst (λ (b : List ℕ). Gives c.read_job.result (job_of b)) c.as_slice.ensures c.read_job.ensures.given) c.read_job.ensures.in_range c.judged.ensures

@@ -1,0 +1,10 @@
+//! The top call of the program `trap`: from words to files.
+#![tactic(auto)]
+
+mod closing;
+mod outcome;
+mod page;
+mod sample;
+#[cfg(test)]
+mod tests;
+pub mod top;
