@@ -1,4 +1,6 @@
-ghost use Rattle.std.specs.Prelude.{◌≡◌};
+ghost use Rattle.std.specs.Prelude.{◌≡◌, MatchResult};
+ghost use Rattle.page_model.specs.Counts.{page_counts};
+ghost use Rattle.trap_report.specs.Report.{report_of};
 ghost use Rattle.trap_words.specs.Held.{IsSampleWithin, sample_in};
 ghost use Rattle.trap_cli.specs.Endings.{EndsSample, MakesReport};
 
@@ -6,7 +8,7 @@ use crate::closing::refuse;
 use crate::outcome::outcome_of;
 use outside::rack::Rack;
 use outside::tray::Failed;
-use page_model::page::PageFault;
+use page_model::page::{Page, PageFault};
 use page_model::parts::{Name, OutOfMemory};
 use page_source::sample::{SampleRefusal, sample_page};
 use std::alloc::Global;
@@ -35,11 +37,18 @@ fn sample_report(alloc: Global, command: SampleCommand) -> Result<Name, Refusal>
     ensures { MakesReport (sample_in command) result }
 {
     match sample_page(alloc, command.number, command.width, command.height) {
-        Ok(page) => match outcome_of(alloc, &page) {
-            Ok(outcome) => Ok(outcome.report),
-            Err(OutOfMemory) => Err(Refusal::Memory),
-        },
+        Ok(page) => page_report(alloc, &page),
         Err(SampleRefusal::TooManySamples) => Err(Refusal::Page(PageFault::TooManySamples)),
         Err(SampleRefusal::OutOfMemory) => Err(Refusal::Memory),
+    }
+}
+
+// The report of a page after trapping.
+fn page_report(alloc: Global, page: &Page) -> Result<Name, Refusal>
+    ensures { MatchResult result (λ text. text ≡ report_of page.now (page_counts page.now)) (λ refusal. refusal ≡ Refusal.Memory) }
+{
+    match outcome_of(alloc, page) {
+        Ok(outcome) => Ok(outcome.report),
+        Err(OutOfMemory) => Err(Refusal::Memory),
     }
 }

@@ -1,0 +1,6 @@
+mod ClauseLemmas
+mod EndLemmas
+mod LocalityLemmas
+mod OutcomeLemmas
+mod SampleLemmas
+mod VerdictLemmas

@@ -1,0 +1,9 @@
+use Rattle.trap_words.specs.Held.{page_in}
+use Rattle.trap_cli.proofs.EndLemmas.{not_read, read_and_put}
+use Rattle.trap_cli.proofs.page.carry_out.Goals as goal
+
+pub returns-in-Ok : goal.returns-in-Ok
+returns-in-Ok g c = read_and_put (page_in c.args.command.now) c.in-Ok.page (g.T.Tray.state c.args.tray.now) (g.T.Tray.state c.read_page.new.tray) (g.R.Rack.state c.args.rack.now) (g.R.Rack.state c.put_out.new.rack) c.put_out.result c.in-Ok.ensures c.put_out.ensures
+
+pub returns-in-Err : goal.returns-in-Err
+returns-in-Err g c = not_read (page_in c.args.command.now) (g.T.Tray.state c.args.tray.now) (g.T.Tray.state c.read_page.new.tray) (g.R.Rack.state c.args.rack.now) c.in-Err.refusal c.in-Err.ensures

@@ -1,0 +1,26 @@
+use Rattle.std.proofs.Common.{map, string_bytes, Global}
+use Rattle.trap_cli.proofs.ClauseLemmas.{refused_input, read_fault, write_fault, fault_line, sample_page, completeness}
+use Rattle.trap_cli.proofs.LocalityLemmas.{changes_near_edges}
+use Rattle.trap_cli.proofs.VerdictLemmas.{PlateLaws}
+use Rattle.trap_cli.proofs.top.trap_main.Goals as goal
+
+pub returns-clause-refused_input : goal.returns-clause-refused_input
+returns-clause-refused_input g c = refused_input (map (string_bytes {Z = Global}) c.args.words.now) (g.T.Tray.state c.args.tray.now) (g.T.Tray.state c.run.new.tray) (g.R.Rack.state c.args.rack.now) (g.R.Rack.state c.run.new.rack) c.run.result (record { not_both = c.not_both.ensures; one_plate = c.one_plate.ensures; one_fault = c.one_fault.ensures }) c.run.ensures
+
+pub returns-clause-read_fault : goal.returns-clause-read_fault
+returns-clause-read_fault g c = read_fault (map (string_bytes {Z = Global}) c.args.words.now) (g.T.Tray.state c.args.tray.now) (g.T.Tray.state c.run.new.tray) (g.R.Rack.state c.args.rack.now) (g.R.Rack.state c.run.new.rack) c.run.result c.run.ensures
+
+pub returns-clause-write_fault : goal.returns-clause-write_fault
+returns-clause-write_fault g c = write_fault (map (string_bytes {Z = Global}) c.args.words.now) (g.T.Tray.state c.args.tray.now) (g.T.Tray.state c.run.new.tray) (g.R.Rack.state c.args.rack.now) (g.R.Rack.state c.run.new.rack) c.run.result c.run.ensures
+
+pub returns-clause-fault_line : goal.returns-clause-fault_line
+returns-clause-fault_line g c = fault_line (map (string_bytes {Z = Global}) c.args.words.now) (g.T.Tray.state c.args.tray.now) (g.T.Tray.state c.run.new.tray) (g.R.Rack.state c.args.rack.now) (g.R.Rack.state c.run.new.rack) c.run.result c.run.ensures
+
+pub returns-clause-sample : goal.returns-clause-sample
+returns-clause-sample g c = sample_page (map (string_bytes {Z = Global}) c.args.words.now) (g.T.Tray.state c.args.tray.now) (g.T.Tray.state c.run.new.tray) (g.R.Rack.state c.args.rack.now) (g.R.Rack.state c.run.new.rack) c.run.result c.run.ensures
+
+pub returns-clause-completeness : goal.returns-clause-completeness
+returns-clause-completeness g c = completeness (map (string_bytes {Z = Global}) c.args.words.now) (g.T.Tray.state c.args.tray.now) (g.T.Tray.state c.run.new.tray) (g.R.Rack.state c.args.rack.now) (g.R.Rack.state c.run.new.rack) c.run.result (record { not_both = c.not_both.ensures; one_plate = c.one_plate.ensures; one_fault = c.one_fault.ensures }) c.run.ensures
+
+pub returns-clause-locality : goal.returns-clause-locality
+returns-clause-locality g c page job read made means tells inputs is = changes_near_edges (g.T.Tray.state c.args.tray.now).file page job read made inputs is
