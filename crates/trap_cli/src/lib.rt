@@ -5,6 +5,4 @@ mod closing;
 mod outcome;
 mod page;
 mod sample;
-#[cfg(test)]
-mod tests;
 pub mod top;
