@@ -1,0 +1,4 @@
+pub mod Fronts
+pub mod Numerals
+pub mod Pieces
+pub mod Reading

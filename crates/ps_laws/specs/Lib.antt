@@ -1,0 +1,3 @@
+pub mod Gaps
+pub mod Shapes
+pub mod Spells

@@ -1,0 +1,37 @@
+//! Laws of the definitions: each is the contract of a function that does nothing.
+
+ghost use Rattle.std.specs.Prelude.{◌≡◌, ℕ, List, take};
+ghost use Rattle.ps_tokens.specs.declared.token.Token.{Token};
+ghost use Rattle.ps_tokens.specs.declared.faults.JobFault.{JobFault};
+ghost use Rattle.ps_tokens.specs.Tokens.{tokens_of};
+ghost use Rattle.ps_laws.specs.Spells.{Spells, Breaks};
+
+/// The tokens that bytes spell are read.
+pub fn spelled_is_read()
+    ensures { (bytes : List ℕ) (tokens : List Token) → Spells bytes tokens → tokens_of bytes ≡ Ok tokens }
+{}
+
+/// The tokens that are read are what the bytes spell.
+pub fn read_is_spelled()
+    ensures { (bytes : List ℕ) (tokens : List Token) → tokens_of bytes ≡ Ok tokens → Spells bytes tokens }
+{}
+
+/// Bytes spell one list of tokens at most.
+pub fn one_token_list()
+    ensures { (bytes : List ℕ) (a b : List Token) → Spells bytes a → Spells bytes b → a ≡ b }
+{}
+
+/// Where there is a fault, the bytes before it spell tokens, and neither a gap nor a token stands there.
+pub fn fault_is_where_none_stands()
+    ensures { (bytes : List ℕ) (fault : JobFault) → tokens_of bytes ≡ Err fault → Breaks bytes fault }
+{}
+
+/// Where the bytes spell tokens up to a place at which neither a gap nor a token stands, that is the fault.
+pub fn where_none_stands_is_fault()
+    ensures { (bytes : List ℕ) (fault : JobFault) → Breaks bytes fault → tokens_of bytes ≡ Err fault }
+{}
+
+/// The bytes before a fault spell tokens by themselves.
+pub fn front_of_fault_is_spelled()
+    ensures { (bytes : List ℕ) (fault : JobFault) → tokens_of bytes ≡ Err fault → (tokens : List Token) × Spells (take fault.at bytes) tokens }
+{}
