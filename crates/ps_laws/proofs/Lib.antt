@@ -2,3 +2,6 @@ pub mod Fronts
 pub mod Numerals
 pub mod Pieces
 pub mod Reading
+pub mod Judging
+pub mod Listing
+pub mod Parsing

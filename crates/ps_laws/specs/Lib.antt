@@ -1,3 +1,4 @@
 pub mod Gaps
 pub mod Shapes
 pub mod Spells
+pub mod Writes

@@ -4,7 +4,10 @@ ghost use Rattle.std.specs.Prelude.{◌≡◌, ℕ, List, take};
 ghost use Rattle.ps_tokens.specs.declared.token.Token.{Token};
 ghost use Rattle.ps_tokens.specs.declared.faults.JobFault.{JobFault};
 ghost use Rattle.ps_tokens.specs.Tokens.{tokens_of};
+ghost use Rattle.ps_tokens.specs.declared.object.Object.{Object};
+ghost use Rattle.ps_tokens.specs.Objects.{objects_of};
 ghost use Rattle.ps_laws.specs.Spells.{Spells, Breaks};
+ghost use Rattle.ps_laws.specs.Writes.{WritesOut};
 
 /// The tokens that bytes spell are read.
 pub fn spelled_is_read()
@@ -34,4 +37,19 @@ pub fn where_none_stands_is_fault()
 /// The bytes before a fault spell tokens by themselves.
 pub fn front_of_fault_is_spelled()
     ensures { (bytes : List ℕ) (fault : JobFault) → tokens_of bytes ≡ Err fault → (tokens : List Token) × Spells (take fault.at bytes) tokens }
+{}
+
+/// The objects that tokens write out are read.
+pub fn written_is_read()
+    ensures { (bytes : List ℕ) (tokens : List Token) (objects : List Object) → WritesOut bytes objects tokens → objects_of bytes tokens ≡ Ok objects }
+{}
+
+/// The objects that are read are what the tokens write out.
+pub fn read_is_written()
+    ensures { (bytes : List ℕ) (tokens : List Token) (objects : List Object) → objects_of bytes tokens ≡ Ok objects → WritesOut bytes objects tokens }
+{}
+
+/// Tokens write out one list of objects at most.
+pub fn one_object_list()
+    ensures { (bytes : List ℕ) (tokens : List Token) (a b : List Object) → WritesOut bytes a tokens → WritesOut bytes b tokens → a ≡ b }
 {}

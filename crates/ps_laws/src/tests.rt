@@ -1,14 +1,21 @@
 use crate::laws::{
-    fault_is_where_none_stands, front_of_fault_is_spelled, one_token_list, read_is_spelled,
-    spelled_is_read, where_none_stands_is_fault,
+    fault_is_where_none_stands, front_of_fault_is_spelled, one_object_list, one_token_list,
+    read_is_spelled, read_is_written, spelled_is_read, where_none_stands_is_fault, written_is_read,
 };
 
 #[test]
-fn laws_are_called() {
+fn laws_of_tokens_are_called() {
     spelled_is_read();
     read_is_spelled();
     one_token_list();
     fault_is_where_none_stands();
     where_none_stands_is_fault();
     front_of_fault_is_spelled();
+}
+
+#[test]
+fn laws_of_objects_are_called() {
+    written_is_read();
+    read_is_written();
+    one_object_list();
 }
