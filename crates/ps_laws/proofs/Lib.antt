@@ -5,3 +5,4 @@ pub mod Reading
 pub mod Judging
 pub mod Listing
 pub mod Parsing
+pub mod TokenKinds

@@ -53,14 +53,14 @@ object-is : (object : Object) (at inside : ℕ) (body : Body) → object.at ≡ 
 object-is object at inside body a b c = ap (λ x. made x inside body) (sym a) ∙ ap (λ x. made object.at x body) (sym b) ∙ ap (λ x. made object.at object.inside x) (sym c)
 
 -- a token without brackets neither opens nor closes one
-record IsSimple (kind : TokenKind) : Type 0 where
-  opens_none : is_opening kind ≡ false
-  closes_none : is_closing kind ≡ false
+pub record IsSimple (kind : TokenKind) : Type 0 where
+  pub opens_none : is_opening kind ≡ false
+  pub closes_none : is_closing kind ≡ false
 
 at-kind : (k kind : TokenKind) → kind ≡ k → IsSimple k → IsSimple kind
 at-kind k kind is simple = subst IsSimple (sym is) simple
 
-simple-plain : (depth : ℕ) (body : Body) (kind : TokenKind) (text : List ℕ) → IsPlain depth body → IsBegunBy body kind text → IsSimple kind
+pub simple-plain : (depth : ℕ) (body : Body) (kind : TokenKind) (text : List ℕ) → IsPlain depth body → IsBegunBy body kind text → IsSimple kind
 simple-plain depth (Number n) kind text is by = at-kind (kinds.Number n) kind by (record { opens_none = refl; closes_none = refl })
 simple-plain depth (Truth b) kind text is by = at-kind kinds.Word kind by.0 (record { opens_none = refl; closes_none = refl })
 simple-plain depth Null kind text is by = at-kind kinds.Word kind by.0 (record { opens_none = refl; closes_none = refl })
@@ -70,7 +70,7 @@ simple-plain depth (Operator name) kind text is by = at-kind kinds.Word kind by.
 simple-plain depth Array kind text is by = absurd is
 simple-plain depth Dict kind text is by = absurd is
 
-simple-literal : (body : Body) (kind : TokenKind) (text : List ℕ) → IsLiteral body → IsBegunBy body kind text → IsSimple kind
+pub simple-literal : (body : Body) (kind : TokenKind) (text : List ℕ) → IsLiteral body → IsBegunBy body kind text → IsSimple kind
 simple-literal body kind text is by = simple-plain 0 (Literal is.0) kind text tt (subst (λ b. IsBegunBy b kind text) is.1 by)
 
 -- how many objects tokens begin
@@ -92,17 +92,17 @@ pub count-end : (token : Token) (tokens : List Token) → is_closing token.kind 
 count-end token tokens closes = rw closes refl
 
 -- the kinds of brackets
-record IsBracket (open_kind close_kind : TokenKind) : Type 0 where
-  opens : is_opening open_kind ≡ true
-  opening_is_no_end : is_closing open_kind ≡ false
-  closes : is_closing close_kind ≡ true
+pub record IsBracket (open_kind close_kind : TokenKind) : Type 0 where
+  pub opens : is_opening open_kind ≡ true
+  pub opening_is_no_end : is_closing open_kind ≡ false
+  pub closes : is_closing close_kind ≡ true
 
-array-bracket : (body : Body) (kind close_kind : TokenKind) (text : List ℕ) → body ≡ Array → IsBegunBy body kind text → close_kind ≡ kinds.CloseArray → IsBracket kind close_kind
+pub array-bracket : (body : Body) (kind close_kind : TokenKind) (text : List ℕ) → body ≡ Array → IsBegunBy body kind text → close_kind ≡ kinds.CloseArray → IsBracket kind close_kind
 array-bracket body kind close_kind text is by ends =
     let k : kind ≡ kinds.OpenArray = subst (λ b. IsBegunBy b kind text) is by in
     record { opens = ap is_opening k; opening_is_no_end = ap is_closing k; closes = ap is_closing ends }
 
-dict-bracket : (body : Body) (kind close_kind : TokenKind) (text : List ℕ) → body ≡ Dict → IsBegunBy body kind text → close_kind ≡ kinds.CloseDict → IsBracket kind close_kind
+pub dict-bracket : (body : Body) (kind close_kind : TokenKind) (text : List ℕ) → body ≡ Dict → IsBegunBy body kind text → close_kind ≡ kinds.CloseDict → IsBracket kind close_kind
 dict-bracket body kind close_kind text is by ends =
     let k : kind ≡ kinds.OpenDict = subst (λ b. IsBegunBy b kind text) is by in
     record { opens = ap is_opening k; opening_is_no_end = ap is_closing k; closes = ap is_closing ends }

@@ -2,3 +2,4 @@ pub mod Gaps
 pub mod Shapes
 pub mod Spells
 pub mod Writes
+pub mod Kinds

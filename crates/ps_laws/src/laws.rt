@@ -1,6 +1,6 @@
 //! Laws of the definitions: each is the contract of a function that does nothing.
 
-ghost use Rattle.std.specs.Prelude.{◌≡◌, ℕ, List, take};
+ghost use Rattle.std.specs.Prelude.{◌≡◌, ℕ, List, take, map};
 ghost use Rattle.ps_tokens.specs.declared.token.Token.{Token};
 ghost use Rattle.ps_tokens.specs.declared.faults.JobFault.{JobFault};
 ghost use Rattle.ps_tokens.specs.Tokens.{tokens_of};
@@ -8,6 +8,7 @@ ghost use Rattle.ps_tokens.specs.declared.object.Object.{Object};
 ghost use Rattle.ps_tokens.specs.Objects.{objects_of};
 ghost use Rattle.ps_laws.specs.Spells.{Spells, Breaks};
 ghost use Rattle.ps_laws.specs.Writes.{WritesOut};
+ghost use Rattle.ps_laws.specs.Kinds.{kinds_written, begun_at};
 
 /// The tokens that bytes spell are read.
 pub fn spelled_is_read()
@@ -52,4 +53,11 @@ pub fn read_is_written()
 /// Tokens write out one list of objects at most.
 pub fn one_object_list()
     ensures { (bytes : List ℕ) (tokens : List Token) (a b : List Object) → WritesOut bytes a tokens → WritesOut bytes b tokens → a ≡ b }
+{}
+
+/// Written out in order, each closing token behind the last object within its bracket, the objects that are read give the
+/// tokens: their kinds, and the offsets of those that begin objects.
+pub fn objects_write_their_tokens()
+    ensures kinds { (bytes : List ℕ) (tokens : List Token) (objects : List Object) → objects_of bytes tokens ≡ Ok objects → map (λ t. t.kind) tokens ≡ kinds_written objects }
+    ensures places { (bytes : List ℕ) (tokens : List Token) (objects : List Object) → objects_of bytes tokens ≡ Ok objects → begun_at tokens ≡ map (λ o. o.at) objects }
 {}

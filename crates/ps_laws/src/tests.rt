@@ -1,6 +1,7 @@
 use crate::laws::{
-    fault_is_where_none_stands, front_of_fault_is_spelled, one_object_list, one_token_list,
-    read_is_spelled, read_is_written, spelled_is_read, where_none_stands_is_fault, written_is_read,
+    fault_is_where_none_stands, front_of_fault_is_spelled, objects_write_their_tokens,
+    one_object_list, one_token_list, read_is_spelled, read_is_written, spelled_is_read,
+    where_none_stands_is_fault, written_is_read,
 };
 
 #[test]
@@ -18,4 +19,5 @@ fn laws_of_objects_are_called() {
     written_is_read();
     read_is_written();
     one_object_list();
+    objects_write_their_tokens();
 }
