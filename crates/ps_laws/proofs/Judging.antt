@@ -71,14 +71,14 @@ judged-plain (Operator name) kind text at brackets is by due =
 judged-plain Array kind text at brackets is by due = absurd is
 judged-plain Dict kind text at brackets is by due = absurd is
 
-judged-literal : (body : Body) (kind : TokenKind) (text : List ℕ) (at : ℕ) (brackets : List Bracket) → IsLiteral body → IsBegunBy body kind text
+pub judged-literal : (body : Body) (kind : TokenKind) (text : List ℕ) (at : ℕ) (brackets : List Bracket) → IsLiteral body → IsBegunBy body kind text
     → judged_as kind at (is_value_word text) brackets ≡ Ok (filled brackets)
 judged-literal body kind text at brackets is by =
     let literal : IsBegunBy (Literal is.0) kind text = subst (λ b. IsBegunBy b kind text) is.1 by in
     ap (λ k. judged_as k at (is_value_word text) brackets) literal.0
 
 -- a token that opens a bracket
-opened-bracket : (at : ℕ) (expects : Expects) (brackets : List Bracket) → is_key_due brackets ≡ false → length brackets < 16
+pub opened-bracket : (at : ℕ) (expects : Expects) (brackets : List Bracket) → is_key_due brackets ≡ false → length brackets < 16
     → opened at expects brackets ≡ Ok (record { at = at; expects = expects } ∷ filled brackets)
 unfolding opened
 opened-bracket at expects brackets due few = rw (due, ne_eqb (length brackets) 16 (λ e. omega arith)) refl
@@ -107,14 +107,14 @@ left items brackets = brackets
 left entries brackets = brackets
 
 -- one token, and then more
-judged-first : (bytes : List ℕ) (brackets new : List Bracket) (token : Token) (tokens : List Token) → judged bytes token brackets ≡ Ok new
+pub judged-first : (bytes : List ℕ) (brackets new : List Bracket) (token : Token) (tokens : List Token) → judged bytes token brackets ≡ Ok new
     → fold (judged_on bytes) (Ok brackets) (token ∷ tokens) ≡ fold (judged_on bytes) (Ok new) tokens
 judged-first bytes brackets new token tokens is = ap (λ r. fold (judged_on bytes) (placed token.at r) tokens) is
 
-judged-last : (bytes : List ℕ) (brackets new : List Bracket) (token : Token) → judged bytes token brackets ≡ Ok new → fold (judged_on bytes) (Ok brackets) (token ∷ []) ≡ Ok new
+pub judged-last : (bytes : List ℕ) (brackets new : List Bracket) (token : Token) → judged bytes token brackets ≡ Ok new → fold (judged_on bytes) (Ok brackets) (token ∷ []) ≡ Ok new
 judged-last bytes brackets new token is = judged-first bytes brackets new token [] is
 
-judged-append : (bytes : List ℕ) (brackets middle : List Bracket) (front behind : List Token) → fold (judged_on bytes) (Ok brackets) front ≡ Ok middle
+pub judged-append : (bytes : List ℕ) (brackets middle : List Bracket) (front behind : List Token) → fold (judged_on bytes) (Ok brackets) front ≡ Ok middle
     → fold (judged_on bytes) (Ok brackets) (front ++ behind) ≡ fold (judged_on bytes) (Ok middle) behind
 judged-append bytes brackets middle front behind is = fold-append (judged_on bytes) (Ok brackets) front behind ∙ ap (λ r. fold (judged_on bytes) r behind) is
 

@@ -6,3 +6,5 @@ pub mod Judging
 pub mod Listing
 pub mod Parsing
 pub mod TokenKinds
+pub mod Misplacing
+pub mod Opening

@@ -80,10 +80,10 @@ rest-whole bytes (bracket ∷ outer) first objects front tokens due one more = (
 plain-body : (depth : ℕ) (body : Body) → IsLiteral body → IsPlain depth body
 plain-body depth body is = subst (IsPlain depth) (sym is.1) tt
 
-plain-literal : (bytes : List ℕ) (depth : ℕ) (object : Object) (token : Token) → IsLiteral object.body → Begins bytes object token 0 → Writes bytes whole depth (object ∷ []) (token ∷ [])
+pub plain-literal : (bytes : List ℕ) (depth : ℕ) (object : Object) (token : Token) → IsLiteral object.body → Begins bytes object token 0 → Writes bytes whole depth (object ∷ []) (token ∷ [])
 plain-literal bytes depth object token is begins = plain depth object token (plain-body depth object.body is) begins
 
-abbrev bracket_of : ℕ → Expects → Bracket
+abbrev pub bracket_of : ℕ → Expects → Bracket
 bracket_of at expects = record { at = at; expects = expects }
 
 -- a key opens an entry, which its value ends
@@ -148,17 +148,17 @@ rest-dict bytes brackets at object objects token tokens due few is begins more =
     (subst (λ ts. Rest bytes brackets (object ∷ (more.0 ++ more.1)) ts) (ap (λ ts. token ∷ ts) (append_assoc more.2 (more.3 ∷ []) more.4 ∙ sym more.9))
     (rest-whole bytes brackets (object ∷ more.0) more.1 front more.4 due one more.7))
 
-err_is_no_ok : (kind : FaultKind) (new : List Bracket) → Err kind ≡ Ok new → ⊥
+pub err_is_no_ok : (kind : FaultKind) (new : List Bracket) → Err kind ≡ Ok new → ⊥
 err_is_no_ok kind new e = cc
 
 -- brackets after a token, and after all tokens
-abbrev put : List Bracket → Result (List Bracket) FaultKind
+abbrev pub put : List Bracket → Result (List Bracket) FaultKind
 put brackets = Ok brackets
 
 abbrev all_put : List Bracket → Result (List Bracket) JobFault
 all_put brackets = Ok brackets
 
-same_ok : (a b : List Bracket) → put a ≡ put b → a ≡ b
+pub same_ok : (a b : List Bracket) → put a ≡ put b → a ≡ b
 same_ok a b e = cc
 
 fault_is_no_ok : (fault : JobFault) → Err fault ≡ all_put [] → ⊥
@@ -167,7 +167,7 @@ fault_is_no_ok fault e = cc
 some_is_no_none : (bracket : Bracket) (outer : List Bracket) → all_put (bracket ∷ outer) ≡ all_put [] → ⊥
 some_is_no_none bracket outer e = cc
 
-below-16 : (n : ℕ) → n ≤ 16 → (n ≡ 16 → ⊥) → n < 16
+pub below-16 : (n : ℕ) → n ≤ 16 → (n ≡ 16 → ⊥) → n < 16
 below-16 n most other = ⊎_elim (λ (l : n < 16). l) (λ (g : 16 ≤ n). absurd (other (omega arith))) (cases_lt n 16)
 
 no_value_word : (word : List ℕ) → bytes_eq word (codes "true") ≡ false → bytes_eq word (codes "false") ≡ false → bytes_eq word (codes "null") ≡ false → IsValueWord word → ⊥
@@ -176,16 +176,16 @@ no_value_word word f g h (inr (inl is)) = false≢true (sym g ∙ (bytes_eq-Deci
 no_value_word word f g h (inr (inr is)) = false≢true (sym h ∙ (bytes_eq-Decides word (codes "null")).1 is)
 
 -- what a token that has no fault shows
-record IsPut (brackets new : List Bracket) : Type 0 where
-  due : is_key_due brackets ≡ false
-  are : filled brackets ≡ new
+pub record IsPut (brackets new : List Bracket) : Type 0 where
+  pub due : is_key_due brackets ≡ false
+  pub are : filled brackets ≡ new
 
-record IsOpened (at : ℕ) (expects : Expects) (brackets new : List Bracket) : Type 0 where
-  due : is_key_due brackets ≡ false
-  few : length brackets ≡ 16 → ⊥
-  are : bracket_of at expects ∷ filled brackets ≡ new
+pub record IsOpened (at : ℕ) (expects : Expects) (brackets new : List Bracket) : Type 0 where
+  pub due : is_key_due brackets ≡ false
+  pub few : length brackets ≡ 16 → ⊥
+  pub are : bracket_of at expects ∷ filled brackets ≡ new
 
-put-value : (brackets new : List Bracket) → value_put brackets ≡ Ok new → IsPut brackets new
+pub put-value : (brackets new : List Bracket) → value_put brackets ≡ Ok new → IsPut brackets new
 unfolding value_put
 put-value brackets new is =
     ⊎_elim
@@ -193,7 +193,7 @@ put-value brackets new is =
     (λ (f : is_key_due brackets ≡ false). record { due = f; are = same_ok (filled brackets) new (rw f at is) })
     (cases_Bool (is_key_due brackets))
 
-put-operator : (brackets new : List Bracket) → operator_put brackets ≡ Ok new → IsPut brackets new × (length brackets ≡ 0)
+pub put-operator : (brackets new : List Bracket) → operator_put brackets ≡ Ok new → IsPut brackets new × (length brackets ≡ 0)
 unfolding operator_put
 put-operator [] new is = (record { due = refl; are = same_ok [] new is }, refl)
 put-operator (bracket ∷ outer) new is =
@@ -204,7 +204,7 @@ put-operator (bracket ∷ outer) new is =
     absurd (err_is_no_ok NameInside new (rw (f, some) at is)))
     (cases_Bool (is_key bracket.expects))
 
-open-bracket : (at : ℕ) (expects : Expects) (brackets new : List Bracket) → opened at expects brackets ≡ Ok new → IsOpened at expects brackets new
+pub open-bracket : (at : ℕ) (expects : Expects) (brackets new : List Bracket) → opened at expects brackets ≡ Ok new → IsOpened at expects brackets new
 unfolding opened
 open-bracket at expects brackets new is =
     ⊎_elim
@@ -253,7 +253,7 @@ word-begun word =
     (λ g. cond_both (bytes_eq word (codes "null")) _ _ P (λ t. (refl, (bytes_eq-Decides word (codes "null")).0 t))
     (λ h. (refl, refl, no_value_word word f g h))))
 
-begun : (kind : TokenKind) (text : List ℕ) → is_closing kind ≡ false → IsBegunBy (body_as kind text) kind text
+pub begun : (kind : TokenKind) (text : List ℕ) → is_closing kind ≡ false → IsBegunBy (body_as kind text) kind text
 begun kinds.OpenDict text opens = refl
 begun kinds.CloseDict text opens = absurd (false≢true (sym opens))
 begun kinds.OpenArray text opens = refl
@@ -273,7 +273,7 @@ bracket-begun : (bytes : List ℕ) (token : Token) (tokens : List Token) → is_
 bracket-begun bytes token tokens closes opens = subst (Begins bytes (object_of bytes token tokens) token) (rw opens refl) (object-begun bytes token tokens closes)
 
 -- a word stands in brackets only as a value
-plain-word : (depth : ℕ) (word : List ℕ) → (is_value_word word ≡ false → depth ≡ 0) → IsPlain depth (word_body word)
+pub plain-word : (depth : ℕ) (word : List ℕ) → (is_value_word word ≡ false → depth ≡ 0) → IsPlain depth (word_body word)
 unfolding word_body
 plain-word depth word outside =
     let P : Body → Type 0 = IsPlain depth in
@@ -391,7 +391,7 @@ few-opened at expects brackets new most o =
     let few = below-16 (length brackets) most o.few in
     omega (arith, length-filled brackets, ap length o.are)
 
-few : (kind : TokenKind) (at : ℕ) (value : Bool) (brackets new : List Bracket) → length brackets ≤ 16 → judged_as kind at value brackets ≡ Ok new → length new ≤ 16
+pub few : (kind : TokenKind) (at : ℕ) (value : Bool) (brackets new : List Bracket) → length brackets ≤ 16 → judged_as kind at value brackets ≡ Ok new → length new ≤ 16
 few kinds.OpenDict at value brackets new most put = few-opened at Key brackets new most (open-bracket at Key brackets new put)
 few kinds.CloseDict at value brackets new most put = few-closed brackets new most (inr put)
 few kinds.OpenArray at value brackets new most put = few-opened at Item brackets new most (open-bracket at Item brackets new put)

@@ -3,3 +3,4 @@ pub mod Shapes
 pub mod Spells
 pub mod Writes
 pub mod Kinds
+pub mod Firsts

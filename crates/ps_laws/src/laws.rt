@@ -9,6 +9,9 @@ ghost use Rattle.ps_tokens.specs.Objects.{objects_of};
 ghost use Rattle.ps_laws.specs.Spells.{Spells, Breaks};
 ghost use Rattle.ps_laws.specs.Writes.{WritesOut};
 ghost use Rattle.ps_laws.specs.Kinds.{kinds_written, begun_at};
+ghost use Rattle.ps_laws.specs.Firsts.{LeavesOpen, Misplaced};
+ghost use Rattle.ps_tokens.specs.declared.brackets.Bracket.{Bracket};
+ghost use Rattle.ps_tokens.specs.Brackets.{brackets_after};
 
 /// The tokens that bytes spell are read.
 pub fn spelled_is_read()
@@ -60,4 +63,21 @@ pub fn one_object_list()
 pub fn objects_write_their_tokens()
     ensures kinds { (bytes : List ℕ) (tokens : List Token) (objects : List Object) → objects_of bytes tokens ≡ Ok objects → map (λ t. t.kind) tokens ≡ kinds_written objects }
     ensures places { (bytes : List ℕ) (tokens : List Token) (objects : List Object) → objects_of bytes tokens ≡ Ok objects → begun_at tokens ≡ map (λ o. o.at) objects }
+{}
+
+/// A fault of tokens is at the first after which no further ones could complete the list; or the tokens end within a
+/// bracket, and then it is at the innermost that is open.
+pub fn object_fault_is_first()
+    ensures { (bytes : List ℕ) (tokens : List Token) (fault : JobFault) → objects_of bytes tokens ≡ Err fault → Misplaced bytes tokens fault }
+{}
+
+/// What tokens are that are out of place is their fault.
+pub fn first_misplaced_is_object_fault()
+    ensures { (bytes : List ℕ) (tokens : List Token) (fault : JobFault) → Misplaced bytes tokens fault → objects_of bytes tokens ≡ Err fault }
+{}
+
+/// The brackets that are open after tokens are those that the tokens leave open.
+pub fn open_brackets_are_left_open()
+    ensures left { (bytes : List ℕ) (tokens : List Token) (brackets : List Bracket) → brackets_after bytes tokens ≡ Ok brackets → LeavesOpen bytes brackets tokens }
+    ensures found { (bytes : List ℕ) (tokens : List Token) (brackets : List Bracket) → LeavesOpen bytes brackets tokens → brackets_after bytes tokens ≡ Ok brackets }
 {}
