@@ -8,3 +8,4 @@ pub mod Parsing
 pub mod TokenKinds
 pub mod Misplacing
 pub mod Opening
+pub mod Nesting

@@ -9,10 +9,10 @@ use Rattle.ps_tokens.specs.declared.object.Body.{Body}
 use Rattle.ps_tokens.specs.declared.object.Body.TheVariants.{Number, Truth, Null, Text, Literal, Operator, Array, Dict}
 use Rattle.ps_tokens.specs.declared.object.Object.{Object}
 use Rattle.ps_tokens.specs.Words.{spelling}
-use Rattle.ps_tokens.specs.Objects.{is_closing, objects_of}
+use Rattle.ps_tokens.specs.Objects.{is_closing, body_as, objects_of}
 use Rattle.ps_laws.specs.Writes.{IsBegunBy, Begins, IsPlain, Part, Writes, plain, array, dict, no_item, next_item, no_entry, next_entry}
-use Rattle.ps_laws.specs.Kinds.{first_kind, last_kinds, kinds_of, kinds_written, begun_at}
-use Rattle.ps_laws.proofs.Listing.{simple-plain, simple-literal, IsBracket, array-bracket, dict-bracket}
+use Rattle.ps_laws.specs.Kinds.{first_kind, last_kinds, kinds_of, kinds_written, begun_at, begun_as}
+use Rattle.ps_laws.proofs.Listing.{body-is, simple-plain, simple-literal, IsBracket, array-bracket, dict-bracket}
 use Rattle.ps_laws.proofs.Parsing.{objects-written}
 
 -- more than the objects that there are changes nothing
@@ -31,7 +31,7 @@ kinds_of-same (suc a) (suc b) (object ∷ objects) fits other =
     ∙ ap (λ ks. first_kind object.body ∷ (kinds_of b (take n objects) ++ (last_kinds object.body ++ ks))) outer
 
 -- an object, what stands within it, and what stands behind
-written-first : (object : Object) (inner rest : List Object) → object.inside ≡ length inner
+pub written-first : (object : Object) (inner rest : List Object) → object.inside ≡ length inner
     → kinds_written (object ∷ (inner ++ rest)) ≡ first_kind object.body ∷ (kinds_written inner ++ (last_kinds object.body ++ kinds_written rest))
 written-first object inner rest count =
     let most = length (inner ++ rest) in
@@ -52,7 +52,7 @@ first-kind (Operator name) kind text by = by.0
 first-kind Array kind text by = by
 first-kind Dict kind text by = by
 
-no-last-kind : (depth : ℕ) (body : Body) → IsPlain depth body → last_kinds body ≡ []
+pub no-last-kind : (depth : ℕ) (body : Body) → IsPlain depth body → last_kinds body ≡ []
 no-last-kind depth (Number n) is = refl
 no-last-kind depth (Truth b) is = refl
 no-last-kind depth Null is = refl
@@ -62,7 +62,7 @@ no-last-kind depth (Operator name) is = refl
 no-last-kind depth Array is = absurd is
 no-last-kind depth Dict is = absurd is
 
-abbrev kinds_in : List Token → List TokenKind
+abbrev pub kinds_in : List Token → List TokenKind
 kinds_in tokens = map (λ t. t.kind) tokens
 
 kinds_in-append : (front behind : List Token) → kinds_in (front ++ behind) ≡ kinds_in front ++ kinds_in behind
@@ -116,23 +116,23 @@ writes-kinds bytes (next_entry depth key token value more objects front behind t
     ∙ ap (λ ts. kinds_in ts ++ kinds_written rest) (sym are)
 
 -- where objects begin
-abbrev begins_object : Token → Bool
+abbrev pub begins_object : Token → Bool
 begins_object token = not (is_closing token.kind)
 
-begun_at-append : (front behind : List Token) → begun_at (front ++ behind) ≡ begun_at front ++ begun_at behind
+pub begun_at-append : (front behind : List Token) → begun_at (front ++ behind) ≡ begun_at front ++ begun_at behind
 begun_at-append front behind =
     ap (map (λ (t : Token). t.at)) (filter-append begins_object front behind) ∙ map-append (λ (t : Token). t.at) (filter begins_object front) (filter begins_object behind)
 
-begun_at-first : (token : Token) (tokens : List Token) → is_closing token.kind ≡ false → begun_at (token ∷ tokens) ≡ token.at ∷ begun_at tokens
+pub begun_at-first : (token : Token) (tokens : List Token) → is_closing token.kind ≡ false → begun_at (token ∷ tokens) ≡ token.at ∷ begun_at tokens
 begun_at-first token tokens opens = rw opens refl
 
-begun_at-end : (token : Token) → is_closing token.kind ≡ true → begun_at (token ∷ []) ≡ []
+pub begun_at-end : (token : Token) → is_closing token.kind ≡ true → begun_at (token ∷ []) ≡ []
 begun_at-end token closes = rw closes refl
 
-abbrev places : List Object → List ℕ
+abbrev pub places : List Object → List ℕ
 places objects = map (λ o. o.at) objects
 
-places-append : (front behind : List Object) → places (front ++ behind) ≡ places front ++ places behind
+pub places-append : (front behind : List Object) → places (front ++ behind) ≡ places front ++ places behind
 places-append front behind = map-append (λ (o : Object). o.at) front behind
 
 begun_at-bracket : (bytes : List ℕ) (object : Object) (opening closing : Token) (inner : List Object) (between : List Token) → IsBracket opening.kind closing.kind → Begins bytes object opening (length inner)
@@ -168,6 +168,56 @@ writes-places bytes (next_entry depth key token value more objects front behind 
 
 pub read-places : (bytes : List ℕ) (tokens : List Token) (objects : List Object) → objects_of bytes tokens ≡ Ok objects → begun_at tokens ≡ map (λ o. o.at) objects
 read-places bytes tokens objects is = writes-places bytes (objects-written bytes tokens objects is)
+
+-- what they are
+abbrev bodies : List Object → List Body
+bodies objects = map (λ o. o.body) objects
+
+bodies-append : (front behind : List Object) → bodies (front ++ behind) ≡ bodies front ++ bodies behind
+bodies-append front behind = map-append (λ (o : Object). o.body) front behind
+
+begun_as-append : (bytes : List ℕ) (front behind : List Token) → begun_as bytes (front ++ behind) ≡ begun_as bytes front ++ begun_as bytes behind
+begun_as-append bytes front behind =
+    ap (map (λ (t : Token). body_as t.kind (spelling bytes t))) (filter-append begins_object front behind)
+    ∙ map-append (λ (t : Token). body_as t.kind (spelling bytes t)) (filter begins_object front) (filter begins_object behind)
+
+begun_as-first : (bytes : List ℕ) (object : Object) (token : Token) (tokens : List Token) (n : ℕ) → is_closing token.kind ≡ false → Begins bytes object token n → begun_as bytes (token ∷ tokens) ≡ object.body ∷ begun_as bytes tokens
+begun_as-first bytes object token tokens n opens begins = rw opens (ap (λ b. b ∷ begun_as bytes tokens) (body-is object.body token.kind (spelling bytes token) begins.meaning))
+
+begun_as-end : (bytes : List ℕ) (token : Token) → is_closing token.kind ≡ true → begun_as bytes (token ∷ []) ≡ []
+begun_as-end bytes token closes = rw closes refl
+
+begun_as-bracket : (bytes : List ℕ) (object : Object) (opening closing : Token) (inner : List Object) (between : List Token) → IsBracket opening.kind closing.kind → Begins bytes object opening (length inner)
+    → begun_as bytes between ≡ bodies inner → begun_as bytes (opening ∷ (between ++ closing ∷ [])) ≡ bodies (object ∷ inner)
+begun_as-bracket bytes object opening closing inner between bracket begins within =
+    begun_as-first bytes object opening (between ++ closing ∷ []) (length inner) bracket.opening_is_no_end begins
+    ∙ ap (λ bs. object.body ∷ bs) (begun_as-append bytes between (closing ∷ []) ∙ ap (λ bs. begun_as bytes between ++ bs) (begun_as-end bytes closing bracket.closes) ∙ append-nil (begun_as bytes between) ∙ within)
+
+writes-bodies : (bytes : List ℕ) {part : Part} {depth : ℕ} {objects : List Object} {tokens : List Token} → Writes bytes part depth objects tokens → begun_as bytes tokens ≡ bodies objects
+writes-bodies bytes (plain depth object token is begins) =
+    begun_as-first bytes object token [] 0 (simple-plain depth object.body token.kind (spelling bytes token) is begins.meaning).closes_none begins
+writes-bodies bytes (array depth object opening closing inner between tokens is begins ends few within are) =
+    ap (begun_as bytes) are ∙ begun_as-bracket bytes object opening closing inner between (array-bracket object.body opening.kind closing.kind (spelling bytes opening) is begins.meaning ends) begins (writes-bodies bytes within)
+writes-bodies bytes (dict depth object opening closing inner between tokens is begins ends few within are) =
+    ap (begun_as bytes) are ∙ begun_as-bracket bytes object opening closing inner between (dict-bracket object.body opening.kind closing.kind (spelling bytes opening) is begins.meaning ends) begins (writes-bodies bytes within)
+writes-bodies bytes (no_item depth) = refl
+writes-bodies bytes (next_item depth first more objects front behind tokens one others is are) =
+    ap (begun_as bytes) are ∙ begun_as-append bytes front behind
+    ∙ ap (λ bs. bs ++ begun_as bytes behind) (writes-bodies bytes one)
+    ∙ ap (λ bs. bodies first ++ bs) (writes-bodies bytes others)
+    ∙ sym (bodies-append first more)
+    ∙ ap bodies (sym is)
+writes-bodies bytes (no_entry depth) = refl
+writes-bodies bytes (next_entry depth key token value more objects front behind tokens named begins one others is are) =
+    ap (begun_as bytes) are ∙ begun_as-first bytes key token (front ++ behind) 0 (simple-literal key.body token.kind (spelling bytes token) named begins.meaning).closes_none begins
+    ∙ ap (λ bs. key.body ∷ bs) (begun_as-append bytes front behind
+    ∙ ap (λ bs. bs ++ begun_as bytes behind) (writes-bodies bytes one)
+    ∙ ap (λ bs. bodies value ++ bs) (writes-bodies bytes others)
+    ∙ sym (bodies-append value more))
+    ∙ ap bodies (sym is)
+
+pub read-bodies : (bytes : List ℕ) (tokens : List Token) (objects : List Object) → objects_of bytes tokens ≡ Ok objects → begun_as bytes tokens ≡ map (λ o. o.body) objects
+read-bodies bytes tokens objects is = writes-bodies bytes (objects-written bytes tokens objects is)
 
 pub read-kinds : (bytes : List ℕ) (tokens : List Token) (objects : List Object) → objects_of bytes tokens ≡ Ok objects → map (λ t. t.kind) tokens ≡ kinds_written objects
 read-kinds bytes tokens objects is =

@@ -6,7 +6,8 @@ use Rattle.ps_tokens.specs.declared.token.TokenKind.TheVariants as kinds
 use Rattle.ps_tokens.specs.declared.object.Body.{Body}
 use Rattle.ps_tokens.specs.declared.object.Body.TheVariants.{Number, Truth, Null, Text, Literal, Operator, Array, Dict}
 use Rattle.ps_tokens.specs.declared.object.Object.{Object}
-use Rattle.ps_tokens.specs.Objects.{is_closing}
+use Rattle.ps_tokens.specs.Objects.{is_closing, body_as}
+use Rattle.ps_tokens.specs.Words.{spelling}
 
 -- the kind of the token that such an object begins with
 abbrev pub first_kind : Body → TokenKind
@@ -45,3 +46,7 @@ kinds_written objects = kinds_of (length objects) objects
 -- the offsets of the tokens that begin objects
 abbrev pub begun_at : List Token → List ℕ
 begun_at tokens = map (λ t. t.at) (filter (λ t. not (is_closing t.kind)) tokens)
+
+-- what the spellings of those tokens give
+abbrev pub begun_as : List ℕ → List Token → List Body
+begun_as bytes tokens = map (λ t. body_as t.kind (spelling bytes t)) (filter (λ t. not (is_closing t.kind)) tokens)

@@ -4,3 +4,4 @@ pub mod Spells
 pub mod Writes
 pub mod Kinds
 pub mod Firsts
+pub mod Nests

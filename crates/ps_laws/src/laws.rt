@@ -8,7 +8,8 @@ ghost use Rattle.ps_tokens.specs.declared.object.Object.{Object};
 ghost use Rattle.ps_tokens.specs.Objects.{objects_of};
 ghost use Rattle.ps_laws.specs.Spells.{Spells, Breaks};
 ghost use Rattle.ps_laws.specs.Writes.{WritesOut};
-ghost use Rattle.ps_laws.specs.Kinds.{kinds_written, begun_at};
+ghost use Rattle.ps_laws.specs.Kinds.{kinds_written, begun_at, begun_as};
+ghost use Rattle.ps_laws.specs.Nests.{AreNested};
 ghost use Rattle.ps_laws.specs.Firsts.{LeavesOpen, Misplaced};
 ghost use Rattle.ps_tokens.specs.declared.brackets.Bracket.{Bracket};
 ghost use Rattle.ps_tokens.specs.Brackets.{brackets_after};
@@ -59,10 +60,18 @@ pub fn one_object_list()
 {}
 
 /// Written out in order, each closing token behind the last object within its bracket, the objects that are read give the
-/// tokens: their kinds, and the offsets of those that begin objects.
+/// tokens: their kinds, and the offsets and the meanings of those that begin objects. They are nested as a job's objects are.
 pub fn objects_write_their_tokens()
     ensures kinds { (bytes : List ℕ) (tokens : List Token) (objects : List Object) → objects_of bytes tokens ≡ Ok objects → map (λ t. t.kind) tokens ≡ kinds_written objects }
     ensures places { (bytes : List ℕ) (tokens : List Token) (objects : List Object) → objects_of bytes tokens ≡ Ok objects → begun_at tokens ≡ map (λ o. o.at) objects }
+    ensures bodies { (bytes : List ℕ) (tokens : List Token) (objects : List Object) → objects_of bytes tokens ≡ Ok objects → begun_as bytes tokens ≡ map (λ o. o.body) objects }
+    ensures nested { (bytes : List ℕ) (tokens : List Token) (objects : List Object) → objects_of bytes tokens ≡ Ok objects → AreNested objects }
+{}
+
+/// Tokens of the kinds that nested objects are written with, with their offsets and meanings, are read as these objects.
+pub fn written_tokens_are_read()
+    ensures { (bytes : List ℕ) (tokens : List Token) (objects : List Object) → AreNested objects → map (λ t. t.kind) tokens ≡ kinds_written objects
+        → begun_at tokens ≡ map (λ o. o.at) objects → begun_as bytes tokens ≡ map (λ o. o.body) objects → objects_of bytes tokens ≡ Ok objects }
 {}
 
 /// A fault of tokens is at the first after which no further ones could complete the list; or the tokens end within a
