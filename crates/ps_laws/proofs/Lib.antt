@@ -1,11 +1,11 @@
 pub mod Fronts
-pub mod Numerals
-pub mod Pieces
-pub mod Reading
 pub mod Judging
 pub mod Listing
-pub mod Parsing
-pub mod TokenKinds
 pub mod Misplacing
-pub mod Opening
 pub mod Nesting
+pub mod Numerals
+pub mod Opening
+pub mod Parsing
+pub mod Pieces
+pub mod Reading
+pub mod TokenKinds
