@@ -1,0 +1,184 @@
+-- Tokens that write objects out have no fault, and leave the brackets as they were.
+use Rattle.std.proofs.Common.{◌≡◌, inl, inr, ℕ, suc, ◌<◌, Bool, true, false, ◌||◌, List, [], ◌∷◌, ◌++◌, length, fold, Ok, refl, sym, ap, ◌∙◌, subst, ⊎_elim, arith}
+use Rattle.std.specs.Prelude.{codes}
+use Rattle.std.specs.Str.{bytes_eq}
+use Rattle.std.proofs.lemmas.Bool.{false_from_ne_true, or_cases, or_left, or_right, ne_eqb}
+use Rattle.std.proofs.lemmas.Slice.Eq.{bytes_eq-Decides}
+use Rattle.std.proofs.lemmas.List.Sums.{fold-append}
+use Rattle.ps_tokens.specs.declared.token.Token.{Token}
+use Rattle.ps_tokens.specs.declared.token.TokenKind.{TokenKind}
+use Rattle.ps_tokens.specs.declared.token.TokenKind.TheVariants as kinds
+use Rattle.ps_tokens.specs.declared.brackets.Expects.{Expects}
+use Rattle.ps_tokens.specs.declared.brackets.Expects.TheVariants.{Item, Key, Value}
+use Rattle.ps_tokens.specs.declared.brackets.Bracket.{Bracket}
+use Rattle.ps_tokens.specs.declared.object.Body.{Body}
+use Rattle.ps_tokens.specs.declared.object.Body.TheVariants.{Number, Truth, Null, Text, Literal, Operator, Array, Dict}
+use Rattle.ps_tokens.specs.declared.object.Object.{Object}
+use Rattle.ps_tokens.specs.Words.{spelling, is_value_word}
+use Rattle.ps_tokens.specs.Brackets.{filled, is_key_due, opened, array_closed, dict_closed, value_put, operator_put, judged_as, judged, placed, judged_on}
+use Rattle.ps_laws.specs.Writes.{IsValueWord, truth_word, IsBegunBy, IsLiteral, IsPlain, Part, whole, items, entries, Writes, plain, array, dict, no_item, next_item, no_entry, next_entry}
+
+-- the words that are values
+pub value_word-from : (word : List ℕ) → IsValueWord word → is_value_word word ≡ true
+unfolding is_value_word
+value_word-from word (inl is) = or_left (bytes_eq word (codes "true") || bytes_eq word (codes "false")) (bytes_eq word (codes "null")) (or_left (bytes_eq word (codes "true")) (bytes_eq word (codes "false")) ((bytes_eq-Decides word (codes "true")).1 is))
+value_word-from word (inr (inl is)) = or_left (bytes_eq word (codes "true") || bytes_eq word (codes "false")) (bytes_eq word (codes "null")) (or_right (bytes_eq word (codes "true")) (bytes_eq word (codes "false")) ((bytes_eq-Decides word (codes "false")).1 is))
+value_word-from word (inr (inr is)) = or_right (bytes_eq word (codes "true") || bytes_eq word (codes "false")) (bytes_eq word (codes "null")) ((bytes_eq-Decides word (codes "null")).1 is)
+
+pub is_value-word : (word : List ℕ) → is_value_word word ≡ true → IsValueWord word
+unfolding is_value_word
+is_value-word word is =
+    ⊎_elim
+    (λ (t : (bytes_eq word (codes "true") || bytes_eq word (codes "false")) ≡ true).
+    ⊎_elim
+    (λ (u : bytes_eq word (codes "true") ≡ true). inl ((bytes_eq-Decides word (codes "true")).0 u))
+    (λ (u : bytes_eq word (codes "false") ≡ true). inr (inl ((bytes_eq-Decides word (codes "false")).0 u)))
+    (or_cases (bytes_eq word (codes "true")) (bytes_eq word (codes "false")) t))
+    (λ (t : bytes_eq word (codes "null") ≡ true). inr (inr ((bytes_eq-Decides word (codes "null")).0 t)))
+    (or_cases (bytes_eq word (codes "true") || bytes_eq word (codes "false")) (bytes_eq word (codes "null")) is)
+
+-- a token that is an object without brackets
+put-value : (brackets : List Bracket) → is_key_due brackets ≡ false → value_put brackets ≡ Ok (filled brackets)
+unfolding value_put
+put-value brackets due = rw due refl
+
+put-operator : (brackets : List Bracket) → length brackets ≡ 0 → operator_put brackets ≡ Ok (filled brackets)
+unfolding operator_put
+put-operator [] none = refl
+put-operator (b ∷ brackets) none = absurd (omega arith)
+
+put-word : (at : ℕ) (brackets : List Bracket) (value : Bool) → value ≡ true → is_key_due brackets ≡ false → judged_as kinds.Word at value brackets ≡ Ok (filled brackets)
+put-word at brackets value is due = rw is (put-value brackets due)
+
+truth_is_value : (b : Bool) → IsValueWord (truth_word b)
+truth_is_value true = inl refl
+truth_is_value false = inr (inl refl)
+
+judged-plain : (body : Body) (kind : TokenKind) (text : List ℕ) (at : ℕ) (brackets : List Bracket) → IsPlain (length brackets) body → IsBegunBy body kind text → is_key_due brackets ≡ false
+    → judged_as kind at (is_value_word text) brackets ≡ Ok (filled brackets)
+judged-plain (Number n) kind text at brackets is by due = ap (λ k. judged_as k at (is_value_word text) brackets) by ∙ put-value brackets due
+judged-plain (Truth b) kind text at brackets is by due =
+    ap (λ k. judged_as k at (is_value_word text) brackets) by.0 ∙ put-word at brackets (is_value_word text) (value_word-from text (subst IsValueWord (sym by.1) (truth_is_value b))) due
+judged-plain Null kind text at brackets is by due =
+    ap (λ k. judged_as k at (is_value_word text) brackets) by.0 ∙ put-word at brackets (is_value_word text) (value_word-from text (inr (inr by.1))) due
+judged-plain Text kind text at brackets is by due = ap (λ k. judged_as k at (is_value_word text) brackets) by ∙ put-value brackets due
+judged-plain (Literal name) kind text at brackets is by due = ap (λ k. judged_as k at (is_value_word text) brackets) by.0
+judged-plain (Operator name) kind text at brackets is by due =
+    let operator : is_value_word text ≡ false = false_from_ne_true (is_value_word text) (λ t. by.2 (is_value-word text t)) in
+    ap (λ k. judged_as k at (is_value_word text) brackets) by.0
+    ∙ ap (λ v. judged_as kinds.Word at v brackets) operator
+    ∙ put-operator brackets is
+judged-plain Array kind text at brackets is by due = absurd is
+judged-plain Dict kind text at brackets is by due = absurd is
+
+pub judged-literal : (body : Body) (kind : TokenKind) (text : List ℕ) (at : ℕ) (brackets : List Bracket) → IsLiteral body → IsBegunBy body kind text
+    → judged_as kind at (is_value_word text) brackets ≡ Ok (filled brackets)
+judged-literal body kind text at brackets is by =
+    let literal : IsBegunBy (Literal is.0) kind text = subst (λ b. IsBegunBy b kind text) is.1 by in
+    ap (λ k. judged_as k at (is_value_word text) brackets) literal.0
+
+-- a token that opens a bracket
+pub opened-bracket : (at : ℕ) (expects : Expects) (brackets : List Bracket) → is_key_due brackets ≡ false → length brackets < 16
+    → opened at expects brackets ≡ Ok (record { at = at; expects = expects } ∷ filled brackets)
+unfolding opened
+opened-bracket at expects brackets due few = rw (due, ne_eqb (length brackets) 16 (λ e. omega arith)) refl
+
+closed-array : (at : ℕ) (brackets : List Bracket) → array_closed (record { at = at; expects = Item } ∷ brackets) ≡ Ok brackets
+unfolding array_closed
+closed-array at brackets = refl
+
+closed-dict : (at : ℕ) (brackets : List Bracket) → dict_closed (record { at = at; expects = Key } ∷ brackets) ≡ Ok brackets
+unfolding dict_closed
+closed-dict at brackets = refl
+
+pub length-filled : (brackets : List Bracket) → length (filled brackets) ≡ length brackets
+length-filled [] = refl
+length-filled (b ∷ brackets) = refl
+
+-- how brackets stand before a part, and behind it
+abbrev Fits : Part → ℕ → List Bracket → Type 0
+Fits whole depth brackets = (length brackets ≡ depth) × (is_key_due brackets ≡ false)
+Fits items depth brackets = (length brackets ≡ depth) × (is_key_due brackets ≡ false) × (filled brackets ≡ brackets)
+Fits entries depth brackets = (at : ℕ) × (outer : List Bracket) × (brackets ≡ record { at = at; expects = Key } ∷ outer) × (suc (length outer) ≡ depth)
+
+abbrev left : Part → List Bracket → List Bracket
+left whole brackets = filled brackets
+left items brackets = brackets
+left entries brackets = brackets
+
+-- one token, and then more
+pub judged-first : (bytes : List ℕ) (brackets new : List Bracket) (token : Token) (tokens : List Token) → judged bytes token brackets ≡ Ok new
+    → fold (judged_on bytes) (Ok brackets) (token ∷ tokens) ≡ fold (judged_on bytes) (Ok new) tokens
+judged-first bytes brackets new token tokens is = ap (λ r. fold (judged_on bytes) (placed token.at r) tokens) is
+
+pub judged-last : (bytes : List ℕ) (brackets new : List Bracket) (token : Token) → judged bytes token brackets ≡ Ok new → fold (judged_on bytes) (Ok brackets) (token ∷ []) ≡ Ok new
+judged-last bytes brackets new token is = judged-first bytes brackets new token [] is
+
+pub judged-append : (bytes : List ℕ) (brackets middle : List Bracket) (front behind : List Token) → fold (judged_on bytes) (Ok brackets) front ≡ Ok middle
+    → fold (judged_on bytes) (Ok brackets) (front ++ behind) ≡ fold (judged_on bytes) (Ok middle) behind
+judged-append bytes brackets middle front behind is = fold-append (judged_on bytes) (Ok brackets) front behind ∙ ap (λ r. fold (judged_on bytes) r behind) is
+
+-- a bracket, what stands within it, and its end
+judged-bracket : (bytes : List ℕ) (brackets : List Bracket) (expects : Expects) (opening closing : Token) (between : List Token)
+    → judged bytes opening brackets ≡ Ok (record { at = opening.at; expects = expects } ∷ filled brackets)
+    → fold (judged_on bytes) (Ok (record { at = opening.at; expects = expects } ∷ filled brackets)) between ≡ Ok (record { at = opening.at; expects = expects } ∷ filled brackets)
+    → judged bytes closing (record { at = opening.at; expects = expects } ∷ filled brackets) ≡ Ok (filled brackets)
+    → fold (judged_on bytes) (Ok brackets) (opening ∷ (between ++ closing ∷ [])) ≡ Ok (filled brackets)
+judged-bracket bytes brackets expects opening closing between first within last =
+    let inner = record { at = opening.at; expects = expects } ∷ filled brackets in
+    judged-first bytes brackets inner opening (between ++ closing ∷ []) first
+    ∙ judged-append bytes inner inner between (closing ∷ []) within
+    ∙ judged-last bytes inner (filled brackets) closing last
+
+kind-array : (body : Body) (kind : TokenKind) (text : List ℕ) → body ≡ Array → IsBegunBy body kind text → kind ≡ kinds.OpenArray
+kind-array body kind text is by = subst (λ b. IsBegunBy b kind text) is by
+
+kind-dict : (body : Body) (kind : TokenKind) (text : List ℕ) → body ≡ Dict → IsBegunBy body kind text → kind ≡ kinds.OpenDict
+kind-dict body kind text is by = subst (λ b. IsBegunBy b kind text) is by
+
+-- what is written out leaves no bracket open
+pub writes-judged : (bytes : List ℕ) {part : Part} {depth : ℕ} {objects : List Object} {tokens : List Token} → Writes bytes part depth objects tokens
+    → (brackets : List Bracket) → Fits part depth brackets → fold (judged_on bytes) (Ok brackets) tokens ≡ Ok (left part brackets)
+writes-judged bytes (plain depth object token is begins) brackets fits =
+    let simple : IsPlain (length brackets) object.body = subst (λ d. IsPlain d object.body) (sym fits.0) is in
+    judged-last bytes brackets (filled brackets) token (judged-plain object.body token.kind (spelling bytes token) token.at brackets simple begins.meaning fits.1)
+writes-judged bytes (array depth object opening closing inner between tokens is begins ends few within are) brackets fits =
+    let open_kind = kind-array object.body opening.kind (spelling bytes opening) is begins.meaning in
+    let few_open : length brackets < 16 = omega (arith, fits.0) in
+    let first : judged bytes opening brackets ≡ Ok (record { at = opening.at; expects = Item } ∷ filled brackets) =
+    ap (λ k. judged_as k opening.at (is_value_word (spelling bytes opening)) brackets) open_kind ∙ opened-bracket opening.at Item brackets fits.1 few_open in
+    let new = record { at = opening.at; expects = Item } ∷ filled brackets in
+    let last : judged bytes closing new ≡ Ok (filled brackets) =
+    ap (λ k. judged_as k closing.at (is_value_word (spelling bytes closing)) new) ends ∙ closed-array opening.at (filled brackets) in
+    let count : suc (length (filled brackets)) ≡ suc depth = ap (λ n. suc n) (length-filled brackets ∙ fits.0) in
+    ap (fold (judged_on bytes) (Ok brackets)) are
+    ∙ judged-bracket bytes brackets Item opening closing between first (writes-judged bytes within new (count, refl, refl)) last
+writes-judged bytes (dict depth object opening closing inner between tokens is begins ends few within are) brackets fits =
+    let open_kind = kind-dict object.body opening.kind (spelling bytes opening) is begins.meaning in
+    let few_open : length brackets < 16 = omega (arith, fits.0) in
+    let first : judged bytes opening brackets ≡ Ok (record { at = opening.at; expects = Key } ∷ filled brackets) =
+    ap (λ k. judged_as k opening.at (is_value_word (spelling bytes opening)) brackets) open_kind ∙ opened-bracket opening.at Key brackets fits.1 few_open in
+    let new = record { at = opening.at; expects = Key } ∷ filled brackets in
+    let last : judged bytes closing new ≡ Ok (filled brackets) =
+    ap (λ k. judged_as k closing.at (is_value_word (spelling bytes closing)) new) ends ∙ closed-dict opening.at (filled brackets) in
+    let count : suc (length (filled brackets)) ≡ suc depth = ap (λ n. suc n) (length-filled brackets ∙ fits.0) in
+    ap (fold (judged_on bytes) (Ok brackets)) are
+    ∙ judged-bracket bytes brackets Key opening closing between first (writes-judged bytes within new (opening.at, filled brackets, refl, count)) last
+writes-judged bytes (no_item depth) brackets fits = refl
+writes-judged bytes (next_item depth first rest objects front behind tokens one more is are) brackets fits =
+    ap (fold (judged_on bytes) (Ok brackets)) are
+    ∙ judged-append bytes brackets (filled brackets) front behind (writes-judged bytes one brackets (fits.0, fits.1))
+    ∙ ap (λ b. fold (judged_on bytes) (Ok b) behind) fits.2
+    ∙ writes-judged bytes more brackets fits
+writes-judged bytes (no_entry depth) brackets fits = refl
+writes-judged bytes (next_entry depth key token value rest objects front behind tokens named begins one more is are) brackets fits =
+    let at = fits.0 in
+    let outer = fits.1 in
+    let due = record { at = at; expects = Key } ∷ outer in
+    let after_key = record { at = at; expects = Value } ∷ outer in
+    ap (fold (judged_on bytes) (Ok brackets)) are
+    ∙ ap (λ b. fold (judged_on bytes) (Ok b) (token ∷ (front ++ behind))) fits.2
+    ∙ judged-first bytes due after_key token (front ++ behind) (judged-literal key.body token.kind (spelling bytes token) token.at due named begins.meaning)
+    ∙ judged-append bytes after_key due front behind (writes-judged bytes one after_key (fits.3, refl))
+    ∙ writes-judged bytes more due (at, outer, refl, fits.3)
+    ∙ ap (λ b. Ok b) (sym fits.2)

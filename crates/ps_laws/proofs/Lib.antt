@@ -1,0 +1,11 @@
+pub mod Fronts
+pub mod Judging
+pub mod Listing
+pub mod Misplacing
+pub mod Nesting
+pub mod Numerals
+pub mod Opening
+pub mod Parsing
+pub mod Pieces
+pub mod Reading
+pub mod TokenKinds

@@ -1,0 +1,5 @@
+use Rattle.ps_laws.proofs.Parsing.{one-list}
+use Rattle.ps_laws.proofs.laws.one_object_list.Goals as goal
+
+pub returns : goal.returns
+returns c = one-list

@@ -1,0 +1,5 @@
+use Rattle.ps_laws.proofs.Reading.{tokens-spelled}
+use Rattle.ps_laws.proofs.laws.read_is_spelled.Goals as goal
+
+pub returns : goal.returns
+returns c = tokens-spelled

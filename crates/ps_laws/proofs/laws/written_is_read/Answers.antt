@@ -1,0 +1,5 @@
+use Rattle.ps_laws.proofs.Parsing.{written-objects}
+use Rattle.ps_laws.proofs.laws.written_is_read.Goals as goal
+
+pub returns : goal.returns
+returns c = written-objects

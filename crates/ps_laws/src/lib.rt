@@ -1,0 +1,6 @@
+//! Laws of a job's tokens and objects: what the definitions mean, in the subject's words.
+#![tactic(auto)]
+
+pub mod laws;
+#[cfg(test)]
+mod tests;
