@@ -102,13 +102,12 @@ none_both f g (suc n) h = halves (any_below f n) (f n) (any_below (λ c. f c && 
 never-shut : (page : PageParts) (p : At) → any_below (λ c. shuts (ink_at page c).kind) (plates page) ≡ false → shut page p ≡ false
 never-shut page p h = none_both (λ c. shuts (ink_at page c).kind) (λ c. nat_lt 0 (tint page c p)) (plates page) h
 
-both_open : (a b : Bool) → a ≡ false → b ≡ false → true ≡ (not a && not b)
-both_open a b ea eb = rw (ea, eb) refl
+both_open : (v a b : Bool) → a ≡ false → b ≡ false → v ≡ (v && (not a && not b))
+both_open true a b ea eb = rw (ea, eb) refl
+both_open false a b ea eb = refl
 
-pub all_open : (page : PageParts) (p q : At) (some_shut : Bool) → some_shut ≡ any_below (λ c. shuts (ink_at page c).kind) (plates page) → some_shut ≡ false → true ≡ (not (shut page p) && not (shut page q))
-all_open page p q some_shut e h =
-    let none = sym e ∙ h in
-    both_open (shut page p) (shut page q) (never-shut page p none) (never-shut page q none)
+pub all_open : (page : PageParts) (p q : At) (v : Bool) → any_below (λ c. shuts (ink_at page c).kind) (plates page) ≡ false → v ≡ (v && (not (shut page p) && not (shut page q)))
+all_open page p q v none = both_open v (shut page p) (shut page q) (never-shut page p none) (never-shut page q none)
 
 pub long_plane : (page : PageParts) (c : ℕ) → IsPage page → c < plates page → length (plane_at page.planes c).tints ≡ width page * height page
 long_plane page c valid lc = (plane_of page c valid lc).full ∙ ap (λ (w : ℕ). w * (plane_at page.planes c).height) (valid.agree c lc).wide ∙ ap (λ (h : ℕ). width page * h) (valid.agree c lc).tall

@@ -70,7 +70,10 @@ fn note_falls(from: &[u16], to: &[u16], step: u16, noted: &mut [bool])
     ensures each { (k : ℕ) → k < length from.now → slice_index_or noted.new k false ≡ (slice_index_or noted.old k false || nat_le step (slice_index from.now k - slice_index to.now k)) }
 {
     for k in 0..from.len() {
-        noted[k] = noted[k] || step <= from[k].saturating_sub(to[k]);
+        // both are worked out first, without a branch, so that many samples go at once
+        let before = noted[k];
+        let falls = step <= from[k].saturating_sub(to[k]);
+        noted[k] = before || falls;
     }
 }
 
@@ -141,29 +144,30 @@ fn some_ink_shuts(page: &Page) -> bool
     any
 }
 
-/// Whether neither sample is shut.
-fn are_open(page: &Page, some_shut: bool, p: At, q: At) -> bool
-    requires some_shut { some_shut ≡ any_below (λ c. shuts (ink_at page.now c).kind) (plates page.now) }
-    requires p { InPage page.now p }
-    requires q { InPage page.now q }
-    ensures { result ≡ (not (shut page.now p) && not (shut page.now q)) }
+/// Keeps of the pairs at which some plate falls those at which some plate rises.
+fn keep_risen(fallen: &mut [bool], risen: &[bool])
+    requires { length risen.now ≡ length fallen.old }
+    ensures len { length fallen.new ≡ length fallen.old }
+    ensures each { (k : ℕ) → k < length fallen.old → slice_index_or fallen.new k false ≡ (slice_index_or fallen.old k false && slice_index_or risen.now k false) }
 {
-    !some_shut || (!is_shut(page, p) && !is_shut(page, q))
+    for k in 0..fallen.len() {
+        let falls = fallen[k];
+        let rises = risen[k];
+        fallen[k] = falls && rises;
+    }
 }
 
-/// Keeps of the pairs at which some plate falls those at which some plate rises and neither sample is shut.
-fn keep_open(page: &Page, some_shut: bool, p: At, q: At, fallen: &mut [bool], risen: &[bool])
-    requires some_shut { some_shut ≡ any_below (λ c. shuts (ink_at page.now c).kind) (plates page.now) }
+/// Keeps the pairs of which neither sample is shut.
+fn keep_open(page: &Page, p: At, q: At, kept: &mut [bool])
     requires p_row { p.y < height page.now }
     requires q_row { q.y < height page.now }
-    requires p_inside { p.x + length fallen.old ≤ width page.now }
-    requires q_inside { q.x + length fallen.old ≤ width page.now }
-    requires risen { length risen.now ≡ length fallen.old }
-    ensures len { length fallen.new ≡ length fallen.old }
-    ensures each { (k : ℕ) → k < length fallen.old → slice_index_or fallen.new k false ≡ ((slice_index_or fallen.old k false && slice_index_or risen.now k false) && (not (shut page.now (along p k)) && not (shut page.now (along q k)))) }
+    requires p_inside { p.x + length kept.old ≤ width page.now }
+    requires q_inside { q.x + length kept.old ≤ width page.now }
+    ensures len { length kept.new ≡ length kept.old }
+    ensures each { (k : ℕ) → k < length kept.old → slice_index_or kept.new k false ≡ (slice_index_or kept.old k false && (not (shut page.now (along p k)) && not (shut page.now (along q k)))) }
 {
     let _valid = page.plates();
-    for k in 0..fallen.len() {
+    for k in 0..kept.len() {
         let one = At {
             x: p.x + k as u32,
             y: p.y,
@@ -172,7 +176,21 @@ fn keep_open(page: &Page, some_shut: bool, p: At, q: At, fallen: &mut [bool], ri
             x: q.x + k as u32,
             y: q.y,
         };
-        fallen[k] = fallen[k] && risen[k] && are_open(page, some_shut, one, two);
+        kept[k] = kept[k] && !is_shut(page, one) && !is_shut(page, two);
+    }
+}
+
+/// Keeps the pairs of which neither sample is shut, without a look at them where no ink of the page shuts any.
+fn keep_unshut(page: &Page, p: At, q: At, kept: &mut [bool])
+    requires p_row { p.y < height page.now }
+    requires q_row { q.y < height page.now }
+    requires p_inside { p.x + length kept.old ≤ width page.now }
+    requires q_inside { q.x + length kept.old ≤ width page.now }
+    ensures len { length kept.new ≡ length kept.old }
+    ensures each { (k : ℕ) → k < length kept.old → slice_index_or kept.new k false ≡ (slice_index_or kept.old k false && (not (shut page.now (along p k)) && not (shut page.now (along q k)))) }
+{
+    if some_ink_shuts(page) {
+        keep_open(page, p, q, kept);
     }
 }
 
@@ -191,7 +209,8 @@ pub fn decide_pairs(page: &Page, zone: u32, p: At, q: At, decided: &mut [bool], 
 {
     if page.params(zone).enabled {
         find_steps(page, zone, p, q, decided, risen);
-        keep_open(page, some_ink_shuts(page), p, q, decided, risen);
+        keep_risen(decided, risen);
+        keep_unshut(page, p, q, decided);
     } else {
         decided.fill(false);
     }
