@@ -2,6 +2,8 @@
 #![tactic(auto)]
 
 mod deciding;
+mod pairs;
+mod plain;
 mod row;
 
 pub use row::edge_row;

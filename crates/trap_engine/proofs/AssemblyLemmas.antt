@@ -1,6 +1,6 @@
 -- The parts that a job and plates make are those of a page.
-use Rattle.std.proofs.Common.{◌≡◌, ℕ, ◌≤◌, ◌<◌, ◌-◌, ◌+◌, ◌*◌, List, [], ◌∷◌, length, map, filter, get_or, All, AllPairs, Option, Some, None, false, refl, sym, ap, ◌∙◌, subst, arith, rules}
-use Rattle.std.specs.List.{find, list_any, sum_by, sum}
+use Rattle.std.proofs.Common.{◌≡◌, ℕ, ◌≤◌, ◌-◌, List, [], ◌∷◌, length, map, get_or, All, Option, Some, None, refl, sym, ap, ◌∙◌, subst, arith}
+use Rattle.std.specs.List.{list_any, sum_by, sum}
 use Rattle.std.specs.Str.{bytes_eq}
 use Rattle.std.proofs.lemmas.List.{length-map}
 use Rattle.std.proofs.lemmas.List.Elements.{All-map, All-filter}
@@ -13,7 +13,7 @@ use Rattle.job_reader.specs.declared.job.Job.{Job}
 use Rattle.page_model.specs.declared.parts.Ink.{Ink}
 use Rattle.page_model.specs.declared.parts.Limit.{Limit}
 use Rattle.page_model.specs.declared.parts.Zone.{Zone}
-use Rattle.page_model.specs.Conditions.{IsParts, IsPlane, IsInk, IsZone, AreLimits}
+use Rattle.page_model.specs.Conditions.{IsParts, IsPlane, IsInk, IsZone}
 use Rattle.page_model.specs.Page.{no_zone}
 use Rattle.pgm_plates.specs.declared.plate.Plate.{Plate}
 use Rattle.pgm_plates.specs.Planes.{plane_of}

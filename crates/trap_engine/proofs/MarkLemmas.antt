@@ -1,4 +1,4 @@
-use Rattle.std.proofs.Common.{◌≡◌, ℕ, ◌+◌, ◌*◌, ◌-◌, ◌/◌, ◌%◌, ◌<◌, ◌≤◌, Bool, true, false, ◌&&◌, nat_le, nat_lt, inl, inr, refl, sym, ◌∙◌, ap, arith, List, length, slice_index, if◌then◌else◌, bit_and}
+use Rattle.std.proofs.Common.{◌≡◌, ℕ, ◌+◌, ◌*◌, ◌-◌, ◌/◌, ◌%◌, ◌<◌, ◌≤◌, Bool, true, false, ◌&&◌, nat_le, nat_lt, inl, inr, refl, sym, ◌∙◌, ap, arith, List, ◌++◌, length, slice_index, if◌then◌else◌, bit_and}
 use Rattle.std.specs.Prelude.{◌==◌}
 use Rattle.std.proofs.lemmas.Bool.{cases_eq, eq-eqb, le-leb}
 use Rattle.std.proofs.lemmas.Bool.Decides.{nat_tests}
@@ -10,9 +10,11 @@ use Rattle.page_model.specs.Deciding.{decides, lower_mark, mark, right_mark}
 use Rattle.page_model.specs.Edges.{lower_edge, right_edge}
 use Rattle.page_model.specs.Marks.{IsMarked}
 use Rattle.page_model.specs.Page.{height, samples, width}
+use Rattle.page_model.specs.Words.{list_below}
 use Rattle.trap_engine.specs.Rows.{AreRows}
 use Rattle.trap_engine.specs.Whole.{sample_marks}
-use Rattle.trap_engine.proofs.WholeLemmas.{sample_marks-at, sample_marks-length}
+use Rattle.trap_engine.proofs.WholeLemmas.{sample_marks-at}
+use Rattle.trap_engine.proofs.ZoneRows.{rows_more}
 
 right_bit : (r l : Bool) → (bit_and ((if r then 1 else 0) + (if l then 2 else 0)) 1 == 1) ≡ r
 right_bit true true = refl
@@ -46,6 +48,10 @@ unfolding edge_decides
 lower_mark-is page x y l =
     all_three ((2 * x + (2 * y + 1)) % 2 == 1) (nat_le (2 * x + 2) (2 * width page)) (nat_le (2 * y + 1 + 2) (2 * height page)) (decides page (lower_edge x y)) (eq-eqb _ _ (omega arith)) (le-leb _ _ (omega (arith, l)))
     ∙ ap (λ (b : Bool). b && decides page (lower_edge x y)) (across_test y (height page))
+
+-- the marks of the rows above y, and then those of row y
+pub marks_more : (page : PageParts) (y : ℕ) (above row : List ℕ) → above ≡ list_below (λ k. mark page (k / width page) (k % width page)) (y * width page) → length row ≡ width page → ((x : ℕ) → x < width page → slice_index row x ≡ mark page y x) → above ++ row ≡ list_below (λ k. mark page (k / width page) (k % width page)) ((y + 1) * width page)
+marks_more page y above row held long each = rows_more (λ k. mark page (k / width page) (k % width page)) (width page) y above row held long (λ x l. each x l ∙ sym (ap (λ (n : ℕ). mark page n ((y * width page + x) % width page)) (div-mul-add y (width page) x l) ∙ ap (mark page y) (mod-mul-add y (width page) x l)))
 
 -- what the marks of a sample tell of its edges
 tells : (page : PageParts) (x2 y2 : ℕ) → (x2 + y2) % 2 ≡ 1 → x2 + 2 ≤ 2 * width page → y2 / 2 < height page → (bit_and (mark page (y2 / 2) (x2 / 2)) (2 - x2 % 2) == 2 - x2 % 2) ≡ edge_decides page x2 y2
@@ -84,10 +90,9 @@ held_marks page w from to all bits ew some less inside ea rows =
           let lp : y * width page + x < samples page = omega (arith, mul-add-lt y (width page) x (height page) ly (rw ew at lx)) in
           rw (ea, ew) (sample_marks-at page (y * width page + x) 0 lp ∙ ap (λ (n : ℕ). mark page n ((y * width page + x) % width page)) (div-mul-add y (width page) x (rw ew at lx)) ∙ ap (mark page y) (mod-mul-add y (width page) x (rw ew at lx)))
 
-pub rows_fit : (page : PageParts) (w from to : ℕ) (marks : List ℕ) → w ≡ width page → from < to → to ≤ height page → marks ≡ sample_marks page → from * w + (to - from) * w ≤ length marks
-rows_fit page w from to marks ew less inside em =
+pub rows_fit : (page : PageParts) (w from to : ℕ) (all : List ℕ) → w ≡ width page → from < to → to ≤ height page → length all ≡ samples page → from * w + (to - from) * w ≤ length all
+rows_fit page w from to all ew less inside long =
     let whole : from * w + (to - from) * w ≡ to * w = omega (arith, held_place from to w 0 (omega (arith, less))) in
-    let long : length marks ≡ samples page = ap length em ∙ sample_marks-length page in
     let fits : to * w ≤ height page * width page = mul-le-mul inside (omega (arith, ew)) in
     omega (arith, whole, long, fits)
 

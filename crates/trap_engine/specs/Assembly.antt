@@ -1,5 +1,5 @@
 -- The page that a job and plates make.
-use Rattle.std.specs.Prelude.{◌≡◌, ◌⊎◌, ℕ, Bool, ◌≤◌, length, List, Option, Some, None, Result, Ok, Err, map, filter, find, is_none, if◌then◌else◌, All}
+use Rattle.std.specs.Prelude.{◌≡◌, ℕ, Bool, ◌≤◌, length, List, Option, Some, None, Result, Ok, Err, map, filter, find, is_none, if◌then◌else◌, All}
 use Rattle.std.specs.List.{list_any, position}
 use Rattle.std.specs.Str.{bytes_eq}
 use Rattle.job_reader.specs.declared.job.Job.{Job}
@@ -14,7 +14,7 @@ use Rattle.pgm_plates.specs.declared.plate.Plate.{Plate}
 use Rattle.pgm_plates.specs.Planes.{plane_of}
 use Rattle.pgm_plates.specs.Plates.{IsPlate}
 use Rattle.trap_report.specs.declared.refusal.Refusal.{Refusal}
-use Rattle.trap_report.specs.declared.refusal.Refusal.TheVariants.{NoDetails, Page, Memory}
+use Rattle.trap_report.specs.declared.refusal.Refusal.TheVariants.{NoDetails, Page}
 
 -- the details of a colorant's name, if the job has any
 abbrev pub detail_of : List Ink → List ℕ → Option Ink

@@ -1,128 +1,20 @@
 // The marks of the page's samples: whether the edges to their right and below them decide.
 
-ghost use Rattle.std.specs.Prelude.{◌≡◌, ◌<◌, ◌≤◌, ◌+◌, ◌*◌, ◌-◌, IfOk, length};
+ghost use Rattle.std.specs.Prelude.{◌≡◌, ◌<◌, ◌≤◌, ◌+◌, ◌*◌, ◌-◌, [], IfOk, length};
 ghost use Rattle.page_model.specs.Columns.{AreMarks};
-ghost use Rattle.page_model.specs.Deciding.{decides, decides_in, lower_mark, mark, right_mark};
-ghost use Rattle.page_model.specs.Edges.{IsEdge};
 ghost use Rattle.page_model.specs.Marks.{held_rows};
-ghost use Rattle.page_model.specs.Page.{InPage, height, samples, sample_at};
-ghost use Rattle.page_model.specs.Zones.{zone_of};
+ghost use Rattle.page_model.specs.Page.{height};
+ghost use Rattle.page_model.specs.Zones.{AreZones};
 ghost use Rattle.trap_engine.specs.Rows.{AreRows};
 ghost use Rattle.trap_engine.specs.Whole.{sample_marks, sample_zones};
 
-use crate::grid::{sample_of, samples_of};
-use crate::memory::push;
-use crate::reads::zone_number;
-use neutral_density::{is_shut, steps_apart};
-use page_model::edges::{first_of, second_of};
-use page_model::laws::zone_law;
+use crate::memory::{extend, filled};
+use edge_rule::edge_row;
 use page_model::list::List;
 use page_model::marks::Marks;
 use page_model::page::Page;
-use page_model::parts::{At, EdgeAt, OutOfMemory};
+use page_model::parts::OutOfMemory;
 use std::alloc::Global;
-
-/// The zone of a sample, from the zones of all.
-#[tactic(auto, using(crate::proofs::WholeLemmas::places))]
-fn zone_among(page: &Page, zones: &[u8], p: At) -> u32
-    requires sample { InPage page.now p }
-    requires zones { zones.now ≡ sample_zones page.now }
-    ensures value { result ≡ zone_of page.now p }
-    ensures known { result < length page.now.zones }
-{
-    zone_law(page, p);
-    let width = page.width() as usize;
-    let k = p.y as usize * width + p.x as usize;
-    u32::from(zone_number(page, zones, k))
-}
-
-/// Whether the edge decides, its samples lying in these zones.
-#[tactic(auto, unfolding(page_model::specs::Deciding::decides_in))]
-fn is_deciding(page: &Page, a: u32, b: u32, e: EdgeAt) -> bool
-    requires edge { IsEdge page.now e }
-    requires a { a < length page.now.zones }
-    requires b { b < length page.now.zones }
-    ensures { result ≡ decides_in page.now a b e }
-{
-    let _valid = page.plates();
-    let one = first_of(e);
-    let two = second_of(e);
-    !is_shut(page, one)
-        && !is_shut(page, two)
-        && page.params(a).enabled
-        && page.params(b).enabled
-        && steps_apart(page, a, one, two)
-        && steps_apart(page, b, one, two)
-}
-
-/// Whether the edge decides.
-#[tactic(auto, unfolding(page_model::specs::Deciding::decides))]
-fn decides_at(page: &Page, zones: &[u8], e: EdgeAt) -> bool
-    requires edge { IsEdge page.now e }
-    requires zones { zones.now ≡ sample_zones page.now }
-    ensures { result ≡ decides page.now e }
-{
-    let _valid = page.plates();
-    let a = zone_among(page, zones, first_of(e));
-    let b = zone_among(page, zones, second_of(e));
-    is_deciding(page, a, b, e)
-}
-
-/// Whether the edge to the right of p decides.
-fn is_right_marked(page: &Page, zones: &[u8], p: At) -> bool
-    requires sample { InPage page.now p }
-    requires zones { zones.now ≡ sample_zones page.now }
-    ensures { result ≡ right_mark page.now p.y p.x }
-{
-    let _valid = page.plates();
-    let x2 = 2 * p.x + 1;
-    let y2 = 2 * p.y;
-    p.x + 1 < page.width() && decides_at(page, zones, EdgeAt { x2, y2 })
-}
-
-/// Whether the edge below p decides.
-fn is_lower_marked(page: &Page, zones: &[u8], p: At) -> bool
-    requires sample { InPage page.now p }
-    requires zones { zones.now ≡ sample_zones page.now }
-    ensures { result ≡ lower_mark page.now p.y p.x }
-{
-    let _valid = page.plates();
-    let x2 = 2 * p.x;
-    let y2 = 2 * p.y + 1;
-    p.y + 1 < page.height() && decides_at(page, zones, EdgeAt { x2, y2 })
-}
-
-/// The marks of p: 1 for its right edge and 2 for its lower edge.
-fn marks_at(page: &Page, zones: &[u8], p: At) -> u8
-    requires sample { InPage page.now p }
-    requires zones { zones.now ≡ sample_zones page.now }
-    ensures { result ≡ mark page.now p.y p.x }
-{
-    let right = if is_right_marked(page, zones, p) {
-        1
-    } else {
-        0
-    };
-    let lower = if is_lower_marked(page, zones, p) {
-        2
-    } else {
-        0
-    };
-    right + lower
-}
-
-/// The marks of all samples, row by row.
-#[tactic(auto, unfolding(crate::specs::Whole::sample_marks))]
-pub fn marks_of(alloc: Global, page: &Page, zones: &[u8]) -> Result<List<u8>, OutOfMemory>
-    requires { zones.now ≡ sample_zones page.now }
-    ensures { IfOk result (λ marks. marks ≡ sample_marks page.now) }
-{
-    let mut marks = List::new(alloc);
-    for k in 0..samples_of(page) {
-        push(&mut marks, marks_at(page, zones, sample_of(page, k)))?;
-    }
-    Ok(marks)
-}
 
 /// Of a list with `width` items for each row, the rows from one on and before another.
 fn rows_between<'a>(all: &'a [u8], width: u32, from: u32, to: u32) -> &'a [u8]
@@ -135,6 +27,37 @@ fn rows_between<'a>(all: &'a [u8], width: u32, from: u32, to: u32) -> &'a [u8]
     let start = from as usize * width as usize;
     let long = (to - from) as usize * width as usize;
     &all[start..start + long]
+}
+
+/// The zones of row y, and none below the last row.
+fn zones_of_row<'a>(page: &Page, zones: &'a [u8], y: u32) -> &'a [u8]
+    requires zones { zones.now ≡ sample_zones page.now }
+    requires row { y ≤ height page.now }
+    ensures zones { y < height page.now → AreZones page.now y result.now }
+    ensures last { y ≡ height page.now → result.now ≡ [] }
+{
+    if y < page.height() {
+        rows_between(zones, page.width(), y, y + 1)
+    } else {
+        &[]
+    }
+}
+
+/// The marks of all samples, row by row.
+#[tactic(auto, unfolding(crate::specs::Whole::sample_marks))]
+pub fn marks_of(alloc: Global, page: &Page, zones: &[u8]) -> Result<List<u8>, OutOfMemory>
+    requires { zones.now ≡ sample_zones page.now }
+    ensures { IfOk result (λ marks. marks ≡ sample_marks page.now) }
+{
+    let mut row = filled(alloc, 0u8, page.width() as usize)?;
+    let mut marks = Vec::new(alloc);
+    for y in 0..page.height() {
+        let here = zones_of_row(page, zones, y);
+        let below = zones_of_row(page, zones, y + 1);
+        edge_row(page, y, here, below, row.as_mut_slice());
+        extend(&mut marks, row.as_slice())?;
+    }
+    Ok(List::from_vec(marks))
 }
 
 /// The marks of the rows from one on and before another.

@@ -14,6 +14,16 @@ pub fn push<T: Drop>(list: &mut List<T>, item: T) -> Result<(), OutOfMemory>
     }
 }
 
+/// Adds the items at the end.
+pub fn extend(items: &mut Vec<u8>, more: &[u8]) -> Result<(), OutOfMemory>
+    ensures { OnOk result (items.new.items ≡ items.old.items ++ more.now) }
+{
+    match items.extend_from_slice(more) {
+        Ok(()) => Ok(()),
+        Err(_) => Err(OutOfMemory),
+    }
+}
+
 /// So many copies of an item.
 pub fn filled<T: Copy + Drop>(alloc: Global, item: T, count: usize) -> Result<Vec<T>, OutOfMemory>
     ensures { IfOk result (λ items. vec_len items ≡ count) }

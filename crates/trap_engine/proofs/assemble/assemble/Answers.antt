@@ -1,4 +1,4 @@
-use Rattle.std.proofs.Common.{◌≡◌, sym, subst}
+use Rattle.std.proofs.Common.{sym, subst}
 use Rattle.page_model.specs.Conditions.{IsParts}
 use Rattle.trap_engine.proofs.AssemblyLemmas.{is_parts}
 use Rattle.trap_engine.proofs.assemble.assemble.Goals as goal

@@ -1,6 +1,5 @@
-use Rattle.std.proofs.Common.{◌≡◌, ◌<◌, length, arith}
+use Rattle.std.proofs.Common.{◌<◌, length, arith}
 use Rattle.std.proofs.lemmas.List.Edits.{map_over_more}
-use Rattle.page_model.specs.declared.parts.Zone.{Zone}
 use Rattle.trap_engine.specs.Assembly.{zone_for}
 use Rattle.trap_engine.proofs.assemble.zones_of.Goals as goal
 

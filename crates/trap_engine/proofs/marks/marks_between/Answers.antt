@@ -1,13 +1,14 @@
-use Rattle.std.proofs.Common.{arith, ◌∙◌, ap, subst, sym}
+use Rattle.std.proofs.Common.{arith, ◌∙◌, ap, length, subst, sym}
 use Rattle.page_model.proofs.PageLemmas.{plane_of}
 use Rattle.page_model.specs.Columns.{AreMarks}
 use Rattle.page_model.specs.Marks.{Marked, held_rows}
 use Rattle.trap_engine.proofs.MarkLemmas.{held_is, held_marks, rows_fit, rows_held}
 use Rattle.trap_engine.proofs.StandingLemmas.{some_width}
+use Rattle.trap_engine.proofs.WholeLemmas.{sample_marks-length}
 use Rattle.trap_engine.proofs.marks.marks_between.Goals as goal
 
 pub rows_between-requires-clause-inside : goal.rows_between-requires-clause-inside
-rows_between-requires-clause-inside c = rows_fit _ _ _ _ _ c.width-width.ensures.value c.requires.some c.requires.inside c.requires.marks
+rows_between-requires-clause-inside c = rows_fit c.args.page.now c.width-width.result c.args.from c.args.to c.args.marks.now c.width-width.ensures.value c.requires.some c.requires.inside (ap length c.requires.marks ∙ sample_marks-length c.args.page.now)
 
 pub new-requires : goal.new-requires
 new-requires c =

@@ -8,7 +8,7 @@ use Rattle.trap_engine.proofs.zones.zones_of.Given as goal
 abbrev pub invariant-loop-y : goal.invariant-loop-y
 invariant-loop-y l = record {
   end : l.y-end ≡ height l.page;
-  done : l.zones ≡ list_below (λ k. zone_of l.page (sample_at l.page k)) (l.y * width l.page);
+  done : l.zones.items ≡ list_below (λ k. zone_of l.page (sample_at l.page k)) (l.y * width l.page);
   room : vec_len l.row ≡ width l.page;
   spans : l.spans ≡ width l.page;
 }

@@ -1,0 +1,217 @@
+// Pairs of neighbouring samples that lie in one zone, many at a time: those of a row and their right neighbours, or those
+// of a row and the samples below them. The planes are gone over one by one, each by slices of its rows.
+
+ghost use Rattle.std.specs.Prelude.{◌≡◌, ◌<◌, ◌≤◌, ◌+◌, ◌*◌, ◌-◌, ◌&&◌, ◌||◌, not, nat_le, false, ℕ, length, slice_index, slice_index_or};
+ghost use Rattle.edge_rule.specs.Pairs.{along, falls_by, pair_decides};
+ghost use Rattle.page_model.specs.declared.parts.At.{At as Sample};
+ghost use Rattle.page_model.specs.Apart.{falls};
+ghost use Rattle.page_model.specs.Density.{shut, shuts};
+ghost use Rattle.page_model.specs.Page.{InPage, height, ink_at, plates, tint, width};
+ghost use Rattle.page_model.specs.Planes.{tints_of};
+ghost use Rattle.page_model.specs.Words.{any_below};
+
+use neutral_density::{is_shut, kind_counts};
+use page_model::page::Page;
+use page_model::parts::{At, InkKind};
+
+/// The least fall of plate c, in tints, that is a step in the zone, or `None` where no fall is.
+fn least_step(page: &Page, zone: u32, c: u32) -> Option<u16>
+    requires zone { zone < length page.now.zones }
+    requires plate { c < plates page.now }
+    ensures { (p q : Sample) → InPage page.now p → InPage page.now q → falls page.now zone p q c ≡ falls_by result (tint page.now c p) (tint page.now c q) }
+{
+    let _valid = page.plates();
+    let limit = u64::from(page.step_limit(zone, c)) * u64::from(page.maxval());
+    let least = limit.div_ceil(10_000).max(1);
+    if kind_counts(page.ink(c).kind) && least <= 65_535 {
+        Some(least as u16)
+    } else {
+        None
+    }
+}
+
+/// The tints of plate c.
+#[tactic(auto, using(crate::proofs::PairLemmas::long_plane))]
+fn plane_tints<'a>(page: &'a Page, c: u32) -> &'a [u16]
+    requires plate { c < plates page.now }
+    ensures tints { result.now ≡ tints_of page.now.planes c }
+    ensures len { length result.now ≡ width page.now * height page.now }
+{
+    let planes = page.planes().as_slice();
+    planes[c as usize].tints.as_slice()
+}
+
+/// So many items from a place on.
+fn part_of<'a>(items: &'a [u16], start: usize, count: usize) -> &'a [u16]
+    requires inside { start + count ≤ length items.now }
+    ensures len { length result.now ≡ count }
+    ensures each { (k : ℕ) → k < count → slice_index result.now k ≡ slice_index items.now (start + k) }
+{
+    &items[start..start + count]
+}
+
+/// The tints of plate c at so many samples of a row, from p on.
+fn tints_from<'a>(page: &'a Page, c: u32, p: At, count: usize) -> &'a [u16]
+    requires plate { c < plates page.now }
+    requires row { p.y < height page.now }
+    requires inside { p.x + count ≤ width page.now }
+    ensures len { length result.now ≡ count }
+    ensures each { (k : ℕ) → k < count → slice_index result.now k ≡ tint page.now c (along p k) }
+{
+    let start = p.y as usize * page.width() as usize + p.x as usize;
+    part_of(plane_tints(page, c), start, count)
+}
+
+/// Notes where the tint falls by at least the step.
+fn note_falls(from: &[u16], to: &[u16], step: u16, noted: &mut [bool])
+    requires to { length to.now ≡ length from.now }
+    requires noted { length noted.old ≡ length from.now }
+    ensures len { length noted.new ≡ length noted.old }
+    ensures each { (k : ℕ) → k < length from.now → slice_index_or noted.new k false ≡ (slice_index_or noted.old k false || nat_le step (slice_index from.now k - slice_index to.now k)) }
+{
+    for k in 0..from.len() {
+        // both are worked out first, without a branch, so that many samples go at once
+        let before = noted[k];
+        let falls = step <= from[k].saturating_sub(to[k]);
+        noted[k] = before || falls;
+    }
+}
+
+/// Notes at which pairs plate c falls by a step, and at which it rises by one.
+fn note_steps(page: &Page, zone: u32, c: u32, p: At, q: At, fallen: &mut [bool], risen: &mut [bool])
+    requires zone { zone < length page.now.zones }
+    requires plate { c < plates page.now }
+    requires p_row { p.y < height page.now }
+    requires q_row { q.y < height page.now }
+    requires p_inside { p.x + length fallen.old ≤ width page.now }
+    requires q_inside { q.x + length fallen.old ≤ width page.now }
+    requires risen { length risen.old ≡ length fallen.old }
+    ensures fallen { (k : ℕ) → k < length fallen.old → slice_index_or fallen.new k false ≡ (slice_index_or fallen.old k false || falls page.now zone (along p k) (along q k) c) }
+    ensures risen { (k : ℕ) → k < length fallen.old → slice_index_or risen.new k false ≡ (slice_index_or risen.old k false || falls page.now zone (along q k) (along p k) c) }
+    ensures fallen_len { length fallen.new ≡ length fallen.old }
+    ensures risen_len { length risen.new ≡ length fallen.old }
+{
+    match least_step(page, zone, c) {
+        Some(step) => {
+            let here = tints_from(page, c, p, fallen.len());
+            let there = tints_from(page, c, q, fallen.len());
+            note_falls(here, there, step, fallen);
+            note_falls(there, here, step, risen);
+        }
+        None => {}
+    }
+}
+
+/// Finds at which pairs some plate falls by a step, and at which some plate rises by one.
+fn find_steps(page: &Page, zone: u32, p: At, q: At, fallen: &mut [bool], risen: &mut [bool])
+    requires zone { zone < length page.now.zones }
+    requires p_row { p.y < height page.now }
+    requires q_row { q.y < height page.now }
+    requires p_inside { p.x + length fallen.old ≤ width page.now }
+    requires q_inside { q.x + length fallen.old ≤ width page.now }
+    requires risen { length risen.old ≡ length fallen.old }
+    ensures fallen { (k : ℕ) → k < length fallen.old → slice_index_or fallen.new k false ≡ any_below (falls page.now zone (along p k) (along q k)) (plates page.now) }
+    ensures risen { (k : ℕ) → k < length fallen.old → slice_index_or risen.new k false ≡ any_below (falls page.now zone (along q k) (along p k)) (plates page.now) }
+    ensures fallen_len { length fallen.new ≡ length fallen.old }
+    ensures risen_len { length risen.new ≡ length fallen.old }
+{
+    fallen.fill(false);
+    risen.fill(false);
+    for c in 0..page.plates() {
+        note_steps(page, zone, c, p, q, fallen, risen);
+    }
+}
+
+/// Whether the ink of plate c shuts the samples that it covers.
+fn ink_shuts(page: &Page, c: u32) -> bool
+    requires { c < plates page.now }
+    ensures { result ≡ shuts (ink_at page.now c).kind }
+{
+    match page.ink(c).kind {
+        InkKind::OpaqueIgnore => true,
+        InkKind::Normal | InkKind::Transparent | InkKind::Opaque => false,
+    }
+}
+
+/// Whether some ink of the page shuts the samples that it covers.
+fn some_ink_shuts(page: &Page) -> bool
+    ensures { result ≡ any_below (λ c. shuts (ink_at page.now c).kind) (plates page.now) }
+{
+    let mut any = false;
+    for c in 0..page.plates() {
+        any = any || ink_shuts(page, c);
+    }
+    any
+}
+
+/// Keeps of the pairs at which some plate falls those at which some plate rises.
+fn keep_risen(fallen: &mut [bool], risen: &[bool])
+    requires { length risen.now ≡ length fallen.old }
+    ensures len { length fallen.new ≡ length fallen.old }
+    ensures each { (k : ℕ) → k < length fallen.old → slice_index_or fallen.new k false ≡ (slice_index_or fallen.old k false && slice_index_or risen.now k false) }
+{
+    for k in 0..fallen.len() {
+        let falls = fallen[k];
+        let rises = risen[k];
+        fallen[k] = falls && rises;
+    }
+}
+
+/// Keeps the pairs of which neither sample is shut.
+fn keep_open(page: &Page, p: At, q: At, kept: &mut [bool])
+    requires p_row { p.y < height page.now }
+    requires q_row { q.y < height page.now }
+    requires p_inside { p.x + length kept.old ≤ width page.now }
+    requires q_inside { q.x + length kept.old ≤ width page.now }
+    ensures len { length kept.new ≡ length kept.old }
+    ensures each { (k : ℕ) → k < length kept.old → slice_index_or kept.new k false ≡ (slice_index_or kept.old k false && (not (shut page.now (along p k)) && not (shut page.now (along q k)))) }
+{
+    let _valid = page.plates();
+    for k in 0..kept.len() {
+        let one = At {
+            x: p.x + k as u32,
+            y: p.y,
+        };
+        let two = At {
+            x: q.x + k as u32,
+            y: q.y,
+        };
+        kept[k] = kept[k] && !is_shut(page, one) && !is_shut(page, two);
+    }
+}
+
+/// Keeps the pairs of which neither sample is shut, without a look at them where no ink of the page shuts any.
+fn keep_unshut(page: &Page, p: At, q: At, kept: &mut [bool])
+    requires p_row { p.y < height page.now }
+    requires q_row { q.y < height page.now }
+    requires p_inside { p.x + length kept.old ≤ width page.now }
+    requires q_inside { q.x + length kept.old ≤ width page.now }
+    ensures len { length kept.new ≡ length kept.old }
+    ensures each { (k : ℕ) → k < length kept.old → slice_index_or kept.new k false ≡ (slice_index_or kept.old k false && (not (shut page.now (along p k)) && not (shut page.now (along q k)))) }
+{
+    if some_ink_shuts(page) {
+        keep_open(page, p, q, kept);
+    }
+}
+
+/// Finds at which pairs a trap may be made, both samples of each lying in the zone: the first ones from p on, and the
+/// second ones from q on. What `risen` holds afterwards means nothing.
+pub fn decide_pairs(page: &Page, zone: u32, p: At, q: At, decided: &mut [bool], risen: &mut [bool])
+    requires zone { zone < length page.now.zones }
+    requires p_row { p.y < height page.now }
+    requires q_row { q.y < height page.now }
+    requires p_inside { p.x + length decided.old ≤ width page.now }
+    requires q_inside { q.x + length decided.old ≤ width page.now }
+    requires risen { length risen.old ≡ length decided.old }
+    ensures each { (k : ℕ) → k < length decided.old → slice_index_or decided.new k false ≡ pair_decides page.now zone (along p k) (along q k) }
+    ensures len { length decided.new ≡ length decided.old }
+    ensures risen_len { length risen.new ≡ length decided.old }
+{
+    if page.params(zone).enabled {
+        find_steps(page, zone, p, q, decided, risen);
+        keep_risen(decided, risen);
+        keep_unshut(page, p, q, decided);
+    } else {
+        decided.fill(false);
+    }
+}

@@ -1,0 +1,90 @@
+// The samples of a row that lie in one zone with their right and lower neighbours, many at a time.
+
+ghost use Rattle.std.specs.Prelude.{◌≡◌, ◌<◌, ◌≤◌, ◌+◌, ◌-◌, false, ℕ, if◌then◌else◌, length, slice_index, slice_index_or};
+ghost use Rattle.edge_rule.specs.Pairs.{LieIn};
+ghost use Rattle.page_model.specs.Deciding.{lower_mark, mark, right_mark};
+
+use crate::pairs::decide_pairs;
+use page_model::page::Page;
+use page_model::parts::At;
+
+/// How many samples are marked at once at most.
+const SPAN: usize = 1024;
+
+/// How many samples from x on lie in the zone of x, with the samples to their right and below them: at most 1024, and none
+/// where there is no row below.
+pub fn plain_from(here: &[u8], below: &[u8], x: usize) -> usize
+    requires { x < length here.now }
+    ensures fits { result ≤ 1024 }
+    ensures inside { x + result < length here.now }
+    ensures low { result ≤ length below.now - x }
+    ensures here { (k : ℕ) → k ≤ result → slice_index here.now (x + k) ≡ slice_index here.now x }
+    ensures below { (k : ℕ) → k < result → slice_index below.now (x + k) ≡ slice_index here.now x }
+{
+    let zone = here[x];
+    let most = SPAN
+        .min(here.len() - 1 - x)
+        .min(below.len().saturating_sub(x));
+    let mut count = 0;
+    while count < most && here[x + count + 1] == zone && below[x + count] == zone {
+        count += 1;
+    }
+    count
+}
+
+/// Writes the marks of which these are the two halves.
+fn write_marks(right: &[bool], lower: &[bool], out: &mut [u8])
+    requires right { length right.now ≡ length out.old }
+    requires lower { length lower.now ≡ length out.old }
+    ensures len { length out.new ≡ length out.old }
+    ensures each { (k : ℕ) → k < length out.old → slice_index out.new k ≡ (if slice_index_or right.now k false then 1 else 0) + (if slice_index_or lower.now k false then 2 else 0) }
+{
+    for k in 0..out.len() {
+        let one = if right[k] { 1 } else { 0 };
+        let two = if lower[k] { 2 } else { 0 };
+        out[k] = one + two;
+    }
+}
+
+/// Finds which of so many samples of row y, from x on, have a deciding edge to their right.
+fn find_right(page: &Page, y: u32, zone: u32, x: u32, right: &mut [bool], risen: &mut [bool])
+    requires lie { LieIn page.now y x (length right.old) zone }
+    requires risen { length risen.old ≡ length right.old }
+    ensures each { (k : ℕ) → k < length right.old → slice_index_or right.new k false ≡ right_mark page.now y (x + k) }
+    ensures len { length right.new ≡ length right.old }
+    ensures risen_len { length risen.new ≡ length right.old }
+{
+    let _valid = page.plates();
+    decide_pairs(page, zone, At { x, y }, At { x: x + 1, y }, right, risen);
+}
+
+/// Finds which of so many samples of row y, from x on, have a deciding edge below them.
+fn find_lower(page: &Page, y: u32, zone: u32, x: u32, lower: &mut [bool], risen: &mut [bool])
+    requires lie { LieIn page.now y x (length lower.old) zone }
+    requires risen { length risen.old ≡ length lower.old }
+    ensures each { (k : ℕ) → k < length lower.old → slice_index_or lower.new k false ≡ lower_mark page.now y (x + k) }
+    ensures len { length lower.new ≡ length lower.old }
+    ensures risen_len { length risen.new ≡ length lower.old }
+{
+    let _valid = page.plates();
+    decide_pairs(page, zone, At { x, y }, At { x, y: y + 1 }, lower, risen);
+}
+
+/// Writes the marks of so many samples of row y, from x on.
+pub fn mark_plain(page: &Page, y: u32, zone: u32, x: u32, out: &mut [u8])
+    requires lie { LieIn page.now y x (length out.old) zone }
+    requires few { length out.old ≤ 1024 }
+    ensures each { (k : ℕ) → k < length out.old → slice_index out.new k ≡ mark page.now y (x + k) }
+    ensures len { length out.new ≡ length out.old }
+{
+    let count = out.len();
+    let mut right = [false; SPAN];
+    let mut lower = [false; SPAN];
+    let mut risen = [false; SPAN];
+    let right = &mut right[..count];
+    let lower = &mut lower[..count];
+    let risen = &mut risen[..count];
+    find_right(page, y, zone, x, right, risen);
+    find_lower(page, y, zone, x, lower, risen);
+    write_marks(right, lower, out);
+}
