@@ -1,11 +1,36 @@
 //! Laws of the definitions: each is the contract of a function that does nothing.
 
-ghost use Rattle.std.specs.Prelude.{◌≡◌, ℕ, List};
+ghost use Rattle.std.specs.Prelude.{◌≡◌, ◌++◌, ℕ, List, Ok};
+ghost use Rattle.ps_tokens.specs.declared.object.Object.{Object};
 ghost use Rattle.job_reader.specs.declared.job.Job.{Job};
+ghost use Rattle.job_reader.specs.declared.state.State.{State};
+ghost use Rattle.job_reader.specs.Calls.{Statement};
+ghost use Rattle.job_reader.specs.InForce.{after_all, resolution_in_force, trapping_in_force, details_in_force, params_in_force, limits_in_force};
 ghost use Rattle.job_reader.specs.InRange.{IsJob};
-ghost use Rattle.job_reader.specs.Jobs.{job_of};
+ghost use Rattle.job_reader.specs.Jobs.{job_of, read_from};
+ghost use Rattle.job_reader.specs.Starts.{nothing_read};
 
 /// Each job that bytes spell is in range.
 pub fn read_jobs_are_in_range()
     ensures { (bytes : List ℕ) (job : Job) → job_of bytes ≡ Ok job → IsJob job }
+{}
+
+/// However a job's statements are cut in two, the later ones go on with what the earlier ones left in force.
+pub fn statements_go_on()
+    ensures { (objects : List Object) (len : ℕ) (earlier later : List Statement) (now next : State) → after_all objects now earlier ≡ Ok next
+        → read_from objects len now (earlier ++ later) ≡ read_from objects len next later }
+{}
+
+/// Behind statements without a fault the page's entries are those of the last earlier `setpagedevice` that names them.
+pub fn page_device_is_of_the_last_that_names_it()
+    ensures resolution { (objects : List Object) (earlier : List Statement) (now : State) → after_all objects nothing_read earlier ≡ Ok now → now.resolution ≡ resolution_in_force objects earlier }
+    ensures trapping { (objects : List Object) (earlier : List Statement) (now : State) → after_all objects nothing_read earlier ≡ Ok now → now.trapping ≡ trapping_in_force objects earlier }
+    ensures details { (objects : List Object) (earlier : List Statement) (now : State) → after_all objects nothing_read earlier ≡ Ok now → now.details ≡ details_in_force objects earlier }
+{}
+
+/// Behind statements without a fault each parameter, and the step limits, are those of the last earlier `settrapparams`
+/// that names them.
+pub fn trap_params_are_of_the_last_that_names_them()
+    ensures params { (objects : List Object) (earlier : List Statement) (now : State) → after_all objects nothing_read earlier ≡ Ok now → now.params ≡ params_in_force objects earlier }
+    ensures limits { (objects : List Object) (earlier : List Statement) (now : State) → after_all objects nothing_read earlier ≡ Ok now → now.limits ≡ limits_in_force objects earlier }
 {}
