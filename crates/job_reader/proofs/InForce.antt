@@ -168,7 +168,6 @@ same_params a b width black color density step sliding scaling enabled =
 
 -- behind statements without a fault
 module _ (objects : List Object) (earlier : List Statement) (now : State) (done : after_all objects nothing_read earlier ≡ Ok now) where
-
   pub resolution-in_force : now.resolution ≡ resolution_in_force objects earlier
   resolution-in_force =
       let look : ℕ → Option ℕ = value_of (codes "HWResolution") objects in

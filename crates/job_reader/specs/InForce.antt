@@ -1,5 +1,5 @@
 -- What is in force at a statement, told by the statements that stand before it.
-use Rattle.std.specs.Prelude.{ℕ, Bool, true, false, List, [], ◌∷◌, Option, Some, None, Result, Ok, Err, slice_get, codes, if◌then◌else◌}
+use Rattle.std.specs.Prelude.{◌≡◌, ◌++◌, All, map, ℕ, Bool, true, false, List, [], ◌∷◌, Option, Some, None, Result, Ok, Err, slice_get, codes, if◌then◌else◌}
 use Rattle.std.specs.List.{filter_map, last_or}
 use Rattle.std.specs.Result.{result_unwrap_or}
 use Rattle.page_model.specs.declared.parts.Ink.{Ink}
@@ -133,3 +133,17 @@ params_in_force objects earlier = record {
 -- the step limits that the last `settrapparams` with ColorantZoneDetails names, else none
 abbrev pub limits_in_force : List Object → List Statement → List Limit
 limits_in_force objects earlier = result_unwrap_or (limits_at [] objects (last_naming is_settrapparams (λ dict. last_of objects dict (codes "ColorantZoneDetails")) earlier)) []
+
+-- Statements that name nothing.
+
+-- the keys that `setpagedevice` knows
+abbrev pub device_keys : List (List ℕ)
+device_keys = codes "HWResolution" ∷ codes "Trapping" ∷ codes "TrappingDetails" ∷ []
+
+-- the keys that `settrapparams` knows
+abbrev pub params_keys : List (List ℕ)
+params_keys = map name_of (TrapWidth ∷ BlackWidth ∷ BlackColorLimit ∷ BlackDensityLimit ∷ StepLimit ∷ SlidingTrapLimit ∷ TrapColorScaling ∷ Enabled ∷ []) ++ codes "ColorantZoneDetails" ∷ []
+
+-- a dictionary has no entry of these keys
+abbrev pub NamesNone : List Object → ℕ → List (List ℕ) → Type 0
+NamesNone objects dict keys = All (λ key. last_of objects dict key ≡ None) keys
