@@ -1,6 +1,10 @@
 pub mod DetailRanges
+pub mod InForce
 pub mod JobRanges
 pub mod LimitRanges
+pub mod NamingNone
+pub mod OneAnswer
 pub mod ParamRanges
 pub mod Reading
+pub mod Setting
 pub mod StateRanges

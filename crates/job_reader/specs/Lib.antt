@@ -1,5 +1,6 @@
 pub mod Calls
 pub mod Device
+pub mod InForce
 pub mod InRange
 pub mod Jobs
 pub mod Operands

@@ -1,6 +1,7 @@
 -- What a call that performs a statement answers.
 use Rattle.std.specs.Prelude.{◌≡◌, ℕ, List, Option, Some, None, Result, Ok, Err}
 use Rattle.page_model.specs.declared.parts.Limit.{Limit}
+use Rattle.ps_tokens.specs.declared.faults.FaultKind.TheVariants.{WrongOperands}
 use Rattle.ps_tokens.specs.declared.faults.JobFault.{JobFault}
 use Rattle.ps_tokens.specs.declared.faults.JobRefusal.{JobRefusal}
 use Rattle.ps_tokens.specs.declared.faults.JobRefusal.TheVariants as refusals
@@ -24,3 +25,7 @@ MayReplace (Err refusal) now meant = Fails refusal meant
 abbrev pub placed : PathRefusal → ℕ → JobRefusal
 placed (paths.Fault kind) at = refusals.Fault (record { kind = kind; at = at })
 placed paths.OutOfMemory at = refusals.OutOfMemory
+
+-- the refusal of wrong operands at their operator
+abbrev pub wrong_operands : ℕ → JobRefusal
+wrong_operands at = refusals.Fault (record { kind = WrongOperands; at = at })

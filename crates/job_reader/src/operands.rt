@@ -1,7 +1,9 @@
 ghost use Rattle.std.specs.Prelude.{◌≡◌, ◌<◌, ◌^◌, Some};
 ghost use Rattle.job_reader.specs.Operands.{is_one_dict, is_dict_between, two_numbers, number_at};
+ghost use Rattle.job_reader.specs.Performing.{wrong_operands};
 
 use colorant_details::shades::is_dict;
+use ps_tokens::faults::{FaultKind, JobFault, JobRefusal};
 use ps_tokens::object::{Body, Object};
 
 /// Whether the operands between two places are one dictionary.
@@ -50,4 +52,14 @@ pub fn number_at(objects: &[Object], place: usize) -> Option<i64>
         },
         None => None,
     }
+}
+
+/// The refusal of operands that are not exactly the operator's own, at the operator's offset.
+pub fn wrong_operands(at: u32) -> JobRefusal
+    ensures { result ≡ wrong_operands at }
+{
+    JobRefusal::Fault(JobFault {
+        kind: FaultKind::WrongOperands,
+        at,
+    })
 }

@@ -4,13 +4,13 @@ ghost use Rattle.job_reader.specs.Performing.{Performs};
 ghost use Rattle.job_reader.specs.Statements.{performed};
 
 use crate::device::set_page_device;
-use crate::drawing::{line_by, line_to, move_by, move_to};
-use crate::operands::{is_one_dict, two_numbers};
+use crate::drawing::{close_path, line_by, line_to, move_by, move_to, new_path};
+use crate::operands::{is_one_dict, wrong_operands};
 use crate::operators::Operator;
 use crate::parameters::set_trap_params;
 use crate::state::State;
 use crate::zones::make_zone;
-use ps_tokens::faults::{FaultKind, JobFault, JobRefusal};
+use ps_tokens::faults::JobRefusal;
 use ps_tokens::object::ObjectList;
 use std::alloc::Global;
 
@@ -32,62 +32,32 @@ pub fn perform(
     ensures { Performs result state.new (performed objects.now from place at operator state.old) }
 {
     let all = objects.as_slice();
-    let wrong = Err(JobRefusal::Fault(JobFault {
-        kind: FaultKind::WrongOperands,
-        at,
-    }));
     match operator {
         Operator::SetPageDevice => {
             if is_one_dict(all, from, place) {
                 set_page_device(alloc, objects, from, state)
             } else {
-                wrong
+                Err(wrong_operands(at))
             }
         }
         Operator::SetTrapParams => {
             if is_one_dict(all, from, place) {
                 set_trap_params(alloc, objects, from, state)
             } else {
-                wrong
+                Err(wrong_operands(at))
             }
         }
-        Operator::NewPath => {
-            if from == place {
-                state.path.clear();
-                Ok(())
-            } else {
-                wrong
-            }
-        }
-        Operator::ClosePath => {
-            if from == place {
-                state.path.close();
-                Ok(())
-            } else {
-                wrong
-            }
-        }
-        Operator::MoveTo => match two_numbers(all, from, place) {
-            Some((x, y)) => move_to(state, at, x, y),
-            None => wrong,
-        },
-        Operator::LineTo => match two_numbers(all, from, place) {
-            Some((x, y)) => line_to(state, at, x, y),
-            None => wrong,
-        },
-        Operator::RelativeMoveTo => match two_numbers(all, from, place) {
-            Some((dx, dy)) => move_by(state, at, dx, dy),
-            None => wrong,
-        },
-        Operator::RelativeLineTo => match two_numbers(all, from, place) {
-            Some((dx, dy)) => line_by(state, at, dx, dy),
-            None => wrong,
-        },
+        Operator::NewPath => new_path(all, from, place, at, state),
+        Operator::ClosePath => close_path(all, from, place, at, state),
+        Operator::MoveTo => move_to(all, from, place, at, state),
+        Operator::LineTo => line_to(all, from, place, at, state),
+        Operator::RelativeMoveTo => move_by(all, from, place, at, state),
+        Operator::RelativeLineTo => line_by(all, from, place, at, state),
         Operator::SetTrapZone => {
             if from == place {
                 make_zone(alloc, state, at)
             } else {
-                wrong
+                Err(wrong_operands(at))
             }
         }
         Operator::ShowPage => Ok(()),

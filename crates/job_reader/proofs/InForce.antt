@@ -1,0 +1,247 @@
+-- The state that is carried forward has what the earlier statements put in force.
+use Rattle.std.proofs.Common.{◌≡◌, ℕ, Bool, true, false, cond, List, [], ◌∷◌, ◌++◌, Option, Some, None, Result, Ok, Err, refl, sym, ap, ◌∙◌}
+use Rattle.std.specs.Prelude.{slice_get, codes}
+use Rattle.std.specs.List.{cons_option, filter_map, last_or}
+use Rattle.std.specs.Result.{result_unwrap_or}
+use Rattle.page_model.specs.declared.parts.Ink.{Ink}
+use Rattle.page_model.specs.declared.parts.Limit.{Limit}
+use Rattle.page_model.specs.declared.parts.TrapParams.{TrapParams}
+use Rattle.ps_tokens.specs.declared.faults.FaultKind.{FaultKind}
+use Rattle.ps_tokens.specs.declared.faults.FaultKind.TheVariants.{AfterShowpage}
+use Rattle.ps_tokens.specs.declared.faults.JobFault.{JobFault}
+use Rattle.ps_tokens.specs.declared.faults.Key.{Key}
+use Rattle.ps_tokens.specs.declared.faults.Key.TheVariants.{TrapWidth, BlackWidth, BlackColorLimit, BlackDensityLimit, StepLimit, SlidingTrapLimit, TrapColorScaling, Enabled, Trapping}
+use Rattle.ps_tokens.specs.declared.object.Body.{Body}
+use Rattle.ps_tokens.specs.declared.object.Object.{Object}
+use Rattle.ps_tokens.specs.Dictionaries.{last_of}
+use Rattle.ps_tokens.specs.Misfits.{misfit_of}
+use Rattle.trap_params.specs.Limits.{limits_at}
+use Rattle.trap_params.specs.Parameters.{name_of}
+use Rattle.trap_params.specs.Settings.{number_of, truth_of, set_at, set_by, number_after, truth_after}
+use Rattle.colorant_details.specs.Details.{details_of}
+use Rattle.job_reader.specs.declared.job.Job.{Job}
+use Rattle.job_reader.specs.declared.operators.Operator.{Operator}
+use Rattle.job_reader.specs.declared.operators.Operator.TheVariants.{SetPageDevice, SetTrapParams, NewPath, ClosePath, MoveTo, LineTo, RelativeMoveTo, RelativeLineTo, SetTrapZone, ShowPage}
+use Rattle.job_reader.specs.declared.state.State.{State}
+use Rattle.job_reader.specs.Calls.{Statement, is_showpage}
+use Rattle.job_reader.specs.Device.{resolution_at, resolution_by, resolution_after, details_at, details_in, details_or, named_details}
+use Rattle.job_reader.specs.InForce.{after_one, going_on, after_all, is_setpagedevice, is_settrapparams, is_by, standing, held, value_of, named_by, resolution_in_force, trapping_in_force, details_in_force, number_in_force, truth_in_force, params_in_force, limits_in_force}
+use Rattle.job_reader.specs.Jobs.{followed, stepped, read_from}
+use Rattle.job_reader.specs.Starts.{nothing_read, usual_params}
+use Rattle.job_reader.specs.Statements.{fault, performed, shown}
+use Rattle.job_reader.proofs.Setting.{SetsDevice, SetsParams, SetsZones, others-left, device-left, params-left}
+
+-- One entry, statement after statement.
+
+-- an entry stays where it is not named, and else is the value that is named
+abbrev Goes : {X : Type 0} → (Option ℕ → X) → X → X → Option ℕ → Type 0
+Goes value now next None = next ≡ now
+Goes value now next (Some place) = next ≡ value (Some place)
+
+going : (r : Result State JobFault) (rest : State → Result State JobFault) (last : State) → going_on r rest ≡ Ok last → (next : State) × (r ≡ Ok next) × (rest next ≡ Ok last)
+going (Ok next) rest last is = (next, refl, is)
+going (Err first) rest last is = absurd (cc)
+
+goes-on : {X : Type 0} (value : Option ℕ → X) (named before : Option ℕ) (rest : List ℕ) (now next last : X) → Goes value now next named → now ≡ value before → ((o : Option ℕ) → next ≡ value o → last ≡ value (last_or o rest)) → last ≡ value (last_or before (cons_option named rest))
+goes-on value None before rest now next last goes is more = more before (goes ∙ is)
+goes-on value (Some place) before rest now next last goes is more = more (Some place) goes
+
+entry-after : {X : Type 0} (objects : List Object) (field : State → X) (look : Statement → Option ℕ) (value : Option ℕ → X)
+    → ((s : Statement) (now next : State) → after_one objects s s.call.operator now ≡ Ok next → Goes value (field now) (field next) (look s))
+    → (ss : List Statement) (before : Option ℕ) (now last : State) → field now ≡ value before → after_all objects now ss ≡ Ok last → field last ≡ value (last_or before (filter_map look ss))
+unfolding after_all
+entry-after objects field look value step [] before now last is done = let same : now ≡ last = cc in ap field (sym same) ∙ is
+entry-after objects field look value step (s ∷ ss) before now last is done =
+    let one = going (after_one objects s s.call.operator now) (λ next. after_all objects next ss) last done in
+    goes-on value (look s) before (filter_map look ss) (field now) (field one.0) (field last) (step s now one.0 one.1) is
+    (λ o there. entry-after objects field look value step ss o one.0 last there one.2)
+
+-- An entry of `setpagedevice`.
+
+abbrev KeepsDevice : {X : Type 0} → (State → X) → Type 0
+KeepsDevice field = (now next : State) → next.resolution ≡ now.resolution → next.trapping ≡ now.trapping → next.details ≡ now.details → field next ≡ field now
+
+device-other : {X : Type 0} (objects : List Object) (field : State → X) (s : Statement) (now next : State) → KeepsDevice field → (o : Operator) → is_setpagedevice o ≡ false → is_settrapparams o ≡ false → performed objects s.from s.place s.call.at o now ≡ Ok next → field next ≡ field now
+device-other objects field s now next keeps o device params is =
+    others-left (λ n. field n ≡ field now) objects s.from s.place s.call.at now (λ path zones vertices. keeps now (record now { path = path; zones = zones; vertices = vertices }) refl refl refl) o device params next is
+
+device-step : {X : Type 0} (objects : List Object) (field : State → X) (look : ℕ → Option ℕ) (value : Option ℕ → X) → KeepsDevice field
+    → ((dict : ℕ) (now next : State) → SetsDevice objects dict now next → Goes value (field now) (field next) (look dict))
+    → (o : Option Operator) (s : Statement) (now next : State) → after_one objects s o now ≡ Ok next → Goes value (field now) (field next) (cond (is_by is_setpagedevice o) (look s.from) None)
+device-step objects field look value keeps sets None s now next is = absurd (cc)
+device-step objects field look value keeps sets (Some SetPageDevice) s now next is =
+    device-left (λ n. Goes value (field now) (field n) (look s.from)) objects s.from s.place s.call.at now (λ n set. sets s.from now n set) next is
+device-step objects field look value keeps sets (Some SetTrapParams) s now next is =
+    params-left (λ n. field n ≡ field now) objects s.from s.place s.call.at now (λ n set. keeps now n set.resolution set.trapping set.details) next is
+device-step objects field look value keeps sets (Some NewPath) s now next is = device-other objects field s now next keeps NewPath refl refl is
+device-step objects field look value keeps sets (Some ClosePath) s now next is = device-other objects field s now next keeps ClosePath refl refl is
+device-step objects field look value keeps sets (Some MoveTo) s now next is = device-other objects field s now next keeps MoveTo refl refl is
+device-step objects field look value keeps sets (Some LineTo) s now next is = device-other objects field s now next keeps LineTo refl refl is
+device-step objects field look value keeps sets (Some RelativeMoveTo) s now next is = device-other objects field s now next keeps RelativeMoveTo refl refl is
+device-step objects field look value keeps sets (Some RelativeLineTo) s now next is = device-other objects field s now next keeps RelativeLineTo refl refl is
+device-step objects field look value keeps sets (Some SetTrapZone) s now next is = device-other objects field s now next keeps SetTrapZone refl refl is
+device-step objects field look value keeps sets (Some ShowPage) s now next is = absurd (cc)
+
+-- An entry of `settrapparams`.
+
+abbrev KeepsParams : {X : Type 0} → (State → X) → Type 0
+KeepsParams field = (now next : State) → next.params ≡ now.params → next.limits ≡ now.limits → field next ≡ field now
+
+params-other : {X : Type 0} (objects : List Object) (field : State → X) (s : Statement) (now next : State) → KeepsParams field → (o : Operator) → is_setpagedevice o ≡ false → is_settrapparams o ≡ false → performed objects s.from s.place s.call.at o now ≡ Ok next → field next ≡ field now
+params-other objects field s now next keeps o device params is =
+    others-left (λ n. field n ≡ field now) objects s.from s.place s.call.at now (λ path zones vertices. keeps now (record now { path = path; zones = zones; vertices = vertices }) refl refl) o device params next is
+
+params-step : {X : Type 0} (objects : List Object) (field : State → X) (look : ℕ → Option ℕ) (value : Option ℕ → X) → KeepsParams field
+    → ((dict : ℕ) (now next : State) → SetsZones objects dict now next → Goes value (field now) (field next) (look dict))
+    → (o : Option Operator) (s : Statement) (now next : State) → after_one objects s o now ≡ Ok next → Goes value (field now) (field next) (cond (is_by is_settrapparams o) (look s.from) None)
+params-step objects field look value keeps sets None s now next is = absurd (cc)
+params-step objects field look value keeps sets (Some SetPageDevice) s now next is =
+    device-left (λ n. field n ≡ field now) objects s.from s.place s.call.at now (λ n set. keeps now n set.params set.limits) next is
+params-step objects field look value keeps sets (Some SetTrapParams) s now next is =
+    params-left (λ n. Goes value (field now) (field n) (look s.from)) objects s.from s.place s.call.at now (λ n set. sets s.from now n set) next is
+params-step objects field look value keeps sets (Some NewPath) s now next is = params-other objects field s now next keeps NewPath refl refl is
+params-step objects field look value keeps sets (Some ClosePath) s now next is = params-other objects field s now next keeps ClosePath refl refl is
+params-step objects field look value keeps sets (Some MoveTo) s now next is = params-other objects field s now next keeps MoveTo refl refl is
+params-step objects field look value keeps sets (Some LineTo) s now next is = params-other objects field s now next keeps LineTo refl refl is
+params-step objects field look value keeps sets (Some RelativeMoveTo) s now next is = params-other objects field s now next keeps RelativeMoveTo refl refl is
+params-step objects field look value keeps sets (Some RelativeLineTo) s now next is = params-other objects field s now next keeps RelativeLineTo refl refl is
+params-step objects field look value keeps sets (Some SetTrapZone) s now next is = params-other objects field s now next keeps SetTrapZone refl refl is
+params-step objects field look value keeps sets (Some ShowPage) s now next is = absurd (cc)
+
+-- What one dictionary makes of one entry.
+
+resolution-by : (objects : List Object) (place now next : ℕ) (o : Option Object) → slice_get objects place ≡ o → resolution_by objects now place o ≡ Ok next → Goes (λ p. result_unwrap_or (resolution_at objects 0 p) 0) now next (standing place o)
+resolution-by objects place now next None at is = cc
+resolution-by objects place now next (Some object) at is = sym (ap (λ r. result_unwrap_or r 0) (ap (resolution_by objects 0 place) at ∙ is))
+
+resolution-goes : (objects : List Object) (now next : ℕ) (o : Option ℕ) → resolution_at objects now o ≡ Ok next → Goes (λ p. result_unwrap_or (resolution_at objects 0 p) 0) now next (held objects o)
+resolution-goes objects now next None is = cc
+resolution-goes objects now next (Some place) is = resolution-by objects place now next (slice_get objects place) refl is
+
+set-by : {X : Type 0} (judge : Body → Result X FaultKind) (objects : List Object) (place : ℕ) (default now next : X) (o : Option Object) → slice_get objects place ≡ o → set_by judge now place o ≡ Ok next → Goes (λ p. result_unwrap_or (set_at judge objects default p) default) now next (standing place o)
+set-by judge objects place default now next None at is = cc
+set-by judge objects place default now next (Some object) at is = sym (ap (λ r. result_unwrap_or r default) (ap (set_by judge default place) at ∙ is))
+
+set-goes : {X : Type 0} (judge : Body → Result X FaultKind) (objects : List Object) (default now next : X) (o : Option ℕ) → set_at judge objects now o ≡ Ok next → Goes (λ p. result_unwrap_or (set_at judge objects default p) default) now next (held objects o)
+set-goes judge objects default now next None is = cc
+set-goes judge objects default now next (Some place) is = set-by judge objects place default now next (slice_get objects place) refl is
+
+number-goes : (objects : List Object) (dict default : ℕ) (key : Key) (now next : ℕ) → number_after objects dict key now ≡ Ok next → Goes (λ p. result_unwrap_or (set_at (number_of key) objects default p) default) now next (value_of (name_of key) objects dict)
+unfolding number_after
+number-goes objects dict default key now next is = set-goes (number_of key) objects default now next (last_of objects dict (name_of key)) is
+
+truth-goes : (objects : List Object) (dict : ℕ) (default : Bool) (key : Key) (now next : Bool) → truth_after objects dict key now ≡ Ok next → Goes (λ p. result_unwrap_or (set_at (truth_of key) objects default p) default) now next (value_of (name_of key) objects dict)
+unfolding truth_after
+truth-goes objects dict default key now next is = set-goes (truth_of key) objects default now next (last_of objects dict (name_of key)) is
+
+resolution-after : (objects : List Object) (dict now next : ℕ) → resolution_after objects dict now ≡ Ok next → Goes (λ p. result_unwrap_or (resolution_at objects 0 p) 0) now next (value_of (codes "HWResolution") objects dict)
+unfolding resolution_after
+resolution-after objects dict now next is = resolution-goes objects now next (last_of objects dict (codes "HWResolution")) is
+
+details-named : (place : ℕ) (r : Result (List Ink) JobFault) (now next : List Ink) → misfit_of (named_details place r) ≡ None → details_or (named_details place r) now ≡ next → next ≡ details_or (named_details place r) []
+details-named place (Ok inks) now next fine is = sym is
+details-named place (Err fault) now next fine is = absurd (cc)
+
+details-goes : (objects : List Object) (now next : List Ink) (o : Option ℕ) → misfit_of (details_at objects o) ≡ None → details_or (details_at objects o) now ≡ next → Goes (λ p. details_or (details_at objects p) []) now next o
+details-goes objects now next None fine is = sym is
+details-goes objects now next (Some place) fine is = details-named place (details_of objects place) now next fine is
+
+details-after : (objects : List Object) (dict : ℕ) (now next : List Ink) → misfit_of (details_in objects dict) ≡ None → details_or (details_in objects dict) now ≡ next → Goes (λ p. details_or (details_at objects p) []) now next (last_of objects dict (codes "TrappingDetails"))
+unfolding details_in
+details-after objects dict now next fine is = details-goes objects now next (last_of objects dict (codes "TrappingDetails")) fine is
+
+limits-goes : (objects : List Object) (now next : List Limit) (o : Option ℕ) → limits_at now objects o ≡ Ok next → Goes (λ p. result_unwrap_or (limits_at [] objects p) []) now next o
+limits-goes objects now next None is = cc
+limits-goes objects now next (Some place) is = sym (ap (λ r. result_unwrap_or r []) is)
+
+-- What is in force.
+
+alike : {X : Type 0} (make : ℕ → ℕ → ℕ → ℕ → ℕ → ℕ → ℕ → Bool → X) (a b c d e f g a' b' c' d' e' f' g' : ℕ) (h h' : Bool) → a ≡ a' → b ≡ b' → c ≡ c' → d ≡ d' → e ≡ e' → f ≡ f' → g ≡ g' → h ≡ h' → make a b c d e f g h ≡ make a' b' c' d' e' f' g' h'
+alike make a b c d e f g a' b' c' d' e' f' g' h h' one two three four five six seven eight = cc
+
+-- parameters that agree in each part
+same_params : (a b : TrapParams) → a.trap_width ≡ b.trap_width → a.black_width ≡ b.black_width → a.black_color_limit ≡ b.black_color_limit → a.black_density_limit ≡ b.black_density_limit → a.step_limit ≡ b.step_limit → a.sliding_trap_limit ≡ b.sliding_trap_limit → a.trap_color_scaling ≡ b.trap_color_scaling → a.enabled ≡ b.enabled → a ≡ b
+same_params a b width black color density step sliding scaling enabled =
+    alike (λ width black color density step sliding scaling enabled. record { trap_width = width; black_width = black; black_color_limit = color; black_density_limit = density; step_limit = step; sliding_trap_limit = sliding; trap_color_scaling = scaling; enabled = enabled })
+    a.trap_width a.black_width a.black_color_limit a.black_density_limit a.step_limit a.sliding_trap_limit a.trap_color_scaling
+    b.trap_width b.black_width b.black_color_limit b.black_density_limit b.step_limit b.sliding_trap_limit b.trap_color_scaling a.enabled b.enabled width black color density step sliding scaling enabled
+
+-- behind statements without a fault
+module _ (objects : List Object) (earlier : List Statement) (now : State) (done : after_all objects nothing_read earlier ≡ Ok now) where
+  pub resolution-in_force : now.resolution ≡ resolution_in_force objects earlier
+  resolution-in_force =
+      let look : ℕ → Option ℕ = value_of (codes "HWResolution") objects in
+      let value : Option ℕ → ℕ = λ p. result_unwrap_or (resolution_at objects 0 p) 0 in
+      entry-after objects (λ s. s.resolution) (named_by is_setpagedevice look) value
+      (λ s a b is. device-step objects (λ n. n.resolution) look value (λ a b resolution trapping details. resolution) (λ dict a b set. resolution-after objects dict a.resolution b.resolution set.resolution) s.call.operator s a b is)
+      earlier None nothing_read now refl done
+
+  pub trapping-in_force : now.trapping ≡ trapping_in_force objects earlier
+  trapping-in_force =
+      let look : ℕ → Option ℕ = value_of (name_of Trapping) objects in
+      let value : Option ℕ → Bool = λ p. result_unwrap_or (set_at (truth_of Trapping) objects true p) true in
+      entry-after objects (λ s. s.trapping) (named_by is_setpagedevice look) value
+      (λ s a b is. device-step objects (λ n. n.trapping) look value (λ a b resolution trapping details. trapping) (λ dict a b set. truth-goes objects dict true Trapping a.trapping b.trapping set.trapping) s.call.operator s a b is)
+      earlier None nothing_read now refl done
+
+  pub details-in_force : now.details ≡ details_in_force objects earlier
+  details-in_force =
+      let look : ℕ → Option ℕ = λ dict. last_of objects dict (codes "TrappingDetails") in
+      let value : Option ℕ → List Ink = λ p. details_or (details_at objects p) [] in
+      entry-after objects (λ s. s.details) (named_by is_setpagedevice look) value
+      (λ s a b is. device-step objects (λ n. n.details) look value (λ a b resolution trapping details. details) (λ dict a b set. details-after objects dict a.details b.details set.fine set.details) s.call.operator s a b is)
+      earlier None nothing_read now refl done
+
+  pub limits-in_force : now.limits ≡ limits_in_force objects earlier
+  limits-in_force =
+      let look : ℕ → Option ℕ = λ dict. last_of objects dict (codes "ColorantZoneDetails") in
+      let value : Option ℕ → List Limit = λ p. result_unwrap_or (limits_at [] objects p) [] in
+      entry-after objects (λ s. s.limits) (named_by is_settrapparams look) value
+      (λ s a b is. params-step objects (λ n. n.limits) look value (λ a b params limits. limits) (λ dict a b set. limits-goes objects a.limits b.limits (last_of objects dict (codes "ColorantZoneDetails")) set.limits) s.call.operator s a b is)
+      earlier None nothing_read now refl done
+
+  number-in_force : (key : Key) (part : TrapParams → ℕ) → ((dict : ℕ) (a b : TrapParams) → SetsParams objects dict a b → number_after objects dict key (part a) ≡ Ok (part b)) → part now.params ≡ number_in_force objects earlier key (part usual_params)
+  number-in_force key part sets =
+      let look : ℕ → Option ℕ = value_of (name_of key) objects in
+      let value : Option ℕ → ℕ = λ p. result_unwrap_or (set_at (number_of key) objects (part usual_params) p) (part usual_params) in
+      entry-after objects (λ s. part s.params) (named_by is_settrapparams look) value
+      (λ s a b is. params-step objects (λ n. part n.params) look value (λ a b params limits. ap part params) (λ dict a b set. number-goes objects dict (part usual_params) key (part a.params) (part b.params) (sets dict a.params b.params set.params)) s.call.operator s a b is)
+      earlier None nothing_read now refl done
+
+  enabled-in_force : now.params.enabled ≡ truth_in_force objects earlier Enabled true
+  enabled-in_force =
+      let look : ℕ → Option ℕ = value_of (name_of Enabled) objects in
+      let value : Option ℕ → Bool = λ p. result_unwrap_or (set_at (truth_of Enabled) objects true p) true in
+      entry-after objects (λ s. s.params.enabled) (named_by is_settrapparams look) value
+      (λ s a b is. params-step objects (λ n. n.params.enabled) look value (λ a b params limits. ap (λ p. p.enabled) params) (λ dict a b set. truth-goes objects dict true Enabled a.params.enabled b.params.enabled set.params.enabled) s.call.operator s a b is)
+      earlier None nothing_read now refl done
+
+  pub params-in_force : now.params ≡ params_in_force objects earlier
+  params-in_force =
+      let width = number-in_force TrapWidth (λ p. p.trap_width) (λ dict a b set. set.trap_width) in
+      let black = number-in_force BlackWidth (λ p. p.black_width) (λ dict a b set. set.black_width) in
+      let color = number-in_force BlackColorLimit (λ p. p.black_color_limit) (λ dict a b set. set.black_color_limit) in
+      let density = number-in_force BlackDensityLimit (λ p. p.black_density_limit) (λ dict a b set. set.black_density_limit) in
+      let step = number-in_force StepLimit (λ p. p.step_limit) (λ dict a b set. set.step_limit) in
+      let sliding = number-in_force SlidingTrapLimit (λ p. p.sliding_trap_limit) (λ dict a b set. set.sliding_trap_limit) in
+      let scaling = number-in_force TrapColorScaling (λ p. p.trap_color_scaling) (λ dict a b set. set.trap_color_scaling) in
+      let enabled = enabled-in_force in
+      same_params now.params (params_in_force objects earlier) width black color density step sliding scaling enabled
+
+-- one statement that is performed
+stepped-if : (b : Bool) (objects : List Object) (s : Statement) (r : Result State JobFault) (fault_there : Result State JobFault) (end : Result Job JobFault) (now : State) (rest : State → Result Job JobFault) → ((n : State) → fault_there ≡ Ok n → ⊥) → cond b fault_there r ≡ Ok now → cond b end (followed r rest) ≡ rest now
+stepped-if true objects s r fault_there end now rest never is = absurd (never now is)
+stepped-if false objects s r fault_there end now rest never is = ap (λ q. followed q rest) is
+
+stepped-after : (objects : List Object) (s : Statement) (o : Option Operator) (now next : State) (rest : State → Result Job JobFault) → after_one objects s o now ≡ Ok next → stepped objects s o now rest ≡ rest next
+stepped-after objects s None now next rest is = absurd (cc)
+stepped-after objects s (Some operator) now next rest is =
+    stepped-if (is_showpage operator) objects s (performed objects s.from s.place s.call.at operator now) (fault AfterShowpage s.call.at) (shown objects s.from s.place s.call.at now) next rest (λ n wrong. absurd (cc)) is
+
+-- statements go on with what the earlier ones left in force
+pub read_from-after : (objects : List Object) (len : ℕ) (earlier later : List Statement) (now next : State) → after_all objects now earlier ≡ Ok next → read_from objects len now (earlier ++ later) ≡ read_from objects len next later
+unfolding after_all read_from
+read_from-after objects len [] later now next done = let same : now ≡ next = cc in ap (λ n. read_from objects len n later) same
+read_from-after objects len (s ∷ ss) later now next done =
+    let one = going (after_one objects s s.call.operator now) (λ n. after_all objects n ss) next done in
+    stepped-after objects s s.call.operator now one.0 (λ n. read_from objects len n (ss ++ later)) one.1 ∙ read_from-after objects len ss later one.0 next one.2

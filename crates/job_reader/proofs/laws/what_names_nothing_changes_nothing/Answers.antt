@@ -1,0 +1,11 @@
+use Rattle.job_reader.proofs.NamingNone.{page_device-none, trap_params-none, empty-all-none}
+use Rattle.job_reader.proofs.laws.what_names_nothing_changes_nothing.Goals as goal
+
+pub returns-clause-page_device : goal.returns-clause-page_device
+returns-clause-page_device c = page_device-none
+
+pub returns-clause-trap_params : goal.returns-clause-trap_params
+returns-clause-trap_params c = trap_params-none
+
+pub returns-clause-empty : goal.returns-clause-empty
+returns-clause-empty c = empty-all-none

@@ -1,0 +1,149 @@
+-- What is in force at a statement, told by the statements that stand before it.
+use Rattle.std.specs.Prelude.{◌≡◌, ◌++◌, All, map, ℕ, Bool, true, false, List, [], ◌∷◌, Option, Some, None, Result, Ok, Err, slice_get, codes, if◌then◌else◌}
+use Rattle.std.specs.List.{filter_map, last_or}
+use Rattle.std.specs.Result.{result_unwrap_or}
+use Rattle.page_model.specs.declared.parts.Ink.{Ink}
+use Rattle.page_model.specs.declared.parts.Limit.{Limit}
+use Rattle.page_model.specs.declared.parts.TrapParams.{TrapParams}
+use Rattle.ps_tokens.specs.declared.faults.FaultKind.TheVariants.{AfterShowpage, UnknownOperator}
+use Rattle.ps_tokens.specs.declared.faults.JobFault.{JobFault}
+use Rattle.ps_tokens.specs.declared.faults.Key.{Key}
+use Rattle.ps_tokens.specs.declared.faults.Key.TheVariants.{TrapWidth, BlackWidth, BlackColorLimit, BlackDensityLimit, StepLimit, SlidingTrapLimit, TrapColorScaling, Enabled, Trapping}
+use Rattle.ps_tokens.specs.declared.object.Object.{Object}
+use Rattle.ps_tokens.specs.Dictionaries.{last_of}
+use Rattle.trap_params.specs.Limits.{limits_at}
+use Rattle.trap_params.specs.Parameters.{name_of}
+use Rattle.trap_params.specs.Settings.{number_of, truth_of, set_at}
+use Rattle.job_reader.specs.declared.operators.Operator.{Operator}
+use Rattle.job_reader.specs.declared.operators.Operator.TheVariants.{SetPageDevice, SetTrapParams, NewPath, ClosePath, MoveTo, LineTo, RelativeMoveTo, RelativeLineTo, SetTrapZone, ShowPage}
+use Rattle.job_reader.specs.declared.state.State.{State}
+use Rattle.job_reader.specs.Calls.{Statement, is_showpage}
+use Rattle.job_reader.specs.Device.{resolution_at, details_at, details_or}
+use Rattle.job_reader.specs.Starts.{usual_params}
+use Rattle.job_reader.specs.Statements.{fault, performed}
+
+-- Statements that are performed.
+
+-- what a statement leaves in force; `showpage` ends the job, and no statement goes on behind it
+abbrev pub after_one : List Object → Statement → Option Operator → State → Result State JobFault
+after_one objects s None now = fault UnknownOperator s.call.at
+after_one objects s (Some operator) now =
+    if is_showpage operator then fault AfterShowpage s.call.at
+    else performed objects s.from s.place s.call.at operator now
+
+abbrev pub going_on : Result State JobFault → (State → Result State JobFault) → Result State JobFault
+going_on (Ok now) rest = rest now
+going_on (Err first) rest = Err first
+
+-- what statements leave in force, one after the other, or the first fault of these
+unfoldable pub after_all : List Object → State → List Statement → Result State JobFault
+after_all objects now [] = Ok now
+after_all objects now (s ∷ ss) = going_on (after_one objects s s.call.operator now) (λ next. after_all objects next ss)
+
+-- Statements that name an entry.
+
+-- whether an operator is `setpagedevice`
+abbrev pub is_setpagedevice : Operator → Bool
+is_setpagedevice SetPageDevice = true
+is_setpagedevice SetTrapParams = false
+is_setpagedevice NewPath = false
+is_setpagedevice ClosePath = false
+is_setpagedevice MoveTo = false
+is_setpagedevice LineTo = false
+is_setpagedevice RelativeMoveTo = false
+is_setpagedevice RelativeLineTo = false
+is_setpagedevice SetTrapZone = false
+is_setpagedevice ShowPage = false
+
+-- whether an operator is `settrapparams`
+abbrev pub is_settrapparams : Operator → Bool
+is_settrapparams SetPageDevice = false
+is_settrapparams SetTrapParams = true
+is_settrapparams NewPath = false
+is_settrapparams ClosePath = false
+is_settrapparams MoveTo = false
+is_settrapparams LineTo = false
+is_settrapparams RelativeMoveTo = false
+is_settrapparams RelativeLineTo = false
+is_settrapparams SetTrapZone = false
+is_settrapparams ShowPage = false
+
+-- whether a statement's operator passes a test
+abbrev pub is_by : (Operator → Bool) → Option Operator → Bool
+is_by test None = false
+is_by test (Some operator) = test operator
+
+-- a place, where an object stands there
+abbrev pub standing : ℕ → Option Object → Option ℕ
+standing place None = None
+standing place (Some object) = Some place
+
+-- the place of a value that stands there
+abbrev pub held : List Object → Option ℕ → Option ℕ
+held objects None = None
+held objects (Some place) = standing place (slice_get objects place)
+
+-- where the value of a dictionary's last entry of a key stands; an entry without a value names nothing
+abbrev pub value_of : List ℕ → List Object → ℕ → Option ℕ
+value_of key objects dict = held objects (last_of objects dict key)
+
+-- where the value stands that a statement names, if it is one of these operators and names it
+abbrev pub named_by : (Operator → Bool) → (ℕ → Option ℕ) → Statement → Option ℕ
+named_by test look s = if is_by test s.call.operator then look s.from else None
+
+-- where the value stands that the last of these statements names which names it
+abbrev pub last_naming : (Operator → Bool) → (ℕ → Option ℕ) → List Statement → Option ℕ
+last_naming test look earlier = last_or None (filter_map (named_by test look) earlier)
+
+-- What is in force behind statements.
+
+-- the resolution that the last `setpagedevice` with HWResolution names, else 0
+abbrev pub resolution_in_force : List Object → List Statement → ℕ
+resolution_in_force objects earlier = result_unwrap_or (resolution_at objects 0 (last_naming is_setpagedevice (value_of (codes "HWResolution") objects) earlier)) 0
+
+-- the truth that the last `setpagedevice` with Trapping names, else true
+abbrev pub trapping_in_force : List Object → List Statement → Bool
+trapping_in_force objects earlier = result_unwrap_or (set_at (truth_of Trapping) objects true (last_naming is_setpagedevice (value_of (name_of Trapping) objects) earlier)) true
+
+-- the inks that the last `setpagedevice` with TrappingDetails names, else none
+abbrev pub details_in_force : List Object → List Statement → List Ink
+details_in_force objects earlier = details_or (details_at objects (last_naming is_setpagedevice (λ dict. last_of objects dict (codes "TrappingDetails")) earlier)) []
+
+-- the number that the last `settrapparams` with a key names, else a default
+abbrev pub number_in_force : List Object → List Statement → Key → ℕ → ℕ
+number_in_force objects earlier key default = result_unwrap_or (set_at (number_of key) objects default (last_naming is_settrapparams (value_of (name_of key) objects) earlier)) default
+
+-- the truth that the last `settrapparams` with a key names, else a default
+abbrev pub truth_in_force : List Object → List Statement → Key → Bool → Bool
+truth_in_force objects earlier key default = result_unwrap_or (set_at (truth_of key) objects default (last_naming is_settrapparams (value_of (name_of key) objects) earlier)) default
+
+-- each parameter by itself, else the usual one
+abbrev pub params_in_force : List Object → List Statement → TrapParams
+params_in_force objects earlier = record {
+  trap_width = number_in_force objects earlier TrapWidth usual_params.trap_width;
+  black_width = number_in_force objects earlier BlackWidth usual_params.black_width;
+  black_color_limit = number_in_force objects earlier BlackColorLimit usual_params.black_color_limit;
+  black_density_limit = number_in_force objects earlier BlackDensityLimit usual_params.black_density_limit;
+  step_limit = number_in_force objects earlier StepLimit usual_params.step_limit;
+  sliding_trap_limit = number_in_force objects earlier SlidingTrapLimit usual_params.sliding_trap_limit;
+  trap_color_scaling = number_in_force objects earlier TrapColorScaling usual_params.trap_color_scaling;
+  enabled = truth_in_force objects earlier Enabled usual_params.enabled;
+}
+
+-- the step limits that the last `settrapparams` with ColorantZoneDetails names, else none
+abbrev pub limits_in_force : List Object → List Statement → List Limit
+limits_in_force objects earlier = result_unwrap_or (limits_at [] objects (last_naming is_settrapparams (λ dict. last_of objects dict (codes "ColorantZoneDetails")) earlier)) []
+
+-- Statements that name nothing.
+
+-- the keys that `setpagedevice` knows
+abbrev pub device_keys : List (List ℕ)
+device_keys = codes "HWResolution" ∷ codes "Trapping" ∷ codes "TrappingDetails" ∷ []
+
+-- the keys that `settrapparams` knows
+abbrev pub params_keys : List (List ℕ)
+params_keys = map name_of (TrapWidth ∷ BlackWidth ∷ BlackColorLimit ∷ BlackDensityLimit ∷ StepLimit ∷ SlidingTrapLimit ∷ TrapColorScaling ∷ Enabled ∷ []) ++ codes "ColorantZoneDetails" ∷ []
+
+-- a dictionary has no entry of these keys
+abbrev pub NamesNone : List Object → ℕ → List (List ℕ) → Type 0
+NamesNone objects dict keys = All (λ key. last_of objects dict key ≡ None) keys
