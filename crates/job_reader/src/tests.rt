@@ -43,7 +43,7 @@ fn told(alloc: Global, bytes: &[u8]) -> Result<String, AllocError> {
 
 // Jobs, and their resolution, number of inks and zones, each with its trap width, whether it is enabled, its number of
 // step limits and its vertices; or their fault.
-static JOBS: [(&[u8], &str); 54] = [
+static JOBS: [(&[u8], &str); 57] = [
     (
         b"<< /TrappingDetails << /Type 1000 >> >> setpagedevice showpage",
         "WrongType at 29",
@@ -159,6 +159,12 @@ static JOBS: [(&[u8], &str); 54] = [
         "NoPageDevice at 47",
     ),
     (b"1000000.0001 0 moveto", "CoordinateRange at 15"),
+    (b"0 -1000000.0001 moveto", "CoordinateRange at 16"),
+    (b"1000000 0 moveto .0001 0 rlineto", "CoordinateRange at 25"),
+    (
+        b"<< /HWResolution [1 1] >> setpagedevice 1000000 -1000000 moveto -1000000 1000000 lineto settrapzone showpage",
+        "1 0: 2500 false 0; 2500 true 0 10000000000,-10000000000! -10000000000,10000000000;",
+    ),
     (
         b"<< /Enabled false >> settrapparams showpage",
         "0 0: 2500 false 0;",
@@ -233,6 +239,54 @@ static LIMITS: [(&[u8], &[u8], u32, &[u8], &str); 6] = [
     ),
 ];
 
+// So many zones, each of a first vertex and so many lines, and what follows them; and their fault.
+static ZONES: [(u32, u32, &[u8], &str); 5] = [
+    (127, 128, b"", "NoShowpage at 181760"),
+    (127, 128, b"settrapzone", "NoShowpage at 181771"),
+    (
+        127,
+        128,
+        b"0 0 moveto settrapzone",
+        "TooManyVertices at 181771",
+    ),
+    (4095, 4, b"", "NoShowpage at 180272"),
+    (
+        4095,
+        4,
+        b"0 0 moveto settrapzone",
+        "TooManyVertices at 180283",
+    ),
+];
+
+// The statements of a job, and the fault where one operand more stands before each of them.
+static STATEMENTS: [(&[u8], &str); 10] = [
+    (
+        b"<< /HWResolution [72 72] >> setpagedevice ",
+        "WrongOperands at 30",
+    ),
+    (b"<< /TrapWidth 1 >> settrapparams ", "WrongOperands at 63"),
+    (b"newpath ", "WrongOperands at 77"),
+    (b"1 2 moveto ", "WrongOperands at 89"),
+    (b"3 4 lineto ", "WrongOperands at 100"),
+    (b"1 1 rmoveto ", "WrongOperands at 111"),
+    (b"1 1 rlineto ", "WrongOperands at 123"),
+    (b"closepath ", "WrongOperands at 131"),
+    (b"settrapzone ", "WrongOperands at 141"),
+    (b"showpage", "WrongOperands at 153"),
+];
+
+// The job of these statements, with one operand more before one of them, or before none.
+fn with_one_more(alloc: Global, extra: usize) -> Result<Vec<u8>, AllocError> {
+    let mut bytes = Vec::new(alloc);
+    for (place, (statement, _)) in STATEMENTS.iter().enumerate() {
+        if place == extra {
+            bytes.extend_from_slice(b"9 ")?;
+        }
+        bytes.extend_from_slice(statement)?;
+    }
+    Ok(bytes)
+}
+
 #[test]
 fn reads_jobs(rt: HostRuntime) -> Result<(), Fail> {
     expect_jobs(&rt, rt.alloc(), &JOBS)?;
@@ -241,5 +295,38 @@ fn reads_jobs(rt: HostRuntime) -> Result<(), Fail> {
         let text = told(rt.alloc(), &bytes)?;
         assert_eq!(rt; text.as_str(), *want);
     }
+    Ok(())
+}
+
+#[test]
+fn counts_the_vertices_of_all_zones(rt: HostRuntime) -> Result<(), Fail> {
+    for (lines, zones, last, want) in &ZONES {
+        let zone = repeated(
+            rt.alloc(),
+            b"0 0 moveto",
+            b" 1 1 lineto",
+            *lines,
+            b" settrapzone ",
+        )?;
+        let bytes = repeated(rt.alloc(), b"", &zone, *zones, last)?;
+        let text = told(rt.alloc(), &bytes)?;
+        assert_eq!(rt; text.as_str(), *want);
+    }
+    Ok(())
+}
+
+#[test]
+fn each_statement_has_its_own_fault(rt: HostRuntime) -> Result<(), Fail> {
+    for (place, (_, want)) in STATEMENTS.iter().enumerate() {
+        let bytes = with_one_more(rt.alloc(), place)?;
+        let text = told(rt.alloc(), &bytes)?;
+        assert_eq!(rt; text.as_str(), *want);
+    }
+    let bytes = with_one_more(rt.alloc(), STATEMENTS.len())?;
+    let text = told(rt.alloc(), &bytes)?;
+    assert_eq!(rt;
+        text.as_str(),
+        "72 0: 10000 false 0; 10000 true 0 10000,20000! 30000,40000 40000,50000! 50000,60000;"
+    );
     Ok(())
 }
