@@ -1,7 +1,7 @@
 // Pairs of neighbouring samples that lie in one zone, many at a time: those of a row and their right neighbours, or those
 // of a row and the samples below them. The planes are gone over one by one, each by slices of its rows.
 
-ghost use Rattle.std.specs.Prelude.{◌≡◌, ◌<◌, ◌≤◌, ◌+◌, ◌*◌, ◌-◌, ◌&&◌, ◌||◌, not, nat_le, false, ℕ, length, slice_index, slice_index_or};
+ghost use Rattle.std.specs.Prelude.{◌≡◌, ◌<◌, ◌≤◌, ◌+◌, ◌*◌, ◌-◌, ◌&&◌, ◌||◌, not, nat_le, true, false, ℕ, IfSome, length, slice_index, slice_index_or};
 ghost use Rattle.edge_rule.specs.Pairs.{along, falls_by, pair_decides};
 ghost use Rattle.page_model.specs.declared.parts.At.{At as Sample};
 ghost use Rattle.page_model.specs.Apart.{falls};
@@ -18,7 +18,8 @@ use page_model::parts::{At, InkKind};
 fn least_step(page: &Page, zone: u32, c: u32) -> Option<u16>
     requires zone { zone < length page.now.zones }
     requires plate { c < plates page.now }
-    ensures { (p q : Sample) → InPage page.now p → InPage page.now q → falls page.now zone p q c ≡ falls_by result (tint page.now c p) (tint page.now c q) }
+    ensures falls { (p q : Sample) → InPage page.now p → InPage page.now q → falls page.now zone p q c ≡ falls_by result (tint page.now c p) (tint page.now c q) }
+    ensures some { IfSome result (λ step. 1 ≤ step) }
 {
     let _valid = page.plates();
     let limit = u64::from(page.step_limit(zone, c)) * u64::from(page.maxval());
@@ -77,6 +78,31 @@ fn note_falls(from: &[u16], to: &[u16], step: u16, noted: &mut [bool])
     }
 }
 
+/// Whether two rows of tints are the same.
+fn are_same(one: &[u16], other: &[u16]) -> bool
+    ensures { result ≡ true → one.now ≡ other.now }
+{
+    one == other
+}
+
+/// Notes where the tint falls by at least the step, and where it rises by as much. Most rows of a page are the same as
+/// their neighbours, and are not gone over.
+fn note_both(here: &[u16], there: &[u16], step: u16, fallen: &mut [bool], risen: &mut [bool])
+    requires step { 1 ≤ step }
+    requires there { length there.now ≡ length here.now }
+    requires fallen { length fallen.old ≡ length here.now }
+    requires risen { length risen.old ≡ length here.now }
+    ensures fallen_len { length fallen.new ≡ length fallen.old }
+    ensures risen_len { length risen.new ≡ length risen.old }
+    ensures fallen { (k : ℕ) → k < length here.now → slice_index_or fallen.new k false ≡ (slice_index_or fallen.old k false || nat_le step (slice_index here.now k - slice_index there.now k)) }
+    ensures risen { (k : ℕ) → k < length here.now → slice_index_or risen.new k false ≡ (slice_index_or risen.old k false || nat_le step (slice_index there.now k - slice_index here.now k)) }
+{
+    if !are_same(here, there) {
+        note_falls(here, there, step, fallen);
+        note_falls(there, here, step, risen);
+    }
+}
+
 /// Notes at which pairs plate c falls by a step, and at which it rises by one.
 fn note_steps(page: &Page, zone: u32, c: u32, p: At, q: At, fallen: &mut [bool], risen: &mut [bool])
     requires zone { zone < length page.now.zones }
@@ -95,8 +121,7 @@ fn note_steps(page: &Page, zone: u32, c: u32, p: At, q: At, fallen: &mut [bool],
         Some(step) => {
             let here = tints_from(page, c, p, fallen.len());
             let there = tints_from(page, c, q, fallen.len());
-            note_falls(here, there, step, fallen);
-            note_falls(there, here, step, risen);
+            note_both(here, there, step, fallen, risen);
         }
         None => {}
     }
@@ -153,7 +178,7 @@ fn keep_risen(fallen: &mut [bool], risen: &[bool])
     for k in 0..fallen.len() {
         let falls = fallen[k];
         let rises = risen[k];
-        fallen[k] = falls && rises;
+        fallen[k] = falls & rises;
     }
 }
 

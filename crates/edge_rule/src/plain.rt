@@ -1,6 +1,6 @@
 // The samples of a row that lie in one zone with their right and lower neighbours, many at a time.
 
-ghost use Rattle.std.specs.Prelude.{◌≡◌, ◌<◌, ◌≤◌, ◌+◌, ◌-◌, false, ℕ, if◌then◌else◌, length, slice_index, slice_index_or};
+ghost use Rattle.std.specs.Prelude.{◌≡◌, ◌<◌, ◌≤◌, ◌+◌, ◌-◌, true, false, ℕ, if◌then◌else◌, length, slice_index, slice_index_or};
 ghost use Rattle.edge_rule.specs.Pairs.{LieIn};
 ghost use Rattle.page_model.specs.Deciding.{lower_mark, mark, right_mark};
 
@@ -10,6 +10,47 @@ use page_model::parts::At;
 
 /// How many samples are marked at once at most.
 const SPAN: usize = 1024;
+
+/// Whether all these samples lie in the zone. It goes over all of them, without a branch, so that many go at once.
+fn all_in(zones: &[u8], zone: u8) -> bool
+    ensures { result ≡ true → (k : ℕ) → k < length zones.now → slice_index zones.now k ≡ zone }
+{
+    let mut all = true;
+    for k in 0..zones.len() {
+        all = all & (zones[k] == zone);
+    }
+    all
+}
+
+/// Whether so many samples from x on, and at least one, lie in the zone of x, with those to their right and below them.
+fn all_plain(here: &[u8], below: &[u8], x: usize, count: usize) -> bool
+    requires inside { x + count < length here.now }
+    requires low { count ≤ length below.now - x }
+    ensures here { result ≡ true → (k : ℕ) → k ≤ count → slice_index here.now (x + k) ≡ slice_index here.now x }
+    ensures below { result ≡ true → (k : ℕ) → k < count → slice_index below.now (x + k) ≡ slice_index here.now x }
+{
+    if count == 0 {
+        return false;
+    }
+    let zone = here[x];
+    all_in(&here[x..x + count + 1], zone) && all_in(&below[x..x + count], zone)
+}
+
+/// How many samples from x on, at most so many, lie in the zone of x, with those to their right and below them.
+fn plain_until(here: &[u8], below: &[u8], x: usize, most: usize) -> usize
+    requires inside { x + most < length here.now }
+    requires low { most ≤ length below.now - x }
+    ensures few { result ≤ most }
+    ensures here { (k : ℕ) → k ≤ result → slice_index here.now (x + k) ≡ slice_index here.now x }
+    ensures below { (k : ℕ) → k < result → slice_index below.now (x + k) ≡ slice_index here.now x }
+{
+    let zone = here[x];
+    let mut count = 0;
+    while count < most && here[x + count + 1] == zone && below[x + count] == zone {
+        count += 1;
+    }
+    count
+}
 
 /// How many samples from x on lie in the zone of x, with the samples to their right and below them: at most 1024, and none
 /// where there is no row below.
@@ -21,15 +62,14 @@ pub fn plain_from(here: &[u8], below: &[u8], x: usize) -> usize
     ensures here { (k : ℕ) → k ≤ result → slice_index here.now (x + k) ≡ slice_index here.now x }
     ensures below { (k : ℕ) → k < result → slice_index below.now (x + k) ≡ slice_index here.now x }
 {
-    let zone = here[x];
     let most = SPAN
         .min(here.len() - 1 - x)
         .min(below.len().saturating_sub(x));
-    let mut count = 0;
-    while count < most && here[x + count + 1] == zone && below[x + count] == zone {
-        count += 1;
+    if all_plain(here, below, x, most) {
+        most
+    } else {
+        plain_until(here, below, x, most)
     }
-    count
 }
 
 /// Writes the marks of which these are the two halves.
