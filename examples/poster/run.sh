@@ -1,0 +1,33 @@
+#!/usr/bin/env bash
+# Traps the poster, compares its plates and its report with what must come out, and draws pictures of it where python3 is at hand.
+set -eu
+cd "$(dirname "$0")"
+out=out
+inks=(Cyan Magenta Yellow Black)
+
+rm -rf "$out"
+mkdir -p "$out/plates" "$out/trapped"
+words=()
+for ink in "${inks[@]}"; do
+  gzip -dc "plates/$ink.pgm.gz" > "$out/plates/$ink.pgm"
+  words+=("$ink:$out/plates/$ink.pgm:$out/trapped/$ink.pgm")
+done
+../../trap page poster.job "$out/report" "${words[@]}"
+
+cmp "$out/report" expected/report
+for ink in "${inks[@]}"; do
+  gzip -dc "expected/$ink.pgm.gz" | cmp - "$out/trapped/$ink.pgm"
+done
+cat "$out/report"
+echo "examples/poster: the trapped plates and the report are as expected"
+
+if command -v python3 >/dev/null; then
+  python3 make.py "$out/made"
+  for ink in "${inks[@]}"; do
+    cmp "$out/made/$ink.pgm" "$out/plates/$ink.pgm"
+  done
+  python3 show.py "$out/plates" "$out/trapped" "$out"
+  echo "examples/poster: pictures are in $PWD/$out: before.png, after.png, register.png, close.png"
+else
+  echo "examples/poster: no pictures, there is no python3 to draw them"
+fi
