@@ -11,8 +11,12 @@ mod marks;
 mod memory;
 mod nearest;
 mod planes;
+#[cfg(test)]
+mod random_pages;
 mod reads;
 mod samples;
+#[cfg(test)]
+mod slow_marks;
 mod strips;
 #[cfg(test)]
 mod tests;

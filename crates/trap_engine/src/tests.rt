@@ -1,8 +1,13 @@
 ghost use Rattle.std.specs.Prelude.{◌≡◌, ◌≤◌, ◌∷◌, [], All, IfOk, length};
 ghost use Rattle.page_model.specs.Conditions.{IsInk, IsParts, IsPlane, IsZone};
 
+use crate::counting::edges_in;
+use crate::marks::marks_of;
 use crate::memory::push;
+use crate::random_pages::some_page;
+use crate::slow_marks::slow_marks;
 use crate::trap_alone;
+use crate::zones::zones_of;
 use page_model::list::List;
 use page_model::page::Page;
 use page_model::parts::{Ink, InkKind, OutOfMemory, PageParts, Plane, TrapParams, Zone};
@@ -115,5 +120,36 @@ fn writes_a_row_of_zones(rt: HostRuntime) -> Result<(), Fail> {
     let mut spans = SpanBuf::new(rt.alloc(), 6)?;
     zone_row(&page, 0, &mut zones, &mut spans);
     assert_eq!(rt; zones, [0; 6]);
+    Ok(())
+}
+
+/// How many edges of a page by chance decide, or `None` where its marks are not those that its samples have one by one.
+fn edges_alike(alloc: Global, dice: &mut u64, width: u32, count: u32) -> Result<Option<u64>, Fail>
+    requires some { 1 ≤ width }
+    requires narrow { width ≤ 2000 }
+    requires some_plates { 1 ≤ count }
+    requires few_plates { count ≤ 16 }
+{
+    let page = some_page(alloc, dice, width, count)?.ok_or("a fault")?;
+    let zones = zones_of(alloc, &page)?;
+    let marks = marks_of(alloc, &page, zones.as_slice())?;
+    let slow = slow_marks(alloc, &page, zones.as_slice())?;
+    if marks.as_slice() == slow.as_slice() {
+        Ok(Some(edges_in(&page, marks.as_slice())))
+    } else {
+        Ok(None)
+    }
+}
+
+#[test]
+fn marks_rows_as_their_samples(rt: HostRuntime) -> Result<(), Fail> {
+    let mut dice = 2026;
+    let mut edges: u64 = 0;
+    for turn in 0..24 {
+        let width = if turn % 6 == 5 { 1_100 } else { 30 };
+        let more = edges_alike(rt.alloc(), &mut dice, width, 2 + turn % 4)?;
+        edges = edges.wrapping_add(more.ok_or("other marks")?);
+    }
+    assert!(rt; edges > 500);
     Ok(())
 }
