@@ -43,7 +43,7 @@ data Ending (page : PageWords) (t t' : TrayState) (r r' : RackState) (status : �
 -- a count that rose stays above what it was
 rose_after : (a b c : ℕ) → a ≤ b → b ≤ c → Rose a b → Rose a c
 rose_after a b c first then (inl less) = inl (omega arith)
-rose_after a b c first then (inr last) = elim (cases_lt a c) [ | inl less ↦ inl less | inr back ↦ inr (omega arith) ]
+rose_after a b c first then (inr last) = elim (cases_lt a c) [ inl less ↦ inl less | inr back ↦ inr (omega arith) ]
 
 -- the write that failed, after its line was told
 breaks_then : (written : List Written) (k : ℕ) (a b c : RackState) → KeepsRack a b → BreaksAt written k a b → KeepsFiles b c → BreaksAt written k a c

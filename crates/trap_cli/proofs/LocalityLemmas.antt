@@ -49,7 +49,7 @@ none_at : {X : Type 0} (f : ℕ → Option X) (n c : ℕ) → first_some f n ≡
 none_at f zero c is below = absurd (omega arith)
 none_at f (suc n) c is below =
     let parts = none_before (first_some f n) (f n) is in
-    elim (cases_eq c n) [ | inl same ↦ rw same parts.1 | inr other ↦ none_at f n c parts.0 (omega (arith, other)) ]
+    elim (cases_eq c n) [ inl same ↦ rw same parts.1 | inr other ↦ none_at f n c parts.0 (omega (arith, other)) ]
 
 -- a plate without a difference has the sides and the maxval of the page
 agrees : (page : PageParts) (c : ℕ) → difference page c ≡ None → Agrees page c

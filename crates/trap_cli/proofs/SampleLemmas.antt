@@ -11,7 +11,7 @@ use Rattle.trap_words.specs.Words.{SampleWords}
 use Rattle.trap_cli.specs.Endings.{IsSmall, MakesReport, sample_report}
 
 pub is_small : (words : SampleWords) → (160000000 < 4 * words.width * words.height → ⊥) → IsSmall words
-is_small words not_large = elim (cases_lt 160000000 (4 * words.width * words.height)) [ | inl large ↦ absurd (not_large large) | inr small ↦ small ]
+is_small words not_large = elim (cases_lt 160000000 (4 * words.width * words.height)) [ inl large ↦ absurd (not_large large) | inr small ↦ small ]
 
 pub report_made : (words : SampleWords) (page : PageParts) (result : Result (List ℕ) Refusal) → IsSmall words → page ≡ sample_parts words.number words.width words.height → MatchResult result (λ text. text ≡ report_of page (page_counts page)) (λ refusal. refusal ≡ Memory) → MakesReport words result
 report_made words page (Ok text) small is made = (small, made ∙ ap (λ (p : PageParts). report_of p (page_counts p)) is)

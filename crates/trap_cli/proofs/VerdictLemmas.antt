@@ -92,7 +92,7 @@ module _ (laws : PlateLaws) (files : List ℕ → Option (List ℕ)) (words : Pa
   same_place : (j k : ℕ) (f g : PlateFault) → PlateFails files words j f → PlateFails files words k g → j ≡ k
   same_place j k f g a b = elim (cases_lt j k) [
     | inl less ↦ absurd (one_place j k f g a b less)
-    | inr more ↦ elim (cases_lt k j) [ | inl less ↦ absurd (one_place k j g f b a less) | inr other ↦ omega arith ]
+    | inr more ↦ elim (cases_lt k j) [ inl less ↦ absurd (one_place k j g f b a less) | inr other ↦ omega arith ]
   ]
 
   one_plate_fault : (j k : ℕ) (f g : PlateFault) → PlateFails files words j f → PlateFails files words k g → ◌≡◌ {A = Refusal} (Plate j f) (Plate k g)

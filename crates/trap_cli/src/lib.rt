@@ -5,4 +5,6 @@ mod closing;
 mod outcome;
 mod page;
 mod sample;
+#[cfg(test)]
+mod tests;
 pub mod top;
