@@ -7,14 +7,9 @@ The plate is the same at each call. It prints the least time of each, their rati
 """
 import argparse
 import os
-import resource
-import subprocess
 import tempfile
-import time
 
-TOP = os.path.dirname(os.path.dirname(os.path.abspath(__file__)))
-PROGRAM = os.path.join(TOP, "crates", "trap", "out", "trap")
-JOB = b"<< /Enabled false >> settrapparams showpage"
+from timing import NO_TRAPS, PROGRAM, cat, least
 
 
 def make(path, width, height, maxval):
@@ -28,33 +23,25 @@ def make(path, width, height, maxval):
             out.write(ramp[start:start + width * size])
 
 
-def least(runs, command, out):
-    times = []
-    for _ in range(runs):
-        if os.path.exists(out):
-            os.remove(out)
-        start = time.perf_counter()
-        subprocess.run(command, check=True, shell=isinstance(command, str))
-        times.append(time.perf_counter() - start)
-    return min(times)
-
-
 def main():
     parser = argparse.ArgumentParser()
     for name, usual in (("width", 4961), ("height", 7016), ("maxval", 255), ("runs", 5)):
         parser.add_argument("--" + name, type=int, default=usual)
+    parser.add_argument("--program", default=PROGRAM)
     asked = parser.parse_args()
     with tempfile.TemporaryDirectory() as folder:
         plate, job, out = (os.path.join(folder, name) for name in ("plate.pgm", "job", "out.pgm"))
         make(plate, asked.width, asked.height, asked.maxval)
         with open(job, "wb") as text:
-            text.write(JOB)
-        cat = least(asked.runs, "cat %s > %s" % (plate, out), out)
-        trap = least(asked.runs, [PROGRAM, "page", job, os.path.join(folder, "report"), "Ink:%s:%s" % (plate, out)], out)
-        peak = resource.getrusage(resource.RUSAGE_CHILDREN).ru_maxrss
+            text.write(NO_TRAPS)
+        copied = least(asked.runs, cat([(plate, out)]), [out])
+        words = [asked.program, "page", job, os.path.join(folder, "report"), "Ink:%s:%s" % (plate, out)]
+        trap = least(asked.runs, words, [out])
         samples = asked.width * asked.height
-        print("%d samples, maxval %d: cat %.0f ms, trap %.0f ms, ratio %.2f, %.0f million samples a second, peak %d MB"
-              % (samples, asked.maxval, cat * 1e3, trap * 1e3, trap / cat, samples / trap / 1e6, peak // 1024))
+        print("%d samples, maxval %d: cat %.0f ms, trap %.0f ms, ratio %.2f (of processors' time %.2f), "
+              "%.0f million samples a second, peak %.0f MB"
+              % (samples, asked.maxval, copied.seconds * 1e3, trap.seconds * 1e3, trap.seconds / copied.seconds,
+                 trap.worked / copied.worked, samples / trap.seconds / 1e6, trap.peak_megabytes))
 
 
 main()

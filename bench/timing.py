@@ -1,0 +1,46 @@
+"""What the benches share: the program, and the least time and the peak memory of a command run several times.
+
+Beside the time that passes there is the time that processors worked on the command. Where other work goes on beside it, the
+first says little and the second more.
+"""
+import os
+import subprocess
+import time
+from collections import namedtuple
+
+TOP = os.path.dirname(os.path.dirname(os.path.abspath(__file__)))
+PROGRAM = os.path.join(TOP, "crates", "trap", "out", "trap")
+
+# A job that traps nothing: what it takes is reading, checking and writing alone.
+NO_TRAPS = b"<< /Enabled false >> settrapparams showpage"
+
+Timed = namedtuple("Timed", "seconds worked peak_megabytes")
+
+
+def timed(command):
+    """Runs the command once. A text goes to the shell, a list is a program and its words."""
+    start = time.perf_counter()
+    child = subprocess.Popen(command, shell=isinstance(command, str))
+    _, status, used = os.wait4(child.pid, 0)
+    seconds = time.perf_counter() - start
+    child.returncode = os.waitstatus_to_exitcode(status)
+    if child.returncode != 0:
+        raise subprocess.CalledProcessError(child.returncode, command)
+    return Timed(seconds, used.ru_utime + used.ru_stime, used.ru_maxrss / 1024)
+
+
+def least(runs, command, made):
+    """The least times and the most memory of so many runs. The files that it makes are removed before each."""
+    results = []
+    for _ in range(runs):
+        for path in made:
+            if os.path.exists(path):
+                os.remove(path)
+        results.append(timed(command))
+    return Timed(min(result.seconds for result in results), min(result.worked for result in results),
+                 max(result.peak_megabytes for result in results))
+
+
+def cat(pairs):
+    """The shell's command that copies each file of (from, to)."""
+    return " && ".join("cat '%s' > '%s'" % pair for pair in pairs)
