@@ -1,5 +1,5 @@
 -- The job by its first 1,048,577 bytes.
-use Rattle.std.proofs.Common.{◌≡◌, ℕ, ◌<◌, ◌≤◌, min, Bool, true, false, cond, ltb, List, [], ◌∷◌, length, take, Result, Ok, Err, IfOk, IsTrue, refl, sym, ap, ◌∙◌, subst, arith}
+use Rattle.std.proofs.Common.{◌≡◌, ℕ, ◌<◌, ◌≤◌, min, Bool, true, false, ltb, List, [], ◌∷◌, length, take, Result, Ok, Err, IfOk, IsTrue, refl, sym, ap, ◌∙◌, subst, arith}
 use Rattle.std.proofs.lemmas.Bool.Decides.{nat_tests}
 use Rattle.std.proofs.lemmas.List.{take_all, length-take}
 use Rattle.job_reader.specs.declared.job.Job.{Job}
@@ -9,7 +9,6 @@ use Rattle.outside.specs.Causes.{Asks}
 use Rattle.outside.specs.Tray.{TrayState, KeepsTray}
 use Rattle.outside.specs.Reading.{TakesFront}
 use Rattle.ps_tokens.specs.declared.faults.FaultKind.TheVariants.{JobTooLong}
-use Rattle.ps_tokens.specs.declared.faults.JobFault.{JobFault}
 use Rattle.ps_tokens.specs.declared.faults.JobRefusal.{JobRefusal as JobRefusals}
 use Rattle.ps_tokens.specs.declared.faults.JobRefusal.TheVariants.{Fault, OutOfMemory}
 use Rattle.ps_tokens.specs.Tokens.{Gives}

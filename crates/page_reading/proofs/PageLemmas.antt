@@ -1,7 +1,7 @@
 -- The page of a job and plates that are read.
-use Rattle.std.proofs.Common.{◌≡◌, ◌⊎◌, ℕ, ◌≤◌, ◌<◌, ◌+◌, List, [], ◌∷◌, ◌++◌, length, map, take, All, Option, Some, None, Result, Ok, Err, IsTrue, inl, inr, refl, sym, ap, ◌∙◌, subst, arith, suc}
+use Rattle.std.proofs.Common.{◌≡◌, ◌⊎◌, ℕ, ◌<◌, ◌+◌, List, [], ◌∷◌, ◌++◌, length, take, Option, Some, None, Result, Ok, Err, IsTrue, inl, inr, sym, ap, ◌∙◌, subst, arith, suc}
 use Rattle.std.specs.Result.{MatchResult}
-use Rattle.outside.specs.Causes.{Rose, Asks}
+use Rattle.outside.specs.Causes.{Asks}
 use Rattle.outside.specs.Tray.{TrayState, KeepsTray}
 use Rattle.outside.proofs.Steps.{rose_before}
 use Rattle.job_reader.specs.declared.job.Job.{Job}
@@ -9,9 +9,8 @@ use Rattle.job_reader.specs.Jobs.{job_of}
 use Rattle.page_model.specs.declared.parts.PageParts.{PageParts}
 use Rattle.page_model.specs.declared.page.PageFault.{PageFault}
 use Rattle.pgm_plates.specs.declared.plate.Plate.{Plate as PlateRead}
-use Rattle.pgm_plates.specs.Plates.{IsPlate}
 use Rattle.pgm_plates.specs.Faults.{IsFault}
-use Rattle.trap_engine.specs.Assembly.{assembly, assembled, detailed, faulted, without_details, CanAssemble}
+use Rattle.trap_engine.specs.Assembly.{assembly, assembled, detailed, faulted, without_details}
 use Rattle.page_model.specs.Faults.{page_fault}
 use Rattle.page_model.specs.Page.{plates}
 use Rattle.pgm_plates.specs.Planes.{plane_of}
@@ -21,7 +20,7 @@ use Rattle.trap_report.specs.declared.refusal.Refusal.TheVariants.{Usage, Job as
 use Rattle.trap_words.specs.Plates.{PlateNames}
 use Rattle.trap_words.specs.Words.{PageWords}
 use Rattle.page_reading.specs.Names.{AsksFront}
-use Rattle.page_reading.specs.Inputs.{Holds, AreRead, Inputs, PlateFails, inputs_of, names_of, name_at}
+use Rattle.page_reading.specs.Inputs.{Holds, AreRead, Inputs, inputs_of, names_of, name_at}
 use Rattle.page_reading.specs.Steps.{ReadsJob, AnswersJob, ReadsPlates, AnswersPlates}
 use Rattle.page_reading.specs.Reading.{ReadsPage, AnswersPage, Makes, read_files}
 use Rattle.page_reading.proofs.NameLemmas.{asks_then, asks_all, asks_front, asks_first}

@@ -1,5 +1,5 @@
 -- The job and the plates of a command of a page, by the bytes of its files.
-use Rattle.std.specs.Prelude.{◌≡◌, ℕ, ◌<◌, List, [], length, map, take, slice_index_or, Option, Some, Ok}
+use Rattle.std.specs.Prelude.{◌≡◌, ℕ, ◌<◌, List, [], length, map, slice_index_or, Option, Some, Ok}
 use Rattle.job_reader.specs.declared.job.Job.{Job}
 use Rattle.job_reader.specs.Jobs.{job_of}
 use Rattle.pgm_plates.specs.declared.plate.Plate.{Plate}

@@ -1,4 +1,4 @@
-use Rattle.std.proofs.Common.{◌≡◌, sym, subst, List, ℕ}
+use Rattle.std.proofs.Common.{subst, List, ℕ}
 use Rattle.job_reader.specs.Jobs.{job_of}
 use Rattle.ps_tokens.specs.Tokens.{Gives}
 use Rattle.page_reading.proofs.JobLemmas.{job_judged}

@@ -1,4 +1,4 @@
-use Rattle.std.proofs.Common.{◌≡◌, List, Ok, Err, subst}
+use Rattle.std.proofs.Common.{List, Ok, Err, subst}
 use Rattle.trap_words.specs.declared.command.PlateWord.{PlateWord}
 use Rattle.trap_words.specs.Held.{page_in, plates_in}
 use Rattle.page_reading.specs.Inputs.{inputs_of}

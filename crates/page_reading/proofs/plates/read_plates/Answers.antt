@@ -1,4 +1,4 @@
-use Rattle.std.proofs.Common.{◌≡◌, ◌<◌, length, rules, arith, List, ℕ, subst, sym, ◌++◌, ◌∷◌, [], ◌+◌}
+use Rattle.std.proofs.Common.{◌≡◌, ◌<◌, length, rules, arith, List, subst, sym, ◌++◌, ◌∷◌, [], ◌+◌}
 use Rattle.pgm_plates.specs.declared.plate.Plate.{Plate}
 use Rattle.trap_words.specs.Held.{plates_in}
 use Rattle.page_reading.specs.Inputs.{inputs_of}
