@@ -92,19 +92,18 @@ answer_plates words a b c job (Plate plate fault) keeps asked job_read count ans
       known = subst (λ (n : ℕ). plate < n) count stop.known;
       broken = held_before a b (name_at (inputs_of words.plates) plate) (λ bytes. IsFault bytes fault) keeps answer.1 tells;
     }
-answer_plates words a b c job (Read (Some plate)) keeps asked job_read count answer =
-    (
-      rose_before a.faults b.faults c.faults keeps.faults answer.1,
-      asked_to words a b c plate asked answer.0.asked,
-      record {
-        known = subst (λ (n : ℕ). plate < n) count answer.0.known;
-        job = job;
-        plates = answer.0.plates;
-        job_read = job_read;
-        before_it = λ tells. read_before a b (inputs_of words.plates) plate answer.0.plates keeps (answer.0.before_it (keeps.tells ∙ tells));
-        in_hand = faultless_before a b c (name_at (inputs_of words.plates) plate) keeps answer.2;
-      },
-    )
+answer_plates words a b c job (Read (Some plate)) keeps asked job_read count answer = (
+  rose_before a.faults b.faults c.faults keeps.faults answer.1,
+  asked_to words a b c plate asked answer.0.asked,
+  record {
+    known = subst (λ (n : ℕ). plate < n) count answer.0.known;
+    job = job;
+    plates = answer.0.plates;
+    job_read = job_read;
+    before_it = λ tells. read_before a b (inputs_of words.plates) plate answer.0.plates keeps (answer.0.before_it (keeps.tells ∙ tells));
+    in_hand = faultless_before a b c (name_at (inputs_of words.plates) plate) keeps answer.2;
+  },
+)
 answer_plates words a b c job Memory keeps asked job_read count answer = tt
 answer_plates words a b c job Usage keeps asked job_read count answer = absurd answer
 answer_plates words a b c job (JobRefusal fault) keeps asked job_read count answer = absurd answer

@@ -134,12 +134,11 @@ answer_refused names k a b c plates (Plate at fault) within so_far keeps asked a
   at_plate names k at a b c answer.0 (stops names k a b c plates within so_far keeps asked),
   λ tells. subst (λ (n : ℕ). Holds a.file (name_at names n) (λ bytes. IsFault bytes fault)) (sym answer.0) (held_before a b (name_at names k) (λ bytes. IsFault bytes fault) so_far.keeps answer.1 tells),
 )
-answer_refused names k a b c plates (Read (Some at)) within so_far keeps asked answer =
-    (
-      at_plate names k at a b c answer.0 (stops names k a b c plates within so_far keeps asked),
-      rose_before a.faults b.faults c.faults so_far.keeps.faults answer.1,
-      subst (λ (n : ℕ). IsFaultless (name_at names n) a c) (sym answer.0) (faultless_before a b c (name_at names k) so_far.keeps answer.2),
-    )
+answer_refused names k a b c plates (Read (Some at)) within so_far keeps asked answer = (
+  at_plate names k at a b c answer.0 (stops names k a b c plates within so_far keeps asked),
+  rose_before a.faults b.faults c.faults so_far.keeps.faults answer.1,
+  subst (λ (n : ℕ). IsFaultless (name_at names n) a c) (sym answer.0) (faultless_before a b c (name_at names k) so_far.keeps answer.2),
+)
 answer_refused names k a b c plates Memory within so_far keeps asked answer = asks_front a.asked c.asked (k + 1) names (asked_more names k a b c within so_far.asked asked)
 answer_refused names k a b c plates Usage within so_far keeps asked answer = absurd answer
 answer_refused names k a b c plates (JobRefusal fault) within so_far keeps asked answer = absurd answer

@@ -1,6 +1,6 @@
 -- The planes of a page after trapping are in range.
 use Rattle.std.specs.Prelude.{⊤, slice_index_or}
-use Rattle.std.proofs.Common.{◌≡◌, ℕ, zero, suc, ◌+◌, ◌*◌, ◌-◌, ◌/◌, ◌%◌, ◌<◌, ◌≤◌, Bool, true, false, ◌&&◌, max, List, [], ◌∷◌, ◌++◌, length, Option, Some, None, inl, inr, refl, sym, ap, ◌∙◌, subst, arith}
+use Rattle.std.proofs.Common.{◌≡◌, ℕ, zero, suc, ◌+◌, ◌*◌, ◌-◌, ◌/◌, ◌<◌, ◌≤◌, ◌&&◌, [], ◌∷◌, length, Option, Some, None, inl, inr, refl, sym, ap, ◌∙◌, subst, arith}
 use Rattle.std.specs.Option.{MatchOption}
 use Rattle.std.specs.List.{All}
 use Rattle.std.proofs.lemmas.Bool.{cases_Bool, cases_eq}
@@ -13,8 +13,7 @@ use Rattle.page_model.specs.Conditions.{IsPage}
 use Rattle.page_model.specs.Decider.{decider, IsDecider}
 use Rattle.page_model.specs.Density.{density, spreads}
 use Rattle.page_model.specs.Edges.{IsEdge, across, on_first_side}
-use Rattle.page_model.specs.Page.{InPage, ink_at, params_at, plates, width, height, maxval, samples, sample_at, tint, no_zone}
-use Rattle.page_model.specs.Planes.{no_plane}
+use Rattle.page_model.specs.Page.{InPage, ink_at, params_at, plates, width, height, maxval, samples, sample_at, no_zone}
 use Rattle.page_model.specs.Tints.{full, full_density, scaled_in, new_in, new_from, new, new_tints, trapped_plane, trapped_planes}
 use Rattle.page_model.specs.Trapped.{trapped_in}
 use Rattle.page_model.specs.Words.{list_below}

@@ -1,5 +1,5 @@
 -- What it means to write files one after another, and all files of a page.
-use Rattle.std.specs.Prelude.{◌≡◌, ◌⊎◌, ℕ, ◌<◌, IsTrue, List, [], ◌∷◌, ◌++◌, length, take, Option, Some, None, Result, Ok, Err}
+use Rattle.std.specs.Prelude.{◌≡◌, ◌⊎◌, ℕ, ◌<◌, IsTrue, List, [], ◌∷◌, ◌++◌, length, take, Some, None, Result, Ok, Err}
 use Rattle.outside.specs.Causes.{Rose, Asks}
 use Rattle.outside.specs.Rack.{RackState, KeepsRack, put}
 use Rattle.page_model.specs.declared.parts.Plane.{Plane}

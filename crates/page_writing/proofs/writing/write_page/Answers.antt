@@ -1,4 +1,4 @@
-use Rattle.std.proofs.Common.{◌≡◌, ◌∙◌, length, sym}
+use Rattle.std.proofs.Common.{◌∙◌, sym}
 use Rattle.std.proofs.lemmas.List.{length-map}
 use Rattle.page_writing.specs.Files.{outputs_in}
 use Rattle.page_writing.proofs.Steps.{page_written, report_broken, plates_broken}
