@@ -1,0 +1,12 @@
+use crate::laws::{
+    job_is_of_what_is_in_force, job_of_bytes_is_of_what_is_in_force,
+    path_is_of_the_statements_since, zones_are_those_in_force,
+};
+
+#[test]
+fn laws_hold() {
+    path_is_of_the_statements_since();
+    zones_are_those_in_force();
+    job_is_of_what_is_in_force();
+    job_of_bytes_is_of_what_is_in_force();
+}
