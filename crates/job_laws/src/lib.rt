@@ -1,0 +1,6 @@
+//! Laws of whole jobs, over their statements alone: the path and the zones in force, and the job that is read.
+#![tactic(auto)]
+
+pub mod laws;
+#[cfg(test)]
+mod tests;
