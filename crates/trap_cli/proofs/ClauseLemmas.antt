@@ -1,5 +1,5 @@
 -- The clauses of the top call, by how the words' command ended.
-use Rattle.std.proofs.Common.{◌≡◌, ◌≢◌, ◌⊎◌, ◌↔◌, ℕ, ◌≤◌, ◌<◌, ◌+◌, ◌*◌, Bool, true, false, cond, codes, List, [], ◌∷◌, ◌++◌, take, Option, Some, None, Result, Ok, Err, IsTrue, inl, inr, refl, sym, ap, ◌∙◌, subst, arith}
+use Rattle.std.proofs.Common.{◌≡◌, ◌≢◌, ◌⊎◌, ℕ, ◌≤◌, Bool, true, cond, codes, List, [], ◌∷◌, ◌++◌, take, Option, Some, None, Result, Ok, Err, IsTrue, inl, inr, sym, ap, ◌∙◌, subst, arith}
 use Rattle.std.proofs.lemmas.Bool.{cases_lt}
 use Rattle.std.specs.Option.{option_map}
 use Rattle.std.specs.Str.{bytes_eq}
@@ -9,7 +9,7 @@ use Rattle.outside.specs.Rack.{RackState, KeepsRack, put}
 use Rattle.outside.proofs.Steps.{rose_before}
 use Rattle.page_model.specs.declared.page.PageFault.TheVariants.{TooManySamples}
 use Rattle.page_reading.specs.Names.{AsksFront}
-use Rattle.page_reading.specs.Reading.{AnswersPage, read_files}
+use Rattle.page_reading.specs.Reading.{read_files}
 use Rattle.page_writing.specs.Files.{Written, put_all, names_of}
 use Rattle.page_writing.specs.Writing.{BreaksAt}
 use Rattle.trap_report.specs.declared.refusal.Refusal.{Refusal}
@@ -17,11 +17,11 @@ use Rattle.trap_report.specs.declared.refusal.Refusal.TheVariants as refusals
 use Rattle.trap_report.specs.Refusals.{status_of, line_of}
 use Rattle.trap_words.specs.Words.{Command, PageWords, SampleWords, begins_with_page, command_of, page_of_words, sample_of_words}
 use Rattle.trap_words.specs.Words.Command.{Page, Sample}
-use Rattle.trap_cli.specs.Endings.{AnswersCommand, CarriesOut, Closes, EndsPage, EndsSample, AnswersSample, Ends, IsSmall, place_of, sample_report}
-use Rattle.trap_cli.specs.Lines.{IsTold, TellsLine, KeepsFiles, Refuses}
+use Rattle.trap_cli.specs.Endings.{CarriesOut, Closes, EndsPage, EndsSample, AnswersSample, Ends, IsSmall, place_of, sample_report}
+use Rattle.trap_cli.specs.Lines.{TellsLine, KeepsFiles, Refuses}
 use Rattle.trap_cli.specs.Verdicts.{Verdict, IsVerdict, written_names}
 use Rattle.trap_cli.specs.Verdicts.Verdict.{Refused, Out}
-use Rattle.trap_cli.specs.Clauses.{MeanPage, MeanSample, Success, Usage, RefusedInput, ReadFault, WriteFault, FaultLine, SamplePage, Completeness, BreaksReading}
+use Rattle.trap_cli.specs.Clauses.{MeanPage, MeanSample, RefusedInput, ReadFault, WriteFault, FaultLine, SamplePage, Completeness, BreaksReading}
 use Rattle.trap_cli.proofs.EndLemmas.{asks_none}
 use Rattle.trap_cli.proofs.VerdictLemmas.{PlateLaws, one_verdict}
 

@@ -1,15 +1,11 @@
 -- How a command of a page ends, from how its page is read and put out.
-use Rattle.std.proofs.Common.{◌≡◌, ◌⊎◌, ℕ, ◌≤◌, List, [], ◌∷◌, ◌++◌, take, Option, Some, None, Result, Ok, Err, IsTrue, inl, inr, refl, sym, ap, ◌∙◌, subst, arith}
+use Rattle.std.proofs.Common.{ℕ, List, Option, Some, None, Result, Ok, Err, IsTrue, refl, sym, arith}
 use Rattle.std.proofs.lemmas.List.{append-nil}
-use Rattle.outside.specs.Causes.{Rose}
 use Rattle.outside.specs.Tray.{TrayState}
 use Rattle.outside.specs.Rack.{RackState, KeepsRack}
-use Rattle.outside.proofs.Steps.{rose_before}
 use Rattle.page_model.specs.declared.parts.PageParts.{PageParts}
 use Rattle.page_reading.specs.Names.{AsksFront}
 use Rattle.page_reading.specs.Reading.{ReadsPage, AnswersPage}
-use Rattle.page_writing.specs.Files.{Written}
-use Rattle.page_writing.specs.Writing.{BreaksAt}
 use Rattle.trap_report.specs.declared.refusal.Refusal.{Refusal}
 use Rattle.trap_report.specs.declared.refusal.Refusal.TheVariants.{Usage, Job, NoDetails, Plate, Page, Read, Write, Memory}
 use Rattle.trap_words.specs.Words.{PageWords}

@@ -1,5 +1,5 @@
 -- What is written differs from what was read only near edges.
-use Rattle.std.proofs.Common.{◌≡◌, ◌≢◌, ◌⊎◌, ℕ, zero, suc, ◌+◌, ◌==◌, ◌&&◌, ◌-◌, ◌*◌, ◌/◌, ◌%◌, ◌<◌, ◌≤◌, Bool, true, false, if◌then◌else◌, List, map, length, get_or, All, Option, Some, None, Result, Ok, Err, inl, inr, refl, sym, ap, ◌∙◌, subst, arith}
+use Rattle.std.proofs.Common.{◌≡◌, ◌≢◌, ℕ, zero, suc, ◌==◌, ◌&&◌, ◌-◌, ◌*◌, ◌<◌, ◌≤◌, true, if◌then◌else◌, List, map, length, get_or, Option, Some, None, Ok, inl, inr, refl, sym, ap, ◌∙◌, subst, arith}
 use Rattle.std.proofs.lemmas.Bool.{cases_Bool, cases_eq, and_parts, eqb-true, leb-true}
 use Rattle.std.proofs.lemmas.List.{get_or-map, length-map}
 use Rattle.std.proofs.Math.Nat.{mod-add-div, mul-le-mul, le_trans}
@@ -16,20 +16,19 @@ use Rattle.page_model.specs.Conditions.{Agrees}
 use Rattle.page_model.specs.Faults.{page_fault, difference, too_many, too_wide}
 use Rattle.page_model.specs.Page.{plates, width, height, maxval, place, samples, sample_at, tint, params_at}
 use Rattle.page_model.specs.Planes.{plane_at, no_plane}
-use Rattle.page_model.specs.Tints.{new, new_tints, trapped_plane}
+use Rattle.page_model.specs.Tints.{new, new_tints}
 use Rattle.page_model.specs.Within.{within, within_in, black, edge_slid}
-use Rattle.page_model.specs.Words.{square, list_below, or_else, first_some}
+use Rattle.page_model.specs.Words.{square, or_else, first_some}
 use Rattle.page_model.specs.Zones.{zone_of}
 use Rattle.page_model.proofs.ReachLaws.{keeps_unless_within}
 use Rattle.page_reading.specs.Inputs.{Inputs, names_of, plate_at, no_plate}
 use Rattle.pgm_plates.specs.declared.plate.Plate.{Plate as PlateRead}
-use Rattle.pgm_plates.specs.Planes.{plane_of, plate_of}
+use Rattle.pgm_plates.specs.Planes.{plane_of}
 use Rattle.pgm_plates.specs.Plates.{IsPlate}
 use Rattle.trap_engine.specs.Assembly.{assembly, assembled, detailed, faulted, without_details}
 use Rattle.trap_engine.proofs.ListBelow.{length-list_below, list_below-at}
-use Rattle.trap_report.specs.declared.refusal.Refusal.{Refusal}
 use Rattle.trap_words.specs.Words.{PageWords}
-use Rattle.trap_cli.specs.Locality.{IsNear, IsUpTo, ChangesNearEdges, sample_in, plate_after}
+use Rattle.trap_cli.specs.Locality.{IsNear, ChangesNearEdges, sample_in, plate_after}
 
 -- parts without a fault are the page that is made
 without_fault : (o : Option PageFault) (parts made : PageParts) → faulted parts o ≡ Ok made → (parts ≡ made) × (o ≡ None)

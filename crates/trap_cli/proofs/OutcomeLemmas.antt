@@ -1,5 +1,5 @@
 -- What becomes of a page: its counts, and its files.
-use Rattle.std.proofs.Common.{◌≡◌, ◌⊎◌, ℕ, List, [], ◌∷◌, ◌++◌, length, map, Option, Some, None, Result, Ok, Err, IsTrue, refl, sym, ap, ◌∙◌, subst}
+use Rattle.std.proofs.Common.{◌≡◌, ℕ, List, [], ◌∷◌, length, Some, None, Result, Ok, Err, refl, ap, subst}
 use Rattle.std.proofs.lemmas.List.{length-map}
 use Rattle.outside.specs.Rack.{RackState}
 use Rattle.page_model.specs.declared.parts.PageParts.{PageParts}
@@ -7,8 +7,8 @@ use Rattle.page_model.specs.declared.parts.Plane.{Plane}
 use Rattle.page_model.specs.Counts.{page_counts, zone_samples, zone_changed, plate_changed}
 use Rattle.page_model.specs.Page.{plates}
 use Rattle.page_model.specs.Tints.{trapped_plane, trapped_planes}
-use Rattle.page_writing.specs.Files.{Written, page_files, outputs_in}
-use Rattle.page_writing.specs.Writing.{WritesPage, WritesAll, BreaksAt, AnswersWriting}
+use Rattle.page_writing.specs.Files.{outputs_in}
+use Rattle.page_writing.specs.Writing.{WritesPage, BreaksAt, AnswersWriting}
 use Rattle.trap_engine.proofs.ListBelow.{length-list_below}
 use Rattle.trap_report.specs.declared.refusal.Refusal.{Refusal}
 use Rattle.trap_report.specs.declared.refusal.Refusal.TheVariants.{Usage, Job, NoDetails, Plate, Page, Read, Write, Memory}

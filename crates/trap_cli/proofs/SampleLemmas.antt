@@ -1,5 +1,5 @@
 -- The report of a sample page.
-use Rattle.std.proofs.Common.{◌≡◌, ℕ, ◌*◌, ◌<◌, ◌≤◌, List, Result, Ok, Err, MatchResult, inl, inr, sym, ap, ◌∙◌, subst, arith}
+use Rattle.std.proofs.Common.{◌≡◌, ℕ, ◌*◌, ◌<◌, List, Result, Ok, Err, MatchResult, inl, inr, sym, ap, ◌∙◌, subst}
 use Rattle.std.proofs.lemmas.Bool.{cases_lt}
 use Rattle.page_model.specs.declared.parts.PageParts.{PageParts}
 use Rattle.page_model.specs.Counts.{page_counts}
@@ -8,7 +8,7 @@ use Rattle.trap_report.specs.declared.refusal.Refusal.{Refusal}
 use Rattle.trap_report.specs.declared.refusal.Refusal.TheVariants.{Memory}
 use Rattle.trap_report.specs.Report.{report_of}
 use Rattle.trap_words.specs.Words.{SampleWords}
-use Rattle.trap_cli.specs.Endings.{IsSmall, MakesReport, sample_report}
+use Rattle.trap_cli.specs.Endings.{IsSmall, MakesReport}
 
 pub is_small : (words : SampleWords) → (160000000 < 4 * words.width * words.height → ⊥) → IsSmall words
 is_small words not_large = elim (cases_lt 160000000 (4 * words.width * words.height)) [ inl large ↦ absurd (not_large large) | inr small ↦ small ]

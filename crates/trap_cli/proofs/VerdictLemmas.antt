@@ -1,5 +1,5 @@
 -- No two verdicts stand at once.
-use Rattle.std.proofs.Common.{◌≡◌, ◌⊎◌, ℕ, ◌<◌, ◌≤◌, List, length, get_or, Option, Some, None, Result, Ok, Err, inl, inr, refl, sym, ap, ◌∙◌, subst, arith}
+use Rattle.std.proofs.Common.{◌≡◌, ℕ, ◌<◌, List, length, Option, Result, Ok, Err, inl, inr, refl, sym, ap, ◌∙◌, subst, arith}
 use Rattle.std.proofs.lemmas.List.{same_lists, get_or_default}
 use Rattle.std.proofs.lemmas.Bool.{cases_lt}
 use Rattle.std.proofs.lemmas.Option.{same_Some}
@@ -13,7 +13,7 @@ use Rattle.pgm_plates.specs.declared.plate.PlateFault.{PlateFault}
 use Rattle.pgm_plates.specs.Plates.{IsPlateFile}
 use Rattle.pgm_plates.specs.Faults.{IsFault}
 use Rattle.pgm_plates.specs.Laws.{NotBoth, OnePlate, OneFault}
-use Rattle.page_reading.specs.Inputs.{Holds, AreRead, Inputs, PlateFails, inputs_of, names_of, name_at, plate_at, no_plate}
+use Rattle.page_reading.specs.Inputs.{Holds, AreRead, PlateFails, inputs_of, names_of, name_at, plate_at, no_plate}
 use Rattle.page_reading.specs.Reading.{Makes}
 use Rattle.page_writing.specs.Files.{Written}
 use Rattle.trap_engine.specs.Assembly.{assembly}

@@ -9,10 +9,10 @@ use Rattle.page_model.specs.Counts.{page_counts}
 use Rattle.page_reading.specs.Names.{AsksFront}
 use Rattle.page_reading.specs.Reading.{AnswersPage, read_files}
 use Rattle.page_source.specs.Sample.{sample_parts}
-use Rattle.page_writing.specs.Files.{Written, put_all}
+use Rattle.page_writing.specs.Files.{Written}
 use Rattle.page_writing.specs.Writing.{WritesAll, BreaksAt}
 use Rattle.trap_report.specs.declared.refusal.Refusal.{Refusal}
-use Rattle.trap_report.specs.declared.refusal.Refusal.TheVariants.{Usage, Job, NoDetails, Plate, Page, Read, Write, Memory}
+use Rattle.trap_report.specs.declared.refusal.Refusal.TheVariants.{Usage, Page, Write, Memory}
 use Rattle.trap_report.specs.Report.{report_of}
 use Rattle.trap_words.specs.Words.{PageWords, SampleWords, begins_with_page, command_of, Page as page_command, Sample as sample_command}
 use Rattle.trap_cli.specs.Lines.{KeepsFiles, Refuses}

@@ -1,5 +1,5 @@
 -- What is to come of a command of a page, by the bytes of its files. The numbers of its workers and of its bands' rows are not looked at.
-use Rattle.std.specs.Prelude.{◌≡◌, ℕ, List, ◌∷◌, [], ◌++◌, Option, Result, Ok, Err}
+use Rattle.std.specs.Prelude.{◌≡◌, ℕ, List, ◌∷◌, [], ◌++◌, Option, Ok, Err}
 use Rattle.job_reader.specs.Jobs.{job_of}
 use Rattle.page_model.specs.declared.parts.PageParts.{PageParts}
 use Rattle.page_model.specs.Counts.{page_counts}

@@ -1,4 +1,4 @@
-use Rattle.std.proofs.Common.{◌≡◌, sym, subst}
+use Rattle.std.proofs.Common.{sym, subst}
 use Rattle.page_model.specs.declared.parts.Counts.{Counts}
 use Rattle.trap_report.specs.Report.{AreCounts}
 use Rattle.trap_cli.proofs.OutcomeLemmas.{counts_fit}

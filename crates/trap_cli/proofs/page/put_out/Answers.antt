@@ -1,4 +1,4 @@
-use Rattle.std.proofs.Common.{◌≡◌, length, List, ap, sym, ◌∙◌}
+use Rattle.std.proofs.Common.{length, List, ap, sym, ◌∙◌}
 use Rattle.page_model.specs.declared.parts.Plane.{Plane}
 use Rattle.page_writing.specs.Files.{outputs_in}
 use Rattle.trap_words.specs.Held.{page_in}

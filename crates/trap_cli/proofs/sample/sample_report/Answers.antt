@@ -1,4 +1,3 @@
-use Rattle.std.proofs.Common.{◌≡◌, ◌≤◌, ◌*◌, ◌⊎◌, ℕ, List, Result, Ok, Err, refl, sym, ap, ◌∙◌, arith}
 use Rattle.trap_words.specs.Held.{sample_in}
 use Rattle.trap_cli.proofs.SampleLemmas.{is_small, report_made}
 use Rattle.trap_cli.proofs.sample.sample_report.Goals as goal

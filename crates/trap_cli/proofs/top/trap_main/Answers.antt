@@ -1,7 +1,6 @@
 use Rattle.std.proofs.Common.{map, string_bytes, Global}
 use Rattle.trap_cli.proofs.ClauseLemmas.{refused_input, read_fault, write_fault, fault_line, sample_page, completeness}
 use Rattle.trap_cli.proofs.LocalityLemmas.{changes_near_edges}
-use Rattle.trap_cli.proofs.VerdictLemmas.{PlateLaws}
 use Rattle.trap_cli.proofs.top.trap_main.Goals as goal
 
 pub returns-clause-refused_input : goal.returns-clause-refused_input
