@@ -5,6 +5,8 @@ mod crossings;
 mod row;
 mod spans;
 mod tally;
+#[cfg(test)]
+mod tests;
 
 pub use row::zone_row;
 pub use spans::SpanBuf;
