@@ -35,3 +35,7 @@ IsVerdict files words (Refused (NoDetails plate)) = Makes files words (Err (NoDe
 IsVerdict files words (Refused (Page fault)) = Makes files words (Err (Page fault))
 IsVerdict files words (Refused other) = ⊥
 IsVerdict files words (Out written) = (page : PageParts) × Makes files words (Ok page) × (written ≡ outcome words page)
+
+-- No two verdicts stand on the same files.
+abbrev pub OneVerdict : Type 0
+OneVerdict = (files : List ℕ → Option (List ℕ)) (words : PageWords) (one two : Verdict) → IsVerdict files words one → IsVerdict files words two → one ≡ two

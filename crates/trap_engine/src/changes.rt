@@ -35,7 +35,10 @@ fn note_differences(before: &[u16], after: &[u16], changes: &mut [bool])
     ensures each { (k : ℕ) → k < length after.now → slice_index_or changes.new k false ≡ (slice_index_or changes.old k false || not (slice_index after.now k == slice_index before.now k)) }
 {
     for k in 0..after.len() {
-        changes[k] = changes[k] || after[k] != before[k];
+        // both are worked out first, without a branch, so that many samples go at once
+        let earlier = changes[k];
+        let differs = after[k] != before[k];
+        changes[k] = earlier || differs;
     }
 }
 
