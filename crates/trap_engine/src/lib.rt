@@ -17,6 +17,8 @@ mod reads;
 mod samples;
 #[cfg(test)]
 mod slow_marks;
+#[cfg(test)]
+mod slow_traps;
 mod strips;
 #[cfg(test)]
 mod tests;

@@ -1,6 +1,6 @@
 // Small pages by chance, for tests: some plates of runs of few tints, inks of every kind, and two zones.
 
-ghost use Rattle.std.specs.Prelude.{◌≡◌, ◌≤◌, ◌<◌, ◌*◌, All, IfOk, length, vec_len};
+ghost use Rattle.std.specs.Prelude.{◌≡◌, ◌≤◌, ◌<◌, All, IfOk, length, vec_len};
 ghost use Rattle.page_model.specs.Conditions.{AreLimits, InRange, IsInk, IsParts, IsPath, IsPlane, IsVertex, IsZone};
 
 use crate::memory::push;
@@ -11,6 +11,30 @@ use page_model::parts::{
     Vertex, VertexList, Zone,
 };
 use std::alloc::Global;
+
+/// What a page by chance is like.
+#[derive(Clone, Copy, Drop)]
+pub struct Shape {
+    pub width: u32,
+    pub height: u32,
+    pub plates: u32,
+    /// In pixels per inch.
+    pub resolution: u32,
+    /// How far a zone reaches at most, in half-samples.
+    pub reach2: u32,
+    /// After how many samples all plates may take other tints.
+    pub run: u32,
+    ghost some_width: { 1 ≤ width },
+    ghost narrow: { width ≤ 2000 },
+    ghost some_height: { 1 ≤ height },
+    ghost low: { height ≤ 2000 },
+    ghost some_plates: { 1 ≤ plates },
+    ghost few_plates: { plates ≤ 16 },
+    ghost resolved: { 1 ≤ resolution },
+    ghost fine: { resolution ≤ 10000 },
+    ghost near: { reach2 ≤ 256 },
+    ghost some_run: { 1 ≤ run },
+}
 
 /// A number by chance, below the number of sides.
 fn roll(dice: &mut u64, sides: u64) -> u64
@@ -23,6 +47,32 @@ fn roll(dice: &mut u64, sides: u64) -> u64
     (*dice >> 33) % sides
 }
 
+/// After how many samples tints may change: few or many.
+fn some_run(dice: &mut u64) -> u32
+    ensures { 1 ≤ result }
+{
+    let most = if roll(dice, 2) == 0 { 4 } else { 400 };
+    1 + roll(dice, most) as u32
+}
+
+/// A shape of these sides and this reach, else by chance.
+pub fn some_shape(dice: &mut u64, width: u32, height: u32, reach2: u32) -> Shape
+    requires some_width { 1 ≤ width }
+    requires narrow { width ≤ 2000 }
+    requires some_height { 1 ≤ height }
+    requires low { height ≤ 2000 }
+    requires near { reach2 ≤ 256 }
+{
+    Shape {
+        width,
+        height,
+        plates: 2 + roll(dice, 3) as u32,
+        resolution: if roll(dice, 2) == 0 { 72 } else { 720 },
+        reach2,
+        run: some_run(dice),
+    }
+}
+
 fn some_tint(dice: &mut u64) -> u8 {
     match roll(dice, 4) {
         0 => 0,
@@ -32,24 +82,30 @@ fn some_tint(dice: &mut u64) -> u8 {
     }
 }
 
-/// The last tint again, or one by chance.
-fn next_tint(dice: &mut u64, last: u8) -> u8 {
-    if roll(dice, 2) == 0 {
+/// The last tint again, or one by chance where the tint may change.
+fn next_tint(dice: &mut u64, last: u8, may_change: bool) -> u8 {
+    if may_change && roll(dice, 2) == 0 {
         some_tint(dice)
     } else {
         last
     }
 }
 
-/// Runs of few tints.
-fn some_tints(alloc: Global, dice: &mut u64, count: usize) -> Result<Vec<u16>, OutOfMemory>
+/// Few tints, each for some whole runs.
+fn some_tints(
+    alloc: Global,
+    dice: &mut u64,
+    count: usize,
+    run: u32,
+) -> Result<Vec<u16>, OutOfMemory>
+    requires { 1 ≤ run }
     ensures long { IfOk result (λ tints. vec_len tints ≡ count) }
     ensures deep { IfOk result (λ tints. All (λ t. t ≤ 255) tints.items) }
 {
     let mut tints = Vec::new(alloc);
     let mut last = 0;
-    for _k in 0..count {
-        last = next_tint(dice, last);
+    for k in 0..count {
+        last = next_tint(dice, last, k % run as usize == 0);
         if tints.push(u16::from(last)).is_err() {
             return Err(OutOfMemory);
         }
@@ -57,34 +113,26 @@ fn some_tints(alloc: Global, dice: &mut u64, count: usize) -> Result<Vec<u16>, O
     Ok(tints)
 }
 
-fn some_plane(alloc: Global, dice: &mut u64, width: u32) -> Result<Plane, OutOfMemory>
-    requires some { 1 ≤ width }
-    requires narrow { width ≤ 2000 }
+fn some_plane(alloc: Global, dice: &mut u64, shape: Shape) -> Result<Plane, OutOfMemory>
     ensures { IfOk result IsPlane }
 {
-    let tints = some_tints(alloc, dice, width as usize * 6)?;
+    let count = shape.width as usize * shape.height as usize;
+    let tints = some_tints(alloc, dice, count, shape.run)?;
     Ok(Plane {
-        width,
-        height: 6,
+        width: shape.width,
+        height: shape.height,
         maxval: 255,
         tints: List::from_vec(tints),
     })
 }
 
-fn some_planes(
-    alloc: Global,
-    dice: &mut u64,
-    width: u32,
-    count: u32,
-) -> Result<PlaneList, OutOfMemory>
-    requires some { 1 ≤ width }
-    requires narrow { width ≤ 2000 }
-    ensures count { IfOk result (λ planes. length planes ≡ count) }
+fn some_planes(alloc: Global, dice: &mut u64, shape: Shape) -> Result<PlaneList, OutOfMemory>
+    ensures count { IfOk result (λ planes. length planes ≡ shape.plates) }
     ensures planes { IfOk result (λ planes. All IsPlane planes) }
 {
     let mut planes = List::new(alloc);
-    for _c in 0..count {
-        push(&mut planes, some_plane(alloc, dice, width)?)?;
+    for _c in 0..shape.plates {
+        push(&mut planes, some_plane(alloc, dice, shape)?)?;
     }
     Ok(planes)
 }
@@ -98,6 +146,18 @@ fn some_kind(dice: &mut u64) -> InkKind {
     }
 }
 
+/// In ten-thousandths; the greatest is dense enough for black.
+fn some_density(dice: &mut u64) -> u32
+    ensures some { 10 ≤ result }
+    ensures most { result ≤ 100000 }
+{
+    match roll(dice, 4) {
+        0 => 1_600,
+        1 => 17_000,
+        _ => 6_000,
+    }
+}
+
 fn some_ink(alloc: Global, dice: &mut u64, letter: u8) -> Result<Ink, OutOfMemory>
     ensures { IfOk result IsInk }
 {
@@ -105,7 +165,7 @@ fn some_ink(alloc: Global, dice: &mut u64, letter: u8) -> Result<Ink, OutOfMemor
     push(&mut name, letter)?;
     Ok(Ink {
         name,
-        density: 6_000,
+        density: some_density(dice),
         kind: some_kind(dice),
     })
 }
@@ -128,11 +188,54 @@ fn some_step(dice: &mut u64) -> u32
     roll(dice, 3) as u32 * 3_000
 }
 
-fn some_params(dice: &mut u64) -> TrapParams
+/// One of three parts of a whole of 10,000, the least of them at least 1.
+fn some_part(dice: &mut u64) -> u32
+    ensures some { 1 ≤ result }
+    ensures most { result ≤ 10000 }
+{
+    match roll(dice, 3) {
+        0 => 3_000,
+        1 => 7_000,
+        _ => 10_000,
+    }
+}
+
+fn some_black_width(dice: &mut u64) -> u32
+    ensures some { 1 ≤ result }
+    ensures most { result ≤ 100000 }
+{
+    match roll(dice, 3) {
+        0 => 5_000,
+        1 => 10_000,
+        _ => 20_000,
+    }
+}
+
+/// A trap width by chance with which parameters of that black width reach so many half-samples and not one more.
+fn some_trap_width(dice: &mut u64, black_width: u32, resolution: u32, reach2: u32) -> u32
+    requires resolved { 1 ≤ resolution }
+    requires near { reach2 ≤ 256 }
+    ensures some { 1 ≤ result }
+    ensures most { result ≤ 1000000 }
+{
+    let factor = u64::from(black_width.max(10_000));
+    let half_sample = (3_600_000_000 / factor / u64::from(resolution)).max(1);
+    let width = u64::from(reach2) * half_sample + roll(dice, half_sample);
+    width.max(1).min(1_000_000) as u32
+}
+
+fn some_params(dice: &mut u64, resolution: u32, reach2: u32) -> TrapParams
+    requires resolved { 1 ≤ resolution }
+    requires near { reach2 ≤ 256 }
     ensures { InRange result }
 {
     let mut params = TrapParams::usual();
+    params.black_width = some_black_width(dice);
+    params.trap_width = some_trap_width(dice, params.black_width, resolution, reach2);
+    params.black_color_limit = some_part(dice);
     params.step_limit = some_step(dice);
+    params.sliding_trap_limit = some_part(dice);
+    params.trap_color_scaling = some_part(dice);
     params.enabled = roll(dice, 8) > 0;
     params
 }
@@ -149,92 +252,91 @@ fn some_limits(alloc: Global, dice: &mut u64) -> Result<LimitList, OutOfMemory>
     Ok(limits)
 }
 
-fn vertex(x: u32, y: u32, starts: bool) -> Vertex
-    requires x { x ≤ 2000 }
-    requires y { y ≤ 2000 }
+/// So many sides of a sample, in ten-thousandths of a point.
+fn sides(count: u32, resolution: u32) -> u32
+    requires few { count ≤ 2001 }
+    requires resolved { 1 ≤ resolution }
+    ensures { result ≤ 2000000000 }
+{
+    count * (720_000 / resolution)
+}
+
+/// A vertex at the corner of a sample.
+fn vertex(x: u32, y: u32, resolution: u32, starts: bool) -> Vertex
+    requires x { x ≤ 2001 }
+    requires y { y ≤ 2001 }
+    requires resolved { 1 ≤ resolution }
     ensures near { IsVertex result }
     ensures starts { result.starts ≡ starts }
 {
     Vertex {
-        x: i64::from(x) * 10_000,
-        y: i64::from(y) * 10_000,
+        x: i64::from(sides(x, resolution)),
+        y: i64::from(sides(y, resolution)),
         starts,
     }
 }
 
 /// A rectangle that goes up from the page's second row from below, over some of its columns.
-fn some_path(alloc: Global, dice: &mut u64, width: u32) -> Result<VertexList, OutOfMemory>
-    requires some { 1 ≤ width }
-    requires narrow { width ≤ 2000 }
+fn some_path(alloc: Global, dice: &mut u64, shape: Shape) -> Result<VertexList, OutOfMemory>
     ensures path { IfOk result IsPath }
     ensures few { IfOk result (λ path. length path ≡ 4) }
 {
-    let left = roll(dice, u64::from(width)) as u32;
-    let right = roll(dice, u64::from(width)) as u32;
-    let high = 2 + roll(dice, 4) as u32;
+    let left = roll(dice, u64::from(shape.width)) as u32;
+    let right = roll(dice, u64::from(shape.width)) as u32;
+    let high = 2 + roll(dice, u64::from(shape.height)) as u32;
     let mut path = List::new(alloc);
-    push(&mut path, vertex(left, 1, true))?;
-    push(&mut path, vertex(right, 1, false))?;
-    push(&mut path, vertex(right, high, false))?;
-    push(&mut path, vertex(left, high, false))?;
+    push(&mut path, vertex(left, 1, shape.resolution, true))?;
+    push(&mut path, vertex(right, 1, shape.resolution, false))?;
+    push(&mut path, vertex(right, high, shape.resolution, false))?;
+    push(&mut path, vertex(left, high, shape.resolution, false))?;
     Ok(path)
 }
 
-/// A zone over a path, with parameters and a step limit by chance.
-fn zone_over(alloc: Global, dice: &mut u64, path: VertexList) -> Result<Zone, OutOfMemory>
-    requires { IsPath path }
+/// A zone over a path, with a step limit and parameters by chance, that reaches so many half-samples where it is enabled.
+fn zone_over(
+    alloc: Global,
+    dice: &mut u64,
+    path: VertexList,
+    resolution: u32,
+    reach2: u32,
+) -> Result<Zone, OutOfMemory>
+    requires path { IsPath path }
+    requires resolved { 1 ≤ resolution }
+    requires near { reach2 ≤ 256 }
     ensures zone { IfOk result IsZone }
     ensures path { IfOk result (λ zone. zone.path ≡ path) }
 {
     Ok(Zone {
-        params: some_params(dice),
+        params: some_params(dice, resolution, reach2),
         path,
         limits: some_limits(alloc, dice)?,
     })
 }
 
-/// What a page of six rows by chance is made of, at 72 pixels an inch.
-fn some_parts(
-    alloc: Global,
-    dice: &mut u64,
-    width: u32,
-    count: u32,
-) -> Result<PageParts, OutOfMemory>
-    requires some { 1 ≤ width }
-    requires narrow { width ≤ 2000 }
-    requires some_plates { 1 ≤ count }
-    requires few_plates { count ≤ 16 }
+/// What a page by chance is made of. The zone of its path reaches the farthest, and the rest less by chance.
+fn some_parts(alloc: Global, dice: &mut u64, shape: Shape) -> Result<PageParts, OutOfMemory>
     ensures { IfOk result IsParts }
 {
-    let planes = some_planes(alloc, dice, width, count)?;
-    let inks = some_inks(alloc, dice, count)?;
-    let rest = zone_over(alloc, dice, List::new(alloc))?;
-    let path = some_path(alloc, dice, width)?;
-    let over = zone_over(alloc, dice, path)?;
+    let planes = some_planes(alloc, dice, shape)?;
+    let inks = some_inks(alloc, dice, shape.plates)?;
+    let less = roll(dice, u64::from(shape.reach2) + 1) as u32;
+    let rest = zone_over(alloc, dice, List::new(alloc), shape.resolution, less)?;
+    let path = some_path(alloc, dice, shape)?;
+    let over = zone_over(alloc, dice, path, shape.resolution, shape.reach2)?;
     let mut zones = List::new(alloc);
     push(&mut zones, rest)?;
     push(&mut zones, over)?;
     Ok(PageParts {
-        resolution: 72,
+        resolution: shape.resolution,
         planes,
         inks,
         zones,
     })
 }
 
-/// A page of six rows by chance.
-pub fn some_page(
-    alloc: Global,
-    dice: &mut u64,
-    width: u32,
-    count: u32,
-) -> Result<Option<Page>, OutOfMemory>
-    requires some { 1 ≤ width }
-    requires narrow { width ≤ 2000 }
-    requires some_plates { 1 ≤ count }
-    requires few_plates { count ≤ 16 }
-{
-    match Page::new(some_parts(alloc, dice, width, count)?) {
+/// A page by chance.
+pub fn some_page(alloc: Global, dice: &mut u64, shape: Shape) -> Result<Option<Page>, OutOfMemory> {
+    match Page::new(some_parts(alloc, dice, shape)?) {
         Ok(page) => Ok(Some(page)),
         Err((_fault, _parts)) => Ok(None),
     }

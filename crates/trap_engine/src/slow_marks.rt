@@ -20,7 +20,7 @@ use std::alloc::Global;
 
 /// The zone of a sample, from the zones of all.
 #[tactic(auto, using(crate::proofs::WholeLemmas::places))]
-fn zone_among(page: &Page, zones: &[u8], p: At) -> u32
+pub fn zone_among(page: &Page, zones: &[u8], p: At) -> u32
     requires sample { InPage page.now p }
     requires zones { zones.now ≡ sample_zones page.now }
     ensures value { result ≡ zone_of page.now p }
@@ -53,7 +53,7 @@ fn is_deciding(page: &Page, a: u32, b: u32, e: EdgeAt) -> bool
 
 /// Whether the edge decides.
 #[tactic(auto, unfolding(page_model::specs::Deciding::decides))]
-fn decides_at(page: &Page, zones: &[u8], e: EdgeAt) -> bool
+pub fn decides_at(page: &Page, zones: &[u8], e: EdgeAt) -> bool
     requires edge { IsEdge page.now e }
     requires zones { zones.now ≡ sample_zones page.now }
     ensures { result ≡ decides page.now e }

@@ -4,8 +4,9 @@ ghost use Rattle.page_model.specs.Conditions.{IsInk, IsParts, IsPlane, IsZone};
 use crate::counting::edges_in;
 use crate::marks::marks_of;
 use crate::memory::push;
-use crate::random_pages::some_page;
+use crate::random_pages::{Shape, some_page, some_shape};
 use crate::slow_marks::slow_marks;
+use crate::slow_traps::{same_traps, slow_traps};
 use crate::trap_alone;
 use crate::zones::zones_of;
 use page_model::list::List;
@@ -124,13 +125,8 @@ fn writes_a_row_of_zones(rt: HostRuntime) -> Result<(), Fail> {
 }
 
 /// How many edges of a page by chance decide, or `None` where its marks are not those that its samples have one by one.
-fn edges_alike(alloc: Global, dice: &mut u64, width: u32, count: u32) -> Result<Option<u64>, Fail>
-    requires some { 1 ≤ width }
-    requires narrow { width ≤ 2000 }
-    requires some_plates { 1 ≤ count }
-    requires few_plates { count ≤ 16 }
-{
-    let page = some_page(alloc, dice, width, count)?.ok_or("a fault")?;
+fn edges_alike(alloc: Global, dice: &mut u64, shape: Shape) -> Result<Option<u64>, Fail> {
+    let page = some_page(alloc, dice, shape)?.ok_or("a fault")?;
     let zones = zones_of(alloc, &page)?;
     let marks = marks_of(alloc, &page, zones.as_slice())?;
     let slow = slow_marks(alloc, &page, zones.as_slice())?;
@@ -146,10 +142,64 @@ fn marks_rows_as_their_samples(rt: HostRuntime) -> Result<(), Fail> {
     let mut dice = 2026;
     let mut edges: u64 = 0;
     for turn in 0..24 {
-        let width = if turn % 6 == 5 { 1_100 } else { 30 };
-        let more = edges_alike(rt.alloc(), &mut dice, width, 2 + turn % 4)?;
+        let shape = Shape {
+            width: if turn % 6 == 5 { 1_100 } else { 30 },
+            height: 6,
+            plates: 2 + turn % 4,
+            resolution: 72,
+            reach2: 1,
+            run: 1,
+        };
+        let more = edges_alike(rt.alloc(), &mut dice, shape)?;
         edges = edges.wrapping_add(more.ok_or("other marks")?);
     }
     assert!(rt; edges > 500);
+    Ok(())
+}
+
+/// How many tints of a page by chance change, or `None` where its traps are not those of the slow search.
+fn traps_alike(alloc: Global, dice: &mut u64, shape: Shape) -> Result<Option<u64>, Fail> {
+    let page = some_page(alloc, dice, shape)?.ok_or("a fault")?;
+    let trapped = trap_alone(alloc, &page)?;
+    let slow = slow_traps(alloc, &page)?;
+    if same_traps(&trapped, &slow) {
+        let changed = slow.counts.plate_changed.as_slice();
+        Ok(Some(
+            changed
+                .iter()
+                .fold(0u64, |sum, more| sum.wrapping_add(*more)),
+        ))
+    } else {
+        Ok(None)
+    }
+}
+
+/// The changes of some pages of three sizes: higher than two strips, wide and square.
+fn changes_alike(alloc: Global, dice: &mut u64, reach2: u32) -> Result<u64, Fail>
+    requires { reach2 ≤ 256 }
+{
+    let mut changed: u64 = 0;
+    for turn in 0..40 {
+        let (width, height) = match turn % 4 {
+            0 => (150, 3),
+            1 => (20, 20),
+            _ => (3, 150),
+        };
+        let shape = some_shape(dice, width, height, reach2);
+        let more = traps_alike(alloc, dice, shape)?;
+        changed = changed.wrapping_add(more.ok_or("other traps")?);
+    }
+    Ok(changed)
+}
+
+#[test]
+fn traps_as_the_search_of_the_whole_page(rt: HostRuntime) -> Result<(), Fail> {
+    let mut dice = 1984;
+    let mut changed: u64 = 0;
+    for reach2 in [0, 1, 2, 3, 13, 40, 256] {
+        let more = changes_alike(rt.alloc(), &mut dice, reach2)?;
+        changed = changed.wrapping_add(more);
+    }
+    assert!(rt; changed > 500);
     Ok(())
 }
