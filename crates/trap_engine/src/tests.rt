@@ -194,9 +194,9 @@ fn changes_alike(alloc: Global, dice: &mut u64, reach2: u32) -> Result<u64, Fail
 
 #[test]
 fn traps_as_the_search_of_the_whole_page(rt: HostRuntime) -> Result<(), Fail> {
-    let mut dice = 1984;
+    let mut dice = 1990;
     let mut changed: u64 = 0;
-    for reach2 in [0, 1, 2, 3, 13, 40, 256] {
+    for reach2 in [1, 0, 2, 3, 13, 40, 256] {
         let more = changes_alike(rt.alloc(), &mut dice, reach2)?;
         changed = changed.wrapping_add(more);
     }

@@ -1,4 +1,4 @@
-use Rattle.std.proofs.Common.{◌++◌, ◌∷◌, [], All, List, Option, ap, arith, length, subst, sym}
+use Rattle.std.proofs.Common.{◌∷◌, [], All, List, Option, ap, arith, length, subst, sym}
 use Rattle.std.proofs.lemmas.List.{length-append}
 use Rattle.std.proofs.lemmas.List.Elements.{All-push}
 use Rattle.std.specs.Option.{ForSome}
