@@ -38,7 +38,7 @@ fn note_differences(before: &[u16], after: &[u16], changes: &mut [bool])
         // both are worked out first, without a branch, so that many samples go at once
         let earlier = changes[k];
         let differs = after[k] != before[k];
-        changes[k] = earlier || differs;
+        changes[k] = earlier | differs;
     }
 }
 
