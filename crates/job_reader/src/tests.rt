@@ -43,7 +43,7 @@ fn told(alloc: Global, bytes: &[u8]) -> Result<String, AllocError> {
 
 // Jobs, and their resolution, number of inks and zones, each with its trap width, whether it is enabled, its number of
 // step limits and its vertices; or their fault.
-static JOBS: [(&[u8], &str); 57] = [
+static JOBS: [(&[u8], &str); 60] = [
     (
         b"<< /TrappingDetails << /Type 1000 >> >> setpagedevice showpage",
         "WrongType at 29",
@@ -184,6 +184,18 @@ static JOBS: [(&[u8], &str); 57] = [
     (
         b"<< /HWResolution [72 72] >> setpagedevice settrapzone << /Trapping false >> setpagedevice showpage",
         "72 0: 2500 false 0; 2500 false 0;",
+    ),
+    (
+        b"<< /HWResolution [72 72] /TrappingDetails << /Type 1001 /ColorantDetails << /Cyan << /NeutralDensity .61 >> >> >> >> setpagedevice .5 .5 moveto 2.5 .5 lineto 2.5 1.5 lineto .5 1.5 lineto settrapzone showpage",
+        "72 1: 2500 false 0; 2500 true 0 5000,5000! 25000,5000 25000,15000 5000,15000;",
+    ),
+    (
+        b"<< /HWResolution [72 72] /TrappingDetails << /Type 1001 /ColorantDetails << /Cyan << /NeutralDensity .61 >> >> >> >> setpagedevice .5 .5 moveto 0 0 rmoveto 2 0 rlineto 0 1 rlineto -2 0 rlineto settrapzone showpage",
+        "72 1: 2500 false 0; 2500 true 0 5000,5000! 5000,5000! 25000,5000 25000,15000 5000,15000;",
+    ),
+    (
+        b"%!PS\n<< /HWResolution [600 600] /Trapping true /TrappingDetails << /Type 1001 /ColorantDetails << /Cyan << /NeutralDensity 0.61 >> /Magenta << /NeutralDensity 0.76 >> /Yellow << /NeutralDensity 0.16 >> /Black << /NeutralDensity 1.70 >> >> >> >> setpagedevice << /TrapWidth 0.25 /BlackWidth 2 >> settrapparams 0 0 moveto 612 0 lineto 612 792 lineto 0 792 lineto closepath settrapzone << /Enabled false >> settrapparams 1.08 0 moveto 612 0 lineto 612 792 lineto 1.08 792 lineto closepath settrapzone showpage",
+        "600 4: 2500 false 0; 2500 true 0 0,0! 6120000,0 6120000,7920000 0,7920000; 2500 false 0 10800,0! 6120000,0 6120000,7920000 10800,7920000;",
     ),
 ];
 
