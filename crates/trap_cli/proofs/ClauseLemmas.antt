@@ -177,6 +177,12 @@ module _ (sample : SampleWords) (r r' : RackState) (status : ℕ) where
   sample_large (AnswersSample.told_in_part small is rose text) s = absurd (omega arith)
   sample_large (AnswersSample.no_memory small refuses) s = let e : status ≡ 7 = refuses.status_is in absurd (omega arith)
 
+  large_line : AnswersSample sample r r' status → status ≡ 4 → TellsLine (refusals.Page TooManySamples) r r'
+  large_line (AnswersSample.too_many large refuses) s = refuses.line
+  large_line (AnswersSample.told small is text) s = absurd (omega arith)
+  large_line (AnswersSample.told_in_part small is rose text) s = absurd (omega arith)
+  large_line (AnswersSample.no_memory small refuses) s = let e : status ≡ 7 = refuses.status_is in absurd (omega arith)
+
   large_status : AnswersSample sample r r' status → (IsSmall sample → ⊥) → status ≡ 4
   large_status (AnswersSample.too_many large refuses) s = refuses.status_is
   large_status (AnswersSample.told small is text) s = absurd (s small)
@@ -297,6 +303,7 @@ module _ (words : List (List ℕ)) (t t' : TrayState) (r r' : RackState) (status
     statuses = λ sample means. sample_status sample r r' status (sample_ending sample means ended).1.answer;
     told = λ sample means. sample_told sample r r' status (sample_ending sample means ended).1.answer;
     too_many = λ sample means. (sample_large sample r r' status (sample_ending sample means ended).1.answer, large_status sample r r' status (sample_ending sample means ended).1.answer);
+    too_many_line = λ sample means. large_line sample r r' status (sample_ending sample means ended).1.answer;
     in_part = λ sample means s. (sample_part sample r r' status (sample_ending sample means ended).1.answer s).1;
     files = λ sample means. (sample_ending sample means ended).1.files.files;
     no_begin = λ sample means. ap (λ (s : TrayState). s.asked) (sample_ending sample means ended).0;

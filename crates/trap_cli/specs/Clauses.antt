@@ -4,6 +4,7 @@ use Rattle.outside.specs.Causes.{Rose, Asks}
 use Rattle.outside.specs.Tray.{TrayState}
 use Rattle.outside.specs.Rack.{RackState}
 use Rattle.job_reader.specs.declared.job.Job.{Job}
+use Rattle.page_model.specs.declared.page.PageFault.TheVariants.{TooManySamples}
 use Rattle.page_model.specs.declared.parts.PageParts.{PageParts}
 use Rattle.page_reading.specs.Names.{AsksFront}
 use Rattle.page_reading.specs.Inputs.{Inputs, names_of}
@@ -13,7 +14,7 @@ use Rattle.page_writing.specs.Files.{Written, put_all}
 use Rattle.page_writing.specs.Writing.{BreaksAt}
 use Rattle.trap_engine.specs.Assembly.{assembly}
 use Rattle.trap_report.specs.declared.refusal.Refusal.{Refusal}
-use Rattle.trap_report.specs.declared.refusal.Refusal.TheVariants.{Read, Write}
+use Rattle.trap_report.specs.declared.refusal.Refusal.TheVariants as Refusals
 use Rattle.trap_report.specs.Refusals.{status_of}
 use Rattle.trap_words.specs.Words.{PageWords, SampleWords, begins_with_page, command_of, Page, Sample}
 use Rattle.trap_cli.specs.Endings.{IsSmall, place_of, sample_report}
@@ -53,13 +54,13 @@ BreaksReading page (Some plate) before after = Asks before.asked after.asked (ta
 -- Status 5 comes only for a page, and only where the tray's count rose. The names handed to `begin` are a front of those of the job and the plates, and the line names the last of them.
 pub record ReadFault (words : List (List ℕ)) (tray tray' : TrayState) (rack rack' : RackState) (status : ℕ) : Type 0 where
   pub cause : status ≡ 5 → Rose tray.faults tray'.faults
-  pub breaks : (page : PageWords) → MeanPage words page → status ≡ 5 → (file : Option ℕ) × BreaksReading page file tray tray' × TellsLine (Read file) rack rack'
+  pub breaks : (page : PageWords) → MeanPage words page → status ≡ 5 → (file : Option ℕ) × BreaksReading page file tray tray' × TellsLine (Refusals.Read file) rack rack'
   pub asked : (page : PageWords) → MeanPage words page → AsksFront tray.asked tray'.asked (read_files page)
 
 -- Status 6 comes only where the rack's count rose. Of a page the verdict is then a list of files: those before the failed one are whole, it holds a front of its bytes or is as before, and the later ones are as before. The names handed to `create` are a front of those of the plates and the report, and the line names the last of them.
 pub record WriteFault (words : List (List ℕ)) (tray : TrayState) (rack rack' : RackState) (status : ℕ) : Type 0 where
   pub cause : status ≡ 6 → Rose rack.faults rack'.faults
-  pub breaks : (page : PageWords) → MeanPage words page → status ≡ 6 → (file : Option ℕ) × ((written : List Written) × (IsTrue tray.tells → IsVerdict tray.file page (Out written)) × BreaksAt written (place_of page file) rack rack') × TellsLine (Write file) rack rack'
+  pub breaks : (page : PageWords) → MeanPage words page → status ≡ 6 → (file : Option ℕ) × ((written : List Written) × (IsTrue tray.tells → IsVerdict tray.file page (Out written)) × BreaksAt written (place_of page file) rack rack') × TellsLine (Refusals.Write file) rack rack'
   pub asked : (page : PageWords) → MeanPage words page → AsksFront rack.asked rack'.asked (written_names page)
 
 -- For every status but 0 and 6 the rack's files are as before. Status 7 is want of memory.
@@ -75,11 +76,12 @@ pub record FaultLine (words : List (List ℕ)) (rack rack' : RackState) (status 
 abbrev pub Locality : List (List ℕ) → TrayState → Type 0
 Locality words tray = (page : PageWords) (job : Job) (read : List PlateRead) (made : PageParts) → MeanPage words page → IsTrue tray.tells → Inputs tray.file page job read → assembly job read (names_of page.plates) ≡ Ok made → ChangesNearEdges made read
 
--- A sample page answers 0, 4, 6 or 7: its report is told; it has too many samples; the report was told in part, since the rack's count rose; or memory was wanted. No name is handed out.
+-- A sample page answers 0, 4, 6 or 7: its report is told; it has too many samples, which its line says; the report was told in part, since the rack's count rose; or memory was wanted. No name is handed out.
 pub record SamplePage (words : List (List ℕ)) (tray tray' : TrayState) (rack rack' : RackState) (status : ℕ) : Type 0 where
   pub statuses : (sample : SampleWords) → MeanSample words sample → (status ≡ 0) ⊎ (status ≡ 4) ⊎ (status ≡ 6) ⊎ (status ≡ 7)
   pub told : (sample : SampleWords) → MeanSample words sample → status ≡ 0 → IsTrue rack.tells → rack'.told ≡ rack.told ++ sample_report sample
   pub too_many : (sample : SampleWords) → MeanSample words sample → (status ≡ 4) ↔ (IsSmall sample → ⊥)
+  pub too_many_line : (sample : SampleWords) → MeanSample words sample → status ≡ 4 → TellsLine (Refusals.Page TooManySamples) rack rack'
   pub in_part : (sample : SampleWords) → MeanSample words sample → status ≡ 6 → IsTrue rack.tells → (count : ℕ) × (rack'.told ≡ rack.told ++ take count (sample_report sample))
   pub files : (sample : SampleWords) → MeanSample words sample → IsTrue rack.tells → rack'.file ≡ rack.file
   pub no_begin : (sample : SampleWords) → MeanSample words sample → tray'.asked ≡ tray.asked
