@@ -3,7 +3,7 @@ ghost use Rattle.ps_tokens.specs.Dictionaries.{AreObjects, last_keys_of};
 ghost use Rattle.colorant_details.specs.Colorants.{inked, inks_of, first_misfit, inks_unless, colorants_at};
 
 use crate::shades::{Shade, is_dict, shade_of};
-use page_model::list::List;
+use lists::list::List;
 use page_model::parts::{DetailList, Ink, Name, OutOfMemory};
 use ps_tokens::faults::{FaultKind, JobFault};
 use ps_tokens::misfits::{Misfit, earlier};

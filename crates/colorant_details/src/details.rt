@@ -5,7 +5,7 @@ ghost use Rattle.colorant_details.specs.Details.{type_in, type_of, details_from,
 
 use crate::colorants::colorants_at;
 use crate::shades::is_dict;
-use page_model::list::List;
+use lists::list::List;
 use page_model::parts::{DetailList, OutOfMemory};
 use ps_tokens::faults::{FaultKind, JobFault, JobRefusal};
 use ps_tokens::last;

@@ -4,7 +4,7 @@ use Rattle.std.specs.Option.{MatchOption}
 use Rattle.std.proofs.lemmas.Bool.{cases_lt, cases_Bool, and_parts, and_from, eqb-true, leb-true, leb-false, le-leb, false_from_ne_true}
 use Rattle.page_model.specs.declared.parts.PageParts.{PageParts}
 use Rattle.page_model.specs.Page.{width, height}
-use Rattle.page_model.specs.Words.{gap}
+use Rattle.lists.specs.Words.{gap}
 use Rattle.page_model.specs.Deciding.{decides}
 use Rattle.page_model.specs.Marks.{Marked, HoldsEdge, held_rows}
 use Rattle.page_model.specs.Columns.{AreMarks, CoverRows, edge_decides, column_edge, column_answer, offset_code}

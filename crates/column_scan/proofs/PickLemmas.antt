@@ -1,8 +1,8 @@
 use Rattle.std.proofs.Common.{◌≡◌, ℕ, ◌+◌, ◌-◌, ◌<◌, ◌≤◌, Bool, true, nat_le, inl, inr, arith, Option, Some, None, if◌then◌else◌}
 use Rattle.std.specs.Option.{MatchOption}
 use Rattle.std.proofs.lemmas.Bool.{cases_lt, cases_Bool, leb-true, leb-false, false_from_ne_true}
-use Rattle.page_model.specs.Words.{gap, first_least, IsFirstLeast}
-use Rattle.page_model.proofs.FirstLeast.{first_least-from, first_least-none}
+use Rattle.lists.specs.Words.{gap, first_least, IsFirstLeast}
+use Rattle.lists.proofs.FirstLeast.{first_least-from, first_least-none}
 
 -- the last number up to c that passes, and the first one after it below n
 abbrev pub UpFact : (ℕ → Bool) → ℕ → Option ℕ → Type 0

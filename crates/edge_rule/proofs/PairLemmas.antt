@@ -12,7 +12,7 @@ use Rattle.page_model.specs.Density.{shut, shuts}
 use Rattle.page_model.specs.Edges.{first, lower_edge, right_edge, second}
 use Rattle.page_model.specs.Page.{height, ink_at, params_at, plates, tint, width}
 use Rattle.page_model.specs.Planes.{plane_at, tints_of}
-use Rattle.page_model.specs.Words.{any_below}
+use Rattle.lists.specs.Words.{any_below}
 use Rattle.page_model.specs.Zones.{AreZones, zone_of}
 use Rattle.page_model.proofs.PageLemmas.{plane_of}
 use Rattle.page_model.proofs.ZoneLemmas.{zone_of-is}

@@ -8,7 +8,7 @@ ghost use Rattle.page_model.specs.Apart.{falls};
 ghost use Rattle.page_model.specs.Density.{shut, shuts};
 ghost use Rattle.page_model.specs.Page.{InPage, height, ink_at, plates, tint, width};
 ghost use Rattle.page_model.specs.Planes.{tints_of};
-ghost use Rattle.page_model.specs.Words.{any_below};
+ghost use Rattle.lists.specs.Words.{any_below};
 
 use neutral_density::{is_shut, kind_counts};
 use page_model::page::Page;

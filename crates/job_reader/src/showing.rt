@@ -4,7 +4,7 @@ ghost use Rattle.job_reader.specs.Statements.{shown, shown_fault, behind_fault, 
 
 use crate::job::Job;
 use crate::state::State;
-use page_model::list::List;
+use lists::list::List;
 use page_model::parts::{OutOfMemory, Zone, ZoneList};
 use ps_tokens::faults::{FaultKind, JobFault, JobRefusal};
 use ps_tokens::object::Object;

@@ -1,7 +1,7 @@
 ghost use Rattle.std.specs.Prelude.{◌≡◌};
 ghost use Rattle.job_reader.specs.Starts.{nothing_read};
 
-use page_model::list::List;
+use lists::list::List;
 use page_model::parts::{DetailList, LimitList, TrapParams, ZoneList};
 use std::alloc::Global;
 use zone_paths::path::Path;

@@ -3,7 +3,7 @@ ghost use Rattle.job_reader.specs.Performing.{Performs};
 ghost use Rattle.job_reader.specs.Statements.{zone_made};
 
 use crate::state::State;
-use page_model::list::List;
+use lists::list::List;
 use page_model::parts::{Limit, LimitList, Name, OutOfMemory, Zone};
 use ps_tokens::faults::{FaultKind, JobFault, JobRefusal};
 use std::alloc::Global;

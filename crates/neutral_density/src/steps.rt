@@ -1,7 +1,7 @@
 ghost use Rattle.std.specs.Prelude.{◌≡◌, ◌<◌, length};
 ghost use Rattle.page_model.specs.Apart.{falls, apart};
 ghost use Rattle.page_model.specs.Page.{plates, InPage};
-ghost use Rattle.page_model.specs.Words.{any_below};
+ghost use Rattle.lists.specs.Words.{any_below};
 
 use crate::inks::kind_counts;
 use page_model::page::Page;

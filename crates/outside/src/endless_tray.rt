@@ -2,7 +2,7 @@ ghost use Rattle.std.specs.Prelude.{◌≡◌, ◌+◌, IsTrue, OnErr, Ok, lengt
 ghost use Rattle.outside.specs.Tray.{Begins, Reads};
 
 use crate::tray::{Failed, Tray};
-use page_model::parts::Name;
+use lists::names::Name;
 use std::marker::Model;
 
 /// Files that give the bytes of the head, and then the tail byte without end. It tells no bytes and never fails.

@@ -3,8 +3,8 @@ ghost use Rattle.outside.specs.Counts.{one_more, is_listed};
 ghost use Rattle.outside.specs.Causes.{Rose, Asks};
 
 use crate::tray::Failed;
-use page_model::list::List;
-use page_model::parts::Name;
+use lists::list::List;
+use lists::names::Name;
 use std::alloc::Global;
 
 // Adds a name to those that were asked for, and says whether they are still told: for want of memory they no longer are.

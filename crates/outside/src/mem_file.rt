@@ -1,5 +1,5 @@
-use page_model::list::List;
-use page_model::parts::Name;
+use lists::list::List;
+use lists::names::Name;
 
 /// A file of a tray in memory. Where it has a `fails_at`, no read passes that many bytes, and a read that would begin
 /// there fails.

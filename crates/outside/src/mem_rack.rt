@@ -6,8 +6,8 @@ use crate::mem_calls::{fault, is_failing, note};
 use crate::rack::Rack;
 use crate::shelf::{RackFile, append, begin_file, file_named, grow};
 use crate::tray::Failed;
-use page_model::list::List;
-use page_model::parts::{CallList, Name};
+use lists::list::List;
+use lists::names::{CallList, Name};
 use std::alloc::Global;
 use std::marker::Model;
 

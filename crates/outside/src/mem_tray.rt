@@ -6,8 +6,8 @@ ghost use Rattle.outside.specs.MemFiles.{HaveDistinctNames, place_of, is_at, end
 use crate::mem_calls::{fault, is_failing, note};
 use crate::mem_file::{FileList, MemFile};
 use crate::tray::{Failed, Tray};
-use page_model::list::List;
-use page_model::parts::{CallList, Name};
+use lists::list::List;
+use lists::names::{CallList, Name};
 use std::alloc::Global;
 use std::marker::Model;
 

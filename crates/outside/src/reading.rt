@@ -4,8 +4,8 @@ ghost use Rattle.outside.specs.Tray.{KeepsTray};
 ghost use Rattle.outside.specs.Reading.{TakesFront};
 
 use crate::tray::{Failed, Tray};
-use page_model::list::List;
-use page_model::parts::Name;
+use lists::list::List;
+use lists::names::Name;
 use std::alloc::Global;
 use thiserror::Error;
 

@@ -10,8 +10,8 @@ use Rattle.page_model.specs.Decider.{grid_rows, IsDecider, AtMost}
 use Rattle.page_model.specs.Deciding.{decides}
 use Rattle.page_model.specs.Edges.{IsEdge, d2}
 use Rattle.page_model.specs.Page.{width, height}
-use Rattle.page_model.specs.Words.{gap, first_least}
-use Rattle.page_model.proofs.FirstLeast.{Answers, first_least-is, first_least-from}
+use Rattle.lists.specs.Words.{gap, first_least}
+use Rattle.lists.proofs.FirstLeast.{Answers, first_least-is, first_least-from}
 use Rattle.page_model.proofs.ReachLemmas.{root_at_most, root_less}
 
 abbrev edge : ℕ → ℕ → EdgeAt

@@ -12,8 +12,8 @@ use Rattle.page_model.specs.Deciding.{decides}
 use Rattle.page_model.specs.Edges.{IsEdge, d2}
 use Rattle.page_model.specs.Page.{width}
 use Rattle.page_model.specs.Planes.{no_plane}
-use Rattle.page_model.specs.Words.{IsFirstLeast}
-use Rattle.page_model.proofs.FirstLeast.{first_least-is}
+use Rattle.lists.specs.Words.{IsFirstLeast}
+use Rattle.lists.proofs.FirstLeast.{first_least-is}
 use Rattle.page_model.proofs.Grid.{point, number, point-number, number-below, points_in_order}
 
 -- e has at most the rank of f, and comes first where the ranks are equal

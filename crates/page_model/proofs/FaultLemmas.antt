@@ -1,5 +1,5 @@
-use Rattle.std.proofs.Common.{◌≡◌, ℕ, zero, suc, ◌*◌, ◌<◌, ◌≤◌, ◌&&◌, ◌==◌, nat_lt, inl, inr, false, length, refl, arith, Option, Some, None}
-use Rattle.std.proofs.lemmas.Bool.{cases_Bool, cases_eq, and_parts, eqb-true, eq-eqb, ltb-false, le-ltb}
+use Rattle.std.proofs.Common.{◌≡◌, ℕ, ◌*◌, ◌≤◌, ◌&&◌, ◌==◌, nat_lt, inl, inr, false, length, refl, arith, None}
+use Rattle.std.proofs.lemmas.Bool.{cases_Bool, and_parts, eqb-true, eq-eqb, ltb-false, le-ltb}
 use Rattle.page_model.specs.declared.parts.PageParts.{PageParts}
 use Rattle.page_model.specs.declared.page.PageFault.TheVariants.{SizeDiffers, MaxvalDiffers, TooManySamples, ReachTooWide}
 use Rattle.page_model.specs.Conditions.{Agrees, IsParts, IsPage}
@@ -7,20 +7,8 @@ use Rattle.page_model.specs.Faults.{difference, too_many, too_wide, page_fault}
 use Rattle.page_model.specs.Page.{plates, width, height, maxval}
 use Rattle.page_model.specs.Planes.{plane_at}
 use Rattle.page_model.specs.Reach.{zone_reach}
-use Rattle.page_model.specs.Words.{or_else, first_some}
-
-some_is_none : {X : Type 0} (x : X) → Some x ≡ None → ⊥
-some_is_none x h = cc
-
-both_none : {X : Type 0} (a b : Option X) → or_else a b ≡ None → (a ≡ None) × (b ≡ None)
-both_none None b h = (refl, h)
-both_none (Some x) b h = absurd (some_is_none x h)
-
-each_none : {X : Type 0} (f : ℕ → Option X) (n : ℕ) → first_some f n ≡ None → (c : ℕ) → c < n → f c ≡ None
-each_none f zero h c l = let e : ⊥ = omega arith in absurd e
-each_none f (suc n) h c l =
-    let parts = both_none (first_some f n) (f n) h in
-    elim (cases_eq c n) [ inl e ↦ rw e parts.1 | inr ne ↦ each_none f n parts.0 c (omega (arith, ne)) ]
+use Rattle.lists.specs.Words.{or_else, first_some}
+use Rattle.lists.proofs.FirstSome.{some_is_none, both_none, each_none, all_none}
 
 agrees_from : (page : PageParts) (c : ℕ) → difference page c ≡ None → Agrees page c
 agrees_from page c h =
@@ -60,10 +48,6 @@ page_from page parts h =
 
 same_none : (page : PageParts) (c : ℕ) → Agrees page c → difference page c ≡ None
 same_none page c a = rw (a.wide, a.tall, a.deep, eq-eqb (width page) (width page) refl, eq-eqb (height page) (height page) refl, eq-eqb (maxval page) (maxval page) refl) refl
-
-all_none : {X : Type 0} (f : ℕ → Option X) (n : ℕ) → ((c : ℕ) → c < n → f c ≡ None) → first_some f n ≡ None
-all_none f zero h = refl
-all_none f (suc n) h = rw (all_none f n (λ c l. h c (omega arith)), h n (omega arith)) refl
 
 -- a page has no fault
 pub faultless : (page : PageParts) → IsPage page → page_fault page ≡ None

@@ -1,6 +1,5 @@
 pub mod ZoneLemmas
 pub mod PageLemmas
-pub mod FirstLeast
 pub mod WorkedPages
 mod WorkedTraps
 mod WorkedZones
@@ -8,7 +7,7 @@ mod WorkedEdges
 pub mod ArmLemmas
 pub mod Grid
 pub mod DeciderLemmas
-pub mod Sums
+pub mod DensityLemmas
 pub mod FaultLemmas
 pub mod ReachLemmas
 pub mod ColumnDecider

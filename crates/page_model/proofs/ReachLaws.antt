@@ -18,7 +18,7 @@ use Rattle.page_model.specs.ReachLaw.{NoneWithin, ReachLaw, TrapsByColumns}
 use Rattle.page_model.specs.Tints.{new_in, new_from, scaled_in}
 use Rattle.page_model.specs.Trapped.{trapped_in, trapped_by}
 use Rattle.page_model.specs.Within.{black, edge_slid, within_in}
-use Rattle.page_model.specs.Words.{gap, square}
+use Rattle.lists.specs.Words.{gap, square}
 use Rattle.page_model.specs.Zones.{zone_of}
 use Rattle.page_model.proofs.ZoneLemmas.{zone_of-is}
 use Rattle.page_model.proofs.DeciderLemmas.{Decides, decider-is}

@@ -1,7 +1,7 @@
 use Rattle.std.proofs.Common.{◌≡◌, ℕ, zero, suc, ◌+◌, ◌*◌, ◌/◌, ◌<◌, ◌≤◌, Bool, true, false, nat_le, max, ◌&&◌, inl, inr, refl, arith, if◌then◌else◌}
 use Rattle.std.proofs.lemmas.Bool.{cases_lt, cases_eq, leb-true, false_from_ne_true}
 use Rattle.std.proofs.Math.Nat.{mul-le-mul_left, lt-div-mul-add}
-use Rattle.page_model.specs.Words.{square, greatest_below}
+use Rattle.lists.specs.Words.{square, greatest_below}
 
 pub at_most_greatest : (f : ℕ → ℕ) (n k : ℕ) → k < n → f k ≤ greatest_below f n
 at_most_greatest f zero k l = omega (arith, l)

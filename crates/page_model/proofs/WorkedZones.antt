@@ -3,7 +3,7 @@ use Rattle.std.proofs.Common.{◌≡◌, ℕ, List, [], ◌∷◌, ◌++◌, ref
 use Rattle.page_model.specs.declared.parts.PageParts.{PageParts}
 use Rattle.page_model.specs.declared.parts.Zone.{Zone}
 use Rattle.page_model.specs.Page.{sample_at, samples}
-use Rattle.page_model.specs.Words.{list_below}
+use Rattle.lists.specs.Words.{list_below}
 use Rattle.page_model.specs.Zones.{zone_of, covers, turn, lean}
 use Rattle.page_model.proofs.WorkedPages.{usual, off, page, planes, cyan, zone, vertex, box, box_back, shop}
 

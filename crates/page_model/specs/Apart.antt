@@ -3,7 +3,7 @@ use Rattle.page_model.specs.declared.parts.At.{At}
 use Rattle.page_model.specs.declared.parts.PageParts.{PageParts}
 use Rattle.page_model.specs.Page.{plates, maxval, tint, step_limit}
 use Rattle.page_model.specs.Density.{plate_counts}
-use Rattle.page_model.specs.Words.{any_below}
+use Rattle.lists.specs.Words.{any_below}
 
 -- plate c counts, and its tint falls from p to q, by at least its step limit in zone z
 abbrev pub falls : PageParts → ℕ → At → At → ℕ → Bool

@@ -8,7 +8,7 @@ use Rattle.page_model.specs.Decider.{grid_rows}
 use Rattle.page_model.specs.Deciding.{decides}
 use Rattle.page_model.specs.Edges.{d2}
 use Rattle.page_model.specs.Marks.{Marked, HoldsEdge, held_rows, marked}
-use Rattle.page_model.specs.Words.{gap, first_least}
+use Rattle.lists.specs.Words.{gap, first_least}
 
 -- whether (x2, y2) is an edge of the page that decides
 unfoldable pub edge_decides : PageParts → ℕ → ℕ → Bool

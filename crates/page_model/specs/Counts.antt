@@ -5,7 +5,7 @@ use Rattle.page_model.specs.declared.parts.PageParts.{PageParts}
 use Rattle.page_model.specs.Page.{plates, samples, sample_at, tint}
 use Rattle.page_model.specs.Decider.{grid_points, grid_point, is_candidate}
 use Rattle.page_model.specs.Tints.{new}
-use Rattle.page_model.specs.Words.{any_below, count_below, list_below}
+use Rattle.lists.specs.Words.{any_below, count_below, list_below}
 use Rattle.page_model.specs.Zones.{zone_of}
 
 -- plate c has another tint at the sample than before

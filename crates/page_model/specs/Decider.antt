@@ -6,7 +6,7 @@ use Rattle.page_model.specs.declared.parts.PageParts.{PageParts}
 use Rattle.page_model.specs.Page.{width, height}
 use Rattle.page_model.specs.Edges.{IsEdge, d2}
 use Rattle.page_model.specs.Deciding.{decides}
-use Rattle.page_model.specs.Words.{first_least}
+use Rattle.lists.specs.Words.{first_least}
 
 -- the points of the doubled grid are numbered column by column from the left, in each from the top
 abbrev pub grid_rows : PageParts → ℕ

@@ -4,7 +4,7 @@ use Rattle.page_model.specs.declared.parts.InkKind.{InkKind}
 use Rattle.page_model.specs.declared.parts.InkKind.TheVariants.{Normal, Transparent, Opaque, OpaqueIgnore}
 use Rattle.page_model.specs.declared.parts.PageParts.{PageParts}
 use Rattle.page_model.specs.Page.{ink_at, plates, tint}
-use Rattle.page_model.specs.Words.{sum_below, any_below}
+use Rattle.lists.specs.Words.{sum_below, any_below}
 
 -- whether an ink adds to the density
 abbrev pub counts : InkKind → Bool

@@ -3,7 +3,7 @@ use Rattle.page_model.specs.declared.parts.At.{At}
 use Rattle.page_model.specs.declared.parts.EdgeAt.{EdgeAt}
 use Rattle.page_model.specs.declared.parts.PageParts.{PageParts}
 use Rattle.page_model.specs.Page.{width, height}
-use Rattle.page_model.specs.Words.{gap, square}
+use Rattle.lists.specs.Words.{gap, square}
 
 -- an edge of the page: a point of the doubled grid between two side-neighbours
 pub record IsEdge (page : PageParts) (e : EdgeAt) : Type 0 where

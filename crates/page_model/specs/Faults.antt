@@ -5,7 +5,7 @@ use Rattle.page_model.specs.declared.parts.PageParts.{PageParts}
 use Rattle.page_model.specs.Page.{plates, width, height, maxval}
 use Rattle.page_model.specs.Planes.{plane_at}
 use Rattle.page_model.specs.Reach.{zone_reach}
-use Rattle.page_model.specs.Words.{first_some, or_else}
+use Rattle.lists.specs.Words.{first_some, or_else}
 
 -- where plate c differs from plate 0: in a side, or in the maxval alone
 abbrev pub difference : PageParts → ℕ → Option PageFault

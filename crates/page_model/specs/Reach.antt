@@ -2,7 +2,7 @@ use Rattle.std.specs.Prelude.{ℕ, ◌*◌, ◌/◌, max, length, if◌then◌el
 use Rattle.page_model.specs.declared.parts.PageParts.{PageParts}
 use Rattle.page_model.specs.declared.parts.TrapParams.{TrapParams}
 use Rattle.page_model.specs.Page.{params_at}
-use Rattle.page_model.specs.Words.{greatest_below}
+use Rattle.lists.specs.Words.{greatest_below}
 
 -- the widest trap of the parameters in whole half-samples: the trap width, or with the black width where that is more
 abbrev pub params_reach : ℕ → TrapParams → ℕ

@@ -11,7 +11,7 @@ use Rattle.page_model.specs.Reach.{page_reach}
 use Rattle.page_model.specs.Tints.{new, new_from}
 use Rattle.page_model.specs.Trapped.{trapped_by}
 use Rattle.page_model.specs.Within.{within}
-use Rattle.page_model.specs.Words.{gap}
+use Rattle.lists.specs.Words.{gap}
 use Rattle.page_model.specs.Zones.{zone_of}
 
 -- no deciding edge of the page is within of p

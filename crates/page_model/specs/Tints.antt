@@ -8,7 +8,7 @@ use Rattle.page_model.specs.Decider.{decider}
 use Rattle.page_model.specs.Density.{density, density_of, spreads}
 use Rattle.page_model.specs.Edges.{across}
 use Rattle.page_model.specs.Trapped.{trapped_in}
-use Rattle.page_model.specs.Words.{list_below}
+use Rattle.lists.specs.Words.{list_below}
 use Rattle.page_model.specs.Zones.{zone_of}
 
 -- the tint of plate c where the inks of both sides lie one over the other

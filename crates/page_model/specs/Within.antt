@@ -6,7 +6,7 @@ use Rattle.page_model.specs.declared.parts.TrapParams.{TrapParams}
 use Rattle.page_model.specs.Page.{ink_at, params_at, plates, maxval, tint}
 use Rattle.page_model.specs.Density.{plate_counts, density}
 use Rattle.page_model.specs.Edges.{first, second, d2}
-use Rattle.page_model.specs.Words.{any_below, square}
+use Rattle.lists.specs.Words.{any_below, square}
 use Rattle.page_model.specs.Zones.{zone_of}
 
 -- the density of the edge's lighter side

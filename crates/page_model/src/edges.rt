@@ -1,6 +1,6 @@
 ghost use Rattle.std.specs.Prelude.{◌≡◌, ◌+◌, ◌<◌, ◌≤◌, ◌^◌};
 ghost use Rattle.page_model.specs.Edges.{first, second, on_first_side, own, across, d2};
-ghost use Rattle.page_model.specs.Words.{gap, square};
+ghost use Rattle.lists.specs.Words.{gap, square};
 
 use crate::parts::{At, EdgeAt};
 

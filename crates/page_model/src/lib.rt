@@ -5,7 +5,6 @@ pub mod arms;
 pub mod edges;
 pub mod laws;
 pub mod limits;
-pub mod list;
 pub mod marks;
 pub mod page;
 pub mod parts;

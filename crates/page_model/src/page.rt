@@ -4,10 +4,11 @@ ghost use Rattle.page_model.specs.Conditions.{IsParts, IsPage};
 ghost use Rattle.page_model.specs.Faults.{difference, too_many, too_wide, page_fault};
 ghost use Rattle.page_model.specs.Page.{plates, width, height, maxval, tint, ink_at, params_at, path_at, InPage, named_step, step_limit};
 ghost use Rattle.page_model.specs.Reach.{page_reach};
-ghost use Rattle.page_model.specs.Words.{or_else, first_some};
+ghost use Rattle.lists.specs.Words.{or_else, first_some};
 
 use crate::parts::{Ink, Limit, PageParts, PlaneList, TrapParams, VertexList};
 use crate::reach::reach_at;
+use lists::names::same_name;
 use std::marker::Model;
 
 /// A page: planes that agree in size and maxval, with an ink for each, and the zones. No zone reaches further than 256
@@ -274,12 +275,6 @@ impl Page {
         let name = self.ink(c).name.as_slice();
         named(zone.limits.as_slice(), name, zone.params.step_limit)
     }
-}
-
-fn same_name(one: &[u8], two: &[u8]) -> bool
-    ensures { result ≡ bytes_eq one.now two.now }
-{
-    one == two
 }
 
 fn found<'a>(limits: &'a [Limit], name: &[u8]) -> Option<&'a Limit>

@@ -1,23 +1,11 @@
-use crate::list::List;
-
-/// Want of memory, where that is the only refusal.
-#[derive(Clone, Copy, Debug, Drop, PartialEq, Eq)]
-pub struct OutOfMemory;
+use lists::list::List;
+pub use lists::names::{CallList, Name, NameList, OutOfMemory};
 
 /// Tints or samples, row by row from the top.
 pub type Tints = List<u16>;
 
-/// The bytes of a name or of a text.
-pub type Name = List<u8>;
-
 /// Counts of samples.
 pub type CountList = List<u64>;
-
-/// Numbers of calls, from 0.
-pub type CallList = List<u64>;
-
-/// Names, each a list of bytes.
-pub type NameList = List<Name>;
 
 /// A sample of a page: column from the left and row from the top, from 0.
 #[derive(Clone, Copy, Debug, Drop, PartialEq, Eq)]

@@ -1,17 +1,14 @@
 ghost use Rattle.std.specs.Prelude.{◌<◌, length};
 ghost use Rattle.page_model.specs.Planes.{PutTint, tints_of};
 
-use crate::list::List;
-use crate::parts::Plane;
+use crate::parts::PlaneList;
 
-impl List<Plane> {
-    /// Puts a tint in a place of plane c's list. All else stays.
-    pub fn set_tint(&mut self, c: usize, place: usize, tint: u16)
-        requires plane { c < length self.old }
-        requires place { place < length (tints_of self.old c) }
-        ensures { PutTint self.old self.new c place tint }
-    {
-        let plane = &mut self.items[c];
-        let _old = plane.tints.set(place, tint);
-    }
+/// Puts a tint in a place of plane c's list. All else stays.
+pub fn set_tint(planes: &mut PlaneList, c: usize, place: usize, tint: u16)
+    requires plane { c < length planes.old }
+    requires place { place < length (tints_of planes.old c) }
+    ensures { PutTint planes.old planes.new c place tint }
+{
+    let plane = planes.item_mut(c);
+    let _old = plane.tints.set(place, tint);
 }

@@ -1,5 +1,6 @@
-use crate::list::List;
+use crate::limits::keep;
 use crate::parts::{Limit, NameList, TrapParams};
+use lists::list::List;
 use std::alloc::Global;
 use std::test::Fail;
 
@@ -25,19 +26,6 @@ fn limits(alloc: Global, limits: &[(u8, u32)]) -> Result<List<Limit>, Fail> {
 }
 
 #[test]
-fn lists_take_memory_by_push_alone(rt: HostRuntime) -> Result<(), Fail> {
-    let mut list = List::new(rt.alloc());
-    assert_eq!(rt; list.push(3u16), Ok(()));
-    assert_eq!(rt; list.push(5), Ok(()));
-    assert_eq!(rt; list.as_slice(), [3, 5].as_slice());
-    assert_eq!(rt; list.get(1).copied(), Some(5));
-    assert_eq!(rt; list.get(2).copied(), None);
-    assert_eq!(rt; list.pop(), Some(5));
-    assert_eq!(rt; list.len(), 1);
-    Ok(())
-}
-
-#[test]
 fn limits_of_other_colorants_are_dropped(rt: HostRuntime) -> Result<(), Fail> {
     for (kept, steps) in [
         (b"AC".as_slice(), [1, 3].as_slice()),
@@ -45,7 +33,7 @@ fn limits_of_other_colorants_are_dropped(rt: HostRuntime) -> Result<(), Fail> {
         (b"CBA".as_slice(), [1, 2, 3].as_slice()),
     ] {
         let mut list = limits(rt.alloc(), &[(b'A', 1), (b'B', 2), (b'C', 3)])?;
-        list.keep(&names(rt.alloc(), kept)?);
+        keep(&mut list, &names(rt.alloc(), kept)?);
         assert_eq!(rt; list.len(), steps.len());
         for (limit, step) in list.as_slice().iter().zip(steps) {
             assert_eq!(rt; limit.step, *step);

@@ -2,7 +2,7 @@ ghost use Rattle.std.specs.Prelude.{◌≡◌, IfOk};
 ghost use Rattle.page_reading.specs.Inputs.{names_of as names_meant};
 ghost use Rattle.trap_words.specs.Held.{plates_in};
 
-use page_model::list::List;
+use lists::list::List;
 use page_model::parts::{Name, NameList, OutOfMemory};
 use std::alloc::Global;
 use trap_words::command::PlateWord;

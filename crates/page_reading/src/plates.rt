@@ -4,7 +4,7 @@ ghost use Rattle.page_reading.specs.Inputs.{inputs_of};
 ghost use Rattle.trap_words.specs.Held.{plates_in};
 
 use outside::tray::Tray;
-use page_model::list::List;
+use lists::list::List;
 use pgm_plates::laws::{file_fault, file_plate};
 use pgm_plates::plate::{Plate, PlateRefusal};
 use pgm_plates::reading::read_plate;

@@ -4,7 +4,7 @@ use crate::plates::read_plates;
 use outside::distinct_names::have_distinct_names;
 use outside::mem_file::MemFile;
 use outside::mem_tray::MemTray;
-use page_model::list::List;
+use lists::list::List;
 use page_model::parts::Name;
 use pgm_plates::plate::PlateFault;
 use ps_tokens::faults::{FaultKind, JobFault};

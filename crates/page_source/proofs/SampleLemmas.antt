@@ -9,7 +9,7 @@ use Rattle.page_model.specs.declared.page.PageFault.TheVariants.{SizeDiffers, Ma
 use Rattle.std.proofs.lemmas.Bool.Decides.{nat_tests}
 use Rattle.page_model.specs.Conditions.{IsParts, IsPlane, IsInk, IsZone, InRange, IsPath, AreLimits, IsVertex}
 use Rattle.page_model.specs.Faults.{page_fault}
-use Rattle.page_model.specs.Words.{list_below}
+use Rattle.lists.specs.Words.{list_below}
 use Rattle.page_source.specs.Sample.{colour, tint_at, sample_tints, sample_plane, sample_parts, sample_zone, normal_ink, cyan_tints, magenta_tints, yellow_tints, black_tints}
 
 all_none : {X : Type 0} (P : X → Type 0) → All P []

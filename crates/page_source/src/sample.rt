@@ -1,7 +1,7 @@
 ghost use Rattle.std.specs.Prelude.{◌≡◌, ◌↔◌, ◌*◌, ◌/◌, ◌%◌, ◌+◌, ◌<◌, ◌≤◌, ◌++◌, ◌∷◌, [], IfOk, OnOk, Err, length, slice_index, IsTrue};
 ghost use Rattle.page_source.specs.Sample.{colour as colour_of, tint_at, sample_tints, sample_plane, sample_parts, sample_zone, normal_ink, cyan_tints, magenta_tints, yellow_tints, black_tints};
 
-use page_model::list::List;
+use lists::list::List;
 use page_model::page::Page;
 use page_model::parts::{
     Ink, InkKind, InkList, OutOfMemory, PageParts, Plane, PlaneList, TrapParams, Zone, ZoneList,

@@ -16,11 +16,11 @@ use Rattle.page_model.specs.Edges.{IsEdge, across, on_first_side}
 use Rattle.page_model.specs.Page.{InPage, ink_at, params_at, plates, width, height, maxval, samples, sample_at, no_zone}
 use Rattle.page_model.specs.Tints.{full, full_density, scaled_in, new_in, new_from, new, new_tints, trapped_plane, trapped_planes}
 use Rattle.page_model.specs.Trapped.{trapped_in}
-use Rattle.page_model.specs.Words.{list_below}
+use Rattle.lists.specs.Words.{list_below}
 use Rattle.page_model.specs.Zones.{zone_of}
 use Rattle.page_model.proofs.DeciderLemmas.{decider_found}
 use Rattle.page_model.proofs.PageLemmas.{plane_of, tint_at_most}
-use Rattle.page_model.proofs.Sums.{density-le-full}
+use Rattle.page_model.proofs.DensityLemmas.{density-le-full}
 use Rattle.page_model.proofs.ZoneLemmas.{zone_of-is}
 use Rattle.pgm_plates.specs.Planes.{IsPlane}
 

@@ -4,7 +4,7 @@ ghost use Rattle.pgm_plates.specs.Planes.{IsPlane};
 
 use crate::writing::write_page;
 use outside::mem_rack::MemRack;
-use page_model::list::List;
+use lists::list::List;
 use page_model::parts::{CallList, Plane, PlaneList};
 use std::alloc::{AllocError, Global};
 use std::process::Abort;

@@ -7,7 +7,7 @@ ghost use Rattle.pgm_plates.specs.Readers.{ReadsPiece, ReadsRaster};
 use crate::plate::{PlateFault, PlateRefusal};
 use crate::samples::{sample_size, take_samples};
 use outside::tray::{Failed, Tray};
-use page_model::list::List;
+use lists::list::List;
 use page_model::parts::Tints;
 use std::alloc::{AllocError, Global};
 

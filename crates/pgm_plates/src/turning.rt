@@ -4,7 +4,7 @@ ghost use Rattle.pgm_plates.specs.Plates.{IsPlate};
 ghost use Rattle.pgm_plates.specs.Planes.{IsPlane, plane_of, plate_of};
 
 use crate::plate::Plate;
-use page_model::list::List;
+use lists::list::List;
 use page_model::parts::{Plane, Tints};
 
 impl Plate {

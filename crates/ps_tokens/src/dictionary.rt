@@ -2,7 +2,7 @@ ghost use Rattle.std.specs.Prelude.{◌≡◌, ◌≤◌, ◌<◌, ◌+◌, ◌^
 ghost use Rattle.ps_tokens.specs.Dictionaries.{AreObjects, within, keys_of, names, last_of, inside_of};
 
 use crate::object::{Body, Object, ObjectList};
-use page_model::parts::OutOfMemory;
+use lists::names::OutOfMemory;
 use std::alloc::Global;
 
 /// The place of the value of a key's last entry in the dictionary at a place, or `None` exactly where there is no such

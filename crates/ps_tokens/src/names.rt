@@ -4,7 +4,7 @@ ghost use Rattle.ps_tokens.specs.Dictionaries.{AreObjects, name_of, last_keys_of
 
 use crate::dictionary::keys;
 use crate::object::{Body, Object, ObjectList};
-use page_model::parts::OutOfMemory;
+use lists::names::OutOfMemory;
 use std::alloc::Global;
 use std::collections::BTreeMap;
 

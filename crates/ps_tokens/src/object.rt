@@ -1,5 +1,5 @@
-use page_model::list::List;
-use page_model::parts::Name;
+use lists::list::List;
+use lists::names::Name;
 
 /// What an object is. A number is in ten-thousandths.
 #[derive(Drop)]

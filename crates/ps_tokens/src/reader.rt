@@ -9,8 +9,8 @@ use crate::judging::judge;
 use crate::object::{Body, Object, ObjectList};
 use crate::token::{Token, TokenKind, TokenList};
 use crate::words::spelling;
-use page_model::list::List;
-use page_model::parts::{Name, OutOfMemory};
+use lists::list::List;
+use lists::names::{OutOfMemory, copied};
 use std::alloc::Global;
 
 /// The objects that a job's tokens write out.
@@ -194,15 +194,5 @@ fn behind_slash(spelled: &[u8]) -> &[u8]
     match spelled {
         [_, name @ ..] => name,
         [] => spelled,
-    }
-}
-
-// A name of its own.
-fn copied(alloc: Global, bytes: &[u8]) -> Result<Name, OutOfMemory>
-    ensures { IfOk result (λ name. name ≡ bytes.now) }
-{
-    match Vec::from_slice(alloc, bytes) {
-        Ok(items) => Ok(List::from_vec(items)),
-        Err(_) => Err(OutOfMemory),
     }
 }

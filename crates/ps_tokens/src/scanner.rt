@@ -4,7 +4,7 @@ ghost use Rattle.ps_tokens.specs.Tokens.{Gives, Fails, joined, tokens_from, toke
 use crate::faults::{JobFault, JobRefusal};
 use crate::pieces::{Piece, piece_at};
 use crate::token::{Token, TokenList};
-use page_model::list::List;
+use lists::list::List;
 use std::alloc::Global;
 
 /// The tokens that a job's bytes spell, each the longest that stands at its place, with whitespace and comments

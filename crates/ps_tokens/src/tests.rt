@@ -7,7 +7,7 @@ use crate::names::last_keys;
 use crate::object::{Body, Object, ObjectList};
 use crate::token::TokenList;
 use crate::{last, objects, tokens};
-use page_model::parts::OutOfMemory;
+use lists::names::OutOfMemory;
 use std::alloc::{AllocError, Global};
 use std::process::Abort;
 use std::test::Fail;

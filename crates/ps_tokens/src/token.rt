@@ -1,4 +1,4 @@
-use page_model::list::List;
+use lists::list::List;
 
 /// What a token is. A number is in ten-thousandths.
 #[derive(Clone, Copy, Debug, Drop, PartialEq, Eq)]

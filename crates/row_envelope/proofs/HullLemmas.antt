@@ -1,10 +1,10 @@
 use Rattle.std.proofs.Common.{◌≡◌, ℕ, zero, suc, ◌+◌, ◌*◌, ◌-◌, ◌<◌, ◌≤◌, ◌↔◌, inl, inr, refl, sym, ◌∙◌, ap, arith, List, length, slice_index, slice_set, slice_index_or, Some, None, add-one}
 use Rattle.std.proofs.lemmas.Bool.{cases_lt, cases_eq}
 use Rattle.std.proofs.lemmas.List.{get_or-set_same, get_or-set_other, get_or_read}
-use Rattle.page_model.specs.Words.{gap, square}
+use Rattle.lists.specs.Words.{gap, square}
 use Rattle.page_model.specs.Arms.{Bow, LeftHolds}
 use Rattle.row_envelope.specs.Envelope.{bow_at, bow_d2, arm_d2, every, nearest, no_bow, Rising}
-use Rattle.page_model.proofs.FirstLeast.{only, beaten, kept, first_least-from, first_least-none}
+use Rattle.lists.proofs.FirstLeast.{only, beaten, kept, first_least-from, first_least-none}
 use Rattle.row_envelope.specs.Hull.{IsStop, Wins, InEntry, IsHull, IsSettled}
 
 below_gap : (u x d : ℕ) → x ≡ u + d → square (gap u x) + 2 * x * u ≡ u * u + x * x

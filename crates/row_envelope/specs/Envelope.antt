@@ -1,6 +1,6 @@
 use Rattle.std.specs.Prelude.{ℕ, ◌+◌, ◌*◌, ◌<◌, Bool, true, Option, List, AllPairs, length, slice_index_or}
 use Rattle.page_model.specs.Arms.{Bow}
-use Rattle.page_model.specs.Words.{gap, square, first_least}
+use Rattle.lists.specs.Words.{gap, square, first_least}
 
 -- stands where there is no arm
 abbrev pub no_bow : Bow

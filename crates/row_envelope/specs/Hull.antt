@@ -1,6 +1,6 @@
 use Rattle.std.specs.Prelude.{◌≡◌, ℕ, suc, ◌+◌, ◌-◌, ◌<◌, ◌≤◌, ◌↔◌, List, slice_index}
 use Rattle.page_model.specs.Arms.{Bow, LeftHolds}
-use Rattle.page_model.specs.Words.{IsFirstLeast}
+use Rattle.lists.specs.Words.{IsFirstLeast}
 use Rattle.row_envelope.specs.Envelope.{arm_d2, every}
 
 -- of the doubled coordinates up to last the left arm holds exactly those below the stop

@@ -18,7 +18,7 @@ use Rattle.page_model.specs.Page.{plates, width, height, maxval, place, samples,
 use Rattle.page_model.specs.Planes.{plane_at, no_plane}
 use Rattle.page_model.specs.Tints.{new, new_tints}
 use Rattle.page_model.specs.Within.{within, within_in, black, edge_slid}
-use Rattle.page_model.specs.Words.{square, or_else, first_some}
+use Rattle.lists.specs.Words.{square, or_else, first_some}
 use Rattle.page_model.specs.Zones.{zone_of}
 use Rattle.page_model.proofs.ReachLaws.{keeps_unless_within}
 use Rattle.page_reading.specs.Inputs.{Inputs, names_of, plate_at, no_plate}
@@ -26,7 +26,7 @@ use Rattle.pgm_plates.specs.declared.plate.Plate.{Plate as PlateRead}
 use Rattle.pgm_plates.specs.Planes.{plane_of}
 use Rattle.pgm_plates.specs.Plates.{IsPlate}
 use Rattle.trap_engine.specs.Assembly.{assembly, assembled, detailed, faulted, without_details}
-use Rattle.trap_engine.proofs.ListBelow.{length-list_below, list_below-at}
+use Rattle.lists.proofs.ListBelow.{length-list_below, list_below-at}
 use Rattle.trap_words.specs.Words.{PageWords}
 use Rattle.trap_cli.specs.Locality.{IsNear, ChangesNearEdges, sample_in, plate_after}
 

@@ -9,7 +9,7 @@ use Rattle.page_model.specs.Page.{plates}
 use Rattle.page_model.specs.Tints.{trapped_plane, trapped_planes}
 use Rattle.page_writing.specs.Files.{outputs_in}
 use Rattle.page_writing.specs.Writing.{WritesPage, BreaksAt, AnswersWriting}
-use Rattle.trap_engine.proofs.ListBelow.{length-list_below}
+use Rattle.lists.proofs.ListBelow.{length-list_below}
 use Rattle.trap_report.specs.declared.refusal.Refusal.{Refusal}
 use Rattle.trap_report.specs.declared.refusal.Refusal.TheVariants.{Usage, Job, NoDetails, Plate, Page, Read, Write, Memory}
 use Rattle.trap_report.specs.Report.{AreCounts, report_of}

@@ -8,7 +8,7 @@ use Rattle.page_model.specs.Edges.{d2}
 use Rattle.page_model.specs.Page.{params_at, plates, samples, sample_at}
 use Rattle.page_model.specs.Tints.{trapped_plane}
 use Rattle.page_model.specs.Within.{black, within}
-use Rattle.page_model.specs.Words.{square}
+use Rattle.lists.specs.Words.{square}
 use Rattle.page_model.specs.Zones.{zone_of}
 use Rattle.page_reading.specs.Inputs.{plate_at}
 use Rattle.pgm_plates.specs.declared.plate.Plate.{Plate as PlateRead}

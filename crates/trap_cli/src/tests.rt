@@ -10,7 +10,7 @@ use outside::distinct_names::have_distinct_names;
 use outside::mem_file::MemFile;
 use outside::mem_rack::MemRack;
 use outside::mem_tray::MemTray;
-use page_model::list::List;
+use lists::list::List;
 use page_model::parts::{CallList, Name};
 use std::alloc::{AllocError, Global};
 use std::process::Abort;

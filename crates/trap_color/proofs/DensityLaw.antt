@@ -10,7 +10,7 @@ use Rattle.page_model.specs.Density.{counts, density, density_of, plate_counts, 
 use Rattle.page_model.specs.Page.{ink_at, params_at, plates, tint}
 use Rattle.page_model.specs.Tints.{full, full_density, new_in, scaled_in}
 use Rattle.page_model.specs.Trapped.{trapped_in}
-use Rattle.page_model.specs.Words.{sum_below}
+use Rattle.lists.specs.Words.{sum_below}
 use Rattle.trap_color.specs.Opaque.{HasNoOpaque}
 
 sum_below-le : (f g : ℕ → ℕ) (n : ℕ) → ((c : ℕ) → c < n → f c ≤ g c) → sum_below f n ≤ sum_below g n

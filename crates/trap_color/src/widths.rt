@@ -1,5 +1,5 @@
 ghost use Rattle.std.specs.Prelude.{◌≡◌, ◌+◌, ◌-◌, ◌*◌, ◌/◌, ◌^◌, ◌<◌, ◌≤◌, nat_le, if◌then◌else◌};
-ghost use Rattle.page_model.specs.Words.{square};
+ghost use Rattle.lists.specs.Words.{square};
 
 /// The part of the full tint that a trapped sample gets, from the densities of its tints and of its full tints.
 pub fn scaled_tint(full: u16, here: u64, there: u64, scaling: u32) -> u16

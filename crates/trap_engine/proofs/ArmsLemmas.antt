@@ -6,13 +6,13 @@ use Rattle.page_model.specs.declared.parts.At.{At}
 use Rattle.page_model.specs.declared.parts.EdgeAt.{EdgeAt}
 use Rattle.page_model.specs.declared.parts.PageParts.{PageParts}
 use Rattle.page_model.specs.Page.{width}
-use Rattle.page_model.specs.Words.{gap, square, IsFirstLeast}
+use Rattle.lists.specs.Words.{gap, square, IsFirstLeast}
 use Rattle.page_model.specs.Decider.{grid_rows}
 use Rattle.page_model.specs.Edges.{d2}
 use Rattle.page_model.specs.Arms.{Bow}
 use Rattle.row_envelope.specs.Envelope.{bow_at, bow_d2, arm_d2, every, nearest, no_bow, Rising}
 use Rattle.page_model.specs.Columns.{edge_decides, column_edge, column_answer, offset_code, column_decider, answer_edge, answer_or_0, is_answer}
-use Rattle.page_model.proofs.FirstLeast.{Answers, first_least-is, first_least-from, first_least-none}
+use Rattle.lists.proofs.FirstLeast.{Answers, first_least-is, first_least-from, first_least-none}
 use Rattle.page_model.proofs.ColumnDecider.{column_edge-is, passes, rank}
 use Rattle.trap_engine.specs.Arms.{arm_of, coded_edge, AreAnswers, StandsAt, AreArms, edge_at_place}
 

@@ -14,10 +14,10 @@ use Rattle.page_model.specs.Zones.{zone_of}
 use Rattle.page_model.proofs.PageLemmas.{plane_of}
 use Rattle.page_model.proofs.ZoneLemmas.{zone_of-is}
 use Rattle.trap_engine.specs.Whole.{sample_changes_of}
-use Rattle.trap_engine.proofs.ListBelow.{list_below-of}
+use Rattle.lists.proofs.ListBelow.{list_below-of}
 use Rattle.trap_engine.proofs.StandingLemmas.{place_sample_at}
 use Rattle.trap_engine.proofs.WholeLemmas.{trapped_planes-at, new_tints-at, new_tints-length}
-use Rattle.page_model.specs.Words.{any_below, count_below}
+use Rattle.lists.specs.Words.{any_below, count_below}
 
 pub zone_known : (page : PageParts) (p : At) → IsPage page → zone_of page p < length page.zones
 zone_known page p valid = (zone_of-is page p valid).known

@@ -1,7 +1,6 @@
 pub mod ArmsLemmas
 pub mod CountLemmas
 pub mod EdgeCount
-pub mod ListBelow
 pub mod MarkLemmas
 pub mod StandingLemmas
 pub mod WholeLemmas

@@ -10,7 +10,7 @@ use Rattle.page_model.specs.Deciding.{decides, lower_mark, mark, right_mark}
 use Rattle.page_model.specs.Edges.{lower_edge, right_edge}
 use Rattle.page_model.specs.Marks.{IsMarked}
 use Rattle.page_model.specs.Page.{height, samples, width}
-use Rattle.page_model.specs.Words.{list_below}
+use Rattle.lists.specs.Words.{list_below}
 use Rattle.trap_engine.specs.Rows.{AreRows}
 use Rattle.trap_engine.specs.Whole.{sample_marks}
 use Rattle.trap_engine.proofs.WholeLemmas.{sample_marks-at}

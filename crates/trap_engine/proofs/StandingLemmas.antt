@@ -18,14 +18,14 @@ use Rattle.page_model.specs.Reach.{page_reach, params_reach, zone_reach}
 use Rattle.page_model.specs.Tints.{new, new_from, new_in, new_tints, scaled_in, trapped_plane, trapped_planes}
 use Rattle.page_model.specs.Trapped.{trapped_by, trapped_in}
 use Rattle.page_model.specs.Within.{black, edge_slid, within_in}
-use Rattle.page_model.specs.Words.{square}
+use Rattle.lists.specs.Words.{square}
 use Rattle.page_model.specs.Zones.{zone_of}
 use Rattle.page_model.proofs.ColumnDecider.{IsDecidingEdge, columns_decide}
 use Rattle.page_model.proofs.ReachLemmas.{at_most_greatest, five_false, not_near}
 use Rattle.page_model.proofs.ReachLaws.{traps_by_columns}
 use Rattle.page_model.proofs.PageLemmas.{plane_of}
 use Rattle.page_model.proofs.ZoneLemmas.{zone_of-is}
-use Rattle.trap_engine.proofs.ListBelow.{list_below-of}
+use Rattle.lists.proofs.ListBelow.{list_below-of}
 use Rattle.trap_engine.proofs.WholeLemmas.{place-below, sample_at-place}
 use Rattle.trap_engine.specs.Standing.{AreTrappedTo, AreTrapping, IsTrappedTo, is_far_off}
 

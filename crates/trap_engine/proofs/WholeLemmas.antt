@@ -10,7 +10,7 @@ use Rattle.page_model.specs.Page.{InPage, place, plates, samples, sample_at, wid
 use Rattle.page_model.specs.Tints.{new, new_tints, trapped_plane, trapped_planes}
 use Rattle.page_model.specs.Zones.{zone_of}
 use Rattle.trap_engine.specs.Whole.{sample_changes_of, sample_marks, sample_zones}
-use Rattle.trap_engine.proofs.ListBelow.{length-list_below, list_below-at}
+use Rattle.lists.proofs.ListBelow.{length-list_below, list_below-at}
 
 pub sample_zones-length : (page : PageParts) → length (sample_zones page) ≡ samples page
 unfolding sample_zones

@@ -3,11 +3,11 @@ use Rattle.std.proofs.lemmas.Nat.{div-mul-add, mod-mul-add, mul-add-lt}
 use Rattle.std.proofs.Math.Seq.{take-append_seam}
 use Rattle.page_model.specs.declared.parts.PageParts.{PageParts}
 use Rattle.page_model.specs.Page.{height, sample_at, width}
-use Rattle.page_model.specs.Words.{list_below}
+use Rattle.lists.specs.Words.{list_below}
 use Rattle.page_model.specs.Zones.{AreZones, zone_of}
 use Rattle.trap_engine.specs.Rows.{AreRows}
 use Rattle.trap_engine.specs.Whole.{sample_zones}
-use Rattle.trap_engine.proofs.ListBelow.{list_below-add, list_below-from}
+use Rattle.lists.proofs.ListBelow.{list_below-add, list_below-from}
 use Rattle.trap_engine.proofs.WholeLemmas.{sample_zones-at}
 
 pub numbered : (page : PageParts) (y x : ℕ) → x < width page → sample_at page (y * width page + x) ≡ record { x = x; y = y }

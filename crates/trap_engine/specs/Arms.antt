@@ -2,7 +2,7 @@ use Rattle.std.specs.Prelude.{◌≡◌, ℕ, ◌+◌, ◌-◌, ◌*◌, ◌<◌
 use Rattle.std.specs.Option.{option_map}
 use Rattle.page_model.specs.declared.parts.EdgeAt.{EdgeAt}
 use Rattle.page_model.specs.declared.parts.PageParts.{PageParts}
-use Rattle.page_model.specs.Words.{gap, square}
+use Rattle.lists.specs.Words.{gap, square}
 use Rattle.page_model.specs.Arms.{Bow}
 use Rattle.row_envelope.specs.Envelope.{bow_at}
 use Rattle.page_model.specs.Columns.{column_answer}

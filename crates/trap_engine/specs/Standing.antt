@@ -7,7 +7,7 @@ use Rattle.page_model.specs.Edges.{d2}
 use Rattle.page_model.specs.Page.{height, maxval, plates, sample_at, samples, tint, width}
 use Rattle.page_model.specs.Planes.{plane_at}
 use Rattle.page_model.specs.Tints.{new}
-use Rattle.page_model.specs.Words.{square}
+use Rattle.lists.specs.Words.{square}
 
 -- plate c of the page with new tints in its first n samples, and its own tints in the others
 pub record IsTrappedTo (page : PageParts) (c n : ℕ) (plane : Plane) : Type 0 where

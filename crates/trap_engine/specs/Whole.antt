@@ -3,7 +3,7 @@ use Rattle.page_model.specs.declared.parts.PageParts.{PageParts}
 use Rattle.page_model.specs.Counts.{sample_changes}
 use Rattle.page_model.specs.Deciding.{mark}
 use Rattle.page_model.specs.Page.{sample_at, samples, width}
-use Rattle.page_model.specs.Words.{list_below}
+use Rattle.lists.specs.Words.{list_below}
 use Rattle.page_model.specs.Zones.{zone_of}
 
 -- the zone of each sample, row by row

@@ -8,7 +8,8 @@ ghost use Rattle.job_reader.specs.InRange.{IsJob};
 ghost use Rattle.trap_engine.specs.Assembly.{CanAssemble, assembled, assembly, without_details as plate_without, detail_of as detail_meant, ink_of as ink_meant, zone_for, some_enabled as some_zone_enabled};
 
 use job_reader::job::Job;
-use page_model::list::List;
+use lists::list::List;
+use page_model::limits::keep;
 use page_model::page::Page;
 use page_model::parts::{
     DetailList, Ink, InkKind, InkList, Name, NameList, OutOfMemory, PageParts, PlaneList, ZoneList,
@@ -177,7 +178,7 @@ fn zones_of(zones: ZoneList, names: &NameList) -> ZoneList
     let mut zones = zones.into_vec();
     for at in 0..zones.len() {
         let zone = &mut zones[at];
-        zone.limits.keep(names);
+        keep(&mut zone.limits, names);
     }
     List::from_vec(zones)
 }

@@ -4,13 +4,13 @@ ghost use Rattle.std.specs.Prelude.{◌≡◌, ◌<◌, ◌==◌, ◌||◌, not,
 ghost use Rattle.page_model.specs.Counts.{plate_changed};
 ghost use Rattle.page_model.specs.Page.{plates, samples, sample_at, tint};
 ghost use Rattle.page_model.specs.Tints.{new, trapped_planes};
-ghost use Rattle.page_model.specs.Words.{count_below, list_below};
+ghost use Rattle.lists.specs.Words.{count_below, list_below};
 ghost use Rattle.trap_engine.specs.Whole.{sample_changes_of};
 
 use crate::counting::one_if;
 use crate::grid::samples_of;
 use crate::memory::{no_changes, push};
-use page_model::list::List;
+use lists::list::List;
 use page_model::page::Page;
 use page_model::parts::{CountList, OutOfMemory, PlaneList};
 use std::alloc::Global;

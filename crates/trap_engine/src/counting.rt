@@ -3,14 +3,14 @@
 ghost use Rattle.std.specs.Prelude.{◌≡◌, ◌<◌, ◌&&◌, ◌==◌, true, ℕ, IfOk, if◌then◌else◌, length, slice_index};
 ghost use Rattle.page_model.specs.Counts.{deciding_edges, zone_changed, zone_samples};
 ghost use Rattle.page_model.specs.Page.{samples, sample_at};
-ghost use Rattle.page_model.specs.Words.{list_below};
+ghost use Rattle.lists.specs.Words.{list_below};
 ghost use Rattle.page_model.specs.Zones.{zone_of};
 ghost use Rattle.trap_engine.specs.Whole.{sample_changes_of, sample_marks, sample_zones};
 
 use crate::grid::samples_of;
 use crate::memory::no_counts;
 use crate::reads::{change_at, mark_at, zone_number};
-use page_model::list::List;
+use lists::list::List;
 use page_model::page::Page;
 use page_model::parts::{CountList, OutOfMemory};
 use std::alloc::Global;

@@ -10,7 +10,7 @@ ghost use Rattle.trap_engine.specs.Whole.{sample_marks, sample_zones};
 
 use crate::memory::{extend, filled};
 use edge_rule::edge_row;
-use page_model::list::List;
+use lists::list::List;
 use page_model::marks::Marks;
 use page_model::page::Page;
 use page_model::parts::OutOfMemory;

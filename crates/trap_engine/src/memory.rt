@@ -1,6 +1,6 @@
 ghost use Rattle.std.specs.Prelude.{◌≡◌, ◌∷◌, ◌++◌, [], IfOk, OnOk, false, replicate, vec_len};
 
-use page_model::list::List;
+use lists::list::List;
 use page_model::parts::OutOfMemory;
 use std::alloc::Global;
 

@@ -8,8 +8,8 @@ ghost use Rattle.trap_engine.specs.Whole.{sample_marks, sample_zones};
 
 use crate::memory::{filled, push};
 use crate::strips::{STRIP, trap_strips};
+use lists::list::List;
 use page_model::arms::Arm;
-use page_model::list::List;
 use page_model::page::Page;
 use page_model::parts::{OutOfMemory, Plane, PlaneList};
 use page_model::steps::Steps;

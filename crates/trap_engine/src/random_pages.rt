@@ -4,7 +4,7 @@ ghost use Rattle.std.specs.Prelude.{◌≡◌, ◌≤◌, ◌<◌, All, IfOk, le
 ghost use Rattle.page_model.specs.Conditions.{AreLimits, InRange, IsInk, IsParts, IsPath, IsPlane, IsVertex, IsZone};
 
 use crate::memory::push;
-use page_model::list::List;
+use lists::list::List;
 use page_model::page::Page;
 use page_model::parts::{
     Ink, InkKind, InkList, Limit, LimitList, OutOfMemory, PageParts, Plane, PlaneList, TrapParams,

@@ -15,6 +15,7 @@ use crate::reads::zone_number;
 use page_model::edges::squared_distance;
 use page_model::page::Page;
 use page_model::parts::{At, EdgeAt, PlaneList};
+use page_model::planes::set_tint;
 use trap_color::trap_sample;
 
 /// Whether there is no edge, or it is farther from p than any trap of the page is wide.
@@ -40,7 +41,7 @@ fn put_tints(page: &Page, k: usize, tints: &[u16], planes: &mut PlaneList)
     ensures { AreTrappedTo page.now planes.new (k + 1) }
 {
     for c in 0..tints.len() {
-        planes.set_tint(c, k, tints[c]);
+        set_tint(planes, c, k, tints[c]);
     }
 }
 

@@ -9,7 +9,7 @@ use crate::slow_marks::slow_marks;
 use crate::slow_traps::{same_traps, slow_traps};
 use crate::trap_alone;
 use crate::zones::zones_of;
-use page_model::list::List;
+use lists::list::List;
 use page_model::page::Page;
 use page_model::parts::{Ink, InkKind, OutOfMemory, PageParts, Plane, TrapParams, Zone};
 use std::alloc::Global;

@@ -2,7 +2,7 @@ ghost use Rattle.std.specs.Prelude.{◌≡◌, IfOk};
 ghost use Rattle.trap_engine.specs.Whole.{sample_zones};
 
 use crate::memory::{extend, filled};
-use page_model::list::List;
+use lists::list::List;
 use page_model::page::Page;
 use page_model::parts::OutOfMemory;
 use std::alloc::Global;

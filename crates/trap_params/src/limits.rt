@@ -5,7 +5,7 @@ ghost use Rattle.ps_tokens.specs.Misfits.{unless};
 ghost use Rattle.trap_params.specs.Limits.{is_dict, step_of, kept, limits_of, first_misfit, limits_after};
 
 use crate::settings::number_of;
-use page_model::list::List;
+use lists::list::List;
 use page_model::parts::{Limit, LimitList, Name, OutOfMemory};
 use ps_tokens::dictionary::count;
 use ps_tokens::faults::{FaultKind, JobFault, JobRefusal, Key};

@@ -2,7 +2,7 @@ ghost use Rattle.std.specs.Prelude.{◌≤◌, length, IfOk};
 ghost use Rattle.ps_tokens.specs.Dictionaries.{AreObjects};
 
 use crate::{apply, zone_limits};
-use page_model::list::List;
+use lists::list::List;
 use page_model::parts::{LimitList, TrapParams};
 use ps_tokens::faults::{FaultKind, JobFault, JobRefusal, Key};
 use ps_tokens::object::ObjectList;

@@ -3,7 +3,7 @@ ghost use Rattle.page_model.specs.Page.{plates, ink_at};
 ghost use Rattle.trap_report.specs.Report.{AreCounts, report_of, line, page_line, zone_line, edges_line, plate_line, zone_lines, plate_lines};
 
 use itoa::Buffer;
-use page_model::list::List;
+use lists::list::List;
 use page_model::page::Page;
 use page_model::parts::{Counts, Name, OutOfMemory};
 use std::alloc::{AllocError, Global};

@@ -4,7 +4,7 @@ ghost use Rattle.trap_words.specs.Held.{command_in, IsWithin};
 
 use crate::page::read_page;
 use crate::sample::read_sample;
-use page_model::parts::OutOfMemory;
+use lists::names::OutOfMemory;
 use std::alloc::Global;
 
 /// A plate's word NAME:IN:OUT: the name of its colorant, the file that is read and the one that is written.

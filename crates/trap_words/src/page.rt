@@ -10,7 +10,7 @@ use crate::numbers::option_number;
 use crate::plates::read_plates;
 use clap::error::ErrorKind;
 use clap::{Arg, ArgMatches, Command};
-use page_model::parts::OutOfMemory;
+use lists::names::OutOfMemory;
 use std::alloc::{AllocError, Global};
 
 // The page that the words mean, `page` being the first of them.

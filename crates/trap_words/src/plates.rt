@@ -5,7 +5,7 @@ ghost use Rattle.trap_words.specs.Plates.{are_distinct, are_plates as plates_tes
 ghost use Rattle.trap_words.specs.Held.{names_in, plates_in};
 
 use crate::command::PlateWord;
-use page_model::parts::OutOfMemory;
+use lists::names::OutOfMemory;
 use std::alloc::Global;
 
 // The plates of the words, where each has its form and they may stand together, and beside the report.

@@ -2,7 +2,7 @@ ghost use Rattle.std.specs.Prelude.{◌≡◌, ◌<◌, ◌≤◌, ◌∷◌, �
 ghost use Rattle.page_model.specs.Conditions.{IsInk, IsParts, IsPath, IsPlane, IsVertex, IsZone};
 
 use crate::{SpanBuf, zone_row};
-use page_model::list::List;
+use lists::list::List;
 use page_model::page::Page;
 use page_model::parts::{
     Ink, InkKind, OutOfMemory, PageParts, Plane, TrapParams, Vertex, VertexList, Zone,

@@ -4,7 +4,7 @@ ghost use Rattle.zone_paths.specs.Paths.{nothing_drawn, moveto, lineto, rmoveto,
 ghost use Rattle.zone_paths.specs.Refusals.{Draws, Extends};
 
 use crate::pen::{Pen, Point, is_near, shifted, vertex_at};
-use page_model::list::List;
+use lists::list::List;
 use page_model::parts::{OutOfMemory, Vertex, VertexList};
 use ps_tokens::faults::FaultKind;
 use std::alloc::Global;

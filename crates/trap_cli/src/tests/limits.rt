@@ -6,7 +6,7 @@ use outside::mem_file::MemFile;
 use outside::mem_rack::MemRack;
 use outside::mem_tray::MemTray;
 use outside::tray::Tray;
-use page_model::list::List;
+use lists::list::List;
 use std::alloc::{AllocError, Global};
 use std::process::Abort;
 use std::test::Fail;

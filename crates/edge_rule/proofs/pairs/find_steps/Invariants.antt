@@ -2,7 +2,7 @@ use Rattle.std.proofs.Common.{◌≡◌, ◌<◌, ℕ, false, length, slice_inde
 use Rattle.edge_rule.specs.Pairs.{along}
 use Rattle.page_model.specs.Apart.{falls}
 use Rattle.page_model.specs.Page.{plates}
-use Rattle.page_model.specs.Words.{any_below}
+use Rattle.lists.specs.Words.{any_below}
 use Rattle.edge_rule.proofs.pairs.find_steps.Given as goal
 
 abbrev pub invariant-loop-c : goal.invariant-loop-c

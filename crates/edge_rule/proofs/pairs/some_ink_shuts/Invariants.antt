@@ -1,7 +1,7 @@
 use Rattle.std.proofs.Common.{◌≡◌}
 use Rattle.page_model.specs.Density.{shuts}
 use Rattle.page_model.specs.Page.{ink_at, plates}
-use Rattle.page_model.specs.Words.{any_below}
+use Rattle.lists.specs.Words.{any_below}
 use Rattle.edge_rule.proofs.pairs.some_ink_shuts.Given as goal
 
 abbrev pub invariant-loop-c : goal.invariant-loop-c

@@ -1,7 +1,7 @@
 use Rattle.std.proofs.Common.{◌≡◌}
 use Rattle.page_model.specs.Page.{plates}
 use Rattle.page_model.specs.Within.{black_plate}
-use Rattle.page_model.specs.Words.{any_below}
+use Rattle.lists.specs.Words.{any_below}
 use Rattle.neutral_density.proofs.black.is_black.Given as goal
 
 abbrev pub invariant-loop-c : goal.invariant-loop-c

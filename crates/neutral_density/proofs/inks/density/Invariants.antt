@@ -1,7 +1,7 @@
 use Rattle.std.proofs.Common.{◌≡◌, ◌≤◌, ◌*◌}
 use Rattle.page_model.specs.Density.{weight}
 use Rattle.page_model.specs.Page.{plates, tint}
-use Rattle.page_model.specs.Words.{sum_below}
+use Rattle.lists.specs.Words.{sum_below}
 use Rattle.neutral_density.proofs.inks.density.Given as goal
 
 abbrev pub invariant-loop-c : goal.invariant-loop-c

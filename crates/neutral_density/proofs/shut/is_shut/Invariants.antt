@@ -2,7 +2,7 @@ use Rattle.std.proofs.Common.{◌≡◌, ◌&&◌}
 use Rattle.std.specs.Prelude.{nat_lt}
 use Rattle.page_model.specs.Density.{shuts}
 use Rattle.page_model.specs.Page.{plates, tint, ink_at}
-use Rattle.page_model.specs.Words.{any_below}
+use Rattle.lists.specs.Words.{any_below}
 use Rattle.neutral_density.proofs.shut.is_shut.Given as goal
 
 abbrev pub invariant-loop-c : goal.invariant-loop-c

@@ -1,7 +1,7 @@
 use Rattle.std.proofs.Common.{◌≡◌}
 use Rattle.page_model.specs.Apart.{falls}
 use Rattle.page_model.specs.Page.{plates}
-use Rattle.page_model.specs.Words.{any_below}
+use Rattle.lists.specs.Words.{any_below}
 use Rattle.neutral_density.proofs.steps.some_falls.Given as goal
 
 abbrev pub invariant-loop-c : goal.invariant-loop-c

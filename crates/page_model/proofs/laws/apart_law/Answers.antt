@@ -1,4 +1,4 @@
-use Rattle.page_model.proofs.Sums.{apart_comm}
+use Rattle.page_model.proofs.DensityLemmas.{apart_comm}
 use Rattle.page_model.proofs.laws.apart_law.Goals as goal
 
 pub returns : goal.returns

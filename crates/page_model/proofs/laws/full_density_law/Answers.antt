@@ -1,4 +1,4 @@
-use Rattle.page_model.proofs.Sums.{density-le-full, trapped-pos}
+use Rattle.page_model.proofs.DensityLemmas.{density-le-full, trapped-pos}
 use Rattle.page_model.proofs.laws.full_density_law.Goals as goal
 
 pub returns-clause-grows : goal.returns-clause-grows

@@ -1,7 +1,7 @@
 use Rattle.std.proofs.Common.{◌≡◌}
 use Rattle.page_model.specs.Faults.{difference}
 use Rattle.page_model.specs.Page.{plates}
-use Rattle.page_model.specs.Words.{first_some}
+use Rattle.lists.specs.Words.{first_some}
 use Rattle.page_model.proofs.page.first_difference.Given as goal
 
 abbrev pub invariant-loop-c : goal.invariant-loop-c

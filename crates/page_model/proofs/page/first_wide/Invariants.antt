@@ -1,6 +1,6 @@
 use Rattle.std.proofs.Common.{◌≡◌, length}
 use Rattle.page_model.specs.Faults.{too_wide}
-use Rattle.page_model.specs.Words.{first_some}
+use Rattle.lists.specs.Words.{first_some}
 use Rattle.page_model.proofs.page.first_wide.Given as goal
 
 abbrev pub invariant-loop-z : goal.invariant-loop-z

@@ -1,5 +1,5 @@
 use Rattle.std.proofs.Common.{◌≡◌}
-use Rattle.page_model.specs.Words.{list_below}
+use Rattle.lists.specs.Words.{list_below}
 use Rattle.page_source.specs.Sample.{tint_at}
 use Rattle.page_source.proofs.sample.plane_tints.Given as goal
 

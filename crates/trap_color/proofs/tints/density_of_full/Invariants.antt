@@ -2,7 +2,7 @@ use Rattle.std.proofs.Common.{◌≡◌, ◌≤◌, ◌*◌}
 use Rattle.page_model.specs.Density.{weight}
 use Rattle.page_model.specs.Page.{plates}
 use Rattle.page_model.specs.Tints.{full}
-use Rattle.page_model.specs.Words.{sum_below}
+use Rattle.lists.specs.Words.{sum_below}
 use Rattle.trap_color.proofs.tints.density_of_full.Given as goal
 
 abbrev pub invariant-loop-c : goal.invariant-loop-c

@@ -1,6 +1,6 @@
 use Rattle.std.proofs.Common.{◌≡◌, ◌≤◌, length, not, slice_index}
 use Rattle.std.specs.Prelude.{◌==◌}
-use Rattle.page_model.specs.Words.{count_below}
+use Rattle.lists.specs.Words.{count_below}
 use Rattle.trap_engine.proofs.changes.differences.Given as goal
 
 abbrev pub invariant-loop-k : goal.invariant-loop-k

@@ -1,7 +1,7 @@
 use Rattle.std.proofs.Common.{◌≡◌}
 use Rattle.page_model.specs.Counts.{plate_changed}
 use Rattle.page_model.specs.Page.{plates}
-use Rattle.page_model.specs.Words.{list_below}
+use Rattle.lists.specs.Words.{list_below}
 use Rattle.trap_engine.proofs.changes.plate_changed_of.Given as goal
 
 abbrev pub invariant-loop-c : goal.invariant-loop-c

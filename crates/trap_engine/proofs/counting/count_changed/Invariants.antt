@@ -2,7 +2,7 @@ use Rattle.std.proofs.Common.{◌≡◌, ◌<◌, ◌&&◌, ℕ, length, slice_i
 use Rattle.std.specs.Prelude.{◌==◌}
 use Rattle.page_model.specs.Counts.{sample_changes}
 use Rattle.page_model.specs.Page.{samples, sample_at}
-use Rattle.page_model.specs.Words.{count_below}
+use Rattle.lists.specs.Words.{count_below}
 use Rattle.page_model.specs.Zones.{zone_of}
 use Rattle.trap_engine.proofs.counting.count_changed.Given as goal
 

@@ -1,7 +1,7 @@
 use Rattle.std.proofs.Common.{arith, ◌∙◌, length}
 use Rattle.page_model.specs.Counts.{zone_samples}
 use Rattle.trap_engine.proofs.CountLemmas.{samples_counted, count_fits}
-use Rattle.trap_engine.proofs.ListBelow.{list_below-from}
+use Rattle.lists.proofs.ListBelow.{list_below-from}
 use Rattle.trap_engine.proofs.counting.count_samples.Goals as goal
 
 pub overflow_add-counts : goal.overflow_add-counts

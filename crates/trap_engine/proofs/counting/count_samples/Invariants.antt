@@ -1,7 +1,7 @@
 use Rattle.std.proofs.Common.{◌≡◌, ◌<◌, ◌&&◌, ℕ, true, length, slice_index}
 use Rattle.std.specs.Prelude.{◌==◌}
 use Rattle.page_model.specs.Page.{samples, sample_at}
-use Rattle.page_model.specs.Words.{count_below}
+use Rattle.lists.specs.Words.{count_below}
 use Rattle.page_model.specs.Zones.{zone_of}
 use Rattle.trap_engine.proofs.counting.count_samples.Given as goal
 

@@ -1,6 +1,6 @@
 use Rattle.std.proofs.Common.{◌≡◌, ◌≤◌, ◌*◌}
 use Rattle.page_model.specs.Page.{samples}
-use Rattle.page_model.specs.Words.{sum_below}
+use Rattle.lists.specs.Words.{sum_below}
 use Rattle.trap_engine.proofs.EdgeCount.{edges_of}
 use Rattle.trap_engine.proofs.counting.edges_in.Given as goal
 

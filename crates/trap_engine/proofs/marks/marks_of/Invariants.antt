@@ -2,7 +2,7 @@ use Rattle.std.proofs.Common.{◌≡◌, ◌*◌, ◌/◌, ◌%◌}
 use Rattle.std.specs.Prelude.{vec_len}
 use Rattle.page_model.specs.Deciding.{mark}
 use Rattle.page_model.specs.Page.{height, width}
-use Rattle.page_model.specs.Words.{list_below}
+use Rattle.lists.specs.Words.{list_below}
 use Rattle.trap_engine.proofs.marks.marks_of.Given as goal
 
 abbrev pub invariant-loop-y : goal.invariant-loop-y

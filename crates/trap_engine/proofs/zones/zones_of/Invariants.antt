@@ -1,7 +1,7 @@
 use Rattle.std.proofs.Common.{◌≡◌, ◌*◌}
 use Rattle.std.specs.Prelude.{vec_len}
 use Rattle.page_model.specs.Page.{height, sample_at, width}
-use Rattle.page_model.specs.Words.{list_below}
+use Rattle.lists.specs.Words.{list_below}
 use Rattle.page_model.specs.Zones.{zone_of}
 use Rattle.trap_engine.proofs.zones.zones_of.Given as goal
 

@@ -1,6 +1,6 @@
 use Rattle.std.proofs.Common.{◌≡◌, ◌≤◌, length}
 use Rattle.page_model.specs.Reach.{zone_reach}
-use Rattle.page_model.specs.Words.{greatest_below}
+use Rattle.lists.specs.Words.{greatest_below}
 use Rattle.page_model.proofs.page.Page.reach2.Given as goal
 
 abbrev pub invariant-loop-z : goal.invariant-loop-z

@@ -1,8 +1,10 @@
-use Rattle.std.proofs.Common.{◌≡◌, ℕ, zero, suc, ◌+◌, ◌<◌, List, [], ◌∷◌, ◌++◌, length, arith, refl, ap, sym, ◌∙◌, inl, inr, append_assoc, add-zero, add-suc}
+-- The list of a function's answers below a bound: its length, its items, and what is told of each.
+use Rattle.std.proofs.Common.{◌≡◌, ℕ, zero, suc, ◌+◌, ◌<◌, List, [], ◌∷◌, ◌++◌, length, arith, refl, ap, sym, ◌∙◌, inl, inr, append_assoc, add-zero, add-suc, subst}
+use Rattle.std.specs.List.{All}
 use Rattle.std.specs.Prelude.{slice_index_or}
 use Rattle.std.proofs.lemmas.Bool.{cases_eq}
 use Rattle.std.proofs.lemmas.List.{get_or_push, get_or_append_left, length-append, ext_get_or, append-nil}
-use Rattle.page_model.specs.Words.{list_below}
+use Rattle.lists.specs.Words.{list_below}
 
 pub length-list_below : {X : Type 0} (f : ℕ → X) (n : ℕ) → length (list_below f n) ≡ n
 length-list_below f zero = refl
@@ -26,3 +28,7 @@ list_below-of d f n xs long each = ext_get_or d xs (list_below f n) (long ∙ sy
 
 pub list_below-from : (f : ℕ → ℕ) (n : ℕ) (xs : List ℕ) → length xs ≡ n → ((k : ℕ) → k < n → slice_index_or xs k 0 ≡ f k) → xs ≡ list_below f n
 list_below-from = list_below-of 0
+
+-- a fact of each number's item is one of every item of the list
+pub all_below : {X : Type 0} (Fact : X → Type 0) (f : ℕ → X) (n : ℕ) → ((k : ℕ) → k < n → Fact (f k)) → All Fact (list_below f n)
+all_below Fact f n each = λ k d here. (let l : k < n = omega (arith, here, length-list_below f n) in subst Fact (sym (list_below-at f n k d l)) (each k l))

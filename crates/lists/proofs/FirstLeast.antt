@@ -1,7 +1,7 @@
 use Rattle.std.proofs.Common.{◌≡◌, ℕ, zero, suc, ◌<◌, ◌≤◌, Bool, true, false, ◌&&◌, nat_lt, Option, Some, None, if◌then◌else◌, inl, inr, refl, arith, sym, ◌∙◌, ap}
 use Rattle.std.specs.Option.{MatchOption}
 use Rattle.std.proofs.lemmas.Bool.{cases_Bool, ltb-true, ltb-false, cases_eq, cases_order, false≢true}
-use Rattle.page_model.specs.Words.{first_least, beats, IsFirstLeast}
+use Rattle.lists.specs.Words.{first_least, beats, IsFirstLeast}
 
 abbrev pub NonePasses : (ℕ → Bool) → ℕ → Type 0
 NonePasses test n = (j : ℕ) → j < n → test j ≡ false

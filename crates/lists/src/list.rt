@@ -1,4 +1,8 @@
 ghost use Rattle.std.specs.Prelude.{◌≡◌, ◌<◌, ◌↔◌, [], ◌∷◌, ◌++◌, length, slice_get, slice_set, swap, IsTrue, MatchOption, MatchResult, option_copied};
+ghost use Rattle.std.specs.Borrow.{Lends, sem};
+ghost use Rattle.std.specs.Fn.{CalledAt};
+ghost use Rattle.std.specs.List.Retain.{IsFiltered};
+ghost use Rattle.lists.specs.contracts.list.List.{the_row};
 
 use std::alloc::Global;
 use std::marker::Model;
@@ -97,6 +101,15 @@ impl<T> List<T> {
         std::mem::replace(&mut self.items[place], item)
     }
 
+    /// The item at a place, to be changed where it stands.
+    pub fn item_mut(&mut self, place: usize) -> &mut T
+        requires { place < length self.old }
+        ensures* changes { sem 𝓛 (Lends (the_row T.row) T.row self.entry result (slice_set self.old place)) }
+        ensures item { slice_get self.old place ≡ Some result.now }
+    {
+        &mut self.items[place]
+    }
+
     /// Exchanges the items at two places.
     pub fn swap(&mut self, a: usize, b: usize)
         requires a_in_range { a < length self.old }
@@ -104,5 +117,15 @@ impl<T> List<T> {
         ensures { self.new ≡ swap self.old a b }
     {
         self.items.as_mut_slice().swap(a, b)
+    }
+}
+
+impl<T: Drop> List<T> {
+    /// Keeps the items that pass the test, in their order. It takes no memory.
+    pub fn retain<F: FnMut(&T) -> bool>(&mut self, test: F)
+        requires { F.IsAlwaysCallable test }
+        ensures { IsFiltered (CalledAt F.FnMut) test self.old self.new }
+    {
+        self.items.retain(test)
     }
 }

@@ -1,0 +1,4 @@
+pub mod FirstLeast
+pub mod FirstSome
+pub mod ListBelow
+pub mod Sums
