@@ -12,3 +12,5 @@ pub mod FaultLemmas
 pub mod ReachLemmas
 pub mod ColumnDecider
 pub mod ReachLaws
+pub mod TrappedPlanes
+pub mod SubpathLemmas

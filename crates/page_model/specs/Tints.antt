@@ -10,6 +10,7 @@ use Rattle.page_model.specs.Edges.{across}
 use Rattle.page_model.specs.Trapped.{trapped_in}
 use Rattle.lists.specs.Words.{list_below}
 use Rattle.page_model.specs.Zones.{zone_of}
+use Rattle.page_model.specs.Limits.{scale}
 
 -- the tint of plate c where the inks of both sides lie one over the other
 abbrev pub full : PageParts → At → EdgeAt → ℕ → ℕ
@@ -23,7 +24,7 @@ abbrev pub scaled_in : PageParts → ℕ → At → EdgeAt → ℕ → ℕ
 scaled_in page z p e c =
     let here = density page p in
     let there = full_density page p e in
-    (full page p e c * (here * 10000 + (params_at page z).trap_color_scaling * (there - here))) / (there * 10000)
+    (full page p e c * (here * scale + (params_at page z).trap_color_scaling * (there - here))) / (there * scale)
 
 -- the new tint of plate c at p, which lies in zone z, with e as its decider
 unfoldable pub new_in : PageParts → ℕ → At → EdgeAt → ℕ → ℕ
