@@ -50,6 +50,7 @@ abbrev pub begins : List Vertex → Bool
 begins [] = true
 begins (v ∷ vs) = v.starts
 
+-- a path begins with a start, has few enough vertices, and each is near enough
 pub record IsPath (path : List Vertex) : Type 0 where
   pub begun : begins path ≡ true
   pub few : length path ≤ most_vertices
@@ -60,6 +61,7 @@ pub record AreLimits (limits : List Limit) : Type 0 where
   pub once : AllPairs (λ (a b : Limit). a.name ≢ b.name) limits
   pub steps : All (λ (l : Limit). l.step ≤ scale) limits
 
+-- a zone whose parts are in range
 pub record IsZone (zone : Zone) : Type 0 where
   pub params : InRange zone.params
   pub path : IsPath zone.path

@@ -34,6 +34,7 @@ most_zones = 251
 abbrev pub most_vertices : ℕ
 most_vertices = 4096
 
+-- the vertices of all zones together
 abbrev pub most_vertices_in_all : ℕ
 most_vertices_in_all = 16384
 

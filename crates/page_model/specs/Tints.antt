@@ -16,6 +16,7 @@ use Rattle.page_model.specs.Limits.{scale}
 abbrev pub full : PageParts → At → EdgeAt → ℕ → ℕ
 full page p e c = if spreads (ink_at page c).kind then max (tint page c p) (tint page c (across p e)) else tint page c p
 
+-- the density of a sample's full tints
 abbrev pub full_density : PageParts → At → EdgeAt → ℕ
 full_density page p e = density_of page (full page p e)
 
@@ -30,6 +31,7 @@ scaled_in page z p e c =
 unfoldable pub new_in : PageParts → ℕ → At → EdgeAt → ℕ → ℕ
 new_in page z p e c = if trapped_in page z p e && spreads (ink_at page c).kind then scaled_in page z p e c else tint page c p
 
+-- the new tint of plate c where e is the decider, by the zone of the sample
 abbrev pub new_by : PageParts → At → EdgeAt → ℕ → ℕ
 new_by page p e c = new_in page (zone_of page p) p e c
 

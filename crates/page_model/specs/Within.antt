@@ -22,6 +22,7 @@ high page e = max (density page (first e)) (density page (second e))
 abbrev pub slid : TrapParams → ℕ → ℕ → Bool
 slid params less more = nat_le (params.sliding_trap_limit * more) (less * scale)
 
+-- whether an edge is slid, by its samples' densities
 abbrev pub edge_slid : PageParts → TrapParams → EdgeAt → Bool
 edge_slid page params e = slid params (low page e) (high page e)
 
@@ -29,6 +30,7 @@ edge_slid page params e = slid params (low page e) (high page e)
 abbrev pub black_plate : PageParts → TrapParams → At → ℕ → Bool
 black_plate page params p c = plate_counts page c && nat_le params.black_density_limit (ink_at page c).density && nat_lt 0 (tint page c p) && nat_le (params.black_color_limit * maxval page) (tint page c p * scale)
 
+-- whether some plate makes a sample black
 abbrev pub black_sample : PageParts → TrapParams → At → Bool
 black_sample page params p = any_below (black_plate page params p) (plates page)
 
@@ -44,5 +46,6 @@ within_in page z p e =
     let parts = (if edge_slid page params e then 2 else 1) in
     nat_le (d2 p e * square (half_sample * parts)) (square (params.trap_width * factor * page.resolution))
 
+-- whether an edge is near enough to trap a sample, by the zone of the sample
 abbrev pub within : PageParts → At → EdgeAt → Bool
 within page p e = within_in page (zone_of page p) p e

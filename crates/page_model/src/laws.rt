@@ -63,7 +63,8 @@ pub fn decider_law(page: &Page, p: At)
 /// A sample's full tints are at least as dense as its tints, and those of a trapped sample have a density above 0.
 pub fn full_density_law(page: &Page, p: At, e: EdgeAt)
     ensures grows { density page.now p ≤ full_density page.now p e }
-    ensures some { (z : ℕ) → trapped_in page.now z p e ≡ true → 0 < full_density page.now p e }
+    ensures some { (z : ℕ) → trapped_in page.now z p e ≡ true
+        → 0 < full_density page.now p e }
 {
     let _valid = page.plates();
 }
@@ -88,7 +89,8 @@ pub fn reach_law(page: &Page, p: At)
 /// than a page may have.
 pub fn trapped_planes_law(page: &Page)
     ensures planes { All IsPlane (trapped_planes page.now) }
-    ensures samples { All (λ plane. plane.width * plane.height ≤ most_samples) (trapped_planes page.now) }
+    ensures samples { All (λ plane. plane.width * plane.height ≤ most_samples)
+        (trapped_planes page.now) }
 {
     let _valid = page.plates();
 }
