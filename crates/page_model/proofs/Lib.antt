@@ -12,3 +12,6 @@ pub mod FaultLemmas
 pub mod ReachLemmas
 pub mod ColumnDecider
 pub mod ReachLaws
+pub mod BandLemmas
+pub mod MarkLemmas
+pub mod TintLemmas

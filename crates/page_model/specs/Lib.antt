@@ -18,3 +18,4 @@ pub mod Columns
 pub mod ReachLaw
 pub mod Arms
 pub mod Laws
+pub mod Bands
