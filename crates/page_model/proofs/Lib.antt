@@ -14,3 +14,6 @@ pub mod ColumnDecider
 pub mod ReachLaws
 pub mod TrappedPlanes
 pub mod SubpathLemmas
+pub mod BandLemmas
+pub mod MarkLemmas
+pub mod TintLemmas

@@ -20,3 +20,4 @@ pub mod Columns
 pub mod ReachLaw
 pub mod Arms
 pub mod Laws
+pub mod Bands

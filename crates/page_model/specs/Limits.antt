@@ -49,3 +49,7 @@ most_resolution = 10000
 -- how far a trap may reach, in half-samples
 abbrev pub most_reach : ℕ
 most_reach = 256
+
+-- the rows of a band
+abbrev pub most_band_height : ℕ
+most_band_height = 4096
