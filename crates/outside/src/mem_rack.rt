@@ -35,7 +35,18 @@ impl Model for MemRack {
 
     ghost Value = { MemRackState };
 
-    ghost view = { λ m. record { done = m.done.items; current = m.current; told = m.text; is_open = m.is_open; grain = m.grain; room = m.room; fails = m.fails; calls = m.calls; asked = cond m.is_asked_told (Some m.asked) None; faults = m.faults } };
+    ghost view = { λ m. record {
+      done = m.done.items;
+      current = m.current;
+      told = m.text;
+      is_open = m.is_open;
+      grain = m.grain;
+      room = m.room;
+      fails = m.fails;
+      calls = m.calls;
+      asked = cond m.is_asked_told (Some m.asked) None;
+      faults = m.faults;
+    } };
 
     ghost use Rattle.outside.specs.MemRacks.{IsRackInside};
 
@@ -143,7 +154,7 @@ impl Rack for MemRack {
 
     fn tell(&mut self, text: &[u8]) -> Result<(), Failed>
         ensures rack { Tells text.now (rack_of self.old) (rack_of self.new) result }
-        ensures exact { TellsMem self.old self.new result }
+        ensures exact { TellsMem text.now self.old self.new result }
     {
         if is_failing(&mut self.calls, self.fails.as_slice()) {
             return Err(fault(&mut self.faults));
