@@ -1,0 +1,66 @@
+"""Plate files of a picture, broken ones among them."""
+from . import spelling
+
+
+def samples(picture, plate):
+    return [picture.maxval - tint for tint in picture.planes[plate]]
+
+
+def plate_file(rng, picture, plate, broken=0.03):
+    """The bytes of one plate's file."""
+    data = spelling.plate(rng, picture.width, picture.height, picture.maxval, samples(picture, plate))
+    return break_plate(rng, picture, plate, data) if rng.random() < broken else data
+
+
+def break_plate(rng, picture, plate, data):
+    """A file with a fault, or one that is a plate of another shape."""
+    kind = rng.randrange(9)
+    width, height, maxval = picture[:3]
+    if kind == 0:
+        return data[:rng.randint(0, len(data))]
+    if kind == 1:
+        return data + rng.choice([b"\0", b"\n", b"P5", data])
+    if kind == 2:
+        return with_header(rng, data)
+    if kind == 3:
+        place = rng.randint(0, min(len(data) - 1, 20))
+        return data[:place] + bytes([rng.randrange(256)]) + data[place + rng.randint(0, 1):]
+    if kind == 4:
+        return spelling.plate(rng, height + 1, width, maxval, [0] * width * (height + 1))
+    if kind == 5:
+        other = rng.choice([value for value in (1, 100, 255, 256, 65535) if value != maxval])
+        return spelling.plate(rng, width, height, other, [0] * width * height)
+    if kind == 6 and maxval not in (255, 65535):
+        above = list(samples(picture, plate))
+        above[rng.randrange(len(above))] = maxval + 1
+        cut = spelling.plate(rng, width, height, maxval, above)
+        return cut[:rng.randint(0, len(cut))] if rng.random() < 0.3 else cut
+    if kind == 7:
+        return long_header(rng, data)
+    return rng.choice([b"", b"P", b"p5", b"P6 1 1 255\n\0", b"P5\n", b"P55", b"\xff" * 20])
+
+
+def with_header(rng, data):
+    """Another header before the raster; the numbers are at the limits."""
+    numbers = [rng.choice([b"1", b"0", b"16384", b"16385", b"9766", b"00001", b"99999999999999999999", b"255", b"-1", b"1.5"])
+               for _ in range(2)]
+    maxval = rng.choice([b"0", b"1", b"255", b"256", b"65535", b"65536", b"00065535", b"100000000000000", b"x"])
+    gaps = [rng.choice([b" ", b"\n", b"#a\n", b"", b"#", b"\0", b"#a\n#b\r "]) for _ in range(4)]
+    end = rng.choice([b" ", b"\n", b"\v", b"#\n", b"", b"a"])
+    return b"P5" + gaps[0] + numbers[0] + gaps[1] + numbers[1] + gaps[2] + maxval + end + data[-3:]
+
+
+def long_header(rng, data):
+    """A header of about as many bytes as one may have: 65,536."""
+    raster = data[-1:]
+    numbers = b"1 1 255\n"
+    size = 65536 - 2 - len(numbers) + rng.choice([-1, 0, 1, 2, 3, 5, 7, 8, 1000])
+    return b"P5" + (b" " * size if rng.random() < 0.5 else b"#" + b"x" * (size - 2) + b"\n") + numbers + raster
+
+
+def image_files(rng, pictures, broken=0.03):
+    """For each plate the file of its images, one for each page."""
+    return [b"".join(plate_file(rng, picture, plate, broken) for picture in pictures)
+            for plate in range(len(pictures[0].planes))]
+
+
