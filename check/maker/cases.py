@@ -42,10 +42,10 @@ def input_name(rng, stem, files, data):
     return name
 
 
-def one_page(rng, files, picture=None, broken=0.03):
+def one_page(rng, files, picture=None, broken=0.04):
     """A job and plates: their names, the colorants', and a report's."""
     picture = picture or pictures.picture(rng)
-    long = rng.random() < 0.002
+    long = rng.random() < 0.006
     job = input_name(rng, "job", files, jobs.long_job(rng) if long else jobs.job(rng, picture))
     inputs = [input_name(rng, "p%d" % plate, files, plates.plate_file(rng, picture, plate, broken))
               for plate in range(len(picture.planes))]
@@ -150,7 +150,7 @@ def sample(rng):
     width, height = rng.choice([(rng.randint(1, 30), rng.randint(1, 20)), (rng.randint(1, 12), rng.randint(1, 60))])
     number = rng.choice([rng.randint(0, 20), rng.randint(0, 2 ** 32 - 1), 2 ** 32 - 1])
     words = ["sample", number_word(rng, number), number_word(rng, width), number_word(rng, height), workers_word(rng)]
-    if rng.random() < 0.05:
+    if rng.random() < 0.15:
         words[1:4] = rng.choice([["0", "16384", "16384"], ["4294967296", "2", "2"], ["1", "16385", "1"], ["1", "1", "0"],
                                  ["1", "16384", "2442"]])
     return with_bad_words(rng, words)
@@ -198,11 +198,10 @@ def traprun(rng):
     job = input_name(rng, "job", files, many_pages(rng, pages))
     shown = pages if rng.random() < 0.85 else rng.choice([pages[:-1], pages + [first], pages * 2])
     inputs = [input_name(rng, "p%d" % plate, files, data)
-              for plate, data in enumerate(plates.image_files(rng, shown or [first], 0.015))]
-    if rng.random() < 0.04:
-        name = rng.choice(inputs)
-        if name in files:
-            files[name] = rng.choice([b"", files[name] * 2, files[name] + b"P", files[name] + b"P5 1 1 1 \1"])
+              for plate, data in enumerate(plates.image_files(rng, shown or [first], 0.025))]
+    name = rng.choice(inputs)
+    if rng.random() < 0.12 and name in files:
+        files[name] = rng.choice([b"", files[name] * 2, *(files[name] + more for more in MORE_BYTES)])
     # With a page's number behind it the name of a device would be that of a new file outside the folder.
     report, *written = (name.replace(FULL, "full") for name in [output_name(rng, "report"), *outputs(rng, inputs)])
     if rng.random() < 0.03:
@@ -213,8 +212,14 @@ def traprun(rng):
     return with_bad_words(rng, words), files
 
 
+# What may stand behind the images of a plate file: whole plates, and ones with a fault.
+MORE_BYTES = [b"P5 1 1 1 \1", b"P", b"\n", b"P5x", b"P5 0 1 1\n", b"P5 16384 16384 1\n", b"P5 1 1 0\n", b"P5 1 1 9\n\n", b"P5 2 1 9\n\1"]
+
+
 def many_pages(rng, pages):
-    """The job; now and then one of more pages than there may be."""
+    """The job; now and then one at a limit, or of more pages than there may be."""
+    if rng.random() < 0.004:
+        return jobs.long_job(rng)
     if rng.random() < 0.006:
         off = b"<< /Enabled false >> settrapparams " + b"showpage " * rng.choice([256, 257, 300])
         return off + rng.choice([b"", b"1", b"newpath", b"["])

@@ -14,10 +14,10 @@ UNKNOWN_KEYS = [b"/Other", b"/HalftoneName", b"/trapwidth", b"/", b"/\x80\xff", 
 def job(rng, picture):
     """A job for a page, as bytes."""
     tokens = [token for statement in page_statements(rng, picture) for token in statement]
-    if rng.random() < 0.12:
+    if rng.random() < 0.06:
         tokens = with_token_fault(rng, tokens)
     text = spelling.job(rng, tokens)
-    return with_byte_fault(rng, text) if rng.random() < 0.06 else text
+    return with_byte_fault(rng, text) if rng.random() < 0.05 else text
 
 
 def jobs(rng, pictures):
@@ -47,7 +47,7 @@ def page_statements(rng, picture, device=True):
             statements.append(params_statement(rng, picture, resolution))
     if rng.random() < 0.05:
         statements.append(device_statement(rng, picture.names, resolution))
-    if rng.random() < 0.12:
+    if rng.random() < 0.15:
         statements.insert(rng.randint(0, len(statements)), faulty_statement(rng))
     if rng.random() < 0.03:
         rng.shuffle(statements)
@@ -60,11 +60,14 @@ def disabling(rng):
     return OPEN + [b"/Trapping", b"false"] + CLOSE + [b"setpagedevice"]
 
 
-def dictionary(rng, entries):
-    """The tokens of a dictionary, with entries that are passed over and with earlier entries of its keys among them."""
+def dictionary(rng, entries, any_key=True):
+    """The tokens of a dictionary, with entries that are passed over and with earlier entries of its keys among them.
+
+    Where every key means something, `any_key` is false.
+    """
     entries = list(entries)
     rng.shuffle(entries)
-    if rng.random() < 0.15:
+    if any_key and rng.random() < 0.15:
         entries.append((rng.choice(UNKNOWN_KEYS), rng.choice(ODD_VALUES)))
     if entries and rng.random() < 0.15:
         # An earlier entry of a key is not judged.
@@ -96,23 +99,27 @@ def details(rng, names):
     if rng.random() < 0.01:
         return rng.choice(ODD_VALUES)
     others = [name for name in NAMES if name not in names]
-    inks = [(b"/" + name.encode(), ink(rng)) for name in names if rng.random() < 0.995]
-    inks += [(b"/" + name.encode(), ink(rng)) for name in rng.sample(others, min(len(others), rng.randint(0, 3)))]
+    densities = DENSITIES if rng.random() < 0.7 else [rng.choice(DENSITIES)]
+    more = rng.sample(others, min(len(others), rng.randint(0, 3)))
+    inks = [(b"/" + name.encode(), ink(rng, densities)) for name in names + more if rng.random() < 0.995]
     entries = []
     if rng.random() < 0.99:
         kind = [b"1001"] if rng.random() < 0.98 else rng.choice([[b"1000"], [b"/x"], [b"1001.0001"], [b"null"]])
         entries.append((b"/Type", kind if kind != [b"1001"] else [spelling.value(rng, 10010000)]))
     if rng.random() < 0.99:
-        value = dictionary(rng, inks) if rng.random() < 0.99 else rng.choice(ODD_VALUES)
+        value = dictionary(rng, inks, any_key=False) if rng.random() < 0.99 else rng.choice(ODD_VALUES)
         entries.append((b"/ColorantDetails", value))
     return dictionary(rng, entries)
 
 
-def ink(rng):
+DENSITIES = [6100, 7600, 1600, 17000, 10000, 16000, 10, 100000, None]
+
+
+def ink(rng, densities):
     """One colorant's details."""
     entries = []
-    if rng.random() < 0.995:
-        density = rng.choice([6100, 7600, 1600, 17000, 10000, 16000, 10, 100000, rng.randint(10, 100000)])
+    if rng.random() < 0.997:
+        density = rng.choice(densities) or rng.randint(10, 100000)
         value = [spelling.value(rng, density)]
         if rng.random() < 0.004:
             value = rng.choice([[b"0.0009"], [b"10.0001"], [b"-1"], [b"/x"], [b"0"], [b"null"]])
@@ -135,6 +142,8 @@ def parameter(rng, key, resolution, picture):
         return rng.choice([10000, 20000, 5000, 15000, rng.randint(least, 30000)])
     if key == "BlackDensityLimit":
         return rng.choice([least, default, 17000, 6100, 1600, rng.randint(least, 20000)])
+    if key == "SlidingTrapLimit":
+        return rng.choice([least, greatest, default, 6100, 7600, 1600, 1000, rng.randint(least, greatest)])
     if key in ("StepLimit", "BlackColorLimit"):
         level = rng.randint(0, picture.maxval) * 10000 // picture.maxval
         return rng.choice([least, default, 2500, 5000, level, rng.randint(least, greatest)])
@@ -144,7 +153,7 @@ def parameter(rng, key, resolution, picture):
 def params_statement(rng, picture, resolution):
     entries = []
     for key, ranges in PARAMETERS.items():
-        if rng.random() < (0.85 if key == "TrapWidth" else 0.3):
+        if rng.random() < (0.93 if key == "TrapWidth" else 0.3):
             entries.append((b"/" + key.encode(), param_value(rng, key, ranges, resolution, picture)))
     if rng.random() < 0.25:
         value = limits(rng, picture) if rng.random() < 0.98 else rng.choice(ODD_VALUES)
@@ -177,7 +186,7 @@ def limits(rng, picture):
         entries.append((b"/" + name.encode(), body))
     if rng.random() < 0.05:
         entries.append((b"/" + b"m" * rng.randint(63, 70), OPEN + [b"/StepLimit", rng.choice([b"0", b"1", b"2"])] + CLOSE))
-    return dictionary(rng, entries)
+    return dictionary(rng, entries, any_key=False)
 
 
 def zone_statements(rng, picture, resolution):
@@ -206,6 +215,8 @@ def subpath(rng, picture, resolution):
         return coordinate(rng, picture.width, resolution), coordinate(rng, picture.height, resolution)
     if rng.random() < 0.6:
         (a, b), (c, d) = point(), point()
+        if rng.random() < 0.4:
+            (a, b), (c, d) = (-10000, -10000), (12000000, 12000000)
         points = [(a, b), (c, b), (c, d), (a, d)]
     else:
         points = [point() for _ in range(rng.randint(1, 7))]
@@ -224,19 +235,74 @@ def subpath(rng, picture, resolution):
 
 
 def faulty_statement(rng):
-    """A statement with a fault of its own; what is left of the job is right."""
-    return rng.choice([
-        [b"gsave"], [b"5", b"newpath"], [b"1", b"moveto"], [b"1", b"2", b"3", b"moveto"], [b"settrapparams"],
-        [b"true", b"settrapparams"], [b"/x", b"/y", b"moveto"], [b"newpath", b"1", b"1", b"lineto"],
-        [b"newpath", b"1", b"1", b"rmoveto"], [b"newpath", b"0", b"0", b"rlineto"], [b"1000000.0001", b"0", b"moveto"],
-        [b"0", b"-1000000.0001", b"moveto"], [b"1000000", b"-1000000", b"moveto", b"newpath"], [b"1000000", b"0", b"moveto", b".0001", b"0", b"rlineto"],
-        [b"showpage"], [b"showpage", b"1"], [b"]"], [b">>"], [b"[", b"showpage", b"]"], [b"[", b"1", b">>"],
-        [b"<<", b"/a", b">>"], [b"<<", b"1", b"2", b">>"], [b"<<", b"[", b"]", b"1", b">>"], [b"<<"], [b"["], [b"1000001"],
-        [b"-1000001.5"], [b"1e5"], [b"16#FF"], [b"-x"], [b"."], [b"+"], [b"{"], [b"("], [b"<~>"], [b"<4g>"], [b"//a"],
-        [b"["] * 17 + [b"]"] * 17, [b"["] * 16 + [b"]"] * 16, [b"["] * 15 + [b"<<", b"/a", b"[", b"]", b">>"],
-        [b"<<", b"/a"] * 17, [b"null"], [b"closepath"], [b"newpath"], [b"newpath", b"closepath", b"closepath"],
-        [b"SHOWPAGE"], [b"true"], [b"\x80"], [b"a\x0bb"], [b"(a\\"], [b"\x0b"], [b"0"] * 3,
-    ])
+    """A statement with a fault of its own, or one that is odd and right; what is left of the job is right."""
+    kind = rng.random()
+    if kind < 0.3:
+        return settings(rng, [misfit(rng)]) + [b"settrapparams"]
+    if kind < 0.4:
+        return settings(rng, [misfit(rng) for _ in range(3)]) + [b"settrapparams"]
+    if kind < 0.6:
+        return settings(rng, [device_misfit(rng)]) + [b"setpagedevice"]
+    if kind < 0.65:
+        return settings(rng, [device_misfit(rng) for _ in range(3)]) + [b"setpagedevice"]
+    return rng.choice(ODD_STATEMENTS)
+
+
+def settings(rng, entries):
+    """A dictionary of these entries, that may hold right ones too."""
+    entries = list(entries)
+    if rng.random() < 0.3:
+        entries.insert(rng.randint(0, len(entries)), (b"/TrapWidth", [b"1"]))
+    return OPEN + [token for key, value in entries for token in [key, *value]] + CLOSE
+
+
+def misfit(rng):
+    """An entry that `settrapparams` refuses."""
+    key = rng.choice([*PARAMETERS, "ColorantZoneDetails"])
+    if key == "ColorantZoneDetails":
+        value = rng.choice([[b"5"], [b"[", b"]"], [b"<<", b"/Cyan", b"5", b">>"], [b"<<", b"/", b"null", b">>"],
+                            *([b"<<", b"/Cyan", b"<<", b"/StepLimit", step, b">>", b">>"]
+                              for step in (b"2", b"-.0001", b"1.0001", b"/x", b"true"))])
+    elif PARAMETERS[key] is None or rng.random() < 0.5:
+        value = rng.choice([[b"/x"], [b"(1)"], [b"null"], [b"[", b"1", b"]"], [b"<<", b">>"],
+                            [b"1"] if PARAMETERS[key] is None else [b"true"]])
+    else:
+        ranges = PARAMETERS[key]
+        value = [spelling.value(rng, rng.choice([ranges.least - 1, ranges.greatest + 1, -10000, 10 ** 10]))]
+    return b"/" + key.encode(), value
+
+
+def device_misfit(rng):
+    """An entry that `setpagedevice` refuses."""
+    key = rng.choice([b"/HWResolution", b"/Trapping", b"/TrappingDetails", b"/TrappingDetails", b"/TrappingDetails"])
+    if key == b"/HWResolution":
+        return key, rng.choice([[b"72"], [b"[", b"]"], *([b"[", *pair.split(), b"]"] for pair in (
+            b"72", b"72 73", b"72.5 72.5", b"0 0", b"10001 10001", b"-72 -72", b"72 /x", b"72 72 72", b"true true",
+            b"72.0001 72", b".0001 .0001"))])
+    if key == b"/Trapping":
+        return key, rng.choice([[b"1"], [b"null"], [b"/true"], [b"(true)"]])
+    kinds, details = [b"/Type", b"1001"], [b"/ColorantDetails"]
+    body = rng.choice([[b"5"], [b"<<", b"/Cyan", b"5", b">>"], [b"<<", b"/Cyan", b"<<", b">>", b">>"],
+                       *([b"<<", b"/Cyan", b"<<", *ink.split(), b">>", b">>"] for ink in (
+                           b"/NeutralDensity 0", b"/NeutralDensity .0009", b"/NeutralDensity 10.0001", b"/NeutralDensity /x",
+                           b"/ColorantType /Normal", b"/ColorantType /normal", b"/ColorantType /x /NeutralDensity 0",
+                           b"/NeutralDensity 1 /ColorantType 1", b"/NeutralDensity 1 /ColorantType /"))])
+    return key, rng.choice([
+        [b"5"], OPEN + CLOSE, OPEN + details + body + CLOSE, OPEN + kinds + details + body + CLOSE,
+        OPEN + details + body + kinds + CLOSE, OPEN + [b"/Type", b"1000"] + details + body + CLOSE,
+        OPEN + details + body + [b"/Type", b"/x"] + CLOSE, OPEN + [b"/Type", b"1001.5"] + CLOSE])
+
+
+ODD_STATEMENTS = [statement.split() for statement in (
+    b"gsave", b"5 newpath", b"1 moveto", b"1 2 3 moveto", b"settrapparams", b"true settrapparams", b"/x /y moveto",
+    b"newpath 1 1 lineto", b"newpath 1 1 rmoveto", b"newpath 0 0 rlineto", b"1000000.0001 0 moveto", b"0 -1000000.0001 moveto",
+    b"1000000 -1000000 moveto newpath", b"1000000 0 moveto .0001 0 rlineto", b"newpath 1000000.1 0 lineto", b"showpage",
+    b"showpage 1", b"]", b">>", b"[ showpage ]", b"[ 1 >>", b"<< /a >>", b"<< 1 2 >>", b"<< [ ] 1 >>", b"<< true 1 >>", b"<< ( 1 >>",
+    b"<< /a ]", b"<<", b"[", b"1000001", b"-1000001.5", b"1e5", b"16#FF", b"-x", b".", b"+", b"{", b"<~>", b"<4g>", b"//a",
+    b"[ " * 17 + b"] " * 17, b"[ " * 16 + b"] " * 16, b"[ " * 15 + b"<< /a [ ] >>", b"<< /a " * 17, b"null", b"closepath", b"newpath",
+    b"newpath closepath closepath", b"SHOWPAGE", b"true", b"\x80", b"(a\\", b"0 0 0", b"<< >> settrapparams", b"<< >> setpagedevice",
+    b"<< >> showpage", b"<< >> << >> settrapparams", b"[ ] setpagedevice", b"settrapzone", b"closepath settrapzone")]
+ODD_STATEMENTS += [[b"("], [b"\x0b"], [b"a\x0bb"], [b"/\x0b"], [b"-"], [b"1..2"], [b"+.5."], [b"--1"]]
 
 
 def with_token_fault(rng, tokens):
@@ -278,7 +344,7 @@ def long_job(rng):
     """A job at one of the limits, that some of them keep and others break by one."""
     off = b"<< /Enabled false >> settrapparams "
     device = b"<< /HWResolution [72 72] >> setpagedevice "
-    size, more = 1048576, rng.choice([0, 0, 1, 500])
+    size, more = 1048576, rng.choice([0, 1, 500])
     kind = rng.randrange(6)
     if kind == 0:
         return off + b" " * (size + more - len(off) - 8) + b"showpage"

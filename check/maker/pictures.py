@@ -9,8 +9,12 @@ Picture = namedtuple("Picture", "width height maxval names planes")
 
 
 def sides(rng):
-    """Mostly small; sometimes one sample wide or high, or of many rows, which are many bands."""
+    """Mostly small; sometimes one sample wide or high, of many rows, which are many bands, or wide."""
     kind = rng.random()
+    if kind < 0.003:
+        return rng.choice([(rng.randint(1000, 1100), rng.randint(1, 2)), (rng.randint(1, 2), rng.randint(120, 300)), (70, 60)])
+    if kind < 0.01:
+        return rng.randint(10, 24), rng.randint(10, 24)
     if kind < 0.10:
         return 1, rng.randint(1, 14)
     if kind < 0.18:
@@ -27,10 +31,10 @@ def picture(rng, shape=None, names=None):
     width, height = shape or sides(rng)
     maxval = rng.choice(MAXVALS) if rng.random() < 0.95 else rng.randint(1, 65535)
     if names is None:
-        names = rng.sample(NAMES, min(len(NAMES), rng.choice([1, 2, 2, 3, 3, 4, 4, 5])))
+        names = rng.sample(NAMES, min(len(NAMES), rng.choice([1, 2, 2, 2, 3, 3, 3, 4, 4, 4, 5])))
         if rng.random() < 0.02:
             names = ["ink%d" % number for number in range(16)]
-    colours = [colour(rng, len(names), maxval) for _ in range(rng.randint(2, 6))]
+    colours = [colour(rng, number % len(names), len(names), maxval) for number in range(rng.randint(2, 6))]
     place = layout(rng, width, height)
     cells = [colours[place(x, y) % len(colours)] for y in range(height) for x in range(width)]
     if rng.random() < 0.1:
@@ -39,11 +43,10 @@ def picture(rng, shape=None, names=None):
     return Picture(width, height, maxval, names, planes)
 
 
-def colour(rng, plates, maxval):
-    """The tints of one colour."""
+def colour(rng, inked, plates, maxval):
+    """The tints of one colour, often of one ink alone."""
     levels = [0, maxval, maxval // 2, maxval // 4, 3 * maxval // 4, maxval * 95 // 100, 1, rng.randint(0, maxval)]
-    if rng.random() < 0.6:
-        inked = rng.randrange(plates)
+    if rng.random() < 0.65:
         return tuple(rng.choice([maxval, maxval, rng.choice(levels)]) if plate == inked else 0 for plate in range(plates))
     return tuple(rng.choice(levels) for _ in range(plates))
 

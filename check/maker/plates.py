@@ -6,7 +6,7 @@ def samples(picture, plate):
     return [picture.maxval - tint for tint in picture.planes[plate]]
 
 
-def plate_file(rng, picture, plate, broken=0.03):
+def plate_file(rng, picture, plate, broken=0.04):
     """The bytes of one plate's file."""
     data = spelling.plate(rng, picture.width, picture.height, picture.maxval, samples(picture, plate))
     return break_plate(rng, picture, plate, data) if rng.random() < broken else data
@@ -41,13 +41,22 @@ def break_plate(rng, picture, plate, data):
 
 
 def with_header(rng, data):
-    """Another header before the raster; the numbers are at the limits."""
-    numbers = [rng.choice([b"1", b"0", b"16384", b"16385", b"9766", b"00001", b"99999999999999999999", b"255", b"-1", b"1.5"])
-               for _ in range(2)]
-    maxval = rng.choice([b"0", b"1", b"255", b"256", b"65535", b"65536", b"00065535", b"100000000000000", b"x"])
-    gaps = [rng.choice([b" ", b"\n", b"#a\n", b"", b"#", b"\0", b"#a\n#b\r "]) for _ in range(4)]
-    end = rng.choice([b" ", b"\n", b"\v", b"#\n", b"", b"a"])
-    return b"P5" + gaps[0] + numbers[0] + gaps[1] + numbers[1] + gaps[2] + maxval + end + data[-3:]
+    """Another header before the raster, with numbers at the limits or with something odd between them."""
+    sides, maxval, gaps, end = [b"1", b"1"], b"255", [b" "] * 3, b"\n"
+    kind = rng.randrange(4)
+    if kind == 0:
+        sides = rng.choice([b"0 1", b"1 0", b"16385 1", b"1 16385", b"16384 9766", b"9766 16384", b"16384 9765", b"00000 1",
+                            b"99999999999999999999 1", b"16384 16384", b"4294967297 1", b"-1 1", b"1.5 1"]).split()
+    elif kind == 1:
+        maxval = rng.choice([b"0", b"000", b"65536", b"65537", b"00065535", b"4294967551", b"100000000000000", b"x", b"+1"])
+    elif kind == 2:
+        gaps[rng.randrange(3)] = rng.choice([b"", b"#", b"\0", b"#a\n#b\r ", b"\n#", b"a", b"\xa0"])
+    else:
+        end = rng.choice([b"\v", b"\f", b"#\n", b"", b"a", b"\0"])
+    if rng.random() < 0.2:
+        maxval = b"0"
+    header = b"P5" + gaps[0] + sides[0] + gaps[1] + sides[1] + gaps[2] + maxval + end
+    return header[:rng.randint(0, len(header))] if rng.random() < 0.1 else header + data[-3:]
 
 
 def long_header(rng, data):
@@ -58,7 +67,7 @@ def long_header(rng, data):
     return b"P5" + (b" " * size if rng.random() < 0.5 else b"#" + b"x" * (size - 2) + b"\n") + numbers + raster
 
 
-def image_files(rng, pictures, broken=0.03):
+def image_files(rng, pictures, broken=0.04):
     """For each plate the file of its images, one for each page."""
     return [b"".join(plate_file(rng, picture, plate, broken) for picture in pictures)
             for plate in range(len(pictures[0].planes))]
