@@ -20,7 +20,7 @@ import coverage
 import slow
 import slow.rule
 import worked
-from maker.cases import FULL, Case, case
+from maker.cases import FULL, Case, case, large_case
 from slow.outside import Held
 
 HERE = os.path.dirname(os.path.abspath(__file__))
@@ -243,6 +243,7 @@ def options_of(words):
     parser.add_argument("--side", metavar="N", type=int, default=1, help="run so many cases side by side")
     parser.add_argument("--keep", metavar="FOLDER", default=os.path.join(HERE, "out"), help="where differing cases are kept")
     parser.add_argument("--coverage", action="store_true", help="print which faults and features the cases met")
+    parser.add_argument("--large", action="store_true", help="try a page of too many samples too; this takes 600 MB")
     parser.add_argument("--again", metavar="FOLDER", help="run a case again that was kept")
     parser.add_argument("--self", action="store_true", help="try the slow program on worked values")
     options = parser.parse_args(words)
@@ -270,6 +271,11 @@ def main(words):
             print("%s: skipped, it is not built: %s" % (name, program_of(name, options.programs)))
     met = Counter()
     count, different = standing_cases(names, options, met)
+    if options.large and "trap" in names:
+        lines, here = try_case(large_case(), "large", program_of("trap", options.programs), options.keep)
+        print("\n".join(lines or ["large: a page of 160,073,104 samples, not different"]), flush=True)
+        met.update(here)
+        count, different = count + 1, different + bool(lines)
     for name in names:
         different += random_cases(name, options, met)
         count += options.count

@@ -270,4 +270,11 @@ def bad_line(rng, lines, place):
     ])
 
 
+def large_case():
+    """A page of more samples than a page may have: sixteen plates with one file of ten million samples."""
+    files = {"plate": b"P5 3163 3163 1\n" + bytes(3163 * 3163), "job": b"<< /Enabled false >> settrapparams showpage"}
+    words = ["page", "job", "report", *("ink%d:plate:out%d" % (number, number) for number in range(16))]
+    return Case("trap", words, files, False)
+
+
 MAKERS = {"trap": trap, "trapset": trapset, "traprun": traprun, "presscheck": presscheck, "trappool": trappool}

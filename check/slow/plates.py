@@ -107,7 +107,7 @@ def image(data):
 def samples_of(raster, size):
     """The whole samples of a raster, each of one byte, or of two with the most significant first."""
     if size == 1:
-        return list(raster)
+        return raster
     return [high << 8 | low for high, low in zip(raster[0::2], raster[1::2])]
 
 

@@ -188,7 +188,8 @@ def sides(sample, edge):
     return (first, second) if 2 * sample[odd] < edge[odd] else (second, first)
 
 
-LARGE_PAGE = 2500
+# A page of more samples is large.
+large_page = 2500
 
 # What a check calls with the rule of each page that is not large, to look at it.
 watchers = []
@@ -196,7 +197,7 @@ watchers = []
 
 def rule_of(page):
     """The literal rule, or for a large page the one with the other search."""
-    if page.width * page.height > LARGE_PAGE:
+    if page.width * page.height > large_page:
         return NearRule(page)
     rule = Rule(page)
     for watch in watchers:
