@@ -194,7 +194,8 @@ def random_cases(name, options, met):
             different = tell_parts(parts, met)
     else:
         different = tell_parts(map(part, tasks), met)
-    print("%s: %d cases, %d different, %.0f seconds" % (name, options.count, different, time.time() - begun), flush=True)
+    seconds = time.time() - begun
+    print("%s: %d cases, %d different, %.0f seconds" % (name, options.count, different, seconds), flush=True)
     return different
 
 
@@ -239,9 +240,11 @@ def options_of(words):
     parser.add_argument("seed", nargs="?", help="any word; the same cases come with the same seed")
     parser.add_argument("--programs", metavar="FOLDER", default=os.environ.get("CHECK_PROGRAMS"),
                         help="the built programs, by name, in place of crates/NAME/out/NAME (or CHECK_PROGRAMS)")
-    parser.add_argument("--only", metavar="NAME", action="append", choices=list(slow.PROGRAMS), help="this program alone")
+    parser.add_argument("--only", metavar="NAME", action="append", choices=list(slow.PROGRAMS),
+                        help="this program alone")
     parser.add_argument("--side", metavar="N", type=int, default=1, help="run so many cases side by side")
-    parser.add_argument("--keep", metavar="FOLDER", default=os.path.join(HERE, "out"), help="where differing cases are kept")
+    parser.add_argument("--keep", metavar="FOLDER", default=os.path.join(HERE, "out"),
+                        help="where differing cases are kept")
     parser.add_argument("--coverage", action="store_true", help="print which faults and features the cases met")
     parser.add_argument("--large", action="store_true", help="try a page of too many samples too; this takes 600 MB")
     parser.add_argument("--again", metavar="FOLDER", help="run a case again that was kept")

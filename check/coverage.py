@@ -21,7 +21,7 @@ READ_LINES = ["read fault: job", "read fault: plate #"]
 WRITE_LINES = ["write fault: plate #", "write fault: report"]
 GATHER_LINES = JOB_LINES + PLATE_LINES + PAGE_LINES + READ_LINES
 # These come before the first page of a job of many pages.
-WHOLE_JOB_LINES = ["job: %s at #" % kind for kind in JOB_KINDS[:9]] + ["job: NoShowpage at #", "job: AfterShowpage at #"]
+WHOLE_JOB_LINES = ["job: %s at #" % kind for kind in [*JOB_KINDS[:9], "NoShowpage", "AfterShowpage"]]
 
 # What is looked for: for each program its lines, "" being the end of a run that tells nothing or a result.
 LINES = {
@@ -40,14 +40,17 @@ LINES = {
 FEATURES = [
     "maxval 1", "maxval of one byte", "maxval 255", "maxval 256", "maxval of two bytes", "maxval 65535",
     "one plate", "sixteen plates", "ink Normal", "ink Transparent", "ink Opaque", "ink OpaqueIgnore",
-    "no zone made", "zone of no path", "zone 0 has samples beside others", "zones that overlap", "disabled zone with samples",
+    "no zone made", "zone of no path", "zone 0 has samples beside others", "zones that overlap",
+    "disabled zone with samples",
     "winding number of 2 or more", "winding number below 0", "sample inside a path with winding number 0",
     "border through a sample's centre", "edge between zones decides", "one zone's limits make apart, the other's not",
     "no edge decides", "more than 100 edges decide", "edge is slid", "slid at the limit", "edge is not slid",
     "edge is black", "black at its density limit", "black at its colour limit", "black and slid", "both sides black",
     "step at the limit", "limit of one colorant", "limit of one colorant matters", "nearest edges tie, left and right",
-    "nearest edges tie, above and below", "reach 0", "reach above 20", "within at distance 1", "within beyond distance 1",
-    "within on a slant", "trapped", "trapped at a slid edge", "trapped at a black edge", "wider at black", "narrower at black",
+    "nearest edges tie, above and below", "reach 0", "reach above 20", "within at distance 1",
+    "within beyond distance 1",
+    "within on a slant", "trapped", "trapped at a slid edge", "trapped at a black edge", "wider at black",
+    "narrower at black",
     "not within", "within, lighter side", "within, shut", "within, not apart by its own tints", "within, disabled zone",
     "tints scaled down", "tint falls", "Opaque ink kept on a trapped sample", "rows in several bands of 8 or fewer"]
 
@@ -124,7 +127,8 @@ class Watch:
                 self.note("sample inside a path with winding number 0", winding == 0 and any(parts))
             self.note("border through a sample's centre", on_border(rule, sample))
         self.note("zone 0 has samples beside others", 0 in seen and len(seen) > 1)
-        self.note("disabled zone with samples", any(number > 0 and not zones[number].params["Enabled"] for number in seen))
+        disabled = [number for number in seen if not zones[number].params["Enabled"]]
+        self.note("disabled zone with samples", any(disabled))
 
     def edge(self, rule, edge):
         page, pair = rule.page, samples_of(edge)
@@ -152,7 +156,8 @@ class Watch:
     def neighbours(self, rule, sample, other):
         """Whether limits make a difference at two neighbours."""
         zones = {rule.zone(sample), rule.zone(other)}
-        self.note("one zone's limits make apart, the other's not", len({rule.apart(z, sample, other) for z in zones}) > 1)
+        answers = {rule.apart(zone, sample, other) for zone in zones}
+        self.note("one zone's limits make apart, the other's not", len(answers) > 1)
         for zone in zones:
             asked = rule.page.zones[zone]
             if asked.limits:
@@ -223,7 +228,8 @@ def on_border(rule, sample):
         for subpath in zone.path:
             for (a, b), (c, d) in zip(subpath, subpath[1:] + subpath[:1]):
                 a, b, c, d = (place * page.resolution for place in (a, b, c, d))
-                if min(a, c) <= x <= max(a, c) and min(b, d) <= y <= max(b, d) and (c - a) * (y - b) == (x - a) * (d - b):
+                on_line = (c - a) * (y - b) == (x - a) * (d - b)
+                if on_line and min(a, c) <= x <= max(a, c) and min(b, d) <= y <= max(b, d):
                     return True
     return False
 

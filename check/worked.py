@@ -99,7 +99,8 @@ def two_inks():
 
 def equally_near():
     for sides, what in (((3, 1), "the left edge of two"), ((1, 3), "the upper edge of two")):
-        three = {"Cyan": plate(*sides, "00 FF FF"), "Black": plate(*sides, "FF 00 FF"), "Yellow": plate(*sides, "FF FF 00")}
+        rows = (("Cyan", "00 FF FF"), ("Black", "FF 00 FF"), ("Yellow", "FF FF 00"))
+        three = {name: plate(*sides, row) for name, row in rows}
         gives(what, job("/TrapWidth 1"), three, ["00 00 FF", "FF 00 FF", "FF FF 00"])
 
 
@@ -213,6 +214,21 @@ def job_refusals():
         refuses("a job of " + line, text, TWO, 3, "job: " + line)
 
 
+def at_limits():
+    """Paths of 4,096 vertices, zones of 16,384 together, 250 zones: one more is refused, at its operator."""
+    start = b"<< /HWResolution [72 72] >> setpagedevice << /Enabled false >> settrapparams "
+    closed = start + b"0 0 moveto" + b" 1 1 lineto" * 4093
+    zones_ = start + (b"0 0 moveto" + b" 1 1 lineto" * 4095 + b" settrapzone ") * 4
+    many = start + b"settrapzone " * 250
+    for text, more, kind in ((closed, b" closepath 1 1 lineto", None),
+                             (closed, b" 1 1 lineto closepath 1 1 lineto", "Vertices"), (zones_, b"newpath", None), (zones_, b"0 0 moveto settrapzone", "Vertices"),
+                             (many, b"0 0 moveto", None), (many, b"settrapzone", "Zones")):
+        operator = len(text) + more.rfind(b" ") + 1
+        line = "" if kind is None else "job: TooMany%s at %d\n" % (kind, operator)
+        found = page(text + more + b" showpage", TWO)
+        check("at the limit: %r" % more, found[:2], (0 if kind is None else 3, line))
+
+
 def words():
     for given in ([], ["page"], "page --workers 0 J R C:a:b".split(), "page J R C:a:b C:c:d".split(),
                   "page J R C:a:R".split(), "sample 1 2 3".split()):
@@ -228,7 +244,8 @@ def samples():
                  "plate Cyan changed %d" % cyan, "plate Magenta changed 0", "plate Yellow changed 0",
                  "plate Black changed 0", "end"]
         outside = Held({})
-        check("sample " + given, (run("trap", ["sample", *given.split()], outside), outside.told.splitlines()), (0, lines))
+        status = run("trap", ["sample", *given.split()], outside)
+        check("sample " + given, (status, outside.told.splitlines()), (0, lines))
     check("sample, untold", run("trap", "sample 0 16 8 2".split(), Held({}, mute=True)), 6)
     outside = Held({})
     check("sample, too large", (run("trap", "sample 0 16384 16384 2".split(), outside), outside.told),
@@ -273,7 +290,8 @@ def headers():
     for data, fault in ((b"P2 6 1 255\n", ("BadMagic", 1)), (b"P56 1 255\n", ("BadHeader", 2)),
                         (b"P5 -6 1 255\n", ("BadHeader", 3)), (b"P5 0 1 255\n", ("SideRange", 3)),
                         (b"P5 16384 16384 255\n", ("TooManySamples", 9)), (b"P5 6 1 0\n", ("MaxvalRange", 7)),
-                        (b"P5 6 1 255#x", ("BadHeader", 10)), (b"", ("Truncated", 0)), (b"P5 6 1 255", ("Truncated", 10)),
+                        (b"P5 6 1 255#x", ("BadHeader", 10)), (b"", ("Truncated", 0)),
+                        (b"P5 6 1 255", ("Truncated", 10)),
                         (b"P5" + b" " * 70000, ("BadHeader", 65536)), (CYAN + b"\0" * 9, ("TrailingBytes", 17))):
         check("plate %r" % data[:20], fault_of(plate_of, data), fault)
 
@@ -366,8 +384,8 @@ def pool():
     check("an output twice", (run("trappool", ["2", "twice"], outside), outside.told), (3, "list: BadLine 1\n"))
 
 
-TABLES = (two_inks, equally_near, steps, kinds_of_ink, zones, tall, shop, two_bytes, plate_refusals, job_refusals, words,
-          samples, room, numbers, headers, widths, sets, many_pages, press, pool)
+TABLES = (two_inks, equally_near, steps, kinds_of_ink, zones, tall, shop, two_bytes, plate_refusals, job_refusals, at_limits,
+          words, samples, room, numbers, headers, widths, sets, many_pages, press, pool)
 
 
 def main():

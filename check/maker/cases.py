@@ -23,7 +23,7 @@ def file_name(rng, stem):
     """A name for a file, some of them odd."""
     if rng.random() < 0.95:
         return stem
-    return rng.choice([stem + "=", "é" + stem, stem + ".0", stem + ".x1", FOLDER + "/" + stem, stem + "%", stem + "\\", stem + "."])
+    return rng.choice([FOLDER + "/" + stem, "é" + stem, *(stem + end for end in ("=", ".0", ".x1", "%", "\\", "."))])
 
 
 def output_name(rng, stem):
@@ -106,14 +106,17 @@ def workers_word(rng, share=0.02):
 
 
 def band_word(rng, share=0.02):
-    return wrong_number(rng, 4096) if rng.random() < share else number_word(rng, rng.choice([1, 1, 2, 3, 5, 8, 64, 4096]))
+    if rng.random() < share:
+        return wrong_number(rng, 4096)
+    return number_word(rng, rng.choice([1, 1, 2, 3, 5, 8, 64, 4096]))
 
 
 def with_options(rng, words):
     """The words of a page with options in all places where they may stand, and in some where they may not."""
     words = list(words)
     closing = rng.randint(0, len(words)) if rng.random() < 0.08 else None
-    options = [["--workers", workers_word(rng)]] * (rng.random() < 0.7) + [["--band", band_word(rng)]] * (rng.random() < 0.7)
+    options = [["--workers", workers_word(rng)], ["--band", band_word(rng)]]
+    options = [option for option in options if rng.random() < 0.7]
     if rng.random() < 0.015:
         options.append(rng.choice([["--workers", "2"], ["--band", "2"], ["--work", "2"], ["--workers"], ["-w", "2"]]))
     places = {}
@@ -151,16 +154,17 @@ def sample(rng):
     number = rng.choice([rng.randint(0, 20), rng.randint(0, 2 ** 32 - 1), 2 ** 32 - 1])
     words = ["sample", number_word(rng, number), number_word(rng, width), number_word(rng, height), workers_word(rng)]
     if rng.random() < 0.15:
-        words[1:4] = rng.choice([["0", "16384", "16384"], ["4294967296", "2", "2"], ["1", "16385", "1"], ["1", "1", "0"],
-                                 ["1", "16384", "2442"]])
+        words[1:4] = rng.choice([["0", "16384", "16384"], ["4294967296", "2", "2"], ["1", "16385", "1"],
+                                 ["1", "1", "0"], ["1", "16384", "2442"]])
     return with_bad_words(rng, words)
 
 
 def presscheck(rng):
     files = {}
     picture, job, inputs = one_page(rng, files)
-    radius = rng.choice(["0", "1", "1", "2", "3", "16", number_word(rng, rng.randint(0, 16)), "17" if rng.random() < 0.1 else "1"])
-    radius = wrong_number(rng, 16).replace("0", "17") if rng.random() < 0.01 else radius
+    radius = rng.choice(["0", "1", "1", "2", "3", "16", number_word(rng, rng.randint(0, 16))])
+    if rng.random() < 0.02:
+        radius = rng.choice(["17", wrong_number(rng, 16)])
     return with_bad_words(rng, [radius, job, *joined(picture.names, inputs)]), files
 
 
@@ -213,7 +217,8 @@ def traprun(rng):
 
 
 # What may stand behind the images of a plate file: whole plates, and ones with a fault.
-MORE_BYTES = [b"P5 1 1 1 \1", b"P", b"\n", b"P5x", b"P5 0 1 1\n", b"P5 16384 16384 1\n", b"P5 1 1 0\n", b"P5 1 1 9\n\n", b"P5 2 1 9\n\1"]
+MORE_BYTES = [b"P5 1 1 1 \1", b"P", b"\n", b"P5x", b"P5 0 1 1\n", b"P5 16384 16384 1\n", b"P5 1 1 0\n",
+              b"P5 1 1 9\n\n", b"P5 2 1 9\n\1"]
 
 
 def many_pages(rng, pages):
@@ -232,7 +237,8 @@ def trappool(rng):
     for which in range(rng.choice([1, 2, 2, 3, 4])):
         own = {}
         picture, job, inputs = one_page(rng, own)
-        here = {name: name if name.startswith((FOLDER, "nowhere")) else "%d-%s" % (which, name) for name in [job, *inputs, *own]}
+        here = {name: name if name.startswith((FOLDER, "nowhere")) else "%d-%s" % (which, name)
+                for name in [job, *inputs, *own]}
         here.update({name: "%d+%s" % (which, name.partition("/")[2]) for name in own if name.startswith(FOLDER)})
         files.update({here[name]: data for name, data in own.items()})
         written = outputs(rng, [here[name] for name in inputs], "-%d" % which)
@@ -249,7 +255,9 @@ def list_file(rng, lines):
     if kind < 0.02:
         lines += [b"j r%d C:p:o%d" % (n, n) for n in range(rng.choice([256, 257]) - len(lines))]
     elif kind < 0.03:
-        lines.append(b"j" * rng.choice([1048576 - sum(map(len, lines)) - len(lines) - 8 + n for n in (0, 1, 2, 500)]) + b" r C:p:o")
+        last = b" r C:p:o\n"
+        room = 1048576 - sum(len(line) + 1 for line in lines) - len(last)
+        lines.append(b"j" * (room + rng.choice([0, 1, 2, 500])) + last[:-1])
     elif kind < 0.15:
         place = rng.randrange(len(lines))
         lines[place] = bad_line(rng, lines, place)

@@ -126,7 +126,9 @@ def ink(rng, densities):
         entries.append((b"/NeutralDensity", value))
     if rng.random() < 0.4:
         kind = b"/" + rng.choice((b"Normal",) * 4 + KINDS)
-        entries.append((b"/ColorantType", [kind if rng.random() < 0.995 else rng.choice([b"/Metal", b"null", b"1", b"/"])]))
+        if rng.random() < 0.005:
+            kind = rng.choice([b"/Metal", b"null", b"1", b"/"])
+        entries.append((b"/ColorantType", [kind]))
     if rng.random() < 0.004:
         return rng.choice(ODD_VALUES)
     return dictionary(rng, entries)
@@ -185,7 +187,8 @@ def limits(rng, picture):
         body = dictionary(rng, one) if rng.random() < 0.99 else rng.choice(ODD_VALUES)
         entries.append((b"/" + name.encode(), body))
     if rng.random() < 0.05:
-        entries.append((b"/" + b"m" * rng.randint(63, 70), OPEN + [b"/StepLimit", rng.choice([b"0", b"1", b"2"])] + CLOSE))
+        long_name = b"/" + b"m" * rng.randint(63, 70)
+        entries.append((long_name, OPEN + [b"/StepLimit", rng.choice([b"0", b"1", b"2"])] + CLOSE))
     return dictionary(rng, entries, any_key=False)
 
 
@@ -284,7 +287,8 @@ def device_misfit(rng):
     kinds, details = [b"/Type", b"1001"], [b"/ColorantDetails"]
     body = rng.choice([[b"5"], [b"<<", b"/Cyan", b"5", b">>"], [b"<<", b"/Cyan", b"<<", b">>", b">>"],
                        *([b"<<", b"/Cyan", b"<<", *ink.split(), b">>", b">>"] for ink in (
-                           b"/NeutralDensity 0", b"/NeutralDensity .0009", b"/NeutralDensity 10.0001", b"/NeutralDensity /x",
+                           b"/NeutralDensity 0", b"/NeutralDensity .0009", b"/NeutralDensity 10.0001",
+                           b"/NeutralDensity /x",
                            b"/ColorantType /Normal", b"/ColorantType /normal", b"/ColorantType /x /NeutralDensity 0",
                            b"/NeutralDensity 1 /ColorantType 1", b"/NeutralDensity 1 /ColorantType /"))])
     return key, rng.choice([
@@ -295,13 +299,15 @@ def device_misfit(rng):
 
 ODD_STATEMENTS = [statement.split() for statement in (
     b"gsave", b"5 newpath", b"1 moveto", b"1 2 3 moveto", b"settrapparams", b"true settrapparams", b"/x /y moveto",
-    b"newpath 1 1 lineto", b"newpath 1 1 rmoveto", b"newpath 0 0 rlineto", b"1000000.0001 0 moveto", b"0 -1000000.0001 moveto",
-    b"1000000 -1000000 moveto newpath", b"1000000 0 moveto .0001 0 rlineto", b"newpath 1000000.1 0 lineto", b"showpage",
-    b"showpage 1", b"]", b">>", b"[ showpage ]", b"[ 1 >>", b"<< /a >>", b"<< 1 2 >>", b"<< [ ] 1 >>", b"<< true 1 >>", b"<< ( 1 >>",
-    b"<< /a ]", b"<<", b"[", b"1000001", b"-1000001.5", b"1e5", b"16#FF", b"-x", b".", b"+", b"{", b"<~>", b"<4g>", b"//a",
-    b"[ " * 17 + b"] " * 17, b"[ " * 16 + b"] " * 16, b"[ " * 15 + b"<< /a [ ] >>", b"<< /a " * 17, b"null", b"closepath", b"newpath",
-    b"newpath closepath closepath", b"SHOWPAGE", b"true", b"\x80", b"(a\\", b"0 0 0", b"<< >> settrapparams", b"<< >> setpagedevice",
-    b"<< >> showpage", b"<< >> << >> settrapparams", b"[ ] setpagedevice", b"settrapzone", b"closepath settrapzone")]
+    b"newpath 1 1 lineto", b"newpath 1 1 rmoveto", b"newpath 0 0 rlineto", b"1000000.0001 0 moveto",
+    b"0 -1000000.0001 moveto", b"1000000 -1000000 moveto newpath", b"1000000 0 moveto .0001 0 rlineto",
+    b"newpath 1000000.1 0 lineto", b"showpage", b"showpage 1", b"]", b">>", b"[ showpage ]", b"[ 1 >>", b"<< /a >>",
+    b"<< 1 2 >>", b"<< [ ] 1 >>", b"<< true 1 >>", b"<< ( 1 >>", b"<< /a ]", b"<<", b"[", b"1000001", b"-1000001.5",
+    b"1e5", b"16#FF", b"-x", b".", b"+", b"{", b"<~>", b"<4g>", b"//a", b"[ " * 17 + b"] " * 17,
+    b"[ " * 16 + b"] " * 16, b"[ " * 15 + b"<< /a [ ] >>", b"<< /a " * 17, b"null", b"closepath", b"newpath",
+    b"newpath closepath closepath", b"SHOWPAGE", b"true", b"\x80", b"(a\\", b"0 0 0", b"<< >> settrapparams",
+    b"<< >> setpagedevice", b"<< >> showpage", b"<< >> << >> settrapparams", b"[ ] setpagedevice", b"settrapzone",
+    b"closepath settrapzone")]
 ODD_STATEMENTS += [[b"("], [b"\x0b"], [b"a\x0bb"], [b"/\x0b"], [b"-"], [b"1..2"], [b"+.5."], [b"--1"]]
 
 
@@ -318,7 +324,8 @@ def with_token_fault(rng, tokens):
     elif kind == 3:
         tokens[place] = rng.choice(tokens)
     else:
-        tokens.insert(place, rng.choice([b"<<", b">>", b"[", b"]", b"/x", b"1", b"true", b"null", b"(x)", b"showpage", b"x"]))
+        odd = [b"<<", b">>", b"[", b"]", b"/x", b"1", b"true", b"null", b"(x)", b"showpage", b"x"]
+        tokens.insert(place, rng.choice(odd))
     return tokens or SHOWPAGE
 
 

@@ -12,7 +12,8 @@ def sides(rng):
     """Mostly small; sometimes one sample wide or high, of many rows, which are many bands, or wide."""
     kind = rng.random()
     if kind < 0.003:
-        return rng.choice([(rng.randint(1000, 1100), rng.randint(1, 2)), (rng.randint(1, 2), rng.randint(120, 300)), (70, 60)])
+        long, short = rng.choice([rng.randint(1000, 1100), rng.randint(120, 300)]), rng.randint(1, 2)
+        return rng.choice([(long, short), (short, long), (70, 60)])
     if kind < 0.01:
         return rng.randint(10, 24), rng.randint(10, 24)
     if kind < 0.10:
@@ -47,7 +48,8 @@ def colour(rng, inked, plates, maxval):
     """The tints of one colour, often of one ink alone."""
     levels = [0, maxval, maxval // 2, maxval // 4, 3 * maxval // 4, maxval * 95 // 100, 1, rng.randint(0, maxval)]
     if rng.random() < 0.65:
-        return tuple(rng.choice([maxval, maxval, rng.choice(levels)]) if plate == inked else 0 for plate in range(plates))
+        tint = rng.choice([maxval, maxval, rng.choice(levels)])
+        return tuple(tint if plate == inked else 0 for plate in range(plates))
     return tuple(rng.choice(levels) for _ in range(plates))
 
 
@@ -65,4 +67,4 @@ def layout(rng, width, height):
     discs = [(rng.randrange(width), rng.randrange(height), rng.randint(1, 5)) for _ in range(rng.randint(1, 4))]
     if kind == 4:
         return lambda x, y: sum((x - a) ** 2 + (y - b) ** 2 < r * r for a, b, r in discs)
-    return lambda x, y: max((n + 1 for n, (a, b, r) in enumerate(discs) if abs(x - a) < r and abs(y - b) <= r), default=0)
+    return lambda x, y: sum(n + 1 for n, (a, b, r) in enumerate(discs) if abs(x - a) < r and abs(y - b) <= r)

@@ -71,7 +71,7 @@ def dictionary_entries(value):
 
 
 def settrapparams_in(dictionary):
-    """What `settrapparams` sets: parameters, and limits or None. Of two faults the one with the lesser offset is told."""
+    """What `settrapparams` sets: parameters, and limits or None. Of two faults that with the lesser offset is told."""
     found, faults = [], []
     for part in (parameters_in, limits_in):
         try:

@@ -19,9 +19,9 @@ class TellFault(Exception):
 class Held:
     """Files that are held in memory, by name.
 
-    `unwritable` tells of a name whether its file can't be created. The files of `full` are not held: as those of a full
-    device they give NULs, more than any reader takes, and no byte can be written to them. `room` is how many bytes can be
-    written in all. `mute` says that nothing can be told.
+    `unwritable` tells of a name whether its file can't be created. The files of `full` are not held: as those of a
+    full device they give NULs, more than any reader takes, and no byte can be written to them. `room` is how many
+    bytes can be written in all. `mute` says that nothing can be told.
     """
 
     def __init__(self, files, unwritable=lambda name: False, full=(), room=None, mute=False):

@@ -1,7 +1,8 @@
 """Plate files: raw PGM in this project's profile (Netpbm's PGM manual gives the format).
 
-A plate file is a header and a raster. The header is `P5`, a gap, the width, a gap, the height, a gap, the maxval and one
-whitespace byte. A gap is one or more whitespace bytes and comments; a comment is `#` up to the next LF or CR and that byte.
+A plate file is a header and a raster. The header is `P5`, a gap, the width, a gap, the height, a gap, the maxval and
+one whitespace byte. A gap is one or more whitespace bytes and comments; a comment is `#` up to the next LF or CR and
+that byte.
 """
 import re
 from collections import namedtuple

@@ -1,4 +1,4 @@
-"""The trapping rule, for a whole page at once: each definition as it is written, nothing kept but what was found before.
+"""The trapping rule, for a whole page at once: each definition as it is written.
 
 Samples are (x, y) with row 0 at the top. Edges are points (X, Y) of the doubled grid, in which sample (x, y) stands at
 (2x, 2y); exactly one coordinate of an edge is odd. Distances are in half-samples.

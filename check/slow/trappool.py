@@ -34,7 +34,7 @@ def run(words, outside):
 
 
 def replies_of(outside, lines):
-    """For each line its trapped page, or the text of its refusal. Pages are taken while all together are not too large."""
+    """For each line its trapped page, or its refusal's text. Pages are taken while all together are not too large."""
     replies, samples = [], 0
     for line in lines:
         try:

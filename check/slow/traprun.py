@@ -119,7 +119,7 @@ def page_text(data, page):
 
 
 def read_image(outside, name, plate, page):
-    """The image of a page in a plate file, or None where the file ends before it. The images before it are passed over."""
+    """The image of a page in a plate file, behind those of earlier pages; None where the file ends before it."""
     try:
         data = outside.read(name)
     except ReadFault:

@@ -96,7 +96,7 @@ def row_runs(shape, row, old, new):
 
 
 def runs_of(data, plates):
-    """The runs of a set for these plates; or the first line that no set has there, or that the set is another page's."""
+    """The runs of a set for these plates; or the first line that is bad, or that the set is another page's."""
     lines = data.split(b"\n")
     shape, runs = None, []
     for number, line in enumerate(lines, 1):
