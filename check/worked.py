@@ -221,7 +221,8 @@ def at_limits():
     zones_ = start + (b"0 0 moveto" + b" 1 1 lineto" * 4095 + b" settrapzone ") * 4
     many = start + b"settrapzone " * 250
     for text, more, kind in ((closed, b" closepath 1 1 lineto", None),
-                             (closed, b" 1 1 lineto closepath 1 1 lineto", "Vertices"), (zones_, b"newpath", None), (zones_, b"0 0 moveto settrapzone", "Vertices"),
+                             (closed, b" 1 1 lineto closepath 1 1 lineto", "Vertices"),
+                             (zones_, b"newpath", None), (zones_, b"0 0 moveto settrapzone", "Vertices"),
                              (many, b"0 0 moveto", None), (many, b"settrapzone", "Zones")):
         operator = len(text) + more.rfind(b" ") + 1
         line = "" if kind is None else "job: TooMany%s at %d\n" % (kind, operator)
@@ -384,8 +385,8 @@ def pool():
     check("an output twice", (run("trappool", ["2", "twice"], outside), outside.told), (3, "list: BadLine 1\n"))
 
 
-TABLES = (two_inks, equally_near, steps, kinds_of_ink, zones, tall, shop, two_bytes, plate_refusals, job_refusals, at_limits,
-          words, samples, room, numbers, headers, widths, sets, many_pages, press, pool)
+TABLES = (two_inks, equally_near, steps, kinds_of_ink, zones, tall, shop, two_bytes, plate_refusals, job_refusals,
+          at_limits, words, samples, room, numbers, headers, widths, sets, many_pages, press, pool)
 
 
 def main():
