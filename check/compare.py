@@ -110,14 +110,17 @@ def differences(wanted, found):
     for name in sorted(wanted.files.keys() | found.files.keys()):
         one, other = wanted.files.get(name), found.files.get(name)
         if one != other:
-            lines.append("file %r: wanted %s, found %s" % (name, said(one), said(other)))
+            lines.append("file %r: wanted %s" % (name, said(one, other)))
+            lines.append("file %r: found  %s" % (name, said(other, one)))
     return lines
 
 
-def said(data):
+def said(data, other):
+    """How long a file is, and what stands where it begins to differ from another."""
     if data is None:
         return "none"
-    return "%d bytes %r%s" % (len(data), data[:60], "..." if len(data) > 60 else "")
+    place = len(os.path.commonprefix([data, other or b""]))
+    return "%d bytes, from byte %d: %r" % (len(data), place, data[place:place + 60])
 
 
 def keep(one, label, wanted, found, place):
@@ -166,7 +169,7 @@ def try_case(one, label, program, place):
     if lines:
         folder = keep(one, label, wanted, found, place)
         lines = ["%s differs: kept in %s" % (label, folder)] + ["  " + line for line in lines]
-        lines.append("  run it again with: %s/run.sh --again %s" % (HERE, folder))
+        lines.append("  run it again with: check/run.sh --again %s" % os.path.relpath(folder, TOP))
     return lines, met
 
 
