@@ -353,6 +353,11 @@ def many_pages():
         for number, wanted in enumerate(pages):
             check("page %d" % number, [raster(outside.files["%s.%d" % (name, number)]) for name in "ab"], wanted)
         check("pages", sum(name.startswith("r.") for name in outside.files), len(pages))
+    start, image = b"<< /Enabled false >> settrapparams ", b"P5 1 1 1 \1"
+    for count, status, line in ((256, 0, ""), (257, 3, "run: TooManyPages at %d\n" % (len(start) + 256 * 9))):
+        outside = Held({"job": start + b"showpage " * count, "plate": image * count})
+        found = run("traprun", ["1", "1", "job", "r", "C:plate:o"], outside)
+        check("%d pages" % count, (found, outside.told), (status, line))
     outside = Held({})
     check("an input that is an output", (run("traprun", ["1", "1", "j", "r", "C:a.0:a"], outside), outside.told),
           (2, "usage: " + TRAPRUN_USAGE + "\n"))
@@ -381,8 +386,11 @@ def pool():
               (9, "job 0: done\njob 1: job: NoDetails for plate 0\njob 2: done\n"))
         check("its outputs", [raster(outside.files.get(name)) for name in ("a0", "b0", "a1", "a2", "b2")],
               ["00 00 00 00 FF FF", "FF FF 00 00 00 00", None, "00 00 00 00 00 FF", "FF FF FF 00 00 00"])
-    outside = Held(files)
-    check("an output twice", (run("trappool", ["2", "twice"], outside), outside.told), (3, "list: BadLine 1\n"))
+    for data, line in ((files["twice"], 1), (b"", 0), (b"\n", 0), (lines[:-1], 2), (lines + b"\n", 3),
+                       (lines + b"x", 3), (lines.replace(b" r1", b"  r1"), 1), (b"one r%d C:Cyan:a\n" * 257, 1),
+                       (b"".join(b"one r%d C:Cyan:a%d\n" % (n, n) for n in range(257)), 256), (b"x" * 1048577, 0)):
+        outside = Held(dict(files, list=data))
+        check("a bad line", (run("trappool", ["2", "list"], outside), outside.told), (3, "list: BadLine %d\n" % line))
 
 
 TABLES = (two_inks, equally_near, steps, kinds_of_ink, zones, tall, shop, two_bytes, plate_refusals, job_refusals,

@@ -262,8 +262,9 @@ def list_file(rng, lines):
         place = rng.randrange(len(lines))
         lines[place] = bad_line(rng, lines, place)
     text = b"".join(line + b"\n" for line in lines)
-    if rng.random() < 0.03:
-        text = rng.choice([text[:-1], b"", b"\n", text + b"\n", text + b"x", text[:rng.randint(0, len(text))]])
+    if rng.random() < 0.06:
+        cut = text[:rng.randint(0, len(text))]
+        text = rng.choice([text[:-1], text[:-1], b"", b"\n", text + b"\n", text + b"x", cut])
     return text
 
 

@@ -62,11 +62,11 @@ def with_header(rng, data):
 
 
 def long_header(rng, data):
-    """A header of about as many bytes as one may have: 65,536."""
-    raster = data[-1:]
-    numbers = b"1 1 255\n"
-    size = 65536 - 2 - len(numbers) + rng.choice([-1, 0, 1, 2, 3, 5, 7, 8, 1000])
-    return b"P5" + (b" " * size if rng.random() < 0.5 else b"#" + b"x" * (size - 2) + b"\n") + numbers + raster
+    """A header of about as many bytes as one may have, 65,536; its numbers may be faults about there."""
+    numbers = rng.choice([b"1 1 255\n", b"1 1 255\n", b"0 1 255\n", b"1 0 255\n", b"1 1 0\n", b"16385 1 1\n",
+                          b"00000000 1 1\n"])
+    size = 65536 - 2 - len(numbers) + rng.choice([-1, 0, 1, 1000, rng.randint(-3, 12), rng.randint(-3, 12)])
+    return b"P5" + (b" " * size if rng.random() < 0.5 else b"#" + b"x" * (size - 2) + b"\n") + numbers + data[-1:]
 
 
 def image_files(rng, pictures, broken=0.04):

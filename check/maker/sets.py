@@ -8,8 +8,11 @@ def set_file(rng, picture):
         place = rng.randrange(4)
         shape[place] = max(1, shape[place] + rng.choice([-1, 1]))
     lines = [b"trap set", b"page %d %d %d plates %d" % tuple(shape)] + runs(rng, picture) + [b"end"]
-    if rng.random() < 0.45:
+    kind = rng.random()
+    if kind < 0.4:
         break_line(rng, lines)
+    elif kind < 0.5:
+        lines.insert(-1, run_at_limits(rng, picture))
     text = b"".join(line + b"\n" for line in lines)
     if rng.random() < 0.06:
         text = text[:rng.randint(0, len(text))]
@@ -33,6 +36,22 @@ def runs(rng, picture):
 
 def run(row, first, length, tints):
     return b"run %d %d %d " % (row, first, length) + b" ".join(b"%d" % tint for tint in tints)
+
+
+def run_at_limits(rng, picture):
+    """A run in the last row, which fits in or misses by one."""
+    row, first = picture.height - 1, rng.randint(0, picture.width - 1)
+    length, tints = picture.width - first, [picture.maxval] * len(picture.planes)
+    kind = rng.randrange(5)
+    if kind == 0:
+        return run(row + 1, first, length, tints)
+    if kind == 1:
+        return run(row, first, length + 1, tints)
+    if kind == 2:
+        return run(row, first, 0, tints)
+    if kind == 3:
+        tints[rng.randrange(len(tints))] += 1
+    return run(row, first, length, tints)
 
 
 def break_line(rng, lines):
