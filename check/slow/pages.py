@@ -1,4 +1,8 @@
-"""The page that a job and its plates make."""
+"""The page that a job and its plates make.
+
+The job's fault comes first, then that of each plate in order, then a plate without details where some zone is enabled,
+then a plate of another size or maxval than plate 0, then too many samples, then a zone that reaches too far.
+"""
 from .entries import S, Ink
 from .jobs import LONGEST_JOB, job_of
 from .outside import ReadFault

@@ -1,4 +1,8 @@
-"""The program presscheck: how many samples misregister could leave bare, before and after trapping."""
+"""The program presscheck: how many samples misregister could leave bare, before and after trapping.
+
+A sample is at risk where it has ink and each plate, shifted by itself by at most the radius along both axes, can bring
+a sample without ink there.
+"""
 from .pages import gather
 from .refusals import usage
 from .rule import rule_of

@@ -1,4 +1,8 @@
-"""The program trappool: a list of jobs, each a line, that are all read before the first is written."""
+"""The program trappool: a list of jobs, each a line, that are all read before the first is written.
+
+A list has 1 to 256 lines, each ended by LF, and at most 1,048,576 bytes. No output of the whole list stands twice. A
+refusal is that of its line alone, and the next line goes on, also where a file could not be written.
+"""
 from collections import namedtuple
 
 from .pages import gather, read_file

@@ -1,4 +1,9 @@
-"""The program traprun: jobs of many pages, one `showpage` for each; a plate file has one image for each page."""
+"""The program traprun: jobs of many pages, one `showpage` for each; a plate file has one image for each page.
+
+The tokens and objects of the whole job are judged first, then whether it has a `showpage`, ends with one, and has no
+more than 256. Each page is then read, trapped and written by itself, before the next. What `setpagedevice` and
+`settrapparams` set goes on from page to page; paths and zones do not.
+"""
 import re
 
 from .jobs import LONGEST_JOB

@@ -1,4 +1,10 @@
-"""The program trapset: trap sets, which hold the traps alone as runs of samples with their new tints."""
+"""The program trapset: trap sets, which hold the traps alone as runs of samples with their new tints.
+
+A set file is these lines, each ended by LF, with single spaces and numbers without leading zeros: `trap set`;
+`page W H M plates N`; for each run `run Y X L`, its row, first sample and length, and then a tint for each plate;
+`end`. Runs ascend by row and place, lie within the page and do not overlap. A line is bad where no set has it behind
+the lines before it. Whether the set is for the plates at hand is judged once its second line is known to be good.
+"""
 import re
 from collections import namedtuple
 
