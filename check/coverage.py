@@ -1,5 +1,6 @@
 """What the cases met: which status and line each program gave, and what the pages were like."""
 import re
+import sys
 from collections import Counter
 
 import slow.rule
@@ -52,7 +53,8 @@ FEATURES = [
     "within on a slant", "trapped", "trapped at a slid edge", "trapped at a black edge", "wider at black",
     "narrower at black",
     "not within", "within, lighter side", "within, shut", "within, not apart by its own tints", "within, disabled zone",
-    "tints scaled down", "tint falls", "Opaque ink kept on a trapped sample", "rows in several bands of 8 or fewer"]
+    "tints scaled down", "tint falls", "Opaque ink kept on a trapped sample", "several bands",
+    "several bands and workers", "reach beyond the next band"]
 
 
 def of_line(line):
@@ -76,11 +78,24 @@ def lines_of(one, wanted):
     return sorted({of_line(line) for line in told}) or [""]
 
 
+def workers_and_band(one):
+    """How many workers a case asks for, and how many rows a band has; one worker and one band where it can't ask."""
+    words = " ".join(one.words)
+    if one.program == "traprun":
+        found = re.match("([0-9]+) ([0-9]+) ", words)
+        return tuple(map(int, found.groups())) if found else (1, sys.maxsize)
+    if one.program != "trap":
+        return 1, sys.maxsize
+    options = ((re.search("--%s[= ]([0-9]+)" % name, words), usual) for name, usual in (("workers", 4), ("band", 64)))
+    return tuple(int(found.group(1)) if found else usual for found, usual in options)
+
+
 class Watch:
     """Notes what the pages of one case were like."""
 
-    def __init__(self):
+    def __init__(self, one):
         self.met = Counter()
+        self.workers, self.band = workers_and_band(one)
 
     def note(self, name, holds=True):
         if holds:
@@ -112,7 +127,9 @@ class Watch:
         self.note("limit of one colorant", any(name in zone.limits for zone in page.zones for name in page.names))
         self.note("reach 0", page.reach() == 0)
         self.note("reach above 20", page.reach() > 20)
-        self.note("rows in several bands of 8 or fewer", page.height > 16 and page.reach() > 8)
+        self.note("several bands", page.height > self.band)
+        self.note("several bands and workers", page.height > self.band and self.workers > 1)
+        self.note("reach beyond the next band", page.height > 2 * self.band and page.reach() > 2 * self.band)
 
     def zones(self, rule):
         zones, seen = rule.page.zones, set()
@@ -161,12 +178,11 @@ class Watch:
         for zone in zones:
             asked = rule.page.zones[zone]
             if asked.limits:
-                plain = type(rule).limit
                 with_limits = rule.apart(zone, sample, other)
+                # For a moment each colorant has the zone's own limit.
                 rule.limit = lambda number, plate: asked.params["StepLimit"]
                 self.note("limit of one colorant matters", rule.apart(zone, sample, other) != with_limits)
                 del rule.limit
-                assert rule.limit.__func__ is plain
 
     def answer(self, rule, sample, edge, near):
         """What became of a sample that has a decider."""
@@ -249,7 +265,7 @@ def look(rule):
 
 def begin(one):
     global watch
-    watch = Watch()
+    watch = Watch(one)
 
 
 def end(one, wanted):
