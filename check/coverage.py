@@ -39,22 +39,19 @@ LINES = {
 }
 
 FEATURES = [
-    "maxval 1", "maxval of one byte", "maxval 255", "maxval 256", "maxval of two bytes", "maxval 65535",
-    "one plate", "sixteen plates", "ink Normal", "ink Transparent", "ink Opaque", "ink OpaqueIgnore",
-    "no zone made", "zone of no path", "zone 0 has samples beside others", "zones that overlap",
-    "disabled zone with samples",
+    "maxval 1", "maxval of one byte", "maxval 255", "maxval 256", "maxval of two bytes", "maxval 65535", "one plate",
+    "sixteen plates", "ink Normal", "ink Transparent", "ink Opaque", "ink OpaqueIgnore", "no zone made",
+    "zone of no path", "zone 0 has samples beside others", "zones that overlap", "disabled zone with samples",
     "winding number of 2 or more", "winding number below 0", "sample inside a path with winding number 0",
     "border through a sample's centre", "edge between zones decides", "one zone's limits make apart, the other's not",
     "no edge decides", "more than 100 edges decide", "edge is slid", "slid at the limit", "edge is not slid",
     "edge is black", "black at its density limit", "black at its colour limit", "black and slid", "both sides black",
-    "step at the limit", "limit of one colorant", "limit of one colorant matters", "nearest edges tie, left and right",
-    "nearest edges tie, above and below", "reach 0", "reach above 20", "within at distance 1",
-    "within beyond distance 1",
-    "within on a slant", "trapped", "trapped at a slid edge", "trapped at a black edge", "wider at black",
-    "narrower at black",
-    "not within", "within, lighter side", "within, shut", "within, not apart by its own tints", "within, disabled zone",
-    "tints scaled down", "tint falls", "Opaque ink kept on a trapped sample", "several bands",
-    "several bands and workers", "reach beyond the next band"]
+    "step at the limit", "limit of one colorant", "limit of one colorant matters",
+    "nearest edges tie, left and right", "nearest edges tie, above and below", "reach 0", "reach above 20",
+    "within at distance 1", "within beyond distance 1", "within on a slant", "trapped", "trapped at a slid edge",
+    "trapped at a black edge", "wider at black", "narrower at black", "not within", "within, lighter side",
+    "within, shut", "within, not apart by its own tints", "within, disabled zone", "tints scaled down", "tint falls",
+    "Opaque ink kept on a trapped sample", "several bands", "several bands and workers", "reach beyond the next band"]
 
 
 def of_line(line):
