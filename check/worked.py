@@ -204,6 +204,8 @@ JOB_LINES = [
     (b" " * 1048576, "NoShowpage at 1048576"),
     (b"[" * 16 + b"]" * 16 + b" showpage", "WrongOperands at 33"),
     (b"[" * 17, "TooDeep at 16"),
+    (b"1000000 -1000000 moveto 0 .0001 rlineto 0 -.0002 rlineto", "CoordinateRange at 49"),
+    (b"1000000.0001 0 moveto", "CoordinateRange at 15"),
     (b"0 0 moveto" + b" 1 1 lineto" * 4096, "TooManyVertices at 45060"),
     (b"settrapzone " * 251, "TooManyZones at 3000"),
 ]
@@ -232,7 +234,8 @@ def at_limits():
 
 def words():
     for given in ([], ["page"], "page --workers 0 J R C:a:b".split(), "page J R C:a:b C:c:d".split(),
-                  "page J R C:a:R".split(), "sample 1 2 3".split()):
+                  "page J R C:a:R".split(), "sample 1 2 3".split(), "sample 4294967296 2 2 1".split(),
+                  "sample 0 16385 1 1".split(), "sample 0 1 1 65".split()):
         outside = Held({})
         check("words %r" % given, (run("trap", given, outside), outside.told), (2, TRAP_USAGE))
 
@@ -284,16 +287,22 @@ def fault_of(reader, data):
     return None
 
 
+HEADER_FAULTS = [
+    (b"P2 6 1 255\n", ("BadMagic", 1)), (b"P56 1 255\n", ("BadHeader", 2)), (b"P5 -6 1 255\n", ("BadHeader", 3)),
+    (b"P5 0 1 255\n", ("SideRange", 3)), (b"P5 16385 1 255\n", ("SideRange", 3)),
+    (b"P5 16384 16384 255\n", ("TooManySamples", 9)), (b"P5 16384 9766 255\n", ("TooManySamples", 9)),
+    (b"P5 9766 16384 255\n", ("TooManySamples", 8)), (b"P5 16384 9765 255\n", ("Truncated", 18)),
+    (b"P5 6 1 0\n", ("MaxvalRange", 7)), (b"P5 6 1 255#x", ("BadHeader", 10)), (b"", ("Truncated", 0)),
+    (b"P5 6 1 255", ("Truncated", 10)), (b"P5" + b" " * 70000, ("BadHeader", 65536)),
+    (CYAN + b"\0" * 9, ("TrailingBytes", 17)),
+]
+
+
 def headers():
     check("Cyan's file", CYAN.hex(" ").upper(), "50 35 0A 36 20 31 0A 32 35 35 0A 00 00 00 FF FF FF")
     for header in (b"P5 6 1 255\n", b"P5\n#x\n006\t1\f255 ", b"P5#x\r6#y\n1 255\n"):
         check("header %r" % header, spelled(plate_of(header + CYAN[11:])), CYAN)
-    for data, fault in ((b"P2 6 1 255\n", ("BadMagic", 1)), (b"P56 1 255\n", ("BadHeader", 2)),
-                        (b"P5 -6 1 255\n", ("BadHeader", 3)), (b"P5 0 1 255\n", ("SideRange", 3)),
-                        (b"P5 16384 16384 255\n", ("TooManySamples", 9)), (b"P5 6 1 0\n", ("MaxvalRange", 7)),
-                        (b"P5 6 1 255#x", ("BadHeader", 10)), (b"", ("Truncated", 0)),
-                        (b"P5 6 1 255", ("Truncated", 10)),
-                        (b"P5" + b" " * 70000, ("BadHeader", 65536)), (CYAN + b"\0" * 9, ("TrailingBytes", 17))):
+    for data, fault in HEADER_FAULTS:
         check("plate %r" % data[:20], fault_of(plate_of, data), fault)
 
 
@@ -386,11 +395,17 @@ def pool():
               (9, "job 0: done\njob 1: job: NoDetails for plate 0\njob 2: done\n"))
         check("its outputs", [raster(outside.files.get(name)) for name in ("a0", "b0", "a1", "a2", "b2")],
               ["00 00 00 00 FF FF", "FF FF 00 00 00 00", None, "00 00 00 00 00 FF", "FF FF FF 00 00 00"])
-    for data, line in ((files["twice"], 1), (b"", 0), (b"\n", 0), (lines[:-1], 2), (lines + b"\n", 3),
-                       (lines + b"x", 3), (lines.replace(b" r1", b"  r1"), 1), (b"one r%d C:Cyan:a\n" * 257, 1),
-                       (b"".join(b"one r%d C:Cyan:a%d\n" % (n, n) for n in range(257)), 256), (b"x" * 1048577, 0)):
+    for data, line in (
+            (files["twice"], 1), (b"", 0), (b"\n", 0), (lines[:-1], 2), (lines + b"\n", 3), (lines + b"x", 3),
+            (lines + b"x" * (1048576 - len(lines)), 3), (lines.replace(b" r1", b"  r1"), 1),
+            (b"one r C:Cyan:a\n" * 257, 1), (b"".join(b"one r%d C:Cyan:a%d\n" % (n, n) for n in range(257)), 256),
+            (b"x" * 1048577, 0)):
         outside = Held(dict(files, list=data))
-        check("a bad line", (run("trappool", ["2", "list"], outside), outside.told), (3, "list: BadLine %d\n" % line))
+        status = run("trappool", ["2", "list"], outside)
+        check("a bad line %d" % line, (status, outside.told), (3, "list: BadLine %d\n" % line))
+    longest = b" r C:a:b\n"
+    outside = Held({"list": b"j" * (1048576 - len(longest)) + longest})
+    check("the longest list", (run("trappool", ["2", "list"], outside), outside.told), (9, "job 0: read fault: job\n"))
 
 
 TABLES = (two_inks, equally_near, steps, kinds_of_ink, zones, tall, shop, two_bytes, plate_refusals, job_refusals,

@@ -210,10 +210,21 @@ def traprun(rng):
     report, *written = (name.replace(FULL, "full") for name in [output_name(rng, "report"), *outputs(rng, inputs)])
     if rng.random() < 0.03:
         files["%s.%d" % (rng.choice([report, *written]), rng.randrange(count))] = None
-    if rng.random() < 0.03:
-        written[0] = rng.choice(inputs + [job]).rpartition(".")[0] or "p0"
+    if rng.random() < 0.05:
+        job, *inputs = like_an_output(rng, files, [job, *inputs], [report, *written])
     words = [workers_word(rng), band_word(rng), job, report, *joined(first.names, inputs, written)]
     return with_bad_words(rng, words), files
+
+
+def like_an_output(rng, files, inputs, written):
+    """The inputs, one of them under a name that some page could write, or under one that is nearly such a name."""
+    place = rng.randrange(len(inputs))
+    end = rng.choice([".0", ".1", ".77", ".000", ".", "0", ".0x", ".x0", ".0.0", ".-1"])
+    name = rng.choice(written) + end
+    if inputs[place] in files and name not in files and "/" not in name:
+        files[name] = files.pop(inputs[place])
+        inputs[place] = name
+    return inputs
 
 
 # What may stand behind the images of a plate file: whole plates, and ones with a fault.

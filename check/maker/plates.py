@@ -14,7 +14,7 @@ def plate_file(rng, picture, plate, broken=0.04):
 
 def break_plate(rng, picture, plate, data):
     """A file with a fault, or one that is a plate of another shape."""
-    kind = rng.randrange(9)
+    kind = rng.choice([0, 0, 1, 1, 2, 2, 2, 2, 3, 3, 4, 4, 5, 5, 6, 6, 7, 7, 8])
     width, height, maxval = picture[:3]
     if kind == 0:
         return data[:rng.randint(0, len(data))]
