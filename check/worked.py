@@ -181,6 +181,8 @@ def plate_refusals():
     refuses("another size", text, dict(TWO, Magenta=plate(5, 1, "FF FF FF 00 00")), 4, "page: SizeDiffers plate 1")
     refuses("another maxval", text, dict(TWO, Magenta=plate(6, 1, "00 " * 6, 100)), 4, "page: MaxvalDiffers plate 1")
     check("a reach of 200", page(job("/TrapWidth 100"), TWO)[0], 0)
+    check("a reach of 256", page(job("/TrapWidth 64 /BlackWidth 2"), TWO)[0], 0)
+    refuses("a reach of 257", job("/TrapWidth 64.25 /BlackWidth 2"), TWO, 4, "page: ReachTooWide zone 0")
     refuses("a reach of 400", job("/TrapWidth 100 /BlackWidth 2"), TWO, 4, "page: ReachTooWide zone 0")
     refuses("other names", text, {"Orange": CYAN, "Magenta": MAGENTA}, 3, "job: NoDetails for plate 0")
     check("no such plate", run("trap", ["page", "job", "r", "Cyan:Cyan:o"], told := Held({"job": text})), 5)

@@ -138,7 +138,8 @@ def parameter(rng, key, resolution, picture):
     """A value for a parameter; widths are such that they reach a few samples."""
     least, greatest, default = PARAMETERS[key]
     if key == "TrapWidth":
-        halves = rng.choice([0.5, 1, 1, 2, 3, 4, 4, 6, 10, 12.5, rng.uniform(0, 20), rng.uniform(0, 300)])
+        halves = rng.choice([0.5, 1, 1, 2, 3, 4, 4, 6, 10, 12.5, rng.uniform(0, 20), rng.uniform(0, 20),
+                             rng.choice([256, 257, rng.uniform(0, 300)])])
         return min(max(int(halves * 360000 / resolution), least), greatest)
     if key == "BlackWidth":
         return rng.choice([10000, 20000, 5000, 15000, rng.randint(least, 30000)])
