@@ -1,0 +1,1 @@
+"""A maker of random cases: pages, jobs, words, set files and lists, broken ones among them."""
