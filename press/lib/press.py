@@ -7,6 +7,7 @@ import contextlib
 import os
 import re
 import shutil
+import signal
 import subprocess
 import sys
 import tempfile
@@ -51,12 +52,15 @@ def command_name():
 
 
 def warn(line):
-    print(f"{command_name()}: warning: {line}", file=sys.stderr)
+    print(f"{command_name()}: warning: {line}", file=sys.stderr, flush=True)
 
 
 def run_command(main, text):
     """Calls main with the words, and ends with its status. `text` is what --help prints."""
     words = sys.argv[1:]
+    for stop in (signal.SIGTERM, signal.SIGHUP):
+        # What was begun is cleared away on the way out.
+        signal.signal(stop, lambda number, _: sys.exit(128 + number))
     if "--help" in words or "-h" in words:
         print(text.strip() + "\n\n" + STATUSES, end="")
         sys.exit(0)
