@@ -144,23 +144,26 @@ def tool(name):
     return path
 
 
+def is_program(path):
+    return os.path.isfile(path) and os.access(path, os.X_OK)
+
+
 def program(name):
-    """The program of that name: in the folder TRAP_BIN where that is set; else the repository's launcher, or what stands in
-    the out folder of its crate; else what was installed beside these commands; else what is on the PATH."""
-    where = os.environ.get("TRAP_BIN")
+    """The program of that name: in the folder TRAP_BIN where that is set; else in the repository, whose launcher builds it where
+    need be; else what was installed beside these commands; else what is on the PATH."""
+    where, top = os.environ.get("TRAP_BIN"), os.path.dirname(HERE)
     if where:
-        places = [os.path.join(where, name)]
-    else:
-        top = os.path.dirname(HERE)
-        places = [os.path.join(top, name), os.path.join(top, "crates", name, "out", name),
-                  os.path.join(os.path.dirname(top), "bin", name), os.path.join(os.path.dirname(os.path.dirname(top)), "bin", name)]
-    for place in places:
-        if os.path.isfile(place) and os.access(place, os.X_OK):
-            return os.path.abspath(place)
-    found = None if where else shutil.which(name)
-    if found is None:
-        raise Refusal(NO_TOOL, f"the program {name} is not there" + (f": no {places[0]}" if where else ""))
-    return found
+        if is_program(os.path.join(where, name)):
+            return os.path.abspath(os.path.join(where, name))
+        raise Refusal(NO_TOOL, f"the program {name} is not there: no {os.path.join(where, name)}")
+    built = os.path.join(top, "crates", name, "out", name)
+    if os.path.isdir(os.path.join(top, "crates", name)) and is_program(os.path.join(top, name)):
+        # Without words the launcher builds the program where need be, saying so, and the program ends at once.
+        subprocess.run([os.path.join(top, name)], stdin=subprocess.DEVNULL, stdout=subprocess.DEVNULL, check=False)
+    for place in (built, os.path.join(os.path.dirname(os.path.dirname(top)), "bin", name), shutil.which(name)):
+        if place and is_program(place):
+            return place
+    raise Refusal(NO_TOOL, f"the program {name} is not there")
 
 
 def pictures():
