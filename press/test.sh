@@ -152,9 +152,11 @@ try_folders() {
     refused 4 "press-$1: lost/Black.pgm: No such file or directory" "$here/$1" "${@:2}" lost "${words[@]}"
     refused 4 "press-$1: words/colorants.txt: not a table of colorants" "$here/$1" "${@:2}" words "${words[@]}"
   done
+  cp -r two jobless && rm jobless/page.job
+  refused 4 "press-trap: jobless/page.job: No such file" "$here/trap" jobless
   refused 4 "press-tiff: two: not trapped yet .*" "$here/tiff" two new
   refused 4 "press-look: two: not trapped yet .*" "$here/look" two new.png --traps
-  rm -r sizes depths cut other lost words bare
+  rm -r sizes depths cut other lost words bare jobless
 }
 
 try_tools() {
