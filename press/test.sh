@@ -56,6 +56,7 @@ as_tiffsep() {
   goes "$here/tiff" --untrapped --name page "$folder" ../tiffs
   cmp <(ls ../gs) <(ls ../tiffs) || wrong "$stem: other files than tiffsep's"
   for file in ../gs/*\(*; do
+    cmp <("$here/tests/tiff_tags.py" "$file") <("$here/tests/tiff_tags.py" "../tiffs/${file##*/}") || wrong "$stem: $file"
     cmp <(plane "$file") <(plane "../tiffs/${file##*/}") || wrong "$stem: $file"
   done
 }

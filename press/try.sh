@@ -27,9 +27,11 @@ have_program() {
   [ -x "${TRAP_BIN:-$top/crates/trap/out}/trap" ] || { say "$1: skipped, the program trap is not built"; return 1; }
 }
 
-# The plane of a TIFF as raw bytes: by Netpbm, and by libvips where it is there.
+# The plane of a TIFF as raw bytes. Two files are compared by Netpbm, and by libvips where it is there; and by what they say of
+# their sides, polarity and resolution, which these readers make up for.
 plane() { tifftopnm -quiet "$1" | tail -n +4; }
 same_planes() {
+  cmp <("$here/tests/tiff_tags.py" "$1") <("$here/tests/tiff_tags.py" "$2") || wrong "$2 is another kind of TIFF than $1"
   cmp <(plane "$1") <(plane "$2") || wrong "$1 and $2 differ"
   ! there vips || vips_same "$1" "$2"
 }
@@ -68,6 +70,8 @@ try_tiffsep() {
 # The composite has each plate as a channel, full ink being 255.
 composite_holds() {
   local folder=$1 page=$2 band=0 name file
+  cmp <("$here/tests/tiff_tags.py" "$folder/tiff/label-$page.tif" | sed -n 's/^polarity\|^channels\|^extra channels/&/p') \
+    <(printf '%s\n' "polarity [5]" "channels [6]" "extra channels [0, 0]") || wrong "all: the composite of page $page"
   vips copy "$folder/tiff/label-$page.tif" "$out/composite.v"
   while IFS= read -r name; do
     file="$folder/tiff/label-$page($name).tif"
