@@ -1,0 +1,369 @@
+"""What the press commands share.
+
+Their words, messages and statuses; the tools and programs that they run; outputs that stand whole under their names or not
+at all; plate files; and the folder of a page, which press/plates makes and the other commands read.
+"""
+import contextlib
+import os
+import re
+import shutil
+import signal
+import subprocess
+import sys
+import tempfile
+from collections import namedtuple
+
+# The statuses, one for each kind of refusal. They stand in press(1) and in each command's --help.
+PAGES_FAILED, USAGE, NO_TOOL, INPUT, PDF, NO_PLATES, PLATES, OUTPUT, PROGRAM = 1, 2, 3, 4, 5, 6, 7, 8, 9
+STATUSES = """Status:
+  0  done
+  1  some page failed; the others stand (all, farm)
+  2  the words are no command: an unknown option, a word too few or too many
+  3  a tool or a program is not there
+  4  a file cannot be read
+  5  Ghostscript cannot read the PDF, or the PDF has no such page
+  6  the folder has no plates
+  7  the plates make no page: two sizes, too many colorants or samples
+  8  an output cannot be written, or stands in the way
+  9  a program of traps refused the page; its line is told
+"""
+
+MOST_PLATES, LONGEST_SIDE, MOST_SAMPLES, LONGEST_NAME = 16, 16_384, 160_000_000, 64
+PROCESS = {"Cyan": (0.61, (100, 0, 0, 0)), "Magenta": (0.76, (0, 100, 0, 0)), "Yellow": (0.16, (0, 0, 100, 0)),
+           "Black": (1.70, (0, 0, 0, 100))}
+KINDS = ("Normal", "Transparent", "Opaque", "OpaqueIgnore")
+TABLE, JOB, TRAPPED, REPORT, CHECK = "colorants.txt", "page.job", "trapped", "report", "check"
+HERE = os.path.dirname(os.path.dirname(os.path.realpath(__file__)))
+
+# Where a tool comes from, for the message that it is not there.
+PACKAGES = {"gs": "ghostscript", "tifftopnm": "netpbm", "pamtotiff": "netpbm", "numpy": "python3-numpy", "PIL": "python3-pil"}
+
+
+class Refusal(Exception):
+    """A status and the one line that says why."""
+
+    def __init__(self, status, line):
+        super().__init__(line)
+        self.status, self.line = status, line
+
+
+def command_name():
+    return "press-" + os.path.basename(sys.argv[0])
+
+
+def warn(line):
+    print(f"{command_name()}: warning: {line}", file=sys.stderr, flush=True)
+
+
+def run_command(main, text):
+    """Calls main with the words, and ends with its status. `text` is what --help prints."""
+    words = sys.argv[1:]
+    for stop in (signal.SIGTERM, signal.SIGHUP):
+        # What was begun is cleared away on the way out.
+        signal.signal(stop, lambda number, _: sys.exit(128 + number))
+    if "--help" in words or "-h" in words:
+        print(text.strip() + "\n\n" + STATUSES, end="")
+        sys.exit(0)
+    try:
+        status = main(words)
+    except Refusal as refusal:
+        print(f"{command_name()}: {refusal.line}", file=sys.stderr)
+        status = refusal.status
+    except BrokenPipeError:
+        status = OUTPUT
+    except OSError as fault:
+        print(f"{command_name()}: {fault.filename or 'write'}: {fault.strerror}", file=sys.stderr)
+        status = OUTPUT
+    except KeyboardInterrupt:
+        status = 130
+    sys.exit(status)
+
+
+# Words
+
+def usage(line):
+    return Refusal(USAGE, f"{line} (see {command_name()} --help)")
+
+
+def read_words(words, options, names):
+    """The options by name, and the operands. `options` says of each whether it is a "flag", takes "one" word, "each" word
+    of several times, or "many" words that follow it, `names` how the operands are called."""
+    found = {name: {"flag": False, "one": None}.get(kind, []) for name, kind in options.items()}
+    operands, at = [], 0
+    while at < len(words):
+        word, at = words[at], at + 1
+        if word == "--":
+            operands += words[at:]
+            break
+        if not word.startswith("-") or word == "-":
+            operands.append(word)
+            continue
+        name, equals, value = word.partition("=")
+        kind = options.get(name)
+        if kind is None:
+            raise usage(f"unknown option {name}")
+        if kind == "flag":
+            if equals:
+                raise usage(f"{name} takes no value")
+            found[name] = True
+        elif kind == "many":
+            if equals:
+                found[name] = found[name] + value.split()
+            while at < len(words) and is_shift(words[at]):
+                found[name], at = found[name] + [words[at]], at + 1
+            found[name] = found[name] or [""]
+        else:
+            if not equals:
+                if at == len(words):
+                    raise usage(f"{name} needs a value")
+                value, at = words[at], at + 1
+            found[name] = value if kind == "one" else found[name] + [value]
+    if len(operands) < len(names):
+        raise usage(f"{names[len(operands)]} is missing")
+    if len(operands) > len(names):
+        raise usage(f"a word too many: {operands[len(names)]}")
+    return found, operands
+
+
+def is_shift(word):
+    return re.fullmatch(r"([^=]+=)?[-+]?\d+,[-+]?\d+", word) is not None
+
+
+def whole_number(text, least, most, what):
+    if re.fullmatch(r"\d{1,9}", text or "") and least <= int(text) <= most:
+        return int(text)
+    raise usage(f"{what} is a whole number from {least} to {most}, and not '{text}'")
+
+
+# Tools and programs
+
+def tool(name):
+    path = shutil.which(name)
+    if path is None:
+        raise Refusal(NO_TOOL, f"{name} is not there (Debian: apt install {PACKAGES[name]})")
+    return path
+
+
+def is_program(path):
+    return os.path.isfile(path) and os.access(path, os.X_OK)
+
+
+def program(name):
+    """The program of that name: in the folder TRAP_BIN where that is set; else in the repository, whose launcher builds it where
+    need be; else what was installed beside these commands; else what is on the PATH."""
+    where, top = os.environ.get("TRAP_BIN"), os.path.dirname(HERE)
+    if where:
+        if is_program(os.path.join(where, name)):
+            return os.path.abspath(os.path.join(where, name))
+        raise Refusal(NO_TOOL, f"the program {name} is not there: no {os.path.join(where, name)}")
+    built = os.path.join(top, "crates", name, "out", name)
+    if os.path.isdir(os.path.join(top, "crates", name)) and is_program(os.path.join(top, name)):
+        # Without words the launcher builds the program where need be, saying so, and the program ends at once.
+        subprocess.run([os.path.join(top, name)], stdin=subprocess.DEVNULL, stdout=subprocess.DEVNULL, check=False)
+    for place in (built, os.path.join(os.path.dirname(os.path.dirname(top)), "bin", name), shutil.which(name)):
+        if place and is_program(place):
+            return place
+    raise Refusal(NO_TOOL, f"the program {name} is not there")
+
+
+def pictures():
+    """NumPy and Pillow's Image. Where this python3 lacks one of them, Debian's own is tried in its place."""
+    try:
+        import numpy
+        from PIL import Image
+        return numpy, Image
+    except ImportError as fault:
+        debian = "/usr/bin/python3"
+        if os.path.exists(debian) and not os.environ.get("PRESS_PYTHON"):
+            os.environ["PRESS_PYTHON"] = debian
+            os.execv(debian, [debian] + sys.argv)
+        module = (fault.name or "numpy").partition(".")[0]
+        raise Refusal(NO_TOOL, f"Python's {module} is not there (Debian: apt install {PACKAGES.get(module, module)})")
+
+
+# Outputs
+
+def umasked(mode):
+    mask = os.umask(0)
+    os.umask(mask)
+    return mode & ~mask
+
+
+@contextlib.contextmanager
+def whole_file(final):
+    """A path beside `final` to write to. It takes the name `final` where the block ends well, and is removed elsewhere."""
+    try:
+        if os.path.isdir(final):
+            raise Refusal(OUTPUT, f"{final}: Is a directory")
+        handle, path = tempfile.mkstemp(prefix=".press-", suffix=os.path.splitext(final)[1], dir=os.path.dirname(final) or ".")
+        os.close(handle)
+    except OSError as fault:
+        raise Refusal(OUTPUT, f"{final}: {fault.strerror}")
+    try:
+        yield path
+        os.chmod(path, umasked(0o666))
+        os.replace(path, final)
+    finally:
+        if os.path.exists(path):
+            os.remove(path)
+
+
+@contextlib.contextmanager
+def folder_beside(final, inside=False):
+    """A folder beside `final`, or inside it, that is removed when the block ends, unless it was renamed."""
+    parent = final if inside else os.path.dirname(os.path.abspath(final))
+    try:
+        path = tempfile.mkdtemp(prefix=".press-", dir=parent)
+    except OSError as fault:
+        raise Refusal(OUTPUT, f"{final}: {fault.strerror}")
+    os.chmod(path, umasked(0o777))
+    try:
+        yield path
+    finally:
+        shutil.rmtree(path, ignore_errors=True)
+
+
+def put_folder(made, final):
+    """Gives a folder its final name, in place of one that stands there."""
+    if os.path.isdir(final):
+        old = tempfile.mkdtemp(prefix=".press-", dir=os.path.dirname(os.path.abspath(final)))
+        os.rename(final, os.path.join(old, "old"))
+        os.rename(made, final)
+        shutil.rmtree(old, ignore_errors=True)
+    else:
+        os.rename(made, final)
+
+
+# Plate files
+
+Head = namedtuple("Head", "width height maxval start")
+GAP = rb"(?:[ \t\r\n\v\f]|#[^\r\n]*[\r\n])+"
+HEADER = re.compile(rb"P5" + GAP + rb"(\d+)" + GAP + rb"(\d+)" + GAP + rb"(\d+)[ \t\r\n\v\f]")
+
+
+def plate_head(path):
+    try:
+        with open(path, "rb") as file:
+            found = HEADER.match(file.read(65_536))
+            size = os.fstat(file.fileno()).st_size
+    except OSError as fault:
+        raise Refusal(INPUT, f"{path}: {fault.strerror}")
+    if found is None:
+        raise Refusal(PLATES, f"{path}: no plate: it does not begin as a raw PGM file")
+    width, height, maxval = (int(number) for number in found.groups())
+    if size != found.end() + width * height * (1 if maxval < 256 else 2):
+        raise Refusal(PLATES, f"{path}: no plate: {width} by {height} samples do not make {size} bytes")
+    return Head(width, height, maxval, found.end())
+
+
+def plate_samples(path):
+    """The raster's bytes."""
+    start = plate_head(path).start
+    with open(path, "rb") as file:
+        file.seek(start)
+        return file.read()
+
+
+def is_blank(path):
+    """Whether a plate has no ink anywhere."""
+    samples = plate_samples(path)
+    return plate_head(path).maxval == 255 and samples.count(b"\xff") == len(samples)
+
+
+# Names
+
+def job_name(colorant, taken):
+    """How a job spells a colorant's name: each byte that a name cannot have is an underscore, and no two are the same."""
+    allowed = set(range(33, 127)) - set(b"()<>[]{}/%:")
+    name = "".join(chr(byte) if byte in allowed else "_" for byte in colorant)[:LONGEST_NAME] or "_"
+    # A word that begins with a dash would be read as an option.
+    name = "_" + name[1:] if name.startswith("-") else name
+    spelled, count = name, 1
+    while spelled in taken:
+        count += 1
+        spelled = name[:LONGEST_NAME - len(str(count)) - 1] + f"_{count}"
+    return spelled
+
+
+def shown(name):
+    """A name's bytes as the table and messages show them: #xx for each byte that is no printable ASCII character, and for #."""
+    return "".join(chr(byte) if 32 <= byte < 127 and byte != 35 else f"#{byte:02X}" for byte in name)
+
+
+def meant(text):
+    """The bytes of a name that the table shows."""
+    return re.sub(rb"#([0-9A-F]{2})", lambda found: bytes([int(found.group(1), 16)]), text.encode())
+
+
+# The folder of a page
+
+Colorant = namedtuple("Colorant", "name density kind mixed ink suffix colorant")
+Source = namedtuple("Source", "pdf page resolution")
+
+
+def table_text(source, colorants):
+    lines = ["# The colorants that were found on a page. Of each: its name in the job, its neutral density, its kind, the process",
+             "# inks that look like it in hundredths, whether its plate has ink, its name in tiffsep's file names, and in the PDF.",
+             f"pdf\t{shown(source.pdf)}", f"page\t{source.page}", f"resolution\t{source.resolution}"]
+    for one in colorants:
+        lines.append("\t".join(("colorant", one.name, one.density, one.kind, " ".join(f"{part:g}" for part in one.mixed),
+                                "ink" if one.ink else "blank", shown(one.suffix), shown(one.colorant))))
+    return "\n".join(lines) + "\n"
+
+
+def read_table(folder):
+    path = os.path.join(folder, TABLE)
+    if not os.path.isdir(folder):
+        raise Refusal(INPUT, f"{folder}: " + ("Not a directory" if os.path.exists(folder) else "No such file or directory"))
+    try:
+        with open(path, encoding="utf-8") as file:
+            lines = [line.rstrip("\n").split("\t") for line in file if not line.startswith("#")]
+    except FileNotFoundError:
+        raise Refusal(NO_PLATES, f"{folder}: no plates here (press/plates makes such a folder)")
+    except (OSError, UnicodeDecodeError) as fault:
+        raise Refusal(INPUT, f"{path}: {getattr(fault, 'strerror', None) or 'not a table of colorants'}")
+    try:
+        heads = {line[0]: line[1] for line in lines if line[0] != "colorant"}
+        colorants = [Colorant(line[1], line[2], line[3], tuple(float(part) for part in line[4].split()), line[5] == "ink",
+                              meant(line[6]), meant(line[7])) for line in lines if line[0] == "colorant"]
+        source = Source(meant(heads["pdf"]), int(heads["page"]), int(heads["resolution"]))
+    except (IndexError, KeyError, ValueError):
+        raise Refusal(INPUT, f"{path}: not a table of colorants")
+    if not colorants:
+        raise Refusal(NO_PLATES, f"{folder}: no plates here (press/plates makes such a folder)")
+    return source, colorants
+
+
+class Page:
+    """A folder of plates of one size: its source, its colorants, and the size."""
+
+    def __init__(self, folder):
+        self.folder = folder
+        self.source, self.colorants = read_table(folder)
+        heads = [plate_head(self.plate(one)) for one in self.colorants]
+        self.head = heads[0]
+        for one, head in zip(self.colorants, heads):
+            if head[:2] != self.head[:2]:
+                raise Refusal(PLATES, f"{self.plate(one)}: {head.width} by {head.height} samples, and "
+                              f"{self.colorants[0].name} has {self.head.width} by {self.head.height}")
+            if head.maxval != self.head.maxval:
+                raise Refusal(PLATES, f"{self.plate(one)}: maxval {head.maxval}, and {self.colorants[0].name} has "
+                              f"{self.head.maxval}")
+
+    def plate(self, one, trapped=False):
+        return os.path.join(self.folder, TRAPPED, one.name + ".pgm") if trapped else os.path.join(self.folder, one.name + ".pgm")
+
+    def need_trapped(self):
+        """That the page was trapped, and every trapped plate has the page's size."""
+        if not os.path.isdir(os.path.join(self.folder, TRAPPED)):
+            raise Refusal(INPUT, f"{self.folder}: not trapped yet (press/trap does it; --untrapped takes the plates as they are)")
+        for one in self.colorants:
+            head = plate_head(self.plate(one, True))
+            if head[:3] != self.head[:3]:
+                raise Refusal(PLATES, f"{self.plate(one, True)}: {head.width} by {head.height} samples of maxval {head.maxval}, "
+                              f"and the page has {self.head.width} by {self.head.height} of {self.head.maxval}")
+
+
+def run_tool(words, **how):
+    """Runs a tool, its texts being kept."""
+    return subprocess.run(words, stdin=subprocess.DEVNULL, stdout=subprocess.PIPE, stderr=subprocess.PIPE, check=False, **how)

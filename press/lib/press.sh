@@ -1,0 +1,27 @@
+# What those of the press commands share that are written for the shell. It is read by them, with `here` being the folder press.
+# shellcheck shell=bash
+
+name=press-$(basename "$0")
+
+# The statuses of lib/press.py.
+pages_failed=1 usage=2 no_tool=3 input=4 output=8
+
+say() { printf '%s: %s\n' "$name" "$1" >&2; }
+
+# refuse STATUS LINE
+refuse() { say "$2"; exit "$1"; }
+
+# need TOOL PACKAGE
+need() { command -v "$1" >/dev/null || refuse "$no_tool" "$1 is not there (Debian: apt install $2)"; }
+
+# Prints the comment at the head of the command, and the statuses.
+help() {
+  sed -n '2,/^$/{s/^# \{0,1\}//;p}' "$0"
+  sed -n '/^STATUSES = /,/^"""/{s/^STATUSES = """//;/^"""/d;p}' "$here/lib/press.py"
+}
+
+# whole_number TEXT LEAST MOST WHAT
+whole_number() {
+  [[ $1 =~ ^[0-9]{1,9}$ ]] && ((10#$1 >= $2 && 10#$1 <= $3)) ||
+    refuse "$usage" "$4 is a whole number from $2 to $3, and not '$1' (see $name --help)"
+}

@@ -1,0 +1,180 @@
+#!/usr/bin/env bash
+# Runs the whole way on the label of examples/label, and looks at what comes out of it. It installs nothing: what is not there
+# is skipped with a word. What it makes stands in press/out. With a word or more, runs these parts alone: label tiffsep all
+# pictures farm watch slurm.
+
+set -eu
+here=$(cd "$(dirname "$0")" && pwd)
+top=$(dirname "$here")
+label=$top/examples/label
+out=$here/out
+pages="1 2"
+
+say() { printf 'press/try.sh: %s\n' "$1"; }
+wrong() { say "$1: WRONG"; exit 1; }
+there() { command -v "$1" >/dev/null; }
+
+# have WHAT TOOL ..: whether all of the tools are there; the word that one is not.
+have() {
+  local what=$1 one
+  for one in "${@:2}"; do
+    there "$one" || { say "$what: skipped, $one is not there"; return 1; }
+  done
+}
+
+# Whether the program was built; it is not built here, which takes long.
+have_program() {
+  [ -x "${TRAP_BIN:-$top/crates/trap/out}/trap" ] || { say "$1: skipped, the program trap is not built"; return 1; }
+}
+
+# The plane of a TIFF as raw bytes. Two files are compared by Netpbm, and by libvips where it is there; and by what they say of
+# their sides, polarity and resolution, which these readers make up for.
+plane() { tifftopnm -quiet "$1" | tail -n +4; }
+same_planes() {
+  cmp <("$here/tests/tiff_tags.py" "$1") <("$here/tests/tiff_tags.py" "$2") || wrong "$2 is another kind of TIFF than $1"
+  cmp <(plane "$1") <(plane "$2") || wrong "$1 and $2 differ"
+  ! there vips || vips_same "$1" "$2"
+}
+vips_same() {
+  vips copy "$1" "$out/one.v" && vips copy "$2" "$out/two.v"
+  vips rawsave "$out/one.v" "$out/one.raw" && vips rawsave "$out/two.v" "$out/two.raw"
+  cmp "$out/one.raw" "$out/two.raw" || wrong "$1 and $2 differ to libvips"
+}
+
+try_label() {
+  have label python3 || return 0
+  "$label/make.py" "$out/made.pdf"
+  cmp "$out/made.pdf" "$label/label.pdf" || wrong "label: make.py makes another label.pdf"
+  say "label: make.py makes label.pdf, byte for byte"
+}
+
+# tiffsep's own files, and those of press/plates and press/tiff without trapping: the same names, the same planes.
+try_tiffsep() {
+  have tiffsep gs tifftopnm pamtotiff python3 || return 0
+  local page file count=0
+  for page in $pages; do
+    mkdir "$out/gs$page"
+    gs -q -dSAFER -dBATCH -dNOPAUSE -sDEVICE=tiffsep -r600 -dFirstPage="$page" -dLastPage="$page" \
+      -sOutputFile="$out/gs$page/label-$page.tif" "$label/label.pdf"
+    "$here/plates" --page "$page" "$label/label.pdf" "$out/plates$page"
+    "$here/tiff" "$out/plates$page" "$out/tiff$page" --untrapped
+    cmp <(ls "$out/gs$page") <(ls "$out/tiff$page") || wrong "tiffsep: other files"
+    for file in "$out/gs$page"/*\(*; do
+      same_planes "$file" "$out/tiff$page/${file##*/}"
+      count=$((count + 1))
+    done
+  done
+  say "tiffsep: $count separations of 2 pages have the names and the bytes of Ghostscript's own"
+}
+
+# The composite has each plate as a channel, full ink being 255.
+composite_holds() {
+  local folder=$1 page=$2 band=0 name file
+  cmp <("$here/tests/tiff_tags.py" "$folder/tiff/label-$page.tif" | sed -n 's/^polarity\|^channels\|^extra channels/&/p') \
+    <(printf '%s\n' "polarity [5]" "channels [6]" "extra channels [0, 0]") || wrong "all: the composite of page $page"
+  vips copy "$folder/tiff/label-$page.tif" "$out/composite.v"
+  while IFS= read -r name; do
+    file="$folder/tiff/label-$page($name).tif"
+    vips extract_band "$out/composite.v" "$out/band.v" "$band"
+    vips invert "$out/band.v" "$out/plate.v"
+    vips rawsave "$out/plate.v" "$out/plate.raw"
+    cmp "$out/plate.raw" <(plane "$file") || wrong "all: channel $band of page $page is not $name"
+    band=$((band + 1))
+  done < <(sed -n 's/^colorant\t.*\t//p' "$folder/colorants.txt")
+}
+
+try_all() {
+  have all gs tifftopnm pamtotiff python3 && have_program all || return 0
+  local page plate file check=() start=$SECONDS
+  if [ -x "${TRAP_BIN:-$top/crates/presscheck/out}/presscheck" ]; then
+    check=(--check 2)
+  else
+    say "all: without --check, the program presscheck is not built"
+  fi
+  "$here/all" "$label/label.pdf" "$out/label" "${check[@]}"
+  say "all: 2 pages in $((SECONDS - start)) s"
+  ((SECONDS - start < 60)) || wrong "all: more than a minute"
+  for page in $pages; do
+    local folder=$out/label/page-00$page
+    while IFS=$'\t' read -r _ plate _ _ _ _ file _; do
+      cmp <(plane "$folder/tiff/label-$page($file).tif") <(tail -n +4 "$folder/trapped/$plate.pgm") || wrong "all: $plate"
+    done < <(grep '^colorant' "$folder/colorants.txt")
+    ! there vips || composite_holds "$folder" "$page"
+    grep -h '^zone' "$folder/trapped/report"
+    [ ${#check[@]} = 0 ] || cat "$folder/trapped/check"
+  done
+  say "all: the separations are the trapped plates, and the composite's channels are, too"
+}
+
+try_pictures() {
+  [ -d "$out/label/page-001" ] || { say "pictures: skipped, there is no trapped page"; return 0; }
+  local status=0
+  "$here/look" "$out/label/page-001" "$out/page.png" || status=$?
+  [ "$status" != 3 ] || { say "pictures: skipped"; return 0; }
+  "$here/look" "$out/label/page-001" "$out/traps.png" --traps
+  "$here/look" "$out/label/page-001" "$out/register.png" --misregister --part most --enlarge 4
+  say "pictures: $out/page.png, traps.png and register.png"
+}
+
+same_pages() {
+  local page
+  for page in $pages; do
+    diff -r -x check "$out/label/page-00$page" "$1/page-00$page" >"$out/differs" || { cat "$out/differs"; wrong "$2: other bytes"; }
+  done
+}
+
+try_farm() {
+  have farm parallel && [ -d "$out/label/page-001" ] || return 0
+  "$here/farm" "$label/label.pdf" "$out/farm" --jobs 2
+  same_pages "$out/farm" farm
+  say "farm: two pages at once by GNU parallel have the bytes of press/all"
+}
+
+# A label that is moved in, one that is written slowly, and a file that is no PDF.
+try_watch() {
+  have watch inotifywait && [ -d "$out/label/page-001" ] || return 0
+  local hot=$out/hot watcher file
+  mkdir "$hot"
+  : >"$out/watch.err"
+  cp "$label"/label.*inks "$label"/label.*zones "$hot"
+  "$here/watch" "$hot" --settle 1 >"$out/watch.told" 2>"$out/watch.err" &
+  watcher=$!
+  for _ in {1..50}; do ! grep -q watching "$out/watch.err" || break; sleep 0.2; done
+  echo "no PDF" >"$hot/broken.pdf"
+  { head -c 30000 "$label/label.pdf"; sleep 4; tail -c +30001 "$label/label.pdf"; } >"$hot/label.pdf" &
+  cp "$label/label.pdf" "$out/moved.pdf" && mv "$out/moved.pdf" "$hot/moved.pdf"
+  for _ in {1..90}; do [ "$(wc -l <"$out/watch.told")" -lt 3 ] || break; sleep 1; done
+  kill "$watcher"
+  wait "$watcher" || true
+  cat "$out/watch.told"
+  for file in "$hot/done/label/label.pdf" "$hot/done/moved/moved.pdf" "$hot/failed/broken/broken.pdf" "$hot/failed/broken/why.txt"; do
+    [ -s "$file" ] || wrong "watch: there is no $file"
+  done
+  cmp "$hot/done/label/label.pdf" "$label/label.pdf" || wrong "watch: a file was taken before it was whole"
+  same_pages "$hot/done/label" watch
+  say "watch: a moved file, one that was written slowly, and one that is no PDF came out where they should"
+}
+
+try_slurm() {
+  PATH=$PATH:/usr/sbin
+  have slurm sbatch slurmctld slurmd munged && [ -d "$out/label/page-001" ] || return 0
+  if ! "$here/slurm-here" start "$out/slurm" >"$out/slurm.told" 2>&1; then
+    say "slurm: skipped, it does not start here: $(tail -n 1 "$out/slurm.told")"
+    return 0
+  fi
+  export SLURM_CONF=$out/slurm/slurm.conf
+  local status=0
+  PRESS=$here sbatch --wait --array=1-2 --output="$out/slurm/page-%a.out" "$here/farm.sbatch" "$label/label.pdf" "$out/array" ||
+    status=$?
+  "$here/slurm-here" stop "$out/slurm"
+  cat "$out"/slurm/page-*.out
+  [ "$status" = 0 ] || wrong "slurm: the array job failed"
+  same_pages "$out/array" slurm
+  say "slurm: an array job of two tasks has the bytes of press/all"
+}
+
+parts=("$@")
+((${#parts[@]} > 0)) || parts=(label tiffsep all pictures farm watch slurm)
+rm -rf "$out"
+mkdir -p "$out"
+for part in "${parts[@]}"; do "try_$part"; done
