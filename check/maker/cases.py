@@ -42,7 +42,7 @@ def input_name(rng, stem, files, data):
     return name
 
 
-def one_page(rng, files, picture=None, broken=0.04):
+def one_page(rng, files, picture=None, broken=0.03):
     """A job and plates: their names, the colorants', and a report's."""
     picture = picture or pictures.picture(rng)
     long = rng.random() < 0.006
