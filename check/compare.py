@@ -192,7 +192,8 @@ def random_cases(name, options, met):
     tasks = [(name, options.seed, range(first, min(first + 50, options.count)), program, options.keep)
              for first in range(0, options.count, 50)]
     if options.side > 1:
-        with multiprocessing.Pool(options.side) as pool:
+        # What was set up here, such as the watchers, holds in each process of its own.
+        with multiprocessing.get_context("fork").Pool(options.side) as pool:
             parts = pool.imap(part, tasks)
             different = tell_parts(parts, met)
     else:

@@ -42,7 +42,7 @@ def input_name(rng, stem, files, data):
     return name
 
 
-def one_page(rng, files, picture=None, broken=0.04):
+def one_page(rng, files, picture=None, broken=0.03):
     """A job and plates: their names, the colorants', and a report's."""
     picture = picture or pictures.picture(rng)
     long = rng.random() < 0.006
@@ -208,10 +208,11 @@ def traprun(rng):
         files[name] = rng.choice([b"", files[name] * 2, *(files[name] + more for more in MORE_BYTES)])
     # With a page's number behind it the name of a device would be that of a new file outside the folder.
     report, *written = (name.replace(FULL, "full") for name in [output_name(rng, "report"), *outputs(rng, inputs)])
-    if rng.random() < 0.03:
-        files["%s.%d" % (rng.choice([report, *written]), rng.randrange(count))] = None
-    if rng.random() < 0.05:
-        job, *inputs = like_an_output(rng, files, [job, *inputs], [report, *written])
+    plain = [one for one in [report, *written] if "/" not in one and len(one) < 100]
+    if rng.random() < 0.03 and plain:
+        files["%s.%d" % (rng.choice(plain), rng.randrange(count))] = None
+    if rng.random() < 0.05 and plain:
+        job, *inputs = like_an_output(rng, files, [job, *inputs], plain)
     words = [workers_word(rng), band_word(rng), job, report, *joined(first.names, inputs, written)]
     return with_bad_words(rng, words), files
 
@@ -221,7 +222,7 @@ def like_an_output(rng, files, inputs, written):
     place = rng.randrange(len(inputs))
     end = rng.choice([".0", ".1", ".77", ".000", ".", "0", ".0x", ".x0", ".0.0", ".-1"])
     name = rng.choice(written) + end
-    if inputs[place] in files and name not in files and "/" not in name:
+    if inputs[place] in files and name not in files:
         files[name] = files.pop(inputs[place])
         inputs[place] = name
     return inputs

@@ -14,10 +14,10 @@ UNKNOWN_KEYS = [b"/Other", b"/HalftoneName", b"/trapwidth", b"/", b"/\x80\xff", 
 def job(rng, picture):
     """A job for a page, as bytes."""
     tokens = [token for statement in page_statements(rng, picture) for token in statement]
-    if rng.random() < 0.06:
+    if rng.random() < 0.05:
         tokens = with_token_fault(rng, tokens)
     text = spelling.job(rng, tokens)
-    return with_byte_fault(rng, text) if rng.random() < 0.05 else text
+    return with_byte_fault(rng, text) if rng.random() < 0.04 else text
 
 
 def jobs(rng, pictures):
@@ -47,7 +47,7 @@ def page_statements(rng, picture, device=True):
             statements.append(params_statement(rng, picture, resolution))
     if rng.random() < 0.05:
         statements.append(device_statement(rng, picture.names, resolution))
-    if rng.random() < 0.15:
+    if rng.random() < 0.13:
         statements.insert(rng.randint(0, len(statements)), faulty_statement(rng))
     if rng.random() < 0.03:
         rng.shuffle(statements)
@@ -125,7 +125,7 @@ def ink(rng, densities):
             value = rng.choice([[b"0.0009"], [b"10.0001"], [b"-1"], [b"/x"], [b"0"], [b"null"]])
         entries.append((b"/NeutralDensity", value))
     if rng.random() < 0.4:
-        kind = b"/" + rng.choice((b"Normal",) * 4 + KINDS)
+        kind = b"/" + rng.choice((b"Normal",) * 7 + KINDS)
         if rng.random() < 0.005:
             kind = rng.choice([b"/Metal", b"null", b"1", b"/"])
         entries.append((b"/ColorantType", [kind]))
@@ -168,7 +168,7 @@ def param_value(rng, key, ranges, resolution, picture):
     if rng.random() < 0.006:
         return rng.choice(ODD_VALUES)
     if ranges is None:
-        return [rng.choice([b"true", b"true", b"true", b"false"])]
+        return [rng.choice([b"true"] * 5 + [b"false"])]
     if rng.random() < 0.006:
         return [spelling.value(rng, rng.choice([ranges.least - 1, ranges.greatest + 1, -10000]))]
     return [spelling.value(rng, parameter(rng, key, resolution, picture))]
@@ -219,7 +219,7 @@ def subpath(rng, picture, resolution):
         return coordinate(rng, picture.width, resolution), coordinate(rng, picture.height, resolution)
     if rng.random() < 0.6:
         (a, b), (c, d) = point(), point()
-        if rng.random() < 0.4:
+        if rng.random() < 0.6:
             (a, b), (c, d) = (-10000, -10000), (12000000, 12000000)
         points = [(a, b), (c, b), (c, d), (a, d)]
     else:

@@ -32,7 +32,7 @@ def picture(rng, shape=None, names=None):
     width, height = shape or sides(rng)
     maxval = rng.choice(MAXVALS) if rng.random() < 0.95 else rng.randint(1, 65535)
     if names is None:
-        names = rng.sample(NAMES, min(len(NAMES), rng.choice([1, 2, 2, 2, 3, 3, 3, 4, 4, 4, 5])))
+        names = rng.sample(NAMES, min(len(NAMES), rng.choice([1, 2, 2, 2, 3, 3, 3, 4, 4, 4, 4, 5, 5])))
         if rng.random() < 0.02:
             names = ["ink%d" % number for number in range(16)]
     colours = [colour(rng, number % len(names), len(names), maxval) for number in range(rng.randint(2, 6))]
@@ -48,14 +48,14 @@ def colour(rng, inked, plates, maxval):
     """The tints of one colour, often of one ink alone."""
     levels = [0, maxval, maxval // 2, maxval // 4, 3 * maxval // 4, maxval * 95 // 100, 1, rng.randint(0, maxval)]
     if rng.random() < 0.65:
-        tint = rng.choice([maxval, maxval, rng.choice(levels)])
+        tint = rng.choice([maxval, maxval, maxval, rng.choice(levels)])
         return tuple(tint if plate == inked else 0 for plate in range(plates))
     return tuple(rng.choice(levels) for _ in range(plates))
 
 
 def layout(rng, width, height):
     """Which colour a sample has, as a number."""
-    kind, size = rng.randrange(6), rng.randint(1, 4)
+    kind, size = rng.choice([0, 0, 1, 2, 3, 3, 4, 4, 5]), rng.randint(1, 4)
     if kind == 0:
         return lambda x, y: rng.randrange(8)
     if kind == 1:

@@ -6,7 +6,7 @@ def samples(picture, plate):
     return [picture.maxval - tint for tint in picture.planes[plate]]
 
 
-def plate_file(rng, picture, plate, broken=0.04):
+def plate_file(rng, picture, plate, broken=0.03):
     """The bytes of one plate's file."""
     data = spelling.plate(rng, picture.width, picture.height, picture.maxval, samples(picture, plate))
     return break_plate(rng, picture, plate, data) if rng.random() < broken else data
@@ -69,7 +69,7 @@ def long_header(rng, data):
     return b"P5" + (b" " * size if rng.random() < 0.5 else b"#" + b"x" * (size - 2) + b"\n") + numbers + data[-1:]
 
 
-def image_files(rng, pictures, broken=0.04):
+def image_files(rng, pictures, broken=0.03):
     """For each plate the file of its images, one for each page."""
     return [b"".join(plate_file(rng, picture, plate, broken) for picture in pictures)
             for plate in range(len(pictures[0].planes))]

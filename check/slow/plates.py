@@ -16,46 +16,75 @@ GREATEST_MAXVAL = 65535
 
 Plate = namedtuple("Plate", "width height maxval samples")
 
-WHITE = rb"[ \t\r\n\v\f]"
-GAP = rb"(?:[ \t\r\n\v\f]|#[^\r\n]*[\r\n])+"
-DIGITS = rb"([0-9]+)"
-OPEN_COMMENT = rb"#[^\r\n]*"
+WHITE = b" \t\r\n\v\f"
+GAP_ITEM = re.compile(rb"[ \t\r\n\v\f]|#[^\r\n]*[\r\n]")
+DIGITS = re.compile(rb"[0-9]+")
 
-# A whole header, with no regard to what the numbers are.
-SHAPE = re.compile(b"P5" + GAP + DIGITS + GAP + DIGITS + GAP + DIGITS + WHITE)
-
-
-def _front_of_gap_and(rest):
-    """A pattern of all that may begin a gap and then `rest`."""
-    return rb"(?:" + GAP + rb"(?:" + rest + rb"|" + OPEN_COMMENT + rb")?|" + OPEN_COMMENT + rb")?"
+# A number of a header: its value, the place of its first digit, and the place behind its last.
+Number = namedtuple("Number", "value first end")
 
 
-# The longest front of the bytes that a header may still follow on, or that is one.
-_MAXVAL = DIGITS + WHITE + rb"?"
-_HEIGHT = DIGITS + _front_of_gap_and(_MAXVAL)
-_WIDTH = DIGITS + _front_of_gap_and(_HEIGHT)
-FRONT = re.compile(rb"(?:P(?:5" + _front_of_gap_and(_WIDTH) + rb")?)?")
+class Front:
+    """How many bytes may begin a header (`reach`), the numbers among them, and whether they are a whole one.
+
+    The numbers' values and the header's length are not looked at here.
+    """
+
+    def __init__(self, data):
+        self.data, self.reach, self.numbers = data, 0, []
+        numbers = self.is_magic() and all(self.is_gap() and self.is_number() for _ in range(3))
+        self.whole = numbers and self.is_one_of(WHITE)
+
+    def is_magic(self):
+        return self.is_one_of(b"P") and self.is_one_of(b"5")
+
+    def is_one_of(self, allowed):
+        """Whether the next byte is one of these. It then belongs to the front."""
+        found = self.data[self.reach:self.reach + 1]
+        if found and found in allowed:
+            self.reach += 1
+            return True
+        return False
+
+    def is_gap(self):
+        """One item or more. A comment that does not end belongs to the front, up to the end of the bytes."""
+        begun = self.reach
+        while item := GAP_ITEM.match(self.data, self.reach):
+            self.reach = item.end()
+        if self.data[self.reach:self.reach + 1] == b"#":
+            self.reach = len(self.data)
+            return False
+        return self.reach > begun
+
+    def is_number(self):
+        digits = DIGITS.match(self.data, self.reach)
+        if digits:
+            self.numbers.append(Number(value_of(digits.group()), digits.start(), digits.end()))
+            self.reach = digits.end()
+        return digits is not None
 
 
-def number(digits):
+def value_of(digits):
     """The number that the digits spell. One of more than twelve digits is far beyond each limit, whatever its value."""
     return int(digits.lstrip(b"0")[:12] or b"0")
 
 
-def header_faults(data):
+def header_faults(front):
     """The faults of a header as (moment, kind, at): a moment is the number of bytes that decide the fault."""
-    front = FRONT.match(data)
-    shape = SHAPE.match(data)
-    reach = front.end()
-    if not shape and reach < len(data):
+    reach = front.reach
+    if not front.whole and reach < len(front.data):
         yield reach + 1, "BadMagic" if reach < 2 else "BadHeader", reach
-    values = []
-    for which in (1, 2, 3):
-        # A number is judged with the byte after it, where that byte may stand there.
-        if front.group(which) is None or front.end(which) >= reach:
-            return
-        values.append(number(front.group(which)))
-        yield from number_fault(values, front.start(which), front.end(which) + 1)
+    for count, number in enumerate(front.numbers, 1):
+        # A number is judged with the byte behind it, where that byte may stand there.
+        if number.end < reach:
+            yield from number_fault([one.value for one in front.numbers[:count]], number.first, number.end + 1)
+    # A header that goes on beyond its limit; a number's fault of the same moment comes first.
+    if reach >= LONGEST_HEADER and not has_header(front):
+        yield LONGEST_HEADER, "BadHeader", LONGEST_HEADER
+
+
+def has_header(front):
+    return front.whole and front.reach <= LONGEST_HEADER
 
 
 def number_fault(values, first, moment):
@@ -69,28 +98,14 @@ def number_fault(values, first, moment):
         yield moment, "MaxvalRange", first
 
 
-def whole_header(data):
-    """The width, the height, the maxval and the header's length, or None where no header ends within its limit."""
-    shape = SHAPE.match(data)
-    if not shape or shape.end() > LONGEST_HEADER:
-        return None
-    return tuple(number(digits) for digits in shape.groups()) + (shape.end(),)
-
-
-def endless_header(data):
-    """The fault of a header that goes on beyond its limit. It comes behind a number's fault of the same moment."""
-    goes_on = FRONT.match(data).end() >= LONGEST_HEADER and whole_header(data) is None
-    return [(LONGEST_HEADER, "BadHeader", LONGEST_HEADER)] if goes_on else []
-
-
 def image(data):
     """The plate that the bytes begin with, and how many bytes spell it; else the first fault that they have."""
-    faults = list(header_faults(data)) + endless_header(data)
-    header = whole_header(data)
+    front = Front(data)
+    faults = list(header_faults(front))
     plate, end = None, None
-    if header and not faults:
-        width, height, maxval, start = header
-        size = 1 if maxval < 256 else 2
+    if has_header(front) and not faults:
+        width, height, maxval = (number.value for number in front.numbers)
+        start, size = front.reach, 1 if maxval < 256 else 2
         samples = samples_of(data[start:start + width * height * size], size)
         for place, sample in enumerate(samples if max(samples, default=0) > maxval else ()):
             if sample > maxval:
@@ -100,7 +115,7 @@ def image(data):
     if plate is None:
         faults.append((len(data) + 1, "Truncated", len(data)))
     if faults:
-        moment, kind, at = min(faults, key=lambda fault: fault[0])
+        _, kind, at = min(faults, key=lambda fault: fault[0])
         raise PlateFault(kind, at)
     return plate, end
 
