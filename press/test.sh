@@ -294,6 +294,12 @@ done
 # python3 itself, and no wrapper of it, which would begin anew each time.
 python=$(python3 -c 'import sys; print(sys.executable)')
 PATH=$(dirname "$python"):$PATH
+built=yes
+if [ ! -x "${TRAP_BIN:-$top/crates/trap/out}/trap" ]; then
+  # Nothing here may begin to build the program, which takes long.
+  built=no
+  export TRAP_BIN=/none
+fi
 rm -rf "$out"
 mkdir -p "$out/work"
 cd "$out/work"
@@ -310,6 +316,6 @@ try_folders
 if there parallel && there inotifywait; then try_tools; else skip "missing tools" "parallel or inotifywait"; fi
 try_plates
 try_stopped
-if [ -x "${TRAP_BIN:-$top/crates/trap/out}/trap" ]; then try_traps; else skip "traps" "the program trap, which is not built"; fi
+if [ "$built" = yes ]; then try_traps; else skip traps "the program trap, which is not built,"; fi
 try_pictures
 printf 'press/test.sh: %d commands ended as they should\n' "$tried"
