@@ -58,6 +58,9 @@ def warn(line):
 def run_command(main, text):
     """Calls main with the words, and ends with its status. `text` is what --help prints."""
     words = sys.argv[1:]
+    for stream in (sys.stdout, sys.stderr):
+        # A file's name may be no UTF-8.
+        stream.reconfigure(errors="surrogateescape")
     for stop in (signal.SIGTERM, signal.SIGHUP):
         # What was begun is cleared away on the way out.
         signal.signal(stop, lambda number, _: sys.exit(128 + number))
