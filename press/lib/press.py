@@ -161,8 +161,10 @@ def program(name):
         raise Refusal(NO_TOOL, f"the program {name} is not there: no {os.path.join(where, name)}")
     built = os.path.join(top, "crates", name, "out", name)
     if os.path.isdir(os.path.join(top, "crates", name)) and is_program(os.path.join(top, name)):
-        # Without words the launcher builds the program where need be, saying so, and the program ends at once.
-        subprocess.run([os.path.join(top, name)], stdin=subprocess.DEVNULL, stdout=subprocess.DEVNULL, check=False)
+        # Without words the launcher builds the program where need be, saying so, and the program ends at once with its usage.
+        done = subprocess.run([os.path.join(top, name)], stdin=subprocess.DEVNULL, stdout=subprocess.DEVNULL, check=False)
+        if done.returncode != USAGE:
+            raise Refusal(NO_TOOL, f"the program {name} could not be built")
     for place in (built, os.path.join(os.path.dirname(os.path.dirname(top)), "bin", name), shutil.which(name)):
         if place and is_program(place):
             return place
