@@ -57,6 +57,6 @@ deb: built
 	dpkg-deb --build --root-owner-group out/deb out
 
 lint:
-	cd man && for page in *.[0-9]; do mandoc -Tlint "$$page" || exit; done
+	cd man && ! mandoc -Tlint *.[15] 2>/dev/null | grep -v 'referenced manual not found'
 	if command -v shellcheck >/dev/null; then \
 	  shellcheck -x -e SC2015 press/farm press/farm.sbatch press/watch press/slurm-here press/press press/*.sh press/lib/deb-control; fi

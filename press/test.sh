@@ -211,12 +211,25 @@ try_plates() {
   # Ghostscript's own options are kept out.
   GS_OPTIONS="-dTrapX=8 -dTrapY=8 -dDownScaleFactor=2" goes "$here/plates" two.pdf options
   diff -r two options || wrong "GS_OPTIONS reached Ghostscript"
+  # A font that the PDF lacks is told.
+  sed 's/Helvetica-Bold/FancyFont-Bold/' "$top/examples/label/label.pdf" >font.pdf
+  goes "$here/plates" font.pdf font
+  [ "$(grep -c 'page 1: the PDF lacks the font FancyFont-Bold; [^ ]* stands in its place' ../line)" = 1 ] || wrong "fonts: $(cat ../line)"
   # Names with anything in them.
   mkdir "a %d: (b)'" && cp two.pdf "a %d: (b)'/-c \"%s\".pdf"
   (cd "a %d: (b)'" && "$here/plates" -- "-c \"%s\".pdf" "-d %d" 2>../../line) || wrong "odd file names: $(cat ../line)"
   cmp two/Warm_Red.pgm "a %d: (b)'/-d %d/Warm_Red.pgm"
   [ "$("$here/plates" --count three.pdf)" = 3 ] || wrong "--count"
   rm -r inks beside options
+}
+
+# The manual pages. Those of other packages that they speak of need not be there.
+try_pages() {
+  if ! there mandoc; then skip "manual pages" mandoc; return; fi
+  (cd "$top/man" && ! mandoc -Tlint ./*.[15] 2>/dev/null | grep -v 'referenced manual not found') || wrong "manual pages"
+  local one
+  for one in plates trap tiff look all farm watch; do [ -s "$top/man/press-$one.1" ] || wrong "no manual page of press-$one"; done
+  tried=$((tried + 1))
 }
 
 # A command that is stopped leaves nothing.
@@ -294,6 +307,12 @@ done
 # python3 itself, and no wrapper of it, which would begin anew each time.
 python=$(python3 -c 'import sys; print(sys.executable)')
 PATH=$(dirname "$python"):$PATH
+built=yes
+if [ ! -x "${TRAP_BIN:-$top/crates/trap/out}/trap" ]; then
+  # Nothing here may begin to build the program, which takes long.
+  built=no
+  export TRAP_BIN=/none
+fi
 rm -rf "$out"
 mkdir -p "$out/work"
 cd "$out/work"
@@ -309,7 +328,8 @@ try_outputs
 try_folders
 if there parallel && there inotifywait; then try_tools; else skip "missing tools" "parallel or inotifywait"; fi
 try_plates
+try_pages
 try_stopped
-if [ -x "${TRAP_BIN:-$top/crates/trap/out}/trap" ]; then try_traps; else skip "traps" "the program trap, which is not built"; fi
+if [ "$built" = yes ]; then try_traps; else skip traps "the program trap"; fi
 try_pictures
 printf 'press/test.sh: %d commands ended as they should\n' "$tried"

@@ -140,10 +140,15 @@ try_watch() {
   "$here/watch" "$hot" --settle 1 >"$out/watch.told" 2>"$out/watch.err" &
   watcher=$!
   for _ in {1..50}; do ! grep -q watching "$out/watch.err" || break; sleep 0.2; done
+  if ! grep -q watching "$out/watch.err"; then
+    say "watch: skipped, inotifywait does not watch here: $(tail -n 1 "$out/watch.err")"
+    kill "$watcher" 2>/dev/null || true
+    return 0
+  fi
   echo "no PDF" >"$hot/broken.pdf"
   { head -c 30000 "$label/label.pdf"; sleep 4; tail -c +30001 "$label/label.pdf"; } >"$hot/label.pdf" &
   cp "$label/label.pdf" "$out/moved.pdf" && mv "$out/moved.pdf" "$hot/moved.pdf"
-  for _ in {1..90}; do [ "$(wc -l <"$out/watch.told")" -lt 3 ] || break; sleep 1; done
+  for _ in {1..180}; do [ "$(wc -l <"$out/watch.told")" -lt 3 ] || break; sleep 1; done
   kill "$watcher"
   wait "$watcher" || true
   cat "$out/watch.told"

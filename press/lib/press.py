@@ -58,6 +58,9 @@ def warn(line):
 def run_command(main, text):
     """Calls main with the words, and ends with its status. `text` is what --help prints."""
     words = sys.argv[1:]
+    for stream in (sys.stdout, sys.stderr):
+        # A file's name may be no UTF-8.
+        stream.reconfigure(errors="surrogateescape")
     for stop in (signal.SIGTERM, signal.SIGHUP):
         # What was begun is cleared away on the way out.
         signal.signal(stop, lambda number, _: sys.exit(128 + number))
@@ -158,8 +161,10 @@ def program(name):
         raise Refusal(NO_TOOL, f"the program {name} is not there: no {os.path.join(where, name)}")
     built = os.path.join(top, "crates", name, "out", name)
     if os.path.isdir(os.path.join(top, "crates", name)) and is_program(os.path.join(top, name)):
-        # Without words the launcher builds the program where need be, saying so, and the program ends at once.
-        subprocess.run([os.path.join(top, name)], stdin=subprocess.DEVNULL, stdout=subprocess.DEVNULL, check=False)
+        # Without words the launcher builds the program where need be, saying so, and the program ends at once with its usage.
+        done = subprocess.run([os.path.join(top, name)], stdin=subprocess.DEVNULL, stdout=subprocess.DEVNULL, check=False)
+        if done.returncode != USAGE:
+            raise Refusal(NO_TOOL, f"the program {name} could not be built")
     for place in (built, os.path.join(os.path.dirname(os.path.dirname(top)), "bin", name), shutil.which(name)):
         if place and is_program(place):
             return place
