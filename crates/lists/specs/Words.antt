@@ -29,6 +29,7 @@ list_below f (suc n) = list_below f n ++ f n ∷ []
 abbrev pub gap : ℕ → ℕ → ℕ
 gap a b = (a - b) + (b - a)
 
+-- a number times itself
 abbrev pub square : ℕ → ℕ
 square n = n * n
 
@@ -49,6 +50,7 @@ pub record IsFirstLeast (rank : ℕ → ℕ) (test : ℕ → Bool) (n k : ℕ) :
   pub least : (j : ℕ) → j < n → test j ≡ true → rank k ≤ rank j
   pub first : (j : ℕ) → j < k → test j ≡ true → rank k < rank j
 
+-- the first of two answers that there is
 abbrev pub or_else : {X : Type 0} → Option X → Option X → Option X
 or_else None later = later
 or_else (Some x) later = Some x

@@ -77,7 +77,8 @@ impl<T> List<T> {
 
     /// Adds the item at the end. Where memory is wanting it hands the item back and changes nothing.
     pub fn push(&mut self, item: T) -> Result<(), T>
-        ensures pushed { MatchResult result (λ _. self.new ≡ self.old ++ item ∷ []) (λ back. (back ≡ item) × (self.new ≡ self.old)) }
+        ensures pushed { MatchResult result (λ _. self.new ≡ self.old ++ item ∷ [])
+            (λ back. (back ≡ item) × (self.new ≡ self.old)) }
     {
         match self.items.push(item) {
             Ok(()) => Ok(()),
@@ -87,7 +88,8 @@ impl<T> List<T> {
 
     /// Takes the last item out, or answers `None` exactly where there is none.
     pub fn pop(&mut self) -> Option<T>
-        ensures popped { MatchOption result ((self.old ≡ []) × (self.new ≡ [])) (λ last. self.old ≡ self.new ++ last ∷ []) }
+        ensures popped { MatchOption result ((self.old ≡ []) × (self.new ≡ []))
+            (λ last. self.old ≡ self.new ++ last ∷ []) }
     {
         self.items.pop()
     }
@@ -104,7 +106,8 @@ impl<T> List<T> {
     /// The item at a place, to be changed where it stands.
     pub fn item_mut(&mut self, place: usize) -> &mut T
         requires { place < length self.old }
-        ensures* changes { sem 𝓛 (Lends (the_row T.row) T.row self.entry result (slice_set self.old place)) }
+        ensures* changes { sem 𝓛
+            (Lends (the_row T.row) T.row self.entry result (slice_set self.old place)) }
         ensures item { slice_get self.old place ≡ Some result.now }
     {
         &mut self.items[place]

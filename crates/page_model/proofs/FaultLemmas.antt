@@ -10,7 +10,8 @@ use Rattle.page_model.specs.Reach.{zone_reach}
 use Rattle.lists.specs.Words.{or_else, first_some}
 use Rattle.lists.proofs.FirstSome.{some_is_none, both_none, each_none, all_none}
 
-agrees_from : (page : PageParts) (c : ℕ) → difference page c ≡ None → Agrees page c
+-- a plate without a difference agrees with the page
+pub agrees_from : (page : PageParts) (c : ℕ) → difference page c ≡ None → Agrees page c
 agrees_from page c h =
     let plane = plane_at page.planes c in
     elim (cases_Bool ((plane.width == width page) && (plane.height == height page))) [
@@ -22,13 +23,13 @@ agrees_from page c h =
       | inr other ↦ absurd (some_is_none (SizeDiffers c) (rw other at h))
     ]
 
-few_from : (page : PageParts) → too_many page ≡ None → width page * height page * plates page ≤ 160000000
+pub few_from : (page : PageParts) → too_many page ≡ None → width page * height page * plates page ≤ 160000000
 few_from page h = elim (cases_Bool (nat_lt 160000000 (width page * height page * plates page))) [
   | inl t ↦ absurd (some_is_none TooManySamples (rw t at h))
   | inr f ↦ omega (arith, ltb-false _ _ f)
 ]
 
-near_from : (page : PageParts) (z : ℕ) → too_wide page z ≡ None → zone_reach page z ≤ 256
+pub near_from : (page : PageParts) (z : ℕ) → too_wide page z ≡ None → zone_reach page z ≤ 256
 near_from page z h = elim (cases_Bool (nat_lt 256 (zone_reach page z))) [
   | inl t ↦ absurd (some_is_none (ReachTooWide z) (rw t at h))
   | inr f ↦ omega (arith, ltb-false _ _ f)

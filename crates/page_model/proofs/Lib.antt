@@ -12,3 +12,8 @@ pub mod FaultLemmas
 pub mod ReachLemmas
 pub mod ColumnDecider
 pub mod ReachLaws
+pub mod TrappedPlanes
+pub mod SubpathLemmas
+pub mod BandLemmas
+pub mod MarkLemmas
+pub mod TintLemmas

@@ -23,6 +23,7 @@ abbrev pub offset_code : ℕ → Option ℕ → ℕ
 offset_code y None = 0
 offset_code y (Some y2) = y2 + 257 - 2 * y
 
+-- the answer of a doubled column at row y, as the code writes it
 unfoldable pub column_answer : PageParts → ℕ → ℕ → ℕ → ℕ
 column_answer page reach x2 y = offset_code y (column_edge page reach x2 y)
 
@@ -36,6 +37,7 @@ pub record AreMarks (page : PageParts) (m : Marked) : Type 0 where
 abbrev pub halo : ℕ → ℕ
 halo reach = (reach + 1) / 2
 
+-- the marks of a row are held
 pub record HoldsRow (m : Marked) (row : ℕ) : Type 0 where
   pub from : m.top ≤ row
   pub to : row < m.top + held_rows m
@@ -46,10 +48,12 @@ pub record CoverRows (page : PageParts) (m : Marked) (first rows reach : ℕ) : 
   pub asked : first + rows ≤ height page
   pub near : (row : ℕ) → row < height page → first ≤ row + halo reach → row < first + rows + halo reach → HoldsRow m row
 
+-- whether a column has an edge
 abbrev pub is_answer : Option ℕ → Bool
 is_answer None = false
 is_answer (Some y2) = true
 
+-- the Y of a column's edge, 0 for none
 abbrev pub answer_or_0 : Option ℕ → ℕ
 answer_or_0 None = 0
 answer_or_0 (Some y2) = y2

@@ -9,15 +9,16 @@ use Rattle.page_model.specs.declared.parts.Zone.{Zone}
 use Rattle.page_model.specs.Page.{plates, width, height, maxval, params_at, path_at}
 use Rattle.page_model.specs.Planes.{plane_at}
 use Rattle.page_model.specs.Reach.{zone_reach}
+use Rattle.page_model.specs.Limits.{most_coordinate, most_maxval, most_plates, most_reach, most_resolution, most_samples, most_side, most_vertices, most_vertices_in_all, most_zones, scale}
 
 -- a plane within the limits, with a tint for each of its samples
 pub record IsPlane (plane : Plane) : Type 0 where
   pub some_width : 1 ≤ plane.width
-  pub narrow : plane.width ≤ 16384
+  pub narrow : plane.width ≤ most_side
   pub some_height : 1 ≤ plane.height
-  pub low : plane.height ≤ 16384
+  pub low : plane.height ≤ most_side
   pub some_maxval : 1 ≤ plane.maxval
-  pub maxval_fits : plane.maxval ≤ 65535
+  pub maxval_fits : plane.maxval ≤ most_maxval
   pub full : length plane.tints ≡ plane.width * plane.height
   pub below : All (λ tint. tint ≤ plane.maxval) plane.tints
 
@@ -32,33 +33,35 @@ pub record InRange (params : TrapParams) : Type 0 where
   pub width : params.trap_width ≤ 1000000
   pub some_factor : 1 ≤ params.black_width
   pub factor : params.black_width ≤ 100000
-  pub color : params.black_color_limit ≤ 10000
+  pub color : params.black_color_limit ≤ scale
   pub some_density : 10 ≤ params.black_density_limit
   pub density : params.black_density_limit ≤ 100000
-  pub step : params.step_limit ≤ 10000
-  pub sliding : params.sliding_trap_limit ≤ 10000
-  pub scaling : params.trap_color_scaling ≤ 10000
+  pub step : params.step_limit ≤ scale
+  pub sliding : params.sliding_trap_limit ≤ scale
+  pub scaling : params.trap_color_scaling ≤ scale
 
 -- a vertex at most a million points from the origin in x and in y
 pub record IsVertex (vertex : Vertex) : Type 0 where
-  pub x_near : nat_abs vertex.x ≤ 10000000000
-  pub y_near : nat_abs vertex.y ≤ 10000000000
+  pub x_near : nat_abs vertex.x ≤ most_coordinate
+  pub y_near : nat_abs vertex.y ≤ most_coordinate
 
 -- a path that has a vertex begins a subpath with it
 abbrev pub begins : List Vertex → Bool
 begins [] = true
 begins (v ∷ vs) = v.starts
 
+-- a path begins with a start, has few enough vertices, and each is near enough
 pub record IsPath (path : List Vertex) : Type 0 where
   pub begun : begins path ≡ true
-  pub few : length path ≤ 4096
+  pub few : length path ≤ most_vertices
   pub near : All IsVertex path
 
 -- each colorant has one step limit at most
 pub record AreLimits (limits : List Limit) : Type 0 where
   pub once : AllPairs (λ (a b : Limit). a.name ≢ b.name) limits
-  pub steps : All (λ (l : Limit). l.step ≤ 10000) limits
+  pub steps : All (λ (l : Limit). l.step ≤ scale) limits
 
+-- a zone whose parts are in range
 pub record IsZone (zone : Zone) : Type 0 where
   pub params : InRange zone.params
   pub path : IsPath zone.path
@@ -67,16 +70,16 @@ pub record IsZone (zone : Zone) : Type 0 where
 -- what a page may be made of; zone 0 is what no path covers
 pub record IsParts (page : PageParts) : Type 0 where
   pub some_plates : 1 ≤ plates page
-  pub few_plates : plates page ≤ 16
+  pub few_plates : plates page ≤ most_plates
   pub one_ink_each : length page.inks ≡ plates page
   pub some_zones : 1 ≤ length page.zones
-  pub few_zones : length page.zones ≤ 251
+  pub few_zones : length page.zones ≤ most_zones
   pub planes_in_range : All IsPlane page.planes
   pub inks_in_range : All IsInk page.inks
   pub zones_in_range : All IsZone page.zones
   pub zone_0 : path_at page 0 ≡ []
-  pub few_vertices : sum_by (λ (z : Zone). length z.path) page.zones ≤ 16384
-  pub fine : page.resolution ≤ 10000
+  pub few_vertices : sum_by (λ (z : Zone). length z.path) page.zones ≤ most_vertices_in_all
+  pub fine : page.resolution ≤ most_resolution
   pub resolved : page.resolution ≡ 0 → (length page.zones ≡ 1) × ((params_at page 0).enabled ≡ false)
 
 -- plate c is as wide and high and deep as plate 0
@@ -89,5 +92,5 @@ pub record Agrees (page : PageParts) (c : ℕ) : Type 0 where
 pub record IsPage (page : PageParts) : Type 0 where
   pub parts : IsParts page
   pub agree : (c : ℕ) → c < plates page → Agrees page c
-  pub few_samples : width page * height page * plates page ≤ 160000000
-  pub near : (z : ℕ) → z < length page.zones → zone_reach page z ≤ 256
+  pub few_samples : width page * height page * plates page ≤ most_samples
+  pub near : (z : ℕ) → z < length page.zones → zone_reach page z ≤ most_reach

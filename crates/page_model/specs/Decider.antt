@@ -12,9 +12,11 @@ use Rattle.lists.specs.Words.{first_least}
 abbrev pub grid_rows : PageParts → ℕ
 grid_rows page = 2 * height page - 1
 
+-- how many points the doubled grid has
 abbrev pub grid_points : PageParts → ℕ
 grid_points page = (2 * width page - 1) * grid_rows page
 
+-- the point of a number, column after column from the left, each from the top
 abbrev pub grid_point : PageParts → ℕ → EdgeAt
 grid_point page k = record { x2 = k / grid_rows page; y2 = k % grid_rows page }
 

@@ -27,6 +27,7 @@ shuts Normal = false
 shuts Transparent = false
 shuts Opaque = false
 
+-- whether plate c's ink counts
 abbrev pub plate_counts : PageParts → ℕ → Bool
 plate_counts page c = counts (ink_at page c).kind
 

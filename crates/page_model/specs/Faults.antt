@@ -6,6 +6,7 @@ use Rattle.page_model.specs.Page.{plates, width, height, maxval}
 use Rattle.page_model.specs.Planes.{plane_at}
 use Rattle.page_model.specs.Reach.{zone_reach}
 use Rattle.lists.specs.Words.{first_some, or_else}
+use Rattle.page_model.specs.Limits.{most_reach, most_samples}
 
 -- where plate c differs from plate 0: in a side, or in the maxval alone
 abbrev pub difference : PageParts → ℕ → Option PageFault
@@ -15,11 +16,11 @@ difference page c =
 
 -- more samples in all plates together than a page may have
 abbrev pub too_many : PageParts → Option PageFault
-too_many page = if nat_lt 160000000 (width page * height page * plates page) then Some TooManySamples else None
+too_many page = if nat_lt most_samples (width page * height page * plates page) then Some TooManySamples else None
 
 -- an enabled zone that would trap over more than 256 half-samples
 abbrev pub too_wide : PageParts → ℕ → Option PageFault
-too_wide page z = if nat_lt 256 (zone_reach page z) then Some (ReachTooWide z) else None
+too_wide page z = if nat_lt most_reach (zone_reach page z) then Some (ReachTooWide z) else None
 
 -- the first fault of the parts, in the order in which faults are judged
 abbrev pub page_fault : PageParts → Option PageFault

@@ -1,9 +1,11 @@
+pub mod Limits
 pub mod Planes
 pub mod Page
 pub mod Reach
 pub mod Faults
 pub mod Conditions
 pub mod Zones
+pub mod Subpaths
 pub mod Density
 pub mod Apart
 pub mod Edges
@@ -18,3 +20,4 @@ pub mod Columns
 pub mod ReachLaw
 pub mod Arms
 pub mod Laws
+pub mod Bands

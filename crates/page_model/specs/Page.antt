@@ -14,9 +14,11 @@ use Rattle.page_model.specs.Planes.{plane_at}
 abbrev pub no_ink : Ink
 no_ink = record { name = []; density = 0; kind = Transparent }
 
+-- the parameters of no zone
 abbrev pub no_params : TrapParams
 no_params = record { trap_width = 0; black_width = 0; black_color_limit = 0; black_density_limit = 0; step_limit = 0; sliding_trap_limit = 0; trap_color_scaling = 0; enabled = false }
 
+-- what stands past the last zone
 abbrev pub no_zone : Zone
 no_zone = record { params = no_params; path = []; limits = [] }
 
@@ -28,21 +30,27 @@ plates page = length page.planes
 abbrev pub width : PageParts → ℕ
 width page = (plane_at page.planes 0).width
 
+-- the rows of a page
 abbrev pub height : PageParts → ℕ
 height page = (plane_at page.planes 0).height
 
+-- the tint of full ink
 abbrev pub maxval : PageParts → ℕ
 maxval page = (plane_at page.planes 0).maxval
 
+-- the ink of plate c
 abbrev pub ink_at : PageParts → ℕ → Ink
 ink_at page c = slice_index_or page.inks c no_ink
 
+-- zone z
 abbrev pub zone_at : PageParts → ℕ → Zone
 zone_at page z = slice_index_or page.zones z no_zone
 
+-- the parameters of zone z
 abbrev pub params_at : PageParts → ℕ → TrapParams
 params_at page z = (zone_at page z).params
 
+-- the path of zone z
 abbrev pub path_at : PageParts → ℕ → List Vertex
 path_at page z = (zone_at page z).path
 
@@ -55,9 +63,11 @@ pub record InPage (page : PageParts) (p : At) : Type 0 where
 abbrev pub samples : PageParts → ℕ
 samples page = width page * height page
 
+-- the place of a sample in the list of its plate
 abbrev pub place : PageParts → At → ℕ
 place page p = p.y * width page + p.x
 
+-- the sample of a place
 abbrev pub sample_at : PageParts → ℕ → At
 sample_at page k = record { x = k % width page; y = k / width page }
 
@@ -65,6 +75,7 @@ sample_at page k = record { x = k % width page; y = k / width page }
 abbrev pub tint : PageParts → ℕ → At → ℕ
 tint page c p = slice_index (plane_at page.planes c).tints (place page p)
 
+-- a step that limits name, else the usual one
 abbrev pub step_or : Option Limit → ℕ → ℕ
 step_or None usual = usual
 step_or (Some l) usual = l.step

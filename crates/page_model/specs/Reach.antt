@@ -3,10 +3,11 @@ use Rattle.page_model.specs.declared.parts.PageParts.{PageParts}
 use Rattle.page_model.specs.declared.parts.TrapParams.{TrapParams}
 use Rattle.page_model.specs.Page.{params_at}
 use Rattle.lists.specs.Words.{greatest_below}
+use Rattle.page_model.specs.Limits.{half_sample, scale}
 
 -- the widest trap of the parameters in whole half-samples: the trap width, or with the black width where that is more
 abbrev pub params_reach : ℕ → TrapParams → ℕ
-params_reach resolution params = (params.trap_width * max params.black_width 10000 * resolution) / 3600000000
+params_reach resolution params = (params.trap_width * max params.black_width scale * resolution) / half_sample
 
 -- a disabled zone reaches nowhere
 abbrev pub zone_reach : PageParts → ℕ → ℕ

@@ -10,11 +10,13 @@ use Rattle.page_model.specs.Edges.{across}
 use Rattle.page_model.specs.Trapped.{trapped_in}
 use Rattle.lists.specs.Words.{list_below}
 use Rattle.page_model.specs.Zones.{zone_of}
+use Rattle.page_model.specs.Limits.{scale}
 
 -- the tint of plate c where the inks of both sides lie one over the other
 abbrev pub full : PageParts → At → EdgeAt → ℕ → ℕ
 full page p e c = if spreads (ink_at page c).kind then max (tint page c p) (tint page c (across p e)) else tint page c p
 
+-- the density of a sample's full tints
 abbrev pub full_density : PageParts → At → EdgeAt → ℕ
 full_density page p e = density_of page (full page p e)
 
@@ -23,12 +25,13 @@ abbrev pub scaled_in : PageParts → ℕ → At → EdgeAt → ℕ → ℕ
 scaled_in page z p e c =
     let here = density page p in
     let there = full_density page p e in
-    (full page p e c * (here * 10000 + (params_at page z).trap_color_scaling * (there - here))) / (there * 10000)
+    (full page p e c * (here * scale + (params_at page z).trap_color_scaling * (there - here))) / (there * scale)
 
 -- the new tint of plate c at p, which lies in zone z, with e as its decider
 unfoldable pub new_in : PageParts → ℕ → At → EdgeAt → ℕ → ℕ
 new_in page z p e c = if trapped_in page z p e && spreads (ink_at page c).kind then scaled_in page z p e c else tint page c p
 
+-- the new tint of plate c where e is the decider, by the zone of the sample
 abbrev pub new_by : PageParts → At → EdgeAt → ℕ → ℕ
 new_by page p e c = new_in page (zone_of page p) p e c
 

@@ -14,6 +14,7 @@ use Rattle.page_model.specs.Zones.{zone_of}
 unfoldable pub trapped_in : PageParts → ℕ → At → EdgeAt → Bool
 trapped_in page z p e = not (shut page p) && (params_at page z).enabled && within_in page z p e && apart page z p (across p e) && (edge_slid page (params_at page z) e || nat_lt (density page (across p e)) (density page (own p e)))
 
+-- whether a sample is trapped at an edge, by the zone of the sample
 abbrev pub trapped : PageParts → At → EdgeAt → Bool
 trapped page p e = trapped_in page (zone_of page p) p e
 

@@ -8,6 +8,7 @@ use Rattle.page_model.specs.Density.{plate_counts, density}
 use Rattle.page_model.specs.Edges.{first, second, d2}
 use Rattle.lists.specs.Words.{any_below, square}
 use Rattle.page_model.specs.Zones.{zone_of}
+use Rattle.page_model.specs.Limits.{half_sample, scale}
 
 -- the density of the edge's lighter side
 abbrev pub low : PageParts → EdgeAt → ℕ
@@ -19,15 +20,17 @@ high page e = max (density page (first e)) (density page (second e))
 
 -- densities so near that the trap slides to the middle of the edge
 abbrev pub slid : TrapParams → ℕ → ℕ → Bool
-slid params less more = nat_le (params.sliding_trap_limit * more) (less * 10000)
+slid params less more = nat_le (params.sliding_trap_limit * more) (less * scale)
 
+-- whether an edge is slid, by its samples' densities
 abbrev pub edge_slid : PageParts → TrapParams → EdgeAt → Bool
 edge_slid page params e = slid params (low page e) (high page e)
 
 -- plate c counts as black at the sample: a dark enough ink with tint enough
 abbrev pub black_plate : PageParts → TrapParams → At → ℕ → Bool
-black_plate page params p c = plate_counts page c && nat_le params.black_density_limit (ink_at page c).density && nat_lt 0 (tint page c p) && nat_le (params.black_color_limit * maxval page) (tint page c p * 10000)
+black_plate page params p c = plate_counts page c && nat_le params.black_density_limit (ink_at page c).density && nat_lt 0 (tint page c p) && nat_le (params.black_color_limit * maxval page) (tint page c p * scale)
 
+-- whether some plate makes a sample black
 abbrev pub black_sample : PageParts → TrapParams → At → Bool
 black_sample page params p = any_below (black_plate page params p) (plates page)
 
@@ -39,9 +42,10 @@ black page params e = ((density page (first e) == high page e) && black_sample p
 unfoldable pub within_in : PageParts → ℕ → At → EdgeAt → Bool
 within_in page z p e =
     let params = params_at page z in
-    let factor = (if black page params e then params.black_width else 10000) in
+    let factor = (if black page params e then params.black_width else scale) in
     let parts = (if edge_slid page params e then 2 else 1) in
-    nat_le (d2 p e * square (3600000000 * parts)) (square (params.trap_width * factor * page.resolution))
+    nat_le (d2 p e * square (half_sample * parts)) (square (params.trap_width * factor * page.resolution))
 
+-- whether an edge is near enough to trap a sample, by the zone of the sample
 abbrev pub within : PageParts → At → EdgeAt → Bool
 within page p e = within_in page (zone_of page p) p e

@@ -4,6 +4,7 @@ use Rattle.page_model.specs.declared.parts.At.{At}
 use Rattle.page_model.specs.declared.parts.PageParts.{PageParts}
 use Rattle.page_model.specs.declared.parts.Vertex.{Vertex}
 use Rattle.page_model.specs.Page.{width, height, path_at}
+use Rattle.page_model.specs.Limits.{scale}
 
 -- a point of the page from its lower left corner, in ten-thousandths of a 72nd of an inch times the resolution; a sample is 720000 wide
 pub record Point : Type 0 where
@@ -12,7 +13,7 @@ pub record Point : Type 0 where
 
 -- the middle of a sample
 abbrev pub centre : PageParts → At → Point
-centre page p = record { px = pos ((2 * p.x + 1) * 360000); py = pos ((2 * (height page - p.y) - 1) * 360000) }
+centre page p = record { px = pos ((2 * p.x + 1) * (36 * scale)); py = pos ((2 * (height page - p.y) - 1) * (36 * scale)) }
 
 -- where a vertex stands
 abbrev pub corner : ℕ → Vertex → Point

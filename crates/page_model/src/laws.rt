@@ -1,15 +1,20 @@
 // Laws over the definitions: each function does nothing, and its contract is the law.
 
-ghost use Rattle.std.specs.Prelude.{◌≡◌, ◌<◌, ◌≤◌, ℕ, true, IfSome, None};
+ghost use Rattle.std.specs.Prelude.{◌≡◌, ◌*◌, ◌<◌, ◌≤◌, ℕ, List, true, IfSome, None};
+ghost use Rattle.std.specs.List.{All};
+ghost use Rattle.page_model.specs.declared.parts.Vertex.{Vertex};
 ghost use Rattle.page_model.specs.Apart.{apart};
+ghost use Rattle.page_model.specs.Conditions.{IsPlane};
 ghost use Rattle.page_model.specs.Decider.{decider, IsDecider, NoneDecides};
 ghost use Rattle.page_model.specs.Density.{density};
 ghost use Rattle.page_model.specs.Faults.{page_fault};
 ghost use Rattle.page_model.specs.Laws.{IsZoneOf, Keeps, KeepsUnlessWithin};
 ghost use Rattle.page_model.specs.ReachLaw.{NoneWithin, ReachLaw, TrapsByColumns};
-ghost use Rattle.page_model.specs.Tints.{full_density};
+ghost use Rattle.page_model.specs.Limits.{most_samples};
+ghost use Rattle.page_model.specs.Subpaths.{SubpathLaw, SubpathsLaw};
+ghost use Rattle.page_model.specs.Tints.{full_density, trapped_planes};
 ghost use Rattle.page_model.specs.Trapped.{trapped_in};
-ghost use Rattle.page_model.specs.Zones.{zone_of};
+ghost use Rattle.page_model.specs.Zones.{centre, zone_of};
 
 use crate::page::Page;
 use crate::parts::{At, EdgeAt};
@@ -24,6 +29,17 @@ pub fn faultless_law(page: &Page)
 /// The zone of a sample is the last one whose path winds round it, and zone 0 where there is none.
 pub fn zone_law(page: &Page, p: At)
     ensures { IsZoneOf page.now p (zone_of page.now p) }
+{
+    let _valid = page.plates();
+}
+
+/// A closed subpath winds round a sample's middle by the sum of the turns of its segments, the one from its last vertex
+/// back to its start among them; and subpaths one after another wind as often as the sum of theirs.
+pub fn winding_law(page: &Page, p: At)
+    ensures subpath { (start : Vertex) → (vs : List Vertex)
+        → SubpathLaw page.now.resolution (centre page.now p) start vs }
+    ensures subpaths { (earlier later : List Vertex)
+        → SubpathsLaw page.now.resolution (centre page.now p) earlier later }
 {
     let _valid = page.plates();
 }
@@ -47,7 +63,8 @@ pub fn decider_law(page: &Page, p: At)
 /// A sample's full tints are at least as dense as its tints, and those of a trapped sample have a density above 0.
 pub fn full_density_law(page: &Page, p: At, e: EdgeAt)
     ensures grows { density page.now p ≤ full_density page.now p e }
-    ensures some { (z : ℕ) → trapped_in page.now z p e ≡ true → 0 < full_density page.now p e }
+    ensures some { (z : ℕ) → trapped_in page.now z p e ≡ true
+        → 0 < full_density page.now p e }
 {
     let _valid = page.plates();
 }
@@ -64,6 +81,16 @@ pub fn locality_law(page: &Page, p: At)
 /// deciding edge is within of the sample, if its zone is enabled.
 pub fn reach_law(page: &Page, p: At)
     ensures { ReachLaw page.now p }
+{
+    let _valid = page.plates();
+}
+
+/// The planes of a page after trapping are in range: each new tint is at most the maxval, and no plane has more samples
+/// than a page may have.
+pub fn trapped_planes_law(page: &Page)
+    ensures planes { All IsPlane (trapped_planes page.now) }
+    ensures samples { All (λ plane. plane.width * plane.height ≤ most_samples)
+        (trapped_planes page.now) }
 {
     let _valid = page.plates();
 }

@@ -2,6 +2,8 @@
 #![tactic(auto)]
 
 pub mod arms;
+pub mod bands;
+pub mod bounds;
 pub mod edges;
 pub mod laws;
 pub mod limits;

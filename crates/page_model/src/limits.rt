@@ -17,7 +17,8 @@ fn is_named(name: &[u8], names: &NameList) -> bool
 
 /// Drops the limits of all names that are not in the list, and keeps the others in their order. It takes no memory.
 pub fn keep(limits: &mut LimitList, names: &NameList)
-    ensures { limits.new ≡ filter (λ l. list_any (λ n. bytes_eq n l.name) names.now) limits.old }
+    ensures { limits.new
+        ≡ filter (λ l. list_any (λ n. bytes_eq n l.name) names.now) limits.old }
 {
     limits.retain(|limit| is_named(limit.name.as_slice(), names))
 }

@@ -2,10 +2,12 @@ ghost use Rattle.std.specs.Prelude.{◌≡◌, ◌<◌, ◌≤◌, length, find,
 ghost use Rattle.std.specs.Str.{bytes_eq};
 ghost use Rattle.page_model.specs.Conditions.{IsParts, IsPage};
 ghost use Rattle.page_model.specs.Faults.{difference, too_many, too_wide, page_fault};
+ghost use Rattle.page_model.specs.Limits.{most_reach};
 ghost use Rattle.page_model.specs.Page.{plates, width, height, maxval, tint, ink_at, params_at, path_at, InPage, named_step, step_limit};
 ghost use Rattle.page_model.specs.Reach.{page_reach};
 ghost use Rattle.lists.specs.Words.{or_else, first_some};
 
+use crate::bounds::{MOST_REACH, MOST_SAMPLES};
 use crate::parts::{Ink, Limit, PageParts, PlaneList, TrapParams, VertexList};
 use crate::reach::reach_at;
 use lists::names::same_name;
@@ -90,7 +92,7 @@ fn excess(parts: &PageParts) -> Option<PageFault>
     let planes = parts.planes.as_slice();
     let first = &planes[0];
     let samples = u64::from(first.width) * u64::from(first.height) * planes.len() as u64;
-    if samples > 160_000_000 {
+    if samples > MOST_SAMPLES {
         Some(PageFault::TooManySamples)
     } else {
         None
@@ -102,7 +104,7 @@ fn width_fault(parts: &PageParts, z: u32) -> Option<PageFault>
     requires zone { z < length parts.now.zones }
     ensures { result ≡ too_wide parts.now z }
 {
-    if reach_at(parts, z) > 256 {
+    if reach_at(parts, z) > MOST_REACH {
         Some(PageFault::ReachTooWide(z))
     } else {
         None
@@ -209,7 +211,7 @@ impl Page {
     #[tactic(auto, unfolding(crate::specs::Reach::page_reach))]
     pub fn reach2(&self) -> u32
         ensures value { result ≡ page_reach self.now }
-        ensures bound { result ≤ 256 }
+        ensures bound { result ≤ most_reach }
         ensures valid { IsPage self.now }
     {
         let mut reach = 0;

@@ -1,18 +1,20 @@
 ghost use Rattle.std.specs.Prelude.{◌≡◌, ◌≤◌, ◌<◌, length};
 ghost use Rattle.page_model.specs.Conditions.{InRange, IsParts};
+ghost use Rattle.page_model.specs.Limits.{most_resolution};
 ghost use Rattle.page_model.specs.Reach.{params_reach, zone_reach};
 
+use crate::bounds::{HALF_SAMPLE, SCALE};
 use crate::parts::{PageParts, TrapParams};
 
 /// The reach of an enabled zone in half-samples.
 fn reach_of(params: &TrapParams, resolution: u32) -> u32
     requires params { InRange params.now }
-    requires resolution { resolution ≤ 10000 }
+    requires resolution { resolution ≤ most_resolution }
     ensures { result ≡ params_reach resolution params.now }
 {
-    let factor = params.black_width.max(10_000);
+    let factor = params.black_width.max(SCALE);
     let width = u64::from(params.trap_width) * u64::from(factor) * u64::from(resolution);
-    (width / 3_600_000_000) as u32
+    (width / HALF_SAMPLE) as u32
 }
 
 /// The reach of a zone in half-samples, 0 where it is disabled.

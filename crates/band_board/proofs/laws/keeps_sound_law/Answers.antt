@@ -1,0 +1,5 @@
+use Rattle.band_board.proofs.Runs.{sound_after}
+use Rattle.band_board.proofs.laws.keeps_sound_law.Goals as goal
+
+pub returns : goal.returns
+returns c = λ k ok defined board r event range fits t. sound_after k ok defined board r event range fits t

@@ -1,0 +1,5 @@
+use Rattle.band_board.proofs.TableWords.{opening_words}
+use Rattle.band_board.proofs.laws.opening_words_law.Goals as goal
+
+pub returns : goal.returns
+returns c = opening_words

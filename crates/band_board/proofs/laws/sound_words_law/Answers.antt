@@ -1,0 +1,8 @@
+use Rattle.band_board.proofs.TableWords.{sound_words, words_kept}
+use Rattle.band_board.proofs.laws.sound_words_law.Goals as goal
+
+pub returns-clause-words : goal.returns-clause-words
+returns-clause-words c = words_kept
+
+pub returns-clause-sound : goal.returns-clause-sound
+returns-clause-sound c = sound_words

@@ -1,0 +1,5 @@
+pub mod Shapes
+pub mod Boards
+pub mod Runs
+pub mod Stuck
+pub mod TableWords

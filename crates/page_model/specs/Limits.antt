@@ -1,0 +1,55 @@
+-- The numbers that the rule and the limits of a page are stated with, each once.
+use Rattle.std.specs.Prelude.{ℕ}
+
+-- 1 in ten-thousandths, in which a job's numbers are held
+abbrev pub scale : ℕ
+scale = 10000
+
+-- 36 times the square of the scale: a width times a factor times a resolution, each in ten-thousandths, of one half-sample.
+-- A point is a 72nd of an inch, and a half-sample half of an inch cut by the resolution
+abbrev pub half_sample : ℕ
+half_sample = 3600000000
+
+-- the samples of a side
+abbrev pub most_side : ℕ
+most_side = 16384
+
+-- the samples of all plates of a page together
+abbrev pub most_samples : ℕ
+most_samples = 160000000
+
+-- the greatest sample that two bytes hold
+abbrev pub most_maxval : ℕ
+most_maxval = 65535
+
+-- the plates of a page
+abbrev pub most_plates : ℕ
+most_plates = 16
+
+-- zone 0 and the zones that a job makes
+abbrev pub most_zones : ℕ
+most_zones = 251
+
+-- the vertices of one path, and of the paths of all zones together
+abbrev pub most_vertices : ℕ
+most_vertices = 4096
+
+-- the vertices of all zones together
+abbrev pub most_vertices_in_all : ℕ
+most_vertices_in_all = 16384
+
+-- a million points in ten-thousandths: how far from the origin a vertex may stand
+abbrev pub most_coordinate : ℕ
+most_coordinate = 10000000000
+
+-- pixels per inch
+abbrev pub most_resolution : ℕ
+most_resolution = 10000
+
+-- how far a trap may reach, in half-samples
+abbrev pub most_reach : ℕ
+most_reach = 256
+
+-- the rows of a band
+abbrev pub most_band_height : ℕ
+most_band_height = 4096

@@ -1,0 +1,5 @@
+use Rattle.row_cells.proofs.Places.{cells_fit}
+use Rattle.row_cells.proofs.laws.cells_fit_law.Goals as goal
+
+pub returns : goal.returns
+returns c = cells_fit

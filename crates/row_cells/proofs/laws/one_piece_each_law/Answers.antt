@@ -1,0 +1,8 @@
+use Rattle.row_cells.proofs.Places.{owner, owner-is}
+use Rattle.row_cells.proofs.laws.one_piece_each_law.Goals as goal
+
+pub returns-clause-owner : goal.returns-clause-owner
+returns-clause-owner c = owner
+
+pub returns-clause-only : goal.returns-clause-only
+returns-clause-only c = owner-is

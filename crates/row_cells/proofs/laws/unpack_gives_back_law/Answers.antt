@@ -1,0 +1,5 @@
+use Rattle.row_cells.proofs.Lanes.{lane_packed}
+use Rattle.row_cells.proofs.laws.unpack_gives_back_law.Goals as goal
+
+pub returns : goal.returns
+returns c = lane_packed

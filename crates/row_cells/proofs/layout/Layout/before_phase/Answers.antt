@@ -1,0 +1,11 @@
+use Rattle.std.proofs.Common.{arith}
+use Rattle.row_cells.proofs.Places.{most_next}
+use Rattle.row_cells.proofs.layout.Layout.before_phase.Goals as goal
+
+pub loop-q-preserved : goal.loop-q-preserved
+loop-q-preserved c =
+    let few = c.requires.phase in let turn = c.loop-q-test.true in let end = c.loop-q.auto.q-end in
+    let next = most_next c.loop-q.q (omega (arith, few, turn, end)) in record {
+      so_far = omega (arith, c.loop-q.invariant.so_far, c.cells_of_phase-start.ensures.value);
+      bound = omega (arith, c.loop-q.invariant.bound, c.cells_of_phase-start.ensures.bound, next);
+    }

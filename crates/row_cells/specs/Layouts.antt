@@ -1,0 +1,17 @@
+use Rattle.std.specs.Prelude.{ℕ, ◌≤◌}
+use Rattle.page_model.specs.declared.bands.Bands.{Bands}
+use Rattle.page_model.specs.Bands.{AreBands}
+
+-- for pages of that width and so many plates, in these bands
+pub record Layout : Type 0 where
+  pub bands : Bands
+  pub width : ℕ
+  pub plates : ℕ
+
+-- bands of a page, and the ranges of a page's width and plates
+pub record IsLayout (layout : Layout) : Type 0 where
+  pub bands : AreBands layout.bands
+  pub some_width : 1 ≤ layout.width
+  pub narrow : layout.width ≤ 16384
+  pub some_plates : 1 ≤ layout.plates
+  pub few_plates : layout.plates ≤ 16

@@ -1,0 +1,4 @@
+pub mod Packing
+pub mod Layouts
+pub mod Places
+pub mod Most
