@@ -1,4 +1,3 @@
 pub mod Plates
-pub mod Range
 pub mod Steps
 mod Worked

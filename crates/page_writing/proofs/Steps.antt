@@ -1,11 +1,12 @@
 -- Files that are written one after another.
-use Rattle.std.proofs.Common.{◌≡◌, ◌⊎◌, inl, inr, ℕ, ◌+◌, ◌<◌, ◌≤◌, List, [], ◌∷◌, ◌++◌, length, get_or, take, Option, Some, None, Ok, Err, refl, sym, ap, ◌∙◌, subst, arith}
+use Rattle.std.proofs.Common.{◌≡◌, ◌⊎◌, inl, inr, ℕ, ◌+◌, ◌<◌, ◌≤◌, List, [], ◌∷◌, ◌++◌, length, get_or, take, Option, Some, None, Ok, Err, IsTrue, refl, sym, ap, ◌∙◌, subst, arith}
 use Rattle.std.proofs.lemmas.List.{append_assoc, append-nil, map-append, length-append}
 use Rattle.std.proofs.lemmas.Option.{same_Some}
 use Rattle.std.proofs.Math.Seq.{take-append_seam}
-use Rattle.outside.specs.Causes.{Asks}
+use Rattle.outside.specs.Causes.{Asks, AsksFront}
 use Rattle.outside.specs.Rack.{RackState, KeepsRack, put}
 use Rattle.outside.specs.Writing.{WritesFile}
+use Rattle.outside.proofs.Names.{asks_none, asks_then, asks_all, asks_before}
 use Rattle.outside.proofs.Steps.{kept_then, rose_before, told_on}
 use Rattle.page_model.specs.declared.parts.Plane.{Plane}
 use Rattle.pgm_plates.specs.Plates.{spelled}
@@ -13,23 +14,7 @@ use Rattle.pgm_plates.specs.Planes.{plate_of}
 use Rattle.trap_report.specs.declared.refusal.Refusal.{Refusal}
 use Rattle.trap_report.specs.declared.refusal.Refusal.TheVariants.{Write}
 use Rattle.page_writing.specs.Files.{Written, plate_files, page_files, names_of, put_all}
-use Rattle.page_writing.specs.Names.{AsksFront}
 use Rattle.page_writing.specs.Writing.{WritesAll, BreaksAt, WritesPage, WritesPlates}
-
-asks_none : (o : Option (List (List ℕ))) → Asks o o []
-asks_none None = tt
-asks_none (Some all) = (all, refl, sym (append-nil all))
-
-asks_then : (a m b : Option (List (List ℕ))) (xs ys : List (List ℕ)) → Asks a m xs → Asks m b ys → Asks a b (xs ++ ys)
-asks_then a m None xs ys one two = tt
-asks_then a None (Some all) xs ys one two = absurd (let e : None ≡ Some two.0 = two.1 in cc)
-asks_then a (Some mid) (Some all) xs ys one two =
-    let same : mid ≡ two.0 = same_Some mid two.0 two.1 in
-    (one.0, one.1, two.2 ∙ ap (λ (l : List (List ℕ)). l ++ ys) (sym same ∙ one.2) ∙ append_assoc one.0 xs ys)
-
-asks_front : (a b : Option (List (List ℕ))) (xs ys : List (List ℕ)) → Asks a b xs → AsksFront a b (xs ++ ys)
-asks_front a None xs ys one = tt
-asks_front a (Some all) xs ys one = (one.0, length xs, one.1, one.2 ∙ ap (λ (l : List (List ℕ)). one.0 ++ l) (sym (take-append_seam xs ys)))
 
 put_all_more : (files : List Written) (w : Written) (held : List ℕ → Option (List ℕ)) → put_all (files ++ w ∷ []) held ≡ put w.name w.bytes (put_all files held)
 put_all_more [] w held = refl
@@ -40,13 +25,15 @@ names_append files more = map-append (λ (f : Written). f.name) files more
 
 -- nothing is written
 pub wrote_none : (files : List Written) (a : RackState) → files ≡ [] → WritesAll files a a
-wrote_none files a none = subst (λ (fs : List Written). WritesAll fs a a) (sym none) (record { asked = asks_none a.asked; whole = λ tells. refl })
+wrote_none files a none = subst (λ (fs : List Written). WritesAll fs a a) (sym none) (record { asked = asks_none a.asked; whole = λ tells. refl; shut = λ some. absurd (omega arith); well = refl })
 
 -- one file more
 pub wrote_more : {T E : Type 0} (files : List Written) (w : Written) (a b c : RackState) (x : T) → KeepsRack a b → WritesAll files a b → WritesFile {T = T} {E = E} w.name w.bytes b c (Ok x) → WritesAll (files ++ w ∷ []) a c
 wrote_more files w a b c x keeps before now = record {
   asked = subst (λ (names : List (List ℕ)). Asks a.asked c.asked names) (sym (names_append files (w ∷ []))) (asks_then a.asked b.asked c.asked (names_of files) (w.name ∷ []) before.asked now.asked);
   whole = λ tells. now.files (told_on a b keeps tells) ∙ ap (put w.name w.bytes) (before.whole tells) ∙ sym (put_all_more files w a.file);
+  shut = λ some. now.shut;
+  well = now.well ∙ before.well;
 }
 
 -- a front of one file more, or none of it
@@ -80,20 +67,20 @@ breaks_before files more k a b broke = record {
   cause = broke.cause;
 }
 
-breaks_below : (files : List Written) (k : ℕ) (a b : RackState) → BreaksAt files k a b → k < length files
+pub breaks_below : (files : List Written) (k : ℕ) (a b : RackState) → BreaksAt files k a b → k < length files
 breaks_below files k a b broke =
     let long : length files ≡ length broke.earlier + length (broke.file ∷ broke.later) = ap length broke.all ∙ length-append broke.earlier (broke.file ∷ broke.later) in
     omega (arith, long, broke.place)
 
 -- the names up to the file that breaks are a front of all names
-breaks_front : (files : List Written) (k : ℕ) (a b : RackState) → BreaksAt files k a b → AsksFront a.asked b.asked (names_of files)
+pub breaks_front : (files : List Written) (k : ℕ) (a b : RackState) → BreaksAt files k a b → AsksFront a.asked b.asked (names_of files)
 breaks_front files k a b broke =
     let whole : names_of files ≡ (names_of broke.earlier ++ broke.file.name ∷ []) ++ names_of broke.later =
     ap names_of broke.all ∙ names_append broke.earlier (broke.file ∷ broke.later) ∙ sym (append_assoc (names_of broke.earlier) (broke.file.name ∷ []) (names_of broke.later)) in
-    subst (λ (names : List (List ℕ)). AsksFront a.asked b.asked names) (sym whole) (asks_front a.asked b.asked (names_of broke.earlier ++ broke.file.name ∷ []) (names_of broke.later) broke.asked)
+    subst (λ (names : List (List ℕ)). AsksFront a.asked b.asked names) (sym whole) (asks_before a.asked b.asked (names_of broke.earlier ++ broke.file.name ∷ []) (names_of broke.later) broke.asked)
 
-all_front : (files : List Written) (a b : RackState) → WritesAll files a b → AsksFront a.asked b.asked (names_of files)
-all_front files a b wrote = subst (λ (names : List (List ℕ)). AsksFront a.asked b.asked names) (append-nil (names_of files)) (asks_front a.asked b.asked (names_of files) [] wrote.asked)
+pub all_front : (files : List Written) (a b : RackState) → WritesAll files a b → AsksFront a.asked b.asked (names_of files)
+all_front files a b wrote = asks_all a.asked b.asked (names_of files) wrote.asked
 
 pub no_plates : (outputs : List (List ℕ)) → plate_files outputs [] ≡ []
 no_plates [] = refl
@@ -121,12 +108,30 @@ plates_length [] (p ∷ ps) less = let e : ⊥ = omega (arith, less) in absurd e
 plates_length (o ∷ os) [] less = refl
 plates_length (o ∷ os) (p ∷ ps) less = omega (arith, plates_length os ps (omega (arith, less)))
 
-plates_names : (outputs : List (List ℕ)) (planes : List Plane) → length planes ≡ length outputs → names_of (plate_files outputs planes) ≡ outputs
+pub plates_names : (outputs : List (List ℕ)) (planes : List Plane) → length planes ≡ length outputs → names_of (plate_files outputs planes) ≡ outputs
 plates_names [] planes same = refl
 plates_names (o ∷ os) [] same = let e : ⊥ = omega (arith, same) in absurd e
 plates_names (o ∷ os) (p ∷ ps) same = ap (λ (l : List (List ℕ)). o ∷ l) (plates_names os ps (omega (arith, same)))
 
-page_names : (outputs : List (List ℕ)) (planes : List Plane) (report text : List ℕ) → length planes ≡ length outputs → names_of (page_files outputs planes report text) ≡ outputs ++ report ∷ []
+-- all plates are written
+pub plates_written : {T : Type 0} (outputs : List (List ℕ)) (planes : List Plane) (a b : RackState) (x : T) → length planes ≡ length outputs → KeepsRack a b → (IsTrue a.tells → b.told ≡ a.told) → WritesAll (plate_files outputs planes) a b → WritesPlates {T = T} outputs planes a b (Ok x)
+plates_written outputs planes a b x same keeps told wrote = record {
+  keeps = keeps;
+  told = told;
+  asked = subst (λ (names : List (List ℕ)). AsksFront a.asked b.asked names) (plates_names outputs planes same) (all_front (plate_files outputs planes) a b wrote);
+  answer = wrote;
+}
+
+-- a plate breaks
+pub plate_broken : {T : Type 0} (outputs : List (List ℕ)) (planes : List Plane) (k : ℕ) (a b : RackState) → length planes ≡ length outputs → KeepsRack a b → (IsTrue a.tells → b.told ≡ a.told) → BreaksAt (plate_files outputs planes) k a b → WritesPlates {T = T} outputs planes a b (Err (Write (Some k)))
+plate_broken outputs planes k a b same keeps told broke = record {
+  keeps = keeps;
+  told = told;
+  asked = subst (λ (names : List (List ℕ)). AsksFront a.asked b.asked names) (plates_names outputs planes same) (breaks_front (plate_files outputs planes) k a b broke);
+  answer = (omega (arith, breaks_below (plate_files outputs planes) k a b broke, plates_length outputs planes (omega (arith, same)), same), broke);
+}
+
+pub page_names : (outputs : List (List ℕ)) (planes : List Plane) (report text : List ℕ) → length planes ≡ length outputs → names_of (page_files outputs planes report text) ≡ outputs ++ report ∷ []
 page_names outputs planes report text same = names_append (plate_files outputs planes) _ ∙ ap (λ (l : List (List ℕ)). l ++ report ∷ []) (plates_names outputs planes same)
 
 as_front : (outputs : List (List ℕ)) (planes : List Plane) (report text : List ℕ) (a b : RackState) → length planes ≡ length outputs → AsksFront a.asked b.asked (names_of (page_files outputs planes report text)) → AsksFront a.asked b.asked (outputs ++ report ∷ [])
@@ -161,11 +166,11 @@ report_broken outputs planes report text a b c x e same plates now =
 pub plates_broken : {T : Type 0} (outputs : List (List ℕ)) (planes : List Plane) (report text : List ℕ) (a b : RackState) (refusal : Refusal) → length planes ≡ length outputs → WritesPlates {T = T} outputs planes a b (Err refusal) → WritesPage {T = T} outputs planes report text a b (Err refusal)
 plates_broken outputs planes report text a b (Write (Some k)) same plates =
     let files = plate_files outputs planes in
-    let broke = breaks_before files (record { name = report; bytes = text } ∷ []) k a b plates.answer in
+    let broke = breaks_before files (record { name = report; bytes = text } ∷ []) k a b plates.answer.1 in
     record {
       keeps = plates.keeps;
       told = plates.told;
       asked = as_front outputs planes report text a b same (breaks_front (page_files outputs planes report text) k a b broke);
-      answer = (omega (arith, breaks_below files k a b plates.answer, plates_length outputs planes (omega (arith, same)), same), broke);
+      answer = (plates.answer.0, broke);
     }
 plates_broken outputs planes report text a b other same plates = absurd plates.answer

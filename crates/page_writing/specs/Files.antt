@@ -4,16 +4,11 @@ use Rattle.outside.specs.Rack.{put}
 use Rattle.page_model.specs.declared.parts.Plane.{Plane}
 use Rattle.pgm_plates.specs.Plates.{spelled}
 use Rattle.pgm_plates.specs.Planes.{plate_of}
-use Rattle.trap_words.specs.declared.command.PlateWord.{PlateWord}
 
 -- a file that is written, by its name
 pub record Written : Type 0 where
   pub name : List ℕ
   pub bytes : List ℕ
-
--- the names of the files that the words of the plates give
-abbrev pub outputs_in : List PlateWord → List (List ℕ)
-outputs_in = map (λ w. w.output.now)
 
 -- each plane as a plate in its canonical spelling, under its file's name, as far as there are names and planes
 abbrev pub plate_files : List (List ℕ) → List Plane → List Written

@@ -1,17 +1,20 @@
 -- What it means to write files one after another, and all files of a page.
-use Rattle.std.specs.Prelude.{◌≡◌, ◌⊎◌, ℕ, ◌<◌, IsTrue, List, [], ◌∷◌, ◌++◌, length, take, Some, None, Result, Ok, Err}
-use Rattle.outside.specs.Causes.{Rose, Asks}
+use Rattle.std.specs.Prelude.{◌≡◌, ◌⊎◌, ℕ, ◌<◌, IsTrue, IsFalse, List, [], ◌∷◌, ◌++◌, length, take, Option, Some, None, Result, Ok, Err}
+use Rattle.outside.specs.Causes.{Rose, Asks, AsksFront}
 use Rattle.outside.specs.Rack.{RackState, KeepsRack, put}
 use Rattle.page_model.specs.declared.parts.Plane.{Plane}
 use Rattle.trap_report.specs.declared.refusal.Refusal.{Refusal}
 use Rattle.trap_report.specs.declared.refusal.Refusal.TheVariants.{Write}
 use Rattle.page_writing.specs.Files.{Written, plate_files, page_files, names_of, put_all}
-use Rattle.page_writing.specs.Names.{AsksFront}
 
 -- Each of the files stands whole under its name, and all else is as it was.
 pub record WritesAll (files : List Written) (before after : RackState) : Type 0 where
   pub asked : Asks before.asked after.asked (names_of files)
   pub whole : IsTrue before.tells → after.file ≡ put_all files before.file
+  -- the last of them is finished, as each one before it was
+  pub shut : 0 < length files → IsFalse after.is_open
+  -- no fault was passed over
+  pub well : after.faults ≡ before.faults
 
 -- The rack has a fault at file k: the earlier ones stand whole, and of this one a front of its bytes, or nothing is
 -- changed, since it could not be created. None of the later ones is begun.
@@ -25,11 +28,15 @@ pub record BreaksAt (files : List Written) (k : ℕ) (before after : RackState) 
   pub part : IsTrue before.tells → (after.file ≡ put_all earlier before.file) ⊎ ((n : ℕ) × (after.file ≡ put file.name (take n file.bytes) (put_all earlier before.file)))
   pub cause : Rose before.faults after.faults
 
+-- The plate of that number breaks, of so many; or, without a number, the report behind them.
+abbrev pub Breaks : ℕ → List Written → Option ℕ → RackState → RackState → Type 0
+Breaks plates files (Some k) before after = (k < plates) × BreaksAt files k before after
+Breaks plates files None before after = BreaksAt files plates before after
+
 -- by the answer, where so many of the files are plates and the last is the report
 abbrev pub AnswersWriting : {T : Type 0} → ℕ → List Written → RackState → RackState → Result T Refusal → Type 0
 AnswersWriting plates files before after (Ok x) = WritesAll files before after
-AnswersWriting plates files before after (Err (Write (Some k))) = (k < plates) × BreaksAt files k before after
-AnswersWriting plates files before after (Err (Write None)) = BreaksAt files plates before after
+AnswersWriting plates files before after (Err (Write file)) = Breaks plates files file before after
 AnswersWriting plates files before after (Err other) = ⊥
 
 -- The plates and then the report are written. No text is told.
@@ -39,14 +46,15 @@ pub record WritesPage {T : Type 0} (outputs : List (List ℕ)) (planes : List Pl
   pub asked : AsksFront before.asked after.asked (outputs ++ report ∷ [])
   pub answer : AnswersWriting (length outputs) (page_files outputs planes report text) before after result
 
--- by the answer, where all files are plates
-abbrev pub AnswersPlates : {T : Type 0} → List Written → RackState → RackState → Result T Refusal → Type 0
-AnswersPlates files before after (Ok x) = WritesAll files before after
-AnswersPlates files before after (Err (Write (Some k))) = BreaksAt files k before after
-AnswersPlates files before after (Err other) = ⊥
+-- by the answer, where so many files are all plates
+abbrev pub AnswersPlates : {T : Type 0} → ℕ → List Written → RackState → RackState → Result T Refusal → Type 0
+AnswersPlates plates files before after (Ok x) = WritesAll files before after
+AnswersPlates plates files before after (Err (Write (Some k))) = (k < plates) × BreaksAt files k before after
+AnswersPlates plates files before after (Err other) = ⊥
 
 -- The plates are written. No text is told.
 pub record WritesPlates {T : Type 0} (outputs : List (List ℕ)) (planes : List Plane) (before after : RackState) (result : Result T Refusal) : Type 0 where
   pub keeps : KeepsRack before after
   pub told : IsTrue before.tells → after.told ≡ before.told
-  pub answer : AnswersPlates (plate_files outputs planes) before after result
+  pub asked : AsksFront before.asked after.asked outputs
+  pub answer : AnswersPlates (length outputs) (plate_files outputs planes) before after result

@@ -1,7 +1,4 @@
 //! A trapped page into its files: a plate for each plane, and the report.
 #![tactic(auto)]
 
-pub mod laws;
-#[cfg(test)]
-mod tests;
 pub mod writing;

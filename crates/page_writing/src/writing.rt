@@ -1,9 +1,10 @@
-ghost use Rattle.std.specs.Prelude.{◌≡◌, ◌≤◌, ◌^◌, length};
+ghost use Rattle.std.specs.Prelude.{◌≡◌, ◌≤◌, ◌*◌, ◌^◌, length, map};
 ghost use Rattle.std.specs.List.{All};
 ghost use Rattle.outside.specs.Writing.{WritesFile};
 ghost use Rattle.pgm_plates.specs.Plates.{spelled};
-ghost use Rattle.pgm_plates.specs.Planes.{IsPlane, plate_of};
-ghost use Rattle.page_writing.specs.Files.{outputs_in};
+ghost use Rattle.page_model.specs.Conditions.{IsPlane};
+ghost use Rattle.page_model.specs.Limits.{most_samples};
+ghost use Rattle.pgm_plates.specs.Planes.{plate_of};
 ghost use Rattle.page_writing.specs.Writing.{WritesPage, WritesPlates};
 
 use outside::rack::Rack;
@@ -12,28 +13,29 @@ use outside::writing::write_file;
 use page_model::parts::{Plane, PlaneList};
 use pgm_plates::plate::Plate;
 use pgm_plates::writing::write_plate;
+use std::convert::AsStr;
 use trap_report::refusal::Refusal;
-use trap_words::command::PlateWord;
 
-/// Writes each plane, turned into a plate, into the file of its word, and then the text into the report, as this project
+/// Writes each plane, turned into a plate, into the file of its name, and then the text into the report, as this project
 /// orders them. It takes no memory.
 ///
 /// It stops at the first file at which a call of the rack fails, and answers `Write` with the plate's number from 0, or
 /// with none for the report. The files before it then stand whole; of it a front of its bytes stands under its name, or,
 /// where it could not be created, nothing; no later file is begun.
-pub fn write_page<R: Rack>(
+pub fn write_page<R: Rack, S: AsStr>(
     rack: &mut R,
-    plates: &[PlateWord<'_>],
+    names: &[S],
     planes: PlaneList,
     report: &str,
     text: &[u8],
 ) -> Result<(), Refusal>
-    requires numbered { length plates.now ≤ 2 ^ 32 }
-    requires count { length planes ≡ length plates.now }
+    requires numbered { length names.now ≤ 2 ^ 32 }
+    requires count { length planes ≡ length names.now }
     requires planes { All IsPlane planes }
-    ensures { WritesPage (outputs_in plates.now) planes report.now text.now (R.state rack.old) (R.state rack.new) result }
+    requires samples { All (λ plane. plane.width * plane.height ≤ most_samples) planes }
+    ensures { WritesPage (map S.text names.now) planes report.now text.now (R.state rack.old) (R.state rack.new) result }
 {
-    match write_plates(rack, plates, planes) {
+    match write_plates(rack, names, planes) {
         Ok(()) => match write_file(rack, report, text) {
             Ok(()) => Ok(()),
             Err(Failed) => Err(Refusal::Write(None)),
@@ -42,20 +44,23 @@ pub fn write_page<R: Rack>(
     }
 }
 
-fn write_plates<R: Rack>(
+/// Writes each plane, turned into a plate, into the file of its name, in order, as far as `write_page` goes before the
+/// report. It takes no memory, and its one refusal is `Write` with the plate's number.
+pub fn write_plates<R: Rack, S: AsStr>(
     rack: &mut R,
-    plates: &[PlateWord<'_>],
+    names: &[S],
     planes: PlaneList,
 ) -> Result<(), Refusal>
-    requires numbered { length plates.now ≤ 2 ^ 32 }
-    requires count { length planes ≡ length plates.now }
+    requires numbered { length names.now ≤ 2 ^ 32 }
+    requires count { length planes ≡ length names.now }
     requires planes { All IsPlane planes }
-    ensures { WritesPlates (outputs_in plates.now) planes (R.state rack.old) (R.state rack.new) result }
+    requires samples { All (λ plane. plane.width * plane.height ≤ most_samples) planes }
+    ensures { WritesPlates (map S.text names.now) planes (R.state rack.old) (R.state rack.new) result }
 {
     let planes = planes.into_vec();
     let mut place = 0usize;
     for plane in planes {
-        match write_plane(rack, plates[place].output, plane) {
+        match write_plane(rack, names[place].as_str(), plane) {
             Ok(()) => place += 1,
             Err(Failed) => return Err(Refusal::Write(Some(place as u32))),
         }
@@ -64,7 +69,8 @@ fn write_plates<R: Rack>(
 }
 
 fn write_plane<R: Rack>(rack: &mut R, name: &str, plane: Plane) -> Result<(), Failed>
-    requires { IsPlane plane }
+    requires plane { IsPlane plane }
+    requires samples { plane.width * plane.height ≤ most_samples }
     ensures { WritesFile name.now (spelled (plate_of plane)) (R.state rack.old) (R.state rack.new) result }
 {
     let plate = Plate::of_plane(plane);

@@ -1,65 +1,109 @@
 -- How a command of a page ends, from how its page is read and put out.
-use Rattle.std.proofs.Common.{ℕ, List, Option, Some, None, Result, Ok, Err, IsTrue, refl, sym, arith}
-use Rattle.std.proofs.lemmas.List.{append-nil}
+use Rattle.std.proofs.Common.{◌≡◌, ℕ, ◌<◌, ◌+◌, List, [], ◌∷◌, ◌++◌, length, Option, Some, None, Result, Ok, Err, IsTrue, inl, inr, refl, sym, subst, arith}
 use Rattle.outside.specs.Tray.{TrayState}
 use Rattle.outside.specs.Rack.{RackState, KeepsRack}
 use Rattle.page_model.specs.declared.parts.PageParts.{PageParts}
-use Rattle.page_reading.specs.Names.{AsksFront}
-use Rattle.page_reading.specs.Reading.{ReadsPage, AnswersPage}
+use Rattle.page_model.specs.Conditions.{IsPage}
+use Rattle.outside.proofs.Names.{asks_none_of}
+use Rattle.page_gather.specs.Gathering.{Gathers, AnswersPage}
+use Rattle.page_gather.specs.Inputs.{Sources, read_files}
+use Rattle.page_gather.specs.Steps.{PassesNoFault}
+use Rattle.page_gather.proofs.PlateLemmas.{count_then}
 use Rattle.trap_report.specs.declared.refusal.Refusal.{Refusal}
 use Rattle.trap_report.specs.declared.refusal.Refusal.TheVariants.{Usage, Job, NoDetails, Plate, Page, Read, Write, Memory}
-use Rattle.trap_words.specs.Words.{PageWords}
-use Rattle.trap_cli.specs.Endings.{AnswersPut, PutsOut, AnswersCommand, CarriesOut}
-use Rattle.trap_cli.specs.Verdicts.{IsVerdict, outcome, written_names}
-use Rattle.trap_cli.specs.Verdicts.Verdict.{Out}
-
--- no name is handed out
-pub asks_none : (a : Option (List (List ℕ))) (names : List (List ℕ)) → AsksFront a a names
-asks_none None names = tt
-asks_none (Some all) names = (all, 0, refl, sym (append-nil all))
+use Rattle.trap_cli.specs.Endings.{IsMade, AnswersPut, PutsOut, ReadsPage, AnswersCommand, CarriesOut}
+use Rattle.verdicts.specs.Verdicts.{Targets, outcome, written_names}
 
 unchanged : (a : RackState) → KeepsRack a a
 unchanged a = record { tells = refl; faults = omega arith }
 
-answer_refused : (words : PageWords) (a b : TrayState) (r : RackState) (refusal : Refusal) → AnswersPage words a b (Err refusal) → AnswersCommand words a b r r (Err refusal)
-answer_refused words a b r (Job fault) answer = (answer, refl)
-answer_refused words a b r (NoDetails plate) answer = (answer, refl)
-answer_refused words a b r (Plate plate fault) answer = (answer, refl)
-answer_refused words a b r (Page fault) answer = (answer, refl)
-answer_refused words a b r (Read file) answer = (answer, refl)
-answer_refused words a b r Memory answer = (answer, refl)
-answer_refused words a b r Usage answer = absurd answer
-answer_refused words a b r (Write file) answer = absurd answer
+answer_refused : (T : Type 0) (source : Sources) (target : Targets) (a b : TrayState) (r : RackState) (refusal : Refusal) → AnswersPage source a b (Err refusal) → AnswersCommand {T = T} source target a b r r (Err refusal)
+answer_refused T source target a b r (Job fault) answer = (answer, refl)
+answer_refused T source target a b r (NoDetails plate) answer = (answer, refl)
+answer_refused T source target a b r (Plate plate fault) answer = (answer, refl)
+answer_refused T source target a b r (Page fault) answer = (answer, refl)
+answer_refused T source target a b r (Read file) answer = (answer, refl)
+answer_refused T source target a b r Memory answer = (answer, refl)
+answer_refused T source target a b r Usage answer = absurd answer
+answer_refused T source target a b r (Write file) answer = absurd answer
+
+-- a refusal of gathering, told of a command
+pub refused_count : (T U : Type 0) (a b : TrayState) (refusal : Refusal) → PassesNoFault {T = T} a b (Err refusal) → PassesNoFault {T = U} a b (Err refusal)
+refused_count T U a b refusal count = count_then T U a a b refusal refl count
 
 -- The page could not be read.
-pub not_read : (words : PageWords) (a b : TrayState) (r : RackState) (refusal : Refusal) → ReadsPage words a b (Err refusal) → CarriesOut words a b r r (Err refusal)
-not_read words a b r refusal reads = record {
+not_read : {T : Type 0} (source : Sources) (target : Targets) (a b : TrayState) (r : RackState) (refusal : Refusal) → Gathers source a b (Err refusal) → CarriesOut {T = T} source target a b r r (Err refusal)
+not_read {T} source target a b r refusal reads = record {
   tray_keeps = reads.keeps;
+  in_hand = inr reads.in_hand;
+  count = refused_count PageParts T a b refusal reads.count;
   asked = reads.asked;
   rack_keeps = unchanged r;
   told = λ tells. refl;
-  created = asks_none r.asked (written_names words);
-  answer = answer_refused words a b r refusal reads.answer;
+  created = asks_none_of r.asked (written_names target);
+  answer = answer_refused T source target a b r refusal reads.answer;
 }
 
-answer_put : (words : PageWords) (page : PageParts) (a b : TrayState) (r r' : RackState) (result : Result (Unit {0}) Refusal) → (IsTrue a.tells → IsVerdict a.file words (Out (outcome words page))) → AnswersPut words page r r' result → AnswersCommand words a b r r' result
-answer_put words page a b r r' (Ok done) is answer = (outcome words page, is, answer)
-answer_put words page a b r r' (Err (Write file)) is answer = (outcome words page, is, answer)
-answer_put words page a b r r' (Err Memory) is answer = (tt, answer)
-answer_put words page a b r r' (Err Usage) is answer = absurd answer
-answer_put words page a b r r' (Err (Job fault)) is answer = absurd answer
-answer_put words page a b r r' (Err (NoDetails plate)) is answer = absurd answer
-answer_put words page a b r r' (Err (Plate plate fault)) is answer = absurd answer
-answer_put words page a b r r' (Err (Page fault)) is answer = absurd answer
-answer_put words page a b r r' (Err (Read file)) is answer = absurd answer
-
--- A page that was read is put out.
-pub read_and_put : (words : PageWords) (page : PageParts) (a b : TrayState) (r r' : RackState) (result : Result (Unit {0}) Refusal) → ReadsPage words a b (Ok page) → PutsOut words page r r' result → CarriesOut words a b r r' result
-read_and_put words page a b r r' result reads put = record {
-  tray_keeps = reads.keeps;
-  asked = reads.asked;
-  rack_keeps = put.keeps;
-  told = put.told;
-  created = put.asked;
-  answer = answer_put words page a b r r' result (λ tells. (page, reads.answer.2 tells, refl)) put.answer;
+-- There was no memory to begin with.
+not_begun : {T : Type 0} (source : Sources) (target : Targets) (a : TrayState) (r : RackState) → CarriesOut {T = T} source target a a r r (Err Memory)
+not_begun source target a r = record {
+  tray_keeps = record { tells = refl; file = refl; faults = omega arith };
+  in_hand = inl refl;
+  count = refl;
+  asked = asks_none_of a.asked (read_files source);
+  rack_keeps = unchanged r;
+  told = λ tells. refl;
+  created = asks_none_of r.asked (written_names target);
+  answer = (tt, refl);
 }
+
+-- The page was not read, for one reason or the other.
+pub refused_first : {T : Type 0} (source : Sources) (target : Targets) (a b : TrayState) (r : RackState) (refusal : Refusal) → ReadsPage source a b (Err refusal) → CarriesOut {T = T} source target a b r r (Err refusal)
+refused_first {T} source target a b r refusal (inl none) =
+    let same : refusal ≡ Memory = (let e : ◌≡◌ {A = Result PageParts Refusal} (Err refusal) (Err Memory) = none.1 in cc) in
+    subst (λ (t : TrayState). CarriesOut {T = T} source target a t r r (Err refusal)) (sym none.0) (subst (λ (e : Refusal). CarriesOut {T = T} source target a a r r (Err e)) (sym same) (not_begun {T = T} source target a r))
+refused_first {T} source target a b r refusal (inr reads) = not_read {T = T} source target a b r refusal reads
+
+-- A page that was read was gathered.
+pub gathered : (source : Sources) (a b : TrayState) (page : PageParts) → ReadsPage source a b (Ok page) → Gathers source a b (Ok page)
+gathered source a b page (inl none) = absurd (let e : ◌≡◌ {A = Result PageParts Refusal} (Ok page) (Err Memory) = none.1 in cc)
+gathered source a b page (inr reads) = reads
+
+module _ (T : Type 0) (source : Sources) (target : Targets) (page : PageParts) (a b : TrayState) (r r' : RackState) (reads : Gathers source a b (Ok page)) where
+  made : IsPage page → IsMade source a page
+  made valid = (valid, reads.answer.2)
+
+  answer_put : (result : Result T Refusal) → IsPage page → AnswersPut target page r r' result → AnswersCommand source target a b r r' result
+  answer_put (Ok x) valid answer = (page, made valid, reads.answer.1, answer.0, answer.1)
+  answer_put (Err (Write file)) valid answer = (page, made valid, answer)
+  answer_put (Err Memory) valid answer = (tt, answer)
+  answer_put (Err Usage) valid answer = absurd answer
+  answer_put (Err (Job fault)) valid answer = absurd answer
+  answer_put (Err (NoDetails plate)) valid answer = absurd answer
+  answer_put (Err (Plate plate fault)) valid answer = absurd answer
+  answer_put (Err (Page fault)) valid answer = absurd answer
+  answer_put (Err (Read file)) valid answer = absurd answer
+
+  put_count : (result : Result T Refusal) → AnswersPut target page r r' result → PassesNoFault a b result
+  put_count (Ok x) answer = reads.count
+  put_count (Err (Write file)) answer = reads.count
+  put_count (Err Memory) answer = reads.count
+  put_count (Err Usage) answer = absurd answer
+  put_count (Err (Job fault)) answer = absurd answer
+  put_count (Err (NoDetails plate)) answer = absurd answer
+  put_count (Err (Plate plate fault)) answer = absurd answer
+  put_count (Err (Page fault)) answer = absurd answer
+  put_count (Err (Read file)) answer = absurd answer
+
+  -- A page that was read is put out.
+  pub read_and_put : (result : Result T Refusal) → PutsOut target page r r' result → CarriesOut source target a b r r' result
+  read_and_put result put = record {
+    tray_keeps = reads.keeps;
+    in_hand = inr reads.in_hand;
+    count = put_count result put.answer;
+    asked = reads.asked;
+    rack_keeps = put.keeps;
+    told = put.told;
+    created = put.asked;
+    answer = answer_put result put.valid put.answer;
+  }

@@ -1,6 +1,5 @@
-mod ClauseLemmas
-mod EndLemmas
-mod LocalityLemmas
-mod OutcomeLemmas
-mod SampleLemmas
-mod VerdictLemmas
+pub mod EndLemmas
+pub mod OutcomeLemmas
+pub mod SampleLemmas
+pub mod LocalityLemmas
+pub mod ClauseLemmas

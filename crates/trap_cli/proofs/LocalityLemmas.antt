@@ -11,7 +11,7 @@ use Rattle.page_model.specs.declared.parts.Plane.{Plane}
 use Rattle.page_model.specs.declared.page.PageFault.{PageFault}
 use Rattle.page_model.specs.Decider.{decider}
 use Rattle.page_model.specs.Edges.{d2}
-use Rattle.page_model.specs.declared.page.PageFault.TheVariants.{SizeDiffers, MaxvalDiffers}
+use Rattle.page_model.specs.Limits.{half_sample, scale}
 use Rattle.page_model.specs.Conditions.{Agrees}
 use Rattle.page_model.specs.Faults.{page_fault, difference, too_many, too_wide}
 use Rattle.page_model.specs.Page.{plates, width, height, maxval, place, samples, sample_at, tint, params_at}
@@ -20,14 +20,15 @@ use Rattle.page_model.specs.Tints.{new, new_tints}
 use Rattle.page_model.specs.Within.{within, within_in, black, edge_slid}
 use Rattle.lists.specs.Words.{square, or_else, first_some}
 use Rattle.page_model.specs.Zones.{zone_of}
+use Rattle.page_model.proofs.FaultLemmas.{agrees_from}
 use Rattle.page_model.proofs.ReachLaws.{keeps_unless_within}
-use Rattle.page_reading.specs.Inputs.{Inputs, names_of, plate_at, no_plate}
+use Rattle.page_gather.specs.Inputs.{Sources, Inputs, one_page, plate_at, no_plate}
 use Rattle.pgm_plates.specs.declared.plate.Plate.{Plate as PlateRead}
 use Rattle.pgm_plates.specs.Planes.{plane_of}
 use Rattle.pgm_plates.specs.Plates.{IsPlate}
-use Rattle.trap_engine.specs.Assembly.{assembly, assembled, detailed, faulted, without_details}
+use Rattle.page_gather.specs.Assembly.{assembly, assembled, detailed, faulted, without_details}
+use Rattle.lists.proofs.FirstSome.{both_none, each_none}
 use Rattle.lists.proofs.ListBelow.{length-list_below, list_below-at}
-use Rattle.trap_words.specs.Words.{PageWords}
 use Rattle.trap_cli.specs.Locality.{IsNear, ChangesNearEdges, sample_in, plate_after}
 
 -- parts without a fault are the page that is made
@@ -39,46 +40,23 @@ made_of : (o : Option ℕ) (parts made : PageParts) → detailed o parts ≡ Ok 
 made_of None parts made is = without_fault (page_fault parts) parts made is
 made_of (Some plate) parts made is = absurd cc
 
--- where none answers, none of those before does
-none_before : {X : Type 0} (a b : Option X) → or_else a b ≡ None → (a ≡ None) × (b ≡ None)
-none_before None b is = (refl, is)
-none_before (Some x) b is = absurd cc
-
-none_at : {X : Type 0} (f : ℕ → Option X) (n c : ℕ) → first_some f n ≡ None → c < n → f c ≡ None
-none_at f zero c is below = absurd (omega arith)
-none_at f (suc n) c is below =
-    let parts = none_before (first_some f n) (f n) is in
-    elim (cases_eq c n) [ inl same ↦ rw same parts.1 | inr other ↦ none_at f n c parts.0 (omega (arith, other)) ]
-
--- a plate without a difference has the sides and the maxval of the page
-agrees : (page : PageParts) (c : ℕ) → difference page c ≡ None → Agrees page c
-agrees page c is =
-    let plane = plane_at page.planes c in
-    elim (cases_Bool ((plane.width == width page) && (plane.height == height page))) [
-      | inl same ↦ elim (cases_Bool (plane.maxval == maxval page)) [
-        | inl deep ↦ (let sides = and_parts (plane.width == width page) (plane.height == height page) same in
-            record { wide = eqb-true _ _ sides.0; tall = eqb-true _ _ sides.1; deep = eqb-true _ _ deep })
-        | inr other ↦ (let e : ◌≡◌ {A = Option PageFault} (Some (MaxvalDiffers c)) None = rw (same, other) at is in absurd cc)
-      ]
-      | inr other ↦ (let e : ◌≡◌ {A = Option PageFault} (Some (SizeDiffers c)) None = rw other at is in absurd cc)
-    ]
-
+-- a plate of parts without a fault has the sides and the maxval of the page
 plate_agrees : (page : PageParts) (c : ℕ) → page_fault page ≡ None → c < plates page → Agrees page c
 plate_agrees page c is below =
-    let parts = none_before (or_else (first_some (difference page) (plates page)) (too_many page)) (first_some (too_wide page) (length page.zones)) is in
-    let few = none_before (first_some (difference page) (plates page)) (too_many page) parts.0 in
-    agrees page c (none_at (difference page) (plates page) c few.0 below)
+    let outer = both_none (or_else (first_some (difference page) (plates page)) (too_many page)) (first_some (too_wide page) (length page.zones)) is in
+    let none = both_none (first_some (difference page) (plates page)) (too_many page) outer.0 in
+    agrees_from page c (each_none (difference page) (plates page) none.0 c below)
 
 -- how far an edge is that is within
-up_to : (d tw factor res parts : ℕ) → 1 ≤ parts → d * square (3600000000 * parts) ≤ square (tw * factor * res) → d * square 3600000000 ≤ square (tw * factor * res)
+up_to : (d tw factor res parts : ℕ) → 1 ≤ parts → d * square (half_sample * parts) ≤ square (tw * factor * res) → d * square half_sample ≤ square (tw * factor * res)
 up_to d tw factor res parts some near =
-    let once : 3600000000 ≤ 3600000000 * parts = omega arith in
-    let more : square 3600000000 ≤ square (3600000000 * parts) = mul-le-mul once once in
+    let once : half_sample ≤ half_sample * parts = omega arith in
+    let more : square half_sample ≤ square (half_sample * parts) = mul-le-mul once once in
     let same : d ≤ d = omega arith in
-    let grown : d * square 3600000000 ≤ d * square (3600000000 * parts) = mul-le-mul same more in
+    let grown : d * square half_sample ≤ d * square (half_sample * parts) = mul-le-mul same more in
     le_trans grown near
 
-near_in : (page : PageParts) (z : ℕ) (p : At) (e : EdgeAt) (factor : ℕ) → (if black page (params_at page z) e then (params_at page z).black_width else 10000) ≡ factor → within_in page z p e ≡ true → d2 p e * square 3600000000 ≤ square ((params_at page z).trap_width * factor * page.resolution)
+near_in : (page : PageParts) (z : ℕ) (p : At) (e : EdgeAt) (factor : ℕ) → (if black page (params_at page z) e then (params_at page z).black_width else scale) ≡ factor → within_in page z p e ≡ true → d2 p e * square half_sample ≤ square ((params_at page z).trap_width * factor * page.resolution)
 unfolding within_in
 near_in page z p e factor is near = elim (cases_Bool (edge_slid page (params_at page z) e)) [
   | inl slid ↦ up_to (d2 p e) (params_at page z).trap_width factor page.resolution 2 (omega arith) (leb-true _ _ (rw (slid, is) at near))
@@ -89,7 +67,7 @@ near : (page : PageParts) (p : At) (e : EdgeAt) → decider page p ≡ Some e �
 near page p e decides is = record {
   decides = decides;
   is_within = is;
-  plain = λ other. near_in page (zone_of page p) p e 10000 (rw other refl) is;
+  plain = λ other. near_in page (zone_of page p) p e scale (rw other refl) is;
   at_black = λ dark. near_in page (zone_of page p) p e (params_at page (zone_of page p)).black_width (rw dark refl) is;
 }
 
@@ -152,20 +130,20 @@ module _ (page : PageParts) (read : List PlateRead) (c k : ℕ) (planes : page.p
   ]
 
 -- The plates of a page's files are in range.
-plate_ok : (files : List ℕ → Option (List ℕ)) (words : PageWords) (job : Job) (read : List PlateRead) (c : ℕ) → Inputs files words job read → c < length read → IsPlate (plate_at read c)
-plate_ok files words job read c inputs below = (inputs.plates_read.each c (omega (arith, inputs.plates_read.all))).2.plate_ok
+plate_ok : (files : List ℕ → Option (List ℕ)) (source : Sources) (job : Job) (read : List PlateRead) (c : ℕ) → Inputs one_page files source job read → c < length read → IsPlate (plate_at read c)
+plate_ok files source job read c inputs below = (inputs.plates_read.each c (omega (arith, inputs.plates_read.all))).2.plate_ok
 
-pub changes_near_edges : (files : List ℕ → Option (List ℕ)) (words : PageWords) (job : Job) (read : List PlateRead) (made : PageParts) → Inputs files words job read → assembly job read (names_of words.plates) ≡ Ok made → ChangesNearEdges made read
-changes_near_edges files words job read made inputs is =
-    let parts = made_of (without_details job (names_of words.plates)) (assembled job read (names_of words.plates)) made is in
+pub changes_near_edges : (files : List ℕ → Option (List ℕ)) (source : Sources) (job : Job) (read : List PlateRead) (made : PageParts) → Inputs one_page files source job read → assembly job read source.names ≡ Ok made → ChangesNearEdges made read
+changes_near_edges files source job read made inputs is =
+    let parts = made_of (without_details job source.names) (assembled job read source.names) made is in
     let planes : made.planes ≡ map plane_of read = ap (λ (p : PageParts). p.planes) (sym parts.0) in
     let faultless : page_fault made ≡ None = subst (λ (p : PageParts). page_fault p ≡ None) parts.0 parts.1 in
     let count : plates made ≡ length read = ap (λ (ps : List Plane). length ps) planes ∙ length-map read plane_of in
     record {
       changed = λ c k below inside differs.
           let known : c < length read = omega (arith, count) in
-          changed made read c k planes (plate_agrees made c faultless below) (plate_ok files words job read c inputs known) known inside differs;
+          changed made read c k planes (plate_agrees made c faultless below) (plate_ok files source job read c inputs known) known inside differs;
       kept = λ c k below inside none.
           let known : c < length read = omega (arith, count) in
-          kept made read c k planes (plate_agrees made c faultless below) (plate_ok files words job read c inputs known) known inside none;
+          kept made read c k planes (plate_agrees made c faultless below) (plate_ok files source job read c inputs known) known inside none;
     }

@@ -1,24 +1,28 @@
 -- What becomes of a page: its counts, and its files.
-use Rattle.std.proofs.Common.{◌≡◌, ℕ, List, [], ◌∷◌, length, Some, None, Result, Ok, Err, refl, ap, subst}
+use Rattle.std.proofs.Common.{◌≡◌, ℕ, List, length, map, Bor, Some, None, Result, Ok, Err, IsTrue, refl, sym, ap, ◌∙◌, subst, arith}
 use Rattle.std.proofs.lemmas.List.{length-map}
+use Rattle.outside.specs.Causes.{Asks}
 use Rattle.outside.specs.Rack.{RackState}
+use Rattle.outside.proofs.Names.{asks_none_of}
 use Rattle.page_model.specs.declared.parts.PageParts.{PageParts}
 use Rattle.page_model.specs.declared.parts.Plane.{Plane}
+use Rattle.page_model.specs.Conditions.{IsPage}
 use Rattle.page_model.specs.Counts.{page_counts, zone_samples, zone_changed, plate_changed}
 use Rattle.page_model.specs.Page.{plates}
 use Rattle.page_model.specs.Tints.{trapped_plane, trapped_planes}
-use Rattle.page_writing.specs.Files.{outputs_in}
-use Rattle.page_writing.specs.Writing.{WritesPage, BreaksAt, AnswersWriting}
+use Rattle.page_writing.specs.Files.{names_of}
+use Rattle.page_writing.specs.Writing.{WritesPage, AnswersWriting}
+use Rattle.page_writing.proofs.Steps.{page_names}
 use Rattle.lists.proofs.ListBelow.{length-list_below}
 use Rattle.trap_report.specs.declared.refusal.Refusal.{Refusal}
 use Rattle.trap_report.specs.declared.refusal.Refusal.TheVariants.{Usage, Job, NoDetails, Plate, Page, Read, Write, Memory}
 use Rattle.trap_report.specs.Report.{AreCounts, report_of}
-use Rattle.trap_words.specs.declared.command.PlateWord.{PlateWord}
-use Rattle.trap_words.specs.Held.{plates_in}
-use Rattle.trap_words.specs.Plates.{PlateNames, outputs_of}
-use Rattle.trap_words.specs.Words.{PageWords}
+use Rattle.plain_words.specs.Parts.{PlateNames}
+use Rattle.plain_words.specs.declared.parts.PlateWord.{PlateWord}
+use Rattle.trap_words.specs.Held.{names_in, plates_in}
+use Rattle.trap_words.specs.Plates.{outputs_of}
 use Rattle.trap_cli.specs.Endings.{AnswersPut, PutsOut}
-use Rattle.trap_cli.specs.Verdicts.{outcome}
+use Rattle.verdicts.specs.Verdicts.{Targets, outcome, written_names}
 
 -- There is one count for each zone and each plate.
 pub counts_fit : (page : PageParts) → AreCounts page (page_counts page)
@@ -34,30 +38,37 @@ pub as_many_planes : (page : PageParts) → length (trapped_planes page) ≡ pla
 unfolding trapped_planes
 as_many_planes page = length-list_below (trapped_plane page) (plates page)
 
--- the files that are written, by the words and by what they mean
-pub same_outputs : (words : List PlateWord) → outputs_in words ≡ outputs_of (plates_in words)
-same_outputs [] = refl
-same_outputs (w ∷ words) = ap (λ (l : List (List ℕ)). w.output.now ∷ l) (same_outputs words)
+answer_put : {T : Type 0} (target : Targets) (page : PageParts) (a b : RackState) (result : Result T Refusal) → names_of (outcome target page) ≡ written_names target → AnswersWriting (length target.outputs) (outcome target page) a b result → AnswersPut target page a b result
+answer_put target page a b (Ok x) named answer = (answer, subst (λ (names : List (List ℕ)). Asks a.asked b.asked names) named answer.asked)
+answer_put target page a b (Err (Write file)) named answer = answer
+answer_put target page a b (Err Usage) named answer = absurd answer
+answer_put target page a b (Err (Job fault)) named answer = absurd answer
+answer_put target page a b (Err (NoDetails plate)) named answer = absurd answer
+answer_put target page a b (Err (Plate plate fault)) named answer = absurd answer
+answer_put target page a b (Err (Page fault)) named answer = absurd answer
+answer_put target page a b (Err (Read file)) named answer = absurd answer
+answer_put target page a b (Err Memory) named answer = absurd answer
 
-pub as_many_outputs : (words : PageWords) → length (outputs_of words.plates) ≡ length words.plates
-as_many_outputs words = length-map words.plates (λ (p : PlateNames). p.output)
+-- A page's planes and its report are written into the files of these names.
+pub puts_out : {T : Type 0} (target : Targets) (page : PageParts) (outputs : List (List ℕ)) (planes : List Plane) (text : List ℕ) (a b : RackState) (result : Result T Refusal) → IsPage page → length planes ≡ length outputs → outputs ≡ target.outputs → planes ≡ trapped_planes page → text ≡ report_of page (page_counts page) → WritesPage outputs planes target.report text a b result → PutsOut target page a b result
+puts_out {T} target page outputs planes text a b result valid count named trapped told wrote =
+    let one = subst (λ (o : List (List ℕ)). WritesPage {T = T} o planes target.report text a b result) named wrote in
+    let two = subst (λ (p : List Plane). WritesPage {T = T} target.outputs p target.report text a b result) trapped one in
+    let all = subst (λ (t : List ℕ). WritesPage {T = T} target.outputs (trapped_planes page) target.report t a b result) told two in
+    let many : length (trapped_planes page) ≡ length target.outputs = sym (ap (λ (p : List Plane). length p) trapped) ∙ count ∙ ap (λ (o : List (List ℕ)). length o) named in
+    let names = page_names target.outputs (trapped_planes page) target.report (report_of page (page_counts page)) many in
+    record { valid = valid; keeps = all.keeps; told = all.told; asked = all.asked; answer = answer_put target page a b result names all.answer }
 
-answer_put : (words : PageWords) (page : PageParts) (a b : RackState) (result : Result (Unit {0}) Refusal) → AnswersWriting (length (outputs_of words.plates)) (outcome words page) a b result → AnswersPut words page a b result
-answer_put words page a b (Ok done) answer = answer
-answer_put words page a b (Err (Write (Some plate))) answer = answer.1
-answer_put words page a b (Err (Write None)) answer = subst (λ (n : ℕ). BreaksAt (outcome words page) n a b) (as_many_outputs words) answer
-answer_put words page a b (Err Usage) answer = absurd answer
-answer_put words page a b (Err (Job fault)) answer = absurd answer
-answer_put words page a b (Err (NoDetails plate)) answer = absurd answer
-answer_put words page a b (Err (Plate plate fault)) answer = absurd answer
-answer_put words page a b (Err (Page fault)) answer = absurd answer
-answer_put words page a b (Err (Read file)) answer = absurd answer
-answer_put words page a b (Err Memory) answer = absurd answer
+-- Nothing is put out, since there was no memory.
+pub not_put_out : {T : Type 0} (target : Targets) (page : PageParts) (a : RackState) → IsPage page → PutsOut {T = T} target page a a (Err Memory)
+not_put_out target page a valid = record {
+  valid = valid;
+  keeps = record { tells = refl; faults = omega arith };
+  told = λ tells. refl;
+  asked = asks_none_of a.asked (written_names target);
+  answer = refl;
+}
 
--- A page's planes and its report are written, as the words name their files.
-pub puts_out : (words : PageWords) (page : PageParts) (outputs : List (List ℕ)) (planes : List Plane) (text : List ℕ) (a b : RackState) (result : Result (Unit {0}) Refusal) → outputs ≡ outputs_of words.plates → planes ≡ trapped_planes page → text ≡ report_of page (page_counts page) → WritesPage outputs planes words.report text a b result → PutsOut words page a b result
-puts_out words page outputs planes text a b result named trapped told wrote =
-    let one = subst (λ (o : List (List ℕ)). WritesPage o planes words.report text a b result) named wrote in
-    let two = subst (λ (p : List Plane). WritesPage (outputs_of words.plates) p words.report text a b result) trapped one in
-    let all = subst (λ (t : List ℕ). WritesPage (outputs_of words.plates) (trapped_planes page) words.report t a b result) told two in
-    record { keeps = all.keeps; told = all.told; asked = all.asked; answer = answer_put words page a b result all.answer }
+-- There are as many files as words that name them.
+pub as_many_files : (words : List PlateWord) (files : List (Bor (List ℕ))) → map (λ (f : Bor (List ℕ)). f.now) files ≡ outputs_of (plates_in words) → length files ≡ length words
+as_many_files words files named = sym (length-map files (λ (f : Bor (List ℕ)). f.now)) ∙ ap (λ (l : List (List ℕ)). length l) named ∙ length-map (plates_in words) (λ (p : PlateNames). p.output) ∙ length-map words names_in

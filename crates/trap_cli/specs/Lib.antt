@@ -1,5 +1,4 @@
-pub mod Verdicts
-pub mod Lines
+pub mod Commands
 pub mod Endings
 pub mod Locality
 pub mod Clauses

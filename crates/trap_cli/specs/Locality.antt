@@ -5,24 +5,25 @@ use Rattle.page_model.specs.declared.parts.EdgeAt.{EdgeAt}
 use Rattle.page_model.specs.declared.parts.PageParts.{PageParts}
 use Rattle.page_model.specs.Decider.{decider}
 use Rattle.page_model.specs.Edges.{d2}
+use Rattle.page_model.specs.Limits.{half_sample, scale}
 use Rattle.page_model.specs.Page.{params_at, plates, samples, sample_at}
 use Rattle.page_model.specs.Tints.{trapped_plane}
 use Rattle.page_model.specs.Within.{black, within}
 use Rattle.lists.specs.Words.{square}
 use Rattle.page_model.specs.Zones.{zone_of}
-use Rattle.page_reading.specs.Inputs.{plate_at}
+use Rattle.page_gather.specs.Inputs.{plate_at}
 use Rattle.pgm_plates.specs.declared.plate.Plate.{Plate as PlateRead}
 use Rattle.pgm_plates.specs.Planes.{plate_of}
 
 -- The edge is at most so far from the sample, in ten-thousandths of a point at the page's resolution; both sides are squared.
 abbrev pub IsUpTo : PageParts → At → EdgeAt → ℕ → Type 0
-IsUpTo page p e width = d2 p e * square 3600000000 ≤ square (width * page.resolution)
+IsUpTo page p e width = d2 p e * square half_sample ≤ square (width * page.resolution)
 
 -- The sample's edge traps up to its place: at most the trap width of the sample's zone away, or, at a black edge, at most that width times the black width.
 pub record IsNear (page : PageParts) (p : At) (e : EdgeAt) : Type 0 where
   pub decides : decider page p ≡ Some e
   pub is_within : within page p e ≡ true
-  pub plain : black page (params_at page (zone_of page p)) e ≡ false → IsUpTo page p e ((params_at page (zone_of page p)).trap_width * 10000)
+  pub plain : black page (params_at page (zone_of page p)) e ≡ false → IsUpTo page p e ((params_at page (zone_of page p)).trap_width * scale)
   pub at_black : black page (params_at page (zone_of page p)) e ≡ true → IsUpTo page p e ((params_at page (zone_of page p)).trap_width * (params_at page (zone_of page p)).black_width)
 
 -- the sample of that number in a plate, row by row

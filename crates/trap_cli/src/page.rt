@@ -1,19 +1,22 @@
 ghost use Rattle.std.specs.Prelude.{◌≡◌, length, vec_len};
 ghost use Rattle.page_model.specs.Page.{plates};
 ghost use Rattle.trap_words.specs.Held.{IsPageWithin, page_in};
-ghost use Rattle.trap_cli.specs.Endings.{CarriesOut, EndsPage, PutsOut};
+ghost use Rattle.trap_cli.specs.Commands.{sources_of, targets_of};
+ghost use Rattle.trap_cli.specs.Endings.{CarriesOut, EndsPage, PutsOut, ReadsPage};
 
-use crate::closing::refuse;
+use crate::files::{inputs_of, names_of, outputs_of};
 use crate::outcome::outcome_of;
 use outside::rack::Rack;
 use outside::tray::Tray;
+use page_gather::gather::gather;
+use page_model::laws::trapped_planes_law;
 use page_model::page::Page;
 use page_model::parts::OutOfMemory;
-use page_reading::page::read_page;
-use page_writing::laws::trapped_planes_law;
 use page_writing::writing::write_page;
 use std::alloc::Global;
 use trap_report::refusal::Refusal;
+use trap_report::statuses::DONE;
+use trap_report::telling::refuse;
 use trap_words::command::PageCommand;
 
 // Carries out a command of a page, and gives the status that it ends with.
@@ -24,11 +27,11 @@ pub(crate) fn run_page<T: Tray, R: Rack>(
     rack: &mut R,
 ) -> u8
     requires { IsPageWithin command.now }
-    ensures { EndsPage (page_in command.now) (T.state tray.old) (T.state tray.new) (R.state rack.old) (R.state rack.new) result }
+    ensures { EndsPage (Unit {0}) (sources_of (page_in command.now)) (targets_of (page_in command.now)) (T.state tray.old) (T.state tray.new) (R.state rack.old) (R.state rack.new) result }
 {
     match carry_out(alloc, command, tray, rack) {
-        Ok(()) => 0,
-        Err(refusal) => refuse(rack, refusal),
+        Ok(()) => DONE,
+        Err(refusal) => refuse(rack, &refusal),
     }
 }
 
@@ -40,11 +43,27 @@ fn carry_out<T: Tray, R: Rack>(
     rack: &mut R,
 ) -> Result<(), Refusal>
     requires { IsPageWithin command.now }
-    ensures { CarriesOut (page_in command.now) (T.state tray.old) (T.state tray.new) (R.state rack.old) (R.state rack.new) result }
+    ensures { CarriesOut (sources_of (page_in command.now)) (targets_of (page_in command.now)) (T.state tray.old) (T.state tray.new) (R.state rack.old) (R.state rack.new) result }
 {
-    match read_page(alloc, tray, command) {
+    match read_page(alloc, command, tray) {
         Ok(page) => put_out(alloc, command, &page, rack),
         Err(refusal) => Err(refusal),
+    }
+}
+
+// Gathers the page of the command's job and plates.
+fn read_page<T: Tray>(
+    alloc: Global,
+    command: &PageCommand<'_>,
+    tray: &mut T,
+) -> Result<Page, Refusal>
+    requires { IsPageWithin command.now }
+    ensures { ReadsPage (sources_of (page_in command.now)) (T.state tray.old) (T.state tray.new) result }
+{
+    let words = command.plates.as_slice();
+    match (names_of(alloc, words), inputs_of(alloc, words)) {
+        (Ok(names), Ok(inputs)) => gather(alloc, tray, command.job, &names, inputs.as_slice()),
+        _ => Err(Refusal::Memory),
     }
 }
 
@@ -57,19 +76,21 @@ fn put_out<R: Rack>(
 ) -> Result<(), Refusal>
     requires within { IsPageWithin command.now }
     requires count { plates page.now ≡ vec_len command.now.plates }
-    ensures { PutsOut (page_in command.now) page.now (R.state rack.old) (R.state rack.new) result }
+    ensures { PutsOut (targets_of (page_in command.now)) page.now (R.state rack.old) (R.state rack.new) result }
 {
-    match outcome_of(alloc, page) {
-        Ok(outcome) => {
+    let _valid = page.plates();
+    let words = command.plates.as_slice();
+    match (outputs_of(alloc, words), outcome_of(alloc, page)) {
+        (Ok(outputs), Ok(outcome)) => {
             trapped_planes_law(page);
             write_page(
                 rack,
-                &command.plates,
+                outputs.as_slice(),
                 outcome.planes,
                 command.report,
                 outcome.report.as_slice(),
             )
         }
-        Err(OutOfMemory) => Err(Refusal::Memory),
+        _ => Err(Refusal::Memory),
     }
 }

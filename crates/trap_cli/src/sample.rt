@@ -4,7 +4,6 @@ ghost use Rattle.trap_report.specs.Report.{report_of};
 ghost use Rattle.trap_words.specs.Held.{IsSampleWithin, sample_in};
 ghost use Rattle.trap_cli.specs.Endings.{EndsSample, MakesReport};
 
-use crate::closing::refuse;
 use crate::outcome::outcome_of;
 use outside::rack::Rack;
 use outside::tray::Failed;
@@ -13,10 +12,9 @@ use page_model::parts::{Name, OutOfMemory};
 use page_source::sample::{SampleRefusal, sample_page};
 use std::alloc::Global;
 use trap_report::refusal::Refusal;
+use trap_report::statuses::{DONE, NOT_WRITTEN};
+use trap_report::telling::refuse;
 use trap_words::command::SampleCommand;
-
-// The status of a sample page whose report cannot be told.
-const UNTOLD: u8 = 6;
 
 // Traps a sample page and tells its report, and gives the status that the command ends with.
 pub(crate) fn run_sample<R: Rack>(alloc: Global, command: SampleCommand, rack: &mut R) -> u8
@@ -25,10 +23,10 @@ pub(crate) fn run_sample<R: Rack>(alloc: Global, command: SampleCommand, rack: &
 {
     match sample_report(alloc, command) {
         Ok(text) => match rack.tell(text.as_slice()) {
-            Ok(()) => 0,
-            Err(Failed) => UNTOLD,
+            Ok(()) => DONE,
+            Err(Failed) => NOT_WRITTEN,
         },
-        Err(refusal) => refuse(rack, refusal),
+        Err(refusal) => refuse(rack, &refusal),
     }
 }
 

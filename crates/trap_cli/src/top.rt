@@ -1,8 +1,7 @@
 ghost use Rattle.std.specs.Prelude.{map, string_bytes};
-ghost use Rattle.trap_cli.specs.Clauses.{Success, Usage, RefusedInput, ReadFault, WriteFault, Memory, FaultLine, Locality, SamplePage, Completeness};
+ghost use Rattle.trap_cli.specs.Clauses.{Success, Usage, RefusedInput, ReadFault, WriteFault, LeavesFiles, FaultLine, Locality, SamplePage, Completeness};
 ghost use Rattle.trap_cli.specs.Endings.{Ends};
 
-use crate::closing::refuse;
 use crate::page::run_page;
 use crate::sample::run_sample;
 use outside::rack::Rack;
@@ -11,6 +10,7 @@ use page_model::parts::OutOfMemory;
 use pgm_plates::laws::{not_both, one_fault, one_plate};
 use std::alloc::Global;
 use trap_report::refusal::Refusal;
+use trap_report::telling::refuse;
 use trap_words::command::{Command, read_words};
 
 /// Carries out the command that the words mean, and answers the status that the program ends with.
@@ -29,13 +29,13 @@ pub fn trap_main<T: Tray, R: Rack>(
     tray: &mut T,
     rack: &mut R,
 ) -> u8
-    ensures success { Success (map string_bytes words.now) (T.state tray.old) (R.state rack.old) (R.state rack.new) result }
+    ensures success { Success (map string_bytes words.now) (T.state tray.old) (T.state tray.new) (R.state rack.old) (R.state rack.new) result }
     ensures usage { Usage (map string_bytes words.now) (T.state tray.old) (T.state tray.new) (R.state rack.old) (R.state rack.new) result }
     ensures refused_input { RefusedInput (map string_bytes words.now) (T.state tray.old) (T.state tray.new) (R.state rack.old) (R.state rack.new) result }
     ensures read_fault { ReadFault (map string_bytes words.now) (T.state tray.old) (T.state tray.new) (R.state rack.old) (R.state rack.new) result }
     ensures write_fault { WriteFault (map string_bytes words.now) (T.state tray.old) (R.state rack.old) (R.state rack.new) result }
-    ensures memory { Memory (R.state rack.old) (R.state rack.new) result }
-    ensures fault_line { FaultLine (map string_bytes words.now) (R.state rack.old) (R.state rack.new) result }
+    ensures memory { LeavesFiles (R.state rack.old) (R.state rack.new) result }
+    ensures fault_line { FaultLine (R.state rack.old) (R.state rack.new) result }
     ensures locality { Locality (map string_bytes words.now) (T.state tray.old) }
     ensures sample { SamplePage (map string_bytes words.now) (T.state tray.old) (T.state tray.new) (R.state rack.old) (R.state rack.new) result }
     ensures completeness { Completeness (map string_bytes words.now) (T.state tray.old) (T.state tray.new) (R.state rack.old) (R.state rack.new) result }
@@ -47,12 +47,12 @@ pub fn trap_main<T: Tray, R: Rack>(
 }
 
 fn run<T: Tray, R: Rack>(alloc: Global, words: &[String], tray: &mut T, rack: &mut R) -> u8
-    ensures { Ends (map string_bytes words.now) (T.state tray.old) (T.state tray.new) (R.state rack.old) (R.state rack.new) result }
+    ensures { Ends (Unit {0}) (map string_bytes words.now) (T.state tray.old) (T.state tray.new) (R.state rack.old) (R.state rack.new) result }
 {
     match read_words(alloc, words) {
         Ok(Some(Command::Page(page))) => run_page(alloc, &page, tray, rack),
         Ok(Some(Command::Sample(sample))) => run_sample(alloc, sample, rack),
-        Ok(None) => refuse(rack, Refusal::Usage),
-        Err(OutOfMemory) => refuse(rack, Refusal::Memory),
+        Ok(None) => refuse(rack, &Refusal::Usage),
+        Err(OutOfMemory) => refuse(rack, &Refusal::Memory),
     }
 }

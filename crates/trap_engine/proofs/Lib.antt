@@ -5,4 +5,3 @@ pub mod MarkLemmas
 pub mod StandingLemmas
 pub mod WholeLemmas
 pub mod ZoneRows
-pub mod AssemblyLemmas

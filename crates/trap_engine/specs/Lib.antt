@@ -2,4 +2,3 @@ pub mod Arms
 pub mod Rows
 pub mod Standing
 pub mod Whole
-pub mod Assembly

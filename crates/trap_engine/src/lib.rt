@@ -3,7 +3,6 @@
 
 mod alone;
 mod arms;
-pub mod assemble;
 mod changes;
 mod counting;
 mod grid;

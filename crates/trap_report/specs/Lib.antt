@@ -1,2 +1,4 @@
 pub mod Report
+pub mod Statuses
 pub mod Refusals
+pub mod Telling

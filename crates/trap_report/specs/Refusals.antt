@@ -12,6 +12,7 @@ use Rattle.ps_tokens.specs.declared.faults.Key.TheVariants.{TrapWidth, BlackWidt
 use Rattle.trap_report.specs.declared.refusal.Refusal.{Refusal}
 use Rattle.trap_report.specs.declared.refusal.Refusal.TheVariants.{Usage, Job, NoDetails, Plate, Page, Read, Write, Memory}
 use Rattle.trap_report.specs.Report.{line}
+use Rattle.trap_report.specs.Statuses.{usage, job_refused, page_refused, not_read, not_written, out_of_memory}
 
 abbrev pub key_name : Key → List ℕ
 key_name TrapWidth = codes "TrapWidth"
@@ -106,11 +107,11 @@ line_of Memory = line (codes "out of memory")
 
 -- the status that the program ends with after a refusal
 abbrev pub status_of : Refusal → ℕ
-status_of Usage = 2
-status_of (Job fault) = 3
-status_of (NoDetails plate) = 3
-status_of (Plate plate fault) = 4
-status_of (Page fault) = 4
-status_of (Read file) = 5
-status_of (Write file) = 6
-status_of Memory = 7
+status_of Usage = usage
+status_of (Job fault) = job_refused
+status_of (NoDetails plate) = job_refused
+status_of (Plate plate fault) = page_refused
+status_of (Page fault) = page_refused
+status_of (Read file) = not_read
+status_of (Write file) = not_written
+status_of Memory = out_of_memory

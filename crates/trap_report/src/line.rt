@@ -29,8 +29,8 @@ impl Line {
         &self.bytes[..self.len]
     }
 
-    // The empty line.
-    pub(crate) fn new() -> Line
+    /// The empty line.
+    pub fn new() -> Line
         ensures { result ≡ [] }
     {
         Line {
@@ -39,8 +39,8 @@ impl Line {
         }
     }
 
-    // Adds bytes at the end.
-    pub(crate) fn push(&mut self, bytes: &[u8])
+    /// Adds bytes at the end. The condition is that they fit.
+    pub fn push(&mut self, bytes: &[u8])
         requires { length self.old + length bytes.now ≤ 160 }
         ensures { self.new ≡ self.old ++ bytes.now }
     {
@@ -48,8 +48,8 @@ impl Line {
         self.len += bytes.len();
     }
 
-    // Adds a number in decimal at the end.
-    pub(crate) fn push_number(&mut self, number: u64)
+    /// Adds a number in decimal at the end, which takes twenty bytes at most.
+    pub fn push_number(&mut self, number: u64)
         requires { length self.old ≤ 100 }
         ensures added { self.new ≡ self.old ++ decimal number }
         ensures short { length self.new ≤ length self.old + 40 }

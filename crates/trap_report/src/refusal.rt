@@ -1,6 +1,7 @@
 ghost use Rattle.std.specs.Prelude.{◌≡◌};
 ghost use Rattle.trap_report.specs.Refusals.{status_of};
 
+use crate::statuses::{JOB_REFUSED, NOT_READ, NOT_WRITTEN, OUT_OF_MEMORY, PAGE_REFUSED, USAGE};
 use page_model::page::PageFault;
 use pgm_plates::plate::PlateFault;
 use ps_tokens::faults::JobFault;
@@ -26,16 +27,16 @@ pub enum Refusal {
     Memory,
 }
 
-/// The status that the program ends with after a refusal: 2 to 7.
+/// The status that the program ends with after a refusal: one of `crate::statuses`.
 pub fn status(refusal: &Refusal) -> u8
     ensures { result ≡ status_of refusal.now }
 {
     match refusal {
-        Refusal::Usage => 2,
-        Refusal::Job(_) | Refusal::NoDetails(_) => 3,
-        Refusal::Plate(_, _) | Refusal::Page(_) => 4,
-        Refusal::Read(_) => 5,
-        Refusal::Write(_) => 6,
-        Refusal::Memory => 7,
+        Refusal::Usage => USAGE,
+        Refusal::Job(_) | Refusal::NoDetails(_) => JOB_REFUSED,
+        Refusal::Plate(_, _) | Refusal::Page(_) => PAGE_REFUSED,
+        Refusal::Read(_) => NOT_READ,
+        Refusal::Write(_) => NOT_WRITTEN,
+        Refusal::Memory => OUT_OF_MEMORY,
     }
 }

@@ -3,9 +3,10 @@ use Rattle.std.proofs.Common.{◌≡◌, ◌&&◌, ◌||◌, ◌+◌, ◌<◌, �
 use Rattle.std.proofs.lemmas.List.{map-append, take_more}
 use Rattle.std.specs.List.{list_all, list_any}
 use Rattle.std.specs.Str.{bytes_eq}
-use Rattle.trap_words.specs.Plates.{PlateNames, is_plate, names_of, outputs_of, parts_of}
+use Rattle.plain_words.specs.Parts.{PlateNames, is_plate, parts_of}
+use Rattle.trap_words.specs.Plates.{names_of, outputs_of}
 use Rattle.trap_words.specs.Held.{names_in, plates_in}
-use Rattle.trap_words.specs.declared.command.PlateWord.{PlateWord}
+use Rattle.plain_words.specs.declared.parts.PlateWord.{PlateWord}
 
 pub any_name : (name : List ℕ) (plates : List PlateWord) → list_any (λ p. bytes_eq name p.name.now) plates ≡ list_any (bytes_eq name) (names_of (plates_in plates))
 any_name name [] = refl

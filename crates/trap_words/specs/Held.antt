@@ -1,14 +1,12 @@
 -- What the program holds of a command, as the words that it stands for.
 use Rattle.std.specs.Prelude.{◌≤◌, List, map, vec_len}
 use Rattle.trap_words.specs.Words.{PlateNames, PageWords, SampleWords, Command as Meaning, Page as page, Sample as sample}
-use Rattle.trap_words.specs.declared.command.PlateWord.{PlateWord}
+use Rattle.plain_words.specs.declared.parts.PlateWord.{PlateWord}
+pub use Rattle.plain_words.specs.Held.{names_in}
 use Rattle.trap_words.specs.declared.command.PageCommand.{PageCommand}
 use Rattle.trap_words.specs.declared.command.SampleCommand.{SampleCommand}
 use Rattle.trap_words.specs.declared.command.Command.{Command}
 use Rattle.trap_words.specs.declared.command.Command.TheVariants.{Page, Sample}
-
-abbrev pub names_in : PlateWord → PlateNames
-names_in word = record { name = word.name.now; input = word.input.now; output = word.output.now }
 
 abbrev pub plates_in : List PlateWord → List PlateNames
 plates_in = map names_in

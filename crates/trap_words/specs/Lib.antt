@@ -1,5 +1,5 @@
-pub mod Held
-pub mod Numbers
+pub mod Options
 pub mod PageApp
 pub mod Plates
 pub mod Words
+pub mod Held

@@ -3,9 +3,10 @@ use Rattle.std.specs.Prelude.{ℕ, Bool, false, if◌then◌else◌, List, [], �
 use Rattle.std.specs.Option.{option_map}
 use Rattle.std.specs.Str.{bytes_eq}
 use Rattle.clap.specs.Walk.{Row, all_of, first_of}
-use Rattle.trap_words.specs.Numbers.{number_of, option_number}
+use Rattle.plain_words.specs.Numbers.{number_of}
+use Rattle.trap_words.specs.Options.{option_number}
 use Rattle.trap_words.specs.PageApp.{is_taken, rows_in}
-pub use Rattle.trap_words.specs.Plates.{PlateNames}
+pub use Rattle.plain_words.specs.Parts.{PlateNames}
 use Rattle.trap_words.specs.Plates.{plates_of}
 
 -- a command of one page: its workers, the rows of its bands, the files that are read and written

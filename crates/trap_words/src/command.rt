@@ -5,15 +5,8 @@ ghost use Rattle.trap_words.specs.Held.{command_in, IsWithin};
 use crate::page::read_page;
 use crate::sample::read_sample;
 use lists::names::OutOfMemory;
+use plain_words::parts::PlateWord;
 use std::alloc::Global;
-
-/// A plate's word NAME:IN:OUT: the name of its colorant, the file that is read and the one that is written.
-#[derive(Clone, Copy, Debug, PartialEq, Eq)]
-pub struct PlateWord<'a> {
-    pub name: &'a str,
-    pub input: &'a str,
-    pub output: &'a str,
-}
 
 /// A command of one page: its workers, the rows of its bands, and the files that are read and written.
 #[derive(Debug, Drop)]

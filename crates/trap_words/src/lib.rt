@@ -2,7 +2,7 @@
 #![tactic(auto)]
 
 pub mod command;
-mod numbers;
+mod options;
 mod page;
 mod plates;
 mod sample;

@@ -1,16 +1,17 @@
-ghost use Rattle.std.specs.Prelude.{◌≡◌, ◌≢◌, ◌≤◌, false, IfOk, IfSome, OnOk, is_some, map, option_map, string_bytes, vec_len};
+ghost use Rattle.std.specs.Prelude.{◌≡◌, ◌≢◌, ◌≤◌, false, IfOk, IfSome, OnErr, OnOk, is_some, map, option_map, string_bytes, vec_len};
 ghost use Rattle.std.specs.Option.{ForSome};
 ghost use Rattle.clap.specs.Words.{app_of, found_of, rows_of};
 ghost use Rattle.trap_words.specs.PageApp.{is_taken, page_app, rows_in};
 ghost use Rattle.trap_words.specs.Words.{page_of as page_meant, page_of_rows, page_of_words, page_with as page_made};
 ghost use Rattle.trap_words.specs.Held.{IsPageWithin, page_in, plates_in};
 
-use crate::command::{PageCommand, PlateWord};
-use crate::numbers::option_number;
+use crate::command::PageCommand;
+use crate::options::option_number;
 use crate::plates::read_plates;
 use clap::error::ErrorKind;
 use clap::{Arg, ArgMatches, Command};
 use lists::names::OutOfMemory;
+use plain_words::parts::PlateWord;
 use std::alloc::{AllocError, Global};
 
 // The page that the words mean, `page` being the first of them.
@@ -57,6 +58,7 @@ fn matches_by<'a>(
 fn without_matches<'a>(kind: ErrorKind) -> Result<Option<ArgMatches<'a>>, OutOfMemory>
     ensures none { IfOk result (λ r. is_some r ≡ false) }
     ensures cause { OnOk result (kind ≢ ErrorKind.OutOfMemory) }
+    ensures memory { OnErr result (kind ≡ ErrorKind.OutOfMemory) }
 {
     match kind {
         ErrorKind::OutOfMemory => Err(OutOfMemory),

@@ -1,11 +1,13 @@
 ghost use Rattle.std.specs.Prelude.{◌≡◌, ◌≤◌, ◌∷◌, if◌then◌else◌, IfOk, IfSome, IsTrue, length, map, option_map, vec_len};
-ghost use Rattle.std.specs.List.{list_all, list_any, before_first, after_first};
+ghost use Rattle.std.specs.List.{list_all, list_any};
 ghost use Rattle.std.specs.Str.{bytes_eq};
-ghost use Rattle.trap_words.specs.Plates.{are_distinct, are_plates as plates_test, is_colon, is_delimiter as delimiter_test, is_name as name_test, is_name_byte as name_byte_test, is_plate as plate_test, names_of, outputs_of, parts_of as parts_meant, plates_of, stand_together as together_test};
-ghost use Rattle.trap_words.specs.Held.{names_in, plates_in};
+ghost use Rattle.plain_words.specs.Distinct.{are_distinct};
+ghost use Rattle.plain_words.specs.Parts.{is_plate as plate_test, parts_of as parts_meant};
+ghost use Rattle.trap_words.specs.Plates.{are_plates as plates_test, names_of, outputs_of, plates_of, stand_together as together_test};
+ghost use Rattle.trap_words.specs.Held.{plates_in};
 
-use crate::command::PlateWord;
 use lists::names::OutOfMemory;
+use plain_words::parts::{PlateWord, is_plate, plate_parts};
 use std::alloc::Global;
 
 // The plates of the words, where each has its form and they may stand together, and beside the report.
@@ -52,7 +54,7 @@ fn are_all_plates(words: &[&str]) -> bool
 fn is_plate_word(word: &str) -> bool
     ensures { result ≡ plate_test (parts_meant word.now) }
 {
-    is_plate(parts_of(word))
+    is_plate(plate_parts(word))
 }
 
 fn parts_of_all<'a>(alloc: Global, words: &[&'a str]) -> Result<Vec<PlateWord<'a>>, OutOfMemory>
@@ -61,78 +63,12 @@ fn parts_of_all<'a>(alloc: Global, words: &[&'a str]) -> Result<Vec<PlateWord<'a
 {
     let mut plates = Vec::new(alloc);
     for word in words {
-        match plates.push(parts_of(word)) {
+        match plates.push(plate_parts(word)) {
             Ok(()) => {}
             Err(_) => return Err(OutOfMemory),
         }
     }
     Ok(plates)
-}
-
-// The parts of a word before its first colon, between its first two and behind them.
-fn parts_of(word: &str) -> PlateWord<'_>
-    ensures { names_in result ≡ parts_meant word.now }
-{
-    let (name, rest) = cut(word);
-    let (input, output) = cut(rest);
-    PlateWord {
-        name,
-        input,
-        output,
-    }
-}
-
-// What stands before the first colon, and what stands behind it.
-fn cut(word: &str) -> (&str, &str)
-    ensures before { result.0.now ≡ before_first is_colon word.now }
-    ensures behind { result.1.now ≡ after_first is_colon word.now }
-{
-    match word.split_once(':') {
-        Some((before, behind)) => (before, behind),
-        None => (word, ""),
-    }
-}
-
-fn is_plate(plate: PlateWord<'_>) -> bool
-    ensures { result ≡ plate_test (names_in plate.entry) }
-{
-    is_name(plate.name.as_bytes())
-        && !plate.input.is_empty()
-        && !plate.output.is_empty()
-        && !has_colon(plate.output.as_bytes())
-}
-
-fn has_colon(word: &[u8]) -> bool
-    ensures { result ≡ list_any is_colon word.now }
-{
-    word.iter().any(|byte| *byte == b':')
-}
-
-fn is_name(name: &[u8]) -> bool
-    ensures { result ≡ name_test name.now }
-{
-    1 <= name.len() && name.len() <= 64 && are_name_bytes(name)
-}
-
-fn are_name_bytes(name: &[u8]) -> bool
-    ensures { result ≡ list_all name_byte_test name.now }
-{
-    name.iter().all(|byte| is_name_byte(*byte))
-}
-
-fn is_name_byte(byte: u8) -> bool
-    ensures { result ≡ name_byte_test byte }
-{
-    33 <= byte && byte <= 126 && !is_delimiter(byte)
-}
-
-fn is_delimiter(byte: u8) -> bool
-    ensures { result ≡ delimiter_test byte }
-{
-    matches!(
-        byte,
-        b'(' | b')' | b'<' | b'>' | b'[' | b']' | b'{' | b'}' | b'/' | b'%'
-    )
 }
 
 // Whether the names differ from one another, and the files that are written too, the report among them.

@@ -4,7 +4,7 @@ ghost use Rattle.trap_words.specs.Words.{sample_of_words, sample_with as sample_
 ghost use Rattle.trap_words.specs.Held.{IsSampleWithin, sample_in};
 
 use crate::command::SampleCommand;
-use crate::numbers::read_number;
+use plain_words::numbers::read_number;
 
 // NUMBER WIDTH HEIGHT WORKERS.
 pub(crate) fn read_sample(words: &[String]) -> Option<SampleCommand>

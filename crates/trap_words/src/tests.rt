@@ -1,4 +1,5 @@
-use crate::command::{Command, PageCommand, PlateWord, read_words};
+use crate::command::{Command, PageCommand, read_words};
+use plain_words::parts::PlateWord;
 use std::alloc::{AllocError, Global};
 use std::test::Fail;
 

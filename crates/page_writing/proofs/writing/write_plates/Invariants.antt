@@ -1,7 +1,7 @@
-use Rattle.std.proofs.Common.{◌≡◌, ◌++◌, IsTrue, length}
+use Rattle.std.proofs.Common.{◌≡◌, ◌++◌, IsTrue, length, map}
 use Rattle.std.specs.Vec.Iter.{into_iter_items}
 use Rattle.outside.specs.Rack.{KeepsRack}
-use Rattle.page_writing.specs.Files.{outputs_in, plate_files}
+use Rattle.page_writing.specs.Files.{plate_files}
 use Rattle.page_writing.specs.Writing.{WritesAll}
 use Rattle.page_writing.proofs.writing.write_plates.Given as goal
 
@@ -11,5 +11,5 @@ invariant-loop-plane g l = record {
   left : l.fn.planes ≡ l.yielded ++ into_iter_items l.plane-iterator;
   keeps : KeepsRack (g.R.Rack.state l.fn.rack) (g.R.Rack.state l.rack);
   told : IsTrue (g.R.Rack.state l.fn.rack).tells → (g.R.Rack.state l.rack).told ≡ (g.R.Rack.state l.fn.rack).told;
-  wrote : WritesAll (plate_files (outputs_in l.plates) l.yielded) (g.R.Rack.state l.fn.rack) (g.R.Rack.state l.rack);
+  wrote : WritesAll (plate_files (map g.S.AsStr.text l.names) l.yielded) (g.R.Rack.state l.fn.rack) (g.R.Rack.state l.rack);
 }

@@ -2,7 +2,7 @@ use Rattle.std.proofs.Common.{◌≡◌, ◌∙◌, ℕ, List, Bor, rules, tests
 use Rattle.std.proofs.lemmas.Iterator.{YieldsList-from_slice}
 use Rattle.std.proofs.lemmas.Iterator.Search.{all_from_yields_List}
 use Rattle.std.specs.List.{list_all}
-use Rattle.trap_words.specs.Plates.{is_plate, parts_of}
+use Rattle.plain_words.specs.Parts.{is_plate, parts_of}
 use Rattle.trap_words.proofs.PlateLemmas.{all_plates}
 use Rattle.trap_words.proofs.plates.are_all_plates.Goals as goal
 

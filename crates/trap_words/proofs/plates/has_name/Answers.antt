@@ -3,7 +3,7 @@ use Rattle.std.proofs.lemmas.Iterator.{YieldsList-from_slice}
 use Rattle.std.proofs.lemmas.Iterator.Search.{any_from_yields_List}
 use Rattle.std.specs.List.{list_any}
 use Rattle.std.specs.Str.{bytes_eq}
-use Rattle.trap_words.specs.declared.command.PlateWord.{PlateWord}
+use Rattle.plain_words.specs.declared.parts.PlateWord.{PlateWord}
 use Rattle.trap_words.proofs.PlateLemmas.{any_name}
 use Rattle.trap_words.proofs.plates.has_name.Goals as goal
 

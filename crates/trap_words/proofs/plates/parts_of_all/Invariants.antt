@@ -1,5 +1,5 @@
 use Rattle.std.proofs.Common.{◌≡◌, map, take, vec_len}
-use Rattle.trap_words.specs.Plates.{parts_of}
+use Rattle.plain_words.specs.Parts.{parts_of}
 use Rattle.trap_words.specs.Held.{plates_in}
 use Rattle.trap_words.proofs.plates.parts_of_all.Given as goal
 

@@ -1,0 +1,210 @@
+-- The page of a job and plates that are read.
+use Rattle.std.proofs.Common.{◌≡◌, ◌⊎◌, ℕ, ◌<◌, ◌≤◌, ◌+◌, List, [], ◌∷◌, ◌++◌, length, map, take, Option, Some, None, Result, Ok, Err, IsTrue, inl, inr, refl, sym, ap, ◌∙◌, subst, arith, suc}
+use Rattle.std.specs.Result.{MatchResult}
+use Rattle.outside.specs.Causes.{Asks, AsksFront}
+use Rattle.outside.specs.Tray.{TrayState, KeepsTray}
+use Rattle.outside.proofs.Names.{asks_then, asks_all, asks_front, asks_first}
+use Rattle.outside.proofs.Steps.{rose_before}
+use Rattle.job_reader.specs.declared.job.Job.{Job}
+use Rattle.job_reader.specs.Jobs.{job_of}
+use Rattle.page_model.specs.declared.parts.PageParts.{PageParts}
+use Rattle.page_model.specs.declared.page.PageFault.{PageFault}
+use Rattle.pgm_plates.specs.declared.plate.Plate.{Plate as PlateRead}
+use Rattle.pgm_plates.specs.Faults.{IsFault}
+use Rattle.page_gather.specs.Assembly.{assembly, assembled, detailed, faulted, without_details}
+use Rattle.page_model.specs.Faults.{page_fault}
+use Rattle.page_model.specs.Page.{plates}
+use Rattle.pgm_plates.specs.Planes.{plane_of}
+use Rattle.std.proofs.lemmas.List.{length-map}
+use Rattle.trap_report.specs.declared.refusal.Refusal.{Refusal}
+use Rattle.trap_report.specs.declared.refusal.Refusal.TheVariants.{Usage, Job as JobRefusal, NoDetails, Plate, Page, Read, Write, Memory}
+use Rattle.page_gather.specs.Inputs.{Sources, Holds, AreRead, Inputs, Makes, one_page, read_files, name_at}
+use Rattle.page_gather.specs.Steps.{ReadsJob, AnswersJob, ReadsPlates, AnswersPlates, PassesNoFault, PlateInHand, TakesPlate}
+use Rattle.page_gather.specs.Gathering.{Gathers, AnswersPage, InHand}
+use Rattle.page_gather.proofs.PlateLemmas.{held_before, faultless_before, count_then}
+
+kept : (a b c : TrayState) → KeepsTray a b → KeepsTray b c → KeepsTray a c
+kept a b c one two = record { tells = two.tells ∙ one.tells; file = two.file ∙ one.file; faults = omega arith }
+
+-- the job is refused
+answer_job : (source : Sources) (a b : TrayState) (refusal : Refusal) → Asks a.asked b.asked (source.job ∷ []) → AnswersJob source.job a b (Err refusal) → AnswersPage source a b (Err refusal)
+answer_job source a b (JobRefusal fault) asked answer = (asked, answer)
+answer_job source a b (Read None) asked answer = (answer, asked)
+answer_job source a b Memory asked answer = tt
+answer_job source a b Usage asked answer = absurd answer
+answer_job source a b (NoDetails plate) asked answer = absurd answer
+answer_job source a b (Plate plate fault) asked answer = absurd answer
+answer_job source a b (Page fault) asked answer = absurd answer
+answer_job source a b (Read (Some plate)) asked answer = absurd answer
+answer_job source a b (Write file) asked answer = absurd answer
+
+one_of : (a b : Option (List (List ℕ))) (x : List ℕ) (rest : List (List ℕ)) → Asks a b (x ∷ []) → AsksFront a b (x ∷ rest)
+one_of a b x rest one = asks_front a b 1 (x ∷ rest) one
+
+pub job_refused : (source : Sources) (a b : TrayState) (refusal : Refusal) → ReadsJob source.job a b (Err refusal) → Gathers source a b (Err refusal)
+job_refused source a b refusal reads = record {
+  keeps = reads.keeps;
+  asked = one_of a.asked b.asked source.job source.inputs reads.asked;
+  in_hand = inl reads.few;
+  count = count_then Job PageParts a a b refusal refl reads.count;
+  answer = answer_job source a b refusal reads.asked reads.answer;
+}
+
+take_two : (x : List ℕ) (n : ℕ) (names : List (List ℕ)) → take (n + 2) (x ∷ names) ≡ x ∷ take (n + 1) names
+take_two x n names = let same : n + 2 ≡ suc (n + 1) = omega arith in ap (λ (m : ℕ). take m (x ∷ names)) same
+
+-- A refusal of making a page is want of details or a fault of the page.
+abbrev pub NoneOther : Result PageParts Refusal → Type 0
+NoneOther (Ok page) = Unit {0}
+NoneOther (Err (NoDetails plate)) = Unit {0}
+NoneOther (Err (Page fault)) = Unit {0}
+NoneOther other = ⊥
+
+fault_alone : (parts : PageParts) (o : Option PageFault) (refusal : Refusal) → faulted parts o ≡ Err refusal → NoneOther (Err refusal)
+fault_alone parts None refusal is = absurd (cc)
+fault_alone parts (Some fault) refusal is = let same : Page fault ≡ refusal = cc in subst (λ (r : Refusal). NoneOther (Err r)) same tt
+
+pub none_other : (o : Option ℕ) (parts : PageParts) (refusal : Refusal) → detailed o parts ≡ Err refusal → NoneOther (Err refusal)
+none_other None parts refusal is = fault_alone parts (page_fault parts) refusal is
+none_other (Some plate) parts refusal is = let same : NoDetails plate ≡ refusal = cc in subst (λ (r : Refusal). NoneOther (Err r)) same tt
+
+-- a front of the plates' files behind the job
+asked_to : (source : Sources) (a b c : TrayState) (plate : ℕ) → Asks a.asked b.asked (source.job ∷ []) → Asks b.asked c.asked (take (plate + 1) source.inputs) → Asks a.asked c.asked (take (plate + 2) (read_files source))
+asked_to source a b c plate one two =
+    let same : (source.job ∷ []) ++ take (plate + 1) source.inputs ≡ take (plate + 2) (read_files source) = sym (take_two source.job plate source.inputs) in
+    subst (λ (l : List (List ℕ)). Asks a.asked c.asked l) same (asks_then a.asked b.asked c.asked (source.job ∷ []) (take (plate + 1) source.inputs) one two)
+
+-- plates that were read behind the job, of the same tray
+read_before : (a b : TrayState) (names : List (List ℕ)) (count : ℕ) (plates : List PlateRead) → KeepsTray a b → AreRead one_page b.file names count plates → AreRead one_page a.file names count plates
+read_before a b names count plates keeps read = subst (λ (files : List ℕ → Option (List ℕ)). AreRead one_page files names count plates) keeps.file read
+
+-- the plate in hand, of a tray that is the same as before the job was read
+plate_in_hand : (source : Sources) (a b c : TrayState) → KeepsTray a b → PlateInHand source.inputs b c → InHand source a c
+plate_in_hand source a b c keeps there = inr (
+  there.0,
+  there.1,
+  record {
+    bytes = there.2.bytes;
+    taken = λ begun tells. ap (λ (files : List ℕ → Option (List ℕ)). files (name_at source.inputs there.0)) (sym keeps.file) ∙ there.2.taken begun (keeps.tells ∙ tells);
+    few = there.2.few;
+  },
+)
+
+-- one of the plates is refused
+answer_plates : (source : Sources) (a b c : TrayState) (job : Job) (refusal : Refusal) → KeepsTray a b → Asks a.asked b.asked (source.job ∷ []) → (IsTrue a.tells → Holds a.file source.job (λ bytes. job_of bytes ≡ Ok job)) → AnswersPlates source.inputs b c (Err refusal) → AnswersPage source a c (Err refusal)
+answer_plates source a b c job (Plate plate fault) keeps asked job_read answer = (
+  asked_to source a b c plate asked answer.0.asked,
+  λ tells. record {
+    job = job;
+    plates = answer.0.plates;
+    job_read = job_read tells;
+    before = read_before a b source.inputs plate answer.0.plates keeps (answer.0.before_it (keeps.tells ∙ tells));
+    known = answer.0.known;
+    broken = held_before a b (name_at source.inputs plate) (λ bytes. IsFault bytes fault) keeps answer.1 tells;
+  },
+)
+answer_plates source a b c job (Read (Some plate)) keeps asked job_read answer = (
+  rose_before a.faults b.faults c.faults keeps.faults answer.1,
+  asked_to source a b c plate asked answer.0.asked,
+  record {
+    known = answer.0.known;
+    job = job;
+    plates = answer.0.plates;
+    job_read = job_read;
+    before_it = λ tells. read_before a b source.inputs plate answer.0.plates keeps (answer.0.before_it (keeps.tells ∙ tells));
+    in_hand = faultless_before a b c (name_at source.inputs plate) keeps answer.2;
+  },
+)
+answer_plates source a b c job Memory keeps asked job_read answer = tt
+answer_plates source a b c job Usage keeps asked job_read answer = absurd answer
+answer_plates source a b c job (JobRefusal fault) keeps asked job_read answer = absurd answer
+answer_plates source a b c job (NoDetails plate) keeps asked job_read answer = absurd answer
+answer_plates source a b c job (Page fault) keeps asked job_read answer = absurd answer
+answer_plates source a b c job (Read None) keeps asked job_read answer = absurd answer
+answer_plates source a b c job (Write file) keeps asked job_read answer = absurd answer
+
+-- the names that were handed out when a plate was refused
+front_of : (names : List (List ℕ)) (b c : TrayState) (refusal : Refusal) → AnswersPlates names b c (Err refusal) → AsksFront b.asked c.asked names
+front_of names b c (Plate plate fault) answer = asks_front b.asked c.asked (plate + 1) names answer.0.asked
+front_of names b c (Read (Some plate)) answer = asks_front b.asked c.asked (plate + 1) names answer.0.asked
+front_of names b c Memory answer = answer
+front_of names b c Usage answer = absurd answer
+front_of names b c (JobRefusal fault) answer = absurd answer
+front_of names b c (NoDetails plate) answer = absurd answer
+front_of names b c (Page fault) answer = absurd answer
+front_of names b c (Read None) answer = absurd answer
+front_of names b c (Write file) answer = absurd answer
+
+pub plates_refused : (source : Sources) (a b c : TrayState) (job : Job) (refusal : Refusal) → 0 < length source.inputs → ReadsJob source.job a b (Ok job) → ReadsPlates source.inputs b c (Err refusal) → Gathers source a c (Err refusal)
+plates_refused source a b c job refusal some first next = record {
+  keeps = kept a b c first.keeps next.keeps;
+  asked = asks_first a.asked b.asked c.asked source.job source.inputs first.asked (front_of source.inputs b c refusal next.answer);
+  in_hand = plate_in_hand source a b c first.keeps (next.few some);
+  count = count_then (List PlateRead) PageParts a b c refusal first.count next.count;
+  answer = answer_plates source a b c job refusal first.keeps first.asked first.answer.1 next.answer;
+}
+
+-- all names were handed out
+asked_all : (source : Sources) (a b c : TrayState) → Asks a.asked b.asked (source.job ∷ []) → Asks b.asked c.asked source.inputs → Asks a.asked c.asked (read_files source)
+asked_all source a b c one two = asks_then a.asked b.asked c.asked (source.job ∷ []) source.inputs one two
+
+-- a page has as many plates as were put together
+as_many : (parts page : PageParts) (o : Option PageFault) → faulted parts o ≡ Ok page → plates page ≡ plates parts
+as_many parts page None is = let same : parts ≡ page = cc in ap plates (sym same)
+as_many parts page (Some fault) is = absurd (cc)
+
+plates_made : (o : Option ℕ) (parts page : PageParts) → detailed o parts ≡ Ok page → plates page ≡ plates parts
+plates_made None parts page is = as_many parts page (page_fault parts) is
+plates_made (Some plate) parts page is = absurd (cc)
+
+answer_made : (source : Sources) (a c : TrayState) (refusal : Refusal) → Asks a.asked c.asked (read_files source) → (IsTrue a.tells → Makes one_page a.file source (Err refusal)) → NoneOther (Err refusal) → AnswersPage source a c (Err refusal)
+answer_made source a c (NoDetails plate) asked makes other = (asked, makes)
+answer_made source a c (Page fault) asked makes other = (asked, makes)
+answer_made source a c Memory asked makes other = absurd other
+answer_made source a c Usage asked makes other = absurd other
+answer_made source a c (JobRefusal fault) asked makes other = absurd other
+answer_made source a c (Plate plate fault) asked makes other = absurd other
+answer_made source a c (Read file) asked makes other = absurd other
+answer_made source a c (Write file) asked makes other = absurd other
+
+answer_met : (source : Sources) (a c : TrayState) (result : Result PageParts Refusal) (job : Job) (read : List PlateRead) → length read ≡ length source.inputs → Asks a.asked c.asked (read_files source) → (IsTrue a.tells → Inputs one_page a.file source job read) → MatchResult result (λ page. assembly job read source.names ≡ Ok page) (λ refusal. (refusal ≡ Memory) ⊎ (assembly job read source.names ≡ Err refusal)) → AnswersPage source a c result
+answer_met source a c (Ok page) job read count asked inputs met =
+    (plates_made (without_details job source.names) (assembled job read source.names) page met ∙ length-map read plane_of ∙ count, asked, λ tells. (job, read, inputs tells, met))
+answer_met source a c (Err refusal) job read count asked inputs (inl memory) = subst (λ (r : Refusal). AnswersPage source a c (Err r)) (sym memory) tt
+answer_met source a c (Err refusal) job read count asked inputs (inr met) = answer_made source a c refusal asked (λ tells. (job, read, inputs tells, met)) (none_other (without_details job source.names) (assembled job read source.names) refusal met)
+
+-- no fault is passed over where the page is made
+refusal_count : (a c : TrayState) (refusal : Refusal) → c.faults ≡ a.faults → NoneOther (Err refusal) → PassesNoFault {T = PageParts} a c (Err refusal)
+refusal_count a c (NoDetails plate) calm other = calm
+refusal_count a c (Page fault) calm other = calm
+refusal_count a c Memory calm other = calm
+refusal_count a c Usage calm other = absurd other
+refusal_count a c (JobRefusal fault) calm other = absurd other
+refusal_count a c (Plate plate fault) calm other = absurd other
+refusal_count a c (Read file) calm other = absurd other
+refusal_count a c (Write file) calm other = absurd other
+
+made_count : (source : Sources) (a c : TrayState) (result : Result PageParts Refusal) (job : Job) (read : List PlateRead) → c.faults ≡ a.faults → MatchResult result (λ page. assembly job read source.names ≡ Ok page) (λ refusal. (refusal ≡ Memory) ⊎ (assembly job read source.names ≡ Err refusal)) → PassesNoFault a c result
+made_count source a c (Ok page) job read calm met = calm
+made_count source a c (Err refusal) job read calm (inl memory) = subst (λ (r : Refusal). PassesNoFault {T = PageParts} a c (Err r)) (sym memory) calm
+made_count source a c (Err refusal) job read calm (inr met) = refusal_count a c refusal calm (none_other (without_details job source.names) (assembled job read source.names) refusal met)
+
+pub page_made : (source : Sources) (a b c : TrayState) (job : Job) (plates : List PlateRead) (result : Result PageParts Refusal) → 0 < length source.inputs → ReadsJob source.job a b (Ok job) → ReadsPlates source.inputs b c (Ok plates) → MatchResult result (λ page. assembly job plates source.names ≡ Ok page) (λ refusal. (refusal ≡ Memory) ⊎ (assembly job plates source.names ≡ Err refusal)) → Gathers source a c result
+page_made source a b c job plates result some first next met =
+    let asked : Asks a.asked c.asked (read_files source) = asked_all source a b c first.asked next.answer.0 in
+    record {
+      keeps = kept a b c first.keeps next.keeps;
+      asked = asks_all a.asked c.asked (read_files source) asked;
+      in_hand = plate_in_hand source a b c first.keeps (next.few some);
+      count = made_count source a c result job plates (next.count ∙ first.count) met;
+      answer = answer_met source a c result job plates next.answer.1 asked
+          (λ tells. record {
+            job_read = first.answer.1 tells;
+            plates_read = read_before a b source.inputs (length source.inputs) plates first.keeps (next.answer.3 (first.keeps.tells ∙ tells));
+          })
+          met;
+    }
+
+-- as many files as inputs that give their names
+pub some_inputs : {X : Type 0} (text : X → List ℕ) (inputs : List X) → 1 ≤ length inputs → 0 < length (map text inputs)
+some_inputs text inputs some = omega (arith, length-map inputs text, some)

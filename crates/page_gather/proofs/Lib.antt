@@ -1,0 +1,4 @@
+pub mod AssemblyLemmas
+pub mod JobLemmas
+pub mod PlateLemmas
+pub mod GatherLemmas

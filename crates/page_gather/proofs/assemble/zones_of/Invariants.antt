@@ -1,0 +1,6 @@
+use Rattle.std.proofs.Common.{◌≡◌, ◌++◌, map, take, drop}
+use Rattle.page_gather.specs.Assembly.{zone_for}
+use Rattle.page_gather.proofs.assemble.zones_of.Given as goal
+
+abbrev pub invariant-loop-at : goal.invariant-loop-at
+invariant-loop-at l = l.zones.items ≡ map (zone_for l.names) (take l.at l.initial.zones.items) ++ drop l.at l.initial.zones.items

@@ -1,0 +1,4 @@
+pub mod Assembly
+pub mod Inputs
+pub mod Steps
+pub mod Gathering

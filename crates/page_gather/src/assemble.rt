@@ -1,0 +1,184 @@
+ghost use Rattle.std.specs.Prelude.{◌≡◌, ◌⊎◌, ◌<◌, ◌≤◌, IfOk, OnOk, Ok, Err, map, length, All, is_none, MatchResult, option_copied, option_map};
+ghost use Rattle.std.specs.List.{position, list_any};
+ghost use Rattle.std.specs.Str.{bytes_eq};
+ghost use Rattle.page_model.specs.Conditions.{IsParts};
+ghost use Rattle.pgm_plates.specs.Planes.{plane_of};
+ghost use Rattle.pgm_plates.specs.Plates.{IsPlate};
+ghost use Rattle.job_reader.specs.InRange.{IsJob};
+ghost use Rattle.page_gather.specs.Assembly.{CanAssemble, assembled, assembly, without_details as plate_without, detail_of as detail_meant, ink_of as ink_meant, zone_for, some_enabled as some_zone_enabled};
+
+use job_reader::job::Job;
+use lists::list::List;
+use page_model::limits::keep;
+use page_model::page::Page;
+use page_model::parts::{
+    DetailList, Ink, InkKind, InkList, Name, NameList, OutOfMemory, PageParts, PlaneList, ZoneList,
+};
+use pgm_plates::plate::Plate;
+use std::alloc::Global;
+use trap_report::refusal::Refusal;
+
+/// Plates, in the order of the words.
+pub type PlateList = List<Plate>;
+
+/// The page that a job and plates make. Each plate has its colorant's name, and gets the ink that the job's details give
+/// that name; each zone keeps the limits of the plates' names alone.
+///
+/// Where some zone is enabled, the first plate without details is refused. Where none is, such a plate gets a density of
+/// 10,000 ten-thousandths and the kind Normal. Then come the faults of `Page::new`, and want of memory. A refusal hands
+/// nothing back. The rule is this project's own.
+pub fn assemble(
+    alloc: Global,
+    job: Job,
+    plates: PlateList,
+    names: &NameList,
+) -> Result<Page, Refusal>
+    requires job { IsJob job }
+    requires plates { CanAssemble plates names.now }
+    ensures { MatchResult result (λ page. assembly job plates names.now ≡ Ok page) (λ refusal. (refusal ≡ Refusal.Memory) ⊎ (assembly job plates names.now ≡ Err refusal)) }
+{
+    if let Some(plate) = without_details(&job, names) {
+        return Err(Refusal::NoDetails(plate));
+    }
+    match parts_of(alloc, job, plates, names) {
+        Ok(parts) => match Page::new(parts) {
+            Ok(page) => Ok(page),
+            Err((fault, _parts)) => Err(Refusal::Page(fault)),
+        },
+        Err(OutOfMemory) => Err(Refusal::Memory),
+    }
+}
+
+// The first plate whose name has no details, where some zone is enabled.
+fn without_details(job: &Job, names: &NameList) -> Option<u32>
+    requires { length names.now ≤ 16 }
+    ensures { result ≡ plate_without job.now names.now }
+{
+    if !some_enabled(&job.zones) {
+        return None;
+    }
+    match first_without(&job.details, names) {
+        Some(plate) => Some(plate as u32),
+        None => None,
+    }
+}
+
+fn first_without(details: &DetailList, names: &NameList) -> Option<usize>
+    ensures { result ≡ position (λ name. is_none (detail_meant details.now name)) names.now }
+{
+    names
+        .as_slice()
+        .iter()
+        .position(|name| is_without(details, name))
+}
+
+fn is_without(details: &DetailList, name: &Name) -> bool
+    ensures { result ≡ is_none (detail_meant details.now name.now) }
+{
+    detail_of(details, name.as_slice()).is_none()
+}
+
+fn some_enabled(zones: &ZoneList) -> bool
+    ensures { result ≡ list_any (λ z. z.params.enabled) zones.now }
+{
+    zones.as_slice().iter().any(|zone| zone.params.enabled)
+}
+
+// The details of that name.
+fn detail_of<'a>(details: &'a DetailList, name: &[u8]) -> Option<&'a Ink>
+    ensures { option_copied result ≡ detail_meant details.now name.now }
+{
+    details.as_slice().iter().find(|ink| is_named(ink, name))
+}
+
+fn is_named(ink: &Ink, name: &[u8]) -> bool
+    ensures { result ≡ bytes_eq ink.now.name name.now }
+{
+    ink.name.as_slice() == name
+}
+
+fn parts_of(
+    alloc: Global,
+    job: Job,
+    plates: PlateList,
+    names: &NameList,
+) -> Result<PageParts, OutOfMemory>
+    requires plates { CanAssemble plates names.now }
+    ensures { IfOk result (λ parts. parts ≡ assembled job plates names.now) }
+{
+    let Job {
+        resolution,
+        zones,
+        details,
+    } = job;
+    let planes = planes_of(alloc, plates)?;
+    let inks = inks_of(alloc, &details, names)?;
+    let zones = zones_of(zones, names);
+    Ok(PageParts {
+        resolution,
+        planes,
+        inks,
+        zones,
+    })
+}
+
+fn planes_of(alloc: Global, plates: PlateList) -> Result<PlaneList, OutOfMemory>
+    requires { All IsPlate plates }
+    ensures { IfOk result (λ planes. planes ≡ map plane_of plates) }
+{
+    let plates = plates.into_vec();
+    let mut planes = List::new(alloc);
+    for plate in plates {
+        if planes.push(plate.into_plane()).is_err() {
+            return Err(OutOfMemory);
+        }
+    }
+    Ok(planes)
+}
+
+fn inks_of(alloc: Global, details: &DetailList, names: &NameList) -> Result<InkList, OutOfMemory>
+    ensures { IfOk result (λ inks. inks ≡ map (ink_meant details.now) names.now) }
+{
+    let mut inks = List::new(alloc);
+    for name in names.as_slice() {
+        let ink = ink_of(alloc, details, name.as_slice())?;
+        if inks.push(ink).is_err() {
+            return Err(OutOfMemory);
+        }
+    }
+    Ok(inks)
+}
+
+fn ink_of(alloc: Global, details: &DetailList, name: &[u8]) -> Result<Ink, OutOfMemory>
+    ensures { IfOk result (λ ink. ink ≡ ink_meant details.now name.now) }
+{
+    match detail_of(details, name) {
+        Some(ink) => make_ink(alloc, ink.name.as_slice(), ink.density, ink.kind),
+        None => make_ink(alloc, name, 10_000, InkKind::Normal),
+    }
+}
+
+fn make_ink(alloc: Global, name: &[u8], density: u32, kind: InkKind) -> Result<Ink, OutOfMemory>
+    ensures { IfOk result (λ ink. ink ≡ record { name = name.now; density = density; kind = kind }) }
+{
+    let mut copy: Vec<u8> = Vec::new(alloc);
+    if copy.extend_from_slice(name).is_err() {
+        return Err(OutOfMemory);
+    }
+    Ok(Ink {
+        name: List::from_vec(copy),
+        density,
+        kind,
+    })
+}
+
+fn zones_of(zones: ZoneList, names: &NameList) -> ZoneList
+    ensures { result ≡ map (zone_for names.now) zones }
+{
+    let mut zones = zones.into_vec();
+    for at in 0..zones.len() {
+        let zone = &mut zones[at];
+        keep(&mut zone.limits, names);
+    }
+    List::from_vec(zones)
+}

@@ -1,0 +1,57 @@
+ghost use Rattle.std.specs.Prelude.{◌≡◌, ◌≤◌, ℕ, List, length, map};
+ghost use Rattle.job_reader.specs.InRange.{IsJob};
+ghost use Rattle.page_gather.specs.Gathering.{Gathers, GathersRest};
+
+use crate::assemble::assemble;
+use crate::job::read_job_file;
+use crate::plates::read_plates;
+use job_reader::job::Job;
+use lists::names::NameList;
+use outside::tray::Tray;
+use page_model::page::Page;
+use std::alloc::Global;
+use std::convert::AsStr;
+use trap_report::refusal::Refusal;
+
+/// Reads the job of that name and then each plate in the order of its file, to their ends, and makes the page of them. The
+/// names are those of the plates' colorants.
+///
+/// It stops at the first refusal: a read that fails, the job's fault, a plate's fault, a plate without details, a fault of
+/// the page, or want of memory. No file is begun behind the one that is refused.
+pub fn gather<T: Tray, S: AsStr>(
+    alloc: Global,
+    tray: &mut T,
+    job: &str,
+    names: &NameList,
+    inputs: &[S],
+) -> Result<Page, Refusal>
+    requires some { 1 ≤ length inputs.now }
+    requires few { length inputs.now ≤ 16 }
+    requires named { length names.now ≡ length inputs.now }
+    ensures { Gathers (record { job = job.now; names = names.now; inputs = map S.text inputs.now }) (T.state tray.old) (T.state tray.new) result }
+{
+    match read_job_file(alloc, tray, job) {
+        Ok(read) => gather_plates(alloc, tray, read, names, inputs),
+        Err(refusal) => Err(refusal),
+    }
+}
+
+// Reads the plates behind the job, and makes the page of both.
+fn gather_plates<T: Tray, S: AsStr>(
+    alloc: Global,
+    tray: &mut T,
+    job: Job,
+    names: &NameList,
+    inputs: &[S],
+) -> Result<Page, Refusal>
+    requires some { 1 ≤ length inputs.now }
+    requires few { length inputs.now ≤ 16 }
+    requires named { length names.now ≡ length inputs.now }
+    requires job { IsJob job }
+    ensures { (name : List ℕ) → GathersRest (record { job = name; names = names.now; inputs = map S.text inputs.now }) job (T.state tray.old) (T.state tray.new) result }
+{
+    match read_plates(alloc, tray, inputs) {
+        Ok(plates) => assemble(alloc, job, plates, names),
+        Err(refusal) => Err(refusal),
+    }
+}

@@ -1,0 +1,7 @@
+//! The job and the plates of a page, read from a tray, and the page that they make.
+#![tactic(auto)]
+
+pub mod assemble;
+pub mod gather;
+pub mod job;
+pub mod plates;

@@ -1,4 +1,0 @@
-pub mod NameLemmas
-pub mod JobLemmas
-pub mod PlateLemmas
-pub mod PageLemmas

@@ -1,4 +1,0 @@
-pub mod Names
-pub mod Inputs
-pub mod Steps
-pub mod Reading

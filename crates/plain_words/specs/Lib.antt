@@ -1,0 +1,5 @@
+pub mod Numbers
+pub mod Names
+pub mod Parts
+pub mod Held
+pub mod Distinct

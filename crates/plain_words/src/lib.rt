@@ -1,0 +1,9 @@
+//! Words that are read by hand: numbers, names of colorants, and words of two or three parts.
+#![tactic(auto)]
+
+pub mod distinct;
+pub mod names;
+pub mod numbers;
+pub mod parts;
+#[cfg(test)]
+mod tests;

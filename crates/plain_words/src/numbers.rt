@@ -1,0 +1,42 @@
+ghost use Rattle.std.specs.Prelude.{◌≡◌, ◌≤◌, IfSome};
+ghost use Rattle.plain_words.specs.Numbers.{in_range as in_range_meant, is_number as number_test, number_of};
+ghost use Rattle.std.specs.Char.{is_ascii_digit};
+ghost use Rattle.std.specs.List.{list_all};
+
+/// The number that the word writes: one to ten digits with no sign, from `least` to `most`. `None` stands for every other
+/// word. The form is this project's own.
+pub fn read_number(word: &str, least: u32, most: u32) -> Option<u32>
+    ensures value { result ≡ number_of least most word.now }
+    ensures range { IfSome result (λ n. (least ≤ n) × (n ≤ most)) }
+{
+    if !is_number(word.as_bytes()) {
+        return None;
+    }
+    match word.parse::<u32>() {
+        Ok(number) => in_range(number, least, most),
+        Err(_) => None,
+    }
+}
+
+fn in_range(number: u32, least: u32, most: u32) -> Option<u32>
+    ensures value { result ≡ in_range_meant least most number }
+    ensures range { IfSome result (λ n. (least ≤ n) × (n ≤ most)) }
+{
+    if least <= number && number <= most {
+        Some(number)
+    } else {
+        None
+    }
+}
+
+fn is_number(word: &[u8]) -> bool
+    ensures { result ≡ number_test word.now }
+{
+    1 <= word.len() && word.len() <= 10 && are_digits(word)
+}
+
+fn are_digits(word: &[u8]) -> bool
+    ensures { result ≡ list_all is_ascii_digit word.now }
+{
+    word.iter().all(|byte| byte.is_ascii_digit())
+}

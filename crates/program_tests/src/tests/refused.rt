@@ -1,0 +1,235 @@
+use super::{CYAN, Case, END, HEAD, INKS, MAGENTA, ONE_PLATE, SET, TWO_PLATES, USUAL, is_refused};
+use std::test::Fail;
+
+// A page that is refused: its words, job and plates, the file that fails and where, and the status and the line told.
+#[derive(Clone, Copy)]
+struct Refused {
+    words: &'static str,
+    job: &'static [&'static str],
+    plates: &'static [&'static [u8]],
+    failing: Option<(usize, u64)>,
+    status: u8,
+    line: &'static str,
+}
+
+const PAGES: &[Refused] = &[
+    Refused {
+        words: TWO_PLATES,
+        job: &[HEAD, INKS, SET, "/TrapWidth 2", END],
+        plates: &[b"P5\n6 1\n255\n\0\0\0\xFF\xFF", MAGENTA],
+        failing: None,
+        status: 4,
+        line: "plate 0: Truncated at 16\n",
+    },
+    Refused {
+        words: TWO_PLATES,
+        job: &[HEAD, INKS, SET, "/TrapWidth 2", END],
+        plates: &[b"P5\n6 1\n255\n\0\0\0\xFF\xFF\xFF\0", MAGENTA],
+        failing: None,
+        status: 4,
+        line: "plate 0: TrailingBytes at 17\n",
+    },
+    Refused {
+        words: ONE_PLATE,
+        job: &[HEAD, INKS, SET, "/TrapWidth 2", END],
+        plates: &[b"P5 1 1 100\ne"],
+        failing: None,
+        status: 4,
+        line: "plate 0: SampleAboveMaxval at 11\n",
+    },
+    Refused {
+        words: ONE_PLATE,
+        job: &[HEAD, INKS, SET, "/TrapWidth 2", END],
+        plates: &[b"P5 1 1 256\n\0"],
+        failing: None,
+        status: 4,
+        line: "plate 0: Truncated at 12\n",
+    },
+    Refused {
+        words: ONE_PLATE,
+        job: &[HEAD, INKS, SET, "/TrapWidth 2", END],
+        plates: &[b"P5 1 1 65536\n"],
+        failing: None,
+        status: 4,
+        line: "plate 0: MaxvalRange at 7\n",
+    },
+    Refused {
+        words: ONE_PLATE,
+        job: &[HEAD, INKS, SET, "/TrapWidth 2", END],
+        plates: &[b"P5 1 1 256\n\x01\x01"],
+        failing: None,
+        status: 4,
+        line: "plate 0: SampleAboveMaxval at 11\n",
+    },
+    Refused {
+        words: TWO_PLATES,
+        job: &[HEAD, INKS, SET, "/TrapWidth 2", END],
+        plates: &[CYAN, b"P5\n5 1\n255\n\xFF\xFF\xFF\0\0"],
+        failing: None,
+        status: 4,
+        line: "page: SizeDiffers plate 1\n",
+    },
+    Refused {
+        words: TWO_PLATES,
+        job: &[HEAD, INKS, SET, "/TrapWidth 100 /BlackWidth 2", END],
+        plates: &[CYAN, MAGENTA],
+        failing: None,
+        status: 4,
+        line: "page: ReachTooWide zone 0\n",
+    },
+    Refused {
+        words: TWO_PLATES,
+        job: &["<< /TrappingDetails << /Type 1000 >> >> setpagedevice showpage"],
+        plates: &[CYAN, MAGENTA],
+        failing: None,
+        status: 3,
+        line: "job: WrongType at 29\n",
+    },
+    Refused {
+        words: TWO_PLATES,
+        job: &["<< /TrapWidth 1e5 >> settrapparams showpage"],
+        plates: &[CYAN, MAGENTA],
+        failing: None,
+        status: 3,
+        line: "job: BadToken at 14\n",
+    },
+    Refused {
+        words: TWO_PLATES,
+        job: &["<< /TrapWidth 0 >> settrapparams showpage"],
+        plates: &[CYAN, MAGENTA],
+        failing: None,
+        status: 3,
+        line: "job: OutOfRange TrapWidth at 14\n",
+    },
+    Refused {
+        words: TWO_PLATES,
+        job: &["<< /TrapWidth 1"],
+        plates: &[CYAN, MAGENTA],
+        failing: None,
+        status: 3,
+        line: "job: Unclosed at 0\n",
+    },
+    Refused {
+        words: TWO_PLATES,
+        job: &["10 10 lineto showpage"],
+        plates: &[CYAN, MAGENTA],
+        failing: None,
+        status: 3,
+        line: "job: NoCurrentPoint at 6\n",
+    },
+    Refused {
+        words: TWO_PLATES,
+        job: &["5 showpage"],
+        plates: &[CYAN, MAGENTA],
+        failing: None,
+        status: 3,
+        line: "job: WrongOperands at 2\n",
+    },
+    Refused {
+        words: TWO_PLATES,
+        job: &["showpage"],
+        plates: &[CYAN, MAGENTA],
+        failing: None,
+        status: 3,
+        line: "job: NoPageDevice at 0\n",
+    },
+    Refused {
+        words: TWO_PLATES,
+        job: &[""],
+        plates: &[CYAN, MAGENTA],
+        failing: None,
+        status: 3,
+        line: "job: NoShowpage at 0\n",
+    },
+    Refused {
+        words: TWO_PLATES,
+        job: &["<< /Enabled false >> settrapparams"],
+        plates: &[CYAN, MAGENTA],
+        failing: None,
+        status: 3,
+        line: "job: NoShowpage at 34\n",
+    },
+    Refused {
+        words: TWO_PLATES,
+        job: &["<< /Enabled false >> settrapparams showpage 1"],
+        plates: &[CYAN, MAGENTA],
+        failing: None,
+        status: 3,
+        line: "job: AfterShowpage at 44\n",
+    },
+    Refused {
+        words: "page job report Orange:in0:out0 Magenta:in1:out1",
+        job: &[HEAD, INKS, SET, "/TrapWidth 2", END],
+        plates: &[CYAN, MAGENTA],
+        failing: None,
+        status: 3,
+        line: "job: NoDetails for plate 0\n",
+    },
+    Refused {
+        words: TWO_PLATES,
+        job: &[HEAD, INKS, SET, "/TrapWidth 2", END],
+        plates: &[CYAN, MAGENTA],
+        failing: Some((2, 5)),
+        status: 5,
+        line: "read fault: plate 1\n",
+    },
+    Refused {
+        words: TWO_PLATES,
+        job: &[HEAD, INKS, SET, "/TrapWidth 2", END],
+        plates: &[CYAN],
+        failing: None,
+        status: 5,
+        line: "read fault: plate 1\n",
+    },
+    Refused {
+        words: TWO_PLATES,
+        job: &["<< /ColorantZoneDetails 5 >> settrapparams showpage"],
+        plates: &[CYAN, MAGENTA],
+        failing: None,
+        status: 3,
+        line: "job: NotDictionary at 24\n",
+    },
+    Refused {
+        words: TWO_PLATES,
+        job: &["<< /ColorantZoneDetails << /Cyan << /StepLimit 2 >> >> >> settrapparams showpage"],
+        plates: &[CYAN, MAGENTA],
+        failing: None,
+        status: 3,
+        line: "job: OutOfRange StepLimit at 47\n",
+    },
+    Refused {
+        words: TWO_PLATES,
+        job: &["[[[[[[[[[[[[[[[[]]]]]]]]]]]]]]]] showpage"],
+        plates: &[CYAN, MAGENTA],
+        failing: None,
+        status: 3,
+        line: "job: WrongOperands at 33\n",
+    },
+    Refused {
+        words: TWO_PLATES,
+        job: &["[[[[[[[[[[[[[[[[["],
+        plates: &[CYAN, MAGENTA],
+        failing: None,
+        status: 3,
+        line: "job: TooDeep at 16\n",
+    },
+];
+
+#[test]
+fn refused_pages_tell_their_line(rt: HostRuntime) -> Result<(), Fail> {
+    for page in PAGES {
+        let case = Case {
+            words: page.words,
+            job: page.job,
+            plates: page.plates,
+            failing: page.failing,
+            ..USUAL
+        };
+        assert!(rt;
+            is_refused(&rt, rt.alloc(), case, page.status, page.line)?,
+            "{}",
+            page.line
+        );
+    }
+    Ok(())
+}

@@ -1,0 +1,161 @@
+use super::{CYAN, Case, DISABLED, MAGENTA, USUAL, run};
+use std::alloc::{AllocError, Global};
+use std::process::Abort;
+use std::test::Fail;
+
+const USAGE: &str =
+    "usage: trap page [--workers N] [--band B] JOB REPORT NAME:IN:OUT ... | trap sample NUMBER WIDTH HEIGHT WORKERS\n";
+
+// Words with single spaces between them, the status that they end with, and the text that is told. Two spaces stand round
+// an empty word.
+const WORDS: &[(&str, u8, &str)] = &[
+    ("", 2, USAGE),
+    ("page", 2, USAGE),
+    ("page --workers 0 job report Cyan:in0:out0", 2, USAGE),
+    ("page job report Cyan:in0:out0 Cyan:in1:out1", 2, USAGE),
+    ("page job report Cyan:in0:report", 2, USAGE),
+    ("sample 1 2 3", 2, USAGE),
+    (" ", 2, USAGE),
+    ("pages job report Cyan:in0:out0", 2, USAGE),
+    ("--workers 2 page job report Cyan:in0:out0", 2, USAGE),
+    ("page --help", 2, USAGE),
+    ("page job report Cyan:in0:out0 -h", 2, USAGE),
+    ("page job report", 2, USAGE),
+    ("page job report ", 2, USAGE),
+    ("page --workers 65 job report Cyan:in0:out0", 2, USAGE),
+    ("page --workers +8 job report Cyan:in0:out0", 2, USAGE),
+    (
+        "page --workers 00000000008 job report Cyan:in0:out0",
+        2,
+        USAGE,
+    ),
+    ("page --workers  job report Cyan:in0:out0", 2, USAGE),
+    ("page --workers= job report Cyan:in0:out0", 2, USAGE),
+    ("page --workers -- job report Cyan:in0:out0", 2, USAGE),
+    ("page job report Cyan:in0:out0 --workers", 2, USAGE),
+    (
+        "page --workers 2 --workers 2 job report Cyan:in0:out0",
+        2,
+        USAGE,
+    ),
+    (
+        "page --workers=2 job report Cyan:in0:out0 --workers=2",
+        2,
+        USAGE,
+    ),
+    ("page --band 8 job --band=8 report Cyan:in0:out0", 2, USAGE),
+    ("page --band 0 job report Cyan:in0:out0", 2, USAGE),
+    ("page --band 4097 job report Cyan:in0:out0", 2, USAGE),
+    ("page --zones 2 job report Cyan:in0:out0", 2, USAGE),
+    ("page -- --workers 2 job report Cyan:in0:out0", 2, USAGE),
+    ("page job report Cyan:in0:out0 -- --band 8", 2, USAGE),
+    ("page job report Cyan:in0:out0:more", 2, USAGE),
+    ("page job report Cyan:in0:out0:", 2, USAGE),
+    ("page job report Cyan:in0", 2, USAGE),
+    ("page job report :in0:out0", 2, USAGE),
+    ("page job report Cyan::out0", 2, USAGE),
+    ("page job report Cyan:in0:", 2, USAGE),
+    ("page job report Cyan:in0:out0 ", 2, USAGE),
+    ("page job report Cyan:in0:out0 Magenta:in1:out0", 2, USAGE),
+    ("page job report Spot%1:in0:out0", 2, USAGE),
+    (
+        "page job report nnnnnnnnnnnnnnnnnnnnnnnnnnnnnnnnnnnnnnnnnnnnnnnnnnnnnnnnnnnnnnnnn:in0:out0",
+        2,
+        USAGE,
+    ),
+    (
+        "page job report A:in0:out0 B:in0:out1 C:in0:out2 D:in0:out3 E:in0:out4 F:in0:out5 G:in0:out6 H:in0:out7 I:in0:out8 J:in0:out9 K:in0:out10 L:in0:out11 M:in0:out12 N:in0:out13 O:in0:out14 P:in0:out15 Q:in0:out16",
+        2,
+        USAGE,
+    ),
+    ("sample", 2, USAGE),
+    ("sample 1 2 3 4 5", 2, USAGE),
+    ("sample 4294967296 8 8 1", 2, USAGE),
+    ("sample 0 0 8 1", 2, USAGE),
+    ("sample 0 16385 8 1", 2, USAGE),
+    ("sample 0 8 16385 1", 2, USAGE),
+    ("sample 0 8 8 0", 2, USAGE),
+    ("sample 0 8 8 65", 2, USAGE),
+    ("sample +1 8 8 1", 2, USAGE),
+    ("sample --workers 8 8 1", 2, USAGE),
+    ("page --workers=8 job report Cyan:in0:out0", 0, ""),
+    (
+        "page --workers 8 --band=4096 job report Cyan:in0:out0",
+        0,
+        "",
+    ),
+    (
+        "page job --band 1 report --workers 0000000064 Cyan:in0:out0",
+        0,
+        "",
+    ),
+    (
+        "page job report Cyan:in0:out0 --band=9 Magenta:in1:out1 --workers 3",
+        0,
+        "",
+    ),
+    ("page -- job report Cyan:in0:out0", 0, ""),
+    ("page --workers 2 job -- report Cyan:in0:out0", 0, ""),
+    ("page job report Cyan:in0:out0 -- Magenta:in1:out1", 0, ""),
+    (
+        "page job report nnnnnnnnnnnnnnnnnnnnnnnnnnnnnnnnnnnnnnnnnnnnnnnnnnnnnnnnnnnnnnnn:in0:out0",
+        0,
+        "",
+    ),
+    (
+        "page job report A:in0:out0 B:in0:out1 C:in0:out2 D:in0:out3 E:in0:out4 F:in0:out5 G:in0:out6 H:in0:out7 I:in0:out8 J:in0:out9 K:in0:out10 L:in0:out11 M:in0:out12 N:in0:out13 O:in0:out14 P:in0:out15",
+        0,
+        "",
+    ),
+    ("page job report Cyan:in0:in0", 0, ""),
+    ("page job job Cyan:in0:out0", 0, ""),
+    ("page job  Cyan:in0:out0", 0, ""),
+    ("page  report Cyan:in0:out0", 5, "read fault: job\n"),
+    ("page - report Cyan:in0:out0", 5, "read fault: job\n"),
+    (
+        "page -- --band report Cyan:in0:out0",
+        5,
+        "read fault: job\n",
+    ),
+    ("page help report Cyan:in0:out0", 5, "read fault: job\n"),
+    (
+        "page job report Cyan:job:out0",
+        4,
+        "plate 0: BadMagic at 0\n",
+    ),
+    (
+        "page job report Cyan:in0:out0 Magenta:in9:out1",
+        5,
+        "read fault: plate 1\n",
+    ),
+];
+
+// Whether a run of these words ends with the status and the text told, and writes a plate at status 0 alone.
+fn ends(
+    rt: &impl Abort,
+    alloc: Global,
+    words: &str,
+    wanted: u8,
+    line: &str,
+) -> Result<bool, AllocError> {
+    let case = Case {
+        words,
+        job: &[DISABLED],
+        plates: &[CYAN, MAGENTA],
+        ..USUAL
+    };
+    let (status, rack) = run(rt, alloc, case)?;
+    Ok(
+        status == wanted
+            && rack.told() == line.as_bytes()
+            && (status == 0 || rack.file("out0").is_none()),
+    )
+}
+
+#[test]
+fn words_are_a_command_or_a_usage(rt: HostRuntime) -> Result<(), Fail> {
+    for (words, wanted, line) in WORDS {
+        assert!(rt; ends(&rt, rt.alloc(), words, *wanted, line)?, "{words}");
+    }
+    Ok(())
+}

@@ -1,0 +1,344 @@
+use super::{CYAN, Case, END, HEAD, INKS, MAGENTA, ONE_PLATE, SET, TWO_PLATES, USUAL, holds, run};
+use std::alloc::{AllocError, Global};
+use std::process::Abort;
+use std::test::Fail;
+
+// A page that is trapped: its words, job and plates, and the plates and the report that are written.
+#[derive(Clone, Copy)]
+struct Worked {
+    words: &'static str,
+    job: &'static [&'static str],
+    plates: &'static [&'static [u8]],
+    written: &'static [&'static [u8]],
+    report: &'static str,
+}
+
+// plates of two bytes a sample
+const DEEP_CYAN: &[u8] = b"P5\n6 1\n65535\n\0\0\0\0\0\0\xFF\xFF\xFF\xFF\xFF\xFF";
+
+const DEEP_MAGENTA: &[u8] = b"P5\n6 1\n65535\n\xFF\xFF\xFF\xFF\xFF\xFF\0\0\0\0\0\0";
+
+// plates of one column
+const TALL_CYAN: &[u8] = b"P5\n1 12\n255\n\0\0\0\0\0\0\xFF\xFF\xFF\xFF\xFF\xFF";
+
+const TALL_MAGENTA: &[u8] = b"P5\n1 12\n255\n\xFF\xFF\xFF\xFF\xFF\xFF\0\0\0\0\0\0";
+
+const PAGES: &[Worked] = &[
+    Worked {
+        words: TWO_PLATES,
+        job: &[HEAD, INKS, SET, "/TrapWidth 2", END],
+        plates: &[CYAN, MAGENTA],
+        written: &[
+            b"P5\n6 1\n255\n\0\0\0\0\xFF\xFF",
+            b"P5\n6 1\n255\n\xFF\xFF\0\0\0\0",
+        ],
+        report: "trap report\npage 6 1 255 plates 2\nzone 0 samples 6 changed 2\nedges 1\nplate Cyan changed 1\nplate Magenta changed 1\nend\n",
+    },
+    Worked {
+        words: TWO_PLATES,
+        job: &[HEAD, INKS, SET, "/TrapWidth 2 /SlidingTrapLimit 1", END],
+        plates: &[CYAN, MAGENTA],
+        written: &[b"P5\n6 1\n255\n\0\0\0\0\0\xFF", MAGENTA],
+        report: "trap report\npage 6 1 255 plates 2\nzone 0 samples 6 changed 2\nedges 1\nplate Cyan changed 2\nplate Magenta changed 0\nend\n",
+    },
+    Worked {
+        words: TWO_PLATES,
+        job: &[
+            HEAD,
+            INKS,
+            SET,
+            "/TrapWidth 2 /SlidingTrapLimit 1 /TrapColorScaling 0",
+            END,
+        ],
+        plates: &[CYAN, MAGENTA],
+        written: &[
+            b"P5\n6 1\n255\n\0\0\0rr\xFF",
+            b"P5\n6 1\n255\n\xFF\xFF\xFFrr\0",
+        ],
+        report: "trap report\npage 6 1 255 plates 2\nzone 0 samples 6 changed 2\nedges 1\nplate Cyan changed 2\nplate Magenta changed 2\nend\n",
+    },
+    Worked {
+        words: TWO_PLATES,
+        job: &[HEAD, INKS, SET, "/TrapWidth 0.25", END],
+        plates: &[CYAN, MAGENTA],
+        written: &[CYAN, MAGENTA],
+        report: "trap report\npage 6 1 255 plates 2\nzone 0 samples 6 changed 0\nedges 1\nplate Cyan changed 0\nplate Magenta changed 0\nend\n",
+    },
+    Worked {
+        words: ONE_PLATE,
+        job: &[HEAD, INKS, SET, "/TrapWidth 2", END],
+        plates: &[b"P5\n1 1\n255\n\0"],
+        written: &[b"P5\n1 1\n255\n\0"],
+        report: "trap report\npage 1 1 255 plates 1\nzone 0 samples 1 changed 0\nedges 0\nplate Cyan changed 0\nend\n",
+    },
+    Worked {
+        words: "page job report Cyan:in0:out0 Black:in1:out1 Yellow:in2:out2",
+        job: &[HEAD, INKS, SET, "/TrapWidth 1", END],
+        plates: &[
+            b"P5\n3 1\n255\n\0\xFF\xFF",
+            b"P5\n3 1\n255\n\xFF\0\xFF",
+            b"P5\n3 1\n255\n\xFF\xFF\0",
+        ],
+        written: &[
+            b"P5\n3 1\n255\n\0\0\xFF",
+            b"P5\n3 1\n255\n\xFF\0\xFF",
+            b"P5\n3 1\n255\n\xFF\xFF\0",
+        ],
+        report: "trap report\npage 3 1 255 plates 3\nzone 0 samples 3 changed 1\nedges 2\nplate Cyan changed 1\nplate Black changed 0\nplate Yellow changed 0\nend\n",
+    },
+    Worked {
+        words: "page job report Cyan:in0:out0 Black:in1:out1 Yellow:in2:out2",
+        job: &[HEAD, INKS, SET, "/TrapWidth 1", END],
+        plates: &[
+            b"P5\n1 3\n255\n\0\xFF\xFF",
+            b"P5\n1 3\n255\n\xFF\0\xFF",
+            b"P5\n1 3\n255\n\xFF\xFF\0",
+        ],
+        written: &[
+            b"P5\n1 3\n255\n\0\0\xFF",
+            b"P5\n1 3\n255\n\xFF\0\xFF",
+            b"P5\n1 3\n255\n\xFF\xFF\0",
+        ],
+        report: "trap report\npage 1 3 255 plates 3\nzone 0 samples 3 changed 1\nedges 2\nplate Cyan changed 1\nplate Black changed 0\nplate Yellow changed 0\nend\n",
+    },
+    Worked {
+        words: TWO_PLATES,
+        job: &[HEAD, INKS, SET, "/TrapWidth 2", END],
+        plates: &[b"P5\n2 1\n100\nKd", b"P5\n2 1\n100\ndK"],
+        written: &[b"P5\n2 1\n100\nKK", b"P5\n2 1\n100\nKK"],
+        report: "trap report\npage 2 1 100 plates 2\nzone 0 samples 2 changed 2\nedges 1\nplate Cyan changed 1\nplate Magenta changed 1\nend\n",
+    },
+    Worked {
+        words: TWO_PLATES,
+        job: &[HEAD, INKS, SET, "/TrapWidth 2", END],
+        plates: &[b"P5\n2 1\n100\nLd", b"P5\n2 1\n100\ndK"],
+        written: &[b"P5\n2 1\n100\nLd", b"P5\n2 1\n100\ndK"],
+        report: "trap report\npage 2 1 100 plates 2\nzone 0 samples 2 changed 0\nedges 0\nplate Cyan changed 0\nplate Magenta changed 0\nend\n",
+    },
+    Worked {
+        words: TWO_PLATES,
+        job: &[HEAD, INKS, SET, "/StepLimit 0 /TrapWidth 2", END],
+        plates: &[
+            b"P5\n4 4\n255\n\x80\x80\x80\x80\x80\x80\x80\x80\x80\x80\x80\x80\x80\x80\x80\x80",
+            b"P5\n4 4\n255\n@@@@@@@@@@@@@@@@",
+        ],
+        written: &[
+            b"P5\n4 4\n255\n\x80\x80\x80\x80\x80\x80\x80\x80\x80\x80\x80\x80\x80\x80\x80\x80",
+            b"P5\n4 4\n255\n@@@@@@@@@@@@@@@@",
+        ],
+        report: "trap report\npage 4 4 255 plates 2\nzone 0 samples 16 changed 0\nedges 0\nplate Cyan changed 0\nplate Magenta changed 0\nend\n",
+    },
+    Worked {
+        words: "page job report Cyan:in0:out0 Magenta:in1:out1 Foil:in2:out2",
+        job: &[
+            HEAD,
+            INKS,
+            " /Foil << /NeutralDensity 1 /ColorantType /OpaqueIgnore >>",
+            SET,
+            "/TrapWidth 2",
+            END,
+        ],
+        plates: &[CYAN, MAGENTA, b"P5\n6 1\n255\n\xFF\xFF\xFF\0\xFF\xFF"],
+        written: &[CYAN, MAGENTA, b"P5\n6 1\n255\n\xFF\xFF\xFF\0\xFF\xFF"],
+        report: "trap report\npage 6 1 255 plates 3\nzone 0 samples 6 changed 0\nedges 0\nplate Cyan changed 0\nplate Magenta changed 0\nplate Foil changed 0\nend\n",
+    },
+    Worked {
+        words: "page job report Cyan:in0:out0 Magenta:in1:out1 Foil:in2:out2",
+        job: &[
+            HEAD,
+            INKS,
+            " /Foil << /NeutralDensity 1 /ColorantType /Opaque >>",
+            SET,
+            "/TrapWidth 2 /SlidingTrapLimit 0",
+            END,
+        ],
+        plates: &[CYAN, MAGENTA, b"P5\n6 1\n255\n\xFF\xFF\xFF\0\xFF\xFF"],
+        written: &[
+            b"P5\n6 1\n255\n\0\0\0\0\xFF\xFF",
+            b"P5\n6 1\n255\n\xFF\xFF\0\0\0\0",
+            b"P5\n6 1\n255\n\xFF\xFF\xFF\0\xFF\xFF",
+        ],
+        report: "trap report\npage 6 1 255 plates 3\nzone 0 samples 6 changed 2\nedges 1\nplate Cyan changed 1\nplate Magenta changed 1\nplate Foil changed 0\nend\n",
+    },
+    Worked {
+        words: TWO_PLATES,
+        job: &["<< /Enabled false >> settrapparams showpage"],
+        plates: &[CYAN, MAGENTA],
+        written: &[CYAN, MAGENTA],
+        report: "trap report\npage 6 1 255 plates 2\nzone 0 samples 6 changed 0\nedges 0\nplate Cyan changed 0\nplate Magenta changed 0\nend\n",
+    },
+    Worked {
+        words: TWO_PLATES,
+        job: &["<< /Enabled false >> settrapparams showpage"],
+        plates: &[b"P5\n# made by hand\n6 1\n255\n\0\0\0\xFF\xFF\xFF", MAGENTA],
+        written: &[CYAN, MAGENTA],
+        report: "trap report\npage 6 1 255 plates 2\nzone 0 samples 6 changed 0\nedges 0\nplate Cyan changed 0\nplate Magenta changed 0\nend\n",
+    },
+    Worked {
+        words: ONE_PLATE,
+        job: &[
+            "<< /HWResolution [72 72] /TrappingDetails << /Type 1001 /ColorantDetails << /Cyan << /NeutralDensity .61 >> >> >> >> setpagedevice",
+            " .5 .5 moveto 2.5 .5 lineto 2.5 1.5 lineto .5 1.5 lineto settrapzone showpage",
+        ],
+        plates: &[b"P5\n4 2\n255\n\0\0\0\0\0\0\0\0"],
+        written: &[b"P5\n4 2\n255\n\0\0\0\0\0\0\0\0"],
+        report: "trap report\npage 4 2 255 plates 1\nzone 0 samples 6 changed 0\nzone 1 samples 2 changed 0\nedges 0\nplate Cyan changed 0\nend\n",
+    },
+    Worked {
+        words: ONE_PLATE,
+        job: &[
+            "<< /HWResolution [72 72] /TrappingDetails << /Type 1001 /ColorantDetails << /Cyan << /NeutralDensity .61 >> >> >> >> setpagedevice",
+            " .5 .5 moveto 0 0 rmoveto 2 0 rlineto 0 1 rlineto -2 0 rlineto settrapzone showpage",
+        ],
+        plates: &[b"P5\n4 2\n255\n\0\0\0\0\0\0\0\0"],
+        written: &[b"P5\n4 2\n255\n\0\0\0\0\0\0\0\0"],
+        report: "trap report\npage 4 2 255 plates 1\nzone 0 samples 6 changed 0\nzone 1 samples 2 changed 0\nedges 0\nplate Cyan changed 0\nend\n",
+    },
+    Worked {
+        words: TWO_PLATES,
+        job: &[HEAD, INKS, SET, "/TrapWidth 5 /SlidingTrapLimit 1", END],
+        plates: &[TALL_CYAN, TALL_MAGENTA],
+        written: &[b"P5\n1 12\n255\n\0\0\0\0\0\0\0\0\0\0\0\xFF", TALL_MAGENTA],
+        report: "trap report\npage 1 12 255 plates 2\nzone 0 samples 12 changed 5\nedges 1\nplate Cyan changed 5\nplate Magenta changed 0\nend\n",
+    },
+    Worked {
+        words: "page --workers 1 --band 1 job report Cyan:in0:out0 Magenta:in1:out1",
+        job: &[HEAD, INKS, SET, "/TrapWidth 5 /SlidingTrapLimit 1", END],
+        plates: &[TALL_CYAN, TALL_MAGENTA],
+        written: &[b"P5\n1 12\n255\n\0\0\0\0\0\0\0\0\0\0\0\xFF", TALL_MAGENTA],
+        report: "trap report\npage 1 12 255 plates 2\nzone 0 samples 12 changed 5\nedges 1\nplate Cyan changed 5\nplate Magenta changed 0\nend\n",
+    },
+    Worked {
+        words: "page --workers 1 --band 4096 job report Cyan:in0:out0 Magenta:in1:out1",
+        job: &[HEAD, INKS, SET, "/TrapWidth 5 /SlidingTrapLimit 1", END],
+        plates: &[TALL_CYAN, TALL_MAGENTA],
+        written: &[b"P5\n1 12\n255\n\0\0\0\0\0\0\0\0\0\0\0\xFF", TALL_MAGENTA],
+        report: "trap report\npage 1 12 255 plates 2\nzone 0 samples 12 changed 5\nedges 1\nplate Cyan changed 5\nplate Magenta changed 0\nend\n",
+    },
+    Worked {
+        words: "page --workers 7 --band 1 job report Cyan:in0:out0 Magenta:in1:out1",
+        job: &[HEAD, INKS, SET, "/TrapWidth 5 /SlidingTrapLimit 1", END],
+        plates: &[TALL_CYAN, TALL_MAGENTA],
+        written: &[b"P5\n1 12\n255\n\0\0\0\0\0\0\0\0\0\0\0\xFF", TALL_MAGENTA],
+        report: "trap report\npage 1 12 255 plates 2\nzone 0 samples 12 changed 5\nedges 1\nplate Cyan changed 5\nplate Magenta changed 0\nend\n",
+    },
+    Worked {
+        words: "page --workers 7 --band 4096 job report Cyan:in0:out0 Magenta:in1:out1",
+        job: &[HEAD, INKS, SET, "/TrapWidth 5 /SlidingTrapLimit 1", END],
+        plates: &[TALL_CYAN, TALL_MAGENTA],
+        written: &[b"P5\n1 12\n255\n\0\0\0\0\0\0\0\0\0\0\0\xFF", TALL_MAGENTA],
+        report: "trap report\npage 1 12 255 plates 2\nzone 0 samples 12 changed 5\nedges 1\nplate Cyan changed 5\nplate Magenta changed 0\nend\n",
+    },
+    Worked {
+        words: TWO_PLATES,
+        job: &[HEAD, INKS, SET, "/TrapWidth 100", END],
+        plates: &[CYAN, MAGENTA],
+        written: &[b"P5\n6 1\n255\n\0\0\0\0\0\0", b"P5\n6 1\n255\n\0\0\0\0\0\0"],
+        report: "trap report\npage 6 1 255 plates 2\nzone 0 samples 6 changed 6\nedges 1\nplate Cyan changed 3\nplate Magenta changed 3\nend\n",
+    },
+    Worked {
+        words: TWO_PLATES,
+        job: &[HEAD, INKS, SET, "/TrapWidth 0 /TrapWidth 2", END],
+        plates: &[CYAN, MAGENTA],
+        written: &[
+            b"P5\n6 1\n255\n\0\0\0\0\xFF\xFF",
+            b"P5\n6 1\n255\n\xFF\xFF\0\0\0\0",
+        ],
+        report: "trap report\npage 6 1 255 plates 2\nzone 0 samples 6 changed 2\nedges 1\nplate Cyan changed 1\nplate Magenta changed 1\nend\n",
+    },
+    Worked {
+        words: "page job report Cyan:in0:out0 Magenta:in1:out1 Yellow:in2:out2 Black:in3:out3",
+        job: &[
+            "%!PS\n<< /HWResolution [600 600] /Trapping true",
+            INKS,
+            SET,
+            "/TrapWidth 0.25 /BlackWidth 2",
+            " >> settrapparams 0 0 moveto 612 0 lineto 612 792 lineto 0 792 lineto closepath settrapzone << /Enabled false >> settrapparams 1.08 0 moveto 612 0 lineto 612 792 lineto 1.08 792 lineto closepath settrapzone showpage",
+        ],
+        plates: &[
+            b"P5\n12 2\n255\n\xFF\xFF\xFF\0\0\0\xFF\xFF\xFF\xFF\xFF\xFF\xFF\xFF\xFF\0\0\0\xFF\xFF\xFF\xFF\xFF\xFF",
+            b"P5\n12 2\n255\n\xFF\xFF\xFF\xFF\xFF\xFF\xFF\xFF\xFF\0\0\0\xFF\xFF\xFF\xFF\xFF\xFF\xFF\xFF\xFF\0\0\0",
+            b"P5\n12 2\n255\n\xFF\xFF\xFF\xFF\xFF\xFF\0\0\0\xFF\xFF\xFF\xFF\xFF\xFF\xFF\xFF\xFF\0\0\0\xFF\xFF\xFF",
+            b"P5\n12 2\n255\n\0\0\0\xFF\xFF\xFF\xFF\xFF\xFF\xFF\xFF\xFF\0\0\0\xFF\xFF\xFF\xFF\xFF\xFF\xFF\xFF\xFF",
+        ],
+        written: &[
+            b"P5\n12 2\n255\n\0\0\0\0\0\0\xFF\xFF\xFF\xFF\xFF\xFF\0\0\0\0\0\0\xFF\xFF\xFF\xFF\xFF\xFF",
+            b"P5\n12 2\n255\n\xFF\xFF\xFF\xFF\xFF\xFF\xFF\xFF\xFF\0\0\0\xFF\xFF\xFF\xFF\xFF\xFF\xFF\xFF\xFF\0\0\0",
+            b"P5\n12 2\n255\n\xFF\xFF\xFF\xFF\xFF\0\0\0\0\xFF\xFF\xFF\xFF\xFF\xFF\xFF\xFF\0\0\0\0\xFF\xFF\xFF",
+            b"P5\n12 2\n255\n\0\0\0\xFF\xFF\xFF\xFF\xFF\xFF\xFF\xFF\xFF\0\0\0\xFF\xFF\xFF\xFF\xFF\xFF\xFF\xFF\xFF",
+        ],
+        report: "trap report\npage 12 2 255 plates 4\nzone 0 samples 0 changed 0\nzone 1 samples 18 changed 8\nzone 2 samples 6 changed 0\nedges 4\nplate Cyan changed 6\nplate Magenta changed 0\nplate Yellow changed 2\nplate Black changed 0\nend\n",
+    },
+    Worked {
+        words: TWO_PLATES,
+        job: &[HEAD, INKS, SET, "/TrapWidth 2", END],
+        plates: &[DEEP_CYAN, DEEP_MAGENTA],
+        written: &[
+            b"P5\n6 1\n65535\n\0\0\0\0\0\0\0\0\xFF\xFF\xFF\xFF",
+            b"P5\n6 1\n65535\n\xFF\xFF\xFF\xFF\0\0\0\0\0\0\0\0",
+        ],
+        report: "trap report\npage 6 1 65535 plates 2\nzone 0 samples 6 changed 2\nedges 1\nplate Cyan changed 1\nplate Magenta changed 1\nend\n",
+    },
+    Worked {
+        words: TWO_PLATES,
+        job: &[
+            HEAD,
+            INKS,
+            SET,
+            "/TrapWidth 2 /SlidingTrapLimit 1 /TrapColorScaling 0",
+            END,
+        ],
+        plates: &[DEEP_CYAN, DEEP_MAGENTA],
+        written: &[
+            b"P5\n6 1\n65535\n\0\0\0\0\0\0q\xFCq\xFC\xFF\xFF",
+            b"P5\n6 1\n65535\n\xFF\xFF\xFF\xFF\xFF\xFFq\xFCq\xFC\0\0",
+        ],
+        report: "trap report\npage 6 1 65535 plates 2\nzone 0 samples 6 changed 2\nedges 1\nplate Cyan changed 2\nplate Magenta changed 2\nend\n",
+    },
+    Worked {
+        words: TWO_PLATES,
+        job: &[
+            HEAD,
+            INKS,
+            SET,
+            "/TrapWidth 2 /ColorantZoneDetails << /Cyan << /StepLimit .3 >> >>",
+            END,
+        ],
+        plates: &[b"P5\n2 1\n100\nKd", b"P5\n2 1\n100\ndK"],
+        written: &[b"P5\n2 1\n100\nKd", b"P5\n2 1\n100\ndK"],
+        report: "trap report\npage 2 1 100 plates 2\nzone 0 samples 2 changed 0\nedges 0\nplate Cyan changed 0\nplate Magenta changed 0\nend\n",
+    },
+    Worked {
+        words: TWO_PLATES,
+        job: &[
+            HEAD,
+            INKS,
+            SET,
+            "/TrapWidth 2 /ColorantZoneDetails << /Cyan << /StepLimit .2 >> >>",
+            END,
+        ],
+        plates: &[b"P5\n2 1\n100\nLd", b"P5\n2 1\n100\ndK"],
+        written: &[b"P5\n2 1\n100\nLL", b"P5\n2 1\n100\nKK"],
+        report: "trap report\npage 2 1 100 plates 2\nzone 0 samples 2 changed 2\nedges 1\nplate Cyan changed 1\nplate Magenta changed 1\nend\n",
+    },
+];
+
+// Whether the page is trapped as it has to be, and nothing is told.
+fn is_trapped(rt: &impl Abort, alloc: Global, page: Worked) -> Result<bool, AllocError> {
+    let case = Case {
+        words: page.words,
+        job: page.job,
+        plates: page.plates,
+        ..USUAL
+    };
+    let (status, rack) = run(rt, alloc, case)?;
+    Ok(status == 0 && rack.told().is_empty() && holds(&rack, page.written, page.report))
+}
+
+#[test]
+fn pages_are_trapped_and_reported(rt: HostRuntime) -> Result<(), Fail> {
+    for (number, page) in PAGES.iter().enumerate() {
+        assert!(rt; is_trapped(&rt, rt.alloc(), *page)?, "page {number}");
+    }
+    Ok(())
+}

@@ -1,0 +1,18 @@
+-- The files of a command of a page.
+use Rattle.std.specs.Prelude.{List, ℕ, map}
+use Rattle.page_gather.specs.Inputs.{Sources}
+use Rattle.plain_words.specs.Parts.{PlateNames}
+use Rattle.trap_words.specs.Plates.{names_of, outputs_of}
+use Rattle.trap_words.specs.Words.{PageWords}
+use Rattle.verdicts.specs.Verdicts.{Targets}
+
+abbrev pub inputs_of : List PlateNames → List (List ℕ)
+inputs_of plates = map (λ (p : PlateNames). p.input) plates
+
+-- the files that are read, with the plates' names
+abbrev pub sources_of : PageWords → Sources
+sources_of page = record { job = page.job; names = names_of page.plates; inputs = inputs_of page.plates }
+
+-- the files that are written
+abbrev pub targets_of : PageWords → Targets
+targets_of page = record { outputs = outputs_of page.plates; report = page.report }

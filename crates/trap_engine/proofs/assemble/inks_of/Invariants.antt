@@ -1,6 +1,0 @@
-use Rattle.std.proofs.Common.{◌≡◌, map, take}
-use Rattle.trap_engine.specs.Assembly.{ink_of}
-use Rattle.trap_engine.proofs.assemble.inks_of.Given as goal
-
-abbrev pub invariant-loop-name : goal.invariant-loop-name
-invariant-loop-name l = l.inks ≡ map (ink_of l.details) (take l.name-index l.names)

@@ -1,0 +1,30 @@
+-- The statuses that a program ends with, by name.
+use Rattle.std.specs.Prelude.{ℕ}
+
+-- the work is done
+abbrev pub done : ℕ
+done = 0
+
+-- the words are no command
+abbrev pub usage : ℕ
+usage = 2
+
+-- the job has a fault, or lacks the details of a plate's colorant
+abbrev pub job_refused : ℕ
+job_refused = 3
+
+-- a plate's file has a fault, or the plates are no page
+abbrev pub page_refused : ℕ
+page_refused = 4
+
+-- a file could not be read
+abbrev pub not_read : ℕ
+not_read = 5
+
+-- a file could not be written, or a result could not be told
+abbrev pub not_written : ℕ
+not_written = 6
+
+-- there was no memory
+abbrev pub out_of_memory : ℕ
+out_of_memory = 7

@@ -1,0 +1,31 @@
+-- What it means to tell a text, and to refuse with a line.
+use Rattle.std.specs.Prelude.{◌≡◌, ◌⊎◌, ℕ, IsTrue, List, ◌++◌, take}
+use Rattle.outside.specs.Causes.{Rose}
+use Rattle.outside.specs.Rack.{RackState, KeepsRack}
+use Rattle.trap_report.specs.declared.refusal.Refusal.{Refusal}
+use Rattle.trap_report.specs.Refusals.{line_of, status_of}
+
+-- The text is told whole; or a front of it, and the rack's count of faults rose from that number on.
+abbrev pub IsTold : List ℕ → ℕ → RackState → RackState → Type 0
+IsTold text since before after = (after.told ≡ before.told ++ text) ⊎ (Rose since after.faults × ((count : ℕ) × (after.told ≡ before.told ++ take count text)))
+
+-- The text is told and nothing else: whole, unless the rack has a fault.
+abbrev pub TellsText : List ℕ → RackState → RackState → Type 0
+TellsText text before after = IsTrue before.tells → IsTold text before.faults before after
+
+-- The same behind a failed write: whole, unless the rack has a second fault behind that of the write.
+abbrev pub TellsBehindFault : List ℕ → RackState → RackState → Type 0
+TellsBehindFault text before after = (since : ℕ) × Rose before.faults since × (IsTrue before.tells → IsTold text since before after)
+
+-- No file is created, changed, opened or finished.
+pub record KeepsFiles (before after : RackState) : Type 0 where
+  pub keeps : KeepsRack before after
+  pub asked : after.asked ≡ before.asked
+  pub is_open : after.is_open ≡ before.is_open
+  pub files : IsTrue before.tells → after.file ≡ before.file
+
+-- A refusal tells its line and gives its status.
+pub record Refuses (refusal : Refusal) (before after : RackState) (status : ℕ) : Type 0 where
+  pub files : KeepsFiles before after
+  pub line : TellsText (line_of refusal) before after
+  pub status_is : status ≡ status_of refusal

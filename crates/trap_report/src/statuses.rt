@@ -1,0 +1,22 @@
+//! The statuses that a program ends with, by name. They are this project's own.
+
+/// The work is done.
+pub const DONE: u8 = 0;
+
+/// The words are no command.
+pub const USAGE: u8 = 2;
+
+/// The job has a fault, or lacks the details of a plate's colorant.
+pub const JOB_REFUSED: u8 = 3;
+
+/// A plate's file has a fault, or the plates are no page.
+pub const PAGE_REFUSED: u8 = 4;
+
+/// A file could not be read.
+pub const NOT_READ: u8 = 5;
+
+/// A file could not be written, or a result could not be told.
+pub const NOT_WRITTEN: u8 = 6;
+
+/// There was no memory.
+pub const OUT_OF_MEMORY: u8 = 7;

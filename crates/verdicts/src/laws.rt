@@ -1,0 +1,22 @@
+//! Laws of the verdict: each is the contract of a function that does nothing.
+
+ghost use Rattle.page_gather.specs.Inputs.{one_page};
+ghost use Rattle.verdicts.specs.Verdicts.{OneVerdict, SomeVerdict};
+
+use pgm_plates::laws::{not_both, one_fault, one_plate, plate_or_fault};
+
+/// The bytes of a page's files have one verdict at most.
+pub fn one_verdict()
+    ensures { OneVerdict one_page }
+{
+    not_both();
+    one_plate();
+    one_fault();
+}
+
+/// Where the job and all plates are among the files, there is a verdict.
+pub fn some_verdict()
+    ensures { SomeVerdict one_page }
+{
+    plate_or_fault();
+}
