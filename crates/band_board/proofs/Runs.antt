@@ -34,6 +34,14 @@ recipe_fits k defined recipe board halo r (Put j v) by t =
     by ∙ halo board r h.0 j h.1 (λ n need. r.ready h.0 n h.1.piece (claimed_not_free (state_at board h.0) h.2) need)
 recipe_fits k defined recipe board halo r (Done i) by t = tt
 
+-- and a value that is the cell's is the recipe's
+pub defined_fits : (k : Shape) (defined : ℕ → ℕ) (recipe : Board → ℕ → ℕ) (board : Board) → Halo k defined recipe → Sound k defined board → (event : Event) → ByDefinition defined event → allowed k board event ≡ true → ByRecipe recipe board event
+defined_fits k defined recipe board halo r (Claim i) by t = tt
+defined_fits k defined recipe board halo r (Put j v) by t =
+    let two = and_parts (cell_at board j == 0) (in_hand k board j) t in let h = hand k board r.whole j two.1 in
+    by ∙ sym (halo board r h.0 j h.1 (λ n need. r.ready h.0 n h.1.piece (claimed_not_free (state_at board h.0) h.2) need))
+defined_fits k defined recipe board halo r (Done i) by t = tt
+
 pub sound_step : (k : Shape) → IsShape k → (defined : ℕ → ℕ) (recipe : Board → ℕ → ℕ) → Halo k defined recipe → (board : Board) (event : Event) → Sound k defined board → Step k recipe board event → Sound k defined (changed board event)
 sound_step k ok defined recipe halo board event r s = let t = is_allowed k board event s.has_after in sound_after k ok defined board r event s.in_range (recipe_fits k defined recipe board halo r event s.by_recipe t) t
 

@@ -1,5 +1,5 @@
 -- Counting numbers that pass a test, where an ascending list has just these.
-use Rattle.std.proofs.Common.{◌≡◌, ℕ, zero, suc, ◌+◌, ◌-◌, ◌<◌, ◌≤◌, Bool, true, false, ap, ◌∙◌, arith, inl, inr, sym}
+use Rattle.std.proofs.Common.{◌≡◌, ℕ, zero, suc, ◌+◌, ◌-◌, ◌<◌, ◌≤◌, Bool, true, false, ap, ◌∙◌, arith, inl, inr}
 use Rattle.std.specs.Prelude.{if◌then◌else◌}
 use Rattle.std.proofs.lemmas.Bool.{cases_Bool, cases_eq, cases_order}
 use Rattle.lists.specs.Words.{count_below}
@@ -81,3 +81,21 @@ module _ (test : ℕ → Bool) (f : ℕ → ℕ) (m : ℕ) (ascends : (k : ℕ) 
         let rest = none_to test (f k + 1) n (let t = inside k l in omega (arith, t)) (λ h from below. none_after k h last (omega (arith, from))) in
         omega (arith, rest, count_below-hit test (f k) (pass k l), count-at k l, last))
   ]
+
+pub count-grows : (test : ℕ → Bool) (a d : ℕ) → count_below test a ≤ count_below test (a + d)
+count-grows test a zero = let e = ap (count_below test) (let t : a + 0 ≡ a = omega arith in t) in omega (arith, e)
+count-grows test a (suc d) = let e = ap (count_below test) (let t : a + suc d ≡ suc (a + d) = omega arith in t) in omega (arith, e, count-grows test a d)
+
+-- fewer pass before a number that passes than before a greater one
+pub count-less : (test : ℕ → Bool) (n m : ℕ) → test n ≡ true → n < m → count_below test n < count_below test m
+count-less test n m t l =
+    let hit = count_below-hit test n t in let up = count-grows test (n + 1) (m - (n + 1)) in
+    let e = ap (count_below test) (let s : n + 1 + (m - (n + 1)) ≡ m = omega (arith, l) in s) in omega (arith, hit, up, e)
+
+-- so numbers that pass are told apart by how many pass before them
+pub count-same : (test : ℕ → Bool) (n m : ℕ) → test n ≡ true → test m ≡ true → count_below test n ≡ count_below test m → n ≡ m
+count-same test n m a b e = elim (cases_order n m) [
+  | inl same ↦ same
+  | inr (inl less) ↦ (let s = count-less test n m a less in absurd (omega (arith, s, e)))
+  | inr (inr more) ↦ (let s = count-less test m n b more in absurd (omega (arith, s, e)))
+]

@@ -1,0 +1,11 @@
+pub mod Kept
+pub mod Totals
+pub mod Boards
+pub mod Keeps
+pub mod Readable
+pub mod Events
+pub mod Steps
+pub mod Looking
+pub mod Carrying
+pub mod Marks
+pub mod Crosses

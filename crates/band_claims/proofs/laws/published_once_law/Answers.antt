@@ -1,0 +1,5 @@
+use Rattle.band_claims.proofs.Readable.{published_once}
+use Rattle.band_claims.proofs.laws.published_once_law.Goals as goal
+
+pub returns : goal.returns
+returns c = published_once

@@ -1,0 +1,33 @@
+-- The rule in words of single views, and what all steps together are.
+use Rattle.std.specs.Prelude.{◌≡◌, ℕ, ◌<◌, ◌≤◌, List, Some, true}
+use Rattle.atomic_table.specs.Table.{State}
+use Rattle.band_board.specs.Shapes.{Shape}
+use Rattle.band_board.specs.Boards.{is_claimed, opening}
+use Rattle.band_board.specs.Runs.{IsRun, played}
+use Rattle.band_core.specs.Recipe.{recipe}
+use Rattle.band_board.specs.TableWords.{board_of}
+use Rattle.band_claims.specs.declared.sheet.Sheet.{Sheet}
+use Rattle.band_claims.specs.declared.view.View.{View}
+use Rattle.band_claims.specs.Views.{times}
+use Rattle.band_claims.specs.Kinds.{Kind, Leads, events_of, first_state}
+use Rattle.band_claims.specs.Rule.{Ruled, RuleOf, Sees}
+use Rattle.band_claims.specs.Sheets.{shape_of, cell}
+
+-- a claimed piece has a holder; who holds a piece finds it claimed; and two holders of one piece are one view
+abbrev pub HeldOnce : Type 0
+HeldOnce = (k : Shape) (defined : ℕ → ℕ) (key : Sheet) (s : State (Unit {0}) View) → Ruled k defined key s → (i : ℕ) → i < k.pieces
+    → (is_claimed (board_of k s.words) i ≡ true → (id : ℕ) × (v : View) × Sees s id v × (v.held ≡ Some i))
+    × ((id : ℕ) (v : View) → Sees s id v → v.held ≡ Some i → is_claimed (board_of k s.words) i ≡ true)
+    × ((id other : ℕ) (v w : View) → Sees s id v → Sees s other w → v.held ≡ Some i → w.held ≡ Some i → other ≡ id)
+
+abbrev pub PublishedOnce : Type 0
+PublishedOnce = (k : Shape) (defined : ℕ → ℕ) (key : Sheet) (s : State (Unit {0}) View) → Ruled k defined key s → (i : ℕ)
+    → ((id : ℕ) (v : View) → Sees s id v → times i v.published ≤ 1)
+    × ((id other : ℕ) (v w : View) → Sees s id v → Sees s other w → 1 ≤ times i v.published → 1 ≤ times i w.published → other ≡ id)
+
+-- whatever steps were made from the table's opening on: the rule holds, their events are a run of the core, and the words are the board that this run leads to
+abbrev pub StepsAreRun : Sheet → Type 0
+StepsAreRun key = (kinds : List Kind) (t : State (Unit {0}) View) → Leads (shape_of key) (cell key) (first_state (shape_of key) key) kinds t
+    → RuleOf key t
+    × IsRun (shape_of key) (recipe key.page.value key.layout) (opening (shape_of key)) (events_of kinds)
+    × (board_of (shape_of key) t.words ≡ played (opening (shape_of key)) (events_of kinds))

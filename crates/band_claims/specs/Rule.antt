@@ -1,0 +1,50 @@
+-- The rule of the table. Its words are a board: first a word for each piece, 0 free, 1 claimed and 2 done, and then the cells.
+use Rattle.std.specs.Prelude.{◌≡◌, ◌≢◌, ℕ, ◌+◌, ◌<◌, ◌≤◌, true, List, slice_index, Some, MatchOption}
+use mathlib.Core.Option.{some}
+use lib.ListN.{get_elem?}
+use Rattle.atomic_table.specs.Table.{State}
+use Rattle.band_board.specs.Shapes.{Shape}
+use Rattle.band_board.specs.Boards.{Board, cell_at, is_claimed, is_done}
+use Rattle.band_board.specs.TableWords.{AreWords, board_of}
+use Rattle.band_board.specs.Runs.{Sound}
+use Rattle.band_claims.specs.declared.sheet.Sheet.{Sheet}
+use Rattle.band_claims.specs.declared.view.View.{View}
+use Rattle.band_claims.specs.Sheets.{shape_of, cell}
+use Rattle.band_claims.specs.Views.{one_if, total, holds, publishes, Knows}
+
+abbrev pub piece_word : List ℕ → ℕ → ℕ
+piece_word words i = slice_index words i
+
+abbrev pub cell_word : Shape → List ℕ → ℕ → ℕ
+cell_word k words j = slice_index words (k.pieces + j)
+
+-- seat id has the view v
+abbrev pub Sees : State (Unit {0}) View → ℕ → View → Type 0
+Sees s id v = get_elem? s.views id ≡ some v
+
+-- of piece i the first cells, n of them, are filled and the others are empty
+pub record FirstFilled (k : Shape) (board : Board) (i n : ℕ) : Type 0 where
+  pub piece : i < k.pieces
+  pub at_most : n ≤ k.size i
+  pub front : (o : ℕ) → o < n → cell_at board (k.start i + o) ≢ 0
+  pub back : (o : ℕ) → n ≤ o → o < k.size i → cell_at board (k.start i + o) ≡ 0
+
+-- The rule, over any shape and any value of each cell. A view that is spent has no sheet; the other clauses hold of it too.
+pub record Ruled (k : Shape) (defined : ℕ → ℕ) (key : Sheet) (s : State (Unit {0}) View) : Type 0 where
+  -- there is a word for each piece and cell, and a piece's word is 0, 1 or 2: free, claimed or done
+  pub words : AreWords k s.words
+  -- 1: all views have one page and the same bands, and the board is sound for that page
+  pub one_page : (id : ℕ) (v : View) → Sees s id v → MatchOption v.sheet (Unit {0}) (λ x. x ≡ key)
+  pub sound : Sound k defined (board_of k s.words)
+  -- 2: of all views one holds a piece that is claimed, and none holds one that is not
+  pub one_holder : (i : ℕ) → i < k.pieces → total (holds i) s.views ≡ one_if (is_claimed (board_of k s.words) i)
+  -- 3: of a held piece the first cells are filled, as many as its holder says, and the others are empty
+  pub held_filled : (id i : ℕ) (v : View) → Sees s id v → v.held ≡ Some i → FirstFilled k (board_of k s.words) i v.filled
+  -- 4: a piece that is in a list of published or seen pieces is done
+  pub known_done : (id i : ℕ) (v : View) → Sees s id v → Knows v i → (i < k.pieces) × (is_done (board_of k s.words) i ≡ true)
+  -- 5: in all lists of published pieces together no piece stands twice
+  pub once : (i : ℕ) → total (publishes i) s.views ≤ 1
+
+-- the rule of the table of a page
+abbrev pub RuleOf : Sheet → State (Unit {0}) View → Type 0
+RuleOf key = Ruled (shape_of key) (cell key) key

@@ -1,0 +1,119 @@
+// The table after all passes have ended.
+ghost use Rattle.std.specs.Prelude.{◌≡◌, ◌≢◌, ℕ, ◌+◌, ◌==◌, ◌<◌, slice_index, slice_set};
+ghost use Rattle.band_claims.specs.Receipt.{Ascends};
+ghost use Rattle.page_model.specs.Bands.{pieces_of};
+ghost use Rattle.band_claims.specs.Sheets.{shape_of};
+ghost use Rattle.band_claims.specs.Views.{one_if, times};
+ghost use Rattle.band_claims.specs.Rule.{cell_word};
+
+use crate::pass::Pass;
+use crate::sheet::Sheet;
+use band_graph::needs::pieces;
+use page_model::bands::Bands;
+use row_cells::layout::Layout;
+use std::alloc::Global;
+use std::marker::Model;
+use std::snapshot::Snapshot;
+
+/// A closed table. It keeps the pass as it was given, for contracts alone.
+pub struct Closed {
+    pub(crate) table: atomic_table::Closed<(), Global>,
+    pub(crate) sheet: Sheet,
+    pub(crate) marks: Vec<u8>,
+    pub(crate) last: Snapshot<Pass>,
+}
+
+impl Model for Closed {
+    ghost use Rattle.std.specs.Prelude.{◌≡◌, ◌+◌, length, vec_len};
+    ghost use Rattle.std.specs.Mem.Slots.{slots_items, slots_len, IsFull};
+    ghost use Rattle.band_claims.specs.Sheets.{shape_of, IsFit};
+    ghost use Rattle.band_claims.specs.Receipt.{Receipt, IsReceipt, marked};
+
+    ghost Value = { Receipt };
+
+    ghost view = { λ c. record {
+      sheet = c.sheet;
+      words = slots_items c.table.words;
+      published = c.last.value.view.published;
+      seen = c.last.value.view.seen;
+      looked = c.last.value.view.looked;
+      alone = marked 0 c.marks.items;
+    } };
+
+    ghost invariant = { λ c. IsFull c.table.words
+        × IsReceipt c.sheet (slots_items c.table.words) (slots_len c.table.slots) c.marks.items };
+}
+
+impl Closed {
+    /// The bands that the table was made with.
+    pub fn bands(&self) -> &Bands
+        ensures { result.now ≡ self.now.sheet.layout.bands }
+    {
+        self.sheet.layout.bands()
+    }
+
+    /// The layout that the table was made with.
+    pub fn layout(&self) -> &Layout
+        ensures { result.now ≡ self.now.sheet.layout }
+    {
+        &self.sheet.layout
+    }
+
+    /// The word of a piece: 0 where it is free, 1 where it is claimed, 2 where it is done.
+    pub fn state(&self, piece: u32) -> u64
+        requires { piece < pieces_of self.now.sheet.layout.bands }
+        ensures { result ≡ slice_index self.now.words piece }
+    {
+        self.table.word(piece as usize)
+    }
+
+    /// The word of a cell: 0 where it is empty.
+    pub fn cell(&self, cell: u32) -> u64
+        requires { cell < (shape_of self.now.sheet).cells }
+        ensures { result ≡ cell_word (shape_of self.now.sheet) self.now.words cell }
+    {
+        self.table
+            .word(pieces(self.sheet.layout.bands()) as usize + cell as usize)
+    }
+
+    /// Puts a value in a cell. All else stays.
+    pub fn set_cell(&mut self, cell: u32, value: u64)
+        requires { cell < (shape_of self.old.sheet).cells }
+        ensures { self.new ≡ record self.old {
+          words = slice_set self.old.words (pieces_of self.old.sheet.layout.bands + cell) value;
+        } }
+    {
+        let word = pieces(self.sheet.layout.bands()) as usize + cell as usize;
+        self.table.words.put(word, value);
+    }
+
+    /// Makes a piece done that was not, and adds it to the list of the pieces that were made alone, which ascends. All else
+    /// stays.
+    pub fn set_done(&mut self, piece: u32)
+        requires piece { piece < pieces_of self.old.sheet.layout.bands }
+        requires not_done { slice_index self.old.words piece ≢ 2 }
+        ensures words { self.new.words ≡ slice_set self.old.words piece 2 }
+        ensures alone { (i : ℕ)
+            → times i self.new.alone ≡ times i self.old.alone + one_if (i == piece) }
+        ensures order { Ascends 0 self.new.alone }
+        ensures sheet { self.new.sheet ≡ self.old.sheet }
+        ensures published { self.new.published ≡ self.old.published }
+        ensures seen { self.new.seen ≡ self.old.seen }
+        ensures looked { self.new.looked ≡ self.old.looked }
+    {
+        self.table.words.put(piece as usize, 2);
+        self.marks[piece as usize] = 1;
+    }
+}
+
+impl Drop for Closed {
+    fn drop(self) {
+        let Closed {
+            table,
+            sheet,
+            marks,
+            last,
+        } = self;
+        table.free();
+    }
+}

@@ -1,0 +1,23 @@
+// A seat at the table.
+use crate::view::View;
+use atomic_table::Seat;
+use std::marker::Model;
+
+/// A seat at the shared table. It carries the number of the piece that it holds and of the word that it fills next.
+#[derive(Drop)]
+pub struct Pass {
+    pub(crate) seat: Seat<(), View>,
+    pub(crate) piece: u32,
+    pub(crate) next: u32,
+}
+
+impl Model for Pass {
+    ghost use Rattle.std.specs.Prelude.{◌≡◌, []};
+    ghost use Rattle.band_claims.specs.Seating.{Seating, Carries};
+
+    ghost Value = { Seating };
+
+    ghost view = { λ p. record { table = p.seat.table_id; view = p.seat.me.0 } };
+
+    ghost invariant = { λ p. (p.seat.me.1 ≡ []) × Carries p.seat.me.0 p.piece p.next };
+}

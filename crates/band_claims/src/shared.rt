@@ -1,0 +1,320 @@
+// The table, and the steps of a pass.
+ghost use Rattle.std.specs.Prelude.{◌≡◌, ◌≢◌, ◌⊎◌, ℕ, ◌+◌, ◌-◌, ◌*◌, ◌<◌, ◌≤◌, ◌↔◌, IsTrue, false, IfOk, List, true, [], ◌∷◌, ◌++◌, length, slice_index, Some, None};
+ghost use Rattle.page_model.specs.Bands.{pieces_of};
+ghost use Rattle.band_graph.specs.Needs.{is_need};
+ghost use Rattle.band_board.specs.TableWords.{AreWords, board_of};
+ghost use Rattle.band_board.specs.Boards.{is_done as is_done_on};
+ghost use Rattle.band_board.specs.Runs.{Sound};
+ghost use Rattle.band_board.specs.Shapes.{Has};
+ghost use Rattle.band_core.specs.Values.{IsFor};
+ghost use Rattle.band_claims.specs.Sheets.{cell, shape_of, IsFit};
+ghost use Rattle.band_claims.specs.Views.{IsFair, times, Knows, looked_at, claimed, put, finished, branched, joined, Won, Lost};
+ghost use Rattle.band_claims.specs.Seating.{Seats};
+ghost use Rattle.band_claims.specs.Rule.{RuleOf, piece_word};
+ghost use Rattle.band_claims.specs.Views.{newcomer};
+
+use crate::closed::Closed;
+use crate::pass::Pass;
+use crate::plays::{Claims, Finishes, Looks, Passes, Puts, Reads};
+use crate::sheet::Sheet;
+use crate::view::View;
+use atomic_table::{Seat, Table, TableRule};
+use band_graph::needs::{need_at, need_count, pieces};
+use lists::names::OutOfMemory;
+use page_model::bands::Bands;
+use page_model::page::Page;
+use row_cells::layout::Layout;
+use std::alloc::Global;
+use std::marker::Model;
+use std::snapshot::Snapshot;
+
+/// The rule of the shared table: `specs/Rule.antt` has its clauses.
+pub struct Claiming;
+
+impl TableRule<(), View, Sheet> for Claiming {
+    ghost holds = { RuleOf };
+
+    ghost first = { newcomer };
+}
+
+/// The shared table of a page: a word for each piece, 0 while it is free, 1 while it is claimed and 2 when it is done, and then a
+/// word for each cell, 0 while it is empty. Threads share it by reference, each with a pass of its own.
+#[derive(Drop)]
+pub struct Shared {
+    table: Table<(), View, Sheet, Claiming, Global>,
+    sheet: Sheet,
+    marks: Vec<u8>,
+}
+
+impl Model for Shared {
+    ghost use Rattle.band_claims.specs.Seating.{OpenTable, IsOpenTable};
+
+    ghost Value = { OpenTable };
+
+    ghost view = { λ s. record { table = s.table.shared.table_id; sheet = s.table.shared.key } };
+
+    ghost invariant = { λ s. IsOpenTable s.table.shared.table_id.words
+        s.table.shared.table_id.slots s.table.shared.key s.sheet s.marks.items };
+}
+
+type Words = Table<(), View, Sheet, Claiming, Global>;
+
+// A table whose words are all 0. The zeros that it is copied from are let go here.
+fn opened(alloc: Global, sheet: &Sheet) -> Result<(Words, Seat<(), View>), OutOfMemory>
+    requires fit { IsFit sheet.now }
+    ensures words { IfOk result (λ t. t.0.shared.table_id.words
+        ≡ (shape_of sheet.now).pieces + (shape_of sheet.now).cells) }
+    ensures slots { IfOk result (λ t. t.0.shared.table_id.slots ≡ 0) }
+    ensures told { IfOk result (λ t. t.0.shared.key ≡ sheet.now) }
+    ensures seat { IfOk result (λ t.
+        (t.1.table_id ≡ t.0.shared.table_id) × (t.1.me ≡ (newcomer sheet.now, []))) }
+{
+    let count = pieces(sheet.layout.bands()) + sheet.layout.cells();
+    let Ok(zeros) = vec![in alloc; 0u64; count as usize] else {
+        return Err(OutOfMemory);
+    };
+    Table::of_words(alloc, zeros.as_slice(), sheet).or(Err(OutOfMemory))
+}
+
+impl Shared {
+    /// A table with all words 0 for a page, and its first pass, which knows nothing.
+    pub fn new(
+        alloc: Global,
+        page: &Page,
+        bands: &Bands,
+        layout: &Layout,
+    ) -> Result<(Shared, Pass), OutOfMemory>
+        requires layout { IsFor page.now layout.now }
+        requires bands { layout.now.bands ≡ bands.now }
+        ensures pass { IfOk result (λ t. Seats t.0 t.1) }
+        ensures new { IfOk result (λ t. t.1.view ≡ newcomer t.0.sheet) }
+        ensures page { IfOk result (λ t. t.0.sheet.page.value ≡ page.now) }
+        ensures layout { IfOk result (λ t. t.0.sheet.layout ≡ layout.now) }
+    {
+        let sheet = Sheet {
+            page: Snapshot::of(page),
+            layout: *layout,
+        };
+        let pieces = pieces(bands);
+        let Ok(marks) = vec![in alloc; 0u8; pieces as usize] else {
+            return Err(OutOfMemory);
+        };
+        let (table, seat) = opened(alloc, &sheet)?;
+        let shared = Shared {
+            table,
+            sheet,
+            marks,
+        };
+        let pass = Pass {
+            seat,
+            piece: 0,
+            next: 0,
+        };
+        Ok((shared, pass))
+    }
+
+    /// The bands that the table was made with.
+    pub fn bands(&self) -> &Bands
+        ensures same { result.now ≡ self.now.sheet.layout.bands }
+        ensures fits { IsFit self.now.sheet }
+    {
+        self.sheet.layout.bands()
+    }
+
+    /// The layout that the table was made with.
+    pub fn layout(&self) -> &Layout
+        ensures { result.now ≡ self.now.sheet.layout }
+    {
+        &self.sheet.layout
+    }
+
+    /// Whether a piece is done: false exactly where the word that was loaded was not 2.
+    pub fn is_done(&self, pass: &mut Pass, piece: u32) -> bool
+        requires pass { Seats self.now pass.old }
+        requires piece { piece < pieces_of self.now.sheet.layout.bands }
+        ensures pass { Seats self.now pass.new }
+        ensures answer { (found : ℕ) × (pass.new.view ≡ looked_at piece found pass.old.view)
+            × (IsTrue result ↔ (found ≡ 2)) }
+    {
+        let found = self
+            .table
+            .shared
+            .load::<Looks>(&mut pass.seat, piece as usize);
+        found == 2
+    }
+
+    /// Claims a piece. It answers false exactly where it found a need of the piece that is not done, or the piece itself not
+    /// free; the pass then holds nothing, and `looked` ends with what was found.
+    pub fn claim(&self, pass: &mut Pass, piece: u32) -> bool
+        requires pass { Seats self.now pass.old }
+        requires piece { piece < pieces_of self.now.sheet.layout.bands }
+        requires idle { pass.old.view.held ≡ None }
+        ensures pass { Seats self.now pass.new }
+        ensures won { IsTrue result
+            → Won self.now.sheet.layout.bands piece pass.old.view pass.new.view }
+        ensures lost { result ≡ false
+            → Lost self.now.sheet.layout.bands piece pass.old.view pass.new.view }
+    {
+        let bands = self.sheet.layout.bands();
+        let count = need_count(bands, piece);
+        for k in 0..count {
+            let need = need_at(bands, piece, k);
+            if !self.is_done(pass, need) {
+                return false;
+            }
+        }
+        self.take(pass, piece)
+    }
+
+    // The exchange of a claim.
+    fn take(&self, pass: &mut Pass, piece: u32) -> bool
+        requires pass { Seats self.now pass.old }
+        requires piece { piece < pieces_of self.now.sheet.layout.bands }
+        requires idle { pass.old.view.held ≡ None }
+        requires known { (n : ℕ) → is_need self.now.sheet.layout.bands piece n ≡ true
+            → Knows pass.old.view n }
+        ensures pass { Seats self.now pass.new }
+        ensures answer { (found : ℕ) × (pass.new.view ≡ claimed piece found pass.old.view)
+            × (IsTrue result ↔ (found ≡ 0)) }
+    {
+        let found = self
+            .table
+            .shared
+            .compare_exchange::<Claims>(&mut pass.seat, piece as usize, 0, 1);
+        if found == 0 {
+            pass.piece = piece;
+            pass.next = pieces(self.sheet.layout.bands()) + self.sheet.layout.first_cell(piece);
+        }
+        found == 0
+    }
+
+    /// Fills the next cell of the held piece with its defined value.
+    pub fn put_cell(&self, pass: &mut Pass, value: u64)
+        requires pass { Seats self.now pass.old }
+        requires next { (piece : ℕ) × (pass.old.view.held ≡ Some piece)
+            × (pass.old.view.filled < (shape_of self.now.sheet).size piece)
+            × (value ≡ cell self.now.sheet
+            ((shape_of self.now.sheet).start piece + pass.old.view.filled)) }
+        ensures pass { Seats self.now pass.new }
+        ensures put { pass.new.view ≡ put pass.old.view }
+    {
+        self.table
+            .shared
+            .store::<Puts>(&mut pass.seat, pass.next as usize, value);
+        pass.next += 1;
+    }
+
+    /// Publishes the held piece, whose cells are all filled.
+    pub fn finish(&self, pass: &mut Pass)
+        requires pass { Seats self.now pass.old }
+        requires full { (piece : ℕ) × (pass.old.view.held ≡ Some piece)
+            × (pass.old.view.filled ≡ (shape_of self.now.sheet).size piece) }
+        ensures pass { Seats self.now pass.new }
+        ensures finished { (piece : ℕ) × (pass.old.view.held ≡ Some piece)
+            × (pass.new.view ≡ finished piece pass.old.view) }
+        ensures fair { IsFair (pieces_of self.now.sheet.layout.bands) pass.new.view }
+    {
+        self.table
+            .shared
+            .store::<Finishes>(&mut pass.seat, pass.piece as usize, 2);
+    }
+
+    /// The words of cells, from number `first` on, of pieces that the pass saw done or published: their defined values.
+    pub fn read_cells(&self, pass: &mut Pass, first: u32, out: &mut [u64])
+        requires pass { Seats self.now pass.old }
+        requires known { (o : ℕ) → o < length out.old → (piece : ℕ)
+            × Has (shape_of self.now.sheet) piece (first + o) × Knows pass.old.view piece }
+        ensures pass { pass.new ≡ pass.old }
+        ensures cells { (o : ℕ) → o < length out.new
+            → slice_index out.new o ≡ cell self.now.sheet (first + o) }
+    {
+        let _ = &self.sheet.layout;
+        for o in 0..out.len() {
+            out[o] = self.read_cell(pass, first + o as u32);
+        }
+    }
+
+    fn read_cell(&self, pass: &mut Pass, j: u32) -> u64
+        requires pass { Seats self.now pass.old }
+        requires known { (piece : ℕ) × Has (shape_of self.now.sheet) piece j
+            × Knows pass.old.view piece }
+        ensures pass { pass.new ≡ pass.old }
+        ensures cell { result ≡ cell self.now.sheet j }
+    {
+        let word = pieces(self.sheet.layout.bands()) + j;
+        self.table
+            .shared
+            .load::<Reads>(&mut pass.seat, word as usize)
+    }
+
+    /// A second pass, which holds nothing, has published nothing, and has seen what this one knows.
+    pub fn split(&self, pass: Pass) -> (Pass, Pass)
+        requires pass { Seats self.now pass }
+        requires idle { pass.view.held ≡ None }
+        ensures first { Seats self.now result.0 }
+        ensures second { Seats self.now result.1 }
+        ensures kept { result.0.view ≡ pass.view }
+        ensures new { result.1.view ≡ branched pass.view }
+    {
+        let mut pass = pass;
+        let seat = self.table.shared.split_seat::<Passes>(&mut pass.seat);
+        let other = Pass {
+            seat,
+            piece: 0,
+            next: 0,
+        };
+        (pass, other)
+    }
+
+    /// One pass of two, which has published and seen what both had.
+    pub fn join(&self, one: Pass, two: Pass) -> Pass
+        requires one { Seats self.now one }
+        requires two { Seats self.now two }
+        requires one_idle { one.view.held ≡ None }
+        requires two_idle { two.view.held ≡ None }
+        ensures pass { Seats self.now result }
+        ensures joined { result.view ≡ joined one.view two.view }
+    {
+        let mut one = one;
+        let Pass {
+            seat,
+            piece: _,
+            next: _,
+        } = two;
+        self.table.shared.join_seat::<Passes>(&mut one.seat, seat);
+        one
+    }
+
+    /// The table that no pass steps on any more, with what the last pass knew. Its words are those of a sound board.
+    pub fn close_all(self, pass: Pass) -> Closed
+        requires pass { Seats self pass }
+        ensures sheet { result.sheet ≡ self.sheet }
+        ensures sound { Sound (shape_of result.sheet) (cell result.sheet)
+            (board_of (shape_of result.sheet) result.words) }
+        ensures words { AreWords (shape_of result.sheet) result.words }
+        ensures published { result.published ≡ pass.view.published }
+        ensures seen { result.seen ≡ pass.view.seen }
+        ensures looked { result.looked ≡ pass.view.looked }
+        ensures done { (i : ℕ) → Knows pass.view i → piece_word result.words i ≡ 2 }
+        ensures once { (i : ℕ) → times i result.published ≤ 1 }
+        ensures alone { result.alone ≡ [] }
+    {
+        let last = Snapshot::of(&pass);
+        let Shared {
+            table,
+            sheet,
+            marks,
+        } = self;
+        let Pass {
+            seat,
+            piece: _,
+            next: _,
+        } = pass;
+        Closed {
+            table: table.close_with(seat),
+            sheet,
+            marks,
+            last,
+        }
+    }
+}

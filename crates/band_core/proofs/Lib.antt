@@ -1,0 +1,11 @@
+pub mod Shapes
+pub mod Cells
+pub mod Fits
+pub mod HaloColumns
+pub mod HaloTraps
+pub mod Ideal
+pub mod Local
+pub mod Halo
+pub mod LocalCells
+pub mod Bridges
+pub mod LookLemmas

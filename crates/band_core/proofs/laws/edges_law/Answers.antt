@@ -1,0 +1,5 @@
+use Rattle.band_core.proofs.Halo.{edges_law}
+use Rattle.band_core.proofs.laws.edges_law.Goals as goal
+
+pub returns : goal.returns
+returns c = edges_law

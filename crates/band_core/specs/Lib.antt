@@ -1,0 +1,5 @@
+pub mod Shapes
+pub mod LaidBoards
+pub mod Values
+pub mod Recipe
+pub mod Laws

@@ -1,0 +1,20 @@
+use Rattle.std.proofs.Common.{◌<◌, sym, ap, ◌∙◌, subst, arith}
+use Rattle.band_claims.specs.declared.sheet.Sheet.{Sheet}
+use Rattle.row_cells.specs.Places.{cells_of}
+use Rattle.band_tests.proofs.OneZone.{two_cells}
+use Rattle.band_tests.proofs.table.closed_words.Goals as goal
+
+pub cell-requires : goal.cell-requires
+cell-requires c = subst (λ (s : Sheet). 0 < cells_of s.layout) (sym c.close_all-closed.ensures.sheet) (let t = two_cells c.args.shared.sheet c.requires.sheet in omega (arith, t))
+
+pub cell-requires-2 : goal.cell-requires-2
+cell-requires-2 c = subst (λ (s : Sheet). 1 < cells_of s.layout) (sym c.close_all-closed.ensures.sheet) (two_cells c.args.shared.sheet c.requires.sheet)
+
+pub set_cell-requires : goal.set_cell-requires
+set_cell-requires c = subst (λ (s : Sheet). 1 < cells_of s.layout) (sym c.close_all-closed.ensures.sheet) (two_cells c.args.shared.sheet c.requires.sheet)
+
+pub cell-requires-3 : goal.cell-requires-3
+cell-requires-3 c = subst (λ (s : Sheet). 0 < cells_of s.layout) (sym (c.set_done.ensures.sheet ∙ (ap (λ z. z.sheet) c.set_cell.ensures ∙ c.close_all-closed.ensures.sheet))) (let t = two_cells c.args.shared.sheet c.requires.sheet in omega (arith, t))
+
+pub cell-requires-4 : goal.cell-requires-4
+cell-requires-4 c = subst (λ (s : Sheet). 1 < cells_of s.layout) (sym (c.set_done.ensures.sheet ∙ (ap (λ z. z.sheet) c.set_cell.ensures ∙ c.close_all-closed.ensures.sheet))) (two_cells c.args.shared.sheet c.requires.sheet)
