@@ -5,10 +5,11 @@ use Rattle.std.proofs.lemmas.List.Elements.{All-nil, All-cons, All-head, All-tai
 use Rattle.page_model.specs.declared.parts.Limit.{Limit}
 use Rattle.page_model.specs.declared.parts.TrapParams.{TrapParams}
 use Rattle.page_model.specs.declared.parts.Zone.{Zone}
-use Rattle.ps_tokens.specs.declared.faults.FaultKind.TheVariants.{AfterShowpage, JobTooLong}
+use Rattle.ps_tokens.specs.declared.faults.FaultKind.TheVariants.{JobTooLong}
 use Rattle.ps_tokens.specs.declared.faults.JobFault.{JobFault}
 use Rattle.ps_tokens.specs.declared.object.Object.{Object}
 use Rattle.ps_tokens.specs.declared.token.Token.{Token}
+use Rattle.ps_tokens.specs.Limits.{longest_job}
 use Rattle.ps_tokens.specs.Objects.{objects_of}
 use Rattle.ps_tokens.specs.Tokens.{tokens_of}
 use Rattle.job_reader.specs.declared.job.Job.{Job}
@@ -16,12 +17,12 @@ use Rattle.job_reader.specs.declared.operators.Operator.{Operator}
 use Rattle.job_reader.specs.declared.operators.Operator.TheVariants.{SetPageDevice, SetTrapParams, NewPath, ClosePath, MoveTo, LineTo, RelativeMoveTo, RelativeLineTo, SetTrapZone, ShowPage}
 use Rattle.job_reader.specs.declared.state.State.{State}
 use Rattle.job_reader.specs.Calls.{Statement, is_showpage, statements_of}
-use Rattle.job_reader.specs.InForce.{after_one, going_on, after_all, is_by}
-use Rattle.job_reader.specs.Jobs.{followed, stepped, read_from, job_of, job_of_tokens, job_of_objects}
+use Rattle.job_reader.specs.InForce.{NoneShows, after_one, going_on, after_all, is_by}
+use Rattle.job_reader.specs.Jobs.{then_job, statement_then, read_from, job_of, job_of_tokens, job_of_objects}
 use Rattle.job_reader.specs.Starts.{nothing_read}
-use Rattle.job_reader.specs.Statements.{fault, performed, shown, shown_fault, job_unless, job_at, switched}
+use Rattle.job_reader.specs.Statements.{fault, state_after, job_shown, shown_fault, job_unless, job_at, under_trapping}
 use Rattle.job_reader.proofs.InForce.{resolution-in_force, trapping-in_force, details-in_force, params-in_force, limits-in_force}
-use Rattle.job_laws.specs.Jobs.{IsJobOf, IsSpelledBy, NoneShows}
+use Rattle.job_laws.specs.Jobs.{IsJobOf, IsSpelledBy}
 use Rattle.job_laws.proofs.Following.{zones-in_force}
 
 -- The job at `showpage`.
@@ -32,7 +33,7 @@ alike make a a' b b' c c' d d' one two three four = cc
 at-is : (objects : List Object) (earlier : List Statement) (now : State) → after_all objects nothing_read earlier ≡ Ok now → IsJobOf objects earlier (job_at now)
 at-is objects earlier now done =
     let make : TrapParams → List Limit → Bool → List Zone → List Zone = λ params limits trapping zones.
-    record { params = record params { enabled = params.enabled && trapping && (length zones == 0) }; path = []; limits = limits } ∷ map (switched trapping) zones in
+    record { params = record params { enabled = params.enabled && trapping && (length zones == 0) }; path = []; limits = limits } ∷ map (under_trapping trapping) zones in
     record {
       resolution = resolution-in_force objects earlier now done;
       zones = alike make now.params _ now.limits _ now.trapping _ now.zones _ (params-in_force objects earlier now done) (limits-in_force objects earlier now done) (trapping-in_force objects earlier now done) (zones-in_force objects earlier now done);
@@ -43,8 +44,8 @@ unless-is : (o : Option JobFault) (job meant : Job) → job_unless o meant ≡ O
 unless-is None job meant is = cc
 unless-is (Some first) job meant is = absurd (cc)
 
-shown-is : (objects : List Object) (earlier : List Statement) (show : Statement) (now : State) (job : Job) → after_all objects nothing_read earlier ≡ Ok now → shown objects show.from show.place show.call.at now ≡ Ok job → IsJobOf objects earlier job
-shown-is objects earlier show now job done ends =
+job_shown-is : (objects : List Object) (earlier : List Statement) (show : Statement) (now : State) (job : Job) → after_all objects nothing_read earlier ≡ Ok now → job_shown objects show.from show.place show.call.at now ≡ Ok job → IsJobOf objects earlier job
+job_shown-is objects earlier show now job done ends =
     subst (λ (j : Job). IsJobOf objects earlier j) (unless-is (shown_fault objects show.from show.place show.call.at now) job (job_at now) ends) (at-is objects earlier now done)
 
 -- The statements up to it.
@@ -52,7 +53,7 @@ shown-is objects earlier show now job done ends =
 -- a statement ends the job
 record Shows (objects : List Object) (s : Statement) (o : Option Operator) (now : State) (job : Job) : Type 0 where
   is : o ≡ Some ShowPage
-  ends : shown objects s.from s.place s.call.at now ≡ Ok job
+  ends : job_shown objects s.from s.place s.call.at now ≡ Ok job
 
 -- or the job goes on behind it
 record Passes (objects : List Object) (s : Statement) (o : Option Operator) (now : State) (rest : State → Result Job JobFault) (job : Job) : Type 0 where
@@ -73,20 +74,20 @@ only-showpage RelativeLineTo is = absurd (cc)
 only-showpage SetTrapZone is = absurd (cc)
 only-showpage ShowPage is = refl
 
-follows : (r : Result State JobFault) (rest : State → Result Job JobFault) (job : Job) → followed r rest ≡ Ok job → (next : State) × (r ≡ Ok next) × (rest next ≡ Ok job)
+follows : (r : Result State JobFault) (rest : State → Result Job JobFault) (job : Job) → then_job r rest ≡ Ok job → (next : State) × (r ≡ Ok next) × (rest next ≡ Ok job)
 follows (Ok next) rest job is = (next, refl, is)
 follows (Err first) rest job is = absurd (cc)
 
 one-by : (b : Bool) (objects : List Object) (s : Statement) (o : Operator) (now : State) (rest : State → Result Job JobFault) (job : Job) → is_showpage o ≡ b
-    → cond b (shown objects s.from s.place s.call.at now) (followed (performed objects s.from s.place s.call.at o now) rest) ≡ Ok job
+    → cond b (job_shown objects s.from s.place s.call.at now) (then_job (state_after objects s.from s.place s.call.at o now) rest) ≡ Ok job
     → Shows objects s (Some o) now job ⊎ Passes objects s (Some o) now rest job
 one-by true objects s o now rest job shows is = inl (record { is = only-showpage o shows; ends = is })
 one-by false objects s o now rest job shows is =
-    let r = performed objects s.from s.place s.call.at o now in
+    let r = state_after objects s.from s.place s.call.at o now in
     let one = follows r rest job is in
-    inr (record { next = one.0; is = shows; does = ap (λ b. cond b (fault AfterShowpage s.call.at) r) shows ∙ one.1; more = one.2 })
+    inr (record { next = one.0; is = shows; does = one.1; more = one.2 })
 
-one : (objects : List Object) (s : Statement) (o : Option Operator) (now : State) (rest : State → Result Job JobFault) (job : Job) → stepped objects s o now rest ≡ Ok job → Shows objects s o now job ⊎ Passes objects s o now rest job
+one : (objects : List Object) (s : Statement) (o : Option Operator) (now : State) (rest : State → Result Job JobFault) (job : Job) → statement_then objects s o now rest ≡ Ok job → Shows objects s o now job ⊎ Passes objects s o now rest job
 one objects s None now rest job is = absurd (cc)
 one objects s (Some o) now rest job is = one-by (is_showpage o) objects s o now rest job refl is
 
@@ -100,7 +101,7 @@ record Ends (objects : List Object) (now : State) (ss : List Statement) (job : J
   none_shows : NoneShows earlier
   shows : show.call.operator ≡ Some ShowPage
   done : after_all objects now earlier ≡ Ok last
-  ends : shown objects show.from show.place show.call.at last ≡ Ok job
+  ends : job_shown objects show.from show.place show.call.at last ≡ Ok job
 
 -- the test of a statement that is not `showpage`
 abbrev Goes : Statement → Type 0
@@ -142,7 +143,7 @@ ends-at objects len now (s ∷ ss) job is =
 record Left (objects : List Object) (now : State) (earlier : List Statement) (show : Statement) (job : Job) : Type 0 where
   last : State
   done : after_all objects now earlier ≡ Ok last
-  ends : shown objects show.from show.place show.call.at last ≡ Ok job
+  ends : job_shown objects show.from show.place show.call.at last ≡ Ok job
 
 left-later : (objects : List Object) (now : State) (s : Statement) (ss : List Statement) (show : Statement) (job : Job) (next : State) → after_one objects s s.call.operator now ≡ Ok next → Left objects next ss show job → Left objects now (s ∷ ss) show job
 unfolding after_all
@@ -156,7 +157,7 @@ left-one objects now s ss show rest job goes more (inr past) = left-later object
 left-at : (objects : List Object) (len : ℕ) (now : State) (earlier later : List Statement) (show : Statement) (job : Job) → NoneShows earlier → show.call.operator ≡ Some ShowPage → read_from objects len now (earlier ++ show ∷ later) ≡ Ok job → Left objects now earlier show job
 unfolding read_from after_all
 left-at objects len now [] later show job none shows is =
-    record { last = now; done = refl; ends = sym (ap (λ o. stepped objects show o now (λ next. read_from objects len next later)) shows) ∙ is }
+    record { last = now; done = refl; ends = sym (ap (λ o. statement_then objects show o now (λ next. read_from objects len next later)) shows) ∙ is }
 left-at objects len now (s ∷ ss) later show job none shows is =
     let rest : State → Result Job JobFault = λ next. read_from objects len next (ss ++ show ∷ later) in
     left-one objects now s ss show rest job (All-head Goes s ss none) (λ next more. left-at objects len next ss later show job (All-tail Goes s ss none) shows more) (one objects s s.call.operator now rest job is)
@@ -165,7 +166,7 @@ pub job-in_force : (objects : List Object) (len : ℕ) (earlier later : List Sta
     → read_from objects len nothing_read (statements_of objects) ≡ Ok job → IsJobOf objects earlier job
 job-in_force objects len earlier later show job cut shows none is =
     let end = left-at objects len nothing_read earlier later show job none shows (sym (ap (read_from objects len nothing_read) cut) ∙ is) in
-    shown-is objects earlier show end.last job end.done end.ends
+    job_shown-is objects earlier show end.last job end.done end.ends
 
 -- Down to bytes.
 
@@ -184,8 +185,8 @@ spelled-objects bytes len tokens (Ok objects) job are_tokens are_objects is =
       cut = end.cut;
       none_shows = end.none_shows;
       shows = end.shows;
-      performed = end.done;
-      is_job = shown-is objects end.earlier end.show end.last job end.done end.ends;
+      done = end.done;
+      is_job = job_shown-is objects end.earlier end.show end.last job end.done end.ends;
     }
 spelled-objects bytes len tokens (Err first) job are_tokens are_objects is = absurd (cc)
 
@@ -193,10 +194,10 @@ spelled-tokens : (bytes : List ℕ) (r : Result (List Token) JobFault) (job : Jo
 spelled-tokens bytes (Ok tokens) job are_tokens is = spelled-objects bytes (length bytes) tokens (objects_of bytes tokens) job are_tokens refl is
 spelled-tokens bytes (Err first) job are_tokens is = absurd (cc)
 
-spelled-if : (b : Bool) (bytes : List ℕ) (job : Job) → cond b (fault JobTooLong 1048576) (job_of_tokens bytes (tokens_of bytes)) ≡ Ok job → IsSpelledBy bytes job
+spelled-if : (b : Bool) (bytes : List ℕ) (job : Job) → cond b (fault JobTooLong longest_job) (job_of_tokens bytes (tokens_of bytes)) ≡ Ok job → IsSpelledBy bytes job
 spelled-if true bytes job is = absurd (cc)
 spelled-if false bytes job is = spelled-tokens bytes (tokens_of bytes) job refl is
 
 pub job_of-spelled : (bytes : List ℕ) (job : Job) → job_of bytes ≡ Ok job → IsSpelledBy bytes job
 unfolding job_of
-job_of-spelled bytes job is = spelled-if (nat_lt 1048576 (length bytes)) bytes job is
+job_of-spelled bytes job is = spelled-if (nat_lt longest_job (length bytes)) bytes job is

@@ -1,5 +1,5 @@
 -- The job that ends behind statements, told by what is in force there.
-use Rattle.std.specs.Prelude.{◌≡◌, ℕ, false, List, [], ◌∷◌, ◌++◌, All, length, map, ◌==◌, ◌&&◌, Some, Ok}
+use Rattle.std.specs.Prelude.{◌≡◌, ℕ, List, [], ◌∷◌, ◌++◌, length, map, ◌==◌, ◌&&◌, Some, Ok}
 use Rattle.page_model.specs.declared.parts.Zone.{Zone}
 use Rattle.ps_tokens.specs.declared.object.Object.{Object}
 use Rattle.ps_tokens.specs.declared.token.Token.{Token}
@@ -8,10 +8,10 @@ use Rattle.ps_tokens.specs.Tokens.{tokens_of}
 use Rattle.job_reader.specs.declared.job.Job.{Job}
 use Rattle.job_reader.specs.declared.operators.Operator.TheVariants.{ShowPage}
 use Rattle.job_reader.specs.declared.state.State.{State}
-use Rattle.job_reader.specs.Calls.{Statement, is_showpage, statements_of}
-use Rattle.job_reader.specs.InForce.{after_all, is_by, resolution_in_force, trapping_in_force, details_in_force, params_in_force, limits_in_force}
+use Rattle.job_reader.specs.Calls.{Statement, statements_of}
+use Rattle.job_reader.specs.InForce.{NoneShows, after_all, resolution_in_force, trapping_in_force, details_in_force, params_in_force, limits_in_force}
 use Rattle.job_reader.specs.Starts.{nothing_read}
-use Rattle.job_reader.specs.Statements.{switched}
+use Rattle.job_reader.specs.Statements.{under_trapping}
 use Rattle.job_laws.specs.Zones.{zones_in_force}
 
 -- zone 0, which has no path: the parameters and the limits in force, enabled only where Trapping is true and no zone was made
@@ -28,12 +28,8 @@ zone_0_in_force objects earlier =
 -- that were made, each of which is enabled only where Trapping is true there
 pub record IsJobOf (objects : List Object) (earlier : List Statement) (job : Job) : Type 0 where
   pub resolution : job.resolution ≡ resolution_in_force objects earlier
-  pub zones : job.zones ≡ zone_0_in_force objects earlier ∷ map (switched (trapping_in_force objects earlier)) (zones_in_force objects earlier)
+  pub zones : job.zones ≡ zone_0_in_force objects earlier ∷ map (under_trapping (trapping_in_force objects earlier)) (zones_in_force objects earlier)
   pub details : job.details ≡ details_in_force objects earlier
-
--- none of these statements is `showpage`
-abbrev pub NoneShows : List Statement → Type 0
-NoneShows statements = All (λ (s : Statement). is_by is_showpage s.call.operator ≡ false) statements
 
 -- a job that bytes spell: their objects are cut into statements, of which those before the first `showpage` are performed
 -- without a fault, and it is the job that ends behind these
@@ -49,5 +45,5 @@ pub record IsSpelledBy (bytes : List ℕ) (job : Job) : Type 0 where
   pub cut : statements_of objects ≡ earlier ++ show ∷ later
   pub none_shows : NoneShows earlier
   pub shows : show.call.operator ≡ Some ShowPage
-  pub performed : after_all objects nothing_read earlier ≡ Ok now
+  pub done : after_all objects nothing_read earlier ≡ Ok now
   pub is_job : IsJobOf objects earlier job

@@ -6,10 +6,10 @@ ghost use Rattle.job_reader.specs.declared.job.Job.{Job};
 ghost use Rattle.job_reader.specs.declared.operators.Operator.TheVariants.{ShowPage};
 ghost use Rattle.job_reader.specs.declared.state.State.{State};
 ghost use Rattle.job_reader.specs.Calls.{Statement, statements_of};
-ghost use Rattle.job_reader.specs.InForce.{after_all, is_by};
+ghost use Rattle.job_reader.specs.InForce.{NoneShows, after_all, is_by};
 ghost use Rattle.job_reader.specs.Jobs.{job_of, read_from};
 ghost use Rattle.job_reader.specs.Starts.{nothing_read};
-ghost use Rattle.job_laws.specs.Jobs.{IsJobOf, IsSpelledBy, NoneShows};
+ghost use Rattle.job_laws.specs.Jobs.{IsJobOf, IsSpelledBy};
 ghost use Rattle.job_laws.specs.Paths.{empties_path, since_emptied, path_in_force};
 ghost use Rattle.job_laws.specs.Zones.{is_settrapzone, zone_behind, zones_in_force};
 

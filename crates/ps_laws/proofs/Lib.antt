@@ -1,5 +1,6 @@
 pub mod Fronts
 pub mod Judging
+pub mod KindsOfFaults
 pub mod Listing
 pub mod Misplacing
 pub mod Nesting

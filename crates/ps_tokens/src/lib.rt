@@ -18,9 +18,9 @@ mod texts;
 pub mod token;
 mod words;
 
-pub use dictionary::last;
+pub use dictionary::{last, last_value};
 pub use reader::objects;
-pub use scanner::tokens;
+pub use scanner::{LONGEST_JOB, tokens};
 
 #[cfg(test)]
 mod tests;

@@ -2,7 +2,7 @@
 #![tactic(auto)]
 
 mod applying;
-mod limits;
+pub mod limits;
 pub mod settings;
 
 pub use applying::apply;

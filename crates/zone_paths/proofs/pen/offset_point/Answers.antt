@@ -4,7 +4,7 @@ use Rattle.std.proofs.lemmas.Bool.{and_parts}
 use Rattle.std.proofs.lemmas.Bool.Decides.{nat_tests}
 use Rattle.std.proofs.lemmas.Int.{ints}
 use mir.Val.{to_z, of_z}
-use Rattle.zone_paths.proofs.pen.shifted.Goals as goal
+use Rattle.zone_paths.proofs.pen.offset_point.Goals as goal
 
 near_sum : (a d : ℤ) (n : ℕ) → nat_le (nat_abs a) 10000000000 ≡ true → FitsSigned w64 d → n ≡ nat_abs (to_z w64 (of_z w64 d)) → n ≤ 20000000000 → to_z w64 (of_z w64 (to_z w64 (of_z w64 a) +ℤ to_z w64 (of_z w64 d))) ≡ a +ℤ d
 near_sum a d n near fits is few =
