@@ -1,6 +1,9 @@
 //! Laws of the definitions: each is the contract of a function that does nothing.
 
-ghost use Rattle.std.specs.Prelude.{◌≡◌, ℕ, List, take, map};
+ghost use Rattle.std.specs.Prelude.{◌≡◌, ◌+◌, ℕ, List, take, map, slice_get, Contains, Some, None};
+ghost use Rattle.ps_tokens.specs.declared.object.Body.TheVariants.{Dict};
+ghost use Rattle.ps_tokens.specs.Dictionaries.{Ascend, key_names, last_keys_of, last_of, name_of};
+ghost use Rattle.ps_laws.specs.Entries.{Entry, HasEntries, NoneNamed, IsLastNamed};
 ghost use Rattle.ps_tokens.specs.declared.token.Token.{Token};
 ghost use Rattle.ps_tokens.specs.declared.faults.JobFault.{JobFault};
 ghost use Rattle.ps_tokens.specs.Tokens.{tokens_of};
@@ -89,4 +92,48 @@ pub fn first_misplaced_is_object_fault()
 pub fn open_brackets_are_left_open()
     ensures left { (bytes : List ℕ) (tokens : List Token) (brackets : List Bracket) → brackets_after bytes tokens ≡ Ok brackets → LeavesOpen bytes brackets tokens }
     ensures found { (bytes : List ℕ) (tokens : List Token) (brackets : List Bracket) → LeavesOpen bytes brackets tokens → brackets_after bytes tokens ≡ Ok brackets }
+{}
+
+/// Each dictionary among nested objects has entries, which are the objects within it.
+pub fn dictionaries_have_entries()
+    ensures { (objects : List Object) (place : ℕ) (object : Object) → AreNested objects
+        → slice_get objects place ≡ Some object → object.body ≡ Dict
+        → (entries : List Entry) × HasEntries objects place entries }
+{}
+
+/// What is looked up under a name is the value of the last entry of that name, and nothing where no entry has it.
+pub fn last_is_of_the_last_entry()
+    ensures found { (objects : List Object) (dict value : ℕ) (entries : List Entry) (name : List ℕ)
+        → HasEntries objects dict entries
+        → last_of objects dict name ≡ Some value → IsLastNamed name value entries }
+    ensures given { (objects : List Object) (dict value : ℕ) (entries : List Entry) (name : List ℕ)
+        → HasEntries objects dict entries
+        → IsLastNamed name value entries → last_of objects dict name ≡ Some value }
+    ensures none_has_it { (objects : List Object) (dict : ℕ) (entries : List Entry) (name : List ℕ)
+        → HasEntries objects dict entries
+        → last_of objects dict name ≡ None → NoneNamed name entries }
+    ensures none_is_found { (objects : List Object) (dict : ℕ) (entries : List Entry) (name : List ℕ)
+        → HasEntries objects dict entries
+        → NoneNamed name entries → last_of objects dict name ≡ None }
+{}
+
+/// The last keys of a dictionary are those of the last entries of its names. Their names are exactly those of the entries,
+/// in ascending byte order, each once.
+pub fn last_keys_are_of_the_last_entries()
+    ensures last { (objects : List Object) (dict key : ℕ) (entries : List Entry)
+        → HasEntries objects dict entries → Contains (last_keys_of objects dict) key
+        → IsLastNamed (name_of (slice_get objects key)) (key + 1) entries }
+    ensures all { (objects : List Object) (dict key : ℕ) (name : List ℕ) (entries : List Entry)
+        → HasEntries objects dict entries → IsLastNamed name (key + 1) entries
+        → Contains (last_keys_of objects dict) key }
+    ensures names { (objects : List Object) (dict : ℕ) (name : List ℕ) (entries : List Entry)
+        → HasEntries objects dict entries
+        → Contains (map (λ (e : Entry). e.name) entries) name
+        → Contains (key_names objects (last_keys_of objects dict)) name }
+    ensures no_others { (objects : List Object) (dict : ℕ) (name : List ℕ) (entries : List Entry)
+        → HasEntries objects dict entries
+        → Contains (key_names objects (last_keys_of objects dict)) name
+        → Contains (map (λ (e : Entry). e.name) entries) name }
+    ensures ascending { (objects : List Object) (dict : ℕ)
+        → Ascend (key_names objects (last_keys_of objects dict)) }
 {}

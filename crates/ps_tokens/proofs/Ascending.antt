@@ -16,7 +16,7 @@ use Rattle.ps_tokens.specs.declared.object.Object.{Object}
 use Rattle.ps_tokens.specs.Dictionaries.{IsBefore, Ascend, keys_of, key_names, last_keys_of, name_of, put_key}
 
 -- a name stands before all of these
-abbrev IsBeforeAll : List ℕ → List (List ℕ × ℕ) → Type 0
+abbrev pub IsBeforeAll : List ℕ → List (List ℕ × ℕ) → Type 0
 IsBeforeAll name [] = Unit {0}
 IsBeforeAll name (e ∷ es) = IsBefore name e.0 × IsBeforeAll name es
 
@@ -56,7 +56,7 @@ put-keys objects name place [] named keys = (named, tt, tt)
 put-keys objects name place (e ∷ es) named keys =
     put_by (slice_cmp nat_cmp name e.0) objects name place e es (insert_entry (slice_cmp nat_cmp) es name place) refl named keys (put-keys objects name place es named keys.2) keys.1 (λ lt. before-put e.0 name place es lt keys.1)
 
-fold-keys : (objects : List Object) (places : List ℕ) (es : List (List ℕ × ℕ)) → AreKeys objects es → AreKeys objects (fold (put_key objects) es places)
+pub fold-keys : (objects : List Object) (places : List ℕ) (es : List (List ℕ × ℕ)) → AreKeys objects es → AreKeys objects (fold (put_key objects) es places)
 fold-keys objects [] es keys = keys
 fold-keys objects (place ∷ places) es keys = fold-keys objects places (put_key objects es place) (put-keys objects (name_of (slice_get objects place)) place es refl keys)
 
