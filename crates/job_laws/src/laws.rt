@@ -1,6 +1,7 @@
 //! Laws of the definitions: each is the contract of a function that does nothing.
 
-ghost use Rattle.std.specs.Prelude.{◌≡◌, ◌++◌, ◌∷◌, ℕ, List, Ok, Some, All, true, false, length, count_by, slice_get};
+ghost use Rattle.std.specs.Prelude.{◌≡◌, ◌++◌, ◌∷◌, ℕ, List, Ok, Err, Some, All, true, false, length, count_by, slice_get};
+ghost use Rattle.ps_tokens.specs.declared.faults.JobFault.{JobFault};
 ghost use Rattle.ps_tokens.specs.declared.object.Object.{Object};
 ghost use Rattle.job_reader.specs.declared.job.Job.{Job};
 ghost use Rattle.job_reader.specs.declared.operators.Operator.TheVariants.{ShowPage};
@@ -9,7 +10,8 @@ ghost use Rattle.job_reader.specs.Calls.{Statement, statements_of};
 ghost use Rattle.job_reader.specs.InForce.{NoneShows, after_all, is_by};
 ghost use Rattle.job_reader.specs.Jobs.{job_of, read_from};
 ghost use Rattle.job_reader.specs.Starts.{nothing_read};
-ghost use Rattle.job_laws.specs.Jobs.{IsJobOf, IsSpelledBy};
+ghost use Rattle.job_laws.specs.Jobs.{IsJobOf, EndJob, IsSpelledBy, IsFaultOfBytes};
+ghost use Rattle.job_laws.specs.Faults.{IsFaultOf};
 ghost use Rattle.job_laws.specs.Paths.{empties_path, since_emptied, path_in_force};
 ghost use Rattle.job_laws.specs.Zones.{is_settrapzone, zone_behind, zones_in_force};
 
@@ -40,7 +42,35 @@ pub fn job_is_of_what_is_in_force()
         → read_from objects len nothing_read (statements_of objects) ≡ Ok job → IsJobOf objects earlier job }
 {}
 
-/// A job that bytes spell is of what is in force at its first `showpage`, up to which nothing has a fault.
-pub fn job_of_bytes_is_of_what_is_in_force()
-    ensures { (bytes : List ℕ) (job : Job) → job_of bytes ≡ Ok job → IsSpelledBy bytes job }
+/// Statements give a job exactly where they end one: it is that of what is in force at their first `showpage`, up to which
+/// no statement has a fault by what is in force there.
+pub fn job_is_read_where_statements_end_it()
+    ensures ends { (objects : List Object) (len : ℕ) (statements : List Statement) (job : Job)
+        → read_from objects len nothing_read statements ≡ Ok job → EndJob objects statements job }
+    ensures read { (objects : List Object) (len : ℕ) (statements : List Statement) (job : Job)
+        → EndJob objects statements job → read_from objects len nothing_read statements ≡ Ok job }
+{}
+
+/// Statements have a fault exactly where it is the first one by what is in force at its statement, and none stands before
+/// it; or where none has one and none is `showpage`.
+pub fn fault_is_the_first_by_what_is_in_force()
+    ensures stands { (objects : List Object) (len : ℕ) (statements : List Statement) (fault : JobFault)
+        → read_from objects len nothing_read statements ≡ Err fault
+        → IsFaultOf objects len statements fault }
+    ensures told { (objects : List Object) (len : ℕ) (statements : List Statement) (fault : JobFault)
+        → IsFaultOf objects len statements fault
+        → read_from objects len nothing_read statements ≡ Err fault }
+{}
+
+/// A job is that of bytes exactly where they spell it.
+pub fn job_of_bytes_is_spelled()
+    ensures spelled { (bytes : List ℕ) (job : Job) → job_of bytes ≡ Ok job → IsSpelledBy bytes job }
+    ensures read { (bytes : List ℕ) (job : Job) → IsSpelledBy bytes job → job_of bytes ≡ Ok job }
+{}
+
+/// A fault is that of bytes exactly where it is of their number, or else the first of the tokens, or else of the objects, or
+/// else of the statements.
+pub fn fault_of_bytes_stands()
+    ensures stands { (bytes : List ℕ) (fault : JobFault) → job_of bytes ≡ Err fault → IsFaultOfBytes bytes fault }
+    ensures told { (bytes : List ℕ) (fault : JobFault) → IsFaultOfBytes bytes fault → job_of bytes ≡ Err fault }
 {}
