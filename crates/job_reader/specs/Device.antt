@@ -1,5 +1,5 @@
 -- What a `setpagedevice` dictionary sets.
-use Rattle.std.specs.Prelude.{ℕ, ℤ, pos, negsuc, Bool, List, Option, Some, None, Result, Ok, Err, nat_le, ◌+◌, ◌/◌, ◌%◌, ◌==◌, ◌&&◌, true, false, codes, if◌then◌else◌}
+use Rattle.std.specs.Prelude.{ℕ, ℤ, pos, negsuc, Bool, List, Option, Some, None, Result, Ok, Err, nat_le, ◌+◌, ◌*◌, ◌/◌, ◌%◌, ◌==◌, ◌&&◌, true, false, codes, if◌then◌else◌}
 use Rattle.std.specs.Result.{result_unwrap_or}
 use Rattle.page_model.specs.declared.parts.Ink.{Ink}
 use Rattle.ps_tokens.specs.declared.faults.FaultKind.{FaultKind}
@@ -29,9 +29,13 @@ is_array (Operator name) = false
 is_array Array = true
 is_array Dict = false
 
--- a whole number from 1 to 10,000, in ten-thousandths, as pixels per inch
+-- the finest resolution, in pixels per inch
+abbrev pub finest_resolution : ℕ
+finest_resolution = 10000
+
+-- a whole number of pixels per inch, from 1 to the finest resolution, out of ten-thousandths
 abbrev pub pixels_in : ℤ → Option ℕ
-pixels_in (pos n) = if (n % 10000 == 0) && nat_le 10000 n && nat_le n 100000000 then Some (n / 10000) else None
+pixels_in (pos n) = if (n % 10000 == 0) && nat_le 10000 n && nat_le n (10000 * finest_resolution) then Some (n / 10000) else None
 pixels_in (negsuc n) = None
 
 -- the same, where there is a number

@@ -15,6 +15,9 @@ use ps_tokens::{last, last_value};
 use std::alloc::Global;
 use trap_params::settings::boolean_after;
 
+/// The finest resolution, in pixels per inch.
+const FINEST_RESOLUTION: u64 = 10_000;
+
 /// What a `setpagedevice` dictionary at a place sets: those of HWResolution, Trapping and TrappingDetails that it names.
 ///
 /// `BadResolution`, `WrongKind` of Trapping and the faults of `inks`, in the order of their keys.
@@ -107,7 +110,7 @@ fn resolution_in(objects: &[Object], place: u32, object: &Object) -> Result<u32,
     }
 }
 
-// A whole number from 1 to 10,000.
+// A whole number from 1 to the finest resolution.
 fn pixels_of(number: Option<i64>) -> Option<u32>
     ensures { result ≡ pixels_of number }
 {
@@ -117,7 +120,7 @@ fn pixels_of(number: Option<i64>) -> Option<u32>
                 return None;
             }
             let size = number.unsigned_abs();
-            if size % 10_000 == 0 && size >= 10_000 && size <= 100_000_000 {
+            if size % 10_000 == 0 && size >= 10_000 && size <= 10_000 * FINEST_RESOLUTION {
                 Some((size / 10_000) as u32)
             } else {
                 None

@@ -47,7 +47,8 @@ pub fn close_path(
     at: u32,
     state: &mut State,
 ) -> Result<(), JobRefusal>
-    ensures { Performs result state.new (state_after objects.now from place at ClosePath state.old) }
+    ensures { Performs result state.new
+        (state_after objects.now from place at ClosePath state.old) }
 {
     if from != place {
         return Err(wrong_operands(at));

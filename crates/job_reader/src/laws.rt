@@ -29,22 +29,37 @@ pub fn statements_go_on()
 
 /// Behind statements without a fault the page's entries are those of the last earlier `setpagedevice` that names them.
 pub fn page_device_is_of_the_last_that_names_it()
-    ensures resolution { (objects : List Object) (earlier : List Statement) (now : State) → after_all objects nothing_read earlier ≡ Ok now → now.resolution ≡ resolution_in_force objects earlier }
-    ensures trapping { (objects : List Object) (earlier : List Statement) (now : State) → after_all objects nothing_read earlier ≡ Ok now → now.trapping ≡ trapping_in_force objects earlier }
-    ensures details { (objects : List Object) (earlier : List Statement) (now : State) → after_all objects nothing_read earlier ≡ Ok now → now.details ≡ details_in_force objects earlier }
+    ensures resolution { (objects : List Object) (earlier : List Statement) (now : State)
+        → after_all objects nothing_read earlier ≡ Ok now
+        → now.resolution ≡ resolution_in_force objects earlier }
+    ensures trapping { (objects : List Object) (earlier : List Statement) (now : State)
+        → after_all objects nothing_read earlier ≡ Ok now
+        → now.trapping ≡ trapping_in_force objects earlier }
+    ensures details { (objects : List Object) (earlier : List Statement) (now : State)
+        → after_all objects nothing_read earlier ≡ Ok now
+        → now.details ≡ details_in_force objects earlier }
 {}
 
 /// Behind statements without a fault each parameter, and the step limits, are those of the last earlier `settrapparams`
 /// that names them.
 pub fn trap_params_are_of_the_last_that_names_them()
-    ensures params { (objects : List Object) (earlier : List Statement) (now : State) → after_all objects nothing_read earlier ≡ Ok now → now.params ≡ params_in_force objects earlier }
-    ensures limits { (objects : List Object) (earlier : List Statement) (now : State) → after_all objects nothing_read earlier ≡ Ok now → now.limits ≡ limits_in_force objects earlier }
+    ensures params { (objects : List Object) (earlier : List Statement) (now : State)
+        → after_all objects nothing_read earlier ≡ Ok now
+        → now.params ≡ params_in_force objects earlier }
+    ensures limits { (objects : List Object) (earlier : List Statement) (now : State)
+        → after_all objects nothing_read earlier ≡ Ok now
+        → now.limits ≡ limits_in_force objects earlier }
 {}
 
 /// A dictionary that names none of the keys that its operator knows leaves all in force as it was, and an empty one names
 /// no key at all.
 pub fn what_names_nothing_changes_nothing()
-    ensures page_device { (objects : List Object) (from place at : ℕ) (now : State) → is_one_dict objects from place ≡ true → NamesNone objects from device_keys → state_after objects from place at SetPageDevice now ≡ Ok now }
-    ensures trap_params { (objects : List Object) (from place at : ℕ) (now : State) → is_one_dict objects from place ≡ true → NamesNone objects from params_keys → state_after objects from place at SetTrapParams now ≡ Ok now }
-    ensures empty { (objects : List Object) (dict : ℕ) (keys : List (List ℕ)) → inside_of (slice_get objects dict) ≡ 0 → NamesNone objects dict keys }
+    ensures page_device { (objects : List Object) (from place at : ℕ) (now : State)
+        → is_one_dict objects from place ≡ true → NamesNone objects from device_keys
+        → state_after objects from place at SetPageDevice now ≡ Ok now }
+    ensures trap_params { (objects : List Object) (from place at : ℕ) (now : State)
+        → is_one_dict objects from place ≡ true → NamesNone objects from params_keys
+        → state_after objects from place at SetTrapParams now ≡ Ok now }
+    ensures empty { (objects : List Object) (dict : ℕ) (keys : List (List ℕ))
+        → inside_of (slice_get objects dict) ≡ 0 → NamesNone objects dict keys }
 {}

@@ -34,7 +34,8 @@ pub fn last_value<'a>(objects: &'a ObjectList, dict: u32, key: &[u8]) -> Option<
     requires { AreObjects objects.now }
     ensures place { IfSome result (λ v. last_of objects.now dict key.now ≡ Some v.0) }
     ensures value { IfSome result (λ v. slice_get objects.now v.0 ≡ Some v.1.now) }
-    ensures none { IfNone result (place_of_value objects.now (last_of objects.now dict key.now) ≡ None) }
+    ensures none { IfNone result
+        (place_of_value objects.now (last_of objects.now dict key.now) ≡ None) }
 {
     let Some(place) = last(objects, dict, key) else {
         return None;

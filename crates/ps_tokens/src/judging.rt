@@ -141,7 +141,8 @@ fn judge_token(brackets: &mut Brackets, bytes: &[u8], token: &Token) -> Result<(
 
 /// The first fault of a job's tokens, judged one after the other.
 pub fn judge(bytes: &[u8], tokens: &[Token]) -> Result<(), JobFault>
-    ensures { MatchResult result (λ _. brackets_after bytes.now tokens.now ≡ Ok []) (λ fault. objects_of bytes.now tokens.now ≡ Err fault) }
+    ensures { MatchResult result (λ _. brackets_after bytes.now tokens.now ≡ Ok [])
+        (λ fault. objects_of bytes.now tokens.now ≡ Err fault) }
 {
     let mut brackets = Brackets::new();
     for token in tokens {

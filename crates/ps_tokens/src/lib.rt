@@ -21,6 +21,3 @@ mod words;
 pub use dictionary::{last, last_value};
 pub use reader::objects;
 pub use scanner::{LONGEST_JOB, tokens};
-
-#[cfg(test)]
-mod tests;

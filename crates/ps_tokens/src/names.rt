@@ -48,7 +48,8 @@ fn by_name<'a>(
     objects: &'a [Object],
     keys: &[u32],
 ) -> Result<BTreeMap<&'a [u8], u32>, OutOfMemory>
-    ensures { IfOk result (λ named. map by_bytes named.entries ≡ fold (put_key objects.now) [] keys.now) }
+    ensures { IfOk result
+        (λ named. map by_bytes named.entries ≡ fold (put_key objects.now) [] keys.now) }
 {
     let mut named = BTreeMap::new(alloc);
     for key in keys {

@@ -69,8 +69,10 @@ fn put_token(
     requires so_far { objects.old.items ≡ reverse (objects_in bytes.now behind.now) }
     requires ends_so_far { AreEnds (reverse ends.old.items) (length objects.old.items) behind.now }
     ensures grows { length objects.new.items ≤ length objects.old.items + 1 }
-    ensures put { OnOk result (objects.new.items ≡ reverse (objects_in bytes.now (token.now ∷ behind.now))) }
-    ensures ends_put { OnOk result (AreEnds (reverse ends.new.items) (length objects.new.items) (token.now ∷ behind.now)) }
+    ensures put { OnOk result
+        (objects.new.items ≡ reverse (objects_in bytes.now (token.now ∷ behind.now))) }
+    ensures ends_put { OnOk result
+        (AreEnds (reverse ends.new.items) (length objects.new.items) (token.now ∷ behind.now)) }
 {
     let count = objects.len() as u32;
     if is_closing(token.kind) {
@@ -133,7 +135,9 @@ fn put_object(
     objects: &mut Vec<Object>,
 ) -> Result<(), OutOfMemory>
     ensures grows { length objects.new.items ≤ length objects.old.items + 1 }
-    ensures put { OnOk result (objects.new.items ≡ objects.old.items ++ record { at = token.now.at; inside = inside; body = body_as token.now.kind (spelling bytes.now token.now) } ∷ []) }
+    ensures put { let body = body_as token.now.kind (spelling bytes.now token.now) in
+        OnOk result (objects.new.items
+        ≡ objects.old.items ++ record { at = token.now.at; inside = inside; body = body } ∷ []) }
 {
     let body = match body_of(alloc, token.kind, spelling(bytes, token)) {
         Ok(body) => body,

@@ -42,7 +42,8 @@ fn take_piece(found: &mut Vec<Token>, rest: &[u8], at: u32) -> Result<usize, Job
     ensures within { IfOk result (λ len. (1 ≤ len) × (len ≤ length rest.now)) }
     ensures taken { IfOk result (λ len. tokens_then (Ok found.old.items) (tokens_from at 0 rest.now)
         ≡ tokens_then (Ok found.new.items) (tokens_from (at + len) 0 (drop len rest.now))) }
-    ensures refused { IfErr result (λ refusal. Fails refusal (tokens_then (Ok found.old.items) (tokens_from at 0 rest.now))) }
+    ensures refused { let meant = tokens_then (Ok found.old.items) (tokens_from at 0 rest.now) in
+        IfErr result (λ refusal. Fails refusal meant) }
 {
     match piece_at(rest) {
         Piece::Blank(len) => Ok(len),

@@ -7,6 +7,3 @@ pub mod settings;
 
 pub use applying::apply;
 pub use limits::zone_limits;
-
-#[cfg(test)]
-mod tests;

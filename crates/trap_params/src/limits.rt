@@ -130,7 +130,8 @@ fn put_limit(
     name: &[u8],
     step: u32,
 ) -> Result<(), OutOfMemory>
-    ensures { OnOk result (limits.new.items ≡ limits.old.items ++ record { name = name.now; step = step } ∷ []) }
+    ensures { OnOk result
+        (limits.new.items ≡ limits.old.items ++ record { name = name.now; step = step } ∷ []) }
 {
     let name = match copied(alloc, name) {
         Ok(name) => name,

@@ -159,7 +159,8 @@ impl Path {
 #[tactic(auto, unfolding(crate::specs::Paths::begun_at))]
 fn begin(vertices: &mut Vec<Vertex>, point: Point) -> Result<Pen, PathRefusal>
     requires { length vertices.old.items ≤ most_path_vertices }
-    ensures { Extends result vertices.old.items vertices.new.items (begun_at vertices.old.items point) }
+    ensures { Extends result vertices.old.items vertices.new.items
+        (begun_at vertices.old.items point) }
 {
     if !is_near(point) {
         return Err(PathRefusal::Fault(FaultKind::CoordinateRange));
@@ -181,7 +182,8 @@ fn begin(vertices: &mut Vec<Vertex>, point: Point) -> Result<Pen, PathRefusal>
 #[tactic(auto, unfolding(crate::specs::Paths::lined_to))]
 fn draw_line(vertices: &mut Vec<Vertex>, pen: Pen, point: Point) -> Result<Pen, PathRefusal>
     requires { length vertices.old.items ≤ most_path_vertices }
-    ensures { Extends result vertices.old.items vertices.new.items (lined_to vertices.old.items pen point) }
+    ensures { Extends result vertices.old.items vertices.new.items
+        (lined_to vertices.old.items pen point) }
 {
     if !is_near(point) {
         return Err(PathRefusal::Fault(FaultKind::CoordinateRange));
@@ -207,7 +209,8 @@ fn draw_line(vertices: &mut Vec<Vertex>, pen: Pen, point: Point) -> Result<Pen, 
 
 // Adds a vertex, or nothing.
 fn push(vertices: &mut Vec<Vertex>, vertex: Vertex) -> Result<(), OutOfMemory>
-    ensures { MatchResult result (λ _. vertices.new.items ≡ vertices.old.items ++ vertex ∷ []) (λ _. vertices.new.items ≡ vertices.old.items) }
+    ensures { MatchResult result (λ _. vertices.new.items ≡ vertices.old.items ++ vertex ∷ [])
+        (λ _. vertices.new.items ≡ vertices.old.items) }
 {
     match vertices.push(vertex) {
         Ok(()) => Ok(()),
@@ -217,7 +220,8 @@ fn push(vertices: &mut Vec<Vertex>, vertex: Vertex) -> Result<(), OutOfMemory>
 
 // Adds two vertices, or nothing.
 fn push_both(vertices: &mut Vec<Vertex>, one: Vertex, two: Vertex) -> Result<(), OutOfMemory>
-    ensures { MatchResult result (λ _. vertices.new.items ≡ vertices.old.items ++ one ∷ two ∷ []) (λ _. vertices.new.items ≡ vertices.old.items) }
+    ensures { MatchResult result (λ _. vertices.new.items ≡ vertices.old.items ++ one ∷ two ∷ [])
+        (λ _. vertices.new.items ≡ vertices.old.items) }
 {
     let len = vertices.len();
     match push(vertices, one) {

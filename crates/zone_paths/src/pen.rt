@@ -43,7 +43,8 @@ pub fn vertex_at(point: Point, starts: bool) -> Vertex
 /// The point that lies so far away from a near one; none where it is so far that it is no near one.
 pub fn offset_point(point: Point, dx: i64, dy: i64) -> Option<Point>
     requires { is_near point ≡ true }
-    ensures { MatchOption result (is_near (offset_point point dx dy) ≡ false) (λ p. p ≡ offset_point point dx dy) }
+    ensures { MatchOption result (is_near (offset_point point dx dy) ≡ false)
+        (λ p. p ≡ offset_point point dx dy) }
 {
     if dx.unsigned_abs() > 2 * FARTHEST || dy.unsigned_abs() > 2 * FARTHEST {
         return None;

@@ -1,26 +1,14 @@
-ghost use Rattle.std.specs.Prelude.{◌≤◌, length, IfOk};
-ghost use Rattle.ps_tokens.specs.Dictionaries.{AreObjects};
+ghost use Rattle.std.specs.Prelude.{◌≤◌, length};
+ghost use Rattle.ps_tokens.specs.Limits.{longest_job};
 
-use crate::inks;
+use crate::reading::read;
+use colorant_details::inks;
 use page_model::parts::{DetailList, Ink, InkKind};
+use ps_tokens::LONGEST_JOB;
 use ps_tokens::faults::{JobFault, JobRefusal};
-use ps_tokens::object::ObjectList;
-use ps_tokens::{objects, tokens};
 use std::alloc::{AllocError, Global};
 use std::process::Abort;
 use std::test::Fail;
-
-const LONGEST: usize = 1_048_576;
-
-fn read(alloc: Global, bytes: &[u8]) -> Result<ObjectList, JobRefusal>
-    requires { length bytes.now ≤ 1048576 }
-    ensures { IfOk result (λ objects. AreObjects objects) }
-{
-    match tokens(alloc, bytes) {
-        Ok(found) => objects(alloc, bytes, &found),
-        Err(refusal) => Err(refusal),
-    }
-}
 
 fn kind_text(kind: InkKind) -> &'static str {
     match kind {
@@ -49,7 +37,7 @@ fn inks_text(alloc: Global, inks: &DetailList) -> Result<String, AllocError> {
 }
 
 fn told(alloc: Global, bytes: &[u8]) -> Result<String, AllocError>
-    requires { length bytes.now ≤ 1048576 }
+    requires { length bytes.now ≤ longest_job }
 {
     let all = match read(alloc, bytes) {
         Ok(all) => all,
@@ -64,7 +52,7 @@ fn told(alloc: Global, bytes: &[u8]) -> Result<String, AllocError>
 
 fn expect_all(rt: &impl Abort, alloc: Global, table: &[(&[u8], &str)]) -> Result<(), AllocError> {
     for (bytes, want) in table {
-        assert!(rt; bytes.len() <= LONGEST);
+        assert!(rt; bytes.len() <= LONGEST_JOB);
         let text = told(alloc, bytes)?;
         assert_eq!(rt; text.as_str(), *want, "{bytes:?}");
     }

@@ -1,18 +1,17 @@
-ghost use Rattle.std.specs.Prelude.{◌≤◌, length, IfOk};
-ghost use Rattle.ps_tokens.specs.Dictionaries.{AreObjects};
+ghost use Rattle.std.specs.Prelude.{◌≤◌, length};
+ghost use Rattle.ps_tokens.specs.Limits.{longest_job};
 
-use crate::dictionary::keys;
-use crate::faults::{JobFault, JobRefusal};
-use crate::names::last_keys;
-use crate::object::{Body, Object, ObjectList};
-use crate::token::TokenList;
-use crate::{last, objects, tokens};
+use crate::reading::read;
 use lists::names::OutOfMemory;
+use ps_tokens::dictionary::keys;
+use ps_tokens::faults::{JobFault, JobRefusal};
+use ps_tokens::names::last_keys;
+use ps_tokens::object::{Body, Object};
+use ps_tokens::token::TokenList;
+use ps_tokens::{LONGEST_JOB, last, tokens};
 use std::alloc::{AllocError, Global};
 use std::process::Abort;
 use std::test::Fail;
-
-const LONGEST: usize = 1_048_576;
 
 fn fault_text(alloc: Global, refusal: JobRefusal) -> Result<String, AllocError> {
     match refusal {
@@ -34,21 +33,11 @@ fn token_text(alloc: Global, found: &TokenList) -> Result<String, AllocError> {
 }
 
 fn tokens_text(alloc: Global, bytes: &[u8]) -> Result<String, AllocError>
-    requires { length bytes.now ≤ 1048576 }
+    requires { length bytes.now ≤ longest_job }
 {
     match tokens(alloc, bytes) {
         Ok(found) => token_text(alloc, &found),
         Err(refusal) => fault_text(alloc, refusal),
-    }
-}
-
-fn read(alloc: Global, bytes: &[u8]) -> Result<ObjectList, JobRefusal>
-    requires { length bytes.now ≤ 1048576 }
-    ensures { IfOk result (λ objects. AreObjects objects) }
-{
-    match tokens(alloc, bytes) {
-        Ok(found) => objects(alloc, bytes, &found),
-        Err(refusal) => Err(refusal),
     }
 }
 
@@ -73,7 +62,7 @@ fn object_text(alloc: Global, object: &Object) -> Result<String, AllocError> {
 }
 
 fn objects_text(alloc: Global, bytes: &[u8]) -> Result<String, AllocError>
-    requires { length bytes.now ≤ 1048576 }
+    requires { length bytes.now ≤ longest_job }
 {
     match read(alloc, bytes) {
         Ok(all) => {
@@ -270,7 +259,7 @@ fn expect_tokens(
     table: &[(&[u8], &str)],
 ) -> Result<(), AllocError> {
     for (bytes, want) in table {
-        assert!(rt; bytes.len() <= LONGEST);
+        assert!(rt; bytes.len() <= LONGEST_JOB);
         let text = tokens_text(alloc, bytes)?;
         assert_eq!(rt; text.as_str(), *want, "{bytes:?}");
     }
@@ -283,7 +272,7 @@ fn expect_objects(
     table: &[(&[u8], &str)],
 ) -> Result<(), AllocError> {
     for (bytes, want) in table {
-        assert!(rt; bytes.len() <= LONGEST);
+        assert!(rt; bytes.len() <= LONGEST_JOB);
         let text = objects_text(alloc, bytes)?;
         assert_eq!(rt; text.as_str(), *want, "{bytes:?}");
     }
@@ -292,7 +281,7 @@ fn expect_objects(
 
 fn expect_entries(rt: &impl Abort, alloc: Global, table: &[(&[u8], &[u8], Option<u32>)]) {
     for (bytes, key, want) in table {
-        assert!(rt; bytes.len() <= LONGEST);
+        assert!(rt; bytes.len() <= LONGEST_JOB);
         match read(alloc, bytes) {
             Ok(all) => assert_eq!(rt; last(&all, 0, key), *want, "{key:?} in {bytes:?}"),
             Err(_) => assert!(rt; false, "{bytes:?}"),
@@ -307,7 +296,7 @@ fn expect_last_keys(
     every: &[u32],
     by_name: &[u32],
 ) -> Result<(), AllocError> {
-    assert!(rt; bytes.len() <= LONGEST);
+    assert!(rt; bytes.len() <= LONGEST_JOB);
     let Ok(all) = read(alloc, bytes) else {
         assert!(rt; false, "{bytes:?}");
         return Ok(());

@@ -1,17 +1,15 @@
-ghost use Rattle.std.specs.Prelude.{◌≤◌, length, IfOk};
-ghost use Rattle.ps_tokens.specs.Dictionaries.{AreObjects};
+ghost use Rattle.std.specs.Prelude.{◌≤◌, length};
+ghost use Rattle.ps_tokens.specs.Limits.{longest_job};
 
-use crate::{apply, zone_limits};
+use crate::reading::read;
 use lists::list::List;
 use page_model::parts::{LimitList, TrapParams};
+use ps_tokens::LONGEST_JOB;
 use ps_tokens::faults::{FaultKind, JobFault, JobRefusal, Key};
-use ps_tokens::object::ObjectList;
-use ps_tokens::{objects, tokens};
 use std::alloc::{AllocError, Global};
 use std::process::Abort;
 use std::test::Fail;
-
-const LONGEST: usize = 1_048_576;
+use trap_params::{apply, zone_limits};
 
 const NOW: TrapParams = TrapParams {
     trap_width: 2500,
@@ -23,16 +21,6 @@ const NOW: TrapParams = TrapParams {
     trap_color_scaling: 10_000,
     enabled: true,
 };
-
-fn read(alloc: Global, bytes: &[u8]) -> Result<ObjectList, JobRefusal>
-    requires { length bytes.now ≤ 1048576 }
-    ensures { IfOk result (λ objects. AreObjects objects) }
-{
-    match tokens(alloc, bytes) {
-        Ok(found) => objects(alloc, bytes, &found),
-        Err(refusal) => Err(refusal),
-    }
-}
 
 // A dictionary, and the parameters after it.
 static SETTINGS: [(&[u8], TrapParams); 18] = [
@@ -303,7 +291,7 @@ static MISFITS: [(&[u8], FaultKind, u32); 29] = [
 
 fn expect_settings(rt: &impl Abort, alloc: Global, table: &[(&[u8], TrapParams)]) {
     for (bytes, want) in table {
-        assert!(rt; bytes.len() <= LONGEST);
+        assert!(rt; bytes.len() <= LONGEST_JOB);
         match read(alloc, bytes) {
             Ok(all) => assert_eq!(rt; apply(&NOW, &all, 0), Ok(*want), "{bytes:?}"),
             Err(_) => assert!(rt; false, "{bytes:?}"),
@@ -313,7 +301,7 @@ fn expect_settings(rt: &impl Abort, alloc: Global, table: &[(&[u8], TrapParams)]
 
 fn expect_misfits(rt: &impl Abort, alloc: Global, table: &[(&[u8], FaultKind, u32)]) {
     for (bytes, kind, at) in table {
-        assert!(rt; bytes.len() <= LONGEST);
+        assert!(rt; bytes.len() <= LONGEST_JOB);
         let fault = JobFault {
             kind: *kind,
             at: *at,
@@ -344,7 +332,7 @@ fn limits_text(alloc: Global, limits: &LimitList) -> Result<String, AllocError> 
 }
 
 fn limited(alloc: Global, now: &LimitList, bytes: &[u8]) -> Result<String, Fail>
-    requires { length bytes.now ≤ 1048576 }
+    requires { length bytes.now ≤ longest_job }
 {
     let all = match read(alloc, bytes) {
         Ok(all) => all,
@@ -434,7 +422,7 @@ static LIMITS: [(&[u8], &str); 20] = [
 
 // The limits of a dictionary, none where it has a fault.
 fn limits_before(alloc: Global, bytes: &[u8]) -> LimitList
-    requires { length bytes.now ≤ 1048576 }
+    requires { length bytes.now ≤ longest_job }
 {
     let none = List::new(alloc);
     let all = match read(alloc, bytes) {
@@ -454,7 +442,7 @@ fn expect_limits(
     table: &[(&[u8], &str)],
 ) -> Result<(), Fail> {
     for (bytes, want) in table {
-        assert!(rt; bytes.len() <= LONGEST);
+        assert!(rt; bytes.len() <= LONGEST_JOB);
         let text = limited(alloc, before, bytes)?;
         assert_eq!(rt; text.as_str(), *want, "{bytes:?}");
     }

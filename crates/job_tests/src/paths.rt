@@ -1,8 +1,8 @@
-use crate::path::{Path, PathRefusal};
 use page_model::parts::VertexList;
 use std::alloc::{AllocError, Global};
 use std::process::Abort;
 use std::test::Fail;
+use zone_paths::path::{Path, PathRefusal};
 
 #[derive(Clone, Copy, Drop)]
 enum Step {

@@ -1,5 +1,5 @@
-use crate::job::Job;
-use crate::reader::read_job;
+use job_reader::job::Job;
+use job_reader::reader::read_job;
 use page_model::parts::Zone;
 use ps_tokens::faults::{JobFault, JobRefusal};
 use std::alloc::{AllocError, Global};
