@@ -1,24 +1,25 @@
 -- The inks of a ColorantDetails dictionary.
-use Rattle.std.specs.Prelude.{ℕ, List, [], ◌∷◌, fold, Option, Some, None, Result, Ok, Err, slice_get, if◌then◌else◌}
+use Rattle.std.specs.Prelude.{ℕ, List, [], ◌∷◌, fold, map, Option, Some, None, Result, Ok, Err, slice_get, if◌then◌else◌}
 use Rattle.std.specs.List.{flat_map}
 use Rattle.ps_tokens.specs.declared.faults.FaultKind.TheVariants.{NotDictionary}
 use Rattle.ps_tokens.specs.declared.misfits.Misfit.{Misfit}
 use Rattle.ps_tokens.specs.declared.object.Object.{Object}
-use Rattle.ps_tokens.specs.Dictionaries.{last_keys_of, name_of}
+use Rattle.ps_tokens.specs.Dictionaries.{Ascend, last_keys_of, name_of}
 use Rattle.ps_tokens.specs.Misfits.{judged_at, misfit_of, earlier}
+use Rattle.ps_tokens.specs.Objects.{is_dict}
 use Rattle.page_model.specs.declared.parts.Ink.{Ink}
 use Rattle.colorant_details.specs.declared.shades.Shade.{Shade}
-use Rattle.colorant_details.specs.Shades.{is_dict, at_key, shade_of}
+use Rattle.colorant_details.specs.Shades.{shade_of}
 
 -- an ink under its name
-abbrev pub inked : List ℕ → Result (Option Shade) Misfit → List Ink
-inked name (Err misfit) = []
-inked name (Ok None) = []
-inked name (Ok (Some shade)) = record { name = name; density = shade.density; kind = shade.kind } ∷ []
+abbrev pub ink_if_given : List ℕ → Result (Option Shade) Misfit → List Ink
+ink_if_given name (Err misfit) = []
+ink_if_given name (Ok None) = []
+ink_if_given name (Ok (Some shade)) = record { name = name; density = shade.density; kind = shade.kind } ∷ []
 
 -- the inks of these keys, in their order
 abbrev pub inks_of : List Object → List ℕ → List Ink
-inks_of objects = flat_map (λ key. inked (name_of (slice_get objects key)) (shade_of objects key))
+inks_of objects = flat_map (λ key. ink_if_given (name_of (slice_get objects key)) (shade_of objects key))
 
 -- of the faults of these keys the one that stands first
 abbrev pub first_misfit : List Object → List ℕ → Option Misfit
@@ -27,16 +28,21 @@ first_misfit objects = fold (λ first key. earlier first (misfit_of (shade_of ob
 -- inks, unless there is a fault, which then stands for the whole dictionary at a place
 abbrev pub inks_unless : ℕ → Option Misfit → List Ink → Result (List Ink) Misfit
 inks_unless place None inks = Ok inks
-inks_unless place (Some misfit) inks = Err (at_key place misfit)
+inks_unless place (Some misfit) inks = Err (record { place = place; fault = misfit.fault })
 
 -- the inks that a value of ColorantDetails names
 abbrev pub colorants_in : List Object → ℕ → Option Object → Result (List Ink) Misfit
 colorants_in objects place None = Ok []
 colorants_in objects place (Some object) =
-    if is_dict object.body then inks_unless place (first_misfit objects (last_keys_of objects place)) (inks_of objects (last_keys_of objects place))
+    let keys = last_keys_of objects place in
+    if is_dict object.body then inks_unless place (first_misfit objects keys) (inks_of objects keys)
     else judged_at place object.at (Err NotDictionary)
 
 -- the inks of the value at a place, none where no entry has the key
 abbrev pub colorants_at : List Object → Option ℕ → Result (List Ink) Misfit
 colorants_at objects None = Ok []
 colorants_at objects (Some place) = colorants_in objects place (slice_get objects place)
+
+-- the inks' names stand in ascending byte order, each once
+abbrev pub AscendByName : List Ink → Type 0
+AscendByName inks = Ascend (map (λ (ink : Ink). ink.name) inks)

@@ -8,8 +8,9 @@ use Rattle.ps_tokens.specs.declared.object.Body.{Body}
 use Rattle.ps_tokens.specs.declared.object.Body.TheVariants.{Number, Truth, Null, Text, Literal, Operator, Array, Dict}
 use Rattle.ps_tokens.specs.declared.object.Object.{Object}
 use Rattle.ps_tokens.specs.Dictionaries.{last_of}
+use Rattle.ps_tokens.specs.Objects.{is_dict}
+use Rattle.ps_tokens.specs.Values.{by_body, value_at}
 use Rattle.page_model.specs.declared.parts.Ink.{Ink}
-use Rattle.colorant_details.specs.Shades.{is_dict, read_at}
 use Rattle.colorant_details.specs.Colorants.{colorants_at}
 
 -- the number 1001
@@ -30,7 +31,7 @@ type_in Dict = Err WrongType
 
 -- whether a dictionary has that type; false where it has none
 unfoldable pub type_of : List Object → ℕ → Result Bool Misfit
-type_of objects dict = read_at type_in objects false (last_of objects dict (codes "Type"))
+type_of objects dict = value_at (by_body type_in) objects false (last_of objects dict (codes "Type"))
 
 -- the inks: of two faults the one that stands first, and a missing type after both
 abbrev pub details_from : ℕ → Result Bool Misfit → Result (List Ink) Misfit → Result (List Ink) JobFault

@@ -1,12 +1,13 @@
 ghost use Rattle.std.specs.Prelude.{◌≡◌, ◌++◌, IfOk, OnOk};
 ghost use Rattle.ps_tokens.specs.Dictionaries.{AreObjects, last_keys_of};
-ghost use Rattle.colorant_details.specs.Colorants.{inked, inks_of, first_misfit, inks_unless, colorants_at};
+ghost use Rattle.colorant_details.specs.Colorants.{ink_if_given, inks_of, first_misfit, inks_unless, colorants_at};
 
-use crate::shades::{Shade, is_dict, shade_of};
+use crate::shades::{Shade, shade_of};
 use lists::list::List;
-use page_model::parts::{DetailList, Ink, Name, OutOfMemory};
-use ps_tokens::faults::{FaultKind, JobFault};
-use ps_tokens::misfits::{Misfit, earlier};
+use lists::names::copied;
+use page_model::parts::{DetailList, Ink, OutOfMemory};
+use ps_tokens::faults::FaultKind;
+use ps_tokens::misfits::{Misfit, earlier, judged_at};
 use ps_tokens::names::{last_keys, name_at};
 use ps_tokens::object::ObjectList;
 use std::alloc::Global;
@@ -26,16 +27,10 @@ pub fn colorants_at(
     let Some(object) = objects.get(place as usize) else {
         return Ok(Ok(List::new(alloc)));
     };
-    if is_dict(&object.body) {
+    if object.body.is_dict() {
         colorants_in(alloc, objects, place)
     } else {
-        Ok(Err(Misfit {
-            place,
-            fault: JobFault {
-                kind: FaultKind::NotDictionary,
-                at: object.at,
-            },
-        }))
+        Ok(judged_at(place, object.at, Err(FaultKind::NotDictionary)))
     }
 }
 
@@ -46,7 +41,9 @@ fn colorants_in(
     place: u32,
 ) -> Result<Result<DetailList, Misfit>, OutOfMemory>
     requires { AreObjects objects.now }
-    ensures { IfOk result (λ inks. inks ≡ inks_unless place (first_misfit objects.now (last_keys_of objects.now place)) (inks_of objects.now (last_keys_of objects.now place))) }
+    ensures { let keys = last_keys_of objects.now place in
+        let misfit = first_misfit objects.now keys in
+        IfOk result (λ inks. inks ≡ inks_unless place misfit (inks_of objects.now keys)) }
 {
     let keys = match last_keys(alloc, objects, place) {
         Ok(keys) => keys,
@@ -99,16 +96,16 @@ fn put_ink(
     name: &[u8],
     shade: Result<Option<Shade>, Misfit>,
 ) -> Result<(), OutOfMemory>
-    ensures { OnOk result (inks.new.items ≡ inks.old.items ++ inked name.now shade) }
+    ensures { OnOk result (inks.new.items ≡ inks.old.items ++ ink_if_given name.now shade) }
 {
     let shade = match shade {
         Ok(Some(shade)) => shade,
         Ok(None) => return Ok(()),
         Err(_) => return Ok(()),
     };
-    let name: Name = match Vec::from_slice(alloc, name) {
-        Ok(bytes) => List::from_vec(bytes),
-        Err(_) => return Err(OutOfMemory),
+    let name = match copied(alloc, name) {
+        Ok(name) => name,
+        Err(OutOfMemory) => return Err(OutOfMemory),
     };
     let ink = Ink {
         name,

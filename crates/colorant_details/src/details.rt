@@ -1,16 +1,16 @@
-ghost use Rattle.std.specs.Prelude.{◌≡◌};
+ghost use Rattle.std.specs.Prelude.{◌≡◌, IfOk};
 ghost use Rattle.ps_tokens.specs.Tokens.{Gives};
 ghost use Rattle.ps_tokens.specs.Dictionaries.{AreObjects};
+ghost use Rattle.colorant_details.specs.Colorants.{AscendByName};
 ghost use Rattle.colorant_details.specs.Details.{type_in, type_of, details_from, details_of};
 
 use crate::colorants::colorants_at;
-use crate::shades::is_dict;
 use lists::list::List;
 use page_model::parts::{DetailList, OutOfMemory};
 use ps_tokens::faults::{FaultKind, JobFault, JobRefusal};
-use ps_tokens::last;
-use ps_tokens::misfits::Misfit;
+use ps_tokens::misfits::{Misfit, judged_at};
 use ps_tokens::object::{Body, ObjectList};
+use ps_tokens::{last, last_value};
 use std::alloc::Global;
 
 /// The inks that the value of TrappingDetails at a place names, in ascending byte order of their names (PLRM3's trapping
@@ -22,12 +22,13 @@ use std::alloc::Global;
 /// of their keys, the last of each key alone, and a missing one after them.
 pub fn inks(alloc: Global, objects: &ObjectList, details: u32) -> Result<DetailList, JobRefusal>
     requires { AreObjects objects.now }
-    ensures { Gives result (details_of objects.now details) }
+    ensures given { Gives result (details_of objects.now details) }
+    ensures ascending { IfOk result (λ inks. AscendByName inks) }
 {
     let Some(object) = objects.get(details as usize) else {
         return Ok(List::new(alloc));
     };
-    if !is_dict(&object.body) {
+    if !object.body.is_dict() {
         return Err(JobRefusal::Fault(JobFault {
             kind: FaultKind::NotDictionary,
             at: object.at,
@@ -67,21 +68,9 @@ fn type_of(objects: &ObjectList, dict: u32) -> Result<bool, Misfit>
     requires { AreObjects objects.now }
     ensures { result ≡ type_of objects.now dict }
 {
-    let Some(place) = last(objects, dict, b"Type") else {
-        return Ok(false);
-    };
-    let Some(object) = objects.get(place as usize) else {
-        return Ok(false);
-    };
-    match type_in(&object.body) {
-        Ok(known) => Ok(known),
-        Err(kind) => Err(Misfit {
-            place,
-            fault: JobFault {
-                kind,
-                at: object.at,
-            },
-        }),
+    match last_value(objects, dict, b"Type") {
+        Some((place, object)) => judged_at(place, object.at, type_in(&object.body)),
+        None => Ok(false),
     }
 }
 

@@ -6,6 +6,3 @@ mod details;
 pub mod shades;
 
 pub use details::inks;
-
-#[cfg(test)]
-mod tests;

@@ -1,12 +1,12 @@
 ghost use Rattle.std.specs.Prelude.{◌≡◌};
 ghost use Rattle.ps_tokens.specs.Dictionaries.{AreObjects};
-ghost use Rattle.colorant_details.specs.Shades.{is_dict, density_in, kind_named, kind_in, density_of, kind_of, shade_from, shade_of};
+ghost use Rattle.colorant_details.specs.Shades.{density_in, kind_named, kind_in, density_of, kind_of, shade_from, shade_in, shade_of};
 
 use page_model::parts::InkKind;
 use ps_tokens::dictionary::count;
-use ps_tokens::faults::{FaultKind, JobFault};
-use ps_tokens::last;
-use ps_tokens::misfits::Misfit;
+use ps_tokens::faults::FaultKind;
+use ps_tokens::last_value;
+use ps_tokens::misfits::{Misfit, at_key, judged_at};
 use ps_tokens::object::{Body, ObjectList};
 
 /// An ink without its name: a neutral density in ten-thousandths, and a kind.
@@ -14,16 +14,6 @@ use ps_tokens::object::{Body, ObjectList};
 pub struct Shade {
     pub density: u32,
     pub kind: InkKind,
-}
-
-/// Whether an object is a dictionary.
-pub fn is_dict(body: &Body) -> bool
-    ensures { result ≡ is_dict body.now }
-{
-    match body {
-        Body::Dict => true,
-        _ => false,
-    }
 }
 
 // The density that a value of NeutralDensity is.
@@ -76,21 +66,9 @@ fn density_of(objects: &ObjectList, dict: u32) -> Result<Option<u32>, Misfit>
     requires { AreObjects objects.now }
     ensures { result ≡ density_of objects.now dict }
 {
-    let Some(place) = last(objects, dict, b"NeutralDensity") else {
-        return Ok(None);
-    };
-    let Some(object) = objects.get(place as usize) else {
-        return Ok(None);
-    };
-    match density_in(&object.body) {
-        Ok(density) => Ok(density),
-        Err(kind) => Err(Misfit {
-            place,
-            fault: JobFault {
-                kind,
-                at: object.at,
-            },
-        }),
+    match last_value(objects, dict, b"NeutralDensity") {
+        Some((place, object)) => judged_at(place, object.at, density_in(&object.body)),
+        None => Ok(None),
     }
 }
 
@@ -100,56 +78,38 @@ fn kind_of(objects: &ObjectList, dict: u32) -> Result<InkKind, Misfit>
     requires { AreObjects objects.now }
     ensures { result ≡ kind_of objects.now dict }
 {
-    let Some(place) = last(objects, dict, b"ColorantType") else {
-        return Ok(InkKind::Normal);
-    };
-    let Some(object) = objects.get(place as usize) else {
-        return Ok(InkKind::Normal);
-    };
-    match kind_in(&object.body) {
-        Ok(kind) => Ok(kind),
-        Err(kind) => Err(Misfit {
-            place,
-            fault: JobFault {
-                kind,
-                at: object.at,
-            },
-        }),
+    match last_value(objects, dict, b"ColorantType") {
+        Some((place, object)) => judged_at(place, object.at, kind_in(&object.body)),
+        None => Ok(InkKind::Normal),
     }
 }
 
 // A colorant's ink from what its dictionary gives, or the fault that stands first.
 fn shade_from(
-    key: u32,
+    dict: u32,
     at: u32,
     density: Result<Option<u32>, Misfit>,
     kind: Result<InkKind, Misfit>,
 ) -> Result<Option<Shade>, Misfit>
-    ensures { result ≡ shade_from key at density kind }
+    ensures { result ≡ shade_from dict at density kind }
 {
-    let fault = match density {
+    match density {
         Ok(given) => match kind {
             Ok(kind) => match given {
-                Some(density) => return Ok(Some(Shade { density, kind })),
-                None => JobFault {
-                    kind: FaultKind::MissingKey,
-                    at,
-                },
+                Some(density) => Ok(Some(Shade { density, kind })),
+                None => judged_at(dict, at, Err(FaultKind::MissingKey)),
             },
-            Err(misfit) => misfit.fault,
+            Err(misfit) => Err(misfit),
         },
         Err(first) => match kind {
-            Ok(_) => first.fault,
-            Err(second) => {
-                if second.place < first.place {
-                    second.fault
-                } else {
-                    first.fault
-                }
-            }
+            Ok(_) => Err(first),
+            Err(second) => Err(if second.place < first.place {
+                second
+            } else {
+                first
+            }),
         },
-    };
-    Err(Misfit { place: key, fault })
+    }
 }
 
 /// The ink that the entry of a colorant's key names.
@@ -161,20 +121,24 @@ pub fn shade_of(objects: &ObjectList, key: u32) -> Result<Option<Shade>, Misfit>
     if key as usize + 1 >= count(objects) as usize {
         return Ok(None);
     }
-    let Some(object) = objects.get(key as usize + 1) else {
-        return Ok(None);
-    };
-    if is_dict(&object.body) {
-        let density = density_of(objects, key + 1);
-        let kind = kind_of(objects, key + 1);
-        shade_from(key, object.at, density, kind)
-    } else {
-        Err(Misfit {
-            place: key,
-            fault: JobFault {
-                kind: FaultKind::NotDictionary,
-                at: object.at,
-            },
-        })
+    match objects.get(key as usize + 1) {
+        Some(object) => {
+            if object.body.is_dict() {
+                at_key(key, shade_in(objects, key + 1, object.at))
+            } else {
+                judged_at(key, object.at, Err(FaultKind::NotDictionary))
+            }
+        }
+        None => Ok(None),
     }
+}
+
+// The ink that a colorant's dictionary gives.
+fn shade_in(objects: &ObjectList, dict: u32, at: u32) -> Result<Option<Shade>, Misfit>
+    requires { AreObjects objects.now }
+    ensures { result ≡ shade_in objects.now dict at }
+{
+    let density = density_of(objects, dict);
+    let kind = kind_of(objects, dict);
+    shade_from(dict, at, density, kind)
 }

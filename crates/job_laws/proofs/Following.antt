@@ -53,7 +53,7 @@ path-in_force objects earlier now done = path-after objects earlier nothing_read
 -- The zones.
 
 -- one statement more
-after-push : (objects : List Object) (before : List Statement) (s : Statement) (start now next : State) → after_all objects start before ≡ Ok now → after_one objects s s.call.operator now ≡ Ok next → after_all objects start (before ++ s ∷ []) ≡ Ok next
+pub after-push : (objects : List Object) (before : List Statement) (s : Statement) (start now next : State) → after_all objects start before ≡ Ok now → after_one objects s s.call.operator now ≡ Ok next → after_all objects start (before ++ s ∷ []) ≡ Ok next
 unfolding after_all
 after-push objects [] s start now next done does =
     let same : start ≡ now = cc in

@@ -1,4 +1,5 @@
 pub mod Cuts
 pub mod Ends
+pub mod Faulting
 pub mod Following
 pub mod Steps

@@ -10,9 +10,9 @@ use Rattle.ps_tokens.specs.declared.faults.JobFault.{JobFault}
 use Rattle.ps_tokens.specs.declared.faults.Key.TheVariants.{Trapping}
 use Rattle.ps_tokens.specs.declared.object.Object.{Object}
 use Rattle.ps_tokens.specs.Misfits.{misfit_of, earlier}
-use Rattle.trap_params.specs.Applied.{applied}
+use Rattle.trap_params.specs.Applied.{params_after}
 use Rattle.trap_params.specs.Limits.{limits_after}
-use Rattle.trap_params.specs.Settings.{truth_after}
+use Rattle.trap_params.specs.Settings.{boolean_after}
 use Rattle.zone_paths.specs.Paths.{Drawing, nothing_drawn, moveto, lineto, rmoveto, rlineto, closepath}
 use Rattle.job_reader.specs.declared.operators.Operator.{Operator}
 use Rattle.job_reader.specs.declared.operators.Operator.TheVariants.{SetPageDevice, SetTrapParams, NewPath, ClosePath, MoveTo, LineTo, RelativeMoveTo, RelativeLineTo, SetTrapZone, ShowPage}
@@ -21,7 +21,7 @@ use Rattle.job_reader.specs.Calls.{Statement}
 use Rattle.job_reader.specs.Device.{details_in, details_or, device_set, resolution_after}
 use Rattle.job_reader.specs.InForce.{after_one, is_by}
 use Rattle.job_reader.specs.Operands.{is_one_dict, two_numbers}
-use Rattle.job_reader.specs.Statements.{both_set, drawn, fault, params_set, performed, with_numbers, zone_made, zone_of}
+use Rattle.job_reader.specs.Statements.{most_vertices, most_zones, both_set, path_drawn, fault, params_set, state_after, with_numbers, zone_made, zone_of}
 use Rattle.job_reader.proofs.ParamRanges.{unless-is}
 use Rattle.job_reader.proofs.Setting.{guarded}
 use Rattle.job_laws.specs.Paths.{empties_path, extended_by, drawn_by}
@@ -52,7 +52,7 @@ record Stays (now next : State) : Type 0 where
 device-stays : (objects : List Object) (dict : ℕ) (now : State) → Left (Stays now) (device_set objects dict now)
 device-stays objects dict now next is =
     let resolution = resolution_after objects dict now.resolution in
-    let trapping = truth_after objects dict Trapping now.trapping in
+    let trapping = boolean_after objects dict Trapping now.trapping in
     let details = details_in objects dict in
     let set : State = record now { resolution = result_unwrap_or resolution now.resolution; trapping = result_unwrap_or trapping now.trapping; details = details_or details now.details } in
     let same : set ≡ next = unless-is (earlier (misfit_of resolution) (earlier (misfit_of trapping) (misfit_of details))) set next is in
@@ -65,18 +65,18 @@ both-stay (Err first) (Ok l) now next is = absurd (cc)
 both-stay (Err first) (Err second) now next is = absurd (cc)
 
 params-stay : (objects : List Object) (dict : ℕ) (now : State) → Left (Stays now) (params_set objects dict now)
-params-stay objects dict now = both-stay (applied now.params objects dict) (limits_after now.limits objects dict) now
+params-stay objects dict now = both-stay (params_after now.params objects dict) (limits_after now.limits objects dict) now
 
 -- Path statements.
 
-drawn-left : (P : State → Type 0) (at : ℕ) (now : State) (r : Result Drawing FaultKind) → P (record now { path = result_unwrap_or r now.path }) → Left P (drawn at now r)
-drawn-left P at now (Ok d) is = left P (record now { path = d }) is
-drawn-left P at now (Err kind) is = faulty P kind at
+path_drawn-left : (P : State → Type 0) (at : ℕ) (now : State) (r : Result Drawing FaultKind) → P (record now { path = result_unwrap_or r now.path }) → Left P (path_drawn at now r)
+path_drawn-left P at now (Ok d) is = left P (record now { path = d }) is
+path_drawn-left P at now (Err kind) is = faulty P kind at
 
 numbered : (P : State → Type 0) (at : ℕ) (now : State) (draw : ℤ → ℤ → Drawing → Result Drawing FaultKind) (o : Option (ℤ × ℤ))
-    → P (record now { path = extended_by o draw now.path }) → Left P (with_numbers at o (λ x y. drawn at now (draw x y now.path)))
+    → P (record now { path = extended_by o draw now.path }) → Left P (with_numbers at o (λ x y. path_drawn at now (draw x y now.path)))
 numbered P at now draw None is = faulty P WrongOperands at
-numbered P at now draw (Some p) is = drawn-left P at now (draw p.0 p.1 now.path) is
+numbered P at now draw (Some p) is = path_drawn-left P at now (draw p.0 p.1 now.path) is
 
 -- `settrapzone`.
 
@@ -91,13 +91,13 @@ room_if P false at r gives = gives
 made-left : (P : State → Type 0) (at : ℕ) (now : State) → P (record now { zones = now.zones ++ zone_of now ∷ []; path = nothing_drawn; vertices = now.vertices + length now.path.vertices }) → Left P (zone_made at now)
 made-left P at now is =
     let made : State = record now { zones = now.zones ++ zone_of now ∷ []; path = nothing_drawn; vertices = now.vertices + length now.path.vertices } in
-    room_if P (nat_le 250 (length now.zones)) at (cond (nat_lt 16384 (now.vertices + length now.path.vertices)) (fault TooManyVertices at) (Ok made))
-    (fits_if P (nat_lt 16384 (now.vertices + length now.path.vertices)) at made is)
+    room_if P (nat_le most_zones (length now.zones)) at (cond (nat_lt most_vertices (now.vertices + length now.path.vertices)) (fault TooManyVertices at) (Ok made))
+    (fits_if P (nat_lt most_vertices (now.vertices + length now.path.vertices)) at made is)
 
 -- Each statement.
 
 pub one-steps : (objects : List Object) (s : Statement) (o : Option Operator) (now : State) → Left (Steps objects s o now) (after_one objects s o now)
-unfolding performed
+unfolding state_after
 one-steps objects s None now next is = absurd (cc)
 one-steps objects s (Some SetPageDevice) now next is =
     guarded (Steps objects s (Some SetPageDevice) now) (is_one_dict objects s.from s.place) (device_set objects s.from now) s.call.at
@@ -122,4 +122,4 @@ one-steps objects s (Some RelativeLineTo) now next is =
 one-steps objects s (Some SetTrapZone) now next is =
     let P : State → Type 0 = Steps objects s (Some SetTrapZone) now in
     guarded P (s.from == s.place) (zone_made s.call.at now) s.call.at (made-left P s.call.at now (record { path = refl; zones = refl })) next is
-one-steps objects s (Some ShowPage) now next is = absurd (cc)
+one-steps objects s (Some ShowPage) now next is = left (Steps objects s (Some ShowPage) now) now (record { path = refl; zones = refl }) next is

@@ -1,5 +1,5 @@
 -- The zones that statements make.
-use Rattle.std.specs.Prelude.{Bool, true, false, List, [], ◌∷◌, ◌++◌, map, if◌then◌else◌}
+use Rattle.std.specs.Prelude.{ℕ, count_by, Bool, true, false, List, [], ◌∷◌, ◌++◌, map, if◌then◌else◌}
 use Rattle.page_model.specs.declared.parts.Zone.{Zone}
 use Rattle.ps_tokens.specs.declared.object.Object.{Object}
 use Rattle.job_reader.specs.declared.operators.Operator.{Operator}
@@ -20,6 +20,10 @@ is_settrapzone RelativeMoveTo = false
 is_settrapzone RelativeLineTo = false
 is_settrapzone SetTrapZone = true
 is_settrapzone ShowPage = false
+
+-- how many of these statements are `settrapzone`
+abbrev pub zones_among : List Statement → ℕ
+zones_among statements = count_by (λ (s : Statement). is_by is_settrapzone s.call.operator) statements
 
 -- for each statement by one of these operators, in their order, the statements that stand before it, where some stand
 -- before all of them

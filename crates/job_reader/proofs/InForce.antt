@@ -3,11 +3,11 @@ use Rattle.std.proofs.Common.{◌≡◌, ℕ, Bool, true, false, cond, List, [],
 use Rattle.std.specs.Prelude.{slice_get, codes}
 use Rattle.std.specs.List.{cons_option, filter_map, last_or}
 use Rattle.std.specs.Result.{result_unwrap_or}
+use Rattle.std.proofs.lemmas.List.Elements.{All-head, All-tail}
 use Rattle.page_model.specs.declared.parts.Ink.{Ink}
 use Rattle.page_model.specs.declared.parts.Limit.{Limit}
 use Rattle.page_model.specs.declared.parts.TrapParams.{TrapParams}
 use Rattle.ps_tokens.specs.declared.faults.FaultKind.{FaultKind}
-use Rattle.ps_tokens.specs.declared.faults.FaultKind.TheVariants.{AfterShowpage}
 use Rattle.ps_tokens.specs.declared.faults.JobFault.{JobFault}
 use Rattle.ps_tokens.specs.declared.faults.Key.{Key}
 use Rattle.ps_tokens.specs.declared.faults.Key.TheVariants.{TrapWidth, BlackWidth, BlackColorLimit, BlackDensityLimit, StepLimit, SlidingTrapLimit, TrapColorScaling, Enabled, Trapping}
@@ -15,20 +15,21 @@ use Rattle.ps_tokens.specs.declared.object.Body.{Body}
 use Rattle.ps_tokens.specs.declared.object.Object.{Object}
 use Rattle.ps_tokens.specs.Dictionaries.{last_of}
 use Rattle.ps_tokens.specs.Misfits.{misfit_of}
+use Rattle.ps_tokens.specs.Values.{by_body, value_by, value_at, place_if_some, place_of_value}
 use Rattle.trap_params.specs.Limits.{limits_at}
 use Rattle.trap_params.specs.Parameters.{name_of}
-use Rattle.trap_params.specs.Settings.{number_of, truth_of, set_at, set_by, number_after, truth_after}
+use Rattle.trap_params.specs.Settings.{number_of, boolean_of, number_after, boolean_after}
 use Rattle.colorant_details.specs.Details.{details_of}
 use Rattle.job_reader.specs.declared.job.Job.{Job}
 use Rattle.job_reader.specs.declared.operators.Operator.{Operator}
 use Rattle.job_reader.specs.declared.operators.Operator.TheVariants.{SetPageDevice, SetTrapParams, NewPath, ClosePath, MoveTo, LineTo, RelativeMoveTo, RelativeLineTo, SetTrapZone, ShowPage}
 use Rattle.job_reader.specs.declared.state.State.{State}
 use Rattle.job_reader.specs.Calls.{Statement, is_showpage}
-use Rattle.job_reader.specs.Device.{resolution_at, resolution_by, resolution_after, details_at, details_in, details_or, named_details}
-use Rattle.job_reader.specs.InForce.{after_one, going_on, after_all, is_setpagedevice, is_settrapparams, is_by, standing, held, value_of, named_by, resolution_in_force, trapping_in_force, details_in_force, number_in_force, truth_in_force, params_in_force, limits_in_force}
-use Rattle.job_reader.specs.Jobs.{followed, stepped, read_from}
+use Rattle.job_reader.specs.Device.{resolution_in, resolution_after, details_at, details_in, details_or, named_details}
+use Rattle.job_reader.specs.InForce.{NoneShows, after_one, going_on, after_all, is_setpagedevice, is_settrapparams, is_by, value_of, named_by, resolution_in_force, trapping_in_force, details_in_force, number_in_force, boolean_in_force, params_in_force, limits_in_force}
+use Rattle.job_reader.specs.Jobs.{then_job, statement_then, read_from}
 use Rattle.job_reader.specs.Starts.{nothing_read, usual_params}
-use Rattle.job_reader.specs.Statements.{fault, performed, shown}
+use Rattle.job_reader.specs.Statements.{state_after, job_shown}
 use Rattle.job_reader.proofs.Setting.{SetsDevice, SetsParams, SetsZones, others-left, device-left, params-left}
 
 -- One entry, statement after statement.
@@ -61,7 +62,7 @@ entry-after objects field look value step (s ∷ ss) before now last is done =
 abbrev KeepsDevice : {X : Type 0} → (State → X) → Type 0
 KeepsDevice field = (now next : State) → next.resolution ≡ now.resolution → next.trapping ≡ now.trapping → next.details ≡ now.details → field next ≡ field now
 
-device-other : {X : Type 0} (objects : List Object) (field : State → X) (s : Statement) (now next : State) → KeepsDevice field → (o : Operator) → is_setpagedevice o ≡ false → is_settrapparams o ≡ false → performed objects s.from s.place s.call.at o now ≡ Ok next → field next ≡ field now
+device-other : {X : Type 0} (objects : List Object) (field : State → X) (s : Statement) (now next : State) → KeepsDevice field → (o : Operator) → is_setpagedevice o ≡ false → is_settrapparams o ≡ false → state_after objects s.from s.place s.call.at o now ≡ Ok next → field next ≡ field now
 device-other objects field s now next keeps o device params is =
     others-left (λ n. field n ≡ field now) objects s.from s.place s.call.at now (λ path zones vertices. keeps now (record now { path = path; zones = zones; vertices = vertices }) refl refl refl) o device params next is
 
@@ -80,14 +81,14 @@ device-step objects field look value keeps sets (Some LineTo) s now next is = de
 device-step objects field look value keeps sets (Some RelativeMoveTo) s now next is = device-other objects field s now next keeps RelativeMoveTo refl refl is
 device-step objects field look value keeps sets (Some RelativeLineTo) s now next is = device-other objects field s now next keeps RelativeLineTo refl refl is
 device-step objects field look value keeps sets (Some SetTrapZone) s now next is = device-other objects field s now next keeps SetTrapZone refl refl is
-device-step objects field look value keeps sets (Some ShowPage) s now next is = absurd (cc)
+device-step objects field look value keeps sets (Some ShowPage) s now next is = device-other objects field s now next keeps ShowPage refl refl is
 
 -- An entry of `settrapparams`.
 
 abbrev KeepsParams : {X : Type 0} → (State → X) → Type 0
 KeepsParams field = (now next : State) → next.params ≡ now.params → next.limits ≡ now.limits → field next ≡ field now
 
-params-other : {X : Type 0} (objects : List Object) (field : State → X) (s : Statement) (now next : State) → KeepsParams field → (o : Operator) → is_setpagedevice o ≡ false → is_settrapparams o ≡ false → performed objects s.from s.place s.call.at o now ≡ Ok next → field next ≡ field now
+params-other : {X : Type 0} (objects : List Object) (field : State → X) (s : Statement) (now next : State) → KeepsParams field → (o : Operator) → is_setpagedevice o ≡ false → is_settrapparams o ≡ false → state_after objects s.from s.place s.call.at o now ≡ Ok next → field next ≡ field now
 params-other objects field s now next keeps o device params is =
     others-left (λ n. field n ≡ field now) objects s.from s.place s.call.at now (λ path zones vertices. keeps now (record now { path = path; zones = zones; vertices = vertices }) refl refl) o device params next is
 
@@ -106,37 +107,29 @@ params-step objects field look value keeps sets (Some LineTo) s now next is = pa
 params-step objects field look value keeps sets (Some RelativeMoveTo) s now next is = params-other objects field s now next keeps RelativeMoveTo refl refl is
 params-step objects field look value keeps sets (Some RelativeLineTo) s now next is = params-other objects field s now next keeps RelativeLineTo refl refl is
 params-step objects field look value keeps sets (Some SetTrapZone) s now next is = params-other objects field s now next keeps SetTrapZone refl refl is
-params-step objects field look value keeps sets (Some ShowPage) s now next is = absurd (cc)
+params-step objects field look value keeps sets (Some ShowPage) s now next is = params-other objects field s now next keeps ShowPage refl refl is
 
 -- What one dictionary makes of one entry.
 
-resolution-by : (objects : List Object) (place now next : ℕ) (o : Option Object) → slice_get objects place ≡ o → resolution_by objects now place o ≡ Ok next → Goes (λ p. result_unwrap_or (resolution_at objects 0 p) 0) now next (standing place o)
-resolution-by objects place now next None at is = cc
-resolution-by objects place now next (Some object) at is = sym (ap (λ r. result_unwrap_or r 0) (ap (resolution_by objects 0 place) at ∙ is))
+value-by : {X : Type 0} (judge : ℕ → Object → Result X FaultKind) (objects : List Object) (place : ℕ) (default now next : X) (o : Option Object) → slice_get objects place ≡ o → value_by judge now place o ≡ Ok next → Goes (λ p. result_unwrap_or (value_at judge objects default p) default) now next (place_if_some place o)
+value-by judge objects place default now next None at is = cc
+value-by judge objects place default now next (Some object) at is = sym (ap (λ r. result_unwrap_or r default) (ap (value_by judge default place) at ∙ is))
 
-resolution-goes : (objects : List Object) (now next : ℕ) (o : Option ℕ) → resolution_at objects now o ≡ Ok next → Goes (λ p. result_unwrap_or (resolution_at objects 0 p) 0) now next (held objects o)
-resolution-goes objects now next None is = cc
-resolution-goes objects now next (Some place) is = resolution-by objects place now next (slice_get objects place) refl is
+value-goes : {X : Type 0} (judge : ℕ → Object → Result X FaultKind) (objects : List Object) (default now next : X) (o : Option ℕ) → value_at judge objects now o ≡ Ok next → Goes (λ p. result_unwrap_or (value_at judge objects default p) default) now next (place_of_value objects o)
+value-goes judge objects default now next None is = cc
+value-goes judge objects default now next (Some place) is = value-by judge objects place default now next (slice_get objects place) refl is
 
-set-by : {X : Type 0} (judge : Body → Result X FaultKind) (objects : List Object) (place : ℕ) (default now next : X) (o : Option Object) → slice_get objects place ≡ o → set_by judge now place o ≡ Ok next → Goes (λ p. result_unwrap_or (set_at judge objects default p) default) now next (standing place o)
-set-by judge objects place default now next None at is = cc
-set-by judge objects place default now next (Some object) at is = sym (ap (λ r. result_unwrap_or r default) (ap (set_by judge default place) at ∙ is))
-
-set-goes : {X : Type 0} (judge : Body → Result X FaultKind) (objects : List Object) (default now next : X) (o : Option ℕ) → set_at judge objects now o ≡ Ok next → Goes (λ p. result_unwrap_or (set_at judge objects default p) default) now next (held objects o)
-set-goes judge objects default now next None is = cc
-set-goes judge objects default now next (Some place) is = set-by judge objects place default now next (slice_get objects place) refl is
-
-number-goes : (objects : List Object) (dict default : ℕ) (key : Key) (now next : ℕ) → number_after objects dict key now ≡ Ok next → Goes (λ p. result_unwrap_or (set_at (number_of key) objects default p) default) now next (value_of (name_of key) objects dict)
+number-goes : (objects : List Object) (dict default : ℕ) (key : Key) (now next : ℕ) → number_after objects dict key now ≡ Ok next → Goes (λ p. result_unwrap_or (value_at (by_body (number_of key)) objects default p) default) now next (value_of (name_of key) objects dict)
 unfolding number_after
-number-goes objects dict default key now next is = set-goes (number_of key) objects default now next (last_of objects dict (name_of key)) is
+number-goes objects dict default key now next is = value-goes (by_body (number_of key)) objects default now next (last_of objects dict (name_of key)) is
 
-truth-goes : (objects : List Object) (dict : ℕ) (default : Bool) (key : Key) (now next : Bool) → truth_after objects dict key now ≡ Ok next → Goes (λ p. result_unwrap_or (set_at (truth_of key) objects default p) default) now next (value_of (name_of key) objects dict)
-unfolding truth_after
-truth-goes objects dict default key now next is = set-goes (truth_of key) objects default now next (last_of objects dict (name_of key)) is
+boolean-goes : (objects : List Object) (dict : ℕ) (default : Bool) (key : Key) (now next : Bool) → boolean_after objects dict key now ≡ Ok next → Goes (λ p. result_unwrap_or (value_at (by_body (boolean_of key)) objects default p) default) now next (value_of (name_of key) objects dict)
+unfolding boolean_after
+boolean-goes objects dict default key now next is = value-goes (by_body (boolean_of key)) objects default now next (last_of objects dict (name_of key)) is
 
-resolution-after : (objects : List Object) (dict now next : ℕ) → resolution_after objects dict now ≡ Ok next → Goes (λ p. result_unwrap_or (resolution_at objects 0 p) 0) now next (value_of (codes "HWResolution") objects dict)
+resolution-after : (objects : List Object) (dict now next : ℕ) → resolution_after objects dict now ≡ Ok next → Goes (λ p. result_unwrap_or (value_at (resolution_in objects) objects 0 p) 0) now next (value_of (codes "HWResolution") objects dict)
 unfolding resolution_after
-resolution-after objects dict now next is = resolution-goes objects now next (last_of objects dict (codes "HWResolution")) is
+resolution-after objects dict now next is = value-goes (resolution_in objects) objects 0 now next (last_of objects dict (codes "HWResolution")) is
 
 details-named : (place : ℕ) (r : Result (List Ink) JobFault) (now next : List Ink) → misfit_of (named_details place r) ≡ None → details_or (named_details place r) now ≡ next → next ≡ details_or (named_details place r) []
 details-named place (Ok inks) now next fine is = sym is
@@ -171,7 +164,7 @@ module _ (objects : List Object) (earlier : List Statement) (now : State) (done 
   pub resolution-in_force : now.resolution ≡ resolution_in_force objects earlier
   resolution-in_force =
       let look : ℕ → Option ℕ = value_of (codes "HWResolution") objects in
-      let value : Option ℕ → ℕ = λ p. result_unwrap_or (resolution_at objects 0 p) 0 in
+      let value : Option ℕ → ℕ = λ p. result_unwrap_or (value_at (resolution_in objects) objects 0 p) 0 in
       entry-after objects (λ s. s.resolution) (named_by is_setpagedevice look) value
       (λ s a b is. device-step objects (λ n. n.resolution) look value (λ a b resolution trapping details. resolution) (λ dict a b set. resolution-after objects dict a.resolution b.resolution set.resolution) s.call.operator s a b is)
       earlier None nothing_read now refl done
@@ -179,9 +172,9 @@ module _ (objects : List Object) (earlier : List Statement) (now : State) (done 
   pub trapping-in_force : now.trapping ≡ trapping_in_force objects earlier
   trapping-in_force =
       let look : ℕ → Option ℕ = value_of (name_of Trapping) objects in
-      let value : Option ℕ → Bool = λ p. result_unwrap_or (set_at (truth_of Trapping) objects true p) true in
+      let value : Option ℕ → Bool = λ p. result_unwrap_or (value_at (by_body (boolean_of Trapping)) objects true p) true in
       entry-after objects (λ s. s.trapping) (named_by is_setpagedevice look) value
-      (λ s a b is. device-step objects (λ n. n.trapping) look value (λ a b resolution trapping details. trapping) (λ dict a b set. truth-goes objects dict true Trapping a.trapping b.trapping set.trapping) s.call.operator s a b is)
+      (λ s a b is. device-step objects (λ n. n.trapping) look value (λ a b resolution trapping details. trapping) (λ dict a b set. boolean-goes objects dict true Trapping a.trapping b.trapping set.trapping) s.call.operator s a b is)
       earlier None nothing_read now refl done
 
   pub details-in_force : now.details ≡ details_in_force objects earlier
@@ -203,17 +196,17 @@ module _ (objects : List Object) (earlier : List Statement) (now : State) (done 
   number-in_force : (key : Key) (part : TrapParams → ℕ) → ((dict : ℕ) (a b : TrapParams) → SetsParams objects dict a b → number_after objects dict key (part a) ≡ Ok (part b)) → part now.params ≡ number_in_force objects earlier key (part usual_params)
   number-in_force key part sets =
       let look : ℕ → Option ℕ = value_of (name_of key) objects in
-      let value : Option ℕ → ℕ = λ p. result_unwrap_or (set_at (number_of key) objects (part usual_params) p) (part usual_params) in
+      let value : Option ℕ → ℕ = λ p. result_unwrap_or (value_at (by_body (number_of key)) objects (part usual_params) p) (part usual_params) in
       entry-after objects (λ s. part s.params) (named_by is_settrapparams look) value
       (λ s a b is. params-step objects (λ n. part n.params) look value (λ a b params limits. ap part params) (λ dict a b set. number-goes objects dict (part usual_params) key (part a.params) (part b.params) (sets dict a.params b.params set.params)) s.call.operator s a b is)
       earlier None nothing_read now refl done
 
-  enabled-in_force : now.params.enabled ≡ truth_in_force objects earlier Enabled true
+  enabled-in_force : now.params.enabled ≡ boolean_in_force objects earlier Enabled true
   enabled-in_force =
       let look : ℕ → Option ℕ = value_of (name_of Enabled) objects in
-      let value : Option ℕ → Bool = λ p. result_unwrap_or (set_at (truth_of Enabled) objects true p) true in
+      let value : Option ℕ → Bool = λ p. result_unwrap_or (value_at (by_body (boolean_of Enabled)) objects true p) true in
       entry-after objects (λ s. s.params.enabled) (named_by is_settrapparams look) value
-      (λ s a b is. params-step objects (λ n. n.params.enabled) look value (λ a b params limits. ap (λ p. p.enabled) params) (λ dict a b set. truth-goes objects dict true Enabled a.params.enabled b.params.enabled set.params.enabled) s.call.operator s a b is)
+      (λ s a b is. params-step objects (λ n. n.params.enabled) look value (λ a b params limits. ap (λ p. p.enabled) params) (λ dict a b set. boolean-goes objects dict true Enabled a.params.enabled b.params.enabled set.params.enabled) s.call.operator s a b is)
       earlier None nothing_read now refl done
 
   pub params-in_force : now.params ≡ params_in_force objects earlier
@@ -229,19 +222,17 @@ module _ (objects : List Object) (earlier : List Statement) (now : State) (done 
       same_params now.params (params_in_force objects earlier) width black color density step sliding scaling enabled
 
 -- one statement that is performed
-stepped-if : (b : Bool) (objects : List Object) (s : Statement) (r : Result State JobFault) (fault_there : Result State JobFault) (end : Result Job JobFault) (now : State) (rest : State → Result Job JobFault) → ((n : State) → fault_there ≡ Ok n → ⊥) → cond b fault_there r ≡ Ok now → cond b end (followed r rest) ≡ rest now
-stepped-if true objects s r fault_there end now rest never is = absurd (never now is)
-stepped-if false objects s r fault_there end now rest never is = ap (λ q. followed q rest) is
-
-stepped-after : (objects : List Object) (s : Statement) (o : Option Operator) (now next : State) (rest : State → Result Job JobFault) → after_one objects s o now ≡ Ok next → stepped objects s o now rest ≡ rest next
-stepped-after objects s None now next rest is = absurd (cc)
-stepped-after objects s (Some operator) now next rest is =
-    stepped-if (is_showpage operator) objects s (performed objects s.from s.place s.call.at operator now) (fault AfterShowpage s.call.at) (shown objects s.from s.place s.call.at now) next rest (λ n wrong. absurd (cc)) is
+pub statement-after : (objects : List Object) (s : Statement) (o : Option Operator) (now next : State) (rest : State → Result Job JobFault) → is_by is_showpage o ≡ false → after_one objects s o now ≡ Ok next → statement_then objects s o now rest ≡ rest next
+statement-after objects s None now next rest goes is = absurd (cc)
+statement-after objects s (Some operator) now next rest goes is =
+    ap (λ b. cond b (job_shown objects s.from s.place s.call.at now) (then_job (state_after objects s.from s.place s.call.at operator now) rest)) goes ∙ ap (λ q. then_job q rest) is
 
 -- statements go on with what the earlier ones left in force
-pub read_from-after : (objects : List Object) (len : ℕ) (earlier later : List Statement) (now next : State) → after_all objects now earlier ≡ Ok next → read_from objects len now (earlier ++ later) ≡ read_from objects len next later
+pub read_from-after : (objects : List Object) (len : ℕ) (earlier later : List Statement) (now next : State) → NoneShows earlier → after_all objects now earlier ≡ Ok next → read_from objects len now (earlier ++ later) ≡ read_from objects len next later
 unfolding after_all read_from
-read_from-after objects len [] later now next done = let same : now ≡ next = cc in ap (λ n. read_from objects len n later) same
-read_from-after objects len (s ∷ ss) later now next done =
+read_from-after objects len [] later now next none done = let same : now ≡ next = cc in ap (λ n. read_from objects len n later) same
+read_from-after objects len (s ∷ ss) later now next none done =
+    let Not : Statement → Type 0 = λ s. is_by is_showpage s.call.operator ≡ false in
     let one = going (after_one objects s s.call.operator now) (λ n. after_all objects n ss) next done in
-    stepped-after objects s s.call.operator now one.0 (λ n. read_from objects len n (ss ++ later)) one.1 ∙ read_from-after objects len ss later one.0 next one.2
+    statement-after objects s s.call.operator now one.0 (λ n. read_from objects len n (ss ++ later)) (All-head Not s ss none) one.1
+    ∙ read_from-after objects len ss later one.0 next (All-tail Not s ss none) one.2

@@ -13,6 +13,8 @@ use Rattle.ps_tokens.specs.declared.faults.JobFault.{JobFault}
 use Rattle.ps_tokens.specs.declared.object.Object.{Object}
 use Rattle.ps_tokens.specs.declared.token.Token.{Token}
 use Rattle.ps_tokens.specs.declared.faults.JobRefusal.{JobRefusal}
+use Rattle.ps_tokens.specs.Limits.{longest_job}
+use Rattle.ps_tokens.proofs.Giving.{IfOk-given}
 use Rattle.ps_tokens.specs.Tokens.{Gives, tokens_of}
 use Rattle.ps_tokens.specs.Objects.{objects_of}
 use Rattle.job_reader.specs.declared.job.Job.{Job}
@@ -20,25 +22,25 @@ use Rattle.job_reader.specs.declared.operators.Operator.{Operator}
 use Rattle.job_reader.specs.declared.state.State.{State}
 use Rattle.job_reader.specs.Calls.{Statement, is_showpage, statements_of}
 use Rattle.job_reader.specs.InRange.{IsJob}
-use Rattle.job_reader.specs.Jobs.{followed, stepped, read_from, job_of_objects, job_of_tokens, job_of}
+use Rattle.job_reader.specs.Jobs.{then_job, statement_then, read_from, job_of_objects, job_of_tokens, job_of}
 use Rattle.job_reader.specs.Starts.{nothing_read}
-use Rattle.job_reader.specs.Statements.{behind_fault, fault, job_at, job_unless, performed, shown, shown_fault, switched, wants_device, zone_0}
-use Rattle.job_reader.proofs.StateRanges.{IsState, nothing_read-state, performed-leaves}
+use Rattle.job_reader.specs.Statements.{behind_fault, fault, job_at, job_unless, state_after, job_shown, shown_fault, under_trapping, wants_device, zone_0}
+use Rattle.job_reader.proofs.StateRanges.{IsState, nothing_read-state, state_after-leaves}
 
 -- a job that is made, or a fault
 abbrev Makes : Result Job JobFault → Type 0
 Makes r = (job : Job) → r ≡ Ok job → IsJob job
 
 -- a switched zone is a zone of the same path
-switched-zones : (trapping : Bool) (zones : List Zone) → All IsZone zones → All IsZone (map (switched trapping) zones)
-switched-zones trapping zones are =
-    All-map IsZone (switched trapping) zones (All-weaker IsZone (λ (z : Zone). IsZone (switched trapping z)) (λ z is. record { params = record { some_width = is.params.some_width; width = is.params.width; some_factor = is.params.some_factor; factor = is.params.factor; color = is.params.color; some_density = is.params.some_density; density = is.params.density; step = is.params.step; sliding = is.params.sliding; scaling = is.params.scaling }; path = is.path; limits = is.limits }) zones are)
+under_trapping-zones : (trapping : Bool) (zones : List Zone) → All IsZone zones → All IsZone (map (under_trapping trapping) zones)
+under_trapping-zones trapping zones are =
+    All-map IsZone (under_trapping trapping) zones (All-weaker IsZone (λ (z : Zone). IsZone (under_trapping trapping z)) (λ z is. record { params = record { some_width = is.params.some_width; width = is.params.width; some_factor = is.params.some_factor; factor = is.params.factor; color = is.params.color; some_density = is.params.some_density; density = is.params.density; step = is.params.step; sliding = is.params.sliding; scaling = is.params.scaling }; path = is.path; limits = is.limits }) zones are)
 
-switched-vertices : (trapping : Bool) (zones : List Zone) → sum_by (λ (z : Zone). length z.path) (map (switched trapping) zones) ≡ sum_by (λ (z : Zone). length z.path) zones
-switched-vertices trapping [] = refl
-switched-vertices trapping (z ∷ zs) =
-    sum_by-cons (λ (z : Zone). length z.path) (switched trapping z) (map (switched trapping) zs)
-    ∙ ap (λ n. length z.path + n) (switched-vertices trapping zs)
+under_trapping-vertices : (trapping : Bool) (zones : List Zone) → sum_by (λ (z : Zone). length z.path) (map (under_trapping trapping) zones) ≡ sum_by (λ (z : Zone). length z.path) zones
+under_trapping-vertices trapping [] = refl
+under_trapping-vertices trapping (z ∷ zs) =
+    sum_by-cons (λ (z : Zone). length z.path) (under_trapping trapping z) (map (under_trapping trapping) zs)
+    ∙ ap (λ n. length z.path + n) (under_trapping-vertices trapping zs)
     ∙ sym (sum_by-cons (λ (z : Zone). length z.path) z zs)
 
 zone_0-zone : (now : State) → IsState now → IsZone (zone_0 now)
@@ -62,14 +64,14 @@ not_both n false neither none = refl
 
 job_at-job : (now : State) → IsState now → ((now.resolution == 0) && wants_device now) ≡ false → IsJob (job_at now)
 job_at-job now here neither =
-    let others : List Zone = map (switched now.trapping) now.zones in
-    let count : length others ≡ length now.zones = length-map now.zones (switched now.trapping) in
+    let others : List Zone = map (under_trapping now.trapping) now.zones in
+    let count : length others ≡ length now.zones = length-map now.zones (under_trapping now.trapping) in
     let vertices : sum_by (λ (z : Zone). length z.path) (zone_0 now ∷ others) ≡ 0 + sum_by (λ (z : Zone). length z.path) others = sum_by-cons (λ (z : Zone). length z.path) (zone_0 now) others in
-    let same = switched-vertices now.trapping now.zones in
+    let same = under_trapping-vertices now.trapping now.zones in
     record {
       some_zones = omega arith;
       few_zones = omega (arith, here.few_zones);
-      zones = All-cons IsZone (zone_0 now) others (zone_0-zone now here) (switched-zones now.trapping now.zones here.zones);
+      zones = All-cons IsZone (zone_0 now) others (zone_0-zone now here) (under_trapping-zones now.trapping now.zones here.zones);
       zone_0 = refl;
       few_vertices = omega (arith, vertices, same, here.counted, here.few_vertices);
       fine = here.fine;
@@ -91,27 +93,27 @@ alone_if true objects place at now here = made_if ((now.resolution == 0) && want
 alone_if false objects place at now here = λ job is. absurd (cc)
 
 -- `showpage`
-shown-makes : (objects : List Object) (from place at : ℕ) (now : State) → IsState now → Makes (shown objects from place at now)
+job_shown-makes : (objects : List Object) (from place at : ℕ) (now : State) → IsState now → Makes (job_shown objects from place at now)
 unfolding shown_fault
-shown-makes objects from place at now here = alone_if (from == place) objects place at now here
+job_shown-makes objects from place at now here = alone_if (from == place) objects place at now here
 
-followed-makes : (r : Result State JobFault) (rest : State → Result Job JobFault) → ((next : State) → r ≡ Ok next → IsState next) → ((next : State) → IsState next → Makes (rest next)) → Makes (followed r rest)
-followed-makes (Ok next) rest leaves makes = makes next (leaves next refl)
-followed-makes (Err first) rest leaves makes = λ job is. absurd (cc)
+then_job-makes : (r : Result State JobFault) (rest : State → Result Job JobFault) → ((next : State) → r ≡ Ok next → IsState next) → ((next : State) → IsState next → Makes (rest next)) → Makes (then_job r rest)
+then_job-makes (Ok next) rest leaves makes = makes next (leaves next refl)
+then_job-makes (Err first) rest leaves makes = λ job is. absurd (cc)
 
 shown_or : (b : Bool) (objects : List Object) (s : Statement) (operator : Operator) (now : State) (rest : State → Result Job JobFault) → IsState now → ((next : State) → IsState next → Makes (rest next))
-    → Makes (cond b (shown objects s.from s.place s.call.at now) (followed (performed objects s.from s.place s.call.at operator now) rest))
-shown_or true objects s operator now rest here makes = shown-makes objects s.from s.place s.call.at now here
-shown_or false objects s operator now rest here makes = followed-makes (performed objects s.from s.place s.call.at operator now) rest (performed-leaves objects s.from s.place s.call.at operator now here) makes
+    → Makes (cond b (job_shown objects s.from s.place s.call.at now) (then_job (state_after objects s.from s.place s.call.at operator now) rest))
+shown_or true objects s operator now rest here makes = job_shown-makes objects s.from s.place s.call.at now here
+shown_or false objects s operator now rest here makes = then_job-makes (state_after objects s.from s.place s.call.at operator now) rest (state_after-leaves objects s.from s.place s.call.at operator now here) makes
 
-stepped-makes : (objects : List Object) (s : Statement) (o : Option Operator) (now : State) (rest : State → Result Job JobFault) → IsState now → ((next : State) → IsState next → Makes (rest next)) → Makes (stepped objects s o now rest)
-stepped-makes objects s None now rest here makes = λ job is. absurd (cc)
-stepped-makes objects s (Some operator) now rest here makes = shown_or (is_showpage operator) objects s operator now rest here makes
+statement_then-makes : (objects : List Object) (s : Statement) (o : Option Operator) (now : State) (rest : State → Result Job JobFault) → IsState now → ((next : State) → IsState next → Makes (rest next)) → Makes (statement_then objects s o now rest)
+statement_then-makes objects s None now rest here makes = λ job is. absurd (cc)
+statement_then-makes objects s (Some operator) now rest here makes = shown_or (is_showpage operator) objects s operator now rest here makes
 
 read_from-makes : (objects : List Object) (len : ℕ) (now : State) (ss : List Statement) → IsState now → Makes (read_from objects len now ss)
 unfolding read_from
 read_from-makes objects len now [] here = λ job is. absurd (cc)
-read_from-makes objects len now (s ∷ ss) here = stepped-makes objects s s.call.operator now (λ next. read_from objects len next ss) here (λ next there. read_from-makes objects len next ss there)
+read_from-makes objects len now (s ∷ ss) here = statement_then-makes objects s s.call.operator now (λ next. read_from objects len next ss) here (λ next there. read_from-makes objects len next ss there)
 
 objects-make : (len : ℕ) (r : Result (List Object) JobFault) → Makes (job_of_objects len r)
 objects-make len (Ok objects) = read_from-makes objects len nothing_read (statements_of objects) nothing_read-state
@@ -121,19 +123,15 @@ tokens-make : (bytes : List ℕ) (r : Result (List Token) JobFault) → Makes (j
 tokens-make bytes (Ok tokens) = objects-make (length bytes) (objects_of bytes tokens)
 tokens-make bytes (Err first) = λ job is. absurd (cc)
 
-short_if : (b : Bool) (bytes : List ℕ) → Makes (cond b (fault JobTooLong 1048576) (job_of_tokens bytes (tokens_of bytes)))
+short_if : (b : Bool) (bytes : List ℕ) → Makes (cond b (fault JobTooLong longest_job) (job_of_tokens bytes (tokens_of bytes)))
 short_if true bytes = λ job is. absurd (cc)
 short_if false bytes = tokens-make bytes (tokens_of bytes)
 
 -- a job that bytes spell
 pub job_of-in_range : (bytes : List ℕ) (job : Job) → job_of bytes ≡ Ok job → IsJob job
 unfolding job_of
-job_of-in_range bytes = short_if (nat_lt 1048576 (length bytes)) bytes
-
-gives-in_range : (meant : Result Job JobFault) (r : Result Job JobRefusal) → Makes meant → Gives r meant → IfOk r (λ job. IsJob job)
-gives-in_range meant (Ok job) makes given = makes job given
-gives-in_range meant (Err refusal) makes given = tt
+job_of-in_range bytes = short_if (nat_lt longest_job (length bytes)) bytes
 
 -- a job that is given, of bytes that are not too many
 pub tokens_given-in_range : (bytes : List ℕ) (r : Result Job JobRefusal) → Gives r (job_of_tokens bytes (tokens_of bytes)) → IfOk r (λ job. IsJob job)
-tokens_given-in_range bytes r given = gives-in_range (job_of_tokens bytes (tokens_of bytes)) r (tokens-make bytes (tokens_of bytes)) given
+tokens_given-in_range bytes r given = IfOk-given (λ job. IsJob job) (job_of_tokens bytes (tokens_of bytes)) r given (tokens-make bytes (tokens_of bytes))

@@ -3,7 +3,6 @@ pub mod InForce
 pub mod JobRanges
 pub mod LimitRanges
 pub mod NamingNone
-pub mod OneAnswer
 pub mod ParamRanges
 pub mod Reading
 pub mod Setting

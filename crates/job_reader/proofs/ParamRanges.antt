@@ -17,8 +17,10 @@ use Rattle.ps_tokens.specs.declared.object.Object.{Object}
 use Rattle.ps_tokens.specs.Dictionaries.{last_of}
 use Rattle.ps_tokens.specs.Misfits.{judged_at, unless}
 use Rattle.trap_params.specs.Parameters.{name_of, least_of, most_of}
-use Rattle.trap_params.specs.Settings.{in_range, number_of, number_after, set_at, set_by}
-use Rattle.trap_params.specs.Applied.{applied, first_misfit_of, params_set, settings_of}
+use Rattle.ps_tokens.specs.Values.{by_body, value_at}
+use Rattle.ps_tokens.proofs.Judged.{value_at-reads, unwrap-reads}
+use Rattle.trap_params.specs.Settings.{in_range, number_of, number_after}
+use Rattle.trap_params.specs.Applied.{params_after, first_misfit_of, params_set, settings_of}
 
 -- what is read unless there is a fault is that
 pub unless-is : {X : Type 0} (m : Option Misfit) (x y : X) → unless m x ≡ Ok y → x ≡ y
@@ -54,21 +56,12 @@ number_of-within key (Operator name) n is = absurd (cc)
 number_of-within key Array n is = absurd (cc)
 number_of-within key Dict n is = absurd (cc)
 
-judged-within : (key : Key) (place at now : ℕ) (r : Result ℕ FaultKind) → ((n : ℕ) → r ≡ Ok n → IsWithin key n) → IsWithin key now → IsWithin key (result_unwrap_or (judged_at place at r) now)
-judged-within key place at now (Ok n) gives here = gives n refl
-judged-within key place at now (Err kind) gives here = here
-
-set_by-within : (key : Key) (now place : ℕ) (o : Option Object) → IsWithin key now → IsWithin key (result_unwrap_or (set_by (number_of key) now place o) now)
-set_by-within key now place None here = here
-set_by-within key now place (Some object) here = judged-within key place object.at now (number_of key object.body) (number_of-within key object.body) here
-
-set_at-within : (key : Key) (objects : List Object) (now : ℕ) (place : Option ℕ) → IsWithin key now → IsWithin key (result_unwrap_or (set_at (number_of key) objects now place) now)
-set_at-within key objects now None here = here
-set_at-within key objects now (Some place) here = set_by-within key now place (slice_get objects place) here
-
 number_after-within : (key : Key) (objects : List Object) (dict now : ℕ) → IsWithin key now → IsWithin key (result_unwrap_or (number_after objects dict key now) now)
 unfolding number_after
-number_after-within key objects dict now here = set_at-within key objects now (last_of objects dict (name_of key)) here
+number_after-within key objects dict now here =
+    let P : ℕ → Type 0 = λ n. IsWithin key n in
+    unwrap-reads P (value_at (by_body (number_of key)) objects now (last_of objects dict (name_of key))) now
+    (value_at-reads P (by_body (number_of key)) objects now (last_of objects dict (name_of key)) (λ place object. number_of-within key object.body) here) here
 
 params_set-in_range : (now : TrapParams) (objects : List Object) (dict : ℕ) → InRange now → InRange (params_set (settings_of now objects dict) now)
 params_set-in_range now objects dict here =
@@ -93,7 +86,7 @@ params_set-in_range now objects dict here =
     }
 
 -- the parameters after a dictionary
-pub applied-in_range : (now after : TrapParams) (objects : List Object) (dict : ℕ) → InRange now → applied now objects dict ≡ Ok after → InRange after
-applied-in_range now after objects dict here is =
+pub params_after-in_range : (now after : TrapParams) (objects : List Object) (dict : ℕ) → InRange now → params_after now objects dict ≡ Ok after → InRange after
+params_after-in_range now after objects dict here is =
     let P : TrapParams → Type 0 = λ p. InRange p in
     subst P (unless-is (first_misfit_of (settings_of now objects dict)) (params_set (settings_of now objects dict) now) after is) (params_set-in_range now objects dict here)

@@ -13,8 +13,8 @@ use Rattle.job_reader.specs.declared.job.Job.{Job}
 use Rattle.job_reader.specs.declared.operators.Operator.{Operator}
 use Rattle.job_reader.specs.declared.state.State.{State}
 use Rattle.job_reader.specs.Calls.{call_of, cut_at, is_showpage, statements_from}
-use Rattle.job_reader.specs.Jobs.{followed, stepped, read_from}
-use Rattle.job_reader.specs.Statements.{fault, performed, shown}
+use Rattle.job_reader.specs.Jobs.{then_job, statement_then, read_from}
+use Rattle.job_reader.specs.Statements.{fault, state_after, job_shown}
 
 -- the statements from a place on, with what is in force there
 abbrev pub read_on : List Object → ℕ → State → ℕ → ℕ → Result Job JobFault
@@ -39,7 +39,7 @@ read_on-none objects len now from place lt none =
 
 -- an operator stands at a place
 read_on-call : (objects : List Object) (len : ℕ) (now : State) (from place : ℕ) (call : Call) (o : Option Operator) → place < length objects → call_of (slice_get objects place) ≡ Some call → call.operator ≡ o
-    → read_on objects len now from place ≡ stepped objects (record { from = from; place = place; call = call }) o now (λ next. read_on objects len next (place + 1) (place + 1))
+    → read_on objects len now from place ≡ statement_then objects (record { from = from; place = place; call = call }) o now (λ next. read_on objects len next (place + 1) (place + 1))
 unfolding read_from
 read_on-call objects len now from place call o lt is called =
     let k : suc place ≡ place + 1 = omega arith in
@@ -47,7 +47,7 @@ read_on-call objects len now from place call o lt is called =
     (statements-drop from place place objects lt
     ∙ ap (λ c. cut_at from place c (λ first. statements_from first (place + 1) (drop (suc place) objects))) is
     ∙ ap (λ n. cut_at from place (Some call) (λ first. statements_from first (place + 1) (drop n objects))) k)
-    ∙ ap (λ p. stepped objects (record { from = from; place = place; call = call }) p now (λ next. read_on objects len next (place + 1) (place + 1))) called
+    ∙ ap (λ p. statement_then objects (record { from = from; place = place; call = call }) p now (λ next. read_on objects len next (place + 1) (place + 1))) called
 
 -- it is none that is known
 pub read_on-unknown : (objects : List Object) (len : ℕ) (now : State) (from place : ℕ) (call : Call) → place < length objects → call_of (slice_get objects place) ≡ Some call → call.operator ≡ None
@@ -55,27 +55,27 @@ pub read_on-unknown : (objects : List Object) (len : ℕ) (now : State) (from pl
 read_on-unknown objects len now from place call lt is called = read_on-call objects len now from place call None lt is called
 
 -- it is `showpage`
-pub read_on-shown : (objects : List Object) (len : ℕ) (now : State) (from place : ℕ) (call : Call) (operator : Operator) → place < length objects → call_of (slice_get objects place) ≡ Some call → call.operator ≡ Some operator → is_showpage operator ≡ true
-    → read_on objects len now from place ≡ shown objects from place call.at now
-read_on-shown objects len now from place call operator lt is called shows =
+pub read_on-job_shown : (objects : List Object) (len : ℕ) (now : State) (from place : ℕ) (call : Call) (operator : Operator) → place < length objects → call_of (slice_get objects place) ≡ Some call → call.operator ≡ Some operator → is_showpage operator ≡ true
+    → read_on objects len now from place ≡ job_shown objects from place call.at now
+read_on-job_shown objects len now from place call operator lt is called shows =
     read_on-call objects len now from place call (Some operator) lt is called
-    ∙ ap (λ b. cond b (shown objects from place call.at now) (followed (performed objects from place call.at operator now) (λ next. read_on objects len next (place + 1) (place + 1)))) shows
+    ∙ ap (λ b. cond b (job_shown objects from place call.at now) (then_job (state_after objects from place call.at operator now) (λ next. read_on objects len next (place + 1) (place + 1)))) shows
 
 -- it is another one
-read_on-performed_by : (objects : List Object) (len : ℕ) (now : State) (from place : ℕ) (call : Call) (operator : Operator) (r : Result State JobFault) → place < length objects → call_of (slice_get objects place) ≡ Some call → call.operator ≡ Some operator → is_showpage operator ≡ false → performed objects from place call.at operator now ≡ r
-    → read_on objects len now from place ≡ followed r (λ next. read_on objects len next (place + 1) (place + 1))
+read_on-performed_by : (objects : List Object) (len : ℕ) (now : State) (from place : ℕ) (call : Call) (operator : Operator) (r : Result State JobFault) → place < length objects → call_of (slice_get objects place) ≡ Some call → call.operator ≡ Some operator → is_showpage operator ≡ false → state_after objects from place call.at operator now ≡ r
+    → read_on objects len now from place ≡ then_job r (λ next. read_on objects len next (place + 1) (place + 1))
 read_on-performed_by objects len now from place call operator r lt is called shows does =
     read_on-call objects len now from place call (Some operator) lt is called
-    ∙ ap (λ b. cond b (shown objects from place call.at now) (followed (performed objects from place call.at operator now) (λ next. read_on objects len next (place + 1) (place + 1)))) shows
-    ∙ ap (λ q. followed q (λ next. read_on objects len next (place + 1) (place + 1))) does
+    ∙ ap (λ b. cond b (job_shown objects from place call.at now) (then_job (state_after objects from place call.at operator now) (λ next. read_on objects len next (place + 1) (place + 1)))) shows
+    ∙ ap (λ q. then_job q (λ next. read_on objects len next (place + 1) (place + 1))) does
 
-pub read_on-performed : (objects : List Object) (len : ℕ) (now next : State) (from place : ℕ) (call : Call) (operator : Operator) → place < length objects → call_of (slice_get objects place) ≡ Some call → call.operator ≡ Some operator → is_showpage operator ≡ false → performed objects from place call.at operator now ≡ Ok next
+pub read_on-state_after : (objects : List Object) (len : ℕ) (now next : State) (from place : ℕ) (call : Call) (operator : Operator) → place < length objects → call_of (slice_get objects place) ≡ Some call → call.operator ≡ Some operator → is_showpage operator ≡ false → state_after objects from place call.at operator now ≡ Ok next
     → read_on objects len now from place ≡ read_on objects len next (place + 1) (place + 1)
-read_on-performed objects len now next from place call operator lt is called shows does =
+read_on-state_after objects len now next from place call operator lt is called shows does =
     read_on-performed_by objects len now from place call operator (Ok next) lt is called shows does
 
 -- it is refused
-pub read_on-refused : (objects : List Object) (len : ℕ) (now : State) (from place : ℕ) (call : Call) (operator : Operator) (refusal : JobRefusal) → place < length objects → call_of (slice_get objects place) ≡ Some call → call.operator ≡ Some operator → is_showpage operator ≡ false → Fails refusal (performed objects from place call.at operator now)
+pub read_on-refused : (objects : List Object) (len : ℕ) (now : State) (from place : ℕ) (call : Call) (operator : Operator) (refusal : JobRefusal) → place < length objects → call_of (slice_get objects place) ≡ Some call → call.operator ≡ Some operator → is_showpage operator ≡ false → Fails refusal (state_after objects from place call.at operator now)
     → Fails refusal (read_on objects len now from place)
 read_on-refused objects len now from place call operator (refusals.Fault first) lt is called shows does =
     read_on-performed_by objects len now from place call operator (Err first) lt is called shows does

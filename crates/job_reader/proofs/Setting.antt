@@ -13,9 +13,9 @@ use Rattle.ps_tokens.specs.declared.misfits.Misfit.{Misfit}
 use Rattle.ps_tokens.specs.declared.object.Object.{Object}
 use Rattle.ps_tokens.specs.Misfits.{misfit_of, earlier, unless}
 use Rattle.trap_params.specs.declared.applying.Settings.{Settings}
-use Rattle.trap_params.specs.Applied.{applied, first_misfit_of, settings_of, params_set as params_after}
+use Rattle.trap_params.specs.Applied.{params_after, first_misfit_of, settings_of, params_set as params_given}
 use Rattle.trap_params.specs.Limits.{limits_after}
-use Rattle.trap_params.specs.Settings.{number_after, truth_after}
+use Rattle.trap_params.specs.Settings.{number_after, boolean_after}
 use Rattle.zone_paths.specs.Paths.{Drawing, nothing_drawn, moveto, lineto, rmoveto, rlineto, closepath}
 use Rattle.job_reader.specs.declared.operators.Operator.{Operator}
 use Rattle.job_reader.specs.declared.operators.Operator.TheVariants.{SetPageDevice, SetTrapParams, NewPath, ClosePath, MoveTo, LineTo, RelativeMoveTo, RelativeLineTo, SetTrapZone, ShowPage}
@@ -23,7 +23,7 @@ use Rattle.job_reader.specs.declared.state.State.{State}
 use Rattle.job_reader.specs.Device.{details_in, details_or, device_set, resolution_after}
 use Rattle.job_reader.specs.InForce.{is_setpagedevice, is_settrapparams}
 use Rattle.job_reader.specs.Operands.{is_one_dict, two_numbers}
-use Rattle.job_reader.specs.Statements.{both_set, drawn, fault, params_set, performed, with_numbers, zone_made, zone_of}
+use Rattle.job_reader.specs.Statements.{most_vertices, most_zones, both_set, path_drawn, fault, params_set, state_after, with_numbers, zone_made, zone_of}
 use Rattle.job_reader.proofs.ParamRanges.{unless-is}
 
 -- No fault among several.
@@ -48,7 +48,7 @@ read (Err misfit) d is = absurd (cc)
 -- what a `setpagedevice` dictionary sets
 pub record SetsDevice (objects : List Object) (dict : ℕ) (now next : State) : Type 0 where
   pub resolution : resolution_after objects dict now.resolution ≡ Ok next.resolution
-  pub trapping : truth_after objects dict Trapping now.trapping ≡ Ok next.trapping
+  pub trapping : boolean_after objects dict Trapping now.trapping ≡ Ok next.trapping
   pub fine : misfit_of (details_in objects dict) ≡ None
   pub details : details_or (details_in objects dict) now.details ≡ next.details
   pub params : next.params ≡ now.params
@@ -57,7 +57,7 @@ pub record SetsDevice (objects : List Object) (dict : ℕ) (now next : State) : 
 pub device_set-sets : (objects : List Object) (dict : ℕ) (now next : State) → device_set objects dict now ≡ Ok next → SetsDevice objects dict now next
 device_set-sets objects dict now next is =
     let resolution = resolution_after objects dict now.resolution in
-    let trapping = truth_after objects dict Trapping now.trapping in
+    let trapping = boolean_after objects dict Trapping now.trapping in
     let details = details_in objects dict in
     let set : State = record now { resolution = result_unwrap_or resolution now.resolution; trapping = result_unwrap_or trapping now.trapping; details = details_or details now.details } in
     let first = earlier (misfit_of resolution) (earlier (misfit_of trapping) (misfit_of details)) in
@@ -82,12 +82,12 @@ pub record SetsParams (objects : List Object) (dict : ℕ) (now next : TrapParam
   pub step_limit : number_after objects dict StepLimit now.step_limit ≡ Ok next.step_limit
   pub sliding_trap_limit : number_after objects dict SlidingTrapLimit now.sliding_trap_limit ≡ Ok next.sliding_trap_limit
   pub trap_color_scaling : number_after objects dict TrapColorScaling now.trap_color_scaling ≡ Ok next.trap_color_scaling
-  pub enabled : truth_after objects dict Enabled now.enabled ≡ Ok next.enabled
+  pub enabled : boolean_after objects dict Enabled now.enabled ≡ Ok next.enabled
 
-applied-sets : (objects : List Object) (dict : ℕ) (now next : TrapParams) → applied now objects dict ≡ Ok next → SetsParams objects dict now next
-applied-sets objects dict now next is =
+params_after-sets : (objects : List Object) (dict : ℕ) (now next : TrapParams) → params_after now objects dict ≡ Ok next → SetsParams objects dict now next
+params_after-sets objects dict now next is =
     let set : Settings = settings_of now objects dict in
-    let none : first_misfit_of set ≡ None = unless-none (first_misfit_of set) (params_after set now) next is in
+    let none : first_misfit_of set ≡ None = unless-none (first_misfit_of set) (params_given set now) next is in
     let one = earlier-none (misfit_of set.trap_width) _ none in
     let two = earlier-none (misfit_of set.black_width) _ one.1 in
     let three = earlier-none (misfit_of set.black_color_limit) _ two.1 in
@@ -95,7 +95,7 @@ applied-sets objects dict now next is =
     let five = earlier-none (misfit_of set.step_limit) _ four.1 in
     let six = earlier-none (misfit_of set.sliding_trap_limit) _ five.1 in
     let seven = earlier-none (misfit_of set.trap_color_scaling) _ six.1 in
-    subst (λ (p : TrapParams). SetsParams objects dict now p) (unless-is (first_misfit_of set) (params_after set now) next is) (record {
+    subst (λ (p : TrapParams). SetsParams objects dict now p) (unless-is (first_misfit_of set) (params_given set now) next is) (record {
       trap_width = read set.trap_width now.trap_width one.0;
       black_width = read set.black_width now.black_width two.0;
       black_color_limit = read set.black_color_limit now.black_color_limit three.0;
@@ -114,17 +114,17 @@ pub record SetsZones (objects : List Object) (dict : ℕ) (now next : State) : T
   pub trapping : next.trapping ≡ now.trapping
   pub details : next.details ≡ now.details
 
-both_set-sets : (objects : List Object) (dict : ℕ) (params : Result TrapParams JobFault) (limits : Result (List Limit) JobFault) (now next : State) → applied now.params objects dict ≡ params → limits_after now.limits objects dict ≡ limits → both_set params limits now ≡ Ok next → SetsZones objects dict now next
+both_set-sets : (objects : List Object) (dict : ℕ) (params : Result TrapParams JobFault) (limits : Result (List Limit) JobFault) (now next : State) → params_after now.params objects dict ≡ params → limits_after now.limits objects dict ≡ limits → both_set params limits now ≡ Ok next → SetsZones objects dict now next
 both_set-sets objects dict (Ok p) (Ok l) now next params limits is =
     let set : State = record now { params = p; limits = l } in
     let same : set ≡ next = cc in
-    subst (λ (s : State). SetsZones objects dict now s) same (record { params = applied-sets objects dict now.params p params; limits = limits; resolution = refl; trapping = refl; details = refl })
+    subst (λ (s : State). SetsZones objects dict now s) same (record { params = params_after-sets objects dict now.params p params; limits = limits; resolution = refl; trapping = refl; details = refl })
 both_set-sets objects dict (Ok p) (Err second) now next params limits is = absurd (cc)
 both_set-sets objects dict (Err first) (Ok l) now next params limits is = absurd (cc)
 both_set-sets objects dict (Err first) (Err second) now next params limits is = absurd (cc)
 
 pub params_set-sets : (objects : List Object) (dict : ℕ) (now next : State) → params_set objects dict now ≡ Ok next → SetsZones objects dict now next
-params_set-sets objects dict now next is = both_set-sets objects dict (applied now.params objects dict) (limits_after now.limits objects dict) now next refl refl is
+params_set-sets objects dict now next is = both_set-sets objects dict (params_after now.params objects dict) (limits_after now.limits objects dict) now next refl refl is
 
 -- The other statements.
 
@@ -150,9 +150,9 @@ numbered P at (Some p) draw gives = gives p.0 p.1
 abbrev Whatever : (State → Type 0) → State → Type 0
 Whatever P now = (path : Drawing) (zones : List Zone) (vertices : ℕ) → P (record now { path = path; zones = zones; vertices = vertices })
 
-drawn-left : (P : State → Type 0) (at : ℕ) (now : State) (r : Result Drawing FaultKind) → Whatever P now → Left P (drawn at now r)
-drawn-left P at now (Ok d) all = left P (record now { path = d }) (all d now.zones now.vertices)
-drawn-left P at now (Err kind) all = faulty P kind at
+path_drawn-left : (P : State → Type 0) (at : ℕ) (now : State) (r : Result Drawing FaultKind) → Whatever P now → Left P (path_drawn at now r)
+path_drawn-left P at now (Ok d) all = left P (record now { path = d }) (all d now.zones now.vertices)
+path_drawn-left P at now (Err kind) all = faulty P kind at
 
 fits_if : (P : State → Type 0) (b : Bool) (at : ℕ) (now made : State) → P made → Left P (cond b (fault TooManyVertices at) (Ok made))
 fits_if P true at now made is = faulty P TooManyVertices at
@@ -165,27 +165,27 @@ room_if P false at r gives = gives
 made-left : (P : State → Type 0) (at : ℕ) (now : State) → Whatever P now → Left P (zone_made at now)
 made-left P at now all =
     let made : State = record now { zones = now.zones ++ zone_of now ∷ []; path = nothing_drawn; vertices = now.vertices + length now.path.vertices } in
-    room_if P (nat_le 250 (length now.zones)) at (cond (nat_lt 16384 (now.vertices + length now.path.vertices)) (fault TooManyVertices at) (Ok made))
-    (fits_if P (nat_lt 16384 (now.vertices + length now.path.vertices)) at now made (all nothing_drawn (now.zones ++ zone_of now ∷ []) (now.vertices + length now.path.vertices)))
+    room_if P (nat_le most_zones (length now.zones)) at (cond (nat_lt most_vertices (now.vertices + length now.path.vertices)) (fault TooManyVertices at) (Ok made))
+    (fits_if P (nat_lt most_vertices (now.vertices + length now.path.vertices)) at now made (all nothing_drawn (now.zones ++ zone_of now ∷ []) (now.vertices + length now.path.vertices)))
 
-pub others-left : (P : State → Type 0) (objects : List Object) (from place at : ℕ) (now : State) → Whatever P now → (o : Operator) → is_setpagedevice o ≡ false → is_settrapparams o ≡ false → Left P (performed objects from place at o now)
-unfolding performed
+pub others-left : (P : State → Type 0) (objects : List Object) (from place at : ℕ) (now : State) → Whatever P now → (o : Operator) → is_setpagedevice o ≡ false → is_settrapparams o ≡ false → Left P (state_after objects from place at o now)
+unfolding state_after
 others-left P objects from place at now all SetPageDevice device params = absurd (cc)
 others-left P objects from place at now all SetTrapParams device params = absurd (cc)
 others-left P objects from place at now all NewPath device params = guarded P (from == place) (Ok (record now { path = nothing_drawn })) at (left P (record now { path = nothing_drawn }) (all nothing_drawn now.zones now.vertices))
 others-left P objects from place at now all ClosePath device params = guarded P (from == place) (Ok (record now { path = closepath now.path })) at (left P (record now { path = closepath now.path }) (all (closepath now.path) now.zones now.vertices))
-others-left P objects from place at now all MoveTo device params = numbered P at (two_numbers objects from place) (λ x y. drawn at now (moveto x y now.path)) (λ x y. drawn-left P at now (moveto x y now.path) all)
-others-left P objects from place at now all LineTo device params = numbered P at (two_numbers objects from place) (λ x y. drawn at now (lineto x y now.path)) (λ x y. drawn-left P at now (lineto x y now.path) all)
-others-left P objects from place at now all RelativeMoveTo device params = numbered P at (two_numbers objects from place) (λ x y. drawn at now (rmoveto x y now.path)) (λ x y. drawn-left P at now (rmoveto x y now.path) all)
-others-left P objects from place at now all RelativeLineTo device params = numbered P at (two_numbers objects from place) (λ x y. drawn at now (rlineto x y now.path)) (λ x y. drawn-left P at now (rlineto x y now.path) all)
+others-left P objects from place at now all MoveTo device params = numbered P at (two_numbers objects from place) (λ x y. path_drawn at now (moveto x y now.path)) (λ x y. path_drawn-left P at now (moveto x y now.path) all)
+others-left P objects from place at now all LineTo device params = numbered P at (two_numbers objects from place) (λ x y. path_drawn at now (lineto x y now.path)) (λ x y. path_drawn-left P at now (lineto x y now.path) all)
+others-left P objects from place at now all RelativeMoveTo device params = numbered P at (two_numbers objects from place) (λ x y. path_drawn at now (rmoveto x y now.path)) (λ x y. path_drawn-left P at now (rmoveto x y now.path) all)
+others-left P objects from place at now all RelativeLineTo device params = numbered P at (two_numbers objects from place) (λ x y. path_drawn at now (rlineto x y now.path)) (λ x y. path_drawn-left P at now (rlineto x y now.path) all)
 others-left P objects from place at now all SetTrapZone device params = guarded P (from == place) (zone_made at now) at (made-left P at now all)
 others-left P objects from place at now all ShowPage device params = left P now (all now.path now.zones now.vertices)
 
 -- `setpagedevice` and `settrapparams` with their operands
-pub device-left : (P : State → Type 0) (objects : List Object) (from place at : ℕ) (now : State) → ((next : State) → SetsDevice objects from now next → P next) → Left P (performed objects from place at SetPageDevice now)
-unfolding performed
+pub device-left : (P : State → Type 0) (objects : List Object) (from place at : ℕ) (now : State) → ((next : State) → SetsDevice objects from now next → P next) → Left P (state_after objects from place at SetPageDevice now)
+unfolding state_after
 device-left P objects from place at now sets = guarded P (is_one_dict objects from place) (device_set objects from now) at (λ next is. sets next (device_set-sets objects from now next is))
 
-pub params-left : (P : State → Type 0) (objects : List Object) (from place at : ℕ) (now : State) → ((next : State) → SetsZones objects from now next → P next) → Left P (performed objects from place at SetTrapParams now)
-unfolding performed
+pub params-left : (P : State → Type 0) (objects : List Object) (from place at : ℕ) (now : State) → ((next : State) → SetsZones objects from now next → P next) → Left P (state_after objects from place at SetTrapParams now)
+unfolding state_after
 params-left P objects from place at now sets = guarded P (is_one_dict objects from place) (params_set objects from now) at (λ next is. sets next (params_set-sets objects from now next is))

@@ -19,24 +19,26 @@ use Rattle.ps_tokens.specs.declared.faults.JobFault.{JobFault}
 use Rattle.ps_tokens.specs.declared.faults.Key.TheVariants.{Trapping}
 use Rattle.ps_tokens.specs.declared.object.Object.{Object}
 use Rattle.ps_tokens.specs.Dictionaries.{last_of}
-use Rattle.ps_tokens.specs.Misfits.{judged_at, misfit_of, earlier}
-use Rattle.trap_params.specs.Applied.{applied}
+use Rattle.ps_tokens.specs.Misfits.{misfit_of, earlier}
+use Rattle.ps_tokens.specs.Values.{value_at}
+use Rattle.ps_tokens.proofs.Judged.{value_at-reads, unwrap-reads}
+use Rattle.trap_params.specs.Applied.{params_after}
 use Rattle.trap_params.specs.Limits.{limits_after}
-use Rattle.trap_params.specs.Settings.{truth_after}
+use Rattle.trap_params.specs.Settings.{boolean_after}
 use Rattle.colorant_details.specs.Details.{details_of}
 use Rattle.zone_paths.specs.declared.pen.Pen.{Pen}
-use Rattle.zone_paths.specs.Paths.{Drawing, IsDrawing, IsPen, nothing_drawn, moveto, lineto, rmoveto, rlineto, closepath, closed_pen, from_pen, begun_at, lined_to, shifted}
+use Rattle.zone_paths.specs.Paths.{Drawing, IsDrawing, IsPen, nothing_drawn, moveto, lineto, rmoveto, rlineto, closepath, closed_pen, from_pen, begun_at, lined_to, offset_point}
 use Rattle.zone_paths.proofs.Drawings.{begun_at-drawing, lined_to-drawing}
 use Rattle.job_reader.specs.declared.operators.Operator.{Operator}
 use Rattle.job_reader.specs.declared.operators.Operator.TheVariants.{SetPageDevice, SetTrapParams, NewPath, ClosePath, MoveTo, LineTo, RelativeMoveTo, RelativeLineTo, SetTrapZone, ShowPage}
 use Rattle.job_reader.specs.declared.state.State.{State}
-use Rattle.job_reader.specs.Device.{is_array, pixels_in, pixels_of, equal_pixels, resolution_in, resolution_by, resolution_at, resolution_after, named_details, details_at, details_in, details_or, device_set}
+use Rattle.job_reader.specs.Device.{is_array, pixels_in, pixels_of, equal_pixels, resolution_in, resolution_after, named_details, details_at, details_in, details_or, device_set}
 use Rattle.job_reader.specs.Operands.{is_one_dict, number_at, two_numbers}
 use Rattle.job_reader.specs.Starts.{nothing_read}
-use Rattle.job_reader.specs.Statements.{both_set, drawn, fault, performed, params_set, with_numbers, zone_made, zone_of}
-use Rattle.job_reader.proofs.ParamRanges.{unless-is, applied-in_range}
+use Rattle.job_reader.specs.Statements.{most_vertices, most_zones, both_set, path_drawn, fault, state_after, params_set, with_numbers, zone_made, zone_of}
+use Rattle.job_reader.proofs.ParamRanges.{unless-is, params_after-in_range}
 use Rattle.job_reader.proofs.LimitRanges.{limits_after-limits}
-use Rattle.job_reader.proofs.DetailRanges.{details_of-inks}
+use Rattle.job_reader.proofs.DetailRanges.{details_of-ranges}
 
 -- what is in force, each in its range, and the zones so far
 pub record IsState (now : State) : Type 0 where
@@ -96,22 +98,13 @@ array_if : (b : Bool) (objects : List Object) (place n : ℕ) → cond b (equal_
 array_if true objects place n is = equal_pixels-fine (pixels_of (number_at objects (place + 1))) (pixels_of (number_at objects (place + 2))) n (λ m. pixels_of-fine (number_at objects (place + 1)) m) is
 array_if false objects place n is = absurd (cc)
 
-judged-fine : (place at now : ℕ) (r : Result ℕ FaultKind) → ((n : ℕ) → r ≡ Ok n → n ≤ 10000) → now ≤ 10000 → result_unwrap_or (judged_at place at r) now ≤ 10000
-judged-fine place at now (Ok n) fine here = fine n refl
-judged-fine place at now (Err kind) fine here = here
-
-resolution_by-fine : (objects : List Object) (now place : ℕ) (o : Option Object) → now ≤ 10000 → result_unwrap_or (resolution_by objects now place o) now ≤ 10000
-resolution_by-fine objects now place None here = here
-resolution_by-fine objects now place (Some object) here =
-    judged-fine place object.at now (resolution_in objects place object) (λ n. array_if (is_array object.body && (object.inside == 2)) objects place n) here
-
-resolution_at-fine : (objects : List Object) (now : ℕ) (place : Option ℕ) → now ≤ 10000 → result_unwrap_or (resolution_at objects now place) now ≤ 10000
-resolution_at-fine objects now None here = here
-resolution_at-fine objects now (Some place) here = resolution_by-fine objects now place (slice_get objects place) here
-
 resolution_after-fine : (objects : List Object) (dict now : ℕ) → now ≤ 10000 → result_unwrap_or (resolution_after objects dict now) now ≤ 10000
 unfolding resolution_after
-resolution_after-fine objects dict now here = resolution_at-fine objects now (last_of objects dict (codes "HWResolution")) here
+resolution_after-fine objects dict now here =
+    let P : ℕ → Type 0 = λ n. n ≤ 10000 in
+    let place = last_of objects dict (codes "HWResolution") in
+    unwrap-reads P (value_at (resolution_in objects) objects now place) now
+    (value_at-reads P (resolution_in objects) objects now place (λ at object n. array_if (is_array object.body && (object.inside == 2)) objects at n) here) here
 
 -- Details.
 
@@ -121,7 +114,7 @@ named-inks place (Err fault) now are here = here
 
 details_at-inks : (objects : List Object) (place : Option ℕ) (now : List Ink) → All IsInk now → All IsInk (details_or (details_at objects place) now)
 details_at-inks objects None now here = here
-details_at-inks objects (Some place) now here = named-inks place (details_of objects place) now (λ inks. details_of-inks objects place inks) here
+details_at-inks objects (Some place) now here = named-inks place (details_of objects place) now (λ inks. details_of-ranges objects place inks) here
 
 details_in-inks : (objects : List Object) (dict : ℕ) (now : List Ink) → All IsInk now → All IsInk (details_or (details_in objects dict) now)
 unfolding details_in
@@ -131,7 +124,7 @@ details_in-inks objects dict now here = details_at-inks objects (last_of objects
 device_set-leaves : (objects : List Object) (dict : ℕ) (now : State) → IsState now → Leaves (device_set objects dict now)
 device_set-leaves objects dict now here next is =
     let resolution = resolution_after objects dict now.resolution in
-    let trapping = truth_after objects dict Trapping now.trapping in
+    let trapping = boolean_after objects dict Trapping now.trapping in
     let details = details_in objects dict in
     let set : State = record now { resolution = result_unwrap_or resolution now.resolution; trapping = result_unwrap_or trapping now.trapping; details = details_or details now.details } in
     let same : set ≡ next = unless-is (earlier (misfit_of resolution) (earlier (misfit_of trapping) (misfit_of details))) set next is in
@@ -146,8 +139,8 @@ both_set-leaves (Err first) (Err second) now here ranged once = λ next is. absu
 
 params_set-leaves : (objects : List Object) (dict : ℕ) (now : State) → IsState now → Leaves (params_set objects dict now)
 params_set-leaves objects dict now here =
-    both_set-leaves (applied now.params objects dict) (limits_after now.limits objects dict) now here
-    (λ p. applied-in_range now.params p objects dict here.params) (λ l. limits_after-limits now.limits objects dict l here.limits)
+    both_set-leaves (params_after now.params objects dict) (limits_after now.limits objects dict) now here
+    (λ p. params_after-in_range now.params p objects dict here.params) (λ l. limits_after-limits now.limits objects dict l here.limits)
 
 -- Paths.
 
@@ -173,9 +166,9 @@ from_pen-draws vertices (Some p) draw is draws = draws p is
 with_path : (now : State) (d : Drawing) → IsState now → IsDrawing d → IsState (record now { path = d })
 with_path now d here is = record { params = here.params; limits = here.limits; fine = here.fine; details = here.details; path = is; zones = here.zones; few_zones = here.few_zones; counted = here.counted; few_vertices = here.few_vertices }
 
-drawn-leaves : (at : ℕ) (now : State) (r : Result Drawing FaultKind) → IsState now → Draws r → Leaves (drawn at now r)
-drawn-leaves at now (Ok d) here draws = leaves (record now { path = d }) (with_path now d here (draws d refl))
-drawn-leaves at now (Err kind) here draws = faulty kind at
+path_drawn-leaves : (at : ℕ) (now : State) (r : Result Drawing FaultKind) → IsState now → Draws r → Leaves (path_drawn at now r)
+path_drawn-leaves at now (Ok d) here draws = leaves (record now { path = d }) (with_path now d here (draws d refl))
+path_drawn-leaves at now (Err kind) here draws = faulty kind at
 
 with_numbers-leaves : (at : ℕ) (o : Option (ℤ × ℤ)) (draw : ℤ → ℤ → Result State JobFault) → ((x y : ℤ) → Leaves (draw x y)) → Leaves (with_numbers at o draw)
 with_numbers-leaves at None draw gives = faulty WrongOperands at
@@ -185,20 +178,20 @@ moveto-draws : (x y : ℤ) (d : Drawing) → IsDrawing d → Draws (moveto x y d
 moveto-draws x y d is after same = begun_at-drawing d.vertices (record { x = x; y = y }) after is.path same
 
 rmoveto-draws : (x y : ℤ) (d : Drawing) → IsDrawing d → Draws (rmoveto x y d)
-rmoveto-draws x y d is = from_pen-draws d.vertices d.pen (λ pen. begun_at d.vertices (shifted pen.at x y)) is.pen (λ pen behind after same. begun_at-drawing d.vertices (shifted pen.at x y) after is.path same)
+rmoveto-draws x y d is = from_pen-draws d.vertices d.pen (λ pen. begun_at d.vertices (offset_point pen.at x y)) is.pen (λ pen behind after same. begun_at-drawing d.vertices (offset_point pen.at x y) after is.path same)
 
 lineto-draws : (x y : ℤ) (d : Drawing) → IsDrawing d → Draws (lineto x y d)
 lineto-draws x y d is = from_pen-draws d.vertices d.pen (λ pen. lined_to d.vertices pen (record { x = x; y = y })) is.pen (λ pen behind after same. lined_to-drawing d.vertices pen (record { x = x; y = y }) after is.path behind same)
 
 rlineto-draws : (x y : ℤ) (d : Drawing) → IsDrawing d → Draws (rlineto x y d)
-rlineto-draws x y d is = from_pen-draws d.vertices d.pen (λ pen. lined_to d.vertices pen (shifted pen.at x y)) is.pen (λ pen behind after same. lined_to-drawing d.vertices pen (shifted pen.at x y) after is.path behind same)
+rlineto-draws x y d is = from_pen-draws d.vertices d.pen (λ pen. lined_to d.vertices pen (offset_point pen.at x y)) is.pen (λ pen behind after same. lined_to-drawing d.vertices pen (offset_point pen.at x y) after is.path behind same)
 
 -- Zones.
 
 zone_of-zone : (now : State) → IsState now → IsZone (zone_of now)
 zone_of-zone now here = record { params = here.params; path = here.path.path; limits = here.limits }
 
-one_more : (now : State) → IsState now → nat_le 250 (length now.zones) ≡ false → nat_lt 16384 (now.vertices + length now.path.vertices) ≡ false
+one_more : (now : State) → IsState now → nat_le most_zones (length now.zones) ≡ false → nat_lt most_vertices (now.vertices + length now.path.vertices) ≡ false
     → IsState (record now { zones = now.zones ++ zone_of now ∷ []; path = nothing_drawn; vertices = now.vertices + length now.path.vertices })
 one_more now here room vertices =
     let few : length now.zones < 250 = grind (arith, nat_tests) in
@@ -218,32 +211,32 @@ one_more now here room vertices =
       few_vertices = fit;
     }
 
-fits_if : (b : Bool) (at : ℕ) (now : State) → IsState now → nat_le 250 (length now.zones) ≡ false → nat_lt 16384 (now.vertices + length now.path.vertices) ≡ b
+fits_if : (b : Bool) (at : ℕ) (now : State) → IsState now → nat_le most_zones (length now.zones) ≡ false → nat_lt most_vertices (now.vertices + length now.path.vertices) ≡ b
     → Leaves (cond b (fault TooManyVertices at) (Ok (record now { zones = now.zones ++ zone_of now ∷ []; path = nothing_drawn; vertices = now.vertices + length now.path.vertices })))
 fits_if true at now here room vertices = faulty TooManyVertices at
 fits_if false at now here room vertices = leaves _ (one_more now here room vertices)
 
-room_if : (b : Bool) (at : ℕ) (now : State) → IsState now → nat_le 250 (length now.zones) ≡ b
-    → Leaves (cond b (fault TooManyZones at) (cond (nat_lt 16384 (now.vertices + length now.path.vertices)) (fault TooManyVertices at) (Ok (record now { zones = now.zones ++ zone_of now ∷ []; path = nothing_drawn; vertices = now.vertices + length now.path.vertices }))))
+room_if : (b : Bool) (at : ℕ) (now : State) → IsState now → nat_le most_zones (length now.zones) ≡ b
+    → Leaves (cond b (fault TooManyZones at) (cond (nat_lt most_vertices (now.vertices + length now.path.vertices)) (fault TooManyVertices at) (Ok (record now { zones = now.zones ++ zone_of now ∷ []; path = nothing_drawn; vertices = now.vertices + length now.path.vertices }))))
 room_if true at now here room = faulty TooManyZones at
-room_if false at now here room = fits_if (nat_lt 16384 (now.vertices + length now.path.vertices)) at now here room refl
+room_if false at now here room = fits_if (nat_lt most_vertices (now.vertices + length now.path.vertices)) at now here room refl
 
 zone_made-leaves : (at : ℕ) (now : State) → IsState now → Leaves (zone_made at now)
-zone_made-leaves at now here = room_if (nat_le 250 (length now.zones)) at now here refl
+zone_made-leaves at now here = room_if (nat_le most_zones (length now.zones)) at now here refl
 
 -- each statement
-pub performed-leaves : (objects : List Object) (from place at : ℕ) (operator : Operator) (now : State) → IsState now → Leaves (performed objects from place at operator now)
-unfolding performed
-performed-leaves objects from place at SetPageDevice now here = guarded (is_one_dict objects from place) (device_set objects from now) WrongOperands at (device_set-leaves objects from now here)
-performed-leaves objects from place at SetTrapParams now here = guarded (is_one_dict objects from place) (params_set objects from now) WrongOperands at (params_set-leaves objects from now here)
-performed-leaves objects from place at NewPath now here = guarded (from == place) (Ok (record now { path = nothing_drawn })) WrongOperands at (leaves (record now { path = nothing_drawn }) (with_path now nothing_drawn here nothing-drawing))
-performed-leaves objects from place at ClosePath now here = guarded (from == place) (Ok (record now { path = closepath now.path })) WrongOperands at (leaves (record now { path = closepath now.path }) (with_path now (closepath now.path) here (closepath-drawing now.path here.path)))
-performed-leaves objects from place at MoveTo now here = with_numbers-leaves at (two_numbers objects from place) (λ x y. drawn at now (moveto x y now.path)) (λ x y. drawn-leaves at now (moveto x y now.path) here (moveto-draws x y now.path here.path))
-performed-leaves objects from place at LineTo now here = with_numbers-leaves at (two_numbers objects from place) (λ x y. drawn at now (lineto x y now.path)) (λ x y. drawn-leaves at now (lineto x y now.path) here (lineto-draws x y now.path here.path))
-performed-leaves objects from place at RelativeMoveTo now here = with_numbers-leaves at (two_numbers objects from place) (λ x y. drawn at now (rmoveto x y now.path)) (λ x y. drawn-leaves at now (rmoveto x y now.path) here (rmoveto-draws x y now.path here.path))
-performed-leaves objects from place at RelativeLineTo now here = with_numbers-leaves at (two_numbers objects from place) (λ x y. drawn at now (rlineto x y now.path)) (λ x y. drawn-leaves at now (rlineto x y now.path) here (rlineto-draws x y now.path here.path))
-performed-leaves objects from place at SetTrapZone now here = guarded (from == place) (zone_made at now) WrongOperands at (zone_made-leaves at now here)
-performed-leaves objects from place at ShowPage now here = leaves now here
+pub state_after-leaves : (objects : List Object) (from place at : ℕ) (operator : Operator) (now : State) → IsState now → Leaves (state_after objects from place at operator now)
+unfolding state_after
+state_after-leaves objects from place at SetPageDevice now here = guarded (is_one_dict objects from place) (device_set objects from now) WrongOperands at (device_set-leaves objects from now here)
+state_after-leaves objects from place at SetTrapParams now here = guarded (is_one_dict objects from place) (params_set objects from now) WrongOperands at (params_set-leaves objects from now here)
+state_after-leaves objects from place at NewPath now here = guarded (from == place) (Ok (record now { path = nothing_drawn })) WrongOperands at (leaves (record now { path = nothing_drawn }) (with_path now nothing_drawn here nothing-drawing))
+state_after-leaves objects from place at ClosePath now here = guarded (from == place) (Ok (record now { path = closepath now.path })) WrongOperands at (leaves (record now { path = closepath now.path }) (with_path now (closepath now.path) here (closepath-drawing now.path here.path)))
+state_after-leaves objects from place at MoveTo now here = with_numbers-leaves at (two_numbers objects from place) (λ x y. path_drawn at now (moveto x y now.path)) (λ x y. path_drawn-leaves at now (moveto x y now.path) here (moveto-draws x y now.path here.path))
+state_after-leaves objects from place at LineTo now here = with_numbers-leaves at (two_numbers objects from place) (λ x y. path_drawn at now (lineto x y now.path)) (λ x y. path_drawn-leaves at now (lineto x y now.path) here (lineto-draws x y now.path here.path))
+state_after-leaves objects from place at RelativeMoveTo now here = with_numbers-leaves at (two_numbers objects from place) (λ x y. path_drawn at now (rmoveto x y now.path)) (λ x y. path_drawn-leaves at now (rmoveto x y now.path) here (rmoveto-draws x y now.path here.path))
+state_after-leaves objects from place at RelativeLineTo now here = with_numbers-leaves at (two_numbers objects from place) (λ x y. path_drawn at now (rlineto x y now.path)) (λ x y. path_drawn-leaves at now (rlineto x y now.path) here (rlineto-draws x y now.path here.path))
+state_after-leaves objects from place at SetTrapZone now here = guarded (from == place) (zone_made at now) WrongOperands at (zone_made-leaves at now here)
+state_after-leaves objects from place at ShowPage now here = leaves now here
 
 -- before the first statement
 pub nothing_read-state : IsState nothing_read

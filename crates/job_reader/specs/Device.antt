@@ -1,5 +1,5 @@
 -- What a `setpagedevice` dictionary sets.
-use Rattle.std.specs.Prelude.{ℕ, ℤ, pos, negsuc, Bool, List, Option, Some, None, Result, Ok, Err, slice_get, nat_le, ◌+◌, ◌/◌, ◌%◌, ◌==◌, ◌&&◌, true, false, codes, if◌then◌else◌}
+use Rattle.std.specs.Prelude.{ℕ, ℤ, pos, negsuc, Bool, List, Option, Some, None, Result, Ok, Err, nat_le, ◌+◌, ◌*◌, ◌/◌, ◌%◌, ◌==◌, ◌&&◌, true, false, codes, if◌then◌else◌}
 use Rattle.std.specs.Result.{result_unwrap_or}
 use Rattle.page_model.specs.declared.parts.Ink.{Ink}
 use Rattle.ps_tokens.specs.declared.faults.FaultKind.{FaultKind}
@@ -11,8 +11,9 @@ use Rattle.ps_tokens.specs.declared.object.Body.{Body}
 use Rattle.ps_tokens.specs.declared.object.Body.TheVariants.{Number, Truth, Null, Text, Literal, Operator, Array, Dict}
 use Rattle.ps_tokens.specs.declared.object.Object.{Object}
 use Rattle.ps_tokens.specs.Dictionaries.{last_of}
-use Rattle.ps_tokens.specs.Misfits.{judged_at, misfit_of, earlier, unless}
-use Rattle.trap_params.specs.Settings.{truth_after}
+use Rattle.ps_tokens.specs.Misfits.{misfit_of, earlier, unless}
+use Rattle.ps_tokens.specs.Values.{value_at}
+use Rattle.trap_params.specs.Settings.{boolean_after}
 use Rattle.colorant_details.specs.Details.{details_of}
 use Rattle.job_reader.specs.declared.state.State.{State}
 use Rattle.job_reader.specs.Operands.{number_at}
@@ -28,9 +29,13 @@ is_array (Operator name) = false
 is_array Array = true
 is_array Dict = false
 
--- a whole number from 1 to 10,000, in ten-thousandths, as pixels per inch
+-- the finest resolution, in pixels per inch
+abbrev pub finest_resolution : ℕ
+finest_resolution = 10000
+
+-- a whole number of pixels per inch, from 1 to the finest resolution, out of ten-thousandths
 abbrev pub pixels_in : ℤ → Option ℕ
-pixels_in (pos n) = if (n % 10000 == 0) && nat_le 10000 n && nat_le n 100000000 then Some (n / 10000) else None
+pixels_in (pos n) = if (n % 10000 == 0) && nat_le 10000 n && nat_le n (10000 * finest_resolution) then Some (n / 10000) else None
 pixels_in (negsuc n) = None
 
 -- the same, where there is a number
@@ -47,20 +52,13 @@ equal_pixels (Some x) (Some y) = if x == y then Ok x else Err BadResolution
 -- the resolution that an object at a place is: an array of two equal whole numbers
 abbrev pub resolution_in : List Object → ℕ → Object → Result ℕ FaultKind
 resolution_in objects place object =
-    if is_array object.body && (object.inside == 2) then equal_pixels (pixels_of (number_at objects (place + 1))) (pixels_of (number_at objects (place + 2)))
-    else Err BadResolution
-
-abbrev pub resolution_by : List Object → ℕ → ℕ → Option Object → Result ℕ Misfit
-resolution_by objects now place None = Ok now
-resolution_by objects now place (Some object) = judged_at place object.at (resolution_in objects place object)
-
-abbrev pub resolution_at : List Object → ℕ → Option ℕ → Result ℕ Misfit
-resolution_at objects now None = Ok now
-resolution_at objects now (Some place) = resolution_by objects now place (slice_get objects place)
+    let x = pixels_of (number_at objects (place + 1)) in
+    let y = pixels_of (number_at objects (place + 2)) in
+    if is_array object.body && (object.inside == 2) then equal_pixels x y else Err BadResolution
 
 -- the resolution after a dictionary: that of the last HWResolution entry, or the one now
 unfoldable pub resolution_after : List Object → ℕ → ℕ → Result ℕ Misfit
-resolution_after objects dict now = resolution_at objects now (last_of objects dict (codes "HWResolution"))
+resolution_after objects dict now = value_at (resolution_in objects) objects now (last_of objects dict (codes "HWResolution"))
 
 -- details that are named at a place
 abbrev pub named_details : ℕ → Result (List Ink) JobFault → Result (Option (List Ink)) Misfit
@@ -92,4 +90,7 @@ device_from resolution trapping details now =
     })
 
 abbrev pub device_set : List Object → ℕ → State → Result State JobFault
-device_set objects dict now = device_from (resolution_after objects dict now.resolution) (truth_after objects dict Trapping now.trapping) (details_in objects dict) now
+device_set objects dict now =
+    let resolution = resolution_after objects dict now.resolution in
+    let trapping = boolean_after objects dict Trapping now.trapping in
+    device_from resolution trapping (details_in objects dict) now

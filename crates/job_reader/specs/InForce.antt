@@ -5,32 +5,32 @@ use Rattle.std.specs.Result.{result_unwrap_or}
 use Rattle.page_model.specs.declared.parts.Ink.{Ink}
 use Rattle.page_model.specs.declared.parts.Limit.{Limit}
 use Rattle.page_model.specs.declared.parts.TrapParams.{TrapParams}
-use Rattle.ps_tokens.specs.declared.faults.FaultKind.TheVariants.{AfterShowpage, UnknownOperator}
+use Rattle.ps_tokens.specs.declared.faults.FaultKind.TheVariants.{UnknownOperator}
 use Rattle.ps_tokens.specs.declared.faults.JobFault.{JobFault}
 use Rattle.ps_tokens.specs.declared.faults.Key.{Key}
 use Rattle.ps_tokens.specs.declared.faults.Key.TheVariants.{TrapWidth, BlackWidth, BlackColorLimit, BlackDensityLimit, StepLimit, SlidingTrapLimit, TrapColorScaling, Enabled, Trapping}
 use Rattle.ps_tokens.specs.declared.object.Object.{Object}
 use Rattle.ps_tokens.specs.Dictionaries.{last_of}
+use Rattle.ps_tokens.specs.Values.{by_body, value_at, place_of_value}
 use Rattle.trap_params.specs.Limits.{limits_at}
 use Rattle.trap_params.specs.Parameters.{name_of}
-use Rattle.trap_params.specs.Settings.{number_of, truth_of, set_at}
+use Rattle.trap_params.specs.Settings.{number_of, boolean_of}
 use Rattle.job_reader.specs.declared.operators.Operator.{Operator}
 use Rattle.job_reader.specs.declared.operators.Operator.TheVariants.{SetPageDevice, SetTrapParams, NewPath, ClosePath, MoveTo, LineTo, RelativeMoveTo, RelativeLineTo, SetTrapZone, ShowPage}
 use Rattle.job_reader.specs.declared.state.State.{State}
 use Rattle.job_reader.specs.Calls.{Statement, is_showpage}
-use Rattle.job_reader.specs.Device.{resolution_at, details_at, details_or}
+use Rattle.job_reader.specs.Device.{resolution_in, details_at, details_or}
 use Rattle.job_reader.specs.Starts.{usual_params}
-use Rattle.job_reader.specs.Statements.{fault, performed}
+use Rattle.job_reader.specs.Statements.{fault, state_after}
 
 -- Statements that are performed.
 
--- what a statement leaves in force; `showpage` ends the job, and no statement goes on behind it
+-- what a statement leaves in force, if it does not end the job
 abbrev pub after_one : List Object → Statement → Option Operator → State → Result State JobFault
 after_one objects s None now = fault UnknownOperator s.call.at
-after_one objects s (Some operator) now =
-    if is_showpage operator then fault AfterShowpage s.call.at
-    else performed objects s.from s.place s.call.at operator now
+after_one objects s (Some operator) now = state_after objects s.from s.place s.call.at operator now
 
+-- what follows a statement without a fault
 abbrev pub going_on : Result State JobFault → (State → Result State JobFault) → Result State JobFault
 going_on (Ok now) rest = rest now
 going_on (Err first) rest = Err first
@@ -39,6 +39,15 @@ going_on (Err first) rest = Err first
 unfoldable pub after_all : List Object → State → List Statement → Result State JobFault
 after_all objects now [] = Ok now
 after_all objects now (s ∷ ss) = going_on (after_one objects s s.call.operator now) (λ next. after_all objects next ss)
+
+-- whether a statement's operator passes a test
+abbrev pub is_by : (Operator → Bool) → Option Operator → Bool
+is_by test None = false
+is_by test (Some operator) = test operator
+
+-- none of these statements is `showpage`
+abbrev pub NoneShows : List Statement → Type 0
+NoneShows statements = All (λ (s : Statement). is_by is_showpage s.call.operator ≡ false) statements
 
 -- Statements that name an entry.
 
@@ -68,24 +77,9 @@ is_settrapparams RelativeLineTo = false
 is_settrapparams SetTrapZone = false
 is_settrapparams ShowPage = false
 
--- whether a statement's operator passes a test
-abbrev pub is_by : (Operator → Bool) → Option Operator → Bool
-is_by test None = false
-is_by test (Some operator) = test operator
-
--- a place, where an object stands there
-abbrev pub standing : ℕ → Option Object → Option ℕ
-standing place None = None
-standing place (Some object) = Some place
-
--- the place of a value that stands there
-abbrev pub held : List Object → Option ℕ → Option ℕ
-held objects None = None
-held objects (Some place) = standing place (slice_get objects place)
-
 -- where the value of a dictionary's last entry of a key stands; an entry without a value names nothing
 abbrev pub value_of : List ℕ → List Object → ℕ → Option ℕ
-value_of key objects dict = held objects (last_of objects dict key)
+value_of key objects dict = place_of_value objects (last_of objects dict key)
 
 -- where the value stands that a statement names, if it is one of these operators and names it
 abbrev pub named_by : (Operator → Bool) → (ℕ → Option ℕ) → Statement → Option ℕ
@@ -99,23 +93,33 @@ last_naming test look earlier = last_or None (filter_map (named_by test look) ea
 
 -- the resolution that the last `setpagedevice` with HWResolution names, else 0
 abbrev pub resolution_in_force : List Object → List Statement → ℕ
-resolution_in_force objects earlier = result_unwrap_or (resolution_at objects 0 (last_naming is_setpagedevice (value_of (codes "HWResolution") objects) earlier)) 0
+resolution_in_force objects earlier =
+    let named = last_naming is_setpagedevice (value_of (codes "HWResolution") objects) earlier in
+    result_unwrap_or (value_at (resolution_in objects) objects 0 named) 0
 
--- the truth that the last `setpagedevice` with Trapping names, else true
+-- the boolean that the last `setpagedevice` with Trapping names, else true
 abbrev pub trapping_in_force : List Object → List Statement → Bool
-trapping_in_force objects earlier = result_unwrap_or (set_at (truth_of Trapping) objects true (last_naming is_setpagedevice (value_of (name_of Trapping) objects) earlier)) true
+trapping_in_force objects earlier =
+    let named = last_naming is_setpagedevice (value_of (name_of Trapping) objects) earlier in
+    result_unwrap_or (value_at (by_body (boolean_of Trapping)) objects true named) true
 
 -- the inks that the last `setpagedevice` with TrappingDetails names, else none
 abbrev pub details_in_force : List Object → List Statement → List Ink
-details_in_force objects earlier = details_or (details_at objects (last_naming is_setpagedevice (λ dict. last_of objects dict (codes "TrappingDetails")) earlier)) []
+details_in_force objects earlier =
+    let look = λ (dict : ℕ). last_of objects dict (codes "TrappingDetails") in
+    details_or (details_at objects (last_naming is_setpagedevice look earlier)) []
 
 -- the number that the last `settrapparams` with a key names, else a default
 abbrev pub number_in_force : List Object → List Statement → Key → ℕ → ℕ
-number_in_force objects earlier key default = result_unwrap_or (set_at (number_of key) objects default (last_naming is_settrapparams (value_of (name_of key) objects) earlier)) default
+number_in_force objects earlier key default =
+    let named = last_naming is_settrapparams (value_of (name_of key) objects) earlier in
+    result_unwrap_or (value_at (by_body (number_of key)) objects default named) default
 
--- the truth that the last `settrapparams` with a key names, else a default
-abbrev pub truth_in_force : List Object → List Statement → Key → Bool → Bool
-truth_in_force objects earlier key default = result_unwrap_or (set_at (truth_of key) objects default (last_naming is_settrapparams (value_of (name_of key) objects) earlier)) default
+-- the boolean that the last `settrapparams` with a key names, else a default
+abbrev pub boolean_in_force : List Object → List Statement → Key → Bool → Bool
+boolean_in_force objects earlier key default =
+    let named = last_naming is_settrapparams (value_of (name_of key) objects) earlier in
+    result_unwrap_or (value_at (by_body (boolean_of key)) objects default named) default
 
 -- each parameter by itself, else the usual one
 abbrev pub params_in_force : List Object → List Statement → TrapParams
@@ -127,12 +131,14 @@ params_in_force objects earlier = record {
   step_limit = number_in_force objects earlier StepLimit usual_params.step_limit;
   sliding_trap_limit = number_in_force objects earlier SlidingTrapLimit usual_params.sliding_trap_limit;
   trap_color_scaling = number_in_force objects earlier TrapColorScaling usual_params.trap_color_scaling;
-  enabled = truth_in_force objects earlier Enabled usual_params.enabled;
+  enabled = boolean_in_force objects earlier Enabled usual_params.enabled;
 }
 
 -- the step limits that the last `settrapparams` with ColorantZoneDetails names, else none
 abbrev pub limits_in_force : List Object → List Statement → List Limit
-limits_in_force objects earlier = result_unwrap_or (limits_at [] objects (last_naming is_settrapparams (λ dict. last_of objects dict (codes "ColorantZoneDetails")) earlier)) []
+limits_in_force objects earlier =
+    let look = λ (dict : ℕ). last_of objects dict (codes "ColorantZoneDetails") in
+    result_unwrap_or (limits_at [] objects (last_naming is_settrapparams look earlier)) []
 
 -- Statements that name nothing.
 

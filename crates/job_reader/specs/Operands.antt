@@ -3,7 +3,7 @@ use Rattle.std.specs.Prelude.{ℕ, ℤ, Bool, false, List, Option, Some, None, s
 use Rattle.ps_tokens.specs.declared.object.Body.{Body}
 use Rattle.ps_tokens.specs.declared.object.Body.TheVariants.{Number, Truth, Null, Text, Literal, Operator, Array, Dict}
 use Rattle.ps_tokens.specs.declared.object.Object.{Object}
-use Rattle.colorant_details.specs.Shades.{is_dict}
+use Rattle.ps_tokens.specs.Objects.{is_dict}
 
 -- whether an object is a dictionary that ends before this place, where it stands at another
 abbrev pub is_dict_between : ℕ → ℕ → Option Object → Bool

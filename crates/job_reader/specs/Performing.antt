@@ -22,9 +22,9 @@ MayReplace (Ok (Some limits)) now meant = meant ≡ Ok limits
 MayReplace (Err refusal) now meant = Fails refusal meant
 
 -- a path's refusal at its operator
-abbrev pub placed : PathRefusal → ℕ → JobRefusal
-placed (paths.Fault kind) at = refusals.Fault (record { kind = kind; at = at })
-placed paths.OutOfMemory at = refusals.OutOfMemory
+abbrev pub refusal_at : PathRefusal → ℕ → JobRefusal
+refusal_at (paths.Fault kind) at = refusals.Fault (record { kind = kind; at = at })
+refusal_at paths.OutOfMemory at = refusals.OutOfMemory
 
 -- the refusal of wrong operands at their operator
 abbrev pub wrong_operands : ℕ → JobRefusal

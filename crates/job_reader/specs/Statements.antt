@@ -7,10 +7,12 @@ use Rattle.ps_tokens.specs.declared.faults.FaultKind.{FaultKind}
 use Rattle.ps_tokens.specs.declared.faults.FaultKind.TheVariants.{WrongOperands, TooManyVertices, TooManyZones, NoPageDevice, AfterShowpage}
 use Rattle.ps_tokens.specs.declared.faults.JobFault.{JobFault}
 use Rattle.ps_tokens.specs.declared.object.Object.{Object}
-use Rattle.trap_params.specs.Applied.{applied}
+use Rattle.trap_params.specs.Applied.{params_after}
 use Rattle.trap_params.specs.Limits.{limits_after}
 use Rattle.zone_paths.specs.Paths.{Drawing, nothing_drawn, moveto, lineto, rmoveto, rlineto, closepath}
 use Rattle.job_reader.specs.declared.job.Job.{Job}
+use Rattle.job_reader.specs.declared.drawing.Stroke.{Stroke}
+use Rattle.job_reader.specs.declared.drawing.Stroke.TheVariants as strokes
 use Rattle.job_reader.specs.declared.operators.Operator.{Operator}
 use Rattle.job_reader.specs.declared.operators.Operator.TheVariants.{SetPageDevice, SetTrapParams, NewPath, ClosePath, MoveTo, LineTo, RelativeMoveTo, RelativeLineTo, SetTrapZone, ShowPage}
 use Rattle.job_reader.specs.declared.state.State.{State}
@@ -30,17 +32,32 @@ both_set (Err first) (Err second) now = Err (if nat_lt second.at first.at then s
 
 -- `dict settrapparams`
 abbrev pub params_set : List Object → ℕ → State → Result State JobFault
-params_set objects dict now = both_set (applied now.params objects dict) (limits_after now.limits objects dict) now
+params_set objects dict now = both_set (params_after now.params objects dict) (limits_after now.limits objects dict) now
 
 -- a path statement at an offset
-abbrev pub drawn : ℕ → State → Result Drawing FaultKind → Result State JobFault
-drawn at now (Ok path) = Ok (record now { path = path })
-drawn at now (Err kind) = fault kind at
+abbrev pub path_drawn : ℕ → State → Result Drawing FaultKind → Result State JobFault
+path_drawn at now (Ok path) = Ok (record now { path = path })
+path_drawn at now (Err kind) = fault kind at
+
+-- what a stroke with two numbers draws on a path
+abbrev pub stroke_on : Stroke → ℤ → ℤ → Drawing → Result Drawing FaultKind
+stroke_on strokes.MoveTo x y path = moveto x y path
+stroke_on strokes.LineTo x y path = lineto x y path
+stroke_on strokes.RelativeMoveTo x y path = rmoveto x y path
+stroke_on strokes.RelativeLineTo x y path = rlineto x y path
 
 -- with two numbers as operands
 abbrev pub with_numbers : ℕ → Option (ℤ × ℤ) → (ℤ → ℤ → Result State JobFault) → Result State JobFault
 with_numbers at None draw = fault WrongOperands at
 with_numbers at (Some p) draw = draw p.0 p.1
+
+-- how many zones a job may make
+abbrev pub most_zones : ℕ
+most_zones = 250
+
+-- how many vertices all zones of a job may have together
+abbrev pub most_vertices : ℕ
+most_vertices = 16384
 
 -- the zone that `settrapzone` makes
 abbrev pub zone_of : State → Zone
@@ -49,26 +66,26 @@ zone_of now = record { params = now.params; path = now.path.vertices; limits = n
 -- `settrapzone` at an offset: at most 250 zones, with at most 16,384 vertices together; the path is then empty
 abbrev pub zone_made : ℕ → State → Result State JobFault
 zone_made at now =
-    if nat_le 250 (length now.zones) then fault TooManyZones at
-    else (if nat_lt 16384 (now.vertices + length now.path.vertices) then fault TooManyVertices at
+    if nat_le most_zones (length now.zones) then fault TooManyZones at
+    else (if nat_lt most_vertices (now.vertices + length now.path.vertices) then fault TooManyVertices at
     else Ok (record now { zones = now.zones ++ zone_of now ∷ []; path = nothing_drawn; vertices = now.vertices + length now.path.vertices }))
 
 -- a statement other than `showpage`: its operands stand from one place to another, and its operator at an offset
-unfoldable pub performed : List Object → ℕ → ℕ → ℕ → Operator → State → Result State JobFault
-performed objects from place at SetPageDevice now = if is_one_dict objects from place then device_set objects from now else fault WrongOperands at
-performed objects from place at SetTrapParams now = if is_one_dict objects from place then params_set objects from now else fault WrongOperands at
-performed objects from place at NewPath now = if from == place then Ok (record now { path = nothing_drawn }) else fault WrongOperands at
-performed objects from place at ClosePath now = if from == place then Ok (record now { path = closepath now.path }) else fault WrongOperands at
-performed objects from place at MoveTo now = with_numbers at (two_numbers objects from place) (λ x y. drawn at now (moveto x y now.path))
-performed objects from place at LineTo now = with_numbers at (two_numbers objects from place) (λ x y. drawn at now (lineto x y now.path))
-performed objects from place at RelativeMoveTo now = with_numbers at (two_numbers objects from place) (λ x y. drawn at now (rmoveto x y now.path))
-performed objects from place at RelativeLineTo now = with_numbers at (two_numbers objects from place) (λ x y. drawn at now (rlineto x y now.path))
-performed objects from place at SetTrapZone now = if from == place then zone_made at now else fault WrongOperands at
-performed objects from place at ShowPage now = Ok now
+unfoldable pub state_after : List Object → ℕ → ℕ → ℕ → Operator → State → Result State JobFault
+state_after objects from place at SetPageDevice now = if is_one_dict objects from place then device_set objects from now else fault WrongOperands at
+state_after objects from place at SetTrapParams now = if is_one_dict objects from place then params_set objects from now else fault WrongOperands at
+state_after objects from place at NewPath now = if from == place then Ok (record now { path = nothing_drawn }) else fault WrongOperands at
+state_after objects from place at ClosePath now = if from == place then Ok (record now { path = closepath now.path }) else fault WrongOperands at
+state_after objects from place at MoveTo now = with_numbers at (two_numbers objects from place) (λ x y. path_drawn at now (moveto x y now.path))
+state_after objects from place at LineTo now = with_numbers at (two_numbers objects from place) (λ x y. path_drawn at now (lineto x y now.path))
+state_after objects from place at RelativeMoveTo now = with_numbers at (two_numbers objects from place) (λ x y. path_drawn at now (rmoveto x y now.path))
+state_after objects from place at RelativeLineTo now = with_numbers at (two_numbers objects from place) (λ x y. path_drawn at now (rlineto x y now.path))
+state_after objects from place at SetTrapZone now = if from == place then zone_made at now else fault WrongOperands at
+state_after objects from place at ShowPage now = Ok now
 
 -- a zone as it is where Trapping is true or false
-abbrev pub switched : Bool → Zone → Zone
-switched trapping zone = record zone { params = record zone.params { enabled = zone.params.enabled && trapping } }
+abbrev pub under_trapping : Bool → Zone → Zone
+under_trapping trapping zone = record zone { params = record zone.params { enabled = zone.params.enabled && trapping } }
 
 -- zone 0 covers what no zone does, and is enabled only where there is no other
 abbrev pub zone_0 : State → Zone
@@ -80,7 +97,7 @@ zone_0 now = record {
 
 -- the job at `showpage`
 abbrev pub job_at : State → Job
-job_at now = record { resolution = now.resolution; zones = zone_0 now ∷ map (switched now.trapping) now.zones; details = now.details }
+job_at now = record { resolution = now.resolution; zones = zone_0 now ∷ map (under_trapping now.trapping) now.zones; details = now.details }
 
 -- whether a page of this job wants a resolution: a zone was made, or zone 0 is enabled
 abbrev pub wants_device : State → Bool
@@ -103,5 +120,5 @@ job_unless None job = Ok job
 job_unless (Some first) job = Err first
 
 -- `showpage`
-abbrev pub shown : List Object → ℕ → ℕ → ℕ → State → Result Job JobFault
-shown objects from place at now = job_unless (shown_fault objects from place at now) (job_at now)
+abbrev pub job_shown : List Object → ℕ → ℕ → ℕ → State → Result Job JobFault
+job_shown objects from place at now = job_unless (shown_fault objects from place at now) (job_at now)

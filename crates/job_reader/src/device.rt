@@ -9,11 +9,14 @@ use crate::state::State;
 use colorant_details::inks;
 use page_model::parts::{DetailList, OutOfMemory};
 use ps_tokens::faults::{FaultKind, JobFault, JobRefusal, Key};
-use ps_tokens::last;
-use ps_tokens::misfits::{Misfit, earlier};
+use ps_tokens::misfits::{Misfit, earlier, judged_at};
 use ps_tokens::object::{Body, Object, ObjectList};
+use ps_tokens::{last, last_value};
 use std::alloc::Global;
-use trap_params::settings::truth_after;
+use trap_params::settings::boolean_after;
+
+/// The finest resolution, in pixels per inch.
+const FINEST_RESOLUTION: u64 = 10_000;
 
 /// What a `setpagedevice` dictionary at a place sets: those of HWResolution, Trapping and TrappingDetails that it names.
 ///
@@ -28,7 +31,7 @@ pub fn set_page_device(
     ensures { Performs result state.new (device_set objects.now dict state.old) }
 {
     let resolution = resolution_after(objects, dict, state.resolution);
-    let trapping = truth_after(objects, dict, Key::Trapping, state.trapping);
+    let trapping = boolean_after(objects, dict, Key::Trapping, state.trapping);
     match details_in(alloc, objects, dict) {
         Ok(details) => set_from(resolution, trapping, details, state),
         Err(OutOfMemory) => Err(JobRefusal::OutOfMemory),
@@ -70,21 +73,12 @@ fn resolution_after(objects: &ObjectList, dict: u32, now: u32) -> Result<u32, Mi
     requires { AreObjects objects.now }
     ensures { result ≡ resolution_after objects.now dict now }
 {
-    let Some(place) = last(objects, dict, b"HWResolution") else {
-        return Ok(now);
-    };
-    let Some(object) = objects.get(place as usize) else {
-        return Ok(now);
-    };
-    match resolution_in(objects.as_slice(), place, object) {
-        Ok(resolution) => Ok(resolution),
-        Err(kind) => Err(Misfit {
-            place,
-            fault: JobFault {
-                kind,
-                at: object.at,
-            },
-        }),
+    match last_value(objects, dict, b"HWResolution") {
+        Some((place, object)) => {
+            let resolution = resolution_in(objects.as_slice(), place, object);
+            judged_at(place, object.at, resolution)
+        }
+        None => Ok(now),
     }
 }
 
@@ -116,7 +110,7 @@ fn resolution_in(objects: &[Object], place: u32, object: &Object) -> Result<u32,
     }
 }
 
-// A whole number from 1 to 10,000.
+// A whole number from 1 to the finest resolution.
 fn pixels_of(number: Option<i64>) -> Option<u32>
     ensures { result ≡ pixels_of number }
 {
@@ -126,7 +120,7 @@ fn pixels_of(number: Option<i64>) -> Option<u32>
                 return None;
             }
             let size = number.unsigned_abs();
-            if size % 10_000 == 0 && size >= 10_000 && size <= 100_000_000 {
+            if size % 10_000 == 0 && size >= 10_000 && size <= 10_000 * FINEST_RESOLUTION {
                 Some((size / 10_000) as u32)
             } else {
                 None

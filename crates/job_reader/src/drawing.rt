@@ -1,16 +1,27 @@
 ghost use Rattle.std.specs.Prelude.{◌≡◌, ◌<◌, ◌^◌};
-ghost use Rattle.job_reader.specs.declared.operators.Operator.TheVariants.{NewPath, ClosePath, MoveTo, LineTo, RelativeMoveTo, RelativeLineTo};
-ghost use Rattle.job_reader.specs.Performing.{Performs, placed};
-ghost use Rattle.job_reader.specs.Statements.{performed};
+ghost use Rattle.zone_paths.specs.Refusals.{Draws};
+ghost use Rattle.job_reader.specs.declared.operators.Operator.TheVariants.{NewPath, ClosePath};
+ghost use Rattle.job_reader.specs.Operands.{two_numbers};
+ghost use Rattle.job_reader.specs.Performing.{Performs, refusal_at};
+ghost use Rattle.job_reader.specs.Statements.{path_drawn, state_after, stroke_on, with_numbers};
 
 use crate::operands::{two_numbers, wrong_operands};
 use crate::state::State;
 use ps_tokens::faults::{JobFault, JobRefusal};
 use ps_tokens::object::Object;
-use zone_paths::path::PathRefusal;
+use zone_paths::path::{Path, PathRefusal};
+
+/// A path statement with two numbers.
+#[derive(Clone, Copy, Debug, Drop, PartialEq, Eq)]
+pub enum Stroke {
+    MoveTo,
+    LineTo,
+    RelativeMoveTo,
+    RelativeLineTo,
+}
 
 /// `newpath`: the path is empty. It takes no operand.
-#[tactic(auto, unfolding(crate::specs::Statements::performed))]
+#[tactic(auto, unfolding(crate::specs::Statements::state_after))]
 pub fn new_path(
     objects: &[Object],
     from: u32,
@@ -18,7 +29,7 @@ pub fn new_path(
     at: u32,
     state: &mut State,
 ) -> Result<(), JobRefusal>
-    ensures { Performs result state.new (performed objects.now from place at NewPath state.old) }
+    ensures { Performs result state.new (state_after objects.now from place at NewPath state.old) }
 {
     if from != place {
         return Err(wrong_operands(at));
@@ -28,7 +39,7 @@ pub fn new_path(
 }
 
 /// `closepath`: the subpath is closed, and its first point is the current one. It takes no operand.
-#[tactic(auto, unfolding(crate::specs::Statements::performed))]
+#[tactic(auto, unfolding(crate::specs::Statements::state_after))]
 pub fn close_path(
     objects: &[Object],
     from: u32,
@@ -36,7 +47,8 @@ pub fn close_path(
     at: u32,
     state: &mut State,
 ) -> Result<(), JobRefusal>
-    ensures { Performs result state.new (performed objects.now from place at ClosePath state.old) }
+    ensures { Performs result state.new
+        (state_after objects.now from place at ClosePath state.old) }
 {
     if from != place {
         return Err(wrong_operands(at));
@@ -45,93 +57,45 @@ pub fn close_path(
     Ok(())
 }
 
-/// `x y moveto`: a subpath begins at a point.
-#[tactic(auto, unfolding(crate::specs::Statements::performed))]
-pub fn move_to(
+/// A stroke with the two numbers that are its operands: to a point, or so far from the current point.
+pub fn draw(
     objects: &[Object],
     from: u32,
     place: u32,
     at: u32,
+    stroke: Stroke,
     state: &mut State,
 ) -> Result<(), JobRefusal>
     requires { from < 2 ^ 31 }
-    ensures { Performs result state.new (performed objects.now from place at MoveTo state.old) }
+    ensures { let numbers = two_numbers objects.now from place in
+        let old = state.old in
+        Performs result state.new
+        (with_numbers at numbers (λ x y. path_drawn at old (stroke_on stroke x y old.path))) }
 {
     let Some((x, y)) = two_numbers(objects, from, place) else {
         return Err(wrong_operands(at));
     };
-    match state.path.moveto(x, y) {
+    match stroke_on(stroke, x, y, &mut state.path) {
         Ok(()) => Ok(()),
-        Err(refusal) => Err(placed(refusal, at)),
+        Err(refusal) => Err(refusal_at(refusal, at)),
     }
 }
 
-/// `x y lineto`: a line to a point.
-#[tactic(auto, unfolding(crate::specs::Statements::performed))]
-pub fn line_to(
-    objects: &[Object],
-    from: u32,
-    place: u32,
-    at: u32,
-    state: &mut State,
-) -> Result<(), JobRefusal>
-    requires { from < 2 ^ 31 }
-    ensures { Performs result state.new (performed objects.now from place at LineTo state.old) }
+// What a stroke draws on a path.
+fn stroke_on(stroke: Stroke, x: i64, y: i64, path: &mut Path) -> Result<(), PathRefusal>
+    ensures { Draws result path.old path.new (stroke_on stroke x y path.old) }
 {
-    let Some((x, y)) = two_numbers(objects, from, place) else {
-        return Err(wrong_operands(at));
-    };
-    match state.path.lineto(x, y) {
-        Ok(()) => Ok(()),
-        Err(refusal) => Err(placed(refusal, at)),
-    }
-}
-
-/// `dx dy rmoveto`: a subpath begins so far from the current point.
-#[tactic(auto, unfolding(crate::specs::Statements::performed))]
-pub fn move_by(
-    objects: &[Object],
-    from: u32,
-    place: u32,
-    at: u32,
-    state: &mut State,
-) -> Result<(), JobRefusal>
-    requires { from < 2 ^ 31 }
-    ensures { Performs result state.new (performed objects.now from place at RelativeMoveTo state.old) }
-{
-    let Some((dx, dy)) = two_numbers(objects, from, place) else {
-        return Err(wrong_operands(at));
-    };
-    match state.path.rmoveto(dx, dy) {
-        Ok(()) => Ok(()),
-        Err(refusal) => Err(placed(refusal, at)),
-    }
-}
-
-/// `dx dy rlineto`: a line so far from the current point.
-#[tactic(auto, unfolding(crate::specs::Statements::performed))]
-pub fn line_by(
-    objects: &[Object],
-    from: u32,
-    place: u32,
-    at: u32,
-    state: &mut State,
-) -> Result<(), JobRefusal>
-    requires { from < 2 ^ 31 }
-    ensures { Performs result state.new (performed objects.now from place at RelativeLineTo state.old) }
-{
-    let Some((dx, dy)) = two_numbers(objects, from, place) else {
-        return Err(wrong_operands(at));
-    };
-    match state.path.rlineto(dx, dy) {
-        Ok(()) => Ok(()),
-        Err(refusal) => Err(placed(refusal, at)),
+    match stroke {
+        Stroke::MoveTo => path.moveto(x, y),
+        Stroke::LineTo => path.lineto(x, y),
+        Stroke::RelativeMoveTo => path.rmoveto(x, y),
+        Stroke::RelativeLineTo => path.rlineto(x, y),
     }
 }
 
 // A path's refusal at its operator.
-fn placed(refusal: PathRefusal, at: u32) -> JobRefusal
-    ensures { result ≡ placed refusal at }
+fn refusal_at(refusal: PathRefusal, at: u32) -> JobRefusal
+    ensures { result ≡ refusal_at refusal at }
 {
     match refusal {
         PathRefusal::Fault(kind) => JobRefusal::Fault(JobFault { kind, at }),

@@ -1,56 +1,65 @@
 //! Laws of the definitions: each is the contract of a function that does nothing.
 
-ghost use Rattle.std.specs.Prelude.{◌≡◌, ◌≢◌, ◌++◌, ℕ, List, Result, Ok, Err, slice_get, true};
-ghost use Rattle.ps_tokens.specs.declared.faults.JobRefusal.{JobRefusal};
-ghost use Rattle.ps_tokens.specs.declared.faults.JobRefusal.TheVariants.{OutOfMemory};
+ghost use Rattle.std.specs.Prelude.{◌≡◌, ◌++◌, ℕ, List, Ok, slice_get, true};
 ghost use Rattle.ps_tokens.specs.declared.object.Object.{Object};
 ghost use Rattle.ps_tokens.specs.Dictionaries.{inside_of};
-ghost use Rattle.ps_tokens.specs.Tokens.{Gives};
 ghost use Rattle.job_reader.specs.declared.job.Job.{Job};
 ghost use Rattle.job_reader.specs.declared.operators.Operator.TheVariants.{SetPageDevice, SetTrapParams};
 ghost use Rattle.job_reader.specs.declared.state.State.{State};
 ghost use Rattle.job_reader.specs.Calls.{Statement};
-ghost use Rattle.job_reader.specs.InForce.{after_all, resolution_in_force, trapping_in_force, details_in_force, params_in_force, limits_in_force, NamesNone, device_keys, params_keys};
+ghost use Rattle.job_reader.specs.InForce.{NoneShows, after_all, resolution_in_force, trapping_in_force, details_in_force, params_in_force, limits_in_force, NamesNone, device_keys, params_keys};
 ghost use Rattle.job_reader.specs.InRange.{IsJob};
 ghost use Rattle.job_reader.specs.Jobs.{job_of, read_from};
 ghost use Rattle.job_reader.specs.Operands.{is_one_dict};
 ghost use Rattle.job_reader.specs.Starts.{nothing_read};
-ghost use Rattle.job_reader.specs.Statements.{performed};
+ghost use Rattle.job_reader.specs.Statements.{state_after};
 
 /// Each job that bytes spell is in range.
 pub fn read_jobs_are_in_range()
     ensures { (bytes : List ℕ) (job : Job) → job_of bytes ≡ Ok job → IsJob job }
 {}
 
-/// However a job's statements are cut in two, the later ones go on with what the earlier ones left in force.
+/// However a job's statements are cut in two before its first `showpage`, the later ones go on with what the earlier ones
+/// left in force.
 pub fn statements_go_on()
-    ensures { (objects : List Object) (len : ℕ) (earlier later : List Statement) (now next : State) → after_all objects now earlier ≡ Ok next
+    ensures { (objects : List Object) (len : ℕ) (earlier later : List Statement) (now next : State)
+        → NoneShows earlier → after_all objects now earlier ≡ Ok next
         → read_from objects len now (earlier ++ later) ≡ read_from objects len next later }
 {}
 
 /// Behind statements without a fault the page's entries are those of the last earlier `setpagedevice` that names them.
 pub fn page_device_is_of_the_last_that_names_it()
-    ensures resolution { (objects : List Object) (earlier : List Statement) (now : State) → after_all objects nothing_read earlier ≡ Ok now → now.resolution ≡ resolution_in_force objects earlier }
-    ensures trapping { (objects : List Object) (earlier : List Statement) (now : State) → after_all objects nothing_read earlier ≡ Ok now → now.trapping ≡ trapping_in_force objects earlier }
-    ensures details { (objects : List Object) (earlier : List Statement) (now : State) → after_all objects nothing_read earlier ≡ Ok now → now.details ≡ details_in_force objects earlier }
+    ensures resolution { (objects : List Object) (earlier : List Statement) (now : State)
+        → after_all objects nothing_read earlier ≡ Ok now
+        → now.resolution ≡ resolution_in_force objects earlier }
+    ensures trapping { (objects : List Object) (earlier : List Statement) (now : State)
+        → after_all objects nothing_read earlier ≡ Ok now
+        → now.trapping ≡ trapping_in_force objects earlier }
+    ensures details { (objects : List Object) (earlier : List Statement) (now : State)
+        → after_all objects nothing_read earlier ≡ Ok now
+        → now.details ≡ details_in_force objects earlier }
 {}
 
 /// Behind statements without a fault each parameter, and the step limits, are those of the last earlier `settrapparams`
 /// that names them.
 pub fn trap_params_are_of_the_last_that_names_them()
-    ensures params { (objects : List Object) (earlier : List Statement) (now : State) → after_all objects nothing_read earlier ≡ Ok now → now.params ≡ params_in_force objects earlier }
-    ensures limits { (objects : List Object) (earlier : List Statement) (now : State) → after_all objects nothing_read earlier ≡ Ok now → now.limits ≡ limits_in_force objects earlier }
+    ensures params { (objects : List Object) (earlier : List Statement) (now : State)
+        → after_all objects nothing_read earlier ≡ Ok now
+        → now.params ≡ params_in_force objects earlier }
+    ensures limits { (objects : List Object) (earlier : List Statement) (now : State)
+        → after_all objects nothing_read earlier ≡ Ok now
+        → now.limits ≡ limits_in_force objects earlier }
 {}
 
 /// A dictionary that names none of the keys that its operator knows leaves all in force as it was, and an empty one names
 /// no key at all.
 pub fn what_names_nothing_changes_nothing()
-    ensures page_device { (objects : List Object) (from place at : ℕ) (now : State) → is_one_dict objects from place ≡ true → NamesNone objects from device_keys → performed objects from place at SetPageDevice now ≡ Ok now }
-    ensures trap_params { (objects : List Object) (from place at : ℕ) (now : State) → is_one_dict objects from place ≡ true → NamesNone objects from params_keys → performed objects from place at SetTrapParams now ≡ Ok now }
-    ensures empty { (objects : List Object) (dict : ℕ) (keys : List (List ℕ)) → inside_of (slice_get objects dict) ≡ 0 → NamesNone objects dict keys }
-{}
-
-/// The answer depends on a job's bytes alone: two calls that do not want for memory give the same.
-pub fn one_answer()
-    ensures { (bytes : List ℕ) (one other : Result Job JobRefusal) → Gives one (job_of bytes) → Gives other (job_of bytes) → one ≢ Err OutOfMemory → other ≢ Err OutOfMemory → one ≡ other }
+    ensures page_device { (objects : List Object) (from place at : ℕ) (now : State)
+        → is_one_dict objects from place ≡ true → NamesNone objects from device_keys
+        → state_after objects from place at SetPageDevice now ≡ Ok now }
+    ensures trap_params { (objects : List Object) (from place at : ℕ) (now : State)
+        → is_one_dict objects from place ≡ true → NamesNone objects from params_keys
+        → state_after objects from place at SetTrapParams now ≡ Ok now }
+    ensures empty { (objects : List Object) (dict : ℕ) (keys : List (List ℕ))
+        → inside_of (slice_get objects dict) ≡ 0 → NamesNone objects dict keys }
 {}

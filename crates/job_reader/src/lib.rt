@@ -13,6 +13,4 @@ mod performing;
 pub mod reader;
 mod showing;
 pub mod state;
-#[cfg(test)]
-mod tests;
 mod zones;

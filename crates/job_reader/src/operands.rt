@@ -2,7 +2,6 @@ ghost use Rattle.std.specs.Prelude.{◌≡◌, ◌<◌, ◌^◌, Some};
 ghost use Rattle.job_reader.specs.Operands.{is_one_dict, is_dict_between, two_numbers, number_at};
 ghost use Rattle.job_reader.specs.Performing.{wrong_operands};
 
-use colorant_details::shades::is_dict;
 use ps_tokens::faults::{FaultKind, JobFault, JobRefusal};
 use ps_tokens::object::{Body, Object};
 
@@ -21,7 +20,7 @@ fn is_dict_between(from: u32, place: u32, object: &Object) -> bool
     ensures { result ≡ is_dict_between from place (Some object.now) }
 {
     let inside = object.inside;
-    is_dict(&object.body) && from as u64 + 1 + inside as u64 == place as u64
+    object.body.is_dict() && from as u64 + 1 + inside as u64 == place as u64
 }
 
 /// The two numbers that are the operands between two places, none where these are not two numbers.

@@ -63,8 +63,10 @@ fn set_params(
     limits: Option<LimitList>,
     state: &mut State,
 ) -> Result<(), JobRefusal>
-    ensures some { IfSome limits (λ ls. Performs result state.new (both_set params (Ok ls) state.old)) }
-    ensures none { IfNone limits (Performs result state.new (both_set params (Ok state.old.limits) state.old)) }
+    ensures some { IfSome limits
+        (λ ls. Performs result state.new (both_set params (Ok ls) state.old)) }
+    ensures none { IfNone limits
+        (Performs result state.new (both_set params (Ok state.old.limits) state.old)) }
 {
     match params {
         Ok(params) => {

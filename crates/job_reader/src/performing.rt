@@ -1,10 +1,10 @@
 ghost use Rattle.std.specs.Prelude.{◌≡◌, ◌<◌, ◌^◌};
 ghost use Rattle.ps_tokens.specs.Dictionaries.{AreObjects};
 ghost use Rattle.job_reader.specs.Performing.{Performs};
-ghost use Rattle.job_reader.specs.Statements.{performed};
+ghost use Rattle.job_reader.specs.Statements.{state_after};
 
 use crate::device::set_page_device;
-use crate::drawing::{close_path, line_by, line_to, move_by, move_to, new_path};
+use crate::drawing::{Stroke, close_path, draw, new_path};
 use crate::operands::{is_one_dict, wrong_operands};
 use crate::operators::Operator;
 use crate::parameters::set_trap_params;
@@ -17,7 +17,7 @@ use std::alloc::Global;
 /// Performs a statement other than `showpage`: its operands stand from one place to another, and its operator at an offset.
 ///
 /// `WrongOperands` where the operands are not exactly the operator's own; then the operator's own faults.
-#[tactic(auto, unfolding(crate::specs::Statements::performed))]
+#[tactic(auto, unfolding(crate::specs::Statements::state_after))]
 pub fn perform(
     alloc: Global,
     objects: &ObjectList,
@@ -29,7 +29,7 @@ pub fn perform(
 ) -> Result<(), JobRefusal>
     requires are { AreObjects objects.now }
     requires small { from < 2 ^ 31 }
-    ensures { Performs result state.new (performed objects.now from place at operator state.old) }
+    ensures { Performs result state.new (state_after objects.now from place at operator state.old) }
 {
     let all = objects.as_slice();
     match operator {
@@ -49,10 +49,10 @@ pub fn perform(
         }
         Operator::NewPath => new_path(all, from, place, at, state),
         Operator::ClosePath => close_path(all, from, place, at, state),
-        Operator::MoveTo => move_to(all, from, place, at, state),
-        Operator::LineTo => line_to(all, from, place, at, state),
-        Operator::RelativeMoveTo => move_by(all, from, place, at, state),
-        Operator::RelativeLineTo => line_by(all, from, place, at, state),
+        Operator::MoveTo => draw(all, from, place, at, Stroke::MoveTo, state),
+        Operator::LineTo => draw(all, from, place, at, Stroke::LineTo, state),
+        Operator::RelativeMoveTo => draw(all, from, place, at, Stroke::RelativeMoveTo, state),
+        Operator::RelativeLineTo => draw(all, from, place, at, Stroke::RelativeLineTo, state),
         Operator::SetTrapZone => {
             if from == place {
                 make_zone(alloc, state, at)

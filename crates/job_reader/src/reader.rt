@@ -1,4 +1,5 @@
 ghost use Rattle.std.specs.Prelude.{◌≡◌, ◌≤◌, Ok, length, IfOk};
+ghost use Rattle.ps_tokens.specs.Limits.{longest_job};
 ghost use Rattle.ps_tokens.specs.Tokens.{Gives, tokens_of};
 ghost use Rattle.ps_tokens.specs.Objects.{objects_of};
 ghost use Rattle.ps_tokens.specs.Dictionaries.{AreObjects};
@@ -14,25 +15,22 @@ use ps_tokens::dictionary::count;
 use ps_tokens::faults::{FaultKind, JobFault, JobRefusal};
 use ps_tokens::object::ObjectList;
 use ps_tokens::token::TokenList;
-use ps_tokens::{objects, tokens};
+use ps_tokens::{LONGEST_JOB, objects, tokens};
 use std::alloc::Global;
-
-/// How many bytes a job may have.
-pub const LONGEST: usize = 1_048_576;
 
 /// The job that bytes spell, in this project's job language.
 ///
-/// A fault is the first of the bytes' tokens, then of the objects, then of the statements. A job of more than 1,048,576
-/// bytes is `JobTooLong`, before all of these.
+/// A fault is the first of the bytes' tokens, then of the objects, then of the statements. A job of more than
+/// `LONGEST_JOB` bytes is `JobTooLong`, before all of these.
 #[tactic(auto, unfolding(crate::specs::Jobs::job_of))]
 pub fn read_job(alloc: Global, bytes: &[u8]) -> Result<Job, JobRefusal>
     ensures given { Gives result (job_of bytes.now) }
     ensures in_range { IfOk result (λ job. IsJob job) }
 {
-    if bytes.len() > LONGEST {
+    if bytes.len() > LONGEST_JOB {
         Err(JobRefusal::Fault(JobFault {
             kind: FaultKind::JobTooLong,
-            at: 1_048_576,
+            at: LONGEST_JOB as u32,
         }))
     } else {
         read_tokens(alloc, bytes)
@@ -41,7 +39,7 @@ pub fn read_job(alloc: Global, bytes: &[u8]) -> Result<Job, JobRefusal>
 
 // The job of bytes that are not too many.
 fn read_tokens(alloc: Global, bytes: &[u8]) -> Result<Job, JobRefusal>
-    requires { length bytes.now ≤ 1048576 }
+    requires { length bytes.now ≤ longest_job }
     ensures { Gives result (job_of_tokens bytes.now (tokens_of bytes.now)) }
 {
     match tokens(alloc, bytes) {
@@ -55,7 +53,7 @@ fn read_tokens(alloc: Global, bytes: &[u8]) -> Result<Job, JobRefusal>
 
 // The job of its tokens.
 fn read_objects(alloc: Global, bytes: &[u8], tokens: &TokenList) -> Result<Job, JobRefusal>
-    requires size { length bytes.now ≤ 1048576 }
+    requires size { length bytes.now ≤ longest_job }
     requires of_bytes { tokens_of bytes.now ≡ Ok tokens.now }
     ensures { Gives result (job_of_objects (length bytes.now) (objects_of bytes.now tokens.now)) }
 {

@@ -1,6 +1,6 @@
 ghost use Rattle.std.specs.Prelude.{◌≡◌, ◌∷◌, map, slice_get, IfOk};
 ghost use Rattle.ps_tokens.specs.Tokens.{Gives};
-ghost use Rattle.job_reader.specs.Statements.{shown, shown_fault, behind_fault, switched, job_at, wants_device};
+ghost use Rattle.job_reader.specs.Statements.{job_shown, shown_fault, behind_fault, under_trapping, job_at, wants_device};
 
 use crate::job::Job;
 use crate::state::State;
@@ -22,7 +22,7 @@ pub fn show(
     at: u32,
     state: State,
 ) -> Result<Job, JobRefusal>
-    ensures { Gives result (shown objects.now from place at state) }
+    ensures { Gives result (job_shown objects.now from place at state) }
 {
     match shown_fault(objects, from, place, at, &state) {
         Some(fault) => Err(JobRefusal::Fault(fault)),
@@ -118,7 +118,7 @@ fn all_zones(
     others: ZoneList,
     trapping: bool,
 ) -> Result<ZoneList, OutOfMemory>
-    ensures { IfOk result (λ zones. zones ≡ first ∷ map (switched trapping) others) }
+    ensures { IfOk result (λ zones. zones ≡ first ∷ map (under_trapping trapping) others) }
 {
     let mut zones = Vec::new(alloc);
     match zones.push(first) {
@@ -126,7 +126,7 @@ fn all_zones(
         Err(_) => return Err(OutOfMemory),
     }
     for zone in others.into_vec() {
-        match zones.push(switched(trapping, zone)) {
+        match zones.push(under_trapping(trapping, zone)) {
             Ok(()) => {}
             Err(_) => return Err(OutOfMemory),
         }
@@ -135,8 +135,8 @@ fn all_zones(
 }
 
 // A zone as it is where Trapping is true or false.
-fn switched(trapping: bool, zone: Zone) -> Zone
-    ensures { result ≡ switched trapping zone }
+fn under_trapping(trapping: bool, zone: Zone) -> Zone
+    ensures { result ≡ under_trapping trapping zone }
 {
     let Zone {
         mut params,

@@ -1,12 +1,11 @@
-ghost use Rattle.std.specs.Prelude.{◌≡◌, ◌++◌, ◌∷◌, [], IfOk, OnOk};
 ghost use Rattle.job_reader.specs.Performing.{Performs};
 ghost use Rattle.job_reader.specs.Statements.{zone_made};
 
 use crate::state::State;
-use lists::list::List;
-use page_model::parts::{Limit, LimitList, Name, OutOfMemory, Zone};
+use page_model::parts::{OutOfMemory, Zone};
 use ps_tokens::faults::{FaultKind, JobFault, JobRefusal};
 use std::alloc::Global;
+use trap_params::limits::copy_of;
 
 /// How many zones a job may make.
 const MOST_ZONES: usize = 250;
@@ -46,37 +45,5 @@ pub fn make_zone(alloc: Global, state: &mut State, at: u32) -> Result<(), JobRef
     match state.zones.push(zone) {
         Ok(()) => Ok(()),
         Err(_) => Err(JobRefusal::OutOfMemory),
-    }
-}
-
-// A copy of limits.
-fn copy_of(alloc: Global, now: &LimitList) -> Result<LimitList, OutOfMemory>
-    ensures { IfOk result (λ limits. limits ≡ now.now) }
-{
-    let mut limits = Vec::new(alloc);
-    for limit in now.as_slice() {
-        match put_limit(alloc, &mut limits, limit) {
-            Ok(()) => {}
-            Err(OutOfMemory) => return Err(OutOfMemory),
-        }
-    }
-    Ok(List::from_vec(limits))
-}
-
-// Adds a copy of a limit.
-fn put_limit(alloc: Global, limits: &mut Vec<Limit>, limit: &Limit) -> Result<(), OutOfMemory>
-    ensures { OnOk result (limits.new.items ≡ limits.old.items ++ limit.now ∷ []) }
-{
-    let name: Name = match Vec::from_slice(alloc, limit.name.as_slice()) {
-        Ok(bytes) => List::from_vec(bytes),
-        Err(_) => return Err(OutOfMemory),
-    };
-    let copy = Limit {
-        name,
-        step: limit.step,
-    };
-    match limits.push(copy) {
-        Ok(()) => Ok(()),
-        Err(_) => Err(OutOfMemory),
     }
 }

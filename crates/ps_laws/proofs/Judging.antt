@@ -15,8 +15,8 @@ use Rattle.ps_tokens.specs.declared.object.Body.{Body}
 use Rattle.ps_tokens.specs.declared.object.Body.TheVariants.{Number, Truth, Null, Text, Literal, Operator, Array, Dict}
 use Rattle.ps_tokens.specs.declared.object.Object.{Object}
 use Rattle.ps_tokens.specs.Words.{spelling, is_value_word}
-use Rattle.ps_tokens.specs.Brackets.{filled, is_key_due, opened, array_closed, dict_closed, value_put, operator_put, judged_as, judged, placed, judged_on}
-use Rattle.ps_laws.specs.Writes.{IsValueWord, truth_word, IsBegunBy, IsLiteral, IsPlain, Part, whole, items, entries, Writes, plain, array, dict, no_item, next_item, no_entry, next_entry}
+use Rattle.ps_tokens.specs.Brackets.{after_object, is_key_due, after_opening, after_array_end, after_dict_end, after_value, after_operator, after_kind, after_token, at_token, after_next}
+use Rattle.ps_laws.specs.Writes.{IsValueWord, boolean_word, IsBegunBy, IsLiteral, IsPlain, Part, whole, items, entries, Writes, plain, array, dict, no_item, next_item, no_entry, next_entry}
 
 -- the words that are values
 pub value_word-from : (word : List ℕ) → IsValueWord word → is_value_word word ≡ true
@@ -38,97 +38,97 @@ is_value-word word is =
     (or_cases (bytes_eq word (codes "true") || bytes_eq word (codes "false")) (bytes_eq word (codes "null")) is)
 
 -- a token that is an object without brackets
-put-value : (brackets : List Bracket) → is_key_due brackets ≡ false → value_put brackets ≡ Ok (filled brackets)
-unfolding value_put
+put-value : (brackets : List Bracket) → is_key_due brackets ≡ false → after_value brackets ≡ Ok (after_object brackets)
+unfolding after_value
 put-value brackets due = rw due refl
 
-put-operator : (brackets : List Bracket) → length brackets ≡ 0 → operator_put brackets ≡ Ok (filled brackets)
-unfolding operator_put
+put-operator : (brackets : List Bracket) → length brackets ≡ 0 → after_operator brackets ≡ Ok (after_object brackets)
+unfolding after_operator
 put-operator [] none = refl
 put-operator (b ∷ brackets) none = absurd (omega arith)
 
-put-word : (at : ℕ) (brackets : List Bracket) (value : Bool) → value ≡ true → is_key_due brackets ≡ false → judged_as kinds.Word at value brackets ≡ Ok (filled brackets)
+put-word : (at : ℕ) (brackets : List Bracket) (value : Bool) → value ≡ true → is_key_due brackets ≡ false → after_kind kinds.Word at value brackets ≡ Ok (after_object brackets)
 put-word at brackets value is due = rw is (put-value brackets due)
 
-truth_is_value : (b : Bool) → IsValueWord (truth_word b)
-truth_is_value true = inl refl
-truth_is_value false = inr (inl refl)
+boolean_is_value : (b : Bool) → IsValueWord (boolean_word b)
+boolean_is_value true = inl refl
+boolean_is_value false = inr (inl refl)
 
-judged-plain : (body : Body) (kind : TokenKind) (text : List ℕ) (at : ℕ) (brackets : List Bracket) → IsPlain (length brackets) body → IsBegunBy body kind text → is_key_due brackets ≡ false
-    → judged_as kind at (is_value_word text) brackets ≡ Ok (filled brackets)
-judged-plain (Number n) kind text at brackets is by due = ap (λ k. judged_as k at (is_value_word text) brackets) by ∙ put-value brackets due
-judged-plain (Truth b) kind text at brackets is by due =
-    ap (λ k. judged_as k at (is_value_word text) brackets) by.0 ∙ put-word at brackets (is_value_word text) (value_word-from text (subst IsValueWord (sym by.1) (truth_is_value b))) due
-judged-plain Null kind text at brackets is by due =
-    ap (λ k. judged_as k at (is_value_word text) brackets) by.0 ∙ put-word at brackets (is_value_word text) (value_word-from text (inr (inr by.1))) due
-judged-plain Text kind text at brackets is by due = ap (λ k. judged_as k at (is_value_word text) brackets) by ∙ put-value brackets due
-judged-plain (Literal name) kind text at brackets is by due = ap (λ k. judged_as k at (is_value_word text) brackets) by.0
-judged-plain (Operator name) kind text at brackets is by due =
+after_token-plain : (body : Body) (kind : TokenKind) (text : List ℕ) (at : ℕ) (brackets : List Bracket) → IsPlain (length brackets) body → IsBegunBy body kind text → is_key_due brackets ≡ false
+    → after_kind kind at (is_value_word text) brackets ≡ Ok (after_object brackets)
+after_token-plain (Number n) kind text at brackets is by due = ap (λ k. after_kind k at (is_value_word text) brackets) by ∙ put-value brackets due
+after_token-plain (Truth b) kind text at brackets is by due =
+    ap (λ k. after_kind k at (is_value_word text) brackets) by.0 ∙ put-word at brackets (is_value_word text) (value_word-from text (subst IsValueWord (sym by.1) (boolean_is_value b))) due
+after_token-plain Null kind text at brackets is by due =
+    ap (λ k. after_kind k at (is_value_word text) brackets) by.0 ∙ put-word at brackets (is_value_word text) (value_word-from text (inr (inr by.1))) due
+after_token-plain Text kind text at brackets is by due = ap (λ k. after_kind k at (is_value_word text) brackets) by ∙ put-value brackets due
+after_token-plain (Literal name) kind text at brackets is by due = ap (λ k. after_kind k at (is_value_word text) brackets) by.0
+after_token-plain (Operator name) kind text at brackets is by due =
     let operator : is_value_word text ≡ false = false_from_ne_true (is_value_word text) (λ t. by.2 (is_value-word text t)) in
-    ap (λ k. judged_as k at (is_value_word text) brackets) by.0
-    ∙ ap (λ v. judged_as kinds.Word at v brackets) operator
+    ap (λ k. after_kind k at (is_value_word text) brackets) by.0
+    ∙ ap (λ v. after_kind kinds.Word at v brackets) operator
     ∙ put-operator brackets is
-judged-plain Array kind text at brackets is by due = absurd is
-judged-plain Dict kind text at brackets is by due = absurd is
+after_token-plain Array kind text at brackets is by due = absurd is
+after_token-plain Dict kind text at brackets is by due = absurd is
 
-pub judged-literal : (body : Body) (kind : TokenKind) (text : List ℕ) (at : ℕ) (brackets : List Bracket) → IsLiteral body → IsBegunBy body kind text
-    → judged_as kind at (is_value_word text) brackets ≡ Ok (filled brackets)
-judged-literal body kind text at brackets is by =
+pub after_token-literal : (body : Body) (kind : TokenKind) (text : List ℕ) (at : ℕ) (brackets : List Bracket) → IsLiteral body → IsBegunBy body kind text
+    → after_kind kind at (is_value_word text) brackets ≡ Ok (after_object brackets)
+after_token-literal body kind text at brackets is by =
     let literal : IsBegunBy (Literal is.0) kind text = subst (λ b. IsBegunBy b kind text) is.1 by in
-    ap (λ k. judged_as k at (is_value_word text) brackets) literal.0
+    ap (λ k. after_kind k at (is_value_word text) brackets) literal.0
 
 -- a token that opens a bracket
-pub opened-bracket : (at : ℕ) (expects : Expects) (brackets : List Bracket) → is_key_due brackets ≡ false → length brackets < 16
-    → opened at expects brackets ≡ Ok (record { at = at; expects = expects } ∷ filled brackets)
-unfolding opened
-opened-bracket at expects brackets due few = rw (due, ne_eqb (length brackets) 16 (λ e. omega arith)) refl
+pub after_opening-bracket : (at : ℕ) (expects : Expects) (brackets : List Bracket) → is_key_due brackets ≡ false → length brackets < 16
+    → after_opening at expects brackets ≡ Ok (record { at = at; expects = expects } ∷ after_object brackets)
+unfolding after_opening
+after_opening-bracket at expects brackets due few = rw (due, ne_eqb (length brackets) 16 (λ e. omega arith)) refl
 
-closed-array : (at : ℕ) (brackets : List Bracket) → array_closed (record { at = at; expects = Item } ∷ brackets) ≡ Ok brackets
-unfolding array_closed
-closed-array at brackets = refl
+unless_open-array : (at : ℕ) (brackets : List Bracket) → after_array_end (record { at = at; expects = Item } ∷ brackets) ≡ Ok brackets
+unfolding after_array_end
+unless_open-array at brackets = refl
 
-closed-dict : (at : ℕ) (brackets : List Bracket) → dict_closed (record { at = at; expects = Key } ∷ brackets) ≡ Ok brackets
-unfolding dict_closed
-closed-dict at brackets = refl
+unless_open-dict : (at : ℕ) (brackets : List Bracket) → after_dict_end (record { at = at; expects = Key } ∷ brackets) ≡ Ok brackets
+unfolding after_dict_end
+unless_open-dict at brackets = refl
 
-pub length-filled : (brackets : List Bracket) → length (filled brackets) ≡ length brackets
-length-filled [] = refl
-length-filled (b ∷ brackets) = refl
+pub length-after_object : (brackets : List Bracket) → length (after_object brackets) ≡ length brackets
+length-after_object [] = refl
+length-after_object (b ∷ brackets) = refl
 
 -- how brackets stand before a part, and behind it
 abbrev Fits : Part → ℕ → List Bracket → Type 0
 Fits whole depth brackets = (length brackets ≡ depth) × (is_key_due brackets ≡ false)
-Fits items depth brackets = (length brackets ≡ depth) × (is_key_due brackets ≡ false) × (filled brackets ≡ brackets)
+Fits items depth brackets = (length brackets ≡ depth) × (is_key_due brackets ≡ false) × (after_object brackets ≡ brackets)
 Fits entries depth brackets = (at : ℕ) × (outer : List Bracket) × (brackets ≡ record { at = at; expects = Key } ∷ outer) × (suc (length outer) ≡ depth)
 
 abbrev left : Part → List Bracket → List Bracket
-left whole brackets = filled brackets
+left whole brackets = after_object brackets
 left items brackets = brackets
 left entries brackets = brackets
 
 -- one token, and then more
-pub judged-first : (bytes : List ℕ) (brackets new : List Bracket) (token : Token) (tokens : List Token) → judged bytes token brackets ≡ Ok new
-    → fold (judged_on bytes) (Ok brackets) (token ∷ tokens) ≡ fold (judged_on bytes) (Ok new) tokens
-judged-first bytes brackets new token tokens is = ap (λ r. fold (judged_on bytes) (placed token.at r) tokens) is
+pub after_token-first : (bytes : List ℕ) (brackets new : List Bracket) (token : Token) (tokens : List Token) → after_token bytes token brackets ≡ Ok new
+    → fold (after_next bytes) (Ok brackets) (token ∷ tokens) ≡ fold (after_next bytes) (Ok new) tokens
+after_token-first bytes brackets new token tokens is = ap (λ r. fold (after_next bytes) (at_token token.at r) tokens) is
 
-pub judged-last : (bytes : List ℕ) (brackets new : List Bracket) (token : Token) → judged bytes token brackets ≡ Ok new → fold (judged_on bytes) (Ok brackets) (token ∷ []) ≡ Ok new
-judged-last bytes brackets new token is = judged-first bytes brackets new token [] is
+pub after_token-last : (bytes : List ℕ) (brackets new : List Bracket) (token : Token) → after_token bytes token brackets ≡ Ok new → fold (after_next bytes) (Ok brackets) (token ∷ []) ≡ Ok new
+after_token-last bytes brackets new token is = after_token-first bytes brackets new token [] is
 
-pub judged-append : (bytes : List ℕ) (brackets middle : List Bracket) (front behind : List Token) → fold (judged_on bytes) (Ok brackets) front ≡ Ok middle
-    → fold (judged_on bytes) (Ok brackets) (front ++ behind) ≡ fold (judged_on bytes) (Ok middle) behind
-judged-append bytes brackets middle front behind is = fold-append (judged_on bytes) (Ok brackets) front behind ∙ ap (λ r. fold (judged_on bytes) r behind) is
+pub after_token-append : (bytes : List ℕ) (brackets middle : List Bracket) (front behind : List Token) → fold (after_next bytes) (Ok brackets) front ≡ Ok middle
+    → fold (after_next bytes) (Ok brackets) (front ++ behind) ≡ fold (after_next bytes) (Ok middle) behind
+after_token-append bytes brackets middle front behind is = fold-append (after_next bytes) (Ok brackets) front behind ∙ ap (λ r. fold (after_next bytes) r behind) is
 
 -- a bracket, what stands within it, and its end
-judged-bracket : (bytes : List ℕ) (brackets : List Bracket) (expects : Expects) (opening closing : Token) (between : List Token)
-    → judged bytes opening brackets ≡ Ok (record { at = opening.at; expects = expects } ∷ filled brackets)
-    → fold (judged_on bytes) (Ok (record { at = opening.at; expects = expects } ∷ filled brackets)) between ≡ Ok (record { at = opening.at; expects = expects } ∷ filled brackets)
-    → judged bytes closing (record { at = opening.at; expects = expects } ∷ filled brackets) ≡ Ok (filled brackets)
-    → fold (judged_on bytes) (Ok brackets) (opening ∷ (between ++ closing ∷ [])) ≡ Ok (filled brackets)
-judged-bracket bytes brackets expects opening closing between first within last =
-    let inner = record { at = opening.at; expects = expects } ∷ filled brackets in
-    judged-first bytes brackets inner opening (between ++ closing ∷ []) first
-    ∙ judged-append bytes inner inner between (closing ∷ []) within
-    ∙ judged-last bytes inner (filled brackets) closing last
+after_token-bracket : (bytes : List ℕ) (brackets : List Bracket) (expects : Expects) (opening closing : Token) (between : List Token)
+    → after_token bytes opening brackets ≡ Ok (record { at = opening.at; expects = expects } ∷ after_object brackets)
+    → fold (after_next bytes) (Ok (record { at = opening.at; expects = expects } ∷ after_object brackets)) between ≡ Ok (record { at = opening.at; expects = expects } ∷ after_object brackets)
+    → after_token bytes closing (record { at = opening.at; expects = expects } ∷ after_object brackets) ≡ Ok (after_object brackets)
+    → fold (after_next bytes) (Ok brackets) (opening ∷ (between ++ closing ∷ [])) ≡ Ok (after_object brackets)
+after_token-bracket bytes brackets expects opening closing between first within last =
+    let inner = record { at = opening.at; expects = expects } ∷ after_object brackets in
+    after_token-first bytes brackets inner opening (between ++ closing ∷ []) first
+    ∙ after_token-append bytes inner inner between (closing ∷ []) within
+    ∙ after_token-last bytes inner (after_object brackets) closing last
 
 kind-array : (body : Body) (kind : TokenKind) (text : List ℕ) → body ≡ Array → IsBegunBy body kind text → kind ≡ kinds.OpenArray
 kind-array body kind text is by = subst (λ b. IsBegunBy b kind text) is by
@@ -137,48 +137,48 @@ kind-dict : (body : Body) (kind : TokenKind) (text : List ℕ) → body ≡ Dict
 kind-dict body kind text is by = subst (λ b. IsBegunBy b kind text) is by
 
 -- what is written out leaves no bracket open
-pub writes-judged : (bytes : List ℕ) {part : Part} {depth : ℕ} {objects : List Object} {tokens : List Token} → Writes bytes part depth objects tokens
-    → (brackets : List Bracket) → Fits part depth brackets → fold (judged_on bytes) (Ok brackets) tokens ≡ Ok (left part brackets)
-writes-judged bytes (plain depth object token is begins) brackets fits =
+pub writes-after_token : (bytes : List ℕ) {part : Part} {depth : ℕ} {objects : List Object} {tokens : List Token} → Writes bytes part depth objects tokens
+    → (brackets : List Bracket) → Fits part depth brackets → fold (after_next bytes) (Ok brackets) tokens ≡ Ok (left part brackets)
+writes-after_token bytes (plain depth object token is begins) brackets fits =
     let simple : IsPlain (length brackets) object.body = subst (λ d. IsPlain d object.body) (sym fits.0) is in
-    judged-last bytes brackets (filled brackets) token (judged-plain object.body token.kind (spelling bytes token) token.at brackets simple begins.meaning fits.1)
-writes-judged bytes (array depth object opening closing inner between tokens is begins ends few within are) brackets fits =
+    after_token-last bytes brackets (after_object brackets) token (after_token-plain object.body token.kind (spelling bytes token) token.at brackets simple begins.meaning fits.1)
+writes-after_token bytes (array depth object opening closing inner between tokens is begins ends few within are) brackets fits =
     let open_kind = kind-array object.body opening.kind (spelling bytes opening) is begins.meaning in
     let few_open : length brackets < 16 = omega (arith, fits.0) in
-    let first : judged bytes opening brackets ≡ Ok (record { at = opening.at; expects = Item } ∷ filled brackets) =
-    ap (λ k. judged_as k opening.at (is_value_word (spelling bytes opening)) brackets) open_kind ∙ opened-bracket opening.at Item brackets fits.1 few_open in
-    let new = record { at = opening.at; expects = Item } ∷ filled brackets in
-    let last : judged bytes closing new ≡ Ok (filled brackets) =
-    ap (λ k. judged_as k closing.at (is_value_word (spelling bytes closing)) new) ends ∙ closed-array opening.at (filled brackets) in
-    let count : suc (length (filled brackets)) ≡ suc depth = ap (λ n. suc n) (length-filled brackets ∙ fits.0) in
-    ap (fold (judged_on bytes) (Ok brackets)) are
-    ∙ judged-bracket bytes brackets Item opening closing between first (writes-judged bytes within new (count, refl, refl)) last
-writes-judged bytes (dict depth object opening closing inner between tokens is begins ends few within are) brackets fits =
+    let first : after_token bytes opening brackets ≡ Ok (record { at = opening.at; expects = Item } ∷ after_object brackets) =
+    ap (λ k. after_kind k opening.at (is_value_word (spelling bytes opening)) brackets) open_kind ∙ after_opening-bracket opening.at Item brackets fits.1 few_open in
+    let new = record { at = opening.at; expects = Item } ∷ after_object brackets in
+    let last : after_token bytes closing new ≡ Ok (after_object brackets) =
+    ap (λ k. after_kind k closing.at (is_value_word (spelling bytes closing)) new) ends ∙ unless_open-array opening.at (after_object brackets) in
+    let count : suc (length (after_object brackets)) ≡ suc depth = ap (λ n. suc n) (length-after_object brackets ∙ fits.0) in
+    ap (fold (after_next bytes) (Ok brackets)) are
+    ∙ after_token-bracket bytes brackets Item opening closing between first (writes-after_token bytes within new (count, refl, refl)) last
+writes-after_token bytes (dict depth object opening closing inner between tokens is begins ends few within are) brackets fits =
     let open_kind = kind-dict object.body opening.kind (spelling bytes opening) is begins.meaning in
     let few_open : length brackets < 16 = omega (arith, fits.0) in
-    let first : judged bytes opening brackets ≡ Ok (record { at = opening.at; expects = Key } ∷ filled brackets) =
-    ap (λ k. judged_as k opening.at (is_value_word (spelling bytes opening)) brackets) open_kind ∙ opened-bracket opening.at Key brackets fits.1 few_open in
-    let new = record { at = opening.at; expects = Key } ∷ filled brackets in
-    let last : judged bytes closing new ≡ Ok (filled brackets) =
-    ap (λ k. judged_as k closing.at (is_value_word (spelling bytes closing)) new) ends ∙ closed-dict opening.at (filled brackets) in
-    let count : suc (length (filled brackets)) ≡ suc depth = ap (λ n. suc n) (length-filled brackets ∙ fits.0) in
-    ap (fold (judged_on bytes) (Ok brackets)) are
-    ∙ judged-bracket bytes brackets Key opening closing between first (writes-judged bytes within new (opening.at, filled brackets, refl, count)) last
-writes-judged bytes (no_item depth) brackets fits = refl
-writes-judged bytes (next_item depth first rest objects front behind tokens one more is are) brackets fits =
-    ap (fold (judged_on bytes) (Ok brackets)) are
-    ∙ judged-append bytes brackets (filled brackets) front behind (writes-judged bytes one brackets (fits.0, fits.1))
-    ∙ ap (λ b. fold (judged_on bytes) (Ok b) behind) fits.2
-    ∙ writes-judged bytes more brackets fits
-writes-judged bytes (no_entry depth) brackets fits = refl
-writes-judged bytes (next_entry depth key token value rest objects front behind tokens named begins one more is are) brackets fits =
+    let first : after_token bytes opening brackets ≡ Ok (record { at = opening.at; expects = Key } ∷ after_object brackets) =
+    ap (λ k. after_kind k opening.at (is_value_word (spelling bytes opening)) brackets) open_kind ∙ after_opening-bracket opening.at Key brackets fits.1 few_open in
+    let new = record { at = opening.at; expects = Key } ∷ after_object brackets in
+    let last : after_token bytes closing new ≡ Ok (after_object brackets) =
+    ap (λ k. after_kind k closing.at (is_value_word (spelling bytes closing)) new) ends ∙ unless_open-dict opening.at (after_object brackets) in
+    let count : suc (length (after_object brackets)) ≡ suc depth = ap (λ n. suc n) (length-after_object brackets ∙ fits.0) in
+    ap (fold (after_next bytes) (Ok brackets)) are
+    ∙ after_token-bracket bytes brackets Key opening closing between first (writes-after_token bytes within new (opening.at, after_object brackets, refl, count)) last
+writes-after_token bytes (no_item depth) brackets fits = refl
+writes-after_token bytes (next_item depth first rest objects front behind tokens one more is are) brackets fits =
+    ap (fold (after_next bytes) (Ok brackets)) are
+    ∙ after_token-append bytes brackets (after_object brackets) front behind (writes-after_token bytes one brackets (fits.0, fits.1))
+    ∙ ap (λ b. fold (after_next bytes) (Ok b) behind) fits.2
+    ∙ writes-after_token bytes more brackets fits
+writes-after_token bytes (no_entry depth) brackets fits = refl
+writes-after_token bytes (next_entry depth key token value rest objects front behind tokens named begins one more is are) brackets fits =
     let at = fits.0 in
     let outer = fits.1 in
     let due = record { at = at; expects = Key } ∷ outer in
     let after_key = record { at = at; expects = Value } ∷ outer in
-    ap (fold (judged_on bytes) (Ok brackets)) are
-    ∙ ap (λ b. fold (judged_on bytes) (Ok b) (token ∷ (front ++ behind))) fits.2
-    ∙ judged-first bytes due after_key token (front ++ behind) (judged-literal key.body token.kind (spelling bytes token) token.at due named begins.meaning)
-    ∙ judged-append bytes after_key due front behind (writes-judged bytes one after_key (fits.3, refl))
-    ∙ writes-judged bytes more due (at, outer, refl, fits.3)
+    ap (fold (after_next bytes) (Ok brackets)) are
+    ∙ ap (λ b. fold (after_next bytes) (Ok b) (token ∷ (front ++ behind))) fits.2
+    ∙ after_token-first bytes due after_key token (front ++ behind) (after_token-literal key.body token.kind (spelling bytes token) token.at due named begins.meaning)
+    ∙ after_token-append bytes after_key due front behind (writes-after_token bytes one after_key (fits.3, refl))
+    ∙ writes-after_token bytes more due (at, outer, refl, fits.3)
     ∙ ap (λ b. Ok b) (sym fits.2)

@@ -1,5 +1,8 @@
+pub mod Finding
 pub mod Fronts
 pub mod Judging
+pub mod KindsOfFaults
+pub mod LastEntries
 pub mod Listing
 pub mod Misplacing
 pub mod Nesting

@@ -12,16 +12,16 @@ use Rattle.ps_tokens.specs.declared.object.Body.TheVariants.{Number, Truth, Null
 use Rattle.ps_tokens.specs.declared.object.Object.{Object}
 use Rattle.ps_tokens.specs.Words.{spelling}
 use Rattle.ps_tokens.specs.Objects.{is_opening, is_closing, count_inside, word_body, body_as, objects_in}
-use Rattle.ps_laws.specs.Writes.{IsValueWord, truth_word, IsBegunBy, Begins, IsLiteral, IsPlain, Part, Writes, plain, array, dict, no_item, next_item, no_entry, next_entry}
+use Rattle.ps_laws.specs.Writes.{IsValueWord, boolean_word, IsBegunBy, Begins, IsLiteral, IsPlain, Part, Writes, plain, array, dict, no_item, next_item, no_entry, next_entry}
 
 -- the body of a word
 differs : (word other : List ℕ) → (word ≡ other → ⊥) → bytes_eq word other ≡ false
 differs word other apart = false_from_ne_true (bytes_eq word other) (λ t. apart ((bytes_eq-Decides word other).0 t))
 
-truth-body : (b : Bool) → word_body (truth_word b) ≡ Truth b
+boolean-body : (b : Bool) → word_body (boolean_word b) ≡ Truth b
 unfolding word_body
-truth-body true = refl
-truth-body false = refl
+boolean-body true = refl
+boolean-body false = refl
 
 null-body : word_body (codes "null") ≡ Null
 unfolding word_body
@@ -38,7 +38,7 @@ operator-body word none =
 -- what a token begins is what is read of it
 pub body-is : (body : Body) (kind : TokenKind) (text : List ℕ) → IsBegunBy body kind text → body_as kind text ≡ body
 body-is (Number n) kind text by = ap (λ k. body_as k text) by
-body-is (Truth b) kind text by = ap (λ k. body_as k text) by.0 ∙ ap word_body by.1 ∙ truth-body b
+body-is (Truth b) kind text by = ap (λ k. body_as k text) by.0 ∙ ap word_body by.1 ∙ boolean-body b
 body-is Null kind text by = ap (λ k. body_as k text) by.0 ∙ ap word_body by.1 ∙ null-body
 body-is Text kind text by = ap (λ k. body_as k text) by
 body-is (Literal name) kind text by = ap (λ k. body_as k text) by.0 ∙ ap (λ n. Literal n) (sym by.1)

@@ -13,69 +13,15 @@ use Rattle.ps_tokens.specs.declared.brackets.Expects.TheVariants.{Item, Key, Val
 use Rattle.ps_tokens.specs.declared.brackets.Bracket.{Bracket}
 use Rattle.ps_tokens.specs.declared.object.Object.{Object}
 use Rattle.ps_tokens.specs.Words.{spelling, is_value_word}
-use Rattle.ps_tokens.specs.Brackets.{is_key_due, opened, array_end, array_closed, dict_end, dict_closed, value_put, operator_put, judged_as, judged, placed, judged_on, brackets_after}
-use Rattle.ps_tokens.specs.Objects.{objects_in, closed, objects_of}
+use Rattle.ps_tokens.specs.Brackets.{is_key_due, after_opening, array_end, after_array_end, dict_end, after_dict_end, after_value, after_operator, after_kind, after_token, at_token, after_next, brackets_after}
+use Rattle.ps_tokens.specs.Objects.{objects_in, unless_open, objects_of}
 use Rattle.ps_tokens.proofs.Judgements.{fold-err}
 use Rattle.ps_tokens.proofs.Completing.{completed, never_completed}
 use Rattle.ps_laws.specs.Writes.{WritesOut}
 use Rattle.ps_laws.specs.Firsts.{CanWriteOut, IsFirstMisplaced, IsUnclosed, Misplaced}
+use Rattle.ps_laws.proofs.KindsOfFaults.{fault-had, had-fault}
 use Rattle.ps_laws.proofs.Opening.{brackets-left, left-brackets}
 use Rattle.ps_laws.proofs.Parsing.{objects-written, written-objects}
-
--- no token has the fault of the end
-abbrev IsOfToken : Result (List Bracket) FaultKind → Type 0
-IsOfToken (Ok brackets) = Unit {0}
-IsOfToken (Err kind) = kind ≡ Unclosed → ⊥
-
-other_kinds : (Unmatched ≡ Unclosed → ⊥) × (OddDictionary ≡ Unclosed → ⊥) × (KeyNotName ≡ Unclosed → ⊥) × (NameInside ≡ Unclosed → ⊥) × (TooDeep ≡ Unclosed → ⊥)
-other_kinds = (λ e. cc, λ e. cc, λ e. cc, λ e. cc, λ e. cc)
-
-of-value : (brackets : List Bracket) → IsOfToken (value_put brackets)
-unfolding value_put
-of-value brackets = cond_both (is_key_due brackets) _ _ IsOfToken (λ t. other_kinds.2) (λ f. tt)
-
-of-operator : (brackets : List Bracket) → IsOfToken (operator_put brackets)
-unfolding operator_put
-of-operator brackets =
-    cond_both (is_key_due brackets) _ _ IsOfToken (λ t. other_kinds.2)
-    (λ f. cond_both (eqb (length brackets) 0) _ _ IsOfToken (λ t. tt) (λ g. other_kinds.3))
-
-of-opening : (at : ℕ) (expects : Expects) (brackets : List Bracket) → IsOfToken (opened at expects brackets)
-unfolding opened
-of-opening at expects brackets =
-    cond_both (is_key_due brackets) _ _ IsOfToken (λ t. other_kinds.2)
-    (λ f. cond_both (eqb (length brackets) 16) _ _ IsOfToken (λ t. other_kinds.4) (λ g. tt))
-
-of-array_end : (expects : Expects) (outer : List Bracket) → IsOfToken (array_end expects outer)
-of-array_end Item outer = tt
-of-array_end Key outer = other_kinds.0
-of-array_end Value outer = other_kinds.0
-
-of-dict_end : (expects : Expects) (outer : List Bracket) → IsOfToken (dict_end expects outer)
-of-dict_end Item outer = other_kinds.0
-of-dict_end Key outer = tt
-of-dict_end Value outer = other_kinds.1
-
-of-array : (brackets : List Bracket) → IsOfToken (array_closed brackets)
-unfolding array_closed
-of-array [] = other_kinds.0
-of-array (bracket ∷ outer) = of-array_end bracket.expects outer
-
-of-dict : (brackets : List Bracket) → IsOfToken (dict_closed brackets)
-unfolding dict_closed
-of-dict [] = other_kinds.0
-of-dict (bracket ∷ outer) = of-dict_end bracket.expects outer
-
-of-token : (kind : TokenKind) (at : ℕ) (value : Bool) (brackets : List Bracket) → IsOfToken (judged_as kind at value brackets)
-of-token kinds.OpenDict at value brackets = of-opening at Key brackets
-of-token kinds.CloseDict at value brackets = of-dict brackets
-of-token kinds.OpenArray at value brackets = of-opening at Item brackets
-of-token kinds.CloseArray at value brackets = of-array brackets
-of-token kinds.Literal at value brackets = tt
-of-token kinds.Word at true brackets = of-value brackets
-of-token kinds.Word at false brackets = of-operator brackets
-of-token (kinds.Number n) at value brackets = of-value brackets
-of-token kinds.Text at value brackets = of-value brackets
 
 -- the first token that is out of place
 record FailsAt (bytes : List ℕ) (brackets : List Bracket) (tokens : List Token) (fault : JobFault) : Type 0 where
@@ -84,8 +30,8 @@ record FailsAt (bytes : List ℕ) (brackets : List Bracket) (tokens : List Token
   behind : List Token
   new : List Bracket
   whole : tokens ≡ front ++ token ∷ behind
-  before : fold (judged_on bytes) (Ok brackets) front ≡ Ok new
-  here : judged bytes token new ≡ Err fault.kind
+  before : fold (after_next bytes) (Ok brackets) front ≡ Ok new
+  here : after_token bytes token new ≡ Err fault.kind
   place : fault.at ≡ token.at
 
 abbrev all_put : List Bracket → Result (List Bracket) JobFault
@@ -101,8 +47,8 @@ same_fault : (a b : JobFault) → failed a ≡ failed b → a ≡ b
 same_fault a b e = cc
 
 fails-next : (bytes : List ℕ) (brackets : List Bracket) (token : Token) (tokens : List Token) (fault : JobFault)
-    → ((new : List Bracket) → fold (judged_on bytes) (Ok new) tokens ≡ Err fault → FailsAt bytes new tokens fault)
-    → (result : Result (List Bracket) FaultKind) → judged bytes token brackets ≡ result → fold (judged_on bytes) (placed token.at result) tokens ≡ Err fault
+    → ((new : List Bracket) → fold (after_next bytes) (Ok new) tokens ≡ Err fault → FailsAt bytes new tokens fault)
+    → (result : Result (List Bracket) FaultKind) → after_token bytes token brackets ≡ result → fold (after_next bytes) (at_token token.at result) tokens ≡ Err fault
     → FailsAt bytes brackets (token ∷ tokens) fault
 fails-next bytes brackets token tokens fault later (Ok new) is fails =
     let f = later new fails in
@@ -112,7 +58,7 @@ fails-next bytes brackets token tokens fault later (Ok new) is fails =
       behind = f.behind;
       new = f.new;
       whole = ap (λ ts. token ∷ ts) f.whole;
-      before = ap (λ r. fold (judged_on bytes) (placed token.at r) f.front) is ∙ f.before;
+      before = ap (λ r. fold (after_next bytes) (at_token token.at r) f.front) is ∙ f.before;
       here = f.here;
       place = f.place;
     }
@@ -121,17 +67,17 @@ fails-next bytes brackets token tokens fault later (Err kind) is fails =
     let same : here ≡ fault = same_fault here fault (sym (fold-err bytes here tokens) ∙ fails) in
     record { front = []; token = token; behind = tokens; new = brackets; whole = refl; before = refl; here = is ∙ ap (λ f. Err f.kind) same; place = ap (λ f. f.at) (sym same) }
 
-fails-at : (bytes : List ℕ) (tokens : List Token) (brackets : List Bracket) (fault : JobFault) → fold (judged_on bytes) (Ok brackets) tokens ≡ Err fault → FailsAt bytes brackets tokens fault
+fails-at : (bytes : List ℕ) (tokens : List Token) (brackets : List Bracket) (fault : JobFault) → fold (after_next bytes) (Ok brackets) tokens ≡ Err fault → FailsAt bytes brackets tokens fault
 fails-at bytes [] brackets fault fails = absurd (ok_is_no_err brackets fault fails)
 fails-at bytes (token ∷ tokens) brackets fault fails =
-    fails-next bytes brackets token tokens fault (λ new f. fails-at bytes tokens new fault f) (judged bytes token brackets) refl fails
+    fails-next bytes brackets token tokens fault (λ new f. fails-at bytes tokens new fault f) (after_token bytes token brackets) refl fails
 
 -- tokens without a fault can be completed
 can-write : (bytes : List ℕ) (tokens : List Token) (brackets : List Bracket) → brackets_after bytes tokens ≡ Ok brackets → CanWriteOut bytes tokens
 can-write bytes tokens brackets are =
     let c = completed bytes tokens brackets are in
     let all = tokens ++ c.0 in
-    (c.0, objects_in bytes all, objects-written bytes all (objects_in bytes all) (ap (closed bytes all) c.1))
+    (c.0, objects_in bytes all, objects-written bytes all (objects_in bytes all) (ap (unless_open bytes all) c.1))
 
 -- what has a fault is not written out
 abbrev read_as : List Object → Result (List Object) JobFault
@@ -147,8 +93,7 @@ first-misplaced : (bytes : List ℕ) (tokens : List Token) (fault : JobFault) �
 first-misplaced bytes tokens fault fails =
     let f = fails-at bytes tokens [] fault fails in
     let faulty : brackets_after bytes (f.front ++ f.token ∷ []) ≡ Err (record { kind = fault.kind; at = f.token.at }) =
-    fold-append (judged_on bytes) (Ok []) f.front (f.token ∷ []) ∙ ap (λ r. fold (judged_on bytes) r (f.token ∷ [])) f.before ∙ ap (placed f.token.at) f.here in
-    let of : IsOfToken (Err fault.kind) = subst IsOfToken f.here (of-token f.token.kind f.token.at (is_value_word (spelling bytes f.token)) f.new) in
+    fold-append (after_next bytes) (Ok []) f.front (f.token ∷ []) ∙ ap (λ r. fold (after_next bytes) r (f.token ∷ [])) f.before ∙ ap (at_token f.token.at) f.here in
     record {
       front = f.front;
       token = f.token;
@@ -159,10 +104,9 @@ first-misplaced bytes tokens fault fails =
           not-written bytes ((f.front ++ f.token ∷ []) ++ can.0) can.1 (record { kind = fault.kind; at = f.token.at })
           (never_completed bytes (f.front ++ f.token ∷ []) can.0 (record { kind = fault.kind; at = f.token.at }) faulty) can.2;
       place = f.place;
-      closed = of;
       brackets = f.new;
       open_before = brackets-left bytes f.front f.new f.before;
-      kinded = f.here;
+      kinded = fault-had f.token.kind f.token.at (spelling bytes f.token) f.new fault.kind f.here;
     }
 
 -- what a fault is
@@ -179,10 +123,10 @@ unclosed bytes tokens bracket outer are = record {
   place = refl;
   kinded = refl;
   unfinished = can-write bytes tokens (bracket ∷ outer) are;
-  not_written = λ objects written. not-written bytes tokens objects (record { kind = Unclosed; at = bracket.at }) (ap (closed bytes tokens) are) written;
+  not_written = λ objects written. not-written bytes tokens objects (record { kind = Unclosed; at = bracket.at }) (ap (unless_open bytes tokens) are) written;
 }
 
-means : (bytes : List ℕ) (tokens : List Token) (result : Result (List Bracket) JobFault) → brackets_after bytes tokens ≡ result → Means bytes tokens (closed bytes tokens result)
+means : (bytes : List ℕ) (tokens : List Token) (result : Result (List Bracket) JobFault) → brackets_after bytes tokens ≡ result → Means bytes tokens (unless_open bytes tokens result)
 means bytes tokens (Ok []) is = tt
 means bytes tokens (Ok (bracket ∷ outer)) is = inr (unclosed bytes tokens bracket outer is)
 means bytes tokens (Err fault) is = inl (first-misplaced bytes tokens fault is)
@@ -198,13 +142,13 @@ pub misplaced-fault : (bytes : List ℕ) (tokens : List Token) (fault : JobFault
 misplaced-fault bytes tokens fault (inl m) =
     let here = fault_of fault.kind m.token.at in
     let faulty : brackets_after bytes tokens ≡ failed here =
-    ap (fold (judged_on bytes) (Ok [])) m.whole
-    ∙ fold-append (judged_on bytes) (Ok []) m.front (m.token ∷ m.behind)
-    ∙ ap (λ r. fold (judged_on bytes) r (m.token ∷ m.behind)) (left-brackets bytes m.front m.brackets m.open_before)
-    ∙ ap (λ r. fold (judged_on bytes) (placed m.token.at r) m.behind) m.kinded
+    ap (fold (after_next bytes) (Ok [])) m.whole
+    ∙ fold-append (after_next bytes) (Ok []) m.front (m.token ∷ m.behind)
+    ∙ ap (λ r. fold (after_next bytes) r (m.token ∷ m.behind)) (left-brackets bytes m.front m.brackets m.open_before)
+    ∙ ap (λ r. fold (after_next bytes) (at_token m.token.at r) m.behind) (had-fault m.token.kind m.token.at (spelling bytes m.token) m.brackets fault.kind m.kinded)
     ∙ fold-err bytes here m.behind in
-    ap (closed bytes tokens) faulty ∙ ap (λ at. Err (fault_of fault.kind at)) (sym m.place)
+    ap (unless_open bytes tokens) faulty ∙ ap (λ at. Err (fault_of fault.kind at)) (sym m.place)
 misplaced-fault bytes tokens fault (inr m) =
-    ap (closed bytes tokens) (left-brackets bytes tokens (m.innermost ∷ m.outer) m.open_at_end)
+    ap (unless_open bytes tokens) (left-brackets bytes tokens (m.innermost ∷ m.outer) m.open_at_end)
     ∙ ap (λ at. Err (fault_of Unclosed at)) (sym m.place)
     ∙ ap (λ kind. Err (fault_of kind fault.at)) (sym m.kinded)

@@ -15,12 +15,12 @@ use Rattle.ps_tokens.specs.declared.object.Body.{Body}
 use Rattle.ps_tokens.specs.declared.object.Body.TheVariants.{Array, Dict}
 use Rattle.ps_tokens.specs.declared.object.Object.{Object}
 use Rattle.ps_tokens.specs.Words.{spelling, is_value_word}
-use Rattle.ps_tokens.specs.Brackets.{next_expected, filled, is_key, is_key_due, array_end, array_closed, dict_end, dict_closed, judged_as, judged, placed, judged_on, brackets_after}
+use Rattle.ps_tokens.specs.Brackets.{next_expected, after_object, is_key, is_key_due, array_end, after_array_end, dict_end, after_dict_end, after_kind, after_token, at_token, after_next, brackets_after}
 use Rattle.ps_tokens.specs.Objects.{is_closing, word_body, body_as}
 use Rattle.ps_tokens.proofs.Judgements.{fold-err}
 use Rattle.ps_laws.specs.Writes.{Begins, IsLiteral, IsPlain, Part, whole, items, entries, Writes, plain, array, dict, no_item, next_item, no_entry, next_entry}
 use Rattle.ps_laws.specs.Firsts.{StandsIn, LeavesOpen, none, inside}
-use Rattle.ps_laws.proofs.Judging.{length-filled, opened-bracket, judged-first, judged-last, judged-append, judged-literal, writes-judged}
+use Rattle.ps_laws.proofs.Judging.{length-after_object, after_opening-bracket, after_token-first, after_token-last, after_token-append, after_token-literal, writes-after_token}
 use Rattle.ps_laws.proofs.Parsing.{bracket_of, err_is_no_ok, same_ok, below-16, IsPut, IsOpened, put-value, put-operator, open-bracket, begun, plain-word, plain-literal, few}
 
 -- items behind items, and entries behind entries
@@ -62,37 +62,37 @@ stands-whole bytes Value depth opening within objects tokens due s one =
     let e : s.2 ++ s.4 ∷ tokens ≡ within ++ tokens = sym (append_assoc s.2 (s.4 ∷ []) tokens) ∙ ap (λ w. w ++ tokens) (sym s.8) in
     (s.0, s.1 ++ s.3 ∷ objects, subst (Writes bytes entries depth (s.1 ++ s.3 ∷ objects)) e both)
 
-deeper : (brackets outer : List Bracket) (at : ℕ) (expects : Expects) → brackets ≡ bracket_of at expects ∷ filled outer → length brackets ≡ suc (length outer)
-deeper brackets outer at expects is = ap length is ∙ ap (λ n. suc n) (length-filled outer)
+deeper : (brackets outer : List Bracket) (at : ℕ) (expects : Expects) → brackets ≡ bracket_of at expects ∷ after_object outer → length brackets ≡ suc (length outer)
+deeper brackets outer at expects is = ap length is ∙ ap (λ n. suc n) (length-after_object outer)
 
 leaves-whole : (bytes : List ℕ) {brackets : List Bracket} {tokens : List Token} → LeavesOpen bytes brackets tokens → is_key_due brackets ≡ false
-    → (objects : List Object) (more : List Token) → Writes bytes whole (length brackets) objects more → LeavesOpen bytes (filled brackets) (tokens ++ more)
+    → (objects : List Object) (more : List Token) → Writes bytes whole (length brackets) objects more → LeavesOpen bytes (after_object brackets) (tokens ++ more)
 leaves-whole bytes (none found tokens written) due objects more one = none (found ++ objects) (tokens ++ more) (runs-append bytes written tt objects more (one-item bytes 0 objects more one))
 leaves-whole bytes (inside outer brackets expects opening front within tokens before free few s is are) due objects more one =
     let no_key : is_key expects ≡ false = sym (ap is_key_due is) ∙ due in
     let placed_one : Writes bytes whole (suc (length outer)) objects more = subst (λ n. Writes bytes whole n objects more) (deeper brackets outer opening.at expects is) one in
-    inside outer (filled brackets) (next_expected expects) opening front (within ++ more) (tokens ++ more) before free few
+    inside outer (after_object brackets) (next_expected expects) opening front (within ++ more) (tokens ++ more) before free few
     (stands-whole bytes expects (suc (length outer)) opening within objects more no_key s placed_one)
-    (ap filled is)
+    (ap after_object is)
     (ap (λ ts. ts ++ more) are ∙ append_assoc front (opening ∷ within) more)
 
 -- a literal more
 leaves-key : (bytes : List ℕ) (outer brackets : List Bracket) (expects : Expects) (opening : Token) (front within tokens : List Token)
     → LeavesOpen bytes outer front → is_key_due outer ≡ false → length outer < 16 → StandsIn bytes expects (suc (length outer)) opening within
-    → brackets ≡ bracket_of opening.at expects ∷ filled outer → tokens ≡ front ++ opening ∷ within
-    → (object : Object) (token : Token) → IsLiteral object.body → Begins bytes object token 0 → LeavesOpen bytes (filled brackets) (tokens ++ token ∷ [])
+    → brackets ≡ bracket_of opening.at expects ∷ after_object outer → tokens ≡ front ++ opening ∷ within
+    → (object : Object) (token : Token) → IsLiteral object.body → Begins bytes object token 0 → LeavesOpen bytes (after_object brackets) (tokens ++ token ∷ [])
 leaves-key bytes outer brackets Item opening front within tokens before free few s is are object token named begins =
     leaves-whole bytes (inside outer brackets Item opening front within tokens before free few s is are) (ap is_key_due is) (object ∷ []) (token ∷ []) (plain-literal bytes (length brackets) object token named begins)
 leaves-key bytes outer brackets Key opening front within tokens before free few s is are object token named begins =
-    inside outer (filled brackets) Value opening front (within ++ token ∷ []) (tokens ++ token ∷ []) before free few
+    inside outer (after_object brackets) Value opening front (within ++ token ∷ []) (tokens ++ token ∷ []) before free few
     (s.0, s.1, within, object, token, s.2, named, begins, refl)
-    (ap filled is)
+    (ap after_object is)
     (ap (λ ts. ts ++ token ∷ []) are ∙ append_assoc front (opening ∷ within) (token ∷ []))
 leaves-key bytes outer brackets Value opening front within tokens before free few s is are object token named begins =
     leaves-whole bytes (inside outer brackets Value opening front within tokens before free few s is are) (ap is_key_due is) (object ∷ []) (token ∷ []) (plain-literal bytes (length brackets) object token named begins)
 
 leaves-literal : (bytes : List ℕ) {brackets : List Bracket} {tokens : List Token} → LeavesOpen bytes brackets tokens → (object : Object) (token : Token) → IsLiteral object.body → Begins bytes object token 0
-    → LeavesOpen bytes (filled brackets) (tokens ++ token ∷ [])
+    → LeavesOpen bytes (after_object brackets) (tokens ++ token ∷ [])
 leaves-literal bytes (none found tokens written) object token named begins =
     leaves-whole bytes (none found tokens written) refl (object ∷ []) (token ∷ []) (plain-literal bytes 0 object token named begins)
 leaves-literal bytes (inside outer brackets expects opening front within tokens before free few s is are) object token named begins =
@@ -103,14 +103,14 @@ abbrev bracket_object : Token → Body → List Object → Object
 bracket_object opening body inner = record { at = opening.at; inside = length inner; body = body }
 
 ended-array : (bytes : List ℕ) (outer : List Bracket) (opening closing : Token) (front within : List Token) → LeavesOpen bytes outer front → is_key_due outer ≡ false → length outer < 16
-    → StandsIn bytes Item (suc (length outer)) opening within → closing.kind ≡ kinds.CloseArray → LeavesOpen bytes (filled outer) (front ++ (opening ∷ (within ++ closing ∷ [])))
+    → StandsIn bytes Item (suc (length outer)) opening within → closing.kind ≡ kinds.CloseArray → LeavesOpen bytes (after_object outer) (front ++ (opening ∷ (within ++ closing ∷ [])))
 ended-array bytes outer opening closing front within before free few s ends =
     let object = bracket_object opening Array s.1 in
     leaves-whole bytes before free (object ∷ s.1) (opening ∷ (within ++ closing ∷ []))
     (array (length outer) object opening closing s.1 within (opening ∷ (within ++ closing ∷ [])) refl (record { place = refl; count = refl; meaning = s.0 }) ends few s.2 refl)
 
 ended-dict : (bytes : List ℕ) (outer : List Bracket) (opening closing : Token) (front within : List Token) → LeavesOpen bytes outer front → is_key_due outer ≡ false → length outer < 16
-    → StandsIn bytes Key (suc (length outer)) opening within → closing.kind ≡ kinds.CloseDict → LeavesOpen bytes (filled outer) (front ++ (opening ∷ (within ++ closing ∷ [])))
+    → StandsIn bytes Key (suc (length outer)) opening within → closing.kind ≡ kinds.CloseDict → LeavesOpen bytes (after_object outer) (front ++ (opening ∷ (within ++ closing ∷ [])))
 ended-dict bytes outer opening closing front within before free few s ends =
     let object = bracket_object opening Dict s.1 in
     leaves-whole bytes before free (object ∷ s.1) (opening ∷ (within ++ closing ∷ []))
@@ -118,29 +118,29 @@ ended-dict bytes outer opening closing front within before free few s ends =
 
 close-expects : (bytes : List ℕ) (outer : List Bracket) (expects : Expects) (opening closing : Token) (front within : List Token) (new : List Bracket) → LeavesOpen bytes outer front → is_key_due outer ≡ false
     → length outer < 16 → StandsIn bytes expects (suc (length outer)) opening within
-    → ((closing.kind ≡ kinds.CloseArray) × (array_end expects (filled outer) ≡ Ok new)) ⊎ ((closing.kind ≡ kinds.CloseDict) × (dict_end expects (filled outer) ≡ Ok new))
+    → ((closing.kind ≡ kinds.CloseArray) × (array_end expects (after_object outer) ≡ Ok new)) ⊎ ((closing.kind ≡ kinds.CloseDict) × (dict_end expects (after_object outer) ≡ Ok new))
     → LeavesOpen bytes new (front ++ (opening ∷ (within ++ closing ∷ [])))
 close-expects bytes outer Item opening closing front within new before free few s (inl both) =
-    subst (λ b. LeavesOpen bytes b (front ++ (opening ∷ (within ++ closing ∷ [])))) (same_ok (filled outer) new both.1) (ended-array bytes outer opening closing front within before free few s both.0)
+    subst (λ b. LeavesOpen bytes b (front ++ (opening ∷ (within ++ closing ∷ [])))) (same_ok (after_object outer) new both.1) (ended-array bytes outer opening closing front within before free few s both.0)
 close-expects bytes outer Item opening closing front within new before free few s (inr both) = absurd (err_is_no_ok Unmatched new both.1)
 close-expects bytes outer Key opening closing front within new before free few s (inl both) = absurd (err_is_no_ok Unmatched new both.1)
 close-expects bytes outer Key opening closing front within new before free few s (inr both) =
-    subst (λ b. LeavesOpen bytes b (front ++ (opening ∷ (within ++ closing ∷ [])))) (same_ok (filled outer) new both.1) (ended-dict bytes outer opening closing front within before free few s both.0)
+    subst (λ b. LeavesOpen bytes b (front ++ (opening ∷ (within ++ closing ∷ [])))) (same_ok (after_object outer) new both.1) (ended-dict bytes outer opening closing front within before free few s both.0)
 close-expects bytes outer Value opening closing front within new before free few s (inl both) = absurd (err_is_no_ok Unmatched new both.1)
 close-expects bytes outer Value opening closing front within new before free few s (inr both) = absurd (err_is_no_ok OddDictionary new both.1)
 
 leaves-closing : (bytes : List ℕ) {brackets : List Bracket} {tokens : List Token} → LeavesOpen bytes brackets tokens → (closing : Token) (new : List Bracket)
-    → ((closing.kind ≡ kinds.CloseArray) × (array_closed brackets ≡ Ok new)) ⊎ ((closing.kind ≡ kinds.CloseDict) × (dict_closed brackets ≡ Ok new))
+    → ((closing.kind ≡ kinds.CloseArray) × (after_array_end brackets ≡ Ok new)) ⊎ ((closing.kind ≡ kinds.CloseDict) × (after_dict_end brackets ≡ Ok new))
     → LeavesOpen bytes new (tokens ++ closing ∷ [])
-unfolding array_closed dict_closed
+unfolding after_array_end after_dict_end
 leaves-closing bytes (none found tokens written) closing new (inl both) = absurd (err_is_no_ok Unmatched new both.1)
 leaves-closing bytes (none found tokens written) closing new (inr both) = absurd (err_is_no_ok Unmatched new both.1)
 leaves-closing bytes (inside outer brackets expects opening front within tokens before free few s is are) closing new (inl both) =
     let e : front ++ (opening ∷ (within ++ closing ∷ [])) ≡ tokens ++ closing ∷ [] = sym (append_assoc front (opening ∷ within) (closing ∷ [])) ∙ ap (λ ts. ts ++ closing ∷ []) (sym are) in
-    subst (LeavesOpen bytes new) e (close-expects bytes outer expects opening closing front within new before free few s (inl (both.0, sym (ap array_closed is) ∙ both.1)))
+    subst (LeavesOpen bytes new) e (close-expects bytes outer expects opening closing front within new before free few s (inl (both.0, sym (ap after_array_end is) ∙ both.1)))
 leaves-closing bytes (inside outer brackets expects opening front within tokens before free few s is are) closing new (inr both) =
     let e : front ++ (opening ∷ (within ++ closing ∷ [])) ≡ tokens ++ closing ∷ [] = sym (append_assoc front (opening ∷ within) (closing ∷ [])) ∙ ap (λ ts. ts ++ closing ∷ []) (sym are) in
-    subst (LeavesOpen bytes new) e (close-expects bytes outer expects opening closing front within new before free few s (inr (both.0, sym (ap dict_closed is) ∙ both.1)))
+    subst (LeavesOpen bytes new) e (close-expects bytes outer expects opening closing front within new before free few s (inr (both.0, sym (ap after_dict_end is) ∙ both.1)))
 
 -- an opening token begins one more
 leaves-array : (bytes : List ℕ) (brackets new : List Bracket) (tokens : List Token) (token : Token) → LeavesOpen bytes brackets tokens → length brackets ≤ 16 → token.kind ≡ kinds.OpenArray
@@ -166,7 +166,7 @@ leaves-plain bytes brackets new tokens token before closes simple put =
     (plain (length brackets) object token simple (record { place = refl; count = refl; meaning = begun token.kind (spelling bytes token) closes })))
 
 leaves-word : (bytes : List ℕ) (brackets new : List Bracket) (tokens : List Token) (token : Token) → LeavesOpen bytes brackets tokens → token.kind ≡ kinds.Word
-    → judged_as kinds.Word token.at (is_value_word (spelling bytes token)) brackets ≡ Ok new → LeavesOpen bytes new (tokens ++ token ∷ [])
+    → after_kind kinds.Word token.at (is_value_word (spelling bytes token)) brackets ≡ Ok new → LeavesOpen bytes new (tokens ++ token ∷ [])
 leaves-word bytes brackets new tokens token before is put =
     let word = spelling bytes token in
     let closes : is_closing token.kind ≡ false = ap is_closing is in
@@ -182,7 +182,7 @@ leaves-word bytes brackets new tokens token before is put =
     (cases_Bool (is_value_word word))
 
 leaves-next : (bytes : List ℕ) (brackets new : List Bracket) (tokens : List Token) (token : Token) → LeavesOpen bytes brackets tokens → length brackets ≤ 16 → (kind : TokenKind) → token.kind ≡ kind
-    → judged_as kind token.at (is_value_word (spelling bytes token)) brackets ≡ Ok new → LeavesOpen bytes new (tokens ++ token ∷ [])
+    → after_kind kind token.at (is_value_word (spelling bytes token)) brackets ≡ Ok new → LeavesOpen bytes new (tokens ++ token ∷ [])
 leaves-next bytes brackets new tokens token before most kinds.OpenDict is put = leaves-dict bytes brackets new tokens token before most is (open-bracket token.at Key brackets new put)
 leaves-next bytes brackets new tokens token before most kinds.CloseDict is put = leaves-closing bytes before token new (inr (is, put))
 leaves-next bytes brackets new tokens token before most kinds.OpenArray is put = leaves-array bytes brackets new tokens token before most is (open-bracket token.at Item brackets new put)
@@ -190,7 +190,7 @@ leaves-next bytes brackets new tokens token before most kinds.CloseArray is put 
 leaves-next bytes brackets new tokens token before most kinds.Literal is put =
     let object = plain_object bytes token in
     let named : IsLiteral object.body = (drop 1 (spelling bytes token), ap (λ k. body_as k (spelling bytes token)) is) in
-    subst (λ b. LeavesOpen bytes b (tokens ++ token ∷ [])) (same_ok (filled brackets) new put)
+    subst (λ b. LeavesOpen bytes b (tokens ++ token ∷ [])) (same_ok (after_object brackets) new put)
     (leaves-literal bytes before object token named (record { place = refl; count = refl; meaning = begun token.kind (spelling bytes token) (ap is_closing is) }))
 leaves-next bytes brackets new tokens token before most kinds.Word is put = leaves-word bytes brackets new tokens token before is put
 leaves-next bytes brackets new tokens token before most (kinds.Number n) is put =
@@ -209,8 +209,8 @@ fault_is_no_ok fault last e = cc
 
 -- tokens, one after the other
 left-next : (bytes : List ℕ) (done : List Token) (token : Token) (tokens : List Token) (brackets last : List Bracket) → LeavesOpen bytes brackets done → length brackets ≤ 16
-    → ((new : List Bracket) → LeavesOpen bytes new (done ++ token ∷ []) → length new ≤ 16 → fold (judged_on bytes) (Ok new) tokens ≡ Ok last → LeavesOpen bytes last ((done ++ token ∷ []) ++ tokens))
-    → (result : Result (List Bracket) FaultKind) → judged bytes token brackets ≡ result → fold (judged_on bytes) (placed token.at result) tokens ≡ Ok last
+    → ((new : List Bracket) → LeavesOpen bytes new (done ++ token ∷ []) → length new ≤ 16 → fold (after_next bytes) (Ok new) tokens ≡ Ok last → LeavesOpen bytes last ((done ++ token ∷ []) ++ tokens))
+    → (result : Result (List Bracket) FaultKind) → after_token bytes token brackets ≡ result → fold (after_next bytes) (at_token token.at result) tokens ≡ Ok last
     → LeavesOpen bytes last (done ++ token ∷ tokens)
 left-next bytes done token tokens brackets last before most later (Ok new) put is =
     subst (LeavesOpen bytes last) (append_assoc done (token ∷ []) tokens)
@@ -219,12 +219,12 @@ left-next bytes done token tokens brackets last before most later (Err kind) put
     let fault : JobFault = record { kind = kind; at = token.at } in
     absurd (fault_is_no_ok fault last (sym (fold-err bytes fault tokens) ∙ is))
 
-left : (bytes : List ℕ) (tokens done : List Token) (brackets last : List Bracket) → LeavesOpen bytes brackets done → length brackets ≤ 16 → fold (judged_on bytes) (Ok brackets) tokens ≡ Ok last
+left : (bytes : List ℕ) (tokens done : List Token) (brackets last : List Bracket) → LeavesOpen bytes brackets done → length brackets ≤ 16 → fold (after_next bytes) (Ok brackets) tokens ≡ Ok last
     → LeavesOpen bytes last (done ++ tokens)
 left bytes [] done brackets last before most is =
     subst (λ b. LeavesOpen bytes b (done ++ [])) (same_all brackets last is) (subst (LeavesOpen bytes brackets) (sym (append-nil done)) before)
 left bytes (token ∷ tokens) done brackets last before most is =
-    left-next bytes done token tokens brackets last before most (λ new more fits go. left bytes tokens (done ++ token ∷ []) new last more fits go) (judged bytes token brackets) refl is
+    left-next bytes done token tokens brackets last before most (λ new more fits go. left bytes tokens (done ++ token ∷ []) new last more fits go) (after_token bytes token brackets) refl is
 
 -- the brackets that are open are left open
 pub brackets-left : (bytes : List ℕ) (tokens : List Token) (brackets : List Bracket) → brackets_after bytes tokens ≡ Ok brackets → LeavesOpen bytes brackets tokens
@@ -237,31 +237,31 @@ first_expected Key = Key
 first_expected Value = Key
 
 -- the brackets that are left open are open
-within-judged : (bytes : List ℕ) (expects : Expects) (depth : ℕ) (opening : Token) (within : List Token) (outer : List Bracket) → suc (length outer) ≡ depth → StandsIn bytes expects depth opening within
-    → fold (judged_on bytes) (Ok (bracket_of opening.at (first_expected expects) ∷ outer)) within ≡ Ok (bracket_of opening.at expects ∷ outer)
-within-judged bytes Item depth opening within outer count s = writes-judged bytes s.2 (bracket_of opening.at Item ∷ outer) (count, refl, refl)
-within-judged bytes Key depth opening within outer count s = writes-judged bytes s.2 (bracket_of opening.at Key ∷ outer) (opening.at, outer, refl, count)
-within-judged bytes Value depth opening within outer count s =
+within-after_token : (bytes : List ℕ) (expects : Expects) (depth : ℕ) (opening : Token) (within : List Token) (outer : List Bracket) → suc (length outer) ≡ depth → StandsIn bytes expects depth opening within
+    → fold (after_next bytes) (Ok (bracket_of opening.at (first_expected expects) ∷ outer)) within ≡ Ok (bracket_of opening.at expects ∷ outer)
+within-after_token bytes Item depth opening within outer count s = writes-after_token bytes s.2 (bracket_of opening.at Item ∷ outer) (count, refl, refl)
+within-after_token bytes Key depth opening within outer count s = writes-after_token bytes s.2 (bracket_of opening.at Key ∷ outer) (opening.at, outer, refl, count)
+within-after_token bytes Value depth opening within outer count s =
     let due = bracket_of opening.at Key ∷ outer in
-    ap (fold (judged_on bytes) (Ok due)) s.8
-    ∙ judged-append bytes due due s.2 (s.4 ∷ []) (writes-judged bytes s.5 due (opening.at, outer, refl, count))
-    ∙ judged-last bytes due (bracket_of opening.at Value ∷ outer) s.4 (judged-literal s.3.body s.4.kind (spelling bytes s.4) s.4.at due s.6 s.7.meaning)
+    ap (fold (after_next bytes) (Ok due)) s.8
+    ∙ after_token-append bytes due due s.2 (s.4 ∷ []) (writes-after_token bytes s.5 due (opening.at, outer, refl, count))
+    ∙ after_token-last bytes due (bracket_of opening.at Value ∷ outer) s.4 (after_token-literal s.3.body s.4.kind (spelling bytes s.4) s.4.at due s.6 s.7.meaning)
 
-opening-judged : (bytes : List ℕ) (expects : Expects) (depth : ℕ) (opening : Token) (within : List Token) (brackets : List Bracket) → is_key_due brackets ≡ false → length brackets < 16
-    → StandsIn bytes expects depth opening within → judged bytes opening brackets ≡ Ok (bracket_of opening.at (first_expected expects) ∷ filled brackets)
-opening-judged bytes Item depth opening within brackets free few s = ap (λ k. judged_as k opening.at (is_value_word (spelling bytes opening)) brackets) s.0 ∙ opened-bracket opening.at Item brackets free few
-opening-judged bytes Key depth opening within brackets free few s = ap (λ k. judged_as k opening.at (is_value_word (spelling bytes opening)) brackets) s.0 ∙ opened-bracket opening.at Key brackets free few
-opening-judged bytes Value depth opening within brackets free few s = ap (λ k. judged_as k opening.at (is_value_word (spelling bytes opening)) brackets) s.0 ∙ opened-bracket opening.at Key brackets free few
+opening-after_token : (bytes : List ℕ) (expects : Expects) (depth : ℕ) (opening : Token) (within : List Token) (brackets : List Bracket) → is_key_due brackets ≡ false → length brackets < 16
+    → StandsIn bytes expects depth opening within → after_token bytes opening brackets ≡ Ok (bracket_of opening.at (first_expected expects) ∷ after_object brackets)
+opening-after_token bytes Item depth opening within brackets free few s = ap (λ k. after_kind k opening.at (is_value_word (spelling bytes opening)) brackets) s.0 ∙ after_opening-bracket opening.at Item brackets free few
+opening-after_token bytes Key depth opening within brackets free few s = ap (λ k. after_kind k opening.at (is_value_word (spelling bytes opening)) brackets) s.0 ∙ after_opening-bracket opening.at Key brackets free few
+opening-after_token bytes Value depth opening within brackets free few s = ap (λ k. after_kind k opening.at (is_value_word (spelling bytes opening)) brackets) s.0 ∙ after_opening-bracket opening.at Key brackets free few
 
-left-judged : (bytes : List ℕ) {brackets : List Bracket} {tokens : List Token} → LeavesOpen bytes brackets tokens → fold (judged_on bytes) (Ok []) tokens ≡ Ok brackets
-left-judged bytes (none found tokens written) = writes-judged bytes written [] (refl, refl, refl)
-left-judged bytes (inside outer brackets expects opening front within tokens before free few s is are) =
-    let fresh = bracket_of opening.at (first_expected expects) ∷ filled outer in
-    ap (fold (judged_on bytes) (Ok [])) are
-    ∙ judged-append bytes [] outer front (opening ∷ within) (left-judged bytes before)
-    ∙ judged-first bytes outer fresh opening within (opening-judged bytes expects (suc (length outer)) opening within outer free few s)
-    ∙ within-judged bytes expects (suc (length outer)) opening within (filled outer) (ap (λ n. suc n) (length-filled outer)) s
+left-after_token : (bytes : List ℕ) {brackets : List Bracket} {tokens : List Token} → LeavesOpen bytes brackets tokens → fold (after_next bytes) (Ok []) tokens ≡ Ok brackets
+left-after_token bytes (none found tokens written) = writes-after_token bytes written [] (refl, refl, refl)
+left-after_token bytes (inside outer brackets expects opening front within tokens before free few s is are) =
+    let fresh = bracket_of opening.at (first_expected expects) ∷ after_object outer in
+    ap (fold (after_next bytes) (Ok [])) are
+    ∙ after_token-append bytes [] outer front (opening ∷ within) (left-after_token bytes before)
+    ∙ after_token-first bytes outer fresh opening within (opening-after_token bytes expects (suc (length outer)) opening within outer free few s)
+    ∙ within-after_token bytes expects (suc (length outer)) opening within (after_object outer) (ap (λ n. suc n) (length-after_object outer)) s
     ∙ ap (λ b. Ok b) (sym is)
 
 pub left-brackets : (bytes : List ℕ) (tokens : List Token) (brackets : List Bracket) → LeavesOpen bytes brackets tokens → brackets_after bytes tokens ≡ Ok brackets
-left-brackets bytes tokens brackets are = left-judged bytes are
+left-brackets bytes tokens brackets are = left-after_token bytes are

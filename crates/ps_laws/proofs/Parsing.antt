@@ -18,11 +18,11 @@ use Rattle.ps_tokens.specs.declared.object.Body.{Body}
 use Rattle.ps_tokens.specs.declared.object.Body.TheVariants.{Array, Dict}
 use Rattle.ps_tokens.specs.declared.object.Object.{Object}
 use Rattle.ps_tokens.specs.Words.{spelling, is_value_word}
-use Rattle.ps_tokens.specs.Brackets.{next_expected, filled, is_key, is_key_due, opened, array_end, array_closed, dict_end, dict_closed, value_put, operator_put, judged_as, judged, placed, judged_on, brackets_after}
-use Rattle.ps_tokens.specs.Objects.{is_opening, is_closing, count_inside, word_body, body_as, object_of, objects_in, closed, objects_of}
+use Rattle.ps_tokens.specs.Brackets.{next_expected, after_object, is_key, is_key_due, after_opening, array_end, after_array_end, dict_end, after_dict_end, after_value, after_operator, after_kind, after_token, at_token, after_next, brackets_after}
+use Rattle.ps_tokens.specs.Objects.{is_opening, is_closing, count_inside, word_body, body_as, object_of, objects_in, unless_open, objects_of}
 use Rattle.ps_tokens.proofs.Judgements.{fold-err}
 use Rattle.ps_laws.specs.Writes.{IsValueWord, IsBegunBy, Begins, IsLiteral, IsPlain, whole, items, entries, Writes, plain, array, dict, no_item, next_item, no_entry, next_entry, WritesOut}
-use Rattle.ps_laws.proofs.Judging.{is_value-word, length-filled, writes-judged}
+use Rattle.ps_laws.proofs.Judging.{is_value-word, length-after_object, writes-after_token}
 use Rattle.ps_laws.proofs.Listing.{writes-count, writes-listed, count-end}
 
 -- what is left of an open bracket: items, entries, or a value and then entries
@@ -61,7 +61,7 @@ end-whole Key kind due is = absurd (false≢true (sym due))
 end-whole Value kind due is = is
 
 rest-whole : (bytes : List ℕ) (brackets : List Bracket) (first objects : List Object) (front tokens : List Token) → is_key_due brackets ≡ false
-    → Writes bytes whole (length brackets) first front → Rest bytes (filled brackets) objects tokens → Rest bytes brackets (first ++ objects) (front ++ tokens)
+    → Writes bytes whole (length brackets) first front → Rest bytes (after_object brackets) objects tokens → Rest bytes brackets (first ++ objects) (front ++ tokens)
 rest-whole bytes [] first objects front tokens due one more = next_item 0 first objects (first ++ objects) front tokens (front ++ tokens) one more refl refl
 rest-whole bytes (bracket ∷ outer) first objects front tokens due one more = (
   first ++ more.0,
@@ -112,7 +112,7 @@ literal-within bytes at Value outer object objects token tokens named begins mor
     rest-whole bytes (bracket_of at Value ∷ outer) (object ∷ []) objects (token ∷ []) tokens refl (plain-literal bytes (suc (length outer)) object token named begins) more
 
 rest-literal : (bytes : List ℕ) (brackets : List Bracket) (object : Object) (objects : List Object) (token : Token) (tokens : List Token) → IsLiteral object.body → Begins bytes object token 0
-    → Rest bytes (filled brackets) objects tokens → Rest bytes brackets (object ∷ objects) (token ∷ tokens)
+    → Rest bytes (after_object brackets) objects tokens → Rest bytes brackets (object ∷ objects) (token ∷ tokens)
 rest-literal bytes [] object objects token tokens named begins more =
     rest-whole bytes [] (object ∷ []) objects (token ∷ []) tokens refl (plain-literal bytes 0 object token named begins) more
 rest-literal bytes (bracket ∷ outer) object objects token tokens named begins more = literal-within bytes bracket.at bracket.expects outer object objects token tokens named begins more
@@ -120,10 +120,10 @@ rest-literal bytes (bracket ∷ outer) object objects token tokens named begins 
 -- a bracket more, up to its end
 rest-array : (bytes : List ℕ) (brackets : List Bracket) (at : ℕ) (object : Object) (objects : List Object) (token : Token) (tokens : List Token) → is_key_due brackets ≡ false → length brackets < 16
     → object.body ≡ Array → Begins bytes object token (count_inside 0 tokens)
-    → Rest bytes (record { at = at; expects = Item } ∷ filled brackets) objects tokens → Rest bytes brackets (object ∷ objects) (token ∷ tokens)
+    → Rest bytes (record { at = at; expects = Item } ∷ after_object brackets) objects tokens → Rest bytes brackets (object ∷ objects) (token ∷ tokens)
 rest-array bytes brackets at object objects token tokens due few is begins more =
     let closes : is_closing more.3.kind ≡ true = ap is_closing more.6 in
-    let within : Writes bytes items (suc (length brackets)) more.0 more.2 = subst (λ n. Writes bytes items (suc n) more.0 more.2) (length-filled brackets) more.5 in
+    let within : Writes bytes items (suc (length brackets)) more.0 more.2 = subst (λ n. Writes bytes items (suc n) more.0 more.2) (length-after_object brackets) more.5 in
     let n : count_inside 0 tokens ≡ length more.0 =
     ap (count_inside 0) more.9 ∙ writes-count bytes within 0 (more.3 ∷ more.4) ∙ ap (λ k. length more.0 + k) (count-end more.3 more.4 closes) ∙ add-zero (length more.0) in
     let front = token ∷ (more.2 ++ more.3 ∷ []) in
@@ -135,10 +135,10 @@ rest-array bytes brackets at object objects token tokens due few is begins more 
 
 rest-dict : (bytes : List ℕ) (brackets : List Bracket) (at : ℕ) (object : Object) (objects : List Object) (token : Token) (tokens : List Token) → is_key_due brackets ≡ false → length brackets < 16
     → object.body ≡ Dict → Begins bytes object token (count_inside 0 tokens)
-    → Rest bytes (record { at = at; expects = Key } ∷ filled brackets) objects tokens → Rest bytes brackets (object ∷ objects) (token ∷ tokens)
+    → Rest bytes (record { at = at; expects = Key } ∷ after_object brackets) objects tokens → Rest bytes brackets (object ∷ objects) (token ∷ tokens)
 rest-dict bytes brackets at object objects token tokens due few is begins more =
     let closes : is_closing more.3.kind ≡ true = ap is_closing more.6 in
-    let within : Writes bytes entries (suc (length brackets)) more.0 more.2 = subst (λ n. Writes bytes entries (suc n) more.0 more.2) (length-filled brackets) more.5 in
+    let within : Writes bytes entries (suc (length brackets)) more.0 more.2 = subst (λ n. Writes bytes entries (suc n) more.0 more.2) (length-after_object brackets) more.5 in
     let n : count_inside 0 tokens ≡ length more.0 =
     ap (count_inside 0) more.9 ∙ writes-count bytes within 0 (more.3 ∷ more.4) ∙ ap (λ k. length more.0 + k) (count-end more.3 more.4 closes) ∙ add-zero (length more.0) in
     let front = token ∷ (more.2 ++ more.3 ∷ []) in
@@ -178,23 +178,23 @@ no_value_word word f g h (inr (inr is)) = false≢true (sym h ∙ (bytes_eq-Deci
 -- what a token that has no fault shows
 pub record IsPut (brackets new : List Bracket) : Type 0 where
   pub due : is_key_due brackets ≡ false
-  pub are : filled brackets ≡ new
+  pub are : after_object brackets ≡ new
 
 pub record IsOpened (at : ℕ) (expects : Expects) (brackets new : List Bracket) : Type 0 where
   pub due : is_key_due brackets ≡ false
   pub few : length brackets ≡ 16 → ⊥
-  pub are : bracket_of at expects ∷ filled brackets ≡ new
+  pub are : bracket_of at expects ∷ after_object brackets ≡ new
 
-pub put-value : (brackets new : List Bracket) → value_put brackets ≡ Ok new → IsPut brackets new
-unfolding value_put
+pub put-value : (brackets new : List Bracket) → after_value brackets ≡ Ok new → IsPut brackets new
+unfolding after_value
 put-value brackets new is =
     ⊎_elim
     (λ (t : is_key_due brackets ≡ true). absurd (err_is_no_ok KeyNotName new (rw t at is)))
-    (λ (f : is_key_due brackets ≡ false). record { due = f; are = same_ok (filled brackets) new (rw f at is) })
+    (λ (f : is_key_due brackets ≡ false). record { due = f; are = same_ok (after_object brackets) new (rw f at is) })
     (cases_Bool (is_key_due brackets))
 
-pub put-operator : (brackets new : List Bracket) → operator_put brackets ≡ Ok new → IsPut brackets new × (length brackets ≡ 0)
-unfolding operator_put
+pub put-operator : (brackets new : List Bracket) → after_operator brackets ≡ Ok new → IsPut brackets new × (length brackets ≡ 0)
+unfolding after_operator
 put-operator [] new is = (record { due = refl; are = same_ok [] new is }, refl)
 put-operator (bracket ∷ outer) new is =
     ⊎_elim
@@ -204,15 +204,15 @@ put-operator (bracket ∷ outer) new is =
     absurd (err_is_no_ok NameInside new (rw (f, some) at is)))
     (cases_Bool (is_key bracket.expects))
 
-pub open-bracket : (at : ℕ) (expects : Expects) (brackets new : List Bracket) → opened at expects brackets ≡ Ok new → IsOpened at expects brackets new
-unfolding opened
+pub open-bracket : (at : ℕ) (expects : Expects) (brackets new : List Bracket) → after_opening at expects brackets ≡ Ok new → IsOpened at expects brackets new
+unfolding after_opening
 open-bracket at expects brackets new is =
     ⊎_elim
     (λ (t : is_key_due brackets ≡ true). absurd (err_is_no_ok KeyNotName new (rw t at is)))
     (λ (f : is_key_due brackets ≡ false).
     ⊎_elim
     (λ (t : eqb (length brackets) 16 ≡ true). absurd (err_is_no_ok TooDeep new (rw (f, t) at is)))
-    (λ (g : eqb (length brackets) 16 ≡ false). record { due = f; few = eqb-false (length brackets) 16 g; are = same_ok (bracket_of at expects ∷ filled brackets) new (rw (f, g) at is) })
+    (λ (g : eqb (length brackets) 16 ≡ false). record { due = f; few = eqb-false (length brackets) 16 g; are = same_ok (bracket_of at expects ∷ after_object brackets) new (rw (f, g) at is) })
     (cases_Bool (eqb (length brackets) 16)))
     (cases_Bool (is_key_due brackets))
 
@@ -231,15 +231,15 @@ end-dict bytes at Key outer new objects token tokens kind is more =
     ([], objects, [], token, tokens, no_entry (suc (length outer)), kind, subst (λ b. Rest bytes b objects tokens) (sym (same_ok outer new is)) more, refl, refl)
 end-dict bytes at Value outer new objects token tokens kind is more = absurd (err_is_no_ok OddDictionary new is)
 
-close-array : (bytes : List ℕ) (brackets new : List Bracket) (objects : List Object) (token : Token) (tokens : List Token) → token.kind ≡ kinds.CloseArray → array_closed brackets ≡ Ok new
+close-array : (bytes : List ℕ) (brackets new : List Bracket) (objects : List Object) (token : Token) (tokens : List Token) → token.kind ≡ kinds.CloseArray → after_array_end brackets ≡ Ok new
     → Rest bytes new objects tokens → Rest bytes brackets objects (token ∷ tokens)
-unfolding array_closed
+unfolding after_array_end
 close-array bytes [] new objects token tokens kind is more = absurd (err_is_no_ok Unmatched new is)
 close-array bytes (bracket ∷ outer) new objects token tokens kind is more = end-array bytes bracket.at bracket.expects outer new objects token tokens kind is more
 
-close-dict : (bytes : List ℕ) (brackets new : List Bracket) (objects : List Object) (token : Token) (tokens : List Token) → token.kind ≡ kinds.CloseDict → dict_closed brackets ≡ Ok new
+close-dict : (bytes : List ℕ) (brackets new : List Bracket) (objects : List Object) (token : Token) (tokens : List Token) → token.kind ≡ kinds.CloseDict → after_dict_end brackets ≡ Ok new
     → Rest bytes new objects tokens → Rest bytes brackets objects (token ∷ tokens)
-unfolding dict_closed
+unfolding after_dict_end
 close-dict bytes [] new objects token tokens kind is more = absurd (err_is_no_ok Unmatched new is)
 close-dict bytes (bracket ∷ outer) new objects token tokens kind is more = end-dict bytes bracket.at bracket.expects outer new objects token tokens kind is more
 
@@ -302,7 +302,7 @@ step-plain bytes token tokens brackets new closes opens simple put more =
     (plain (length brackets) object token simple (simple-begun bytes token tokens closes opens))
     (subst (λ b. Rest bytes b objects tokens) (sym put.are) more))
 
-step-literal : (bytes : List ℕ) (token : Token) (tokens : List Token) (brackets : List Bracket) → token.kind ≡ kinds.Literal → Steps bytes token tokens brackets (filled brackets)
+step-literal : (bytes : List ℕ) (token : Token) (tokens : List Token) (brackets : List Bracket) → token.kind ≡ kinds.Literal → Steps bytes token tokens brackets (after_object brackets)
 step-literal bytes token tokens brackets is more =
     let object = object_of bytes token tokens in
     let closes : is_closing token.kind ≡ false = ap is_closing is in
@@ -333,7 +333,7 @@ step-dict bytes token tokens brackets new most is o more =
     (subst (λ b. Rest bytes b objects tokens) (sym o.are) more))
 
 step-word : (bytes : List ℕ) (token : Token) (tokens : List Token) (brackets new : List Bracket) → token.kind ≡ kinds.Word
-    → judged_as kinds.Word token.at (is_value_word (spelling bytes token)) brackets ≡ Ok new → Steps bytes token tokens brackets new
+    → after_kind kinds.Word token.at (is_value_word (spelling bytes token)) brackets ≡ Ok new → Steps bytes token tokens brackets new
 step-word bytes token tokens brackets new is put =
     let word = spelling bytes token in
     let closes : is_closing token.kind ≡ false = ap is_closing is in
@@ -350,7 +350,7 @@ step-word bytes token tokens brackets new is put =
     (cases_Bool (is_value_word word))
 
 step : (bytes : List ℕ) (token : Token) (tokens : List Token) (brackets new : List Bracket) → length brackets ≤ 16 → (kind : TokenKind) → token.kind ≡ kind
-    → judged_as kind token.at (is_value_word (spelling bytes token)) brackets ≡ Ok new → Steps bytes token tokens brackets new
+    → after_kind kind token.at (is_value_word (spelling bytes token)) brackets ≡ Ok new → Steps bytes token tokens brackets new
 step bytes token tokens brackets new most kinds.OpenDict is put = step-dict bytes token tokens brackets new most is (open-bracket token.at Key brackets new put)
 step bytes token tokens brackets new most kinds.CloseDict is put =
     λ more. subst (λ os. Rest bytes brackets os (token ∷ tokens)) (listed-closing bytes token tokens (ap is_closing is)) (close-dict bytes brackets new (objects_in bytes tokens) token tokens is put more)
@@ -358,7 +358,7 @@ step bytes token tokens brackets new most kinds.OpenArray is put = step-array by
 step bytes token tokens brackets new most kinds.CloseArray is put =
     λ more. subst (λ os. Rest bytes brackets os (token ∷ tokens)) (listed-closing bytes token tokens (ap is_closing is)) (close-array bytes brackets new (objects_in bytes tokens) token tokens is put more)
 step bytes token tokens brackets new most kinds.Literal is put =
-    λ more. step-literal bytes token tokens brackets is (subst (λ b. Rest bytes b (objects_in bytes tokens) tokens) (sym (same_ok (filled brackets) new put)) more)
+    λ more. step-literal bytes token tokens brackets is (subst (λ b. Rest bytes b (objects_in bytes tokens) tokens) (sym (same_ok (after_object brackets) new put)) more)
 step bytes token tokens brackets new most kinds.Word is put = step-word bytes token tokens brackets new is put
 step bytes token tokens brackets new most (kinds.Number n) is put =
     step-plain bytes token tokens brackets new (ap is_closing is) (ap is_opening is) (subst (IsPlain (length brackets)) (ap (λ k. body_as k (spelling bytes token)) (sym is)) tt) (put-value brackets new put)
@@ -367,7 +367,7 @@ step bytes token tokens brackets new most kinds.Text is put =
 
 -- never more than 16 brackets are open
 few-put : (brackets new : List Bracket) → length brackets ≤ 16 → IsPut brackets new → length new ≤ 16
-few-put brackets new most put = omega (arith, length-filled brackets, ap length put.are)
+few-put brackets new most put = omega (arith, length-after_object brackets, ap length put.are)
 
 few-ended-array : (expects : Expects) (outer new : List Bracket) → length outer ≤ 16 → array_end expects outer ≡ Ok new → length new ≤ 16
 few-ended-array Item outer new most is = omega (arith, ap length (same_ok outer new is))
@@ -379,24 +379,24 @@ few-ended-dict Item outer new most is = absurd (err_is_no_ok Unmatched new is)
 few-ended-dict Key outer new most is = omega (arith, ap length (same_ok outer new is))
 few-ended-dict Value outer new most is = absurd (err_is_no_ok OddDictionary new is)
 
-few-closed : (brackets new : List Bracket) → length brackets ≤ 16 → (array_closed brackets ≡ Ok new) ⊎ (dict_closed brackets ≡ Ok new) → length new ≤ 16
-unfolding array_closed dict_closed
-few-closed [] new most (inl is) = absurd (err_is_no_ok Unmatched new is)
-few-closed [] new most (inr is) = absurd (err_is_no_ok Unmatched new is)
-few-closed (bracket ∷ outer) new most (inl is) = few-ended-array bracket.expects outer new (omega arith) is
-few-closed (bracket ∷ outer) new most (inr is) = few-ended-dict bracket.expects outer new (omega arith) is
+few-unless_open : (brackets new : List Bracket) → length brackets ≤ 16 → (after_array_end brackets ≡ Ok new) ⊎ (after_dict_end brackets ≡ Ok new) → length new ≤ 16
+unfolding after_array_end after_dict_end
+few-unless_open [] new most (inl is) = absurd (err_is_no_ok Unmatched new is)
+few-unless_open [] new most (inr is) = absurd (err_is_no_ok Unmatched new is)
+few-unless_open (bracket ∷ outer) new most (inl is) = few-ended-array bracket.expects outer new (omega arith) is
+few-unless_open (bracket ∷ outer) new most (inr is) = few-ended-dict bracket.expects outer new (omega arith) is
 
-few-opened : (at : ℕ) (expects : Expects) (brackets new : List Bracket) → length brackets ≤ 16 → IsOpened at expects brackets new → length new ≤ 16
-few-opened at expects brackets new most o =
+few-after_opening : (at : ℕ) (expects : Expects) (brackets new : List Bracket) → length brackets ≤ 16 → IsOpened at expects brackets new → length new ≤ 16
+few-after_opening at expects brackets new most o =
     let few = below-16 (length brackets) most o.few in
-    omega (arith, length-filled brackets, ap length o.are)
+    omega (arith, length-after_object brackets, ap length o.are)
 
-pub few : (kind : TokenKind) (at : ℕ) (value : Bool) (brackets new : List Bracket) → length brackets ≤ 16 → judged_as kind at value brackets ≡ Ok new → length new ≤ 16
-few kinds.OpenDict at value brackets new most put = few-opened at Key brackets new most (open-bracket at Key brackets new put)
-few kinds.CloseDict at value brackets new most put = few-closed brackets new most (inr put)
-few kinds.OpenArray at value brackets new most put = few-opened at Item brackets new most (open-bracket at Item brackets new put)
-few kinds.CloseArray at value brackets new most put = few-closed brackets new most (inl put)
-few kinds.Literal at value brackets new most put = omega (arith, length-filled brackets, ap length (same_ok (filled brackets) new put))
+pub few : (kind : TokenKind) (at : ℕ) (value : Bool) (brackets new : List Bracket) → length brackets ≤ 16 → after_kind kind at value brackets ≡ Ok new → length new ≤ 16
+few kinds.OpenDict at value brackets new most put = few-after_opening at Key brackets new most (open-bracket at Key brackets new put)
+few kinds.CloseDict at value brackets new most put = few-unless_open brackets new most (inr put)
+few kinds.OpenArray at value brackets new most put = few-after_opening at Item brackets new most (open-bracket at Item brackets new put)
+few kinds.CloseArray at value brackets new most put = few-unless_open brackets new most (inl put)
+few kinds.Literal at value brackets new most put = omega (arith, length-after_object brackets, ap length (same_ok (after_object brackets) new put))
 few kinds.Word at true brackets new most put = few-put brackets new most (put-value brackets new put)
 few kinds.Word at false brackets new most put = few-put brackets new most (put-operator brackets new put).0
 few (kinds.Number n) at value brackets new most put = few-put brackets new most (put-value brackets new put)
@@ -404,10 +404,10 @@ few kinds.Text at value brackets new most put = few-put brackets new most (put-v
 
 -- tokens, one after the other
 abbrev Parses : List ℕ → List Token → Type 0
-Parses bytes tokens = (brackets : List Bracket) → length brackets ≤ 16 → fold (judged_on bytes) (Ok brackets) tokens ≡ Ok [] → Rest bytes brackets (objects_in bytes tokens) tokens
+Parses bytes tokens = (brackets : List Bracket) → length brackets ≤ 16 → fold (after_next bytes) (Ok brackets) tokens ≡ Ok [] → Rest bytes brackets (objects_in bytes tokens) tokens
 
 parse-next : (bytes : List ℕ) (token : Token) (tokens : List Token) (brackets : List Bracket) → length brackets ≤ 16 → Parses bytes tokens
-    → (result : Result (List Bracket) FaultKind) → judged bytes token brackets ≡ result → fold (judged_on bytes) (placed token.at result) tokens ≡ Ok []
+    → (result : Result (List Bracket) FaultKind) → after_token bytes token brackets ≡ result → fold (after_next bytes) (at_token token.at result) tokens ≡ Ok []
     → Rest bytes brackets (objects_in bytes (token ∷ tokens)) (token ∷ tokens)
 parse-next bytes token tokens brackets most behind (Ok new) put is =
     step bytes token tokens brackets new most token.kind refl put (behind new (few token.kind token.at (is_value_word (spelling bytes token)) brackets new most put) is)
@@ -418,29 +418,29 @@ parse-next bytes token tokens brackets most behind (Err kind) put is =
 parse : (bytes : List ℕ) (tokens : List Token) → Parses bytes tokens
 parse bytes [] [] most is = no_item 0
 parse bytes [] (bracket ∷ outer) most is = absurd (some_is_no_none bracket outer is)
-parse bytes (token ∷ tokens) brackets most is = parse-next bytes token tokens brackets most (parse bytes tokens) (judged bytes token brackets) refl is
+parse bytes (token ∷ tokens) brackets most is = parse-next bytes token tokens brackets most (parse bytes tokens) (after_token bytes token brackets) refl is
 
 -- objects that are read are written out
 abbrev IsMeant : List ℕ → List Token → Result (List Object) JobFault → Type 0
 IsMeant bytes tokens (Ok objects) = (brackets_after bytes tokens ≡ Ok []) × (objects ≡ objects_in bytes tokens)
 IsMeant bytes tokens (Err fault) = Unit {0}
 
-closed-meant : (bytes : List ℕ) (tokens : List Token) (result : Result (List Bracket) JobFault) → brackets_after bytes tokens ≡ result → IsMeant bytes tokens (closed bytes tokens result)
-closed-meant bytes tokens (Ok []) is = (is, refl)
-closed-meant bytes tokens (Ok (bracket ∷ outer)) is = tt
-closed-meant bytes tokens (Err fault) is = tt
+unless_open-meant : (bytes : List ℕ) (tokens : List Token) (result : Result (List Bracket) JobFault) → brackets_after bytes tokens ≡ result → IsMeant bytes tokens (unless_open bytes tokens result)
+unless_open-meant bytes tokens (Ok []) is = (is, refl)
+unless_open-meant bytes tokens (Ok (bracket ∷ outer)) is = tt
+unless_open-meant bytes tokens (Err fault) is = tt
 
 pub objects-written : (bytes : List ℕ) (tokens : List Token) (objects : List Object) → objects_of bytes tokens ≡ Ok objects → WritesOut bytes objects tokens
 objects-written bytes tokens objects is =
-    let m : IsMeant bytes tokens (Ok objects) = subst (IsMeant bytes tokens) is (closed-meant bytes tokens (brackets_after bytes tokens) refl) in
+    let m : IsMeant bytes tokens (Ok objects) = subst (IsMeant bytes tokens) is (unless_open-meant bytes tokens (brackets_after bytes tokens) refl) in
     subst (λ os. WritesOut bytes os tokens) (sym m.1) (parse bytes tokens [] (omega arith) m.0)
 
 -- objects that are written out are read
 pub written-objects : (bytes : List ℕ) (tokens : List Token) (objects : List Object) → WritesOut bytes objects tokens → objects_of bytes tokens ≡ Ok objects
 written-objects bytes tokens objects written =
-    let balanced : brackets_after bytes tokens ≡ Ok [] = writes-judged bytes written [] (refl, refl, refl) in
+    let balanced : brackets_after bytes tokens ≡ Ok [] = writes-after_token bytes written [] (refl, refl, refl) in
     let listed : objects_in bytes tokens ≡ objects = ap (objects_in bytes) (sym (append-nil tokens)) ∙ writes-listed bytes written [] ∙ append-nil objects in
-    ap (closed bytes tokens) balanced ∙ ap (λ os. Ok os) listed
+    ap (unless_open bytes tokens) balanced ∙ ap (λ os. Ok os) listed
 
 pub one-list : (bytes : List ℕ) (tokens : List Token) (a b : List Object) → WritesOut bytes a tokens → WritesOut bytes b tokens → a ≡ b
 one-list bytes tokens a b first second =

@@ -12,9 +12,9 @@ use Rattle.ps_tokens.specs.declared.pieces.Piece.{Piece}
 use Rattle.ps_tokens.specs.declared.pieces.Piece.TheVariants.{Blank, Spelled, Broken}
 use Rattle.ps_tokens.specs.Bytes.{is_whitespace, is_regular, is_in_comment, begins_with, first_passes}
 use Rattle.ps_tokens.specs.Pieces.{piece_at, mark_piece}
-use Rattle.ps_tokens.specs.Tokens.{joined, tokens_from, tokens_of}
-use Rattle.ps_tokens.proofs.Scanning.{tokens_from-piece, tokens_from-broken, joined-joined, joined-nil}
-use Rattle.ps_tokens.proofs.Moving.{tokens_from-moved, space-moved, comment-moved}
+use Rattle.ps_tokens.specs.Tokens.{tokens_then, tokens_from, tokens_of}
+use Rattle.ps_tokens.proofs.Scanning.{tokens_from-piece, tokens_from-broken, tokens_then-tokens_then, tokens_then-nil}
+use Rattle.ps_tokens.proofs.Moving.{tokens_from-further_on, space-further_on, comment-further_on}
 use Rattle.ps_laws.specs.Gaps.{IsGap, nothing, blank, comment, IsEnd}
 use Rattle.ps_laws.specs.Shapes.{AreDigits, whole_alone, with_point, IsNumeral, IsString, in_parentheses, hexadecimal, IsToken}
 use Rattle.ps_laws.specs.Spells.{MayFollow, Stands, SpellsUntil, Spells, IsKindOf, Breaks}
@@ -57,14 +57,14 @@ some-token Text text string = some-string text string
 space-passed : (at b : ℕ) (rest : List ℕ) → is_whitespace b ≡ true → tokens_from at 0 (b ∷ rest) ≡ tokens_from (at + 1) 0 rest
 space-passed at b rest is =
     let e : 1 + at ≡ at + 1 = omega arith in
-    space-moved at b rest is ∙ sym (tokens_from-moved 1 at rest) ∙ ap (λ n. tokens_from n 0 rest) e
+    space-further_on at b rest is ∙ sym (tokens_from-further_on 1 at rest) ∙ ap (λ n. tokens_from n 0 rest) e
 
 comment-passed : (at ending : ℕ) (text rest : List ℕ) → list_all is_in_comment text ≡ true → is_in_comment ending ≡ false
     → tokens_from at 0 (37 ∷ (text ++ ending ∷ rest)) ≡ tokens_from (at + (length text + 2)) 0 rest
 comment-passed at ending text rest all ends =
     let e : length text + 2 + at ≡ at + (length text + 2) = omega arith in
-    comment-moved at ending text rest all ends (ends_line ending ends)
-    ∙ sym (tokens_from-moved (length text + 2) at rest) ∙ ap (λ n. tokens_from n 0 rest) e
+    comment-further_on at ending text rest all ends (ends_line ending ends)
+    ∙ sym (tokens_from-further_on (length text + 2) at rest) ∙ ap (λ n. tokens_from n 0 rest) e
 
 gap-passed : (at : ℕ) {gap : List ℕ} → IsGap gap → (after : List ℕ) → tokens_from at 0 (gap ++ after) ≡ tokens_from (at + length gap) 0 after
 gap-passed at nothing after = ap (λ n. tokens_from n 0 after) (sym (add-zero at))
@@ -98,45 +98,45 @@ last_comment-passed at text all =
     let len : 1 ≤ 1 + prefix_len is_in_comment text = omega arith in
     let left : drop (1 + prefix_len is_in_comment text) (37 ∷ text) ≡ [] = drop_all (1 + prefix_len is_in_comment text) (37 ∷ text) (omega arith) in
     tokens_from-piece at (37 ∷ text) (Blank (1 + prefix_len is_in_comment text)) (omega arith) (piece-comment text) len
-    ∙ ap (λ r. joined (Ok []) (tokens_from (at + (1 + prefix_len is_in_comment text)) 0 r)) left
-    ∙ ap (joined (Ok [])) (none-left (at + (1 + prefix_len is_in_comment text)))
+    ∙ ap (λ r. tokens_then (Ok []) (tokens_from (at + (1 + prefix_len is_in_comment text)) 0 r)) left
+    ∙ ap (tokens_then (Ok [])) (none-left (at + (1 + prefix_len is_in_comment text)))
 
 end-passed : (at : ℕ) (bytes : List ℕ) → IsEnd bytes → tokens_from at 0 bytes ≡ Ok []
 end-passed at bytes (inl is) = ap (tokens_from at 0) is ∙ none-left at
 end-passed at bytes (inr last) = ap (tokens_from at 0) last.2 ∙ last_comment-passed at last.0 last.1
 
 -- a token that stands is told
-token-told : (at : ℕ) (kind : TokenKind) (text after : List ℕ) → Stands kind text after
-    → tokens_from at 0 (text ++ after) ≡ joined (Ok (record { at = at; len = length text; kind = kind } ∷ [])) (tokens_from (at + length text) 0 after)
-token-told at kind text after stands =
+token-piece_tokens : (at : ℕ) (kind : TokenKind) (text after : List ℕ) → Stands kind text after
+    → tokens_from at 0 (text ++ after) ≡ tokens_then (Ok (record { at = at; len = length text; kind = kind } ∷ [])) (tokens_from (at + length text) 0 after)
+token-piece_tokens at kind text after stands =
     let some = some-token kind text stands.shaped in
     tokens_from-piece at (text ++ after) (Spelled kind (length text)) (omega (arith, length-append text after)) (piece-stands kind text after stands) some
-    ∙ ap (λ r. joined (Ok (record { at = at; len = length text; kind = kind } ∷ [])) (tokens_from (at + length text) 0 r)) (drop_at text after (length text) refl)
+    ∙ ap (λ r. tokens_then (Ok (record { at = at; len = length text; kind = kind } ∷ [])) (tokens_from (at + length text) 0 r)) (drop_at text after (length text) refl)
 
-joined-none : (result : Result (List Token) JobFault) → joined (Ok []) result ≡ result
-joined-none (Ok tokens) = refl
-joined-none (Err fault) = refl
+tokens_then-none : (result : Result (List Token) JobFault) → tokens_then (Ok []) result ≡ result
+tokens_then-none (Ok tokens) = refl
+tokens_then-none (Err fault) = refl
 
 -- what bytes spell is read, and then what is left
 spelled-read : (at : ℕ) (bytes : List ℕ) (tokens : List Token) (end : ℕ) (rest : List ℕ) → SpellsUntil at bytes tokens end rest
-    → tokens_from at 0 bytes ≡ joined (Ok tokens) (tokens_from end 0 rest)
+    → tokens_from at 0 bytes ≡ tokens_then (Ok tokens) (tokens_from end 0 rest)
 spelled-read at bytes [] end rest spelled =
     ap (tokens_from at 0) spelled.2
     ∙ gap-passed at spelled.1 rest
     ∙ ap (λ n. tokens_from n 0 rest) (sym spelled.3)
-    ∙ sym (joined-none (tokens_from end 0 rest))
+    ∙ sym (tokens_then-none (tokens_from end 0 rest))
 spelled-read at bytes (token ∷ tokens) end rest spelled =
     let after = spelled.0 in
     let first = spelled.1 in
     let e : at + length first.gap + length first.text ≡ token.at + token.len = omega (arith, first.place, first.len) in
     ap (tokens_from at 0) first.whole
     ∙ gap-passed at first.between (first.text ++ after)
-    ∙ token-told (at + length first.gap) token.kind first.text after first.stands
-    ∙ ap (λ n. joined (Ok (record { at = n; len = length first.text; kind = token.kind } ∷ [])) (tokens_from (at + length first.gap + length first.text) 0 after)) (sym first.place)
-    ∙ ap (λ n. joined (Ok (record { at = token.at; len = n; kind = token.kind } ∷ [])) (tokens_from (at + length first.gap + length first.text) 0 after)) (sym first.len)
-    ∙ ap (λ n. joined (Ok (token ∷ [])) (tokens_from n 0 after)) e
-    ∙ ap (joined (Ok (token ∷ []))) (spelled-read (token.at + token.len) after tokens end rest spelled.2)
-    ∙ joined-joined (token ∷ []) tokens (tokens_from end 0 rest)
+    ∙ token-piece_tokens (at + length first.gap) token.kind first.text after first.stands
+    ∙ ap (λ n. tokens_then (Ok (record { at = n; len = length first.text; kind = token.kind } ∷ [])) (tokens_from (at + length first.gap + length first.text) 0 after)) (sym first.place)
+    ∙ ap (λ n. tokens_then (Ok (record { at = token.at; len = n; kind = token.kind } ∷ [])) (tokens_from (at + length first.gap + length first.text) 0 after)) (sym first.len)
+    ∙ ap (λ n. tokens_then (Ok (token ∷ [])) (tokens_from n 0 after)) e
+    ∙ ap (tokens_then (Ok (token ∷ []))) (spelled-read (token.at + token.len) after tokens end rest spelled.2)
+    ∙ tokens_then-tokens_then (token ∷ []) tokens (tokens_from end 0 rest)
 
 -- gaps one behind the other
 gap-append : {gap : List ℕ} → IsGap gap → (behind : List ℕ) → IsGap behind → IsGap (gap ++ behind)
@@ -233,16 +233,16 @@ meant-gap at gap after result is m = record {
 abbrev here : ℕ → TokenKind → List ℕ → Token
 here at kind text = record { at = at; len = length text; kind = kind }
 
-ends-token : (token : Token) (result : Result (List Token) JobFault) (tokens : List Token) → Ends result tokens → Ends (joined (Ok (token ∷ [])) result) (token ∷ tokens)
+ends-token : (token : Token) (result : Result (List Token) JobFault) (tokens : List Token) → Ends result tokens → Ends (tokens_then (Ok (token ∷ [])) result) (token ∷ tokens)
 ends-token token (Ok found) tokens are = ap (λ ts. token ∷ ts) are
 ends-token token (Err fault) tokens are = tt
 
-stops-token : (token : Token) (result : Result (List Token) JobFault) (end : ℕ) (rest : List ℕ) → IsStop result end rest → IsStop (joined (Ok (token ∷ [])) result) end rest
+stops-token : (token : Token) (result : Result (List Token) JobFault) (end : ℕ) (rest : List ℕ) → IsStop result end rest → IsStop (tokens_then (Ok (token ∷ [])) result) end rest
 stops-token token (Ok found) end rest stops = stops
 stops-token token (Err fault) end rest stops = stops
 
 meant-token : (at : ℕ) (kind : TokenKind) (text after : List ℕ) (result : Result (List Token) JobFault) → Stands kind text after → Meant (at + length text) after result
-    → Meant at (text ++ after) (joined (Ok (here at kind text ∷ [])) result)
+    → Meant at (text ++ after) (tokens_then (Ok (here at kind text ∷ [])) result)
 meant-token at kind text after result stands m = record {
   tokens = here at kind text ∷ m.tokens;
   end = m.end;
@@ -320,7 +320,7 @@ meant-mark n at b bs known fits white percent (Spelled kind len) is =
     let s = stands-piece b bs kind len is in
     let some = some-token kind s.text s.stands.shaped in
     subst (λ t. Meant at t (tokens_from at 0 t)) (sym s.whole)
-    (subst (Meant at (s.text ++ s.after)) (sym (token-told at kind s.text s.after s.stands))
+    (subst (Meant at (s.text ++ s.after)) (sym (token-piece_tokens at kind s.text s.after s.stands))
     (meant-token at kind s.text s.after (tokens_from (at + length s.text) 0 s.after) s.stands
     (known (at + length s.text) s.after (omega (arith, ap length s.whole, length-append s.text s.after)))))
 
@@ -353,8 +353,8 @@ tokens-spelled bytes tokens is =
 pub spelled-tokens : (bytes : List ℕ) (tokens : List Token) → Spells bytes tokens → tokens_of bytes ≡ Ok tokens
 spelled-tokens bytes tokens s =
     spelled-read 0 bytes tokens s.end s.rest s.spelled
-    ∙ ap (joined (Ok tokens)) (end-passed s.end s.rest s.ends)
-    ∙ joined-nil tokens
+    ∙ ap (tokens_then (Ok tokens)) (end-passed s.end s.rest s.ends)
+    ∙ tokens_then-nil tokens
 
 pub one-list : (bytes : List ℕ) (a b : List Token) → Spells bytes a → Spells bytes b → a ≡ b
 one-list bytes a b first second =
@@ -396,7 +396,7 @@ pub breaks-fault : (bytes : List ℕ) (fault : JobFault) → Breaks bytes fault 
 breaks-fault bytes fault b =
     let f : IsFault fault.kind b.rest = record { some = b.some; no_whitespace = b.no_whitespace; no_comment = b.no_comment; no_token = b.no_token; kinded = b.kinded } in
     spelled-read 0 bytes b.tokens fault.at b.rest b.spelled
-    ∙ ap (joined (Ok b.tokens)) (fault-from fault.at b.rest fault.kind f)
+    ∙ ap (tokens_then (Ok b.tokens)) (fault-from fault.at b.rest fault.kind f)
 
 -- what is spelled before a place is spelled by itself
 record IsFront (at : ℕ) (bytes : List ℕ) (tokens : List Token) (end : ℕ) (rest : List ℕ) : Type 0 where

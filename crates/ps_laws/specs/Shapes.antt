@@ -4,6 +4,7 @@ use Rattle.std.specs.List.{list_all}
 use Rattle.ps_tokens.specs.declared.token.TokenKind.{TokenKind}
 use Rattle.ps_tokens.specs.declared.token.TokenKind.TheVariants.{OpenDict, CloseDict, OpenArray, CloseArray, Literal, Word, Number, Text}
 use Rattle.ps_tokens.specs.Bytes.{is_regular, is_digit, is_hexadecimal, begins_with}
+use Rattle.ps_tokens.specs.Limits.{largest_whole}
 use Rattle.ps_tokens.specs.Numbers.{begins_like_number, decimal, fraction_of, signed}
 use Rattle.ps_tokens.specs.Balance.{IsBalanced}
 
@@ -33,13 +34,13 @@ pub record IsNumeral (text : List ℕ) : Type 0 where
 -- A number, and its value in ten-thousandths.
 pub record IsNumber (value : ℤ) (text : List ℕ) : Type 0 where
   pub numeral : IsNumeral text
-  pub not_too_large : decimal numeral.whole ≤ 1000000
+  pub not_too_large : decimal numeral.whole ≤ largest_whole
   pub valued : value ≡ signed (begins_with 45 numeral.sign) (10000 * decimal numeral.whole + fraction_of numeral.fraction)
 
 -- What is written as a number, of a whole part that is too large.
 pub record IsTooLarge (text : List ℕ) : Type 0 where
   pub numeral : IsNumeral text
-  pub too_large : 1000000 < decimal numeral.whole
+  pub too_large : largest_whole < decimal numeral.whole
 
 -- A word: some regular bytes, of which the first is no digit, sign or point.
 pub record IsWord (text : List ℕ) : Type 0 where

@@ -6,6 +6,7 @@ use Rattle.ps_tokens.specs.declared.token.TokenKind.TheVariants as kinds
 use Rattle.ps_tokens.specs.declared.object.Body.{Body}
 use Rattle.ps_tokens.specs.declared.object.Body.TheVariants.{Number, Truth, Null, Text, Literal, Operator, Array, Dict}
 use Rattle.ps_tokens.specs.declared.object.Object.{Object}
+use Rattle.ps_tokens.specs.Limits.{deepest}
 use Rattle.ps_tokens.specs.Words.{spelling}
 
 -- the words that are objects of their own everywhere
@@ -13,14 +14,14 @@ abbrev pub IsValueWord : List ℕ → Type 0
 IsValueWord word = (word ≡ codes "true") ⊎ (word ≡ codes "false") ⊎ (word ≡ codes "null")
 
 -- a truth's word
-abbrev pub truth_word : Bool → List ℕ
-truth_word true = codes "true"
-truth_word false = codes "false"
+abbrev pub boolean_word : Bool → List ℕ
+boolean_word true = codes "true"
+boolean_word false = codes "false"
 
 -- what a token of this kind and spelling begins
 abbrev pub IsBegunBy : Body → TokenKind → List ℕ → Type 0
 IsBegunBy (Number n) kind text = kind ≡ kinds.Number n
-IsBegunBy (Truth b) kind text = (kind ≡ kinds.Word) × (text ≡ truth_word b)
+IsBegunBy (Truth b) kind text = (kind ≡ kinds.Word) × (text ≡ boolean_word b)
 IsBegunBy Null kind text = (kind ≡ kinds.Word) × (text ≡ codes "null")
 IsBegunBy Text kind text = kind ≡ kinds.Text
 IsBegunBy (Literal name) kind text = (kind ≡ kinds.Literal) × (name ≡ drop 1 text)
@@ -61,10 +62,10 @@ pub data Part : Type 0 where
 pub data Writes (bytes : List ℕ) : Part → ℕ → List Object → List Token → Type 0 where
   plain : (depth : ℕ) (object : Object) (token : Token) → IsPlain depth object.body → Begins bytes object token 0 → Writes bytes whole depth (object ∷ []) (token ∷ [])
   array : (depth : ℕ) (object : Object) (opening closing : Token) (inner : List Object) (between tokens : List Token)
-      → object.body ≡ Array → Begins bytes object opening (length inner) → closing.kind ≡ kinds.CloseArray → depth < 16 → Writes bytes items (suc depth) inner between
+      → object.body ≡ Array → Begins bytes object opening (length inner) → closing.kind ≡ kinds.CloseArray → depth < deepest → Writes bytes items (suc depth) inner between
       → tokens ≡ opening ∷ (between ++ closing ∷ []) → Writes bytes whole depth (object ∷ inner) tokens
   dict : (depth : ℕ) (object : Object) (opening closing : Token) (inner : List Object) (between tokens : List Token)
-      → object.body ≡ Dict → Begins bytes object opening (length inner) → closing.kind ≡ kinds.CloseDict → depth < 16 → Writes bytes entries (suc depth) inner between
+      → object.body ≡ Dict → Begins bytes object opening (length inner) → closing.kind ≡ kinds.CloseDict → depth < deepest → Writes bytes entries (suc depth) inner between
       → tokens ≡ opening ∷ (between ++ closing ∷ []) → Writes bytes whole depth (object ∷ inner) tokens
   no_item : (depth : ℕ) → Writes bytes items depth [] []
   next_item : (depth : ℕ) (first rest objects : List Object) (front behind tokens : List Token)

@@ -7,7 +7,8 @@ use Rattle.ps_tokens.specs.declared.token.Token.{Token}
 use Rattle.ps_tokens.specs.declared.brackets.Bracket.{Bracket}
 use Rattle.ps_tokens.specs.declared.object.Object.{Object}
 use Rattle.ps_tokens.specs.Brackets.{brackets_after}
-use Rattle.ps_tokens.specs.Objects.{is_closing, objects_in, object_of, closed}
+use Rattle.ps_tokens.specs.Objects.{is_closing, objects_in, object_of, unless_open}
+use Rattle.ps_tokens.specs.Limits.{longest_job}
 use Rattle.ps_tokens.specs.Dictionaries.{AreObjects, inside_of, keys_from}
 use Rattle.ps_tokens.proofs.Counting.{length-tokens}
 
@@ -50,12 +51,12 @@ objects_in-length bytes (token ∷ tokens) =
       | false ↦ let h = objects_in-length bytes tokens in omega arith
     ]
 
-closed-length : (bytes : List ℕ) (tokens : List Token) (after : Result (List Bracket) JobFault) (objects : List Object) → closed bytes tokens after ≡ Ok objects → length objects ≤ length tokens
-closed-length bytes tokens (Ok []) objects is = let e : objects_in bytes tokens ≡ objects = cc in omega (arith, ap length e, objects_in-length bytes tokens)
-closed-length bytes tokens (Ok (b ∷ bs)) objects is = cc
-closed-length bytes tokens (Err fault) objects is = cc
+unless_open-length : (bytes : List ℕ) (tokens : List Token) (after : Result (List Bracket) JobFault) (objects : List Object) → unless_open bytes tokens after ≡ Ok objects → length objects ≤ length tokens
+unless_open-length bytes tokens (Ok []) objects is = let e : objects_in bytes tokens ≡ objects = cc in omega (arith, ap length e, objects_in-length bytes tokens)
+unless_open-length bytes tokens (Ok (b ∷ bs)) objects is = cc
+unless_open-length bytes tokens (Err fault) objects is = cc
 
 -- a job has at most as many objects as bytes
-pub length-objects : (objects : List Object) → AreObjects objects → length objects ≤ 1048576
+pub length-objects : (objects : List Object) → AreObjects objects → length objects ≤ longest_job
 length-objects objects are =
-    omega (arith, closed-length are.bytes are.tokens (brackets_after are.bytes are.tokens) objects are.written, length-tokens are.bytes are.tokens are.spelled, are.size)
+    omega (arith, unless_open-length are.bytes are.tokens (brackets_after are.bytes are.tokens) objects are.written, length-tokens are.bytes are.tokens are.spelled, are.size)

@@ -1,8 +1,11 @@
+pub mod Ascending
 pub mod Balancing
 pub mod Completing
 pub mod Counting
 pub mod Entries
 pub mod Fronts
+pub mod Giving
+pub mod Judged
 pub mod Judgements
 pub mod Moving
 pub mod Naming

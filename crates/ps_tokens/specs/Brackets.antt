@@ -9,6 +9,7 @@ use Rattle.ps_tokens.specs.declared.token.TokenKind.TheVariants.{OpenDict, Close
 use Rattle.ps_tokens.specs.declared.brackets.Expects.{Expects}
 use Rattle.ps_tokens.specs.declared.brackets.Expects.TheVariants.{Item, Key, Value}
 use Rattle.ps_tokens.specs.declared.brackets.Bracket.{Bracket}
+use Rattle.ps_tokens.specs.Limits.{deepest}
 use Rattle.ps_tokens.specs.Words.{spelling, is_value_word}
 
 -- what a bracket expects after one more object
@@ -18,9 +19,9 @@ next_expected Key = Value
 next_expected Value = Key
 
 -- the open brackets, the innermost first, after one more object in the innermost
-abbrev pub filled : List Bracket → List Bracket
-filled [] = []
-filled (innermost ∷ outer) = record innermost { expects = next_expected innermost.expects } ∷ outer
+abbrev pub after_object : List Bracket → List Bracket
+after_object [] = []
+after_object (innermost ∷ outer) = record innermost { expects = next_expected innermost.expects } ∷ outer
 
 -- whether a bracket is a dictionary where a key is due
 abbrev pub is_key : Expects → Bool
@@ -34,11 +35,11 @@ is_key_due [] = false
 is_key_due (innermost ∷ outer) = is_key innermost.expects
 
 -- after an opening token: no bracket may stand in a key's place, or within 16 others
-unfoldable pub opened : ℕ → Expects → List Bracket → Result (List Bracket) FaultKind
-opened at expects brackets =
+unfoldable pub after_opening : ℕ → Expects → List Bracket → Result (List Bracket) FaultKind
+after_opening at expects brackets =
     if is_key_due brackets then Err KeyNotName
-    else (if length brackets == 16 then Err TooDeep
-    else Ok (record { at = at; expects = expects } ∷ filled brackets))
+    else (if length brackets == deepest then Err TooDeep
+    else Ok (record { at = at; expects = expects } ∷ after_object brackets))
 
 -- what `]` leaves open of a bracket and those around it
 abbrev pub array_end : Expects → List Bracket → Result (List Bracket) FaultKind
@@ -47,9 +48,9 @@ array_end Key outer = Err Unmatched
 array_end Value outer = Err Unmatched
 
 -- after `]`
-unfoldable pub array_closed : List Bracket → Result (List Bracket) FaultKind
-array_closed [] = Err Unmatched
-array_closed (innermost ∷ outer) = array_end innermost.expects outer
+unfoldable pub after_array_end : List Bracket → Result (List Bracket) FaultKind
+after_array_end [] = Err Unmatched
+after_array_end (innermost ∷ outer) = array_end innermost.expects outer
 
 -- what `>>` leaves open of a bracket and those around it
 abbrev pub dict_end : Expects → List Bracket → Result (List Bracket) FaultKind
@@ -58,48 +59,48 @@ dict_end Key outer = Ok outer
 dict_end Value outer = Err OddDictionary
 
 -- after `>>`
-unfoldable pub dict_closed : List Bracket → Result (List Bracket) FaultKind
-dict_closed [] = Err Unmatched
-dict_closed (innermost ∷ outer) = dict_end innermost.expects outer
+unfoldable pub after_dict_end : List Bracket → Result (List Bracket) FaultKind
+after_dict_end [] = Err Unmatched
+after_dict_end (innermost ∷ outer) = dict_end innermost.expects outer
 
 -- after a number, a string, `true`, `false` or `null`
-unfoldable pub value_put : List Bracket → Result (List Bracket) FaultKind
-value_put brackets = if is_key_due brackets then Err KeyNotName else Ok (filled brackets)
+unfoldable pub after_value : List Bracket → Result (List Bracket) FaultKind
+after_value brackets = if is_key_due brackets then Err KeyNotName else Ok (after_object brackets)
 
 -- after any other word
-unfoldable pub operator_put : List Bracket → Result (List Bracket) FaultKind
-operator_put brackets =
+unfoldable pub after_operator : List Bracket → Result (List Bracket) FaultKind
+after_operator brackets =
     if is_key_due brackets then Err KeyNotName
     else (if length brackets == 0 then Ok [] else Err NameInside)
 
 -- after a token of a kind at an offset; a word is a value or not
-abbrev pub judged_as : TokenKind → ℕ → Bool → List Bracket → Result (List Bracket) FaultKind
-judged_as OpenDict at is_value brackets = opened at Key brackets
-judged_as CloseDict at is_value brackets = dict_closed brackets
-judged_as OpenArray at is_value brackets = opened at Item brackets
-judged_as CloseArray at is_value brackets = array_closed brackets
-judged_as Literal at is_value brackets = Ok (filled brackets)
-judged_as Word at is_value brackets = if is_value then value_put brackets else operator_put brackets
-judged_as (Number n) at is_value brackets = value_put brackets
-judged_as Text at is_value brackets = value_put brackets
+abbrev pub after_kind : TokenKind → ℕ → Bool → List Bracket → Result (List Bracket) FaultKind
+after_kind OpenDict at is_value brackets = after_opening at Key brackets
+after_kind CloseDict at is_value brackets = after_dict_end brackets
+after_kind OpenArray at is_value brackets = after_opening at Item brackets
+after_kind CloseArray at is_value brackets = after_array_end brackets
+after_kind Literal at is_value brackets = Ok (after_object brackets)
+after_kind Word at is_value brackets = if is_value then after_value brackets else after_operator brackets
+after_kind (Number n) at is_value brackets = after_value brackets
+after_kind Text at is_value brackets = after_value brackets
 
 -- after one more token
-abbrev pub judged : List ℕ → Token → List Bracket → Result (List Bracket) FaultKind
-judged bytes token brackets = judged_as token.kind token.at (is_value_word (spelling bytes token)) brackets
+abbrev pub after_token : List ℕ → Token → List Bracket → Result (List Bracket) FaultKind
+after_token bytes token brackets = after_kind token.kind token.at (is_value_word (spelling bytes token)) brackets
 
 -- a fault at its token
-abbrev pub placed : ℕ → Result (List Bracket) FaultKind → Result (List Bracket) JobFault
-placed at (Ok brackets) = Ok brackets
-placed at (Err kind) = Err (record { kind = kind; at = at })
+abbrev pub at_token : ℕ → Result (List Bracket) FaultKind → Result (List Bracket) JobFault
+at_token at (Ok brackets) = Ok brackets
+at_token at (Err kind) = Err (record { kind = kind; at = at })
 
 -- the same after tokens that may have had a fault
-abbrev pub judged_on : List ℕ → Result (List Bracket) JobFault → Token → Result (List Bracket) JobFault
-judged_on bytes (Ok brackets) token = placed token.at (judged bytes token brackets)
-judged_on bytes (Err fault) token = Err fault
+abbrev pub after_next : List ℕ → Result (List Bracket) JobFault → Token → Result (List Bracket) JobFault
+after_next bytes (Ok brackets) token = at_token token.at (after_token bytes token brackets)
+after_next bytes (Err fault) token = Err fault
 
 -- the brackets that are open after all tokens, or the first fault
 abbrev pub brackets_after : List ℕ → List Token → Result (List Bracket) JobFault
-brackets_after bytes tokens = fold (judged_on bytes) (Ok []) tokens
+brackets_after bytes tokens = fold (after_next bytes) (Ok []) tokens
 
 -- a call leaves the brackets that a definition leaves, or gives its fault
 abbrev pub Becomes : Result (Unit {0}) FaultKind → List Bracket → Result (List Bracket) FaultKind → Type 0

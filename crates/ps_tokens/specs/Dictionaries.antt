@@ -1,7 +1,8 @@
 -- The entries of a dictionary among a job's objects.
-use Rattle.std.specs.Prelude.{◌≡◌, ◌≤◌, ℕ, zero, suc, Bool, false, List, [], ◌∷◌, length, take, drop, fold, map, Option, Some, None, Ok, slice_get, ◌+◌, if◌then◌else◌}
+use Rattle.std.specs.Prelude.{◌≡◌, ◌≤◌, ℕ, zero, suc, Bool, false, List, [], ◌∷◌, length, take, drop, fold, map, Option, Some, None, Ok, slice_get, AllPairs, ◌+◌, if◌then◌else◌}
 use Rattle.std.specs.Borrow.{Bor}
 use Rattle.std.specs.Ordering.{nat_cmp}
+use Rattle.std.specs.declared.cmp.Ordering.TheVariants.{Less}
 use Rattle.std.specs.BTreeMap.{insert_entry}
 use Rattle.std.specs.Cmp.Lexicographic.{slice_cmp}
 use Rattle.std.specs.Str.{bytes_eq}
@@ -9,6 +10,7 @@ use Rattle.ps_tokens.specs.declared.token.Token.{Token}
 use Rattle.ps_tokens.specs.declared.object.Body.{Body}
 use Rattle.ps_tokens.specs.declared.object.Body.TheVariants.{Number, Truth, Null, Text, Literal, Operator, Array, Dict}
 use Rattle.ps_tokens.specs.declared.object.Object.{Object}
+use Rattle.ps_tokens.specs.Limits.{longest_job}
 use Rattle.ps_tokens.specs.Tokens.{tokens_of}
 use Rattle.ps_tokens.specs.Objects.{objects_of}
 
@@ -16,7 +18,7 @@ use Rattle.ps_tokens.specs.Objects.{objects_of}
 pub record AreObjects (objects : List Object) : Type 0 where
   pub bytes : List ℕ
   pub tokens : List Token
-  pub size : length bytes ≤ 1048576
+  pub size : length bytes ≤ longest_job
   pub spelled : tokens_of bytes ≡ Ok tokens
   pub written : objects_of bytes tokens ≡ Ok objects
 
@@ -81,12 +83,24 @@ name_of None = []
 name_of (Some object) = name_in object.body
 
 -- a name by reference with its place, as bytes with a place
-abbrev pub seen : Bor (List ℕ) × ℕ → List ℕ × ℕ
-seen e = (e.0.now, e.1)
+abbrev pub by_bytes : Bor (List ℕ) × ℕ → List ℕ × ℕ
+by_bytes e = (e.0.now, e.1)
+
+-- a name stands before another in byte order
+abbrev pub IsBefore : List ℕ → List ℕ → Type 0
+IsBefore a b = slice_cmp nat_cmp a b ≡ Less
+
+-- names stand in ascending byte order, each once
+abbrev pub Ascend : List (List ℕ) → Type 0
+Ascend names = AllPairs IsBefore names
 
 -- names with places, in ascending byte order; a name that is there takes its new place
 abbrev pub put_key : List Object → List (List ℕ × ℕ) → ℕ → List (List ℕ × ℕ)
 put_key objects named key = insert_entry (slice_cmp nat_cmp) named (name_of (slice_get objects key)) key
+
+-- the names of the keys at these places
+abbrev pub key_names : List Object → List ℕ → List (List ℕ)
+key_names objects keys = map (λ key. name_of (slice_get objects key)) keys
 
 -- the places of the last key of each name of a dictionary, in ascending byte order of the names
 unfoldable pub last_keys_of : List Object → ℕ → List ℕ

@@ -5,13 +5,13 @@ use Rattle.ps_tokens.specs.declared.token.Token.{Token}
 use Rattle.ps_tokens.specs.Brackets.{brackets_after}
 
 -- a token that stands so many bytes further on
-abbrev pub moved : ℕ → Token → Token
-moved n token = record { at = n + token.at; len = token.len; kind = token.kind }
+abbrev pub further_on : ℕ → Token → Token
+further_on n token = record { at = n + token.at; len = token.len; kind = token.kind }
 
 -- tokens, or a fault, that stand so many bytes further on
-abbrev pub all_moved : ℕ → Result (List Token) JobFault → Result (List Token) JobFault
-all_moved n (Ok tokens) = Ok (map (moved n) tokens)
-all_moved n (Err fault) = Err (record { kind = fault.kind; at = n + fault.at })
+abbrev pub all_further_on : ℕ → Result (List Token) JobFault → Result (List Token) JobFault
+all_further_on n (Ok tokens) = Ok (map (further_on n) tokens)
+all_further_on n (Err fault) = Err (record { kind = fault.kind; at = n + fault.at })
 
 -- some further tokens leave no bracket open
 abbrev pub CanBeCompleted : List ℕ → List Token → Type 0

@@ -3,10 +3,12 @@ pub mod Brackets
 pub mod Bytes
 pub mod Dictionaries
 pub mod Laws
+pub mod Limits
 pub mod Misfits
 pub mod Numbers
 pub mod Objects
 pub mod Pieces
 pub mod Texts
 pub mod Tokens
+pub mod Values
 pub mod Words

@@ -9,6 +9,11 @@ abbrev pub judged_at : {X : Type 0} → ℕ → ℕ → Result X FaultKind → R
 judged_at place at (Ok x) = Ok x
 judged_at place at (Err kind) = Err (record { place = place; fault = record { kind = kind; at = at } })
 
+-- a fault that stands for a whole entry, whose key stands at this place
+abbrev pub at_key : {X : Type 0} → ℕ → Result X Misfit → Result X Misfit
+at_key key (Ok x) = Ok x
+at_key key (Err misfit) = Err (record { place = key; fault = misfit.fault })
+
 -- what was read's fault, if it has one
 abbrev pub misfit_of : {X : Type 0} → Result X Misfit → Option Misfit
 misfit_of (Ok x) = None

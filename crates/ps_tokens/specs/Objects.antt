@@ -48,6 +48,17 @@ count_inside outside (token ∷ tokens) =
 abbrev pub AreEnds : List ℕ → ℕ → List Token → Type 0
 AreEnds ends count tokens = (outside : ℕ) → count_inside outside tokens + slice_index ends outside ≡ count
 
+-- whether an object is a dictionary
+abbrev pub is_dict : Body → Bool
+is_dict (Number n) = false
+is_dict (Truth b) = false
+is_dict Null = false
+is_dict Text = false
+is_dict (Literal name) = false
+is_dict (Operator name) = false
+is_dict Array = false
+is_dict Dict = true
+
 -- what a word is
 unfoldable pub word_body : List ℕ → Body
 word_body word =
@@ -82,11 +93,11 @@ objects_in bytes (token ∷ tokens) =
     if is_closing token.kind then objects_in bytes tokens else object_of bytes token tokens ∷ objects_in bytes tokens
 
 -- where no bracket is left open
-abbrev pub closed : List ℕ → List Token → Result (List Bracket) JobFault → Result (List Object) JobFault
-closed bytes tokens (Ok []) = Ok (objects_in bytes tokens)
-closed bytes tokens (Ok (innermost ∷ outer)) = Err (record { kind = Unclosed; at = innermost.at })
-closed bytes tokens (Err fault) = Err fault
+abbrev pub unless_open : List ℕ → List Token → Result (List Bracket) JobFault → Result (List Object) JobFault
+unless_open bytes tokens (Ok []) = Ok (objects_in bytes tokens)
+unless_open bytes tokens (Ok (innermost ∷ outer)) = Err (record { kind = Unclosed; at = innermost.at })
+unless_open bytes tokens (Err fault) = Err fault
 
 -- the objects that a job's tokens write out, or the fault at the first token that no further ones could mend
 abbrev pub objects_of : List ℕ → List Token → Result (List Object) JobFault
-objects_of bytes tokens = closed bytes tokens (brackets_after bytes tokens)
+objects_of bytes tokens = unless_open bytes tokens (brackets_after bytes tokens)

@@ -6,12 +6,13 @@ use Rattle.ps_tokens.specs.declared.token.TokenKind.TheVariants.{OpenDict, Close
 use Rattle.ps_tokens.specs.declared.pieces.Piece.{Piece}
 use Rattle.ps_tokens.specs.declared.pieces.Piece.TheVariants.{Blank, Spelled, Broken}
 use Rattle.ps_tokens.specs.Bytes.{is_whitespace, is_regular, is_hexadecimal, is_in_comment, begins_with}
+use Rattle.ps_tokens.specs.Limits.{largest_whole}
 use Rattle.ps_tokens.specs.Numbers.{whole_digits, is_number, begins_like_number, decimal, value_of}
 use Rattle.ps_tokens.specs.Texts.{text_end}
 
 -- a run that is a number; its whole part is at most 1,000,000
 unfoldable pub number_piece : List ℕ → Piece
-number_piece run = if nat_lt 1000000 (decimal (whole_digits run)) then Broken NumberTooLarge else Spelled (Number (value_of run)) (length run)
+number_piece run = if nat_lt largest_whole (decimal (whole_digits run)) then Broken NumberTooLarge else Spelled (Number (value_of run)) (length run)
 
 -- a run of regular bytes: a number, or a word that does not begin like one
 unfoldable pub run_piece : List ℕ → Piece

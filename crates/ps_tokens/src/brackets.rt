@@ -1,4 +1,5 @@
 ghost use Rattle.std.specs.Prelude.{◌≡◌, ◌∷◌, [], ◌<◌, ◌≤◌, length, drop, slice_get};
+ghost use Rattle.ps_tokens.specs.Limits.{deepest};
 
 use std::marker::Model;
 
@@ -27,19 +28,20 @@ pub struct Bracket {
 /// They stand at the end of `items`, from `start` on.
 #[derive(Drop)]
 pub struct Brackets {
-    items: [Bracket; 16],
+    items: [Bracket; DEEPEST],
     start: usize,
 }
 
 impl Model for Brackets {
     ghost use Rattle.std.specs.Prelude.{◌≡◌, ◌≤◌, List, length, drop};
+    ghost use Rattle.ps_tokens.specs.Limits.{deepest};
     ghost use Rattle.ps_tokens.specs.declared.brackets.Bracket.{Bracket as Item};
 
     ghost Value = { List Item };
 
     ghost view = { λ b. drop b.start b.items };
 
-    ghost invariant = { λ b. (b.start ≤ 16) × (length b.items ≡ 16) };
+    ghost invariant = { λ b. (b.start ≤ deepest) × (length b.items ≡ deepest) };
 }
 
 impl Brackets {
@@ -61,7 +63,7 @@ impl Brackets {
     #[tactic(auto, using(crate::proofs::Stacks::stacks))]
     pub fn len(&self) -> usize
         ensures value { result ≡ length self.now }
-        ensures few { length self.now ≤ 16 }
+        ensures few { length self.now ≤ deepest }
     {
         DEEPEST - self.start
     }
@@ -81,7 +83,7 @@ impl Brackets {
     /// Opens a bracket.
     #[tactic(auto, using(crate::proofs::Stacks::stacks))]
     pub fn push(&mut self, bracket: Bracket)
-        requires { length self.old < 16 }
+        requires { length self.old < deepest }
         ensures { self.new ≡ bracket ∷ self.old }
     {
         self.start -= 1;

@@ -1,5 +1,7 @@
-ghost use Rattle.std.specs.Prelude.{◌≡◌, ◌≤◌, ◌<◌, ◌+◌, ◌^◌, length, drop, slice_get, IfOk};
+ghost use Rattle.std.specs.Prelude.{◌≡◌, ◌≤◌, ◌<◌, ◌+◌, ◌^◌, length, drop, slice_get, IfOk, IfSome, IfNone, Some, None};
+ghost use Rattle.ps_tokens.specs.Values.{place_of_value};
 ghost use Rattle.ps_tokens.specs.Dictionaries.{AreObjects, within, keys_of, names, last_of, inside_of};
+ghost use Rattle.ps_tokens.specs.Limits.{longest_job};
 
 use crate::object::{Body, Object, ObjectList};
 use lists::names::OutOfMemory;
@@ -26,6 +28,24 @@ pub fn last(objects: &ObjectList, dict: u32, key: &[u8]) -> Option<u32>
     found
 }
 
+/// The value of a key's last entry in the dictionary at a place, with its own place, or `None` exactly where there is no
+/// such entry. The list is one that `objects` gave.
+pub fn last_value<'a>(objects: &'a ObjectList, dict: u32, key: &[u8]) -> Option<(u32, &'a Object)>
+    requires { AreObjects objects.now }
+    ensures place { IfSome result (λ v. last_of objects.now dict key.now ≡ Some v.0) }
+    ensures value { IfSome result (λ v. slice_get objects.now v.0 ≡ Some v.1.now) }
+    ensures none { IfNone result
+        (place_of_value objects.now (last_of objects.now dict key.now) ≡ None) }
+{
+    let Some(place) = last(objects, dict, key) else {
+        return None;
+    };
+    match objects.get(place as usize) {
+        Some(object) => Some((place, object)),
+        None => None,
+    }
+}
+
 /// The places of the keys of the dictionary at a place, in order. The list is one that `objects` gave.
 #[tactic(auto, unfolding(crate::specs::Dictionaries::keys_of))]
 pub fn keys(alloc: Global, objects: &ObjectList, dict: u32) -> Result<Vec<u32>, OutOfMemory>
@@ -49,7 +69,7 @@ pub fn keys(alloc: Global, objects: &ObjectList, dict: u32) -> Result<Vec<u32>, 
 pub fn count(objects: &ObjectList) -> u32
     requires { AreObjects objects.now }
     ensures value { result ≡ length objects.now }
-    ensures few { result ≤ 1048576 }
+    ensures few { result ≤ longest_job }
 {
     objects.len() as u32
 }

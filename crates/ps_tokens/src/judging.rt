@@ -1,5 +1,5 @@
 ghost use Rattle.std.specs.Prelude.{◌≡◌, MatchResult, Ok, Err, [], length};
-ghost use Rattle.ps_tokens.specs.Brackets.{Becomes, is_key_due, filled, opened, array_closed, dict_closed, value_put, operator_put, judged, brackets_after};
+ghost use Rattle.ps_tokens.specs.Brackets.{Becomes, is_key_due, after_object, after_opening, after_array_end, after_dict_end, after_value, after_operator, after_token, brackets_after};
 ghost use Rattle.ps_tokens.specs.Objects.{objects_of};
 
 use crate::brackets::{Bracket, Brackets, DEEPEST, Expects};
@@ -22,7 +22,7 @@ fn is_key_due(brackets: &Brackets) -> bool
 
 // One more object in the innermost bracket.
 fn fill(brackets: &mut Brackets)
-    ensures value { brackets.new ≡ filled brackets.old }
+    ensures value { brackets.new ≡ after_object brackets.old }
     ensures depth { length brackets.new ≡ length brackets.old }
 {
     if let Some(innermost) = brackets.innermost() {
@@ -39,9 +39,9 @@ fn fill(brackets: &mut Brackets)
 }
 
 // An opening token.
-#[tactic(auto, unfolding(crate::specs::Brackets::opened))]
+#[tactic(auto, unfolding(crate::specs::Brackets::after_opening))]
 fn open(brackets: &mut Brackets, at: u32, expects: Expects) -> Result<(), FaultKind>
-    ensures { Becomes result brackets.new (opened at expects brackets.old) }
+    ensures { Becomes result brackets.new (after_opening at expects brackets.old) }
 {
     if is_key_due(brackets) {
         Err(FaultKind::KeyNotName)
@@ -55,9 +55,9 @@ fn open(brackets: &mut Brackets, at: u32, expects: Expects) -> Result<(), FaultK
 }
 
 // A `]`.
-#[tactic(auto, unfolding(crate::specs::Brackets::array_closed))]
+#[tactic(auto, unfolding(crate::specs::Brackets::after_array_end))]
 fn close_array(brackets: &mut Brackets) -> Result<(), FaultKind>
-    ensures { Becomes result brackets.new (array_closed brackets.old) }
+    ensures { Becomes result brackets.new (after_array_end brackets.old) }
 {
     match brackets.innermost() {
         Some(innermost) => match innermost.expects {
@@ -72,9 +72,9 @@ fn close_array(brackets: &mut Brackets) -> Result<(), FaultKind>
 }
 
 // A `>>`.
-#[tactic(auto, unfolding(crate::specs::Brackets::dict_closed))]
+#[tactic(auto, unfolding(crate::specs::Brackets::after_dict_end))]
 fn close_dict(brackets: &mut Brackets) -> Result<(), FaultKind>
-    ensures { Becomes result brackets.new (dict_closed brackets.old) }
+    ensures { Becomes result brackets.new (after_dict_end brackets.old) }
 {
     match brackets.innermost() {
         Some(innermost) => match innermost.expects {
@@ -90,9 +90,9 @@ fn close_dict(brackets: &mut Brackets) -> Result<(), FaultKind>
 }
 
 // A number, a string, `true`, `false` or `null`.
-#[tactic(auto, unfolding(crate::specs::Brackets::value_put))]
+#[tactic(auto, unfolding(crate::specs::Brackets::after_value))]
 fn put_value(brackets: &mut Brackets) -> Result<(), FaultKind>
-    ensures { Becomes result brackets.new (value_put brackets.old) }
+    ensures { Becomes result brackets.new (after_value brackets.old) }
 {
     if is_key_due(brackets) {
         return Err(FaultKind::KeyNotName);
@@ -102,9 +102,9 @@ fn put_value(brackets: &mut Brackets) -> Result<(), FaultKind>
 }
 
 // Any other word.
-#[tactic(auto, unfolding(crate::specs::Brackets::operator_put))]
+#[tactic(auto, unfolding(crate::specs::Brackets::after_operator))]
 fn put_operator(brackets: &Brackets) -> Result<(), FaultKind>
-    ensures { Becomes result brackets.now (operator_put brackets.now) }
+    ensures { Becomes result brackets.now (after_operator brackets.now) }
 {
     if is_key_due(brackets) {
         Err(FaultKind::KeyNotName)
@@ -117,7 +117,7 @@ fn put_operator(brackets: &Brackets) -> Result<(), FaultKind>
 
 // One more token.
 fn judge_token(brackets: &mut Brackets, bytes: &[u8], token: &Token) -> Result<(), FaultKind>
-    ensures { Becomes result brackets.new (judged bytes.now token.now brackets.old) }
+    ensures { Becomes result brackets.new (after_token bytes.now token.now brackets.old) }
 {
     match token.kind {
         TokenKind::OpenDict => open(brackets, token.at, Expects::Key),
@@ -141,7 +141,8 @@ fn judge_token(brackets: &mut Brackets, bytes: &[u8], token: &Token) -> Result<(
 
 /// The first fault of a job's tokens, judged one after the other.
 pub fn judge(bytes: &[u8], tokens: &[Token]) -> Result<(), JobFault>
-    ensures { MatchResult result (λ _. brackets_after bytes.now tokens.now ≡ Ok []) (λ fault. objects_of bytes.now tokens.now ≡ Err fault) }
+    ensures { MatchResult result (λ _. brackets_after bytes.now tokens.now ≡ Ok [])
+        (λ fault. objects_of bytes.now tokens.now ≡ Err fault) }
 {
     let mut brackets = Brackets::new();
     for token in tokens {

@@ -8,44 +8,47 @@ ghost use Rattle.ps_tokens.specs.declared.faults.JobFault.{JobFault};
 ghost use Rattle.ps_tokens.specs.Bytes.{is_whitespace, is_in_comment};
 ghost use Rattle.ps_tokens.specs.Balance.{IsBalanced, Closes};
 ghost use Rattle.ps_tokens.specs.Texts.{text_end};
-ghost use Rattle.ps_tokens.specs.Tokens.{tokens_from, tokens_of};
+ghost use Rattle.ps_tokens.specs.Tokens.{tokens_from};
 ghost use Rattle.ps_tokens.specs.Brackets.{brackets_after};
 ghost use Rattle.ps_tokens.specs.Objects.{objects_of};
-ghost use Rattle.ps_tokens.specs.Laws.{all_moved, CanBeCompleted};
+ghost use Rattle.ps_tokens.specs.Laws.{all_further_on, CanBeCompleted};
 
 /// Where the tokens stand changes nothing but their offsets.
 pub fn place_moves_offsets_alone()
-    ensures { (n at : ℕ) (bytes : List ℕ) → tokens_from (n + at) 0 bytes ≡ all_moved n (tokens_from at 0 bytes) }
+    ensures { (n at : ℕ) (bytes : List ℕ)
+        → tokens_from (n + at) 0 bytes ≡ all_further_on n (tokens_from at 0 bytes) }
 {}
 
 /// A whitespace byte more before what is left changes nothing but the offsets behind it.
 pub fn space_moves_offsets_alone()
-    ensures { (at b : ℕ) (bytes : List ℕ) → is_whitespace b ≡ true → tokens_from at 0 (b ∷ bytes) ≡ all_moved 1 (tokens_from at 0 bytes) }
+    ensures { (at b : ℕ) (bytes : List ℕ) → is_whitespace b ≡ true
+        → tokens_from at 0 (b ∷ bytes) ≡ all_further_on 1 (tokens_from at 0 bytes) }
 {}
 
 /// A comment more, with the line end behind it, before what is left changes nothing but the offsets behind it.
 pub fn comment_moves_offsets_alone()
-    ensures { (at ending : ℕ) (text bytes : List ℕ) → list_all is_in_comment text ≡ true → is_in_comment ending ≡ false → is_whitespace ending ≡ true
-        → tokens_from at 0 (37 ∷ (text ++ ending ∷ bytes)) ≡ all_moved (length text + 2) (tokens_from at 0 bytes) }
-{}
-
-/// The bytes of a job spell one list of tokens at most.
-pub fn one_spelling()
-    ensures { (bytes : List ℕ) (a b : List Token) → tokens_of bytes ≡ Ok a → tokens_of bytes ≡ Ok b → a ≡ b }
+    ensures { (at ending : ℕ) (text bytes : List ℕ) → list_all is_in_comment text ≡ true
+        → is_in_comment ending ≡ false → is_whitespace ending ≡ true
+        → tokens_from at 0 (37 ∷ (text ++ ending ∷ bytes))
+        ≡ all_further_on (length text + 2) (tokens_from at 0 bytes) }
 {}
 
 /// Tokens without a fault so far can be completed.
 pub fn faultless_is_completable()
-    ensures { (bytes : List ℕ) (tokens : List Token) (brackets : List Bracket) → brackets_after bytes tokens ≡ Ok brackets → CanBeCompleted bytes tokens }
+    ensures { (bytes : List ℕ) (tokens : List Token) (brackets : List Bracket)
+        → brackets_after bytes tokens ≡ Ok brackets → CanBeCompleted bytes tokens }
 {}
 
 /// After a token with a fault no further tokens complete the list, and whatever they are, the fault is that one.
 pub fn faulty_is_never_completed()
-    ensures { (bytes : List ℕ) (tokens more : List Token) (fault : JobFault) → brackets_after bytes tokens ≡ Err fault → objects_of bytes (tokens ++ more) ≡ Err fault }
+    ensures { (bytes : List ℕ) (tokens more : List Token) (fault : JobFault)
+        → brackets_after bytes tokens ≡ Err fault → objects_of bytes (tokens ++ more) ≡ Err fault }
 {}
 
 /// A string ends with the first parenthesis before which everything is balanced, and nowhere else.
 pub fn string_ends_where_balanced()
-    ensures read { (inner after : List ℕ) → IsBalanced inner → text_end false 0 1 (inner ++ 41 ∷ after) ≡ Some (length inner + 2) }
-    ensures balanced { (bytes : List ℕ) (n : ℕ) → text_end false 0 1 bytes ≡ Some n → Closes bytes n }
+    ensures read { (inner after : List ℕ) → IsBalanced inner
+        → text_end false 0 1 (inner ++ 41 ∷ after) ≡ Some (length inner + 2) }
+    ensures balanced { (bytes : List ℕ) (n : ℕ) → text_end false 0 1 bytes ≡ Some n
+        → Closes bytes n }
 {}

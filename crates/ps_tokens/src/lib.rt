@@ -18,9 +18,6 @@ mod texts;
 pub mod token;
 mod words;
 
-pub use dictionary::last;
+pub use dictionary::{last, last_value};
 pub use reader::objects;
-pub use scanner::tokens;
-
-#[cfg(test)]
-mod tests;
+pub use scanner::{LONGEST_JOB, tokens};

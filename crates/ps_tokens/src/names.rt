@@ -1,6 +1,6 @@
 ghost use Rattle.std.specs.Prelude.{◌≡◌, [], map, fold, slice_get, IfOk};
 ghost use Rattle.std.specs.BTreeMap.{values};
-ghost use Rattle.ps_tokens.specs.Dictionaries.{AreObjects, name_of, last_keys_of, seen, put_key};
+ghost use Rattle.ps_tokens.specs.Dictionaries.{AreObjects, Ascend, name_of, key_names, last_keys_of, by_bytes, put_key};
 
 use crate::dictionary::keys;
 use crate::object::{Body, Object, ObjectList};
@@ -26,7 +26,8 @@ pub fn name_at(objects: &[Object], place: usize) -> &[u8]
 #[tactic(auto, unfolding(crate::specs::Dictionaries::last_keys_of))]
 pub fn last_keys(alloc: Global, objects: &ObjectList, dict: u32) -> Result<Vec<u32>, OutOfMemory>
     requires { AreObjects objects.now }
-    ensures { IfOk result (λ places. places.items ≡ last_keys_of objects.now dict) }
+    ensures places { IfOk result (λ places. places.items ≡ last_keys_of objects.now dict) }
+    ensures ascending { IfOk result (λ places. Ascend (key_names objects.now places.items)) }
 {
     let all = objects.as_slice();
     let keys = match keys(alloc, objects, dict) {
@@ -47,7 +48,8 @@ fn by_name<'a>(
     objects: &'a [Object],
     keys: &[u32],
 ) -> Result<BTreeMap<&'a [u8], u32>, OutOfMemory>
-    ensures { IfOk result (λ named. map seen named.entries ≡ fold (put_key objects.now) [] keys.now) }
+    ensures { IfOk result
+        (λ named. map by_bytes named.entries ≡ fold (put_key objects.now) [] keys.now) }
 {
     let mut named = BTreeMap::new(alloc);
     for key in keys {

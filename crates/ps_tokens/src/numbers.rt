@@ -1,7 +1,8 @@
-ghost use Rattle.std.specs.Prelude.{◌≡◌, ◌<◌, ◌^◌, length, min};
+ghost use Rattle.std.specs.Prelude.{◌≡◌, ◌<◌, ◌^◌, ◌+◌, length, min};
 ghost use Rattle.std.specs.Bool.{OnTrue};
 ghost use Rattle.std.specs.List.{list_all};
 ghost use Rattle.ps_tokens.specs.Bytes.{begins_with, is_digit};
+ghost use Rattle.ps_tokens.specs.Limits.{largest_whole};
 ghost use Rattle.ps_tokens.specs.Numbers.{unsigned, is_unsigned_number, begins_like_number, decimal, digit_at, fraction_of, signed, whole_digits, behind_whole};
 ghost use Rattle.ps_tokens.specs.Pieces.{IsWithin, run_piece, number_piece};
 
@@ -11,7 +12,7 @@ use crate::pieces::Piece;
 use crate::token::TokenKind;
 
 /// The greatest whole part of a number.
-pub const MOST_WHOLE: u32 = 1_000_000;
+pub const LARGEST_WHOLE: u32 = 1_000_000;
 
 /// Whether the first byte is this one.
 pub fn begins_with(bytes: &[u8], byte: u8) -> bool
@@ -63,13 +64,13 @@ fn is_unsigned_number(whole: &[u8], behind: &[u8]) -> bool
     }
 }
 
-// The number that digits spell, as far as `MOST_WHOLE` and one more.
+// The number that digits spell, as far as `LARGEST_WHOLE` and one more.
 fn whole_value(digits: &[u8]) -> u32
-    ensures { result ≡ min (decimal digits.now) 1000001 }
+    ensures { result ≡ min (decimal digits.now) (largest_whole + 1) }
 {
     let mut value = 0u32;
     for digit in digits {
-        value = (10 * value + u32::from(digit.saturating_sub(b'0'))).min(MOST_WHOLE + 1);
+        value = (10 * value + u32::from(digit.saturating_sub(b'0'))).min(LARGEST_WHOLE + 1);
     }
     value
 }
@@ -131,7 +132,7 @@ fn number_piece(run: &[u8], whole: &[u8], behind: &[u8]) -> Piece
     ensures within { IsWithin result (length run.now) }
 {
     let value = whole_value(whole);
-    if value > MOST_WHOLE {
+    if value > LARGEST_WHOLE {
         return Piece::Broken(FaultKind::NumberTooLarge);
     }
     let fraction = match behind {

@@ -1,3 +1,6 @@
+ghost use Rattle.std.specs.Prelude.{◌≡◌};
+ghost use Rattle.ps_tokens.specs.Objects.{is_dict};
+
 use lists::list::List;
 use lists::names::Name;
 
@@ -15,6 +18,18 @@ pub enum Body {
     Operator(Name),
     Array,
     Dict,
+}
+
+impl Body {
+    /// Whether an object is a dictionary.
+    pub fn is_dict(&self) -> bool
+        ensures { result ≡ is_dict self.now }
+    {
+        match self {
+            Body::Dict => true,
+            _ => false,
+        }
+    }
 }
 
 /// An object, with the offset of its first token.

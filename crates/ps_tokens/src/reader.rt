@@ -3,6 +3,7 @@ ghost use Rattle.ps_tokens.specs.Tokens.{Gives, tokens_of};
 ghost use Rattle.ps_tokens.specs.Words.{spelling};
 ghost use Rattle.ps_tokens.specs.Dictionaries.{AreObjects};
 ghost use Rattle.ps_tokens.specs.Objects.{AreEnds, is_opening, is_closing, body_as, word_body, objects_in, objects_of};
+ghost use Rattle.ps_tokens.specs.Limits.{longest_job};
 
 use crate::faults::JobRefusal;
 use crate::judging::judge;
@@ -19,7 +20,7 @@ use std::alloc::Global;
 /// `NameInside` and `TooDeep` at that token, in this order; `Unclosed` at the innermost bracket that is left open.
 /// The tokens are those that `tokens` gives for the bytes.
 pub fn objects(alloc: Global, bytes: &[u8], tokens: &TokenList) -> Result<ObjectList, JobRefusal>
-    requires size { length bytes.now ≤ 1048576 }
+    requires size { length bytes.now ≤ longest_job }
     requires of_bytes { tokens_of bytes.now ≡ Ok tokens.now }
     ensures given { Gives result (objects_of bytes.now tokens.now) }
     ensures are { IfOk result (λ objects. AreObjects objects) }
@@ -36,7 +37,7 @@ pub fn objects(alloc: Global, bytes: &[u8], tokens: &TokenList) -> Result<Object
 
 // The objects that tokens begin. They are found from the last to the first.
 fn written(alloc: Global, bytes: &[u8], tokens: &[Token]) -> Result<Vec<Object>, OutOfMemory>
-    requires { length tokens.now ≤ 1048576 }
+    requires { length tokens.now ≤ longest_job }
     ensures { IfOk result (λ objects. objects.items ≡ objects_in bytes.now tokens.now) }
 {
     let mut objects = Vec::new(alloc);
@@ -64,12 +65,14 @@ fn put_token(
     objects: &mut Vec<Object>,
     ends: &mut Vec<u32>,
 ) -> Result<(), OutOfMemory>
-    requires size { length objects.old.items ≤ 1048576 }
+    requires size { length objects.old.items ≤ longest_job }
     requires so_far { objects.old.items ≡ reverse (objects_in bytes.now behind.now) }
     requires ends_so_far { AreEnds (reverse ends.old.items) (length objects.old.items) behind.now }
     ensures grows { length objects.new.items ≤ length objects.old.items + 1 }
-    ensures put { OnOk result (objects.new.items ≡ reverse (objects_in bytes.now (token.now ∷ behind.now))) }
-    ensures ends_put { OnOk result (AreEnds (reverse ends.new.items) (length objects.new.items) (token.now ∷ behind.now)) }
+    ensures put { OnOk result
+        (objects.new.items ≡ reverse (objects_in bytes.now (token.now ∷ behind.now))) }
+    ensures ends_put { OnOk result
+        (AreEnds (reverse ends.new.items) (length objects.new.items) (token.now ∷ behind.now)) }
 {
     let count = objects.len() as u32;
     if is_closing(token.kind) {
@@ -132,7 +135,9 @@ fn put_object(
     objects: &mut Vec<Object>,
 ) -> Result<(), OutOfMemory>
     ensures grows { length objects.new.items ≤ length objects.old.items + 1 }
-    ensures put { OnOk result (objects.new.items ≡ objects.old.items ++ record { at = token.now.at; inside = inside; body = body_as token.now.kind (spelling bytes.now token.now) } ∷ []) }
+    ensures put { let body = body_as token.now.kind (spelling bytes.now token.now) in
+        OnOk result (objects.new.items
+        ≡ objects.old.items ++ record { at = token.now.at; inside = inside; body = body } ∷ []) }
 {
     let body = match body_of(alloc, token.kind, spelling(bytes, token)) {
         Ok(body) => body,

@@ -1,5 +1,6 @@
 ghost use Rattle.std.specs.Prelude.{◌≡◌, ◌≤◌, ◌<◌, ◌+◌, length, drop, IfOk, IfErr, Ok};
-ghost use Rattle.ps_tokens.specs.Tokens.{Gives, Fails, joined, tokens_from, tokens_of};
+ghost use Rattle.ps_tokens.specs.Tokens.{Gives, Fails, tokens_then, tokens_from, tokens_of};
+ghost use Rattle.ps_tokens.specs.Limits.{longest_job};
 
 use crate::faults::{JobFault, JobRefusal};
 use crate::pieces::{Piece, piece_at};
@@ -7,13 +8,16 @@ use crate::token::{Token, TokenList};
 use lists::list::List;
 use std::alloc::Global;
 
+/// How many bytes a job may have.
+pub const LONGEST_JOB: usize = 1_048_576;
+
 /// The tokens that a job's bytes spell, each the longest that stands at its place, with whitespace and comments
 /// between them (after PLRM3's token syntax, in this project's profile).
 ///
 /// The fault is the first from the left: `BadToken` at the first byte where no token stands, or `NumberTooLarge`.
-/// A job has at most 1,048,576 bytes.
+/// A job has at most `LONGEST_JOB` bytes.
 pub fn tokens(alloc: Global, bytes: &[u8]) -> Result<TokenList, JobRefusal>
-    requires { length bytes.now ≤ 1048576 }
+    requires { length bytes.now ≤ longest_job }
     ensures { Gives result (tokens_of bytes.now) }
 {
     let mut found = Vec::new(alloc);
@@ -34,11 +38,12 @@ pub fn tokens(alloc: Global, bytes: &[u8]) -> Result<TokenList, JobRefusal>
 // Adds the token that stands at the front of the rest, if it is one, and tells how many bytes were taken.
 fn take_piece(found: &mut Vec<Token>, rest: &[u8], at: u32) -> Result<usize, JobRefusal>
     requires some { 0 < length rest.now }
-    requires size { at + length rest.now ≤ 1048576 }
+    requires size { at + length rest.now ≤ longest_job }
     ensures within { IfOk result (λ len. (1 ≤ len) × (len ≤ length rest.now)) }
-    ensures taken { IfOk result (λ len. joined (Ok found.old.items) (tokens_from at 0 rest.now)
-        ≡ joined (Ok found.new.items) (tokens_from (at + len) 0 (drop len rest.now))) }
-    ensures refused { IfErr result (λ refusal. Fails refusal (joined (Ok found.old.items) (tokens_from at 0 rest.now))) }
+    ensures taken { IfOk result (λ len. tokens_then (Ok found.old.items) (tokens_from at 0 rest.now)
+        ≡ tokens_then (Ok found.new.items) (tokens_from (at + len) 0 (drop len rest.now))) }
+    ensures refused { let meant = tokens_then (Ok found.old.items) (tokens_from at 0 rest.now) in
+        IfErr result (λ refusal. Fails refusal meant) }
 {
     match piece_at(rest) {
         Piece::Blank(len) => Ok(len),

@@ -8,7 +8,7 @@ use Rattle.page_model.specs.declared.parts.TrapParams.{TrapParams}
 use Rattle.ps_tokens.specs.declared.misfits.Misfit.{Misfit}
 use Rattle.ps_tokens.specs.Misfits.{misfit_of, earlier, unless}
 use Rattle.trap_params.specs.declared.applying.Settings.{Settings}
-use Rattle.trap_params.specs.Settings.{number_after, truth_after}
+use Rattle.trap_params.specs.Settings.{number_after, boolean_after}
 
 -- what the dictionary sets of each parameter
 abbrev pub settings_of : TrapParams → List Object → ℕ → Settings
@@ -20,7 +20,7 @@ settings_of now objects dict = record {
   step_limit = number_after objects dict StepLimit now.step_limit;
   sliding_trap_limit = number_after objects dict SlidingTrapLimit now.sliding_trap_limit;
   trap_color_scaling = number_after objects dict TrapColorScaling now.trap_color_scaling;
-  enabled = truth_after objects dict Enabled now.enabled;
+  enabled = boolean_after objects dict Enabled now.enabled;
 }
 
 -- of all parameters' faults the one that stands first
@@ -49,5 +49,5 @@ params_set set now = record {
 }
 
 -- the parameters after a dictionary, or the fault of the faulty entry whose key stands first
-abbrev pub applied : TrapParams → List Object → ℕ → Result TrapParams JobFault
-applied now objects dict = unless (first_misfit_of (settings_of now objects dict)) (params_set (settings_of now objects dict) now)
+abbrev pub params_after : TrapParams → List Object → ℕ → Result TrapParams JobFault
+params_after now objects dict = unless (first_misfit_of (settings_of now objects dict)) (params_set (settings_of now objects dict) now)

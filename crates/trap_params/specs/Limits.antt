@@ -1,64 +1,50 @@
 -- The step limits after a `settrapparams` dictionary.
-use Rattle.std.specs.Prelude.{ℕ, Bool, true, false, List, [], ◌∷◌, ◌+◌, length, fold, Option, Some, None, Result, Ok, Err, slice_get, nat_le, codes, if◌then◌else◌}
+use Rattle.std.specs.Prelude.{ℕ, List, [], ◌∷◌, length, fold, map, Option, Some, None, Result, Ok, Err, slice_get, nat_le, codes, if◌then◌else◌}
 use Rattle.std.specs.List.{flat_map}
 use Rattle.ps_tokens.specs.declared.faults.Key.TheVariants.{StepLimit}
+use Rattle.ps_tokens.specs.declared.faults.FaultKind.{FaultKind}
 use Rattle.ps_tokens.specs.declared.faults.FaultKind.TheVariants.{NotDictionary}
 use Rattle.ps_tokens.specs.declared.faults.JobFault.{JobFault}
 use Rattle.ps_tokens.specs.declared.misfits.Misfit.{Misfit}
 use Rattle.ps_tokens.specs.declared.object.Body.{Body}
-use Rattle.ps_tokens.specs.declared.object.Body.TheVariants.{Number, Truth, Null, Text, Literal, Operator, Array, Dict}
 use Rattle.ps_tokens.specs.declared.object.Object.{Object}
-use Rattle.ps_tokens.specs.Dictionaries.{last_of, last_keys_of, name_of}
-use Rattle.ps_tokens.specs.Misfits.{judged_at, misfit_of, earlier, unless}
+use Rattle.ps_tokens.specs.Dictionaries.{Ascend, last_of, last_keys_of, name_of}
+use Rattle.ps_tokens.specs.Misfits.{misfit_of, earlier, unless}
+use Rattle.ps_tokens.specs.Objects.{is_dict}
+use Rattle.ps_tokens.specs.Values.{by_body, value_at, entry_at}
 use Rattle.page_model.specs.declared.parts.Limit.{Limit}
 use Rattle.trap_params.specs.Settings.{number_of}
 
--- whether an object is a dictionary
-abbrev pub is_dict : Body → Bool
-is_dict (Number n) = false
-is_dict (Truth b) = false
-is_dict Null = false
-is_dict Text = false
-is_dict (Literal name) = false
-is_dict (Operator name) = false
-is_dict Array = false
-is_dict Dict = true
+-- how many bytes a colorant's name may have whose limit is kept
+abbrev pub longest_name : ℕ
+longest_name = 64
 
--- a number as a step that is named
-abbrev pub stepped : Result ℕ Misfit → Result (Option ℕ) Misfit
-stepped (Ok n) = Ok (Some n)
-stepped (Err misfit) = Err misfit
+-- a step, where a number is one
+abbrev pub step_given : Result ℕ FaultKind → Result (Option ℕ) FaultKind
+step_given (Ok n) = Ok (Some n)
+step_given (Err kind) = Err kind
 
--- a step, as the object that stands for it gives it; the key whose entry is judged stands at this place
-abbrev pub step_by : ℕ → Option Object → Result (Option ℕ) Misfit
-step_by key None = Ok None
-step_by key (Some object) = stepped (judged_at key object.at (number_of StepLimit object.body))
+-- the step that a value of StepLimit is
+abbrev pub step_by : Body → Result (Option ℕ) FaultKind
+step_by body = step_given (number_of StepLimit body)
 
--- the step of the last StepLimit entry, where there is one
-abbrev pub step_at : ℕ → List Object → Option ℕ → Result (Option ℕ) Misfit
-step_at key objects None = Ok None
-step_at key objects (Some place) = step_by key (slice_get objects place)
+-- the step that a dictionary names, if it names one
+abbrev pub step_in : List Object → ℕ → Result (Option ℕ) Misfit
+step_in objects dict = value_at (by_body step_by) objects None (last_of objects dict (codes "StepLimit"))
 
--- the step that a colorant's value names, none where it has no StepLimit
-abbrev pub step_in : ℕ → List Object → Option Object → Result (Option ℕ) Misfit
-step_in key objects None = Ok None
-step_in key objects (Some object) =
-    if is_dict object.body then step_at key objects (last_of objects (key + 1) (codes "StepLimit"))
-    else judged_at key object.at (Err NotDictionary)
-
--- the step that the entry of a colorant's key names
+-- the step that the entry of a colorant's key names; its value has to be a dictionary
 unfoldable pub step_of : List Object → ℕ → Result (Option ℕ) Misfit
-step_of objects key = step_in key objects (slice_get objects (key + 1))
+step_of objects key = entry_at (λ dict at. step_in objects dict) objects None key
 
--- a step under a name of at most 64 bytes
-abbrev pub kept : List ℕ → Result (Option ℕ) Misfit → List Limit
-kept name (Err misfit) = []
-kept name (Ok None) = []
-kept name (Ok (Some step)) = if nat_le (length name) 64 then record { name = name; step = step } ∷ [] else []
+-- a step under a name that is not too long
+abbrev pub limit_if_short : List ℕ → Result (Option ℕ) Misfit → List Limit
+limit_if_short name (Err misfit) = []
+limit_if_short name (Ok None) = []
+limit_if_short name (Ok (Some step)) = if nat_le (length name) longest_name then record { name = name; step = step } ∷ [] else []
 
 -- the limits of these keys, in their order
 abbrev pub limits_of : List Object → List ℕ → List Limit
-limits_of objects = flat_map (λ key. kept (name_of (slice_get objects key)) (step_of objects key))
+limits_of objects = flat_map (λ key. limit_if_short (name_of (slice_get objects key)) (step_of objects key))
 
 -- of the faults of these keys the one that stands first
 abbrev pub first_misfit : List Object → List ℕ → Option Misfit
@@ -68,7 +54,8 @@ first_misfit objects = fold (λ first key. earlier first (misfit_of (step_of obj
 abbrev pub limits_in : List Object → ℕ → Option Object → Result (List Limit) JobFault
 limits_in objects place None = Ok []
 limits_in objects place (Some object) =
-    if is_dict object.body then unless (first_misfit objects (last_keys_of objects place)) (limits_of objects (last_keys_of objects place))
+    let keys = last_keys_of objects place in
+    if is_dict object.body then unless (first_misfit objects keys) (limits_of objects keys)
     else Err (record { kind = NotDictionary; at = object.at })
 
 -- the limits of the last ColorantZoneDetails entry, or those of now where there is none
@@ -79,3 +66,7 @@ limits_at now objects (Some place) = limits_in objects place (slice_get objects 
 -- the limits after a dictionary
 abbrev pub limits_after : List Limit → List Object → ℕ → Result (List Limit) JobFault
 limits_after now objects dict = limits_at now objects (last_of objects dict (codes "ColorantZoneDetails"))
+
+-- the limits' names stand in ascending byte order, each once
+abbrev pub AscendByName : List Limit → Type 0
+AscendByName limits = Ascend (map (λ (l : Limit). l.name) limits)

@@ -15,7 +15,7 @@ name_of TrapColorScaling = codes "TrapColorScaling"
 name_of Enabled = codes "Enabled"
 name_of Trapping = codes "Trapping"
 
--- the least number that a parameter may be; the two truths have none
+-- the least number that a parameter may be; the two booleans have none
 abbrev pub least_of : Key → ℕ
 least_of TrapWidth = 1
 least_of BlackWidth = 1

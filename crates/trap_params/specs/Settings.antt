@@ -1,5 +1,5 @@
 -- What a dictionary sets: the value of the last entry of each key, judged by its kind and range.
-use Rattle.std.specs.Prelude.{ℕ, ℤ, pos, negsuc, Bool, List, Option, Some, None, Result, Ok, Err, slice_get, nat_le, ◌&&◌, if◌then◌else◌}
+use Rattle.std.specs.Prelude.{ℕ, ℤ, pos, negsuc, Bool, List, Result, Ok, Err, nat_le, ◌&&◌, if◌then◌else◌}
 use Rattle.ps_tokens.specs.declared.faults.Key.{Key}
 use Rattle.ps_tokens.specs.declared.faults.FaultKind.{FaultKind}
 use Rattle.ps_tokens.specs.declared.faults.FaultKind.TheVariants.{WrongKind, OutOfRange}
@@ -8,7 +8,7 @@ use Rattle.ps_tokens.specs.declared.object.Body.TheVariants.{Number, Truth, Null
 use Rattle.ps_tokens.specs.declared.object.Object.{Object}
 use Rattle.ps_tokens.specs.Dictionaries.{last_of}
 use Rattle.ps_tokens.specs.declared.misfits.Misfit.{Misfit}
-use Rattle.ps_tokens.specs.Misfits.{judged_at}
+use Rattle.ps_tokens.specs.Values.{by_body, value_at}
 use Rattle.trap_params.specs.Parameters.{name_of, least_of, most_of}
 
 -- a number in the parameter's range
@@ -27,31 +27,21 @@ number_of key (Operator name) = Err (WrongKind key)
 number_of key Array = Err (WrongKind key)
 number_of key Dict = Err (WrongKind key)
 
--- the truth that a value sets
-abbrev pub truth_of : Key → Body → Result Bool FaultKind
-truth_of key (Number n) = Err (WrongKind key)
-truth_of key (Truth b) = Ok b
-truth_of key Null = Err (WrongKind key)
-truth_of key Text = Err (WrongKind key)
-truth_of key (Literal name) = Err (WrongKind key)
-truth_of key (Operator name) = Err (WrongKind key)
-truth_of key Array = Err (WrongKind key)
-truth_of key Dict = Err (WrongKind key)
-
--- what an object at a place sets; where there is none, all stays
-abbrev pub set_by : {X : Type 0} → (Body → Result X FaultKind) → X → ℕ → Option Object → Result X Misfit
-set_by judge now place None = Ok now
-set_by judge now place (Some object) = judged_at place object.at (judge object.body)
-
--- what the value at a place sets; where no entry has the key, all stays
-abbrev pub set_at : {X : Type 0} → (Body → Result X FaultKind) → List Object → X → Option ℕ → Result X Misfit
-set_at judge objects now None = Ok now
-set_at judge objects now (Some place) = set_by judge now place (slice_get objects place)
+-- the boolean that a value sets
+abbrev pub boolean_of : Key → Body → Result Bool FaultKind
+boolean_of key (Number n) = Err (WrongKind key)
+boolean_of key (Truth b) = Ok b
+boolean_of key Null = Err (WrongKind key)
+boolean_of key Text = Err (WrongKind key)
+boolean_of key (Literal name) = Err (WrongKind key)
+boolean_of key (Operator name) = Err (WrongKind key)
+boolean_of key Array = Err (WrongKind key)
+boolean_of key Dict = Err (WrongKind key)
 
 -- a number after a dictionary
 unfoldable pub number_after : List Object → ℕ → Key → ℕ → Result ℕ Misfit
-number_after objects dict key now = set_at (number_of key) objects now (last_of objects dict (name_of key))
+number_after objects dict key now = value_at (by_body (number_of key)) objects now (last_of objects dict (name_of key))
 
--- a truth after a dictionary
-unfoldable pub truth_after : List Object → ℕ → Key → Bool → Result Bool Misfit
-truth_after objects dict key now = set_at (truth_of key) objects now (last_of objects dict (name_of key))
+-- a boolean after a dictionary
+unfoldable pub boolean_after : List Object → ℕ → Key → Bool → Result Bool Misfit
+boolean_after objects dict key now = value_at (by_body (boolean_of key)) objects now (last_of objects dict (name_of key))

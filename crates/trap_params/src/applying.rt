@@ -1,8 +1,8 @@
 ghost use Rattle.std.specs.Prelude.{◌≡◌};
 ghost use Rattle.ps_tokens.specs.Dictionaries.{AreObjects};
-ghost use Rattle.trap_params.specs.Applied.{settings_of, first_misfit_of, params_set, applied};
+ghost use Rattle.trap_params.specs.Applied.{settings_of, first_misfit_of, params_set, params_after};
 
-use crate::settings::{number_after, truth_after};
+use crate::settings::{boolean_after, number_after};
 use page_model::parts::TrapParams;
 use ps_tokens::faults::{JobFault, Key};
 use ps_tokens::misfits::{Misfit, earlier};
@@ -28,7 +28,7 @@ pub struct Settings {
 /// The faulty entry whose key stands first decides, and the fault stands at its value.
 pub fn apply(now: &TrapParams, objects: &ObjectList, dict: u32) -> Result<TrapParams, JobFault>
     requires { AreObjects objects.now }
-    ensures { result ≡ applied now.now objects.now dict }
+    ensures { result ≡ params_after now.now objects.now dict }
 {
     let settings = settings_of(now, objects, dict);
     match first_misfit(&settings) {
@@ -65,7 +65,7 @@ fn settings_of(now: &TrapParams, objects: &ObjectList, dict: u32) -> Settings
             Key::TrapColorScaling,
             now.trap_color_scaling,
         ),
-        enabled: truth_after(objects, dict, Key::Enabled, now.enabled),
+        enabled: boolean_after(objects, dict, Key::Enabled, now.enabled),
     }
 }
 

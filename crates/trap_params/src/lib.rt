@@ -2,11 +2,8 @@
 #![tactic(auto)]
 
 mod applying;
-mod limits;
+pub mod limits;
 pub mod settings;
 
 pub use applying::apply;
 pub use limits::zone_limits;
-
-#[cfg(test)]
-mod tests;

@@ -2,20 +2,21 @@ ghost use Rattle.std.specs.Prelude.{◌≡◌, ◌++◌, ◌∷◌, [], IfOk, On
 ghost use Rattle.ps_tokens.specs.Tokens.{Gives};
 ghost use Rattle.ps_tokens.specs.Dictionaries.{AreObjects, last_keys_of};
 ghost use Rattle.ps_tokens.specs.Misfits.{unless};
-ghost use Rattle.trap_params.specs.Limits.{is_dict, step_of, kept, limits_of, first_misfit, limits_after};
+ghost use Rattle.trap_params.specs.Limits.{AscendByName, step_by, step_in, step_of, limit_if_short, limits_of, first_misfit, limits_after};
 
 use crate::settings::number_of;
 use lists::list::List;
-use page_model::parts::{Limit, LimitList, Name, OutOfMemory};
+use lists::names::copied;
+use page_model::parts::{Limit, LimitList, OutOfMemory};
 use ps_tokens::dictionary::count;
 use ps_tokens::faults::{FaultKind, JobFault, JobRefusal, Key};
-use ps_tokens::last;
-use ps_tokens::misfits::{Misfit, earlier};
+use ps_tokens::misfits::{Misfit, at_key, earlier, judged_at};
 use ps_tokens::names::{last_keys, name_at};
 use ps_tokens::object::{Body, ObjectList};
+use ps_tokens::{last, last_value};
 use std::alloc::Global;
 
-/// The longest name whose limit is kept, in bytes.
+/// How many bytes a name may have whose limit is kept.
 pub const LONGEST_NAME: usize = 64;
 
 /// The step limits after the dictionary at a place: those of its last ColorantZoneDetails entry, in ascending byte order
@@ -31,7 +32,8 @@ pub fn zone_limits(
     dict: u32,
 ) -> Result<LimitList, JobRefusal>
     requires { AreObjects objects.now }
-    ensures { Gives result (limits_after now.now objects.now dict) }
+    ensures given { Gives result (limits_after now.now objects.now dict) }
+    ensures ascending { AscendByName now.now → IfOk result (λ limits. AscendByName limits) }
 {
     let Some(place) = last(objects, dict, b"ColorantZoneDetails") else {
         return match copy_of(alloc, now) {
@@ -42,7 +44,7 @@ pub fn zone_limits(
     let Some(object) = objects.get(place as usize) else {
         return Ok(List::new(alloc));
     };
-    if is_dict(&object.body) {
+    if object.body.is_dict() {
         limits_in(alloc, objects, place)
     } else {
         Err(JobRefusal::Fault(JobFault {
@@ -52,20 +54,11 @@ pub fn zone_limits(
     }
 }
 
-// Whether an object is a dictionary.
-fn is_dict(body: &Body) -> bool
-    ensures { result ≡ is_dict body.now }
-{
-    match body {
-        Body::Dict => true,
-        _ => false,
-    }
-}
-
 // The limits of the colorants that the dictionary at a place names.
 fn limits_in(alloc: Global, objects: &ObjectList, place: u32) -> Result<LimitList, JobRefusal>
     requires { AreObjects objects.now }
-    ensures { Gives result (unless (first_misfit objects.now (last_keys_of objects.now place)) (limits_of objects.now (last_keys_of objects.now place))) }
+    ensures { let keys = last_keys_of objects.now place in
+        Gives result (unless (first_misfit objects.now keys) (limits_of objects.now keys)) }
 {
     let keys = match last_keys(alloc, objects, place) {
         Ok(keys) => keys,
@@ -108,14 +101,14 @@ fn limits_of(alloc: Global, objects: &ObjectList, keys: &[u32]) -> Result<Vec<Li
     Ok(limits)
 }
 
-// Adds a step under a name of at most 64 bytes.
+// Adds a step under a name that is not too long.
 fn keep(
     alloc: Global,
     limits: &mut Vec<Limit>,
     name: &[u8],
     step: Result<Option<u32>, Misfit>,
 ) -> Result<(), OutOfMemory>
-    ensures { OnOk result (limits.new.items ≡ limits.old.items ++ kept name.now step) }
+    ensures { OnOk result (limits.new.items ≡ limits.old.items ++ limit_if_short name.now step) }
 {
     match step {
         Ok(Some(step)) => {
@@ -137,11 +130,12 @@ fn put_limit(
     name: &[u8],
     step: u32,
 ) -> Result<(), OutOfMemory>
-    ensures { OnOk result (limits.new.items ≡ limits.old.items ++ record { name = name.now; step = step } ∷ []) }
+    ensures { OnOk result
+        (limits.new.items ≡ limits.old.items ++ record { name = name.now; step = step } ∷ []) }
 {
-    let name: Name = match Vec::from_slice(alloc, name) {
-        Ok(bytes) => List::from_vec(bytes),
-        Err(_) => return Err(OutOfMemory),
+    let name = match copied(alloc, name) {
+        Ok(name) => name,
+        Err(OutOfMemory) => return Err(OutOfMemory),
     };
     match limits.push(Limit { name, step }) {
         Ok(()) => Ok(()),
@@ -158,35 +152,41 @@ fn step_of(objects: &ObjectList, key: u32) -> Result<Option<u32>, Misfit>
     if key as usize + 1 >= count(objects) as usize {
         return Ok(None);
     }
-    let Some(object) = objects.get(key as usize + 1) else {
-        return Ok(None);
-    };
-    if !is_dict(&object.body) {
-        return Err(Misfit {
-            place: key,
-            fault: JobFault {
-                kind: FaultKind::NotDictionary,
-                at: object.at,
-            },
-        });
-    }
-    let Some(place) = last(objects, key + 1, b"StepLimit") else {
-        return Ok(None);
-    };
-    let Some(step) = objects.get(place as usize) else {
-        return Ok(None);
-    };
-    match number_of(Key::StepLimit, &step.body) {
-        Ok(number) => Ok(Some(number)),
-        Err(kind) => Err(Misfit {
-            place: key,
-            fault: JobFault { kind, at: step.at },
-        }),
+    match objects.get(key as usize + 1) {
+        Some(object) => {
+            if object.body.is_dict() {
+                at_key(key, step_in(objects, key + 1))
+            } else {
+                judged_at(key, object.at, Err(FaultKind::NotDictionary))
+            }
+        }
+        None => Ok(None),
     }
 }
 
-// A copy of limits.
-fn copy_of(alloc: Global, now: &LimitList) -> Result<LimitList, OutOfMemory>
+// The step that a colorant's dictionary names, if it names one.
+fn step_in(objects: &ObjectList, dict: u32) -> Result<Option<u32>, Misfit>
+    requires { AreObjects objects.now }
+    ensures { result ≡ step_in objects.now dict }
+{
+    match last_value(objects, dict, b"StepLimit") {
+        Some((place, object)) => judged_at(place, object.at, step_by(&object.body)),
+        None => Ok(None),
+    }
+}
+
+// The step that a value of StepLimit is.
+fn step_by(value: &Body) -> Result<Option<u32>, FaultKind>
+    ensures { result ≡ step_by value.now }
+{
+    match number_of(Key::StepLimit, value) {
+        Ok(number) => Ok(Some(number)),
+        Err(kind) => Err(kind),
+    }
+}
+
+/// A copy of limits.
+pub fn copy_of(alloc: Global, now: &LimitList) -> Result<LimitList, OutOfMemory>
     ensures { IfOk result (λ limits. limits ≡ now.now) }
 {
     let mut limits = Vec::new(alloc);

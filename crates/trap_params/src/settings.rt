@@ -1,11 +1,11 @@
 ghost use Rattle.std.specs.Prelude.{◌≡◌, ◌≤◌, ◌<◌, ◌^◌, IfOk};
 ghost use Rattle.ps_tokens.specs.Dictionaries.{AreObjects};
 ghost use Rattle.trap_params.specs.Parameters.{name_of, least_of, most_of};
-ghost use Rattle.trap_params.specs.Settings.{in_range, number_of, truth_of, number_after, truth_after};
+ghost use Rattle.trap_params.specs.Settings.{in_range, number_of, boolean_of, number_after, boolean_after};
 
-use ps_tokens::faults::{FaultKind, JobFault, Key};
-use ps_tokens::last;
-use ps_tokens::misfits::Misfit;
+use ps_tokens::faults::{FaultKind, Key};
+use ps_tokens::last_value;
+use ps_tokens::misfits::{Misfit, judged_at};
 use ps_tokens::object::{Body, ObjectList};
 
 // A parameter's name in a job.
@@ -65,12 +65,12 @@ pub fn number_of(key: Key, value: &Body) -> Result<u32, FaultKind>
     }
 }
 
-// The truth that a value sets.
-fn truth_of(key: Key, value: &Body) -> Result<bool, FaultKind>
-    ensures { result ≡ truth_of key value.now }
+// The boolean that a value sets.
+fn boolean_of(key: Key, value: &Body) -> Result<bool, FaultKind>
+    ensures { result ≡ boolean_of key value.now }
 {
     match value {
-        Body::Truth(truth) => Ok(*truth),
+        Body::Truth(boolean) => Ok(*boolean),
         _ => Err(FaultKind::WrongKind(key)),
     }
 }
@@ -81,44 +81,20 @@ pub fn number_after(objects: &ObjectList, dict: u32, key: Key, now: u32) -> Resu
     requires { AreObjects objects.now }
     ensures { result ≡ number_after objects.now dict key now }
 {
-    let Some(place) = last(objects, dict, name_of(key)) else {
-        return Ok(now);
-    };
-    let Some(object) = objects.get(place as usize) else {
-        return Ok(now);
-    };
-    match number_of(key, &object.body) {
-        Ok(number) => Ok(number),
-        Err(kind) => Err(Misfit {
-            place,
-            fault: JobFault {
-                kind,
-                at: object.at,
-            },
-        }),
+    match last_value(objects, dict, name_of(key)) {
+        Some((place, object)) => judged_at(place, object.at, number_of(key, &object.body)),
+        None => Ok(now),
     }
 }
 
-/// A truth after a dictionary: that of the last entry of its key, or the one now.
-#[tactic(auto, unfolding(crate::specs::Settings::truth_after))]
-pub fn truth_after(objects: &ObjectList, dict: u32, key: Key, now: bool) -> Result<bool, Misfit>
+/// A boolean after a dictionary: that of the last entry of its key, or the one now.
+#[tactic(auto, unfolding(crate::specs::Settings::boolean_after))]
+pub fn boolean_after(objects: &ObjectList, dict: u32, key: Key, now: bool) -> Result<bool, Misfit>
     requires { AreObjects objects.now }
-    ensures { result ≡ truth_after objects.now dict key now }
+    ensures { result ≡ boolean_after objects.now dict key now }
 {
-    let Some(place) = last(objects, dict, name_of(key)) else {
-        return Ok(now);
-    };
-    let Some(object) = objects.get(place as usize) else {
-        return Ok(now);
-    };
-    match truth_of(key, &object.body) {
-        Ok(truth) => Ok(truth),
-        Err(kind) => Err(Misfit {
-            place,
-            fault: JobFault {
-                kind,
-                at: object.at,
-            },
-        }),
+    match last_value(objects, dict, name_of(key)) {
+        Some((place, object)) => judged_at(place, object.at, boolean_of(key, &object.body)),
+        None => Ok(now),
     }
 }

@@ -11,7 +11,7 @@ use Rattle.ps_tokens.specs.declared.faults.FaultKind.{FaultKind}
 use Rattle.ps_tokens.specs.declared.faults.FaultKind.TheVariants.{CoordinateRange, TooManyVertices}
 use Rattle.zone_paths.specs.declared.pen.Point.{Point}
 use Rattle.zone_paths.specs.declared.pen.Pen.{Pen}
-use Rattle.zone_paths.specs.Paths.{Drawing, is_near, vertex_at, extended, begun_at, line_vertices, lined_to, IsPen, IsDrawing, shifted, from_pen, rmoveto, rlineto}
+use Rattle.zone_paths.specs.Paths.{Drawing, is_near, vertex_at, with_vertices, begun_at, line_vertices, lined_to, IsPen, IsDrawing, offset_point, from_pen, rmoveto, rlineto}
 
 -- a near point makes a vertex
 IsVertex-near : (p : Point) (starts : Bool) → is_near p ≡ true → IsVertex (vertex_at p starts)
@@ -36,8 +36,8 @@ begins-more [] more some here = absurd (omega arith)
 begins-more (v ∷ vs) more some here = here
 
 -- what few near vertices extend is a path
-extended-path : (vs more : List Vertex) → IsPath vs → begins (vs ++ more) ≡ true → All IsVertex more → nat_le (length vs + length more) 4096 ≡ true → IsPath (vs ++ more)
-extended-path vs more path begun near few =
+with_vertices-path : (vs more : List Vertex) → IsPath vs → begins (vs ++ more) ≡ true → All IsVertex more → nat_le (length vs + length more) 4096 ≡ true → IsPath (vs ++ more)
+with_vertices-path vs more path begun near few =
     let len = length-append vs more in
     let fits : length vs + length more ≤ 4096 = grind (arith, nat_tests) in
     record { begun = begun; few = rw len fits; near = All-append IsVertex vs more path.near near }
@@ -47,20 +47,20 @@ abbrev if_few : Bool → Drawing → Result Drawing FaultKind
 if_few b d = cond b (Ok d) (Err TooManyVertices)
 
 -- a drawing that was extended
-extended-drawing : (b : Bool) (vs more : List Vertex) (pen : Pen) (d : Drawing) → nat_le (length vs + length more) 4096 ≡ b → IsPath vs → begins (vs ++ more) ≡ true → All IsVertex more → 1 ≤ length more
+with_vertices-drawing : (b : Bool) (vs more : List Vertex) (pen : Pen) (d : Drawing) → nat_le (length vs + length more) 4096 ≡ b → IsPath vs → begins (vs ++ more) ≡ true → All IsVertex more → 1 ≤ length more
     → is_near pen.first ≡ true → is_near pen.at ≡ true
     → if_few b (record { vertices = vs ++ more; pen = Some pen }) ≡ Ok d → IsDrawing d
-extended-drawing true vs more pen d few path begun near some first at is =
+with_vertices-drawing true vs more pen d few path begun near some first at is =
     let e : record { vertices = vs ++ more; pen = Some pen } ≡ d = cc in
     let len = length-append vs more in
     let P : Drawing → Type 0 = λ x. IsDrawing x in
-    subst P e (record { path = extended-path vs more path begun near few; pen = (first, at, omega (arith, len)) })
-extended-drawing false vs more pen d few path begun near some first at is = absurd (cc)
+    subst P e (record { path = with_vertices-path vs more path begun near few; pen = (first, at, omega (arith, len)) })
+with_vertices-drawing false vs more pen d few path begun near some first at is = absurd (cc)
 
 begun_by : (b : Bool) (vs : List Vertex) (p : Point) (d : Drawing) → is_near p ≡ b → IsPath vs
-    → cond b (extended vs (vertex_at p true ∷ []) (record { first = p; at = p; closed = false })) (Err CoordinateRange) ≡ Ok d → IsDrawing d
+    → cond b (with_vertices vs (vertex_at p true ∷ []) (record { first = p; at = p; closed = false })) (Err CoordinateRange) ≡ Ok d → IsDrawing d
 begun_by true vs p d near path is =
-    extended-drawing (nat_le (length vs + 1) 4096) vs (vertex_at p true ∷ []) (record { first = p; at = p; closed = false }) d refl path (begins-append vs (vertex_at p true ∷ []) path.begun refl) (one_near (vertex_at p true) (IsVertex-near p true near)) (omega arith) near near is
+    with_vertices-drawing (nat_le (length vs + 1) 4096) vs (vertex_at p true ∷ []) (record { first = p; at = p; closed = false }) d refl path (begins-append vs (vertex_at p true ∷ []) path.begun refl) (one_near (vertex_at p true) (IsVertex-near p true near)) (omega arith) near near is
 begun_by false vs p d near path is = absurd (cc)
 
 -- a subpath that was begun
@@ -77,9 +77,9 @@ line-some true at p = omega arith
 line-some false at p = omega arith
 
 lined_by : (b : Bool) (vs : List Vertex) (pen : Pen) (p : Point) (d : Drawing) → is_near p ≡ b → IsPath vs → IsPen vs (Some pen)
-    → cond b (extended vs (line_vertices pen p) (record { first = pen.first; at = p; closed = false })) (Err CoordinateRange) ≡ Ok d → IsDrawing d
+    → cond b (with_vertices vs (line_vertices pen p) (record { first = pen.first; at = p; closed = false })) (Err CoordinateRange) ≡ Ok d → IsDrawing d
 lined_by true vs pen p d near path behind is =
-    extended-drawing (nat_le (length vs + length (line_vertices pen p)) 4096) vs (line_vertices pen p) (record { first = pen.first; at = p; closed = false }) d refl path (begins-more vs (line_vertices pen p) behind.2 path.begun) (line-near pen.closed pen.at p behind.1 near) (line-some pen.closed pen.at p) behind.0 near is
+    with_vertices-drawing (nat_le (length vs + length (line_vertices pen p)) 4096) vs (line_vertices pen p) (record { first = pen.first; at = p; closed = false }) d refl path (begins-more vs (line_vertices pen p) behind.2 path.begun) (line-near pen.closed pen.at p behind.1 near) (line-some pen.closed pen.at p) behind.0 near is
 lined_by false vs pen p d near path behind is = absurd (cc)
 
 -- a line that was drawn
@@ -90,16 +90,16 @@ lined_to-drawing vs pen p d path behind is = lined_by (is_near p) vs pen p d ref
 -- nothing is drawn to a point that is far away
 begun_at-far : (vs : List Vertex) (p : Point) → is_near p ≡ false → begun_at vs p ≡ Err CoordinateRange
 unfolding begun_at
-begun_at-far vs p far = ap (λ b. cond b (extended vs (vertex_at p true ∷ []) (record { first = p; at = p; closed = false })) (Err CoordinateRange)) far
+begun_at-far vs p far = ap (λ b. cond b (with_vertices vs (vertex_at p true ∷ []) (record { first = p; at = p; closed = false })) (Err CoordinateRange)) far
 
 lined_to-far : (vs : List Vertex) (pen : Pen) (p : Point) → is_near p ≡ false → lined_to vs pen p ≡ Err CoordinateRange
 unfolding lined_to
-lined_to-far vs pen p far = ap (λ b. cond b (extended vs (line_vertices pen p) (record { first = pen.first; at = p; closed = false })) (Err CoordinateRange)) far
+lined_to-far vs pen p far = ap (λ b. cond b (with_vertices vs (line_vertices pen p) (record { first = pen.first; at = p; closed = false })) (Err CoordinateRange)) far
 
-pub rmoveto-far : (d : Drawing) (pen : Pen) (dx dy : ℤ) → d.pen ≡ Some pen → is_near (shifted pen.at dx dy) ≡ false → rmoveto dx dy d ≡ Err CoordinateRange
+pub rmoveto-far : (d : Drawing) (pen : Pen) (dx dy : ℤ) → d.pen ≡ Some pen → is_near (offset_point pen.at dx dy) ≡ false → rmoveto dx dy d ≡ Err CoordinateRange
 rmoveto-far d pen dx dy is far =
-    ap (λ o. from_pen o (λ p. begun_at d.vertices (shifted p.at dx dy))) is ∙ begun_at-far d.vertices (shifted pen.at dx dy) far
+    ap (λ o. from_pen o (λ p. begun_at d.vertices (offset_point p.at dx dy))) is ∙ begun_at-far d.vertices (offset_point pen.at dx dy) far
 
-pub rlineto-far : (d : Drawing) (pen : Pen) (dx dy : ℤ) → d.pen ≡ Some pen → is_near (shifted pen.at dx dy) ≡ false → rlineto dx dy d ≡ Err CoordinateRange
+pub rlineto-far : (d : Drawing) (pen : Pen) (dx dy : ℤ) → d.pen ≡ Some pen → is_near (offset_point pen.at dx dy) ≡ false → rlineto dx dy d ≡ Err CoordinateRange
 rlineto-far d pen dx dy is far =
-    ap (λ o. from_pen o (λ p. lined_to d.vertices p (shifted p.at dx dy))) is ∙ lined_to-far d.vertices pen (shifted pen.at dx dy) far
+    ap (λ o. from_pen o (λ p. lined_to d.vertices p (offset_point p.at dx dy))) is ∙ lined_to-far d.vertices pen (offset_point pen.at dx dy) far

@@ -1,11 +1,19 @@
 -- What the path statements of a job draw.
-use Rattle.std.specs.Prelude.{◌≡◌, ℤ, ◌+◌, ◌+ℤ◌, ◌<◌, Bool, true, false, List, [], ◌∷◌, ◌++◌, length, Option, Some, None, Result, Ok, Err, nat_abs, nat_le, ◌&&◌, if◌then◌else◌}
+use Rattle.std.specs.Prelude.{◌≡◌, ℕ, ℤ, ◌+◌, ◌+ℤ◌, ◌<◌, Bool, true, false, List, [], ◌∷◌, ◌++◌, length, Option, Some, None, Result, Ok, Err, nat_abs, nat_le, ◌&&◌, if◌then◌else◌}
 use Rattle.page_model.specs.declared.parts.Vertex.{Vertex}
 use Rattle.page_model.specs.Conditions.{IsPath}
 use Rattle.ps_tokens.specs.declared.faults.FaultKind.{FaultKind}
 use Rattle.ps_tokens.specs.declared.faults.FaultKind.TheVariants.{NoCurrentPoint, CoordinateRange, TooManyVertices}
 use Rattle.zone_paths.specs.declared.pen.Point.{Point}
 use Rattle.zone_paths.specs.declared.pen.Pen.{Pen}
+
+-- how many vertices a path may have
+abbrev pub most_path_vertices : ℕ
+most_path_vertices = 4096
+
+-- how far a coordinate may be from the origin, in ten-thousandths of a point: a million points
+abbrev pub farthest : ℕ
+farthest = 10000000000
 
 -- a path as its statements leave it: its vertices, and the pen at its current point, if it has one
 pub record Drawing : Type 0 where
@@ -16,28 +24,28 @@ pub record Drawing : Type 0 where
 abbrev pub nothing_drawn : Drawing
 nothing_drawn = record { vertices = []; pen = None }
 
--- whether a point is at most a million points from the origin in x and in y
+-- whether a point is no farther from the origin, in x and in y
 abbrev pub is_near : Point → Bool
-is_near p = nat_le (nat_abs p.x) 10000000000 && nat_le (nat_abs p.y) 10000000000
+is_near p = nat_le (nat_abs p.x) farthest && nat_le (nat_abs p.y) farthest
 
 -- the vertex at a point; it begins a subpath or not
 abbrev pub vertex_at : Point → Bool → Vertex
 vertex_at p starts = record { x = p.x; y = p.y; starts = starts }
 
 -- the point that lies so far away from another
-abbrev pub shifted : Point → ℤ → ℤ → Point
-shifted p dx dy = record { x = p.x +ℤ dx; y = p.y +ℤ dy }
+abbrev pub offset_point : Point → ℤ → ℤ → Point
+offset_point p dx dy = record { x = p.x +ℤ dx; y = p.y +ℤ dy }
 
--- these vertices more and the pen behind them; a path has at most 4,096
-abbrev pub extended : List Vertex → List Vertex → Pen → Result Drawing FaultKind
-extended vertices more pen =
-    if nat_le (length vertices + length more) 4096 then Ok (record { vertices = vertices ++ more; pen = Some pen })
+-- these vertices more and the pen behind them, unless these are too many
+abbrev pub with_vertices : List Vertex → List Vertex → Pen → Result Drawing FaultKind
+with_vertices vertices more pen =
+    if nat_le (length vertices + length more) most_path_vertices then Ok (record { vertices = vertices ++ more; pen = Some pen })
     else Err TooManyVertices
 
 -- one more subpath, which begins at a point
 unfoldable pub begun_at : List Vertex → Point → Result Drawing FaultKind
 begun_at vertices p =
-    if is_near p then extended vertices (vertex_at p true ∷ []) (record { first = p; at = p; closed = false })
+    if is_near p then with_vertices vertices (vertex_at p true ∷ []) (record { first = p; at = p; closed = false })
     else Err CoordinateRange
 
 -- the vertices of a line to a point: behind a closed subpath it first begins one at the current point
@@ -47,7 +55,7 @@ line_vertices pen p = if pen.closed then vertex_at pen.at true ∷ vertex_at p f
 -- one more line, from the pen to a point
 unfoldable pub lined_to : List Vertex → Pen → Point → Result Drawing FaultKind
 lined_to vertices pen p =
-    if is_near p then extended vertices (line_vertices pen p) (record { first = pen.first; at = p; closed = false })
+    if is_near p then with_vertices vertices (line_vertices pen p) (record { first = pen.first; at = p; closed = false })
     else Err CoordinateRange
 
 -- what is drawn from the pen; without one there is no current point
@@ -61,7 +69,7 @@ moveto x y d = begun_at d.vertices (record { x = x; y = y })
 
 -- `dx dy rmoveto`
 abbrev pub rmoveto : ℤ → ℤ → Drawing → Result Drawing FaultKind
-rmoveto dx dy d = from_pen d.pen (λ pen. begun_at d.vertices (shifted pen.at dx dy))
+rmoveto dx dy d = from_pen d.pen (λ pen. begun_at d.vertices (offset_point pen.at dx dy))
 
 -- `x y lineto`
 abbrev pub lineto : ℤ → ℤ → Drawing → Result Drawing FaultKind
@@ -69,7 +77,7 @@ lineto x y d = from_pen d.pen (λ pen. lined_to d.vertices pen (record { x = x; 
 
 -- `dx dy rlineto`
 abbrev pub rlineto : ℤ → ℤ → Drawing → Result Drawing FaultKind
-rlineto dx dy d = from_pen d.pen (λ pen. lined_to d.vertices pen (shifted pen.at dx dy))
+rlineto dx dy d = from_pen d.pen (λ pen. lined_to d.vertices pen (offset_point pen.at dx dy))
 
 -- the pen behind `closepath` stands at the first point of the subpath, which is closed
 abbrev pub closed_pen : Option Pen → Option Pen

@@ -3,5 +3,3 @@
 
 pub mod path;
 pub mod pen;
-#[cfg(test)]
-mod tests;

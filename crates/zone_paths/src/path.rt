@@ -1,9 +1,9 @@
 ghost use Rattle.std.specs.Prelude.{◌≡◌, ◌≤◌, ◌++◌, ◌∷◌, [], length, MatchResult};
 ghost use Rattle.page_model.specs.Conditions.{IsPath};
-ghost use Rattle.zone_paths.specs.Paths.{nothing_drawn, moveto, lineto, rmoveto, rlineto, closepath, begun_at, lined_to};
+ghost use Rattle.zone_paths.specs.Paths.{most_path_vertices, nothing_drawn, moveto, lineto, rmoveto, rlineto, closepath, begun_at, lined_to};
 ghost use Rattle.zone_paths.specs.Refusals.{Draws, Extends};
 
-use crate::pen::{Pen, Point, is_near, shifted, vertex_at};
+use crate::pen::{Pen, Point, is_near, offset_point, vertex_at};
 use lists::list::List;
 use page_model::parts::{OutOfMemory, Vertex, VertexList};
 use ps_tokens::faults::FaultKind;
@@ -11,7 +11,7 @@ use std::alloc::Global;
 use std::marker::Model;
 
 /// How many vertices a path may have.
-pub const MOST_VERTICES: usize = 4_096;
+pub const MOST_PATH_VERTICES: usize = 4_096;
 
 /// Why a path statement was not drawn.
 #[derive(Clone, Copy, Debug, Drop, PartialEq, Eq)]
@@ -83,7 +83,7 @@ impl Path {
         let Some(pen) = self.pen else {
             return Err(PathRefusal::Fault(FaultKind::NoCurrentPoint));
         };
-        match shifted(pen.at, dx, dy) {
+        match offset_point(pen.at, dx, dy) {
             Some(point) => self.moveto(point.x, point.y),
             None => Err(PathRefusal::Fault(FaultKind::CoordinateRange)),
         }
@@ -116,7 +116,7 @@ impl Path {
         let Some(pen) = self.pen else {
             return Err(PathRefusal::Fault(FaultKind::NoCurrentPoint));
         };
-        match shifted(pen.at, dx, dy) {
+        match offset_point(pen.at, dx, dy) {
             Some(point) => self.lineto(point.x, point.y),
             None => Err(PathRefusal::Fault(FaultKind::CoordinateRange)),
         }
@@ -158,13 +158,14 @@ impl Path {
 // Begins a subpath at a point.
 #[tactic(auto, unfolding(crate::specs::Paths::begun_at))]
 fn begin(vertices: &mut Vec<Vertex>, point: Point) -> Result<Pen, PathRefusal>
-    requires { length vertices.old.items ≤ 4096 }
-    ensures { Extends result vertices.old.items vertices.new.items (begun_at vertices.old.items point) }
+    requires { length vertices.old.items ≤ most_path_vertices }
+    ensures { Extends result vertices.old.items vertices.new.items
+        (begun_at vertices.old.items point) }
 {
     if !is_near(point) {
         return Err(PathRefusal::Fault(FaultKind::CoordinateRange));
     }
-    if vertices.len() + 1 > MOST_VERTICES {
+    if vertices.len() + 1 > MOST_PATH_VERTICES {
         return Err(PathRefusal::Fault(FaultKind::TooManyVertices));
     }
     match vertices.push(vertex_at(point, true)) {
@@ -180,14 +181,15 @@ fn begin(vertices: &mut Vec<Vertex>, point: Point) -> Result<Pen, PathRefusal>
 // Draws a line to a point.
 #[tactic(auto, unfolding(crate::specs::Paths::lined_to))]
 fn draw_line(vertices: &mut Vec<Vertex>, pen: Pen, point: Point) -> Result<Pen, PathRefusal>
-    requires { length vertices.old.items ≤ 4096 }
-    ensures { Extends result vertices.old.items vertices.new.items (lined_to vertices.old.items pen point) }
+    requires { length vertices.old.items ≤ most_path_vertices }
+    ensures { Extends result vertices.old.items vertices.new.items
+        (lined_to vertices.old.items pen point) }
 {
     if !is_near(point) {
         return Err(PathRefusal::Fault(FaultKind::CoordinateRange));
     }
     let more = if pen.closed { 2 } else { 1 };
-    if vertices.len() + more > MOST_VERTICES {
+    if vertices.len() + more > MOST_PATH_VERTICES {
         return Err(PathRefusal::Fault(FaultKind::TooManyVertices));
     }
     let added = if pen.closed {
@@ -207,7 +209,8 @@ fn draw_line(vertices: &mut Vec<Vertex>, pen: Pen, point: Point) -> Result<Pen, 
 
 // Adds a vertex, or nothing.
 fn push(vertices: &mut Vec<Vertex>, vertex: Vertex) -> Result<(), OutOfMemory>
-    ensures { MatchResult result (λ _. vertices.new.items ≡ vertices.old.items ++ vertex ∷ []) (λ _. vertices.new.items ≡ vertices.old.items) }
+    ensures { MatchResult result (λ _. vertices.new.items ≡ vertices.old.items ++ vertex ∷ [])
+        (λ _. vertices.new.items ≡ vertices.old.items) }
 {
     match vertices.push(vertex) {
         Ok(()) => Ok(()),
@@ -217,7 +220,8 @@ fn push(vertices: &mut Vec<Vertex>, vertex: Vertex) -> Result<(), OutOfMemory>
 
 // Adds two vertices, or nothing.
 fn push_both(vertices: &mut Vec<Vertex>, one: Vertex, two: Vertex) -> Result<(), OutOfMemory>
-    ensures { MatchResult result (λ _. vertices.new.items ≡ vertices.old.items ++ one ∷ two ∷ []) (λ _. vertices.new.items ≡ vertices.old.items) }
+    ensures { MatchResult result (λ _. vertices.new.items ≡ vertices.old.items ++ one ∷ two ∷ [])
+        (λ _. vertices.new.items ≡ vertices.old.items) }
 {
     let len = vertices.len();
     match push(vertices, one) {

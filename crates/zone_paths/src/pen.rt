@@ -1,5 +1,5 @@
 ghost use Rattle.std.specs.Prelude.{◌≡◌, true, false, MatchOption};
-ghost use Rattle.zone_paths.specs.Paths.{is_near, vertex_at, shifted};
+ghost use Rattle.zone_paths.specs.Paths.{is_near, vertex_at, offset_point};
 
 use page_model::parts::Vertex;
 
@@ -41,9 +41,10 @@ pub fn vertex_at(point: Point, starts: bool) -> Vertex
 }
 
 /// The point that lies so far away from a near one; none where it is so far that it is no near one.
-pub fn shifted(point: Point, dx: i64, dy: i64) -> Option<Point>
+pub fn offset_point(point: Point, dx: i64, dy: i64) -> Option<Point>
     requires { is_near point ≡ true }
-    ensures { MatchOption result (is_near (shifted point dx dy) ≡ false) (λ p. p ≡ shifted point dx dy) }
+    ensures { MatchOption result (is_near (offset_point point dx dy) ≡ false)
+        (λ p. p ≡ offset_point point dx dy) }
 {
     if dx.unsigned_abs() > 2 * FARTHEST || dy.unsigned_abs() > 2 * FARTHEST {
         return None;

@@ -1,6 +1,6 @@
 use Rattle.job_reader.proofs.JobRanges.{tokens_given-in_range}
 use Rattle.job_reader.proofs.reader.read_job.Goals as goal
 
-pub returns-else-bytes-gt-LONGEST-clause-in_range :
-    goal.returns-else-bytes-gt-LONGEST-clause-in_range
-returns-else-bytes-gt-LONGEST-clause-in_range c = tokens_given-in_range c.args.bytes.now c.read_tokens.result c.read_tokens.ensures
+pub returns-else-bytes-gt-LONGEST_JOB-clause-in_range :
+    goal.returns-else-bytes-gt-LONGEST_JOB-clause-in_range
+returns-else-bytes-gt-LONGEST_JOB-clause-in_range c = tokens_given-in_range c.args.bytes.now c.read_tokens.result c.read_tokens.ensures

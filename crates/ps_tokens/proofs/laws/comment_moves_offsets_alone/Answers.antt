@@ -1,5 +1,5 @@
-use Rattle.ps_tokens.proofs.Moving.{comment-moved}
+use Rattle.ps_tokens.proofs.Moving.{comment-further_on}
 use Rattle.ps_tokens.proofs.laws.comment_moves_offsets_alone.Goals as goal
 
 pub returns : goal.returns
-returns c = comment-moved
+returns c = comment-further_on

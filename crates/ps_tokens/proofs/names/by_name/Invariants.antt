@@ -1,7 +1,7 @@
 use Rattle.std.proofs.Common.{◌≡◌, [], take, fold}
 use Rattle.std.specs.Prelude.{map}
-use Rattle.ps_tokens.specs.Dictionaries.{seen, put_key}
+use Rattle.ps_tokens.specs.Dictionaries.{by_bytes, put_key}
 use Rattle.ps_tokens.proofs.names.by_name.Given as goal
 
 abbrev pub invariant-loop-key : goal.invariant-loop-key
-invariant-loop-key l = map seen l.named.entries ≡ fold (put_key l.objects) [] (take l.key-index l.keys)
+invariant-loop-key l = map by_bytes l.named.entries ≡ fold (put_key l.objects) [] (take l.key-index l.keys)

@@ -1,9 +1,10 @@
-use Rattle.std.proofs.Common.{◌≡◌, [], ap, ◌∙◌, fold}
+use Rattle.std.proofs.Common.{◌≡◌, [], List, ℕ, subst, sym, ap, ◌∙◌, fold}
 use Rattle.std.specs.Prelude.{map}
 use Rattle.std.specs.BTreeMap.{values}
 use Rattle.std.proofs.lemmas.Result.{IfOk-weaker}
-use Rattle.ps_tokens.specs.Dictionaries.{put_key, last_keys_of}
-use Rattle.ps_tokens.proofs.Naming.{places-seen}
+use Rattle.ps_tokens.specs.Dictionaries.{Ascend, put_key, key_names, last_keys_of}
+use Rattle.ps_tokens.proofs.Ascending.{ascend-last_keys}
+use Rattle.ps_tokens.proofs.Naming.{places-by_bytes}
 use Rattle.ps_tokens.proofs.names.last_keys.Goals as goal
 
 pub returns : goal.returns
@@ -12,9 +13,14 @@ returns c =
     let named = c.in-Ok-by_name.named in
     let objects = c.args.objects.now in
     let same : values named ≡ last_keys_of objects c.args.dict =
-    places-seen named.entries
+    places-by_bytes named.entries
     ∙ ap (map (λ e. e.1))
     (c.in-Ok-by_name.ensures
     ∙ ap (λ all. fold (put_key all) [] c.deref.result.now) c.as_slice-all.ensures
     ∙ ap (fold (put_key objects) []) (c.deref.ensures.value ∙ c.in-Ok.ensures)) in
-    IfOk-weaker c.places_of.result (λ places. places.items ≡ values named) (λ places. places.items ≡ last_keys_of objects c.args.dict) (λ places e. e ∙ same) c.places_of.ensures
+    record {
+      places = IfOk-weaker c.places_of.result (λ places. places.items ≡ values named) (λ places. places.items ≡ last_keys_of objects c.args.dict) (λ places e. e ∙ same) c.places_of.ensures;
+      ascending =
+          IfOk-weaker c.places_of.result (λ places. places.items ≡ values named) (λ places. Ascend (key_names objects places.items))
+          (λ places e. subst (λ (keys : List ℕ). Ascend (key_names objects keys)) (sym (e ∙ same)) (ascend-last_keys objects c.args.dict)) c.places_of.ensures;
+    }

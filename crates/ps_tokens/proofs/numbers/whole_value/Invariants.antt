@@ -1,6 +1,7 @@
-use Rattle.std.proofs.Common.{◌≡◌, take, min}
+use Rattle.std.proofs.Common.{◌≡◌, ◌+◌, take, min}
+use Rattle.ps_tokens.specs.Limits.{largest_whole}
 use Rattle.ps_tokens.specs.Numbers.{decimal}
 use Rattle.ps_tokens.proofs.numbers.whole_value.Given as goal
 
 abbrev pub invariant-loop-digit : goal.invariant-loop-digit
-invariant-loop-digit l = l.value ≡ min (decimal (take l.digit-index l.digits)) 1000001
+invariant-loop-digit l = l.value ≡ min (decimal (take l.digit-index l.digits)) (largest_whole + 1)

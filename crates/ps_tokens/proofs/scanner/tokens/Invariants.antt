@@ -1,11 +1,11 @@
 use Rattle.std.proofs.Common.{◌≡◌, ◌+◌, length, Ok}
-use Rattle.ps_tokens.specs.Tokens.{joined, tokens_from, tokens_of}
+use Rattle.ps_tokens.specs.Tokens.{tokens_then, tokens_from, tokens_of}
 use Rattle.ps_tokens.proofs.scanner.tokens.Given as goal
 
 -- what is found and what the rest spells are the tokens of all
 abbrev pub invariant-loop-rest : goal.invariant-loop-rest
 invariant-loop-rest l = record {
-  same : joined (Ok l.found.items) (tokens_from l.at 0 l.rest) ≡ tokens_of l.bytes;
+  same : tokens_then (Ok l.found.items) (tokens_from l.at 0 l.rest) ≡ tokens_of l.bytes;
   place : l.at + length l.rest ≡ length l.bytes;
 }
 

@@ -1,0 +1,13 @@
+use Rattle.std.proofs.Common.{◌≡◌, List, sym, ap, ◌∙◌}
+use Rattle.page_model.specs.declared.parts.Ink.{Ink}
+use Rattle.colorant_details.specs.Colorants.{AscendByName, colorants_at}
+use Rattle.colorant_details.proofs.Ascending.{inks-ascend, none-ascend}
+use Rattle.colorant_details.proofs.Reaching.{details_from-inks, colorants_at-inks}
+use Rattle.colorant_details.proofs.details.inks.Goals as goal
+
+pub returns-in-Ok-details_from-clause-ascending : goal.returns-in-Ok-details_from-clause-ascending
+returns-in-Ok-details_from-clause-ascending c =
+    let P : List Ink → Type 0 = λ inks. AscendByName inks in
+    let objects = c.args.objects.now in
+    details_from-inks P _ _ _ c.in-Ok-details_from.inks
+    (λ l is. colorants_at-inks P objects _ l none-ascend (inks-ascend objects) (sym c.in-Ok.ensures ∙ is)) (sym c.in-Ok-details_from.ensures)

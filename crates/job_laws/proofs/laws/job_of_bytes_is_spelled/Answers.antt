@@ -1,0 +1,8 @@
+use Rattle.job_laws.proofs.Ends.{job-spelled, spelled-job}
+use Rattle.job_laws.proofs.laws.job_of_bytes_is_spelled.Goals as goal
+
+pub returns-clause-spelled : goal.returns-clause-spelled
+returns-clause-spelled c = job-spelled
+
+pub returns-clause-read : goal.returns-clause-read
+returns-clause-read c = spelled-job

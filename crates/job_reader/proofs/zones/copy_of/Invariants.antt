@@ -1,5 +1,0 @@
-use Rattle.std.proofs.Common.{◌≡◌, take}
-use Rattle.job_reader.proofs.zones.copy_of.Given as goal
-
-abbrev pub invariant-loop-limit : goal.invariant-loop-limit
-invariant-loop-limit l = l.limits.items ≡ take l.limit-index l.limit-items
