@@ -31,6 +31,7 @@ written_then_finished bytes a b c x (Ok y) wrote finished = record {
   shut = finished.shut;
   files = λ tells. grows_kept bytes a b c (finished.files (told_on a b wrote.keeps tells)) (wrote.files tells);
   part = tt;
+  well = finished.fails.well ∙ wrote.well;
   cause = tt;
 }
 written_then_finished bytes a b c x (Err e) wrote finished = record {
@@ -40,6 +41,7 @@ written_then_finished bytes a b c x (Err e) wrote finished = record {
   shut = tt;
   files = tt;
   part = λ tells. (length bytes, subst (λ (x : List ℕ). Grows x a c) (sym (take-length bytes)) (grows_kept bytes a b c (finished.files (told_on a b wrote.keeps tells)) (wrote.files tells)));
+  well = tt;
   cause = rose_before a.faults b.faults c.faults wrote.keeps.faults finished.fails.cause;
 }
 
@@ -51,6 +53,7 @@ created_then_filled name bytes a b c x (Ok y) created filled = record {
   shut = filled.shut;
   files = λ tells. grows_put name bytes a b c (created.current tells) (created.files tells) (filled.files (told_on a b created.keeps tells));
   part = tt;
+  well = filled.well ∙ created.fails.well;
   cause = tt;
 }
 created_then_filled name bytes a b c x (Err e) created filled = record {
@@ -60,6 +63,7 @@ created_then_filled name bytes a b c x (Err e) created filled = record {
   shut = tt;
   files = tt;
   part = λ tells. let p = filled.part (told_on a b created.keeps tells) in inr (p.0, grows_put name (take p.0 bytes) a b c (created.current tells) (created.files tells) p.1);
+  well = tt;
   cause = rose_before a.faults b.faults c.faults created.keeps.faults filled.cause;
 }
 
@@ -73,6 +77,7 @@ write_failed piece rest done a b c e d keeps asked told is_open current files wr
   current = λ tells. wrote.current (told_on a b keeps tells) ∙ current tells;
   files = tt;
   part = λ tells. (done, grows_kept (take done piece) a b c (wrote.fails.files (told_on a b keeps tells)) (files tells));
+  well = tt;
   cause = rose_before a.faults b.faults c.faults keeps.faults wrote.fails.cause;
 }
 
@@ -86,6 +91,7 @@ writes_then p q a b c x (Ok y) one two = record {
   current = λ tells. two.current (told_on a b one.keeps tells) ∙ one.current tells;
   files = λ tells. grows_then p q a b c (one.current tells) (one.files tells) (two.files (told_on a b one.keeps tells));
   part = tt;
+  well = two.well ∙ one.well;
   cause = tt;
 }
 writes_then p q a b c x (Err e) one two = record {
@@ -98,6 +104,7 @@ writes_then p q a b c x (Err e) one two = record {
   part = λ tells.
       let k = two.part (told_on a b one.keeps tells) in
       (length p + k.0, subst (λ (x : List ℕ). Grows x a c) (sym (take-append-add p q k.0)) (grows_then p (take k.0 q) a b c (one.current tells) (one.files tells) k.1));
+  well = tt;
   cause = rose_before a.faults b.faults c.faults one.keeps.faults two.cause;
 }
 
@@ -113,6 +120,7 @@ writes_stopped p q a b e d one = record {
   part = λ tells.
       let k = one.part tells in
       (min k.0 (length p), subst (λ (x : List ℕ). Grows x a b) (sym (take-append-le (min k.0 (length p)) p q (omega arith) ∙ take_min k.0 p)) k.1);
+  well = tt;
   cause = one.cause;
 }
 
@@ -125,6 +133,7 @@ writes_none a = record {
   current = λ tells. refl;
   files = λ tells. grows_none [] a;
   part = tt;
+  well = refl;
   cause = tt;
 }
 

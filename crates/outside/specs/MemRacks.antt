@@ -50,10 +50,12 @@ pub record CountsRack {T E : Type 0} (before after : MemRackState) (result : Res
 abbrev pub most_taken : MemRackState → ℕ → ℕ
 most_taken m len = min (min len m.grain) m.room
 
--- `write` takes as many bytes as the piece, the grain and the room allow, and fails where a piece that isn't empty meets no room.
+-- `write` takes as many bytes as the piece, the grain and the room allow, and fails where a piece that isn't empty meets
+-- no room. An empty piece fails only by the call's number.
 pub record WritesMem {E : Type 0} (piece : List ℕ) (before after : MemRackState) (result : Result ℕ E) : Type 0 where
   pub counts : CountsRack before after result
   pub full : before.room ≡ 0 → 0 < length piece → IsTrue (is_err result)
+  pub empty : length piece ≡ 0 → is_ok result ≡ not (is_listed before.fails before.calls)
   pub count : IfOk result (λ n. n ≡ most_taken before (length piece))
   pub room : IfOk result (λ n. after.room + n ≡ before.room)
   pub kept : OnErr result (after.room ≡ before.room)
@@ -64,10 +66,11 @@ pub record FinishesMem {T E : Type 0} (before after : MemRackState) (result : Re
   pub exact : is_ok result ≡ not (is_listed before.fails before.calls)
   pub room : after.room ≡ before.room
 
--- A `tell` that fails appends nothing.
-pub record TellsMem {T E : Type 0} (before after : MemRackState) (result : Result T E) : Type 0 where
+-- A `tell` that fails appends nothing. An empty text fails only by the call's number.
+pub record TellsMem {T E : Type 0} (text : List ℕ) (before after : MemRackState) (result : Result T E) : Type 0 where
   pub counts : CountsRack before after result
   pub room : after.room ≡ before.room
+  pub empty : length text ≡ 0 → is_ok result ≡ not (is_listed before.fails before.calls)
   pub kept : OnErr result (after.told ≡ before.told)
 
 pub record CreatesMem {T E : Type 0} (before after : MemRackState) (result : Result T E) : Type 0 where

@@ -16,6 +16,7 @@ pub record WritesOn {T E : Type 0} (piece : List ℕ) (before after : RackState)
   pub current : IsTrue before.tells → after.current ≡ before.current
   pub files : OnOk result (IsTrue before.tells → Grows piece before after)
   pub part : OnErr result (IsTrue before.tells → (k : ℕ) × Grows (take k piece) before after)
+  pub well : OnOk result (after.faults ≡ before.faults)
   pub cause : OnErr result (Rose before.faults after.faults)
 
 -- The rest of the open file is written, and the file is finished.
@@ -26,6 +27,7 @@ pub record FillsFile {T E : Type 0} (bytes : List ℕ) (before after : RackState
   pub shut : OnOk result (IsFalse after.is_open)
   pub files : OnOk result (IsTrue before.tells → Grows bytes before after)
   pub part : OnErr result (IsTrue before.tells → (k : ℕ) × Grows (take k bytes) before after)
+  pub well : OnOk result (after.faults ≡ before.faults)
   pub cause : OnErr result (Rose before.faults after.faults)
 
 -- All bytes stand under the name, and everything else is as it was.
@@ -36,4 +38,5 @@ pub record WritesFile {T E : Type 0} (name bytes : List ℕ) (before after : Rac
   pub shut : OnOk result (IsFalse after.is_open)
   pub files : OnOk result (IsTrue before.tells → after.file ≡ put name bytes before.file)
   pub part : OnErr result (IsTrue before.tells → (after.file ≡ before.file) ⊎ ((k : ℕ) × (after.file ≡ put name (take k bytes) before.file)))
+  pub well : OnOk result (after.faults ≡ before.faults)
   pub cause : OnErr result (Rose before.faults after.faults)

@@ -143,7 +143,7 @@ impl Rack for MemRack {
 
     fn tell(&mut self, text: &[u8]) -> Result<(), Failed>
         ensures rack { Tells text.now (rack_of self.old) (rack_of self.new) result }
-        ensures exact { TellsMem self.old self.new result }
+        ensures exact { TellsMem text.now self.old self.new result }
     {
         if is_failing(&mut self.calls, self.fails.as_slice()) {
             return Err(fault(&mut self.faults));

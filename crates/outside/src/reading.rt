@@ -1,7 +1,7 @@
-ghost use Rattle.std.specs.Prelude.{◌≡◌, IsTrue, ◌∷◌, [], ◌++◌, ◌≤◌, ◌-◌, length, take, drop, IfOk, IsErrOf};
+ghost use Rattle.std.specs.Prelude.{◌≡◌, IsTrue, ◌∷◌, [], ◌++◌, ◌≤◌, ◌-◌, length, take, drop, IfOk, OnOk, IsErrOf};
 ghost use Rattle.outside.specs.Causes.{Rose, Asks};
 ghost use Rattle.outside.specs.Tray.{KeepsTray};
-ghost use Rattle.outside.specs.Reading.{TakesFront};
+ghost use Rattle.outside.specs.Reading.{TakesFront, TakesAtMost, TakesFew};
 
 use crate::tray::{Failed, Tray};
 use lists::list::List;
@@ -21,7 +21,7 @@ pub enum ReadRefusal {
 
 const PIECE: usize = 4096;
 
-/// Reads the file of that name to its end, or until `most` bytes are taken.
+/// Reads the file of that name to its end, or until `most` bytes are taken: at most so many are, whatever the answer.
 pub fn read_file<T: Tray>(
     alloc: Global,
     tray: &mut T,
@@ -31,6 +31,9 @@ pub fn read_file<T: Tray>(
     ensures keeps { KeepsTray (T.state tray.old) (T.state tray.new) }
     ensures asked { Asks (T.state tray.old).asked (T.state tray.new).asked (name.now ∷ []) }
     ensures taken { IfOk result (λ bytes. IsTrue (T.state tray.old).tells → TakesFront name.now most (T.state tray.old) (T.state tray.new) bytes) }
+    ensures few { IsTrue (T.state tray.new).begun → IsTrue (T.state tray.old).tells → TakesFew name.now most (T.state tray.old) (T.state tray.new) }
+    ensures well { OnOk result ((T.state tray.new).faults ≡ (T.state tray.old).faults) }
+    ensures memory { IsErrOf result ReadRefusal.OutOfMemory → IsTrue (T.state tray.new).begun × ((T.state tray.new).faults ≡ (T.state tray.old).faults) }
     ensures cause { IsErrOf result ReadRefusal.ReadFault → Rose (T.state tray.old).faults (T.state tray.new).faults }
 {
     match tray.begin(name) {
@@ -49,6 +52,10 @@ fn read_on<T: Tray>(alloc: Global, tray: &mut T, most: usize) -> Result<Vec<u8>,
     ensures asked { (T.state tray.new).asked ≡ (T.state tray.old).asked }
     ensures taken { IfOk result (λ bytes. IsTrue (T.state tray.old).tells → bytes.items ≡ take most (T.state tray.old).left) }
     ensures left { IfOk result (λ bytes. IsTrue (T.state tray.old).tells → (T.state tray.new).left ≡ drop most (T.state tray.old).left) }
+    ensures begun { IsTrue (T.state tray.new).begun }
+    ensures few { IsTrue (T.state tray.old).tells → TakesAtMost most (T.state tray.old).left (T.state tray.new) }
+    ensures well { OnOk result ((T.state tray.new).faults ≡ (T.state tray.old).faults) }
+    ensures memory { IsErrOf result ReadRefusal.OutOfMemory → (T.state tray.new).faults ≡ (T.state tray.old).faults }
     ensures cause { IsErrOf result ReadRefusal.ReadFault → Rose (T.state tray.old).faults (T.state tray.new).faults }
 {
     let mut bytes: Vec<u8> = Vec::new(alloc);

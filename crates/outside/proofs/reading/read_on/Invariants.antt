@@ -8,6 +8,7 @@ invariant-loop-piece g l = record {
   asked : (g.T.Tray.state l.tray).asked ≡ (g.T.Tray.state l.fn.tray).asked;
   begun : IsTrue (g.T.Tray.state l.tray).begun;
   taken : IsTrue (g.T.Tray.state l.fn.tray).tells → (g.T.Tray.state l.fn.tray).left ≡ l.bytes.items ++ (g.T.Tray.state l.tray).left;
+  well : (g.T.Tray.state l.tray).faults ≡ (g.T.Tray.state l.fn.tray).faults;
   size : length l.bytes.items ≤ l.most;
 }
 

@@ -1,4 +1,4 @@
-use Rattle.std.proofs.Common.{rules, IsTrue, take, drop, length, ◌-◌, ◌≡◌, arith}
+use Rattle.std.proofs.Common.{rules, IsTrue, take, drop, length, ◌-◌, ◌≡◌, refl, ◌∙◌, arith}
 use Rattle.outside.proofs.Files.{grows_none, grows_more, grows_all}
 use Rattle.outside.proofs.Steps.{write_failed}
 use Rattle.outside.proofs.writing.write_on.Goals as goal
@@ -11,6 +11,7 @@ loop-done-init g c = record {
   is_open = search rules;
   current = search rules;
   files = λ tells. grows_none c.args.piece.now (g.R.Rack.state c.args.rack.now);
+  well = refl;
   within = search rules;
 }
 
@@ -26,6 +27,7 @@ loop-done-preserved g c =
       files = λ tells.
           let tells_here : IsTrue (g.R.Rack.state c.loop-done.rack).tells = cc in
           grows_more c.args.piece.now c.loop-done.done c.in-Ok.count (g.R.Rack.state c.args.rack.now) (g.R.Rack.state c.loop-done.rack) (g.R.Rack.state c.write.new.self) (c.loop-done.invariant.current tells) (c.loop-done.invariant.files tells) (write.files tells_here);
+      well = write.fails.well ∙ c.loop-done.invariant.well;
       within = search rules;
     }
 
@@ -45,5 +47,6 @@ returns g c =
       current = here.current;
       files = λ tells. grows_all c.args.piece.now c.loop-done.done (g.R.Rack.state c.args.rack.now) (g.R.Rack.state c.loop-done.rack) (omega arith) (here.files tells);
       part = tt;
+      well = here.well;
       cause = tt;
     }

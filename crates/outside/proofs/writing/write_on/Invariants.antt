@@ -11,6 +11,7 @@ invariant-loop-done g l = record {
   is_open : (g.R.Rack.state l.rack).is_open ≡ (g.R.Rack.state l.fn.rack).is_open;
   current : IsTrue (g.R.Rack.state l.fn.rack).tells → (g.R.Rack.state l.rack).current ≡ (g.R.Rack.state l.fn.rack).current;
   files : IsTrue (g.R.Rack.state l.fn.rack).tells → Grows (take l.done l.piece) (g.R.Rack.state l.fn.rack) (g.R.Rack.state l.rack);
+  well : (g.R.Rack.state l.rack).faults ≡ (g.R.Rack.state l.fn.rack).faults;
   within : l.done ≤ length l.piece;
 }
 
