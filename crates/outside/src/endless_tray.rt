@@ -59,7 +59,8 @@ impl Tray for EndlessTray {
         ensures tray { Reads (endless_tray_of self.old) (endless_tray_of self.new) result buf.new }
         ensures filled { result ≡ Ok (length buf.new) }
         ensures given { buf.new ≡ next_bytes self.old (length buf.new) }
-        ensures taken { self.new ≡ record self.old { taken = min (self.old.taken + length buf.new) (length self.old.head) } }
+        ensures taken { let taken = min (self.old.taken + length buf.new) (length self.old.head) in
+            self.new ≡ record self.old { taken = taken } }
     {
         let count = (self.head.len() - self.taken).min(buf.len());
         let (front, rest) = buf.split_at_mut(count);

@@ -7,9 +7,12 @@ use lists::list::List;
 use lists::names::Name;
 use std::alloc::Global;
 
-// Adds a name to those that were asked for, and says whether they are still told: for want of memory they no longer are.
+// Adds a name to those that were asked for, and says whether they are still told: for want of memory they no longer
+// are.
 pub(crate) fn note(alloc: Global, asked: &mut List<Name>, is_told: bool, name: &str) -> bool
-    ensures { Asks (cond is_told (Some asked.old) None) (cond result (Some asked.new) None) (name.now ∷ []) }
+    ensures { let before = cond is_told (Some asked.old) None in
+        let after = cond result (Some asked.new) None in
+        Asks before after (name.now ∷ []) }
 {
     let mut copy: Vec<u8> = Vec::new(alloc);
     match copy.extend_from_slice(name.as_bytes()) {

@@ -35,7 +35,18 @@ impl Model for MemRack {
 
     ghost Value = { MemRackState };
 
-    ghost view = { λ m. record { done = m.done.items; current = m.current; told = m.text; is_open = m.is_open; grain = m.grain; room = m.room; fails = m.fails; calls = m.calls; asked = cond m.is_asked_told (Some m.asked) None; faults = m.faults } };
+    ghost view = { λ m. record {
+      done = m.done.items;
+      current = m.current;
+      told = m.text;
+      is_open = m.is_open;
+      grain = m.grain;
+      room = m.room;
+      fails = m.fails;
+      calls = m.calls;
+      asked = cond m.is_asked_told (Some m.asked) None;
+      faults = m.faults;
+    } };
 
     ghost use Rattle.outside.specs.MemRacks.{IsRackInside};
 

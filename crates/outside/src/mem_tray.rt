@@ -32,7 +32,16 @@ impl Model for MemTray {
 
     ghost Value = { MemTrayState };
 
-    ghost view = { λ m. record { files = m.files; grain = m.grain; fails = m.fails; calls = m.calls; place = m.place; taken = m.taken; asked = cond m.is_asked_told (Some m.asked) None; faults = m.faults } };
+    ghost view = { λ m. record {
+      files = m.files;
+      grain = m.grain;
+      fails = m.fails;
+      calls = m.calls;
+      place = m.place;
+      taken = m.taken;
+      asked = cond m.is_asked_told (Some m.asked) None;
+      faults = m.faults;
+    } };
 
     ghost use Rattle.outside.specs.MemTrays.{IsTrayInside};
 
@@ -116,7 +125,8 @@ fn end_of_read(fails_at: Option<u64>, len: usize, taken: usize) -> usize
 // Reads on in a file of which so many bytes were taken.
 fn read_on(file: &MemFile, taken: usize, grain: usize, buf: &mut [u8]) -> usize
     requires { taken ≤ length file.now.bytes }
-    ensures count { result ≡ min (min grain (length buf.old)) (end_before file.now.fails_at (length file.now.bytes) taken - taken) }
+    ensures count { let end = end_before file.now.fails_at (length file.now.bytes) taken in
+        result ≡ min (min grain (length buf.old)) (end - taken) }
     ensures within { taken + result ≤ length file.now.bytes }
     ensures fits { taken + result < 2 ^ 64 }
     ensures given { drop taken file.now.bytes ≡ take result buf.new ++ drop (taken + result) file.now.bytes }

@@ -30,11 +30,15 @@ pub fn read_file<T: Tray>(
 ) -> Result<Name, ReadRefusal>
     ensures keeps { KeepsTray (T.state tray.old) (T.state tray.new) }
     ensures asked { Asks (T.state tray.old).asked (T.state tray.new).asked (name.now ∷ []) }
-    ensures taken { IfOk result (λ bytes. IsTrue (T.state tray.old).tells → TakesFront name.now most (T.state tray.old) (T.state tray.new) bytes) }
-    ensures few { IsTrue (T.state tray.new).begun → IsTrue (T.state tray.old).tells → TakesFew name.now most (T.state tray.old) (T.state tray.new) }
+    ensures taken { IfOk result (λ bytes. IsTrue (T.state tray.old).tells →
+        TakesFront name.now most (T.state tray.old) (T.state tray.new) bytes) }
+    ensures few { IsTrue (T.state tray.new).begun → IsTrue (T.state tray.old).tells →
+        TakesFew name.now most (T.state tray.old) (T.state tray.new) }
     ensures well { OnOk result ((T.state tray.new).faults ≡ (T.state tray.old).faults) }
-    ensures memory { IsErrOf result ReadRefusal.OutOfMemory → IsTrue (T.state tray.new).begun × ((T.state tray.new).faults ≡ (T.state tray.old).faults) }
-    ensures cause { IsErrOf result ReadRefusal.ReadFault → Rose (T.state tray.old).faults (T.state tray.new).faults }
+    ensures memory { IsErrOf result ReadRefusal.OutOfMemory →
+        IsTrue (T.state tray.new).begun × ((T.state tray.new).faults ≡ (T.state tray.old).faults) }
+    ensures cause { IsErrOf result ReadRefusal.ReadFault →
+        Rose (T.state tray.old).faults (T.state tray.new).faults }
 {
     match tray.begin(name) {
         Ok(()) => match read_on(alloc, tray, most as usize) {
@@ -50,13 +54,18 @@ fn read_on<T: Tray>(alloc: Global, tray: &mut T, most: usize) -> Result<Vec<u8>,
     requires { IsTrue (T.state tray.old).begun }
     ensures keeps { KeepsTray (T.state tray.old) (T.state tray.new) }
     ensures asked { (T.state tray.new).asked ≡ (T.state tray.old).asked }
-    ensures taken { IfOk result (λ bytes. IsTrue (T.state tray.old).tells → bytes.items ≡ take most (T.state tray.old).left) }
-    ensures left { IfOk result (λ bytes. IsTrue (T.state tray.old).tells → (T.state tray.new).left ≡ drop most (T.state tray.old).left) }
     ensures begun { IsTrue (T.state tray.new).begun }
-    ensures few { IsTrue (T.state tray.old).tells → TakesAtMost most (T.state tray.old).left (T.state tray.new) }
+    ensures taken { IfOk result (λ bytes. IsTrue (T.state tray.old).tells →
+        bytes.items ≡ take most (T.state tray.old).left) }
+    ensures left { IfOk result (λ bytes. IsTrue (T.state tray.old).tells →
+        (T.state tray.new).left ≡ drop most (T.state tray.old).left) }
+    ensures few { IsTrue (T.state tray.old).tells →
+        TakesAtMost most (T.state tray.old).left (T.state tray.new) }
     ensures well { OnOk result ((T.state tray.new).faults ≡ (T.state tray.old).faults) }
-    ensures memory { IsErrOf result ReadRefusal.OutOfMemory → (T.state tray.new).faults ≡ (T.state tray.old).faults }
-    ensures cause { IsErrOf result ReadRefusal.ReadFault → Rose (T.state tray.old).faults (T.state tray.new).faults }
+    ensures memory { IsErrOf result ReadRefusal.OutOfMemory →
+        (T.state tray.new).faults ≡ (T.state tray.old).faults }
+    ensures cause { IsErrOf result ReadRefusal.ReadFault →
+        Rose (T.state tray.old).faults (T.state tray.new).faults }
 {
     let mut bytes: Vec<u8> = Vec::new(alloc);
     let mut piece = [0u8; PIECE];
