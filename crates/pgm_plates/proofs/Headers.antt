@@ -106,6 +106,7 @@ few_run bytes b Ended ns none short is =
     let header = ended_header ns all is in
     inr (record {
       count = length all;
+      short = omega (arith, length_push bytes b);
       width = header.0;
       height = header.1;
       maxval = header.2;

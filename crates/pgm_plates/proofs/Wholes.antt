@@ -17,7 +17,8 @@ use Rattle.pgm_plates.specs.declared.header.Header.{Header}
 use Rattle.pgm_plates.specs.Header.{IsHeader}
 use Rattle.pgm_plates.specs.Plates.{IsPlateFile, sample_bytes, sample_size, raster}
 use Rattle.pgm_plates.specs.Faults.{Decides, IsFault, HoldsNoHeader}
-use Rattle.pgm_plates.specs.Reading.{AreFew, AnswersPlate, AtEnd, ReadsPlate}
+use Rattle.pgm_plates.specs.Limits.{most_header}
+use Rattle.pgm_plates.specs.Reading.{AreFew, AnswersPlate, AtEnd, KeepsCount, ReadsPlate}
 use Rattle.pgm_plates.specs.Scanning.{IsClean}
 use Rattle.pgm_plates.specs.Readers.{Answers, HeaderRead, Fit, IsPart, RasterRefused, RasterTaken, EndsFile}
 use Rattle.pgm_plates.proofs.Shapes.{one_header}
@@ -28,9 +29,10 @@ use Rattle.pgm_plates.proofs.Scans.{quiet}
 use Rattle.pgm_plates.proofs.Decisions.{Rastered, some_size, raster_size, clean_raster}
 
 -- a header and no more behind it than its raster and a byte
-few_behind : (header back : List ℕ) (w h m : ℕ) → IsHeader header w h m → length back ≤ w * h * sample_size m + 1 → AreFew (header ++ back)
-few_behind header back w h m is le = inr (record {
+few_behind : (header back : List ℕ) (w h m : ℕ) → IsHeader header w h m → length header ≤ most_header → length back ≤ w * h * sample_size m + 1 → AreFew (header ++ back)
+few_behind header back w h m is short le = inr (record {
   count = length header;
+  short = short;
   width = w;
   height = h;
   maxval = m;
@@ -126,7 +128,7 @@ raster_refused a b c header start (Fault (SampleAboveMaxval at)) read r =
     record {
       bytes = read.bytes ++ bytes;
       takes = takes_then read.bytes bytes a b c read.takes r.2;
-      few = few_behind read.bytes bytes w h m read.is_header (omega (arith, above.within));
+      few = few_behind read.bytes bytes w h m read.is_header (omega (arith, read.size, read.short)) (omega (arith, above.within));
       answer = (
         r.2.begun,
         subst (λ (x : List ℕ). IsFault x (SampleAboveMaxval at)) e (decided front above.more (SampleAboveMaxval at) (clean_sample read.bytes w h m above.samples above.sample read.is_header read.clean above.fit above.few) d),
@@ -144,7 +146,7 @@ raster_refused a b c header start (Fault (Truncated at)) read r =
     record {
       bytes = all;
       takes = takes_then read.bytes bytes a b c read.takes r.1;
-      few = few_behind read.bytes bytes w h m read.is_header (omega arith);
+      few = few_behind read.bytes bytes w h m read.is_header (omega (arith, read.size, read.short)) (omega arith);
       answer = (
         r.1.begun,
         subst (λ (n : ℕ). IsFault all (Truncated n)) place (truncated all (clean_raster all read.bytes w h m r.2.samples r.2.half read.clean (rastered_part read.bytes bytes w h m read.is_header r.2)) (not_whole read.bytes bytes w h m read.is_header r.3)),
@@ -160,7 +162,7 @@ raster_refused a b c header start ReadFault read r =
     record {
       bytes = all;
       takes = takes_then read.bytes bytes a b c read.takes r.1;
-      few = few_behind read.bytes bytes w h m read.is_header (part_within m (w * h) bytes r.2);
+      few = few_behind read.bytes bytes w h m read.is_header (omega (arith, read.size, read.short)) (part_within m (w * h) bytes r.2);
       answer = (
         rose_before a.faults b.faults c.faults read.takes.keeps.faults r.3,
         only_truncated all (clean_raster all read.bytes w h m r.2.samples r.2.half read.clean (rastered_part read.bytes bytes w h m read.is_header r.2)),
@@ -172,7 +174,7 @@ raster_refused a b c header start OutOfMemory read r =
     record {
       bytes = read.bytes ++ bytes;
       takes = takes_then read.bytes bytes a b c read.takes r.1;
-      few = few_behind read.bytes bytes header.width header.height header.maxval read.is_header (omega arith);
+      few = few_behind read.bytes bytes header.width header.height header.maxval read.is_header (omega (arith, read.size, read.short)) (omega arith);
       answer = r.1.begun;
     }
 raster_refused a b c header start (Fault (BadMagic at)) read r = absurd r
@@ -213,7 +215,7 @@ end_refused a b c d header start at samples (Fault (TrailingBytes place)) read t
     record {
       bytes = all;
       takes = takes_then front (last ∷ []) a c d (takes_then read.bytes back a b c read.takes taken.takes) r.1;
-      few = subst AreFew (sym (append_assoc read.bytes back (last ∷ []))) (few_behind read.bytes (back ++ last ∷ []) w h m read.is_header (omega (arith, length_push back last)));
+      few = subst AreFew (sym (append_assoc read.bytes back (last ∷ []))) (few_behind read.bytes (back ++ last ∷ []) w h m read.is_header (omega (arith, read.size, read.short)) (omega (arith, length_push back last)));
       answer = (
         r.1.begun,
         subst (λ (x : List ℕ). IsFault x (TrailingBytes place)) (append-nil all) (decided all [] (TrailingBytes place) (clean_push front last clean) dec),
@@ -233,7 +235,7 @@ end_refused a b c d header start at samples ReadFault read taken is r =
     record {
       bytes = front;
       takes = takes;
-      few = few_behind read.bytes back w h m read.is_header (omega arith);
+      few = few_behind read.bytes back w h m read.is_header (omega (arith, read.size, read.short)) (omega arith);
       answer = (rose_before a.faults c.faults d.faults (let le = takes_then read.bytes back a b c read.takes taken.takes in le.keeps.faults) r.1, only_truncated front clean);
     }
 end_refused a b c d header start at samples OutOfMemory read taken is r = absurd r
@@ -257,7 +259,7 @@ plate_read a b c d header start samples read taken end =
     record {
       bytes = front;
       takes = takes_nil front a c d so_far end.0;
-      few = few_behind read.bytes back w h m read.is_header (omega arith);
+      few = few_behind read.bytes back w h m read.is_header (omega (arith, read.size, read.short)) (omega arith);
       answer = (
         end.0.begun,
         record {
@@ -289,14 +291,29 @@ no_shape : HoldsNoHeader []
 no_shape = unended Start [] [] refl (λ e. let f : Start ≡ Ended = e in cc)
 
 -- The file is begun, and then read.
-pub begun_then : (name : List ℕ) (a b c : TrayState) (x : Unit {0}) (result : Result Plate PlateRefusal) → Begins {E = Failed} name a b (Ok x) → Answers b c result → ReadsPlate name a c result
-begun_then name a b c x result begun answers = record {
+-- a count that stayed before it, too
+pub kept_count : {T : Type 0} (a b c : TrayState) (result : Result T PlateRefusal) → b.faults ≡ a.faults → KeepsCount b c result → KeepsCount a c result
+kept_count a b c (Ok x) before count = count ∙ before
+kept_count a b c (Err ReadFault) before count = tt
+kept_count a b c (Err OutOfMemory) before count = count ∙ before
+kept_count a b c (Err (Fault (SampleAboveMaxval at))) before count = tt
+kept_count a b c (Err (Fault (BadMagic at))) before count = count ∙ before
+kept_count a b c (Err (Fault (BadHeader at))) before count = count ∙ before
+kept_count a b c (Err (Fault (SideRange at))) before count = count ∙ before
+kept_count a b c (Err (Fault (TooManySamples at))) before count = count ∙ before
+kept_count a b c (Err (Fault (MaxvalRange at))) before count = count ∙ before
+kept_count a b c (Err (Fault (Truncated at))) before count = count ∙ before
+kept_count a b c (Err (Fault (TrailingBytes at))) before count = count ∙ before
+
+pub begun_then : (name : List ℕ) (a b c : TrayState) (x : Unit {0}) (result : Result Plate PlateRefusal) → Begins {E = Failed} name a b (Ok x) → Answers b c result → KeepsCount b c result → ReadsPlate name a c result
+begun_then name a b c x result begun answers count = record {
   keeps = record { tells = answers.takes.keeps.tells ∙ begun.keeps.tells; file = answers.takes.keeps.file ∙ begun.keeps.file; faults = omega (arith, answers.takes.keeps.faults, begun.keeps.faults) };
   asked = subst (λ o. Asks a.asked o (name ∷ [])) (sym answers.takes.asked) begun.asked;
   bytes = answers.bytes;
   taken = λ is tells. begun.left tells ∙ ap (λ (x : List ℕ). Some x) (answers.takes.taken (begun.keeps.tells ∙ tells));
   few = answers.few;
   answer = answers_from a b c answers.bytes result begun.keeps answers.answer;
+  count = kept_count a b c result begun.well count;
 }
 
 pub not_begun : {E : Type 0} (name : List ℕ) (a b : TrayState) (e : E) → Begins {T = Unit {0}} name a b (Err e) → ReadsPlate name a b (Err ReadFault)
@@ -307,4 +324,5 @@ not_begun name a b e begun = record {
   taken = λ is tells. absurd (let no : true ≡ false = sym is ∙ begun.begun in cc);
   few = inl (omega arith, no_shape);
   answer = (begun.cause, only_truncated [] (clean_all [] clean_none (quiet [] fresh scanned_none (inr (omega arith)))));
+  count = tt;
 }

@@ -4,6 +4,7 @@ use Rattle.pgm_plates.specs.declared.plate.Plate.{Plate}
 use Rattle.pgm_plates.specs.declared.plate.PlateFault.{PlateFault}
 use Rattle.pgm_plates.specs.declared.plate.PlateFault.TheVariants.{BadMagic, BadHeader, SideRange, TooManySamples, MaxvalRange, SampleAboveMaxval, Truncated, TrailingBytes}
 use Rattle.pgm_plates.specs.Header.{is_digit, IsGap, IsNumber, Numbers, IsHeader, IsShape, IsBegun}
+use Rattle.pgm_plates.specs.Limits.{most_samples, most_maxval, most_header}
 use Rattle.pgm_plates.specs.Plates.{IsSide, sample_bytes, raster, IsPlateFile}
 
 -- no shape of a header lies at the front of the bytes
@@ -37,8 +38,8 @@ pub record EndsNumber (bytes : List ℕ) (at number : ℕ) (earlier : List ℕ) 
 -- The number that ends before the last of these bytes is out of range.
 abbrev pub NumberFault : List ℕ → PlateFault → Type 0
 NumberFault bytes (SideRange at) = (side : ℕ) × (earlier : List ℕ) × EndsNumber bytes at side earlier × (length earlier < 2) × (IsSide side → ⊥)
-NumberFault bytes (TooManySamples at) = (width height : ℕ) × EndsNumber bytes at height (width ∷ []) × IsSide width × IsSide height × (160000000 < width * height)
-NumberFault bytes (MaxvalRange at) = (width height maxval : ℕ) × EndsNumber bytes at maxval (height ∷ width ∷ []) × ((maxval ≡ 0) ⊎ (65535 < maxval))
+NumberFault bytes (TooManySamples at) = (width height : ℕ) × EndsNumber bytes at height (width ∷ []) × IsSide width × IsSide height × (most_samples < width * height)
+NumberFault bytes (MaxvalRange at) = (width height maxval : ℕ) × EndsNumber bytes at maxval (height ∷ width ∷ []) × ((maxval ≡ 0) ⊎ (most_maxval < maxval))
 NumberFault bytes other = ⊥
 
 -- A header, some of its samples, and then one above the maxval, which begins at that place.
@@ -68,9 +69,9 @@ pub record EndsBehindRaster (bytes : List ℕ) (at : ℕ) : Type 0 where
   pub whole : bytes ≡ header ++ raster maxval samples ++ last ∷ []
   pub place : length (header ++ raster maxval samples) ≡ at
 
--- These are 65,536 bytes that begin a header and hold none, and no number that ends with them is out of range.
+-- These are as many bytes as a header may have, which begin one and hold none, and no number that ends with them is out of range.
 pub record EndsTooLong (bytes : List ℕ) : Type 0 where
-  pub long : length bytes ≡ 65536
+  pub long : length bytes ≡ most_header
   pub begun : IsBegun bytes
   pub unended : HoldsNoHeader bytes
   pub no_number : (fault : PlateFault) → NumberFault bytes fault → ⊥
@@ -78,7 +79,7 @@ pub record EndsTooLong (bytes : List ℕ) : Type 0 where
 -- The last of these bytes decides the fault.
 abbrev pub Decides : List ℕ → PlateFault → Type 0
 Decides bytes (BadMagic at) = (at < 2) × Breaks bytes at
-Decides bytes (BadHeader at) = ((2 ≤ at) × Breaks bytes at) ⊎ ((at ≡ 65536) × EndsTooLong bytes)
+Decides bytes (BadHeader at) = ((2 ≤ at) × Breaks bytes at) ⊎ ((at ≡ most_header) × EndsTooLong bytes)
 Decides bytes (SampleAboveMaxval at) = EndsAboveMaxval bytes at
 Decides bytes (TrailingBytes at) = EndsBehindRaster bytes at
 Decides bytes (Truncated at) = ⊥

@@ -1,19 +1,7 @@
 -- Planes, whose tints are the samples of plates turned round: 0 is no ink, and a sample of 0 is black.
-use Rattle.std.specs.Prelude.{◌≡◌, ◌*◌, ◌-◌, ◌<◌, ◌≤◌, length, map}
-use Rattle.std.specs.List.{All}
+use Rattle.std.specs.Prelude.{◌-◌, map}
 use Rattle.page_model.specs.declared.parts.Plane.{Plane}
 use Rattle.pgm_plates.specs.declared.plate.Plate.{Plate}
-use Rattle.pgm_plates.specs.Plates.{IsSide}
-
--- a plane whose numbers are in range
-pub record IsPlane (plane : Plane) : Type 0 where
-  pub width : IsSide plane.width
-  pub height : IsSide plane.height
-  pub product : plane.width * plane.height ≤ 160000000
-  pub positive : 0 < plane.maxval
-  pub maxval : plane.maxval ≤ 65535
-  pub count : length plane.tints ≡ plane.width * plane.height
-  pub tints : All (λ t. t ≤ plane.maxval) plane.tints
 
 -- the tints of a plate
 abbrev pub plane_of : Plate → Plane

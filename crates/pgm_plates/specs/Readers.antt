@@ -10,6 +10,7 @@ use Rattle.pgm_plates.specs.declared.plate.PlateFault.TheVariants.{SampleAboveMa
 use Rattle.pgm_plates.specs.declared.plate.PlateRefusal.{PlateRefusal}
 use Rattle.pgm_plates.specs.declared.plate.PlateRefusal.TheVariants.{Fault, ReadFault, OutOfMemory}
 use Rattle.pgm_plates.specs.Header.{IsHeader}
+use Rattle.pgm_plates.specs.Limits.{most_samples, most_maxval, most_header}
 use Rattle.pgm_plates.specs.Plates.{IsSide, sample_bytes, sample_size, raster}
 use Rattle.pgm_plates.specs.Reading.{AreFew, AnswersPlate, AtEnd}
 use Rattle.pgm_plates.specs.Scanning.{IsClean}
@@ -28,12 +29,12 @@ pub record HeaderRead (before after : TrayState) (header : Header) (count : ℕ)
   pub is_header : IsHeader bytes header.width header.height header.maxval
   pub clean : IsClean bytes (length bytes + 1)
   pub size : length bytes ≡ count
-  pub short : count ≤ 65536
+  pub short : count ≤ most_header
   pub width : IsSide header.width
   pub height : IsSide header.height
-  pub product : header.width * header.height ≤ 160000000
+  pub product : header.width * header.height ≤ most_samples
   pub positive : 0 < header.maxval
-  pub maxval : header.maxval ≤ 65535
+  pub maxval : header.maxval ≤ most_maxval
 
 abbrev pub ReadsHeader : TrayState → TrayState → Result (Header × ℕ) PlateRefusal → Type 0
 ReadsHeader before after (Ok r) = HeaderRead before after r.0 r.1

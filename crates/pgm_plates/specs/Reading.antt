@@ -4,10 +4,11 @@ use Rattle.outside.specs.Causes.{Rose, Asks}
 use Rattle.outside.specs.Tray.{TrayState, KeepsTray}
 use Rattle.pgm_plates.specs.declared.plate.Plate.{Plate}
 use Rattle.pgm_plates.specs.declared.plate.PlateFault.{PlateFault}
-use Rattle.pgm_plates.specs.declared.plate.PlateFault.TheVariants.{Truncated}
+use Rattle.pgm_plates.specs.declared.plate.PlateFault.TheVariants.{SampleAboveMaxval, Truncated}
 use Rattle.pgm_plates.specs.declared.plate.PlateRefusal.{PlateRefusal}
 use Rattle.pgm_plates.specs.declared.plate.PlateRefusal.TheVariants.{Fault, ReadFault, OutOfMemory}
 use Rattle.pgm_plates.specs.Header.{IsHeader}
+use Rattle.pgm_plates.specs.Limits.{most_header}
 use Rattle.pgm_plates.specs.Plates.{IsPlateFile, sample_size}
 use Rattle.pgm_plates.specs.Faults.{HoldsNoHeader, IsFault}
 
@@ -16,9 +17,10 @@ abbrev pub IsTruncated : PlateFault → Type 0
 IsTruncated (Truncated at) = Unit {0}
 IsTruncated other = ⊥
 
--- a header, and so many bytes behind it as its samples take, and one
+-- a header that is not too long, and at most so many bytes behind it as its samples take, and one
 pub record IsWithinPlate (bytes : List ℕ) : Type 0 where
   pub count : ℕ
+  pub short : count ≤ most_header
   pub width : ℕ
   pub height : ℕ
   pub maxval : ℕ
@@ -27,7 +29,7 @@ pub record IsWithinPlate (bytes : List ℕ) : Type 0 where
 
 -- No more bytes than these are owed: as many as a header may have, where they hold none; else the header, the raster and one byte.
 abbrev pub AreFew : List ℕ → Type 0
-AreFew bytes = ((length bytes ≤ 65536) × HoldsNoHeader bytes) ⊎ IsWithinPlate bytes
+AreFew bytes = ((length bytes ≤ most_header) × HoldsNoHeader bytes) ⊎ IsWithinPlate bytes
 
 -- nothing of the file is left
 abbrev pub AtEnd : TrayState → TrayState → Type 0
@@ -40,6 +42,13 @@ AnswersPlate bytes before after (Err (Fault fault)) = IsTrue after.begun × IsFa
 AnswersPlate bytes before after (Err ReadFault) = Rose before.faults after.faults × ((fault : PlateFault) → IsFault bytes fault → IsTruncated fault)
 AnswersPlate bytes before after (Err OutOfMemory) = IsTrue after.begun
 
+-- No fault of the tray is passed over: the count stays at each answer but a read fault, and but a sample above the maxval,
+-- which may be among the bytes that came before a failed read.
+abbrev pub KeepsCount : {T : Type 0} → TrayState → TrayState → Result T PlateRefusal → Type 0
+KeepsCount before after (Err ReadFault) = Unit {0}
+KeepsCount before after (Err (Fault (SampleAboveMaxval at))) = Unit {0}
+KeepsCount before after other = after.faults ≡ before.faults
+
 -- The file of that name is begun, and some bytes are taken off its front, which the answer fits.
 pub record ReadsPlate (name : List ℕ) (before after : TrayState) (result : Result Plate PlateRefusal) : Type 0 where
   pub keeps : KeepsTray before after
@@ -48,3 +57,4 @@ pub record ReadsPlate (name : List ℕ) (before after : TrayState) (result : Res
   pub taken : IsTrue after.begun → IsTrue before.tells → before.file name ≡ Some (bytes ++ after.left)
   pub few : AreFew bytes
   pub answer : AnswersPlate bytes before after result
+  pub count : KeepsCount before after result

@@ -9,6 +9,7 @@ use Rattle.pgm_plates.specs.declared.header.Header.{Header}
 use Rattle.pgm_plates.specs.declared.plate.PlateFault.{PlateFault}
 use Rattle.pgm_plates.specs.declared.plate.PlateFault.TheVariants.{BadMagic, BadHeader, SideRange, TooManySamples, MaxvalRange}
 use Rattle.pgm_plates.specs.Header.{IsGap, IsNumber, Numbers}
+use Rattle.pgm_plates.specs.Limits.{most_side, most_samples, most_maxval}
 use Rattle.pgm_plates.specs.Plates.{IsSide}
 use Rattle.pgm_plates.specs.Faults.{NumberFault, Decides}
 use Rattle.pgm_plates.specs.Runs.{run}
@@ -21,13 +22,13 @@ past (Width w) = w ∷ []
 past (Both w h) = h ∷ w ∷ []
 
 abbrev pub side_test : ℕ → Bool
-side_test n = nat_lt 0 n && nat_le n 16384
+side_test n = nat_lt 0 n && nat_le n most_side
 
 -- what is wrong with a number whose first digit is at that place, behind these sides
 abbrev pub number_fault : Sides → ℕ → ℕ → Option PlateFault
 number_fault Neither n at = if side_test n then None else Some (SideRange at)
-number_fault (Width w) n at = if side_test n then (if nat_le (w * n) 160000000 then None else Some (TooManySamples at)) else Some (SideRange at)
-number_fault (Both w h) n at = if nat_lt 0 n && nat_le n 65535 then None else Some (MaxvalRange at)
+number_fault (Width w) n at = if side_test n then (if nat_le (w * n) most_samples then None else Some (TooManySamples at)) else Some (SideRange at)
+number_fault (Both w h) n at = if nat_lt 0 n && nat_le n most_maxval then None else Some (MaxvalRange at)
 
 -- the sides behind one number more
 abbrev pub sides_then : Sides → ℕ → Sides
@@ -78,13 +79,13 @@ pub record AtNumber (bytes : List ℕ) (at number : ℕ) (earlier : List ℕ) : 
 -- what the fields of a scan stand for
 abbrev pub Fits : Stand → Scan → List ℕ → List ℕ → Type 0
 Fits Digits scan ns bytes = (n : ℕ) × (ns ≡ n ∷ past scan.sides) × (scan.number ≡ min n 1000000) × AtNumber bytes scan.first n (past scan.sides)
-Fits Ended scan ns bytes = (w h : ℕ) × (scan.sides ≡ Both w h) × (ns ≡ scan.number ∷ h ∷ w ∷ []) × (0 < scan.number) × (scan.number ≤ 65535)
+Fits Ended scan ns bytes = (w h : ℕ) × (scan.sides ≡ Both w h) × (ns ≡ scan.number ∷ h ∷ w ∷ []) × (0 < scan.number) × (scan.number ≤ most_maxval)
 Fits other scan ns bytes = ns ≡ past scan.sides
 
 abbrev pub InRange : Sides → Type 0
 InRange Neither = Unit {0}
 InRange (Width w) = IsSide w
-InRange (Both w h) = IsSide w × IsSide h × (w * h ≤ 160000000)
+InRange (Both w h) = IsSide w × IsSide h × (w * h ≤ most_samples)
 
 -- no moment up to that one decides a fault
 abbrev pub IsClean : List ℕ → ℕ → Type 0

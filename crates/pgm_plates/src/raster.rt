@@ -1,7 +1,9 @@
-ghost use Rattle.std.specs.Prelude.{IsTrue, ◌≡◌, ◌≤◌, ◌<◌, ◌*◌, ◌^◌, [], length, take, IfOk};
+ghost use Rattle.std.specs.Prelude.{IsTrue, ◌≡◌, ◌≢◌, ◌≤◌, ◌<◌, ◌*◌, ◌^◌, [], length, take, IfOk};
 ghost use Rattle.outside.specs.Causes.{Rose};
 ghost use Rattle.outside.specs.Reading.{Takes};
+ghost use Rattle.pgm_plates.specs.Limits.{most_header};
 ghost use Rattle.pgm_plates.specs.Plates.{sample_size as bytes_of_sample};
+ghost use Rattle.pgm_plates.specs.Reading.{KeepsCount};
 ghost use Rattle.pgm_plates.specs.Readers.{ReadsPiece, ReadsRaster};
 
 use crate::plate::{PlateFault, PlateRefusal};
@@ -23,10 +25,11 @@ pub fn read_raster<T: Tray>(
     start: u64,
 ) -> Result<Tints, PlateRefusal>
     requires begun { IsTrue (T.state tray.old).begun }
-    requires start { start ≤ 65536 }
+    requires start { start ≤ most_header }
     requires some { 0 < count }
     requires count { count < 2 ^ 30 }
-    ensures { ReadsRaster maxval count start (T.state tray.old) (T.state tray.new) result }
+    ensures answer { ReadsRaster maxval count start (T.state tray.old) (T.state tray.new) result }
+    ensures count { KeepsCount (T.state tray.old) (T.state tray.new) result }
 {
     let most = count.min(PIECE);
     let Ok(mut piece) = no_samples(alloc, most) else {
@@ -76,12 +79,13 @@ fn read_pieces<T: Tray>(
     start: u64,
 ) -> Result<(), PlateRefusal>
     requires begun { IsTrue (T.state tray.old).begun }
-    requires start { start ≤ 65536 }
+    requires start { start ≤ most_header }
     requires count { count < 2 ^ 30 }
     requires some { 0 < length piece.old }
     requires room { 2 * length piece.old ≤ length bytes.old }
     requires empty { samples.old.items ≡ [] }
-    ensures { ReadsPiece maxval count start (T.state tray.old) (T.state tray.new) result samples.new.items }
+    ensures answer { ReadsPiece maxval count start (T.state tray.old) (T.state tray.new) result samples.new.items }
+    ensures count { KeepsCount (T.state tray.old) (T.state tray.new) result }
 {
     let size = sample_size(maxval);
     while samples.len() < count {
@@ -116,7 +120,8 @@ fn read_piece<T: Tray>(
     requires start { start < 2 ^ 40 }
     requires count { length samples.old < 2 ^ 30 }
     requires room { length bytes.old ≡ length samples.old * bytes_of_sample maxval }
-    ensures { ReadsPiece maxval (length samples.new) start (T.state tray.old) (T.state tray.new) result samples.new }
+    ensures answer { ReadsPiece maxval (length samples.new) start (T.state tray.old) (T.state tray.new) result samples.new }
+    ensures count { KeepsCount (T.state tray.old) (T.state tray.new) result }
 {
     let size = sample_size(maxval);
     let (filled, end) = fill(tray, bytes);
@@ -149,6 +154,7 @@ fn fill<T: Tray>(tray: &mut T, buf: &mut [u8]) -> (usize, Filled)
     ensures takes { Takes (take result.0 buf.new) (T.state tray.old) (T.state tray.new) }
     ensures whole { result.1 ≡ Filled.Whole → result.0 ≡ length buf.new }
     ensures ended { result.1 ≡ Filled.End → (result.0 < length buf.new) × (IsTrue (T.state tray.old).tells → (T.state tray.new).left ≡ []) }
+    ensures count { result.1 ≢ Filled.Broken → (T.state tray.new).faults ≡ (T.state tray.old).faults }
     ensures broken { result.1 ≡ Filled.Broken → Rose (T.state tray.old).faults (T.state tray.new).faults }
 {
     let mut done = 0usize;

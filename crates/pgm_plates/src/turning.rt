@@ -1,7 +1,9 @@
-ghost use Rattle.std.specs.Prelude.{◌≡◌, ◌-◌, ◌≤◌, map};
+ghost use Rattle.std.specs.Prelude.{◌≡◌, ◌*◌, ◌-◌, ◌≤◌, map};
 ghost use Rattle.std.specs.List.{All};
+ghost use Rattle.page_model.specs.Conditions.{IsPlane};
+ghost use Rattle.pgm_plates.specs.Limits.{most_samples, most_maxval};
 ghost use Rattle.pgm_plates.specs.Plates.{IsPlate};
-ghost use Rattle.pgm_plates.specs.Planes.{IsPlane, plane_of, plate_of};
+ghost use Rattle.pgm_plates.specs.Planes.{plane_of, plate_of};
 
 use crate::plate::Plate;
 use lists::list::List;
@@ -13,6 +15,7 @@ impl Plate {
         requires { IsPlate self }
         ensures tints { result ≡ plane_of self }
         ensures in_range { IsPlane result }
+        ensures few { result.width * result.height ≤ most_samples }
     {
         Plane {
             width: self.width,
@@ -24,7 +27,8 @@ impl Plate {
 
     /// Turns the tints of a plane into samples, in place.
     pub fn of_plane(plane: Plane) -> Plate
-        requires { IsPlane plane }
+        requires in_range { IsPlane plane }
+        requires few { plane.width * plane.height ≤ most_samples }
         ensures samples { result ≡ plate_of plane }
         ensures in_range { IsPlate result }
     {
@@ -38,7 +42,7 @@ impl Plate {
 }
 
 fn turned(values: Tints, most: u32) -> Tints
-    requires fits { most ≤ 65535 }
+    requires fits { most ≤ most_maxval }
     requires below { All (λ v. v ≤ most) values }
     ensures { result ≡ map (λ v. most - v) values }
 {

@@ -1,4 +1,4 @@
-use Rattle.std.proofs.Common.{◌+◌, ◌-◌, ◌++◌, take, length, rules}
+use Rattle.std.proofs.Common.{◌∙◌, ◌+◌, ◌-◌, ◌++◌, take, length, rules}
 use borrow.Rule.Slice.PartMut.{put_mid}
 use Rattle.outside.proofs.Steps.{takes_then, takes_as, takes_read, filled_more}
 use Rattle.pgm_plates.proofs.raster.fill.Goals as goal
@@ -15,5 +15,6 @@ loop-done-preserved g c =
       takes = takes_as (take done c.loop-done.buf ++ take n c.read.new.buf) (take (done + n) (put_mid done k c.loop-done.buf c.read.new.buf)) a d
           (filled_more c.loop-done.buf c.read.new.buf done k n c.loop-done.invariant.within c.in-Ok.ensures.within)
           (takes_then (take done c.loop-done.buf) (take n c.read.new.buf) a b d c.loop-done.invariant.takes (takes_read b d n c.read.new.buf c.in-Ok.ensures));
+      count = c.in-Ok.ensures.well ∙ c.loop-done.invariant.count;
       within = search rules;
     }

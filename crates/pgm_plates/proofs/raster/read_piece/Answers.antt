@@ -5,8 +5,8 @@ use Rattle.pgm_plates.specs.Plates.{sample_size}
 use Rattle.pgm_plates.proofs.Pieces.{piece_above, piece_part, taken_whole, within_room, short_of_room}
 use Rattle.pgm_plates.proofs.raster.read_piece.Goals as goal
 
-pub returns-in-Some : goal.returns-in-Some
-returns-in-Some g c =
+pub returns-in-Some-clause-answer : goal.returns-in-Some-clause-answer
+returns-in-Some-clause-answer g c =
     let filled = c.fill-filled.result.0 in
     let buf = c.fill-filled.new.buf in
     let samples = c.take_samples.new.samples in
@@ -21,8 +21,8 @@ returns-in-Some g c =
       ap (λ (n : ℕ). c.args.start + c.in-Some.place * n) c.sample_size-size.ensures,
     )
 
-pub returns-in-Whole : goal.returns-in-Whole
-returns-in-Whole g c =
+pub returns-in-Whole-clause-answer : goal.returns-in-Whole-clause-answer
+returns-in-Whole-clause-answer g c =
     let filled = c.fill-filled.result.0 in
     let buf = c.fill-filled.new.buf in
     let samples = c.take_samples.new.samples in
@@ -34,8 +34,8 @@ returns-in-Whole g c =
     c.fill-filled.ensures.takes c.take_samples.ensures.decoded c.in-None.ensures.fit
     (length-take-le filled buf c.fill-filled.ensures.within ∙ all ∙ room) count
 
-pub returns-in-End : goal.returns-in-End
-returns-in-End g c =
+pub returns-in-End-clause-answer : goal.returns-in-End-clause-answer
+returns-in-End-clause-answer g c =
     let filled = c.fill-filled.result.0 in
     let buf = c.fill-filled.new.buf in
     let samples = c.take_samples.new.samples in
@@ -52,8 +52,8 @@ returns-in-End g c =
       end.1,
     )
 
-pub returns-in-Broken : goal.returns-in-Broken
-returns-in-Broken g c =
+pub returns-in-Broken-clause-answer : goal.returns-in-Broken-clause-answer
+returns-in-Broken-clause-answer g c =
     let filled = c.fill-filled.result.0 in
     let buf = c.fill-filled.new.buf in
     let samples = c.take_samples.new.samples in
