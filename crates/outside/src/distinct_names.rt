@@ -18,7 +18,8 @@ pub fn have_distinct_names(files: &[MemFile]) -> bool
 // Whether no earlier file has the name of the one at that place.
 fn is_new(files: &[MemFile], place: usize) -> bool
     requires { place < length files.now }
-    ensures { IsTrue result ↔ ((k : ℕ) → k < place → (file_at files.now k).name ≢ (file_at files.now place).name) }
+    ensures { let name = (file_at files.now place).name in
+        IsTrue result ↔ ((k : ℕ) → k < place → (file_at files.now k).name ≢ name) }
 {
     for earlier in 0..place {
         if has_same_name(&files[earlier], &files[place]) {

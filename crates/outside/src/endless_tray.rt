@@ -20,7 +20,12 @@ impl Model for EndlessTray {
 
     ghost Value = { EndlessState };
 
-    ghost view = { λ e. record { head = e.head; tail = e.tail; begun = e.is_begun; taken = e.taken } };
+    ghost view = { λ e. record {
+      head = e.head;
+      tail = e.tail;
+      begun = e.is_begun;
+      taken = e.taken;
+    } };
 
     ghost invariant = { λ e. e.taken ≤ length e.head };
 }
@@ -45,7 +50,8 @@ impl Tray for EndlessTray {
     ghost state = { endless_tray_of };
 
     fn begin(&mut self, name: &str) -> Result<(), Failed>
-        ensures tray { Begins name.now (endless_tray_of self.old) (endless_tray_of self.new) result }
+        ensures tray { let before = endless_tray_of self.old in
+            Begins name.now before (endless_tray_of self.new) result }
         ensures begun { self.new ≡ record self.old { begun = true; taken = 0 } }
         ensures never_fails { OnErr result ⊥ }
     {

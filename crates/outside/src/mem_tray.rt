@@ -129,7 +129,8 @@ fn read_on(file: &MemFile, taken: usize, grain: usize, buf: &mut [u8]) -> usize
         result ≡ min (min grain (length buf.old)) (end - taken) }
     ensures within { taken + result ≤ length file.now.bytes }
     ensures fits { taken + result < 2 ^ 64 }
-    ensures given { drop taken file.now.bytes ≡ take result buf.new ++ drop (taken + result) file.now.bytes }
+    ensures given { drop taken file.now.bytes
+        ≡ take result buf.new ++ drop (taken + result) file.now.bytes }
 {
     let end = end_of_read(file.fails_at, file.bytes.len(), taken);
     give(&file.bytes.as_slice()[..end], taken, grain, buf)

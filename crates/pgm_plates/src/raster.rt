@@ -8,8 +8,8 @@ ghost use Rattle.pgm_plates.specs.Readers.{ReadsPiece, ReadsRaster};
 
 use crate::plate::{PlateFault, PlateRefusal};
 use crate::samples::{sample_size, take_samples};
-use outside::tray::{Failed, Tray};
 use lists::list::List;
+use outside::tray::{Failed, Tray};
 use page_model::parts::Tints;
 use std::alloc::{AllocError, Global};
 
@@ -84,7 +84,8 @@ fn read_pieces<T: Tray>(
     requires some { 0 < length piece.old }
     requires room { 2 * length piece.old ≤ length bytes.old }
     requires empty { samples.old.items ≡ [] }
-    ensures answer { ReadsPiece maxval count start (T.state tray.old) (T.state tray.new) result samples.new.items }
+    ensures answer { let samples = samples.new.items in
+        ReadsPiece maxval count start (T.state tray.old) (T.state tray.new) result samples }
     ensures count { KeepsCount (T.state tray.old) (T.state tray.new) result }
 {
     let size = sample_size(maxval);
@@ -120,7 +121,8 @@ fn read_piece<T: Tray>(
     requires start { start < 2 ^ 40 }
     requires count { length samples.old < 2 ^ 30 }
     requires room { length bytes.old ≡ length samples.old * bytes_of_sample maxval }
-    ensures answer { ReadsPiece maxval (length samples.new) start (T.state tray.old) (T.state tray.new) result samples.new }
+    ensures answer { let count = length samples.new in
+        ReadsPiece maxval count start (T.state tray.old) (T.state tray.new) result samples.new }
     ensures count { KeepsCount (T.state tray.old) (T.state tray.new) result }
 {
     let size = sample_size(maxval);
@@ -140,7 +142,7 @@ fn read_piece<T: Tray>(
 }
 
 /// Why no more was read into a buffer.
-#[derive(Clone, Copy, Debug, Drop, PartialEq, Eq)]
+#[derive(Clone, Copy, Drop)]
 pub enum Filled {
     Whole,
     End,
@@ -153,9 +155,12 @@ fn fill<T: Tray>(tray: &mut T, buf: &mut [u8]) -> (usize, Filled)
     ensures within { result.0 ≤ length buf.new }
     ensures takes { Takes (take result.0 buf.new) (T.state tray.old) (T.state tray.new) }
     ensures whole { result.1 ≡ Filled.Whole → result.0 ≡ length buf.new }
-    ensures ended { result.1 ≡ Filled.End → (result.0 < length buf.new) × (IsTrue (T.state tray.old).tells → (T.state tray.new).left ≡ []) }
-    ensures count { result.1 ≢ Filled.Broken → (T.state tray.new).faults ≡ (T.state tray.old).faults }
-    ensures broken { result.1 ≡ Filled.Broken → Rose (T.state tray.old).faults (T.state tray.new).faults }
+    ensures ended { result.1 ≡ Filled.End → (result.0 < length buf.new)
+        × (IsTrue (T.state tray.old).tells → (T.state tray.new).left ≡ []) }
+    ensures count { result.1 ≢ Filled.Broken →
+        (T.state tray.new).faults ≡ (T.state tray.old).faults }
+    ensures broken { result.1 ≡ Filled.Broken →
+        Rose (T.state tray.old).faults (T.state tray.new).faults }
 {
     let mut done = 0usize;
     while done < buf.len() {

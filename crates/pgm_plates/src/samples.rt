@@ -70,7 +70,8 @@ fn decode_narrow(bytes: &[u8], samples: &mut [u16])
 
 fn decode_wide(bytes: &[u8], samples: &mut [u16])
     requires { length samples.old ≡ length bytes.now / 2 }
-    ensures { take (2 * length samples.new) bytes.now ≡ flat_map (λ s. s / 256 ∷ s % 256 ∷ []) samples.new }
+    ensures { let spelled = flat_map (λ s. s / 256 ∷ s % 256 ∷ []) samples.new in
+        take (2 * length samples.new) bytes.now ≡ spelled }
 {
     for at in 0..samples.len() {
         samples[at] = bytes[2 * at] as u16 * 256 + bytes[2 * at + 1] as u16;

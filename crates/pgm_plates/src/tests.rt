@@ -1,12 +1,12 @@
 use crate::plate::{Plate, PlateFault, PlateRefusal};
 use crate::reading::read_plate;
 use crate::writing::write_plate;
+use lists::list::List;
 use outside::distinct_names::have_distinct_names;
 use outside::endless_tray::EndlessTray;
 use outside::mem_file::MemFile;
 use outside::mem_rack::MemRack;
 use outside::mem_tray::MemTray;
-use lists::list::List;
 use page_model::parts::{CallList, Name};
 use std::alloc::{AllocError, Global};
 use std::process::Abort;
