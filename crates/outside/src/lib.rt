@@ -12,7 +12,5 @@ pub mod mem_tray;
 pub mod rack;
 pub mod reading;
 pub mod shelf;
-#[cfg(test)]
-mod tests;
 pub mod tray;
 pub mod writing;

@@ -3,7 +3,7 @@ use page_model::parts::Tints;
 /// A plate as its file has it: `width * height` samples, row by row from the top, 0 for black and `maxval` for white.
 ///
 /// A plate that was read has sides from 1 to 16,384, at most 160,000,000 samples, and a maxval from 1 to 65,535 which
-/// no sample is above. Netpbm's PGM manual gives the raw format; this project's profile says what of it is taken.
+/// no sample is above. Netpbm's PGM manual gives the raw format; docs/PLATES.md says what of it is taken.
 #[derive(Drop)]
 pub struct Plate {
     pub width: u32,
