@@ -145,6 +145,16 @@ const COMMENTS: [&str; 6] = [
     "#a\n \t#b\r",
 ];
 
+fn refusal_with_gap(
+    rt: &impl Abort,
+    alloc: Global,
+    place: usize,
+    gap: &str,
+) -> Result<Option<PlateRefusal>, AllocError> {
+    let text = with_gap(alloc, place, gap)?;
+    refusal_of(rt, alloc, text.as_bytes(), by(4096))
+}
+
 // Compares the answers to these gaps, each in place of that one.
 fn judge_gaps(
     rt: &impl Abort,
@@ -154,11 +164,7 @@ fn judge_gaps(
     want: Option<PlateRefusal>,
 ) -> Result<(), AllocError> {
     for gap in gaps {
-        let text = with_gap(alloc, place, *gap)?;
-        assert!(rt;
-            refusal_of(rt, alloc, text.as_bytes(), by(4096))? == want,
-            "{place}"
-        );
+        assert!(rt; refusal_with_gap(rt, alloc, place, *gap)? == want, "{place}");
     }
     Ok(())
 }
@@ -199,11 +205,20 @@ const LONG: [(usize, &str, PlateFault); 9] = [
     (65_537, "1 0 ", PlateFault::BadHeader(65_536)),
 ];
 
+fn refusal_of_long(
+    rt: &impl Abort,
+    alloc: Global,
+    count: usize,
+    numbers: &str,
+) -> Result<Option<PlateRefusal>, AllocError> {
+    let bytes = long_header(alloc, count, numbers)?;
+    refusal_of(rt, alloc, &bytes, by(4096))
+}
+
 #[test]
 fn a_header_has_65536_bytes_at_most(rt: HostRuntime) -> Result<(), Fail> {
     for (count, numbers, want) in LONG {
-        let bytes = long_header(rt.alloc(), count, numbers)?;
-        let refusal = refusal_of(&rt, rt.alloc(), &bytes, by(4096))?;
+        let refusal = refusal_of_long(&rt, rt.alloc(), count, numbers)?;
         assert!(rt; refusal == fault(want), "{count}, {numbers}");
     }
     Ok(())
@@ -302,9 +317,9 @@ fn a_sample_that_was_read_before_a_failure_is_judged(rt: HostRuntime) -> Result<
     Ok(())
 }
 
-// A header, so many samples of 7, and one of 10.
-fn with_sample_above(alloc: Global, header: &str, count: usize) -> Result<Vec<u8>, AllocError> {
-    let mut bytes = header.as_bytes().to_vec(alloc)?;
+// The header of a plate of 90,000 samples, so many of them, and one above the maxval.
+fn with_sample_above(alloc: Global, count: usize) -> Result<Vec<u8>, AllocError> {
+    let mut bytes = b"P5 300 300 9\n".to_vec(alloc)?;
     for _ in 0..count {
         bytes.push(7)?;
     }
@@ -312,19 +327,28 @@ fn with_sample_above(alloc: Global, header: &str, count: usize) -> Result<Vec<u8
     Ok(bytes)
 }
 
+fn refusal_above(
+    rt: &impl Abort,
+    alloc: Global,
+    count: usize,
+) -> Result<Option<PlateRefusal>, AllocError> {
+    let bytes = with_sample_above(alloc, count)?;
+    refusal_of(rt, alloc, &bytes, by(1000))
+}
+
+// By how many samples there are before the one that is above; the last row has one byte more than a plate.
+const ABOVE: [(usize, PlateFault); 5] = [
+    (0, PlateFault::SampleAboveMaxval(13)),
+    (65_535, PlateFault::SampleAboveMaxval(65_548)),
+    (65_536, PlateFault::SampleAboveMaxval(65_549)),
+    (89_999, PlateFault::SampleAboveMaxval(90_012)),
+    (90_000, PlateFault::TrailingBytes(90_013)),
+];
+
 #[test]
 fn a_sample_is_judged_in_each_piece(rt: HostRuntime) -> Result<(), Fail> {
-    let header = "P5 300 300 9\n";
-    for count in [0, 65_535, 65_536, 89_999] {
-        let bytes = with_sample_above(rt.alloc(), header, count)?;
-        let want = fault(PlateFault::SampleAboveMaxval(13 + count as u64));
-        assert!(rt;
-            refusal_of(&rt, rt.alloc(), &bytes, by(1000))? == want,
-            "{count}"
-        );
+    for (count, want) in ABOVE {
+        assert!(rt; refusal_above(&rt, rt.alloc(), count)? == fault(want), "{count}");
     }
-    let bytes = with_sample_above(rt.alloc(), header, 90_000)?;
-    let want = fault(PlateFault::TrailingBytes(90_013));
-    assert!(rt; refusal_of(&rt, rt.alloc(), &bytes, by(1000))? == want);
     Ok(())
 }

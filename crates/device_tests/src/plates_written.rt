@@ -30,32 +30,33 @@ fn plate_of(rt: &impl Abort, alloc: Global, bytes: &[u8]) -> Result<Plate, Fail>
     }
 }
 
-// Writes a plate, and says whether it was written and what its file holds.
-fn write_by(alloc: Global, plate: &Plate, mut rack: MemRack) -> Result<(bool, Vec<u8>), Fail>
-    requires { IsPlate plate.now }
-{
-    let is_written = write_plate(&mut rack, "out", plate).is_ok();
+fn holds(rack: MemRack, want: &[u8]) -> bool {
     match rack.file("out") {
-        Some(bytes) => Ok((is_written, bytes.to_vec(alloc)?)),
-        None => Err(Fail::from("no file")),
+        Some(bytes) => bytes == want,
+        None => false,
     }
 }
 
-// What a plate's file is when it is read and written again by a rack with that much room.
+// Writes a plate by the rack, and says whether it was written and whether the file then holds these bytes.
+fn write_by(plate: &Plate, mut rack: MemRack, want: &[u8]) -> (bool, bool)
+    requires { IsPlate plate.now }
+{
+    let is_written = write_plate(&mut rack, "out", plate).is_ok();
+    (is_written, holds(rack, want))
+}
+
+// The same of a plate that is read and written again by a rack of that grain with that much room.
 fn written(
     rt: &impl Abort,
     alloc: Global,
     bytes: &[u8],
-    grain: usize,
-    room: u64,
-) -> Result<(bool, Vec<u8>), Fail> {
-    let plate = plate_of(rt, alloc, bytes)?;
+    (grain, room): (usize, u64),
+    want: &[u8],
+) -> Result<(bool, bool), Fail> {
     assert!(rt; grain > 0);
-    write_by(
-        alloc,
-        &plate,
-        MemRack::new(alloc, grain, room, List::new(alloc)),
-    )
+    let rack = MemRack::new(alloc, grain, room, List::new(alloc));
+    let plate = plate_of(rt, alloc, bytes)?;
+    Ok(write_by(&plate, rack, want))
 }
 
 const SPELLINGS: [(&str, &str); 4] = [
@@ -86,9 +87,8 @@ fn a_plate_is_written_in_its_canonical_spelling(rt: HostRuntime) -> Result<(), F
 fn a_rack_without_room_holds_a_front_of_the_spelling(rt: HostRuntime) -> Result<(), Fail> {
     let whole = b"P5\n6 1\n255\n\x00\x00\x00\xff\xff\xff";
     for room in 0..18 {
-        let (is_written, held) = written(&rt, rt.alloc(), whole, 3, room)?;
-        assert!(rt; is_written == (room == 17), "room {room}");
-        assert!(rt; held.as_slice() == &whole[..room as usize], "room {room}");
+        let is = written(&rt, rt.alloc(), whole, (3, room), &whole[..room as usize])?;
+        assert!(rt; is == (room == 17, true), "room {room}");
     }
     Ok(())
 }
@@ -106,9 +106,8 @@ fn wide_plate(alloc: Global) -> Result<Vec<u8>, AllocError> {
 #[test]
 fn a_raster_of_many_pieces_is_written_as_it_was_read(rt: HostRuntime) -> Result<(), Fail> {
     let bytes = wide_plate(rt.alloc())?;
-    let (is_written, held) = written(&rt, rt.alloc(), &bytes, 5000, 1_000_000)?;
-    assert!(rt; is_written);
-    assert!(rt; held.as_slice() == bytes.as_slice());
+    let is = written(&rt, rt.alloc(), &bytes, (5000, 1_000_000), &bytes)?;
+    assert!(rt; is == (true, true));
     Ok(())
 }
 
@@ -120,12 +119,22 @@ fn is_plate(plate: &Plate, maxval: u32, samples: &[u16]) -> bool {
     plate.maxval == maxval && plate.samples.as_slice() == samples
 }
 
+// Whether the plate has these tints, and the plane of these is the plate again.
+fn turns(plate: Plate, tints: &[u16], samples: &[u16]) -> bool
+    requires { IsPlate plate }
+{
+    let plane = plate.into_plane();
+    is_plane(&plane, 200, tints) && is_plate(&Plate::of_plane(plane), 200, samples)
+}
+
 #[test]
 fn samples_and_tints_are_turned_into_each_other(rt: HostRuntime) -> Result<(), Fail> {
     let plate = plate_of(&rt, rt.alloc(), b"P5 2 2 200 \x00\x01\xc7\xc8")?;
-    let plane = plate.into_plane();
-    assert!(rt; is_plane(&plane, 200, [200, 199, 1, 0].as_slice()));
-    let back = Plate::of_plane(plane);
-    assert!(rt; is_plate(&back, 200, [0, 1, 199, 200].as_slice()));
+    let is = turns(
+        plate,
+        [200, 199, 1, 0].as_slice(),
+        [0, 1, 199, 200].as_slice(),
+    );
+    assert!(rt; is);
     Ok(())
 }

@@ -6,78 +6,73 @@ use std::alloc::{AllocError, Global};
 use std::process::Abort;
 use std::test::Fail;
 
-// What the rack holds under the name.
-fn copy_of(alloc: Global, rack: &MemRack, name: &str) -> Result<Option<Vec<u8>>, AllocError> {
-    match rack.file(name) {
-        Some(bytes) => Ok(Some(bytes.to_vec(alloc)?)),
-        None => Ok(None),
+// Whether the rack has these bytes under the name, or, where none are given, no such file.
+fn holds(rack: &MemRack, name: &str, want: Option<&[u8]>) -> bool {
+    match (rack.file(name), want) {
+        (Some(bytes), Some(text)) => bytes == text,
+        (None, None) => true,
+        (_, _) => false,
     }
 }
 
-// Writes `plate` by such a rack, and gives what the file then holds.
+fn ends_with(rack: MemRack, want: Option<&[u8]>) -> bool {
+    holds(&rack, "plate", want)
+}
+
+const WHOLE: &str = "P5 1 1 1\n.";
+
+// Writes `plate` by such a rack, and says whether it was written and whether the file then holds that front.
 fn written(
     rt: &impl Abort,
     alloc: Global,
     grain: usize,
     room: u64,
     call: Option<u64>,
-) -> Result<(bool, Option<Vec<u8>>), AllocError> {
+    front: Option<usize>,
+) -> Result<(bool, bool), AllocError> {
+    let fails = only(alloc, call)?;
     assert!(rt; grain > 0);
-    let mut rack = MemRack::new(alloc, grain, room, only(alloc, call)?);
-    let is_written = write_file(&mut rack, "plate", b"P5 1 1 1\n.").is_ok();
-    Ok((is_written, held_by(alloc, rack)?))
+    let mut rack = MemRack::new(alloc, grain, room, fails);
+    let is_written = write_file(&mut rack, "plate", WHOLE.as_bytes()).is_ok();
+    Ok((is_written, ends_with(rack, front_of(front))))
 }
 
-fn held_by(alloc: Global, rack: MemRack) -> Result<Option<Vec<u8>>, AllocError> {
-    copy_of(alloc, &rack, "plate")
+fn front_of(count: Option<usize>) -> Option<&'static [u8]> {
+    match count {
+        Some(count) => Some(&WHOLE.as_bytes()[..count.min(WHOLE.len())]),
+        None => None,
+    }
 }
 
 #[test]
 fn a_rack_without_room_holds_a_front(rt: HostRuntime) -> Result<(), Fail> {
-    let whole = b"P5 1 1 1\n.";
     for grain in [1, 3, 4096] {
         for room in 0..12u64 {
-            let (is_written, held) = written(&rt, rt.alloc(), grain, room, None)?;
-            let bytes = held.ok_or("no file")?;
-            let count = if room < 10 { room as usize } else { 10 };
-            assert!(rt; is_written == (room >= 10), "room {room}");
-            assert!(rt; bytes.as_slice() == &whole[..count], "room {room}");
+            let is = written(&rt, rt.alloc(), grain, room, None, Some(room as usize))?;
+            assert!(rt; is == (room >= 10, true), "room {room}");
         }
     }
     Ok(())
 }
 
 // By pieces of 4 there are `create`, three writes and `finish`: the call that fails, and what the file then holds.
-const FAILING: [(u64, Option<&str>); 5] = [
+const FAILING: [(u64, Option<usize>); 5] = [
     (0, None),
-    (1, Some("")),
-    (2, Some("P5 1")),
-    (3, Some("P5 1 1 1")),
-    (4, Some("P5 1 1 1\n.")),
+    (1, Some(0)),
+    (2, Some(4)),
+    (3, Some(8)),
+    (4, Some(10)),
 ];
 
 #[test]
 fn each_write_fails_in_turn(rt: HostRuntime) -> Result<(), Fail> {
-    for (call, want) in FAILING {
-        let (is_written, held) = written(&rt, rt.alloc(), 4, 100, Some(call))?;
-        assert!(rt; !is_written, "call {call}");
-        match (want, held) {
-            (Some(text), Some(bytes)) => {
-                assert!(rt; bytes.as_slice() == text.as_bytes(), "call {call}");
-            }
-            (None, None) => {}
-            (_, _) => return Err(Fail::from("held or not")),
-        }
+    for (call, front) in FAILING {
+        let is = written(&rt, rt.alloc(), 4, 100, Some(call), front)?;
+        assert!(rt; is == (false, true), "call {call}");
     }
-    assert!(rt; written(&rt, rt.alloc(), 4, 100, Some(5))?.0);
+    let is = written(&rt, rt.alloc(), 4, 100, Some(5), Some(10))?;
+    assert!(rt; is == (true, true));
     Ok(())
-}
-
-fn is_held(rack: &MemRack, name: &str, want: &[u8]) -> bool {
-    match rack.file(name) {
-        Some(bytes) => bytes == want,
-        None => false,
-    }
 }
 
 // A rack of two files, the first written twice, and one text told of two, since the ninth call fails.
@@ -92,25 +87,24 @@ fn rack_written_twice(rt: &impl Abort, alloc: Global) -> Result<MemRack, AllocEr
     Ok(rack)
 }
 
-fn is_told(rack: &MemRack, want: &[u8]) -> bool {
+fn tells(rack: &MemRack, want: &[u8]) -> bool {
     rack.told() == want
 }
 
-fn look_at_both(rt: &impl Abort, rack: &MemRack) {
-    assert!(rt; is_held(rack, "one", b"second"));
-    assert!(rt; is_held(rack, "two", b""));
-    assert!(rt; rack.file("three").is_none());
-    assert!(rt; is_told(rack, b"told"));
+fn is_written_twice(rack: MemRack) -> bool {
+    holds(&rack, "one", Some(b"second"))
+        && holds(&rack, "two", Some(b""))
+        && holds(&rack, "three", None)
+        && tells(&rack, b"told")
 }
 
 #[test]
 fn a_later_file_stands_in_place_of_an_earlier_one(rt: HostRuntime) -> Result<(), Fail> {
-    let rack = rack_written_twice(&rt, rt.alloc())?;
-    look_at_both(&rt, &rack);
+    assert!(rt; is_written_twice(rack_written_twice(&rt, rt.alloc())?));
     Ok(())
 }
 
-// Tells an empty text and then a text, of which the calls of that number fail.
+// Tells an empty text and then a text, of which the call of that number fails.
 fn told_by(alloc: Global, call: u64) -> Result<(bool, bool), AllocError> {
     let mut rack = MemRack::new(alloc, 1, 0, only(alloc, Some(call))?);
     let is_empty_told = rack.tell(b"").is_ok();
@@ -119,8 +113,8 @@ fn told_by(alloc: Global, call: u64) -> Result<(bool, bool), AllocError> {
 
 #[test]
 fn a_text_needs_no_room_and_fails_by_its_number(rt: HostRuntime) -> Result<(), Fail> {
-    assert!(rt; told_by(rt.alloc(), 0)? == (false, true));
-    assert!(rt; told_by(rt.alloc(), 1)? == (true, false));
-    assert!(rt; told_by(rt.alloc(), 2)? == (true, true));
+    for (call, want) in [(0, (false, true)), (1, (true, false)), (2, (true, true))] {
+        assert!(rt; told_by(rt.alloc(), call)? == want, "call {call}");
+    }
     Ok(())
 }

@@ -1,70 +1,59 @@
 use crate::fixtures::{Way, by, bytes_of, tray_of};
-use lists::list::List;
 use outside::distinct_names::have_distinct_names;
 use outside::endless_tray::EndlessTray;
 use outside::mem_file::MemFile;
 use outside::mem_tray::MemTray;
 use outside::reading::{ReadRefusal, read_file};
+use lists::list::List;
 use std::alloc::{AllocError, Global};
 use std::process::Abort;
 use std::test::Fail;
 
-fn read_by(
-    alloc: Global,
-    mut tray: MemTray,
-    name: &str,
-    most: u32,
-) -> Result<Vec<u8>, ReadRefusal> {
+// Whether a read of that file by such a tray gives these bytes, or, where none are given, is a read fault.
+fn gives(alloc: Global, mut tray: MemTray, name: &str, most: u32, want: Option<&str>) -> bool {
     match read_file(alloc, &mut tray, name, most) {
-        Ok(bytes) => Ok(bytes.into_vec()),
-        Err(refusal) => Err(refusal),
+        Ok(bytes) => match want {
+            Some(text) => bytes.as_slice() == text.as_bytes(),
+            None => false,
+        },
+        Err(refusal) => want.is_none() && refusal == ReadRefusal::ReadFault,
     }
 }
 
-// What `read_file` gives of the file of that name, where `one` holds a job.
-fn read_job(
+// The same of a tray in which `one` holds a job.
+fn reads(
     rt: &impl Abort,
     alloc: Global,
     name: &str,
     most: u32,
     way: Way,
-) -> Result<Result<Vec<u8>, ReadRefusal>, AllocError> {
-    Ok(read_by(alloc, tray_of(rt, alloc, b"showpage", way)?, name, most))
+    want: Option<&str>,
+) -> Result<bool, AllocError> {
+    let tray = tray_of(rt, alloc, b"showpage", way)?;
+    Ok(gives(alloc, tray, name, most, want))
 }
+
+const FRONTS: [(u32, &str); 5] = [
+    (0, ""),
+    (1, "s"),
+    (7, "showpag"),
+    (8, "showpage"),
+    (9, "showpage"),
+];
 
 #[test]
 fn a_file_is_read_by_any_grain(rt: HostRuntime) -> Result<(), Fail> {
     for grain in [1, 2, 3, 4096] {
-        for (most, want) in [
-            (0, ""),
-            (1, "s"),
-            (7, "showpag"),
-            (8, "showpage"),
-            (9, "showpage"),
-        ] {
-            let got = read_job(&rt, rt.alloc(), "one", most, by(grain))?
-                .ok()
-                .ok_or("refused")?;
-            assert!(rt;
-                got.as_slice() == want.as_bytes(),
-                "{most} bytes by {grain}"
-            );
+        for (most, want) in FRONTS {
+            let is_read = reads(&rt, rt.alloc(), "one", most, by(grain), Some(want))?;
+            assert!(rt; is_read, "{most} bytes by {grain}");
         }
     }
     Ok(())
 }
 
-fn is_read_fault(
-    rt: &impl Abort,
-    alloc: Global,
-    name: &str,
-    most: u32,
-    way: Way,
-) -> Result<bool, AllocError> {
-    match read_job(rt, alloc, name, most, way)? {
-        Ok(_) => Ok(false),
-        Err(refusal) => Ok(refusal == ReadRefusal::ReadFault),
-    }
+fn job(is_read: bool) -> Option<&'static str> {
+    if is_read { Some("showpage") } else { None }
 }
 
 #[test]
@@ -75,38 +64,24 @@ fn each_read_fails_in_turn(rt: HostRuntime) -> Result<(), Fail> {
             call: Some(call),
             ..by(3)
         };
-        let fails = is_read_fault(&rt, rt.alloc(), "one", 100, way)?;
-        assert!(rt; fails == (call < 5), "call {call}");
+        assert!(rt; reads(&rt, rt.alloc(), "one", 100, way, job(call == 5))?, "call {call}");
     }
     for place in 0..10 {
         let way = Way {
             fails_at: Some(place),
             ..by(3)
         };
-        let fails = is_read_fault(&rt, rt.alloc(), "one", 100, way)?;
-        assert!(rt; fails == (place < 9), "at {place}");
+        assert!(rt; reads(&rt, rt.alloc(), "one", 100, way, job(place == 9))?, "at {place}");
+        // What is wanted lies before the place.
+        assert!(rt; reads(&rt, rt.alloc(), "one", 8, way, job(place > 7))?, "before {place}");
     }
     Ok(())
 }
 
 #[test]
-fn bytes_before_the_place_that_fails_are_read(rt: HostRuntime) -> Result<(), Fail> {
-    let way = Way {
-        fails_at: Some(8),
-        ..by(3)
-    };
-    assert!(rt; !is_read_fault(&rt, rt.alloc(), "one", 8, way)?);
-    assert!(rt; is_read_fault(&rt, rt.alloc(), "one", 9, way)?);
-    Ok(())
-}
-
-#[test]
 fn a_missing_file_is_a_fault_and_an_empty_one_is_none(rt: HostRuntime) -> Result<(), Fail> {
-    assert!(rt; is_read_fault(&rt, rt.alloc(), "plate", 9, by(10))?);
-    let empty = read_job(&rt, rt.alloc(), "empty", 9, by(10))?
-        .ok()
-        .ok_or("refused")?;
-    assert!(rt; empty.is_empty());
+    assert!(rt; reads(&rt, rt.alloc(), "plate", 9, by(10), None)?);
+    assert!(rt; reads(&rt, rt.alloc(), "empty", 9, by(10), Some(""))?);
     Ok(())
 }
 
@@ -131,27 +106,25 @@ fn names_are_compared_whole(rt: HostRuntime) -> Result<(), Fail> {
     Ok(())
 }
 
-fn head_of_endless(alloc: Global, most: u32) -> Result<Option<Vec<u8>>, AllocError> {
-    let mut tray = EndlessTray::new(bytes_of(alloc, b"P5")?, b' ');
-    match read_file(alloc, &mut tray, "any", most) {
-        Ok(bytes) => Ok(Some(bytes.into_vec())),
-        Err(_) => Ok(None),
-    }
+fn is_head_and_spaces(bytes: &[u8], most: u32) -> bool {
+    let spaces = bytes.iter().filter(|byte| **byte == b' ').count();
+    bytes.len() == most as usize && bytes.starts_with(b"P5") && spaces + 2 == bytes.len()
 }
 
-fn spaces_of(bytes: &[u8]) -> usize {
-    bytes.iter().filter(|byte| **byte == b' ').count()
+// Whether the first bytes of an endless file, so many, are `P5` and spaces.
+fn is_endless(alloc: Global, most: u32) -> Result<bool, AllocError> {
+    let mut tray = EndlessTray::new(bytes_of(alloc, b"P5")?, b' ');
+    match read_file(alloc, &mut tray, "any", most) {
+        Ok(bytes) => Ok(is_head_and_spaces(bytes.as_slice(), most)),
+        Err(_) => Ok(false),
+    }
 }
 
 #[test]
 fn an_endless_file_gives_its_head_and_then_its_tail(rt: HostRuntime) -> Result<(), Fail> {
-    for (most, want) in [(1, "P"), (2, "P5"), (5, "P5   ")] {
-        let bytes = head_of_endless(rt.alloc(), most)?.ok_or("refused")?;
-        assert!(rt; bytes.as_slice() == want.as_bytes(), "{most}");
+    // The last row is one byte more than a job may have.
+    for most in [2, 5, 1_048_577] {
+        assert!(rt; is_endless(rt.alloc(), most)?, "{most}");
     }
-    // One byte more than a job may have.
-    let long = head_of_endless(rt.alloc(), 1_048_577)?.ok_or("refused")?;
-    assert!(rt; long.len() == 1_048_577);
-    assert!(rt; spaces_of(&long) == 1_048_575);
     Ok(())
 }
