@@ -7,7 +7,7 @@ use Rattle.page_model.specs.Conditions.{IsPlane}
 use Rattle.page_model.specs.declared.parts.Plane.{Plane}
 use Rattle.pgm_plates.specs.declared.plate.Plate.{Plate}
 use Rattle.pgm_plates.specs.Plates.{IsPlate}
-use Rattle.pgm_plates.specs.Limits.{most_samples}
+use Rattle.page_model.specs.Limits.{most_samples}
 
 turned_fit : (m : ℕ) (xs : List ℕ) → All (λ (s : ℕ). s ≤ m) (map (λ (s : ℕ). m - s) xs)
 turned_fit m xs = All-map (λ (s : ℕ). s ≤ m) (λ (s : ℕ). m - s) xs (λ k d here. omega arith)

@@ -4,7 +4,8 @@ use Rattle.pgm_plates.specs.declared.plate.Plate.{Plate}
 use Rattle.pgm_plates.specs.declared.plate.PlateFault.{PlateFault}
 use Rattle.pgm_plates.specs.declared.plate.PlateFault.TheVariants.{BadMagic, BadHeader, SideRange, TooManySamples, MaxvalRange, SampleAboveMaxval, Truncated, TrailingBytes}
 use Rattle.pgm_plates.specs.Header.{is_digit, IsGap, IsNumber, Numbers, IsHeader, IsShape, IsBegun}
-use Rattle.pgm_plates.specs.Limits.{most_samples, most_maxval, most_header}
+use Rattle.page_model.specs.Limits.{most_samples, most_maxval}
+use Rattle.pgm_plates.specs.Limits.{most_header}
 use Rattle.pgm_plates.specs.Plates.{IsSide, sample_bytes, raster, IsPlateFile}
 
 -- no shape of a header lies at the front of the bytes

@@ -10,7 +10,8 @@ use Rattle.pgm_plates.specs.declared.plate.PlateFault.TheVariants.{SampleAboveMa
 use Rattle.pgm_plates.specs.declared.plate.PlateRefusal.{PlateRefusal}
 use Rattle.pgm_plates.specs.declared.plate.PlateRefusal.TheVariants.{Fault, ReadFault, OutOfMemory}
 use Rattle.pgm_plates.specs.Header.{IsHeader}
-use Rattle.pgm_plates.specs.Limits.{most_samples, most_maxval, most_header}
+use Rattle.page_model.specs.Limits.{most_samples, most_maxval}
+use Rattle.pgm_plates.specs.Limits.{most_header}
 use Rattle.pgm_plates.specs.Plates.{IsSide, sample_bytes, sample_size, raster}
 use Rattle.pgm_plates.specs.Reading.{AreFew, AnswersPlate, AtEnd}
 use Rattle.pgm_plates.specs.Scanning.{IsClean}

@@ -9,7 +9,7 @@ use Rattle.pgm_plates.specs.declared.header.Header.{Header}
 use Rattle.pgm_plates.specs.declared.plate.PlateFault.{PlateFault}
 use Rattle.pgm_plates.specs.declared.plate.PlateFault.TheVariants.{BadMagic, BadHeader, SideRange, TooManySamples, MaxvalRange}
 use Rattle.pgm_plates.specs.Header.{IsGap, IsNumber, Numbers}
-use Rattle.pgm_plates.specs.Limits.{most_side, most_samples, most_maxval}
+use Rattle.page_model.specs.Limits.{most_side, most_samples, most_maxval}
 use Rattle.pgm_plates.specs.Plates.{IsSide}
 use Rattle.pgm_plates.specs.Faults.{NumberFault, Decides}
 use Rattle.pgm_plates.specs.Runs.{run}

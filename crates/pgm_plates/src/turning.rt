@@ -1,7 +1,7 @@
 ghost use Rattle.std.specs.Prelude.{◌≡◌, ◌*◌, ◌-◌, ◌≤◌, map};
 ghost use Rattle.std.specs.List.{All};
 ghost use Rattle.page_model.specs.Conditions.{IsPlane};
-ghost use Rattle.pgm_plates.specs.Limits.{most_samples, most_maxval};
+ghost use Rattle.page_model.specs.Limits.{most_samples, most_maxval};
 ghost use Rattle.pgm_plates.specs.Plates.{IsPlate};
 ghost use Rattle.pgm_plates.specs.Planes.{plane_of, plate_of};
 
