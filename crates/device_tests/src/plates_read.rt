@@ -164,7 +164,10 @@ fn judge_gaps(
     want: Option<PlateRefusal>,
 ) -> Result<(), AllocError> {
     for gap in gaps {
-        assert!(rt; refusal_with_gap(rt, alloc, place, *gap)? == want, "{place}");
+        assert!(rt;
+            refusal_with_gap(rt, alloc, place, *gap)? == want,
+            "{place}"
+        );
     }
     Ok(())
 }
@@ -348,7 +351,10 @@ const ABOVE: [(usize, PlateFault); 5] = [
 #[test]
 fn a_sample_is_judged_in_each_piece(rt: HostRuntime) -> Result<(), Fail> {
     for (count, want) in ABOVE {
-        assert!(rt; refusal_above(&rt, rt.alloc(), count)? == fault(want), "{count}");
+        assert!(rt;
+            refusal_above(&rt, rt.alloc(), count)? == fault(want),
+            "{count}"
+        );
     }
     Ok(())
 }

@@ -1,10 +1,10 @@
 use crate::fixtures::{Way, by, bytes_of, tray_of};
+use lists::list::List;
 use outside::distinct_names::have_distinct_names;
 use outside::endless_tray::EndlessTray;
 use outside::mem_file::MemFile;
 use outside::mem_tray::MemTray;
 use outside::reading::{ReadRefusal, read_file};
-use lists::list::List;
 use std::alloc::{AllocError, Global};
 use std::process::Abort;
 use std::test::Fail;
@@ -64,16 +64,25 @@ fn each_read_fails_in_turn(rt: HostRuntime) -> Result<(), Fail> {
             call: Some(call),
             ..by(3)
         };
-        assert!(rt; reads(&rt, rt.alloc(), "one", 100, way, job(call == 5))?, "call {call}");
+        assert!(rt;
+            reads(&rt, rt.alloc(), "one", 100, way, job(call == 5))?,
+            "call {call}"
+        );
     }
     for place in 0..10 {
         let way = Way {
             fails_at: Some(place),
             ..by(3)
         };
-        assert!(rt; reads(&rt, rt.alloc(), "one", 100, way, job(place == 9))?, "at {place}");
+        assert!(rt;
+            reads(&rt, rt.alloc(), "one", 100, way, job(place == 9))?,
+            "at {place}"
+        );
         // What is wanted lies before the place.
-        assert!(rt; reads(&rt, rt.alloc(), "one", 8, way, job(place > 7))?, "before {place}");
+        assert!(rt;
+            reads(&rt, rt.alloc(), "one", 8, way, job(place > 7))?,
+            "before {place}"
+        );
     }
     Ok(())
 }

@@ -1,5 +1,5 @@
 -- Files by name, after one or two changes.
-use Rattle.std.proofs.Common.{◌≡◌, ℕ, ◌+◌, List, [], ◌++◌, ◌∷◌, Option, Some, true, take, drop, length, ◌-◌, ◌≤◌, refl, ap, subst, append_assoc, sym, ◌∙◌}
+use Rattle.std.proofs.Common.{◌≡◌, ℕ, ◌+◌, List, [], ◌++◌, Option, Some, take, drop, length, ◌-◌, ◌≤◌, refl, ap, subst, append_assoc, sym, ◌∙◌}
 use Rattle.std.proofs.Math.Seq.{take-add}
 use Rattle.std.specs.Str.{bytes_eq}
 use Rattle.std.proofs.lemmas.List.{take_rest, take_all, append-nil}

@@ -1,12 +1,12 @@
 -- One call of a rack after another.
-use Rattle.std.proofs.Common.{◌≡◌, ℕ, ◌≤◌, ◌<◌, ◌⊎◌, ◌+◌, min, List, [], ◌++◌, ◌∷◌, take, length, Result, Ok, Err, IsTrue, IsFalse, rules, arith, inl, inr, refl, sym, ap, ◌∙◌, subst}
+use Rattle.std.proofs.Common.{◌≡◌, ℕ, ◌≤◌, ◌+◌, min, List, [], ◌++◌, ◌∷◌, take, length, Result, Ok, Err, IsTrue, arith, inl, inr, refl, sym, ap, ◌∙◌, subst}
 use Rattle.std.proofs.Math.Seq.{take-length, take-append-add}
 use Rattle.std.proofs.lemmas.List.{take-append-le, take_min, length-take-le}
 use Rattle.outside.specs.Causes.{Rose, Asks}
-use Rattle.outside.specs.Rack.{RackState, KeepsRack, Creates, Writes, Finishes, put}
+use Rattle.outside.specs.Rack.{RackState, KeepsRack, Creates, Writes, Finishes}
 use borrow.Rule.Slice.PartMut.{put_mid, post_of}
 use Rattle.std.proofs.Common.{append_assoc}
-use Rattle.outside.specs.Tray.{TrayState, KeepsTray, Reads}
+use Rattle.outside.specs.Tray.{TrayState, Reads}
 use Rattle.outside.specs.Reading.{Takes}
 use Rattle.outside.specs.Writing.{Grows, WritesOn, FillsFile, WritesFile}
 use Rattle.outside.proofs.Files.{grows_kept, grows_put, grows_then, grows_none}

@@ -1,5 +1,5 @@
 -- What a tray of endless files is.
-use Rattle.std.specs.Prelude.{ℕ, Bool, false, List, [], ◌++◌, drop, take, replicate, Option, None, ◌≤◌, length}
+use Rattle.std.specs.Prelude.{ℕ, Bool, false, List, [], ◌++◌, drop, take, replicate, None}
 use Rattle.outside.specs.Tray.{TrayState}
 
 pub record EndlessState : Type 0 where

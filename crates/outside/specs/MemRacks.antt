@@ -1,5 +1,5 @@
 -- What a rack in memory is, and what its calls do.
-use Rattle.std.specs.Prelude.{◌≡◌, ◌⊎◌, ℕ, ◌+◌, ◌-◌, ◌<◌, Bool, true, false, IsTrue, min, List, [], length, Option, Some, None, is_ok, is_err, not, Result, IfOk, OnOk, OnErr, IsSome}
+use Rattle.std.specs.Prelude.{◌≡◌, ℕ, ◌+◌, ◌<◌, Bool, true, false, IsTrue, min, List, [], length, Option, Some, None, is_ok, is_err, not, Result, IfOk, OnOk, OnErr, IsSome}
 use Rattle.outside.specs.declared.shelf.RackFile.{RackFile}
 use Rattle.outside.specs.Counts.{one_more, is_listed}
 use Rattle.outside.specs.Shelf.{files_of, name_of}

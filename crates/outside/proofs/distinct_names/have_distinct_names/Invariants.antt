@@ -1,4 +1,4 @@
-use Rattle.std.proofs.Common.{◌≡◌, ◌≢◌, ℕ, ◌<◌}
+use Rattle.std.proofs.Common.{◌≢◌, ℕ, ◌<◌}
 use Rattle.outside.specs.MemFiles.{file_at}
 use Rattle.outside.proofs.distinct_names.have_distinct_names.Given as goal
 

@@ -1,4 +1,4 @@
-use Rattle.std.proofs.Common.{rules, IsTrue, take, drop, length, ◌-◌, ◌≡◌, refl, ◌∙◌, arith}
+use Rattle.std.proofs.Common.{rules, IsTrue, take, drop, length, ◌-◌, refl, ◌∙◌, arith}
 use Rattle.outside.proofs.Files.{grows_none, grows_more, grows_all}
 use Rattle.outside.proofs.Steps.{write_failed}
 use Rattle.outside.proofs.writing.write_on.Goals as goal
