@@ -73,11 +73,9 @@ const SPELLINGS: [(&str, &str); 4] = [
 fn a_plate_is_written_in_its_canonical_spelling(rt: HostRuntime) -> Result<(), Fail> {
     for (text, want) in SPELLINGS {
         for grain in [1, 5, 4096] {
-            let (is_written, held) = written(&rt, rt.alloc(), text.as_bytes(), grain, 1000)?;
-            assert!(rt;
-                is_written && held.as_slice() == want.as_bytes(),
-                "{text} by {grain}"
-            );
+            let (bytes, want) = (text.as_bytes(), want.as_bytes());
+            let is = written(&rt, rt.alloc(), bytes, (grain, 1000), want)?;
+            assert!(rt; is == (true, true), "{text} by {grain}");
         }
     }
     Ok(())
@@ -86,7 +84,7 @@ fn a_plate_is_written_in_its_canonical_spelling(rt: HostRuntime) -> Result<(), F
 #[test]
 fn a_rack_without_room_holds_a_front_of_the_spelling(rt: HostRuntime) -> Result<(), Fail> {
     let whole = b"P5\n6 1\n255\n\x00\x00\x00\xff\xff\xff";
-    for room in 0..18 {
+    for room in 0..18u64 {
         let is = written(&rt, rt.alloc(), whole, (3, room), &whole[..room as usize])?;
         assert!(rt; is == (room == 17, true), "room {room}");
     }

@@ -16,7 +16,7 @@ fn gives(alloc: Global, mut tray: MemTray, name: &str, most: u32, want: Option<&
             Some(text) => bytes.as_slice() == text.as_bytes(),
             None => false,
         },
-        Err(refusal) => want.is_none() && refusal == ReadRefusal::ReadFault,
+        Err(refusal) => want.is_none() && matches!(refusal, ReadRefusal::ReadFault),
     }
 }
 

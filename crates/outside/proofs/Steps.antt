@@ -1,4 +1,4 @@
--- One call of a rack after another.
+-- One call of a rack or a tray after another.
 use Rattle.std.proofs.Common.{◌≡◌, ℕ, ◌≤◌, ◌+◌, min, List, [], ◌++◌, ◌∷◌, take, length, Result, Ok, Err, IsTrue, arith, inl, inr, refl, sym, ap, ◌∙◌, subst}
 use Rattle.std.proofs.Math.Seq.{take-length, take-append-add}
 use Rattle.std.proofs.lemmas.List.{take-append-le, take_min, length-take-le}
@@ -6,13 +6,16 @@ use Rattle.outside.specs.Causes.{Rose, Asks}
 use Rattle.outside.specs.Rack.{RackState, KeepsRack, Creates, Writes, Finishes}
 use borrow.Rule.Slice.PartMut.{put_mid, post_of}
 use Rattle.std.proofs.Common.{append_assoc}
-use Rattle.outside.specs.Tray.{TrayState, Reads}
+use Rattle.outside.specs.Tray.{TrayState, KeepsTray, Reads}
 use Rattle.outside.specs.Reading.{Takes}
 use Rattle.outside.specs.Writing.{Grows, WritesOn, FillsFile, WritesFile}
 use Rattle.outside.proofs.Files.{grows_kept, grows_put, grows_then, grows_none}
 
 pub kept_then : (a b c : RackState) → KeepsRack a b → KeepsRack b c → KeepsRack a c
 kept_then a b c one two = record { tells = two.tells ∙ one.tells; faults = omega arith }
+
+pub kept_tray : (a b c : TrayState) → KeepsTray a b → KeepsTray b c → KeepsTray a c
+kept_tray a b c one two = record { tells = two.tells ∙ one.tells; file = two.file ∙ one.file; faults = omega arith }
 
 -- A rise later on is a rise from the beginning.
 pub rose_before : (a b c : ℕ) → a ≤ b → Rose b c → Rose a c
@@ -143,7 +146,7 @@ writes_as {T} {E} p q same a b r wrote = subst (λ (x : List ℕ). WritesOn {T =
 -- One read after another.
 pub takes_then : (p q : List ℕ) (a b c : TrayState) → Takes p a b → Takes q b c → Takes (p ++ q) a c
 takes_then p q a b c one two = record {
-  keeps = record { tells = two.keeps.tells ∙ one.keeps.tells; file = two.keeps.file ∙ one.keeps.file; faults = omega arith };
+  keeps = kept_tray a b c one.keeps two.keeps;
   asked = two.asked ∙ one.asked;
   begun = two.begun;
   taken = λ tells. one.taken tells ∙ ap (λ (x : List ℕ). p ++ x) (two.taken (one.keeps.tells ∙ tells)) ∙ sym (append_assoc p q c.left);

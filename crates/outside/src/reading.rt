@@ -10,7 +10,7 @@ use std::alloc::Global;
 use thiserror::Error;
 
 /// Why a file is not read whole.
-#[derive(Clone, Copy, Debug, Drop, Error, PartialEq, Eq)]
+#[derive(Clone, Copy, Debug, Drop, Error)]
 pub enum ReadRefusal {
     /// The tray has a fault.
     #[error("the file could not be read")]

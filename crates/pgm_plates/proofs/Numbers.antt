@@ -2,6 +2,7 @@
 use Rattle.std.proofs.Common.{◌≡◌, ◌⊎◌, ℕ, zero, suc, ◌<◌, ◌≤◌, ◌*◌, min, true, false, cond, ltb, leb, ◌&&◌, List, [], ◌∷◌, ◌++◌, length, Some, None, refl, sym, ap, ◌∙◌, subst, inl, inr, arith}
 use Rattle.std.proofs.lemmas.Bool.Decides.{nat_tests}
 use Rattle.std.proofs.lemmas.List.{same_from_push}
+use Rattle.lists.proofs.FirstSome.{some_is_none}
 use Rattle.pgm_plates.specs.declared.stand.Stand.TheVariants.{Start, Digits}
 use Rattle.pgm_plates.specs.declared.header.Sides.{Sides}
 use Rattle.pgm_plates.specs.declared.header.Sides.TheVariants.{Neither, Width, Both}
@@ -46,20 +47,17 @@ side_is n h = grind (arith, nat_tests)
 side_isnt : (n : ℕ) → side_test n ≡ false → IsSide n → ⊥
 side_isnt n h is = grind (arith, nat_tests, is.0, is.1)
 
-no_some : {X : Type 0} (x : X) → Some x ≡ None → ⊥
-no_some x e = cc
-
 -- a number in range is the one that was kept
 pub kept_number : (sides : Sides) (n first : ℕ) → number_fault sides (min n 1000000) first ≡ None → min n 1000000 ≡ n
 kept_number Neither n first none =
     elim (chosen (side_test (min n 1000000)) None (Some (SideRange first)) None none) [
       | inl h ↦ let is = side_is (min n 1000000) h.0 in omega (arith, is.1)
-      | inr h ↦ absurd (no_some (SideRange first) h.1)
+      | inr h ↦ absurd (some_is_none (SideRange first) h.1)
     ]
 kept_number (Width w) n first none =
     elim (chosen (side_test (min n 1000000)) (cond (leb (w * min n 1000000) 160000000) None (Some (TooManySamples first))) (Some (SideRange first)) None none) [
       | inl h ↦ let is = side_is (min n 1000000) h.0 in omega (arith, is.1)
-      | inr h ↦ absurd (no_some (SideRange first) h.1)
+      | inr h ↦ absurd (some_is_none (SideRange first) h.1)
     ]
 kept_number (Both w g) n first none = grind (arith, nat_tests)
 
@@ -68,15 +66,15 @@ pub accepted : (sides : Sides) (n first : ℕ) → number_fault sides n first �
 accepted Neither n first none range =
     elim (chosen (side_test n) None (Some (SideRange first)) None none) [
       | inl h ↦ side_is n h.0
-      | inr h ↦ absurd (no_some (SideRange first) h.1)
+      | inr h ↦ absurd (some_is_none (SideRange first) h.1)
     ]
 accepted (Width w) n first none range =
     elim (chosen (side_test n) (cond (leb (w * n) 160000000) None (Some (TooManySamples first))) (Some (SideRange first)) None none) [
       | inl h ↦ elim (chosen (leb (w * n) 160000000) None (Some (TooManySamples first)) None h.1) [
         | inl k ↦ (range, side_is n h.0, grind (arith, nat_tests, k.0))
-        | inr k ↦ absurd (no_some (TooManySamples first) k.1)
+        | inr k ↦ absurd (some_is_none (TooManySamples first) k.1)
       ]
-      | inr h ↦ absurd (no_some (SideRange first) h.1)
+      | inr h ↦ absurd (some_is_none (SideRange first) h.1)
     ]
 accepted (Both w h) n first none range = range
 

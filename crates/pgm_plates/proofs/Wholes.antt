@@ -7,7 +7,7 @@ use Rattle.outside.specs.declared.tray.Failed.{Failed}
 use Rattle.outside.specs.Causes.{Asks}
 use Rattle.outside.specs.Tray.{TrayState, KeepsTray, Begins}
 use Rattle.outside.specs.Reading.{Takes}
-use Rattle.outside.proofs.Steps.{takes_then, rose_before}
+use Rattle.outside.proofs.Steps.{kept_tray, takes_then, rose_before}
 use Rattle.pgm_plates.specs.declared.stand.Stand.TheVariants.{Start, Ended}
 use Rattle.pgm_plates.specs.declared.plate.Plate.{Plate}
 use Rattle.pgm_plates.specs.declared.plate.PlateFault.TheVariants.{BadMagic, BadHeader, SideRange, TooManySamples, MaxvalRange, SampleAboveMaxval, Truncated, TrailingBytes}
@@ -307,7 +307,7 @@ kept_count a b c (Err (Fault (TrailingBytes at))) before count = count ∙ befor
 
 pub begun_then : (name : List ℕ) (a b c : TrayState) (x : Unit {0}) (result : Result Plate PlateRefusal) → Begins {E = Failed} name a b (Ok x) → Answers b c result → KeepsCount b c result → ReadsPlate name a c result
 begun_then name a b c x result begun answers count = record {
-  keeps = record { tells = answers.takes.keeps.tells ∙ begun.keeps.tells; file = answers.takes.keeps.file ∙ begun.keeps.file; faults = omega (arith, answers.takes.keeps.faults, begun.keeps.faults) };
+  keeps = kept_tray a b c begun.keeps answers.takes.keeps;
   asked = subst (λ o. Asks a.asked o (name ∷ [])) (sym answers.takes.asked) begun.asked;
   bytes = answers.bytes;
   taken = λ is tells. begun.left tells ∙ ap (λ (x : List ℕ). Some x) (answers.takes.taken (begun.keeps.tells ∙ tells));
