@@ -8,10 +8,10 @@ row tints = record { width = 6; height = 1; maxval = 255; tints = tints }
 
 -- cyan beside magenta, as they come and with a trap of a sample on either side
 abbrev sheet : List Plane
-sheet = row (0 ∷ 0 ∷ 0 ∷ 255 ∷ 255 ∷ 255 ∷ []) ∷ row (255 ∷ 255 ∷ 255 ∷ 0 ∷ 0 ∷ 0 ∷ []) ∷ []
+sheet = row (255 ∷ 255 ∷ 255 ∷ 0 ∷ 0 ∷ 0 ∷ []) ∷ row (0 ∷ 0 ∷ 0 ∷ 255 ∷ 255 ∷ 255 ∷ []) ∷ []
 
 abbrev trapped : List Plane
-trapped = row (0 ∷ 0 ∷ 255 ∷ 255 ∷ 255 ∷ 255 ∷ []) ∷ row (255 ∷ 255 ∷ 255 ∷ 255 ∷ 0 ∷ 0 ∷ []) ∷ []
+trapped = row (255 ∷ 255 ∷ 255 ∷ 255 ∷ 0 ∷ 0 ∷ []) ∷ row (0 ∷ 0 ∷ 255 ∷ 255 ∷ 255 ∷ 255 ∷ []) ∷ []
 
 pub nothing_at_rest : risk sheet 0 ≡ 0
 nothing_at_rest = refl
