@@ -1,0 +1,8 @@
+use Rattle.plane_shapes.proofs.ShapeLemmas.{page_shape, trapped_shape}
+use Rattle.plane_shapes.proofs.laws.page_planes_law.Goals as goal
+
+pub returns : goal.returns
+returns c = record {
+  before = page_shape c.args.page.now c.plates-valid.ensures.valid;
+  after = trapped_shape c.args.page.now c.plates-valid.ensures.valid;
+}

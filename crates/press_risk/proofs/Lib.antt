@@ -1,0 +1,7 @@
+mod WorkedSheets
+pub mod RiskLaws
+pub mod WindowLemmas
+pub mod RowLemmas
+pub mod PlateLemmas
+pub mod CountLemmas
+pub mod SmallSheets

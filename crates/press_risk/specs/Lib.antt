@@ -1,0 +1,3 @@
+pub mod Risk
+pub mod Sides
+pub mod Sweep

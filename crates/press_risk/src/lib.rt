@@ -1,0 +1,14 @@
+//! How many samples of a page misregister could leave bare: plates that shift, each by itself, up to a radius.
+#![tactic(auto)]
+
+mod count;
+pub mod laws;
+mod plate;
+mod room;
+mod row;
+pub mod sheet;
+#[cfg(test)]
+mod tests;
+
+pub use count::risk_count;
+pub use room::RiskBuf;

@@ -1,0 +1,3 @@
+mod WorkedSets
+pub mod RunLemmas
+pub mod SetLemmas

@@ -1,0 +1,5 @@
+use Rattle.trap_set.proofs.RunLemmas.{twice}
+use Rattle.trap_set.proofs.laws.twice_law.Goals as goal
+
+pub returns : goal.returns
+returns c = λ runs. twice runs c.args.planes.now

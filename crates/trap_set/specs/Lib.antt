@@ -1,0 +1,4 @@
+pub mod Applied
+pub mod Lines
+pub mod Runs
+pub mod SetText
