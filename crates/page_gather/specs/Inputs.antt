@@ -17,6 +17,9 @@ pub record Sources : Type 0 where
   pub names : List (List ℕ)
   pub inputs : List (List ℕ)
 
+abbrev pub sources : List ℕ → List (List ℕ) → List (List ℕ) → Sources
+sources job names inputs = record { job = job; names = names; inputs = inputs }
+
 -- all files that are read, the job first
 abbrev pub read_files : Sources → List (List ℕ)
 read_files source = source.job ∷ source.inputs

@@ -35,7 +35,9 @@ pub fn assemble(
 ) -> Result<Page, Refusal>
     requires job { IsJob job }
     requires plates { CanAssemble plates names.now }
-    ensures { MatchResult result (λ page. assembly job plates names.now ≡ Ok page) (λ refusal. (refusal ≡ Refusal.Memory) ⊎ (assembly job plates names.now ≡ Err refusal)) }
+    ensures { let made = assembly job plates names.now in
+        MatchResult result (λ page. made ≡ Ok page)
+            (λ refusal. (refusal ≡ Refusal.Memory) ⊎ (made ≡ Err refusal)) }
 {
     if let Some(plate) = without_details(&job, names) {
         return Err(Refusal::NoDetails(plate));
@@ -159,7 +161,8 @@ fn ink_of(alloc: Global, details: &DetailList, name: &[u8]) -> Result<Ink, OutOf
 }
 
 fn make_ink(alloc: Global, name: &[u8], density: u32, kind: InkKind) -> Result<Ink, OutOfMemory>
-    ensures { IfOk result (λ ink. ink ≡ record { name = name.now; density = density; kind = kind }) }
+    ensures { IfOk result (λ ink.
+        ink ≡ record { name = name.now; density = density; kind = kind }) }
 {
     let mut copy: Vec<u8> = Vec::new(alloc);
     if copy.extend_from_slice(name).is_err() {

@@ -1,6 +1,7 @@
 ghost use Rattle.std.specs.Prelude.{◌≡◌, ◌≤◌, ℕ, List, length, map};
 ghost use Rattle.job_reader.specs.InRange.{IsJob};
 ghost use Rattle.page_gather.specs.Gathering.{Gathers, GathersRest};
+ghost use Rattle.page_gather.specs.Inputs.{sources};
 
 use crate::assemble::assemble;
 use crate::job::read_job_file;
@@ -28,7 +29,8 @@ pub fn gather<T: Tray, S: AsStr>(
     requires some { 1 ≤ length inputs.now }
     requires few { length inputs.now ≤ 16 }
     requires named { length names.now ≡ length inputs.now }
-    ensures { Gathers (record { job = job.now; names = names.now; inputs = map S.text inputs.now }) (T.state tray.old) (T.state tray.new) result }
+    ensures { Gathers (sources job.now names.now (map S.text inputs.now)) (T.state tray.old)
+        (T.state tray.new) result }
 {
     match read_job_file(alloc, tray, job) {
         Ok(read) => gather_plates(alloc, tray, read, names, inputs),
@@ -48,7 +50,8 @@ fn gather_plates<T: Tray, S: AsStr>(
     requires few { length inputs.now ≤ 16 }
     requires named { length names.now ≡ length inputs.now }
     requires job { IsJob job }
-    ensures { (name : List ℕ) → GathersRest (record { job = name; names = names.now; inputs = map S.text inputs.now }) job (T.state tray.old) (T.state tray.new) result }
+    ensures { (name : List ℕ) → GathersRest (sources name names.now (map S.text inputs.now)) job
+        (T.state tray.old) (T.state tray.new) result }
 {
     match read_plates(alloc, tray, inputs) {
         Ok(plates) => assemble(alloc, job, plates, names),

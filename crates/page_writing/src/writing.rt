@@ -33,7 +33,8 @@ pub fn write_page<R: Rack, S: AsStr>(
     requires count { length planes ≡ length names.now }
     requires planes { All IsPlane planes }
     requires samples { All (λ plane. plane.width * plane.height ≤ most_samples) planes }
-    ensures { WritesPage (map S.text names.now) planes report.now text.now (R.state rack.old) (R.state rack.new) result }
+    ensures { WritesPage (map S.text names.now) planes report.now text.now (R.state rack.old)
+        (R.state rack.new) result }
 {
     match write_plates(rack, names, planes) {
         Ok(()) => match write_file(rack, report, text) {
@@ -55,7 +56,8 @@ pub fn write_plates<R: Rack, S: AsStr>(
     requires count { length planes ≡ length names.now }
     requires planes { All IsPlane planes }
     requires samples { All (λ plane. plane.width * plane.height ≤ most_samples) planes }
-    ensures { WritesPlates (map S.text names.now) planes (R.state rack.old) (R.state rack.new) result }
+    ensures { WritesPlates (map S.text names.now) planes (R.state rack.old)
+        (R.state rack.new) result }
 {
     let planes = planes.into_vec();
     let mut place = 0usize;
@@ -71,7 +73,8 @@ pub fn write_plates<R: Rack, S: AsStr>(
 fn write_plane<R: Rack>(rack: &mut R, name: &str, plane: Plane) -> Result<(), Failed>
     requires plane { IsPlane plane }
     requires samples { plane.width * plane.height ≤ most_samples }
-    ensures { WritesFile name.now (spelled (plate_of plane)) (R.state rack.old) (R.state rack.new) result }
+    ensures { WritesFile name.now (spelled (plate_of plane)) (R.state rack.old)
+        (R.state rack.new) result }
 {
     let plate = Plate::of_plane(plane);
     write_plate(rack, name, &plate)

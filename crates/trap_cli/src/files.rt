@@ -29,7 +29,8 @@ pub(crate) fn inputs_of<'a>(
     alloc: Global,
     plates: &[PlateWord<'a>],
 ) -> Result<Vec<&'a str>, OutOfMemory>
-    ensures { IfOk result (λ files. map (λ file. file.now) files.items ≡ inputs_meant (plates_in plates.now)) }
+    ensures { let named = inputs_meant (plates_in plates.now) in
+        IfOk result (λ files. map (λ file. file.now) files.items ≡ named) }
 {
     let mut files = Vec::new(alloc);
     for plate in plates {
@@ -45,7 +46,8 @@ pub(crate) fn outputs_of<'a>(
     alloc: Global,
     plates: &[PlateWord<'a>],
 ) -> Result<Vec<&'a str>, OutOfMemory>
-    ensures { IfOk result (λ files. map (λ file. file.now) files.items ≡ outputs_meant (plates_in plates.now)) }
+    ensures { let named = outputs_meant (plates_in plates.now) in
+        IfOk result (λ files. map (λ file. file.now) files.items ≡ named) }
 {
     let mut files = Vec::new(alloc);
     for plate in plates {

@@ -27,7 +27,9 @@ pub(crate) fn run_page<T: Tray, R: Rack>(
     rack: &mut R,
 ) -> u8
     requires { IsPageWithin command.now }
-    ensures { EndsPage (Unit {0}) (sources_of (page_in command.now)) (targets_of (page_in command.now)) (T.state tray.old) (T.state tray.new) (R.state rack.old) (R.state rack.new) result }
+    ensures { let page = page_in command.now in
+        EndsPage (Unit {0}) (sources_of page) (targets_of page) (T.state tray.old)
+            (T.state tray.new) (R.state rack.old) (R.state rack.new) result }
 {
     match carry_out(alloc, command, tray, rack) {
         Ok(()) => DONE,
@@ -43,7 +45,9 @@ fn carry_out<T: Tray, R: Rack>(
     rack: &mut R,
 ) -> Result<(), Refusal>
     requires { IsPageWithin command.now }
-    ensures { CarriesOut (sources_of (page_in command.now)) (targets_of (page_in command.now)) (T.state tray.old) (T.state tray.new) (R.state rack.old) (R.state rack.new) result }
+    ensures { let page = page_in command.now in
+        CarriesOut (sources_of page) (targets_of page) (T.state tray.old) (T.state tray.new)
+            (R.state rack.old) (R.state rack.new) result }
 {
     match read_page(alloc, command, tray) {
         Ok(page) => put_out(alloc, command, &page, rack),
@@ -58,7 +62,8 @@ fn read_page<T: Tray>(
     tray: &mut T,
 ) -> Result<Page, Refusal>
     requires { IsPageWithin command.now }
-    ensures { ReadsPage (sources_of (page_in command.now)) (T.state tray.old) (T.state tray.new) result }
+    ensures { let source = sources_of (page_in command.now) in
+        ReadsPage source (T.state tray.old) (T.state tray.new) result }
 {
     let words = command.plates.as_slice();
     match (names_of(alloc, words), inputs_of(alloc, words)) {
@@ -76,7 +81,8 @@ fn put_out<R: Rack>(
 ) -> Result<(), Refusal>
     requires within { IsPageWithin command.now }
     requires count { plates page.now ≡ vec_len command.now.plates }
-    ensures { PutsOut (targets_of (page_in command.now)) page.now (R.state rack.old) (R.state rack.new) result }
+    ensures { let target = targets_of (page_in command.now) in
+        PutsOut target page.now (R.state rack.old) (R.state rack.new) result }
 {
     let _valid = page.plates();
     let words = command.plates.as_slice();

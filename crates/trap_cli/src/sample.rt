@@ -43,7 +43,8 @@ fn sample_report(alloc: Global, command: SampleCommand) -> Result<Name, Refusal>
 
 // The report of a page after trapping.
 fn page_report(alloc: Global, page: &Page) -> Result<Name, Refusal>
-    ensures { MatchResult result (λ text. text ≡ report_of page.now (page_counts page.now)) (λ refusal. refusal ≡ Refusal.Memory) }
+    ensures { let told = report_of page.now (page_counts page.now) in
+        MatchResult result (λ text. text ≡ told) (λ refusal. refusal ≡ Refusal.Memory) }
 {
     match outcome_of(alloc, page) {
         Ok(outcome) => Ok(outcome.report),

@@ -29,16 +29,23 @@ pub fn trap_main<T: Tray, R: Rack>(
     tray: &mut T,
     rack: &mut R,
 ) -> u8
-    ensures success { Success (map string_bytes words.now) (T.state tray.old) (T.state tray.new) (R.state rack.old) (R.state rack.new) result }
-    ensures usage { Usage (map string_bytes words.now) (T.state tray.old) (T.state tray.new) (R.state rack.old) (R.state rack.new) result }
-    ensures refused_input { RefusedInput (map string_bytes words.now) (T.state tray.old) (T.state tray.new) (R.state rack.old) (R.state rack.new) result }
-    ensures read_fault { ReadFault (map string_bytes words.now) (T.state tray.old) (T.state tray.new) (R.state rack.old) (R.state rack.new) result }
-    ensures write_fault { WriteFault (map string_bytes words.now) (T.state tray.old) (R.state rack.old) (R.state rack.new) result }
+    ensures success { Success (map string_bytes words.now) (T.state tray.old) (T.state tray.new)
+        (R.state rack.old) (R.state rack.new) result }
+    ensures usage { Usage (map string_bytes words.now) (T.state tray.old) (T.state tray.new)
+        (R.state rack.old) (R.state rack.new) result }
+    ensures refused_input { RefusedInput (map string_bytes words.now) (T.state tray.old)
+        (T.state tray.new) (R.state rack.old) (R.state rack.new) result }
+    ensures read_fault { ReadFault (map string_bytes words.now) (T.state tray.old)
+        (T.state tray.new) (R.state rack.old) (R.state rack.new) result }
+    ensures write_fault { WriteFault (map string_bytes words.now) (T.state tray.old)
+        (R.state rack.old) (R.state rack.new) result }
     ensures memory { LeavesFiles (R.state rack.old) (R.state rack.new) result }
     ensures fault_line { FaultLine (R.state rack.old) (R.state rack.new) result }
     ensures locality { Locality (map string_bytes words.now) (T.state tray.old) }
-    ensures sample { SamplePage (map string_bytes words.now) (T.state tray.old) (T.state tray.new) (R.state rack.old) (R.state rack.new) result }
-    ensures completeness { Completeness (map string_bytes words.now) (T.state tray.old) (T.state tray.new) (R.state rack.old) (R.state rack.new) result }
+    ensures sample { SamplePage (map string_bytes words.now) (T.state tray.old) (T.state tray.new)
+        (R.state rack.old) (R.state rack.new) result }
+    ensures completeness { Completeness (map string_bytes words.now) (T.state tray.old)
+        (T.state tray.new) (R.state rack.old) (R.state rack.new) result }
 {
     not_both();
     one_plate();
@@ -47,7 +54,8 @@ pub fn trap_main<T: Tray, R: Rack>(
 }
 
 fn run<T: Tray, R: Rack>(alloc: Global, words: &[String], tray: &mut T, rack: &mut R) -> u8
-    ensures { Ends (Unit {0}) (map string_bytes words.now) (T.state tray.old) (T.state tray.new) (R.state rack.old) (R.state rack.new) result }
+    ensures { Ends (Unit {0}) (map string_bytes words.now) (T.state tray.old) (T.state tray.new)
+        (R.state rack.old) (R.state rack.new) result }
 {
     match read_words(alloc, words) {
         Ok(Some(Command::Page(page))) => run_page(alloc, &page, tray, rack),

@@ -48,7 +48,8 @@ fn add_page(text: &mut Vec<u8>, page: &Page) -> Result<(), AllocError>
 
 fn add_zones(text: &mut Vec<u8>, page: &Page, counts: &Counts) -> Result<(), AllocError>
     requires { AreCounts page.now counts.now }
-    ensures { OnOk result (text.new.items ≡ text.old.items ++ zone_lines counts.now (length page.now.zones)) }
+    ensures { let lines = zone_lines counts.now (length page.now.zones) in
+        OnOk result (text.new.items ≡ text.old.items ++ lines) }
 {
     let samples = counts.zone_samples.as_slice();
     let changed = counts.zone_changed.as_slice();
@@ -69,7 +70,8 @@ fn add_zone(text: &mut Vec<u8>, zone: u64, samples: u64, changed: u64) -> Result
 
 fn add_plates(text: &mut Vec<u8>, page: &Page, counts: &Counts) -> Result<(), AllocError>
     requires { AreCounts page.now counts.now }
-    ensures { OnOk result (text.new.items ≡ text.old.items ++ plate_lines page.now counts.now (plates page.now)) }
+    ensures { let lines = plate_lines page.now counts.now (plates page.now) in
+        OnOk result (text.new.items ≡ text.old.items ++ lines) }
 {
     let changed = counts.plate_changed.as_slice();
     for plate in 0..page.plates() {
