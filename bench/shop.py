@@ -2,13 +2,14 @@
 """Times the program on a page as a shop has it: A4 at 600 pixels per inch in four inks, three zones.
 
     bench/shop.py [--width 4961] [--height 7016] [--seed 1] [--maxval 255] [--trap-width 0.25] [--runs 5]
-                  [--options WORDS] [--million] [--keep FOLDER] [--program FILE]
+                  [--options WORDS] [--million] [--keep FOLDER] [--program FILE] [--beside FILE]
 
 It prints the least time of the whole run, of the same plates under a job that traps nothing, and of `cat` of the same files,
 the two ratios, the samples a second and the peak memory; each by the time that passed and by that of the processors. With
 --million it also times a page of a million samples, and prints the ratio of their times for each sample. --options are words
 that are passed to the program before the job, as --options='--workers 1'. --keep leaves the plates and what came of them in a
-folder.
+folder. --beside times another program that takes the same words, by turns with this one, and prints the ratio of the two whole
+runs and of the two runs that trap nothing.
 """
 import argparse
 import math
@@ -18,7 +19,7 @@ import tempfile
 import time
 
 from shop_page import INKS, job, make_plates
-from timing import NO_TRAPS, PROGRAM, cat, least
+from timing import NO_TRAPS, PROGRAM, cat, least_by_turns
 
 
 def write(path, data):
@@ -43,14 +44,23 @@ def time_page(asked, folder, width, height):
     jobs = [write(os.path.join(folder, name), text)
             for name, text in (("job", job(width, height, asked.trap_width)), ("no-traps.job", NO_TRAPS))]
     words = ["%s:%s:%s" % (name, plates[name], outs[name]) for name in INKS]
-    commands = [[asked.program, "page", *asked.options.split(), name, report, *words] for name in jobs]
+    programs = [asked.program] + ([asked.beside] if asked.beside else [])
+    commands = [[program, "page", *asked.options.split(), name, report, *words] for name in jobs for program in programs]
     copying = cat([(plates[name], outs[name]) for name in INKS])
-    copied, passed, whole = (least(asked.runs, command, list(outs.values()) + [report])
-                             for command in (copying, commands[1], commands[0]))
+    copied, *results = least_by_turns(asked.runs, [copying] + commands, list(outs.values()) + [report])
+    whole, passed = results[0], results[len(programs)]
     print("%d by %d samples in %d inks, maxval %d, TrapWidth %s, seed %d; made in %.1f s; %d edges call for a trap"
           % (width, height, len(INKS), asked.maxval, asked.trap_width, asked.seed, making, edges_in(report)))
     print_figures(width * height, copied, passed, whole)
+    if asked.beside:
+        print_beside(results[1], results[3], whole, passed)
     return whole
+
+
+def print_beside(their_whole, their_passed, whole, passed):
+    for name, ours, theirs in (("whole run", whole, their_whole), ("reading and writing alone", passed, their_passed)):
+        print("  %-26s %7.0f ms by the other program, peak %4.0f MB: ratio %.2f, of processors %.2f"
+              % (name, theirs.seconds * 1e3, theirs.peak_megabytes, ours.seconds / theirs.seconds, ours.worked / theirs.worked))
 
 
 def print_figures(samples, copied, passed, whole):
@@ -80,6 +90,7 @@ def arguments():
     parser.add_argument("--million", action="store_true", help="also a page of a million samples")
     parser.add_argument("--keep", help="a folder for the plates and what came of them")
     parser.add_argument("--program", default=PROGRAM)
+    parser.add_argument("--beside", help="another program that takes the words of `trap page`")
     return parser.parse_args()
 
 

@@ -29,16 +29,23 @@ def timed(command):
     return Timed(seconds, used.ru_utime + used.ru_stime, used.ru_maxrss / 1024)
 
 
+def least_by_turns(runs, commands, made):
+    """For each of the commands the least times and the most memory of so many runs, in which they take turns, so that other
+    work on the machine falls on all alike. The files that they make are removed before each."""
+    results = [[] for _ in commands]
+    for _ in range(runs):
+        for command, told in zip(commands, results):
+            for path in made:
+                if os.path.exists(path):
+                    os.remove(path)
+            told.append(timed(command))
+    return [Timed(min(result.seconds for result in told), min(result.worked for result in told),
+                  max(result.peak_megabytes for result in told)) for told in results]
+
+
 def least(runs, command, made):
     """The least times and the most memory of so many runs. The files that it makes are removed before each."""
-    results = []
-    for _ in range(runs):
-        for path in made:
-            if os.path.exists(path):
-                os.remove(path)
-        results.append(timed(command))
-    return Timed(min(result.seconds for result in results), min(result.worked for result in results),
-                 max(result.peak_megabytes for result in results))
+    return least_by_turns(runs, [command], made)[0]
 
 
 def cat(pairs):

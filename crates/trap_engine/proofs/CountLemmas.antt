@@ -1,23 +1,24 @@
-use Rattle.std.proofs.Common.{◌≡◌, ℕ, zero, suc, ◌+◌, ◌*◌, ◌^◌, ◌<◌, ◌≤◌, Bool, true, false, ◌&&◌, ◌||◌, not, inl, inr, refl, sym, ◌∙◌, ap, arith, List, length, slice_index, slice_index_or, slice_set, if◌then◌else◌, add-one}
+-- Counts over the first samples of a page, one more sample or one more row at a time.
+use Rattle.std.proofs.Common.{◌≡◌, ℕ, zero, suc, ◌+◌, ◌*◌, ◌^◌, ◌<◌, ◌≤◌, Bool, true, false, ◌&&◌, not, inl, inr, refl, sym, ◌∙◌, ap, subst, arith, List, length, slice_index, slice_set, if◌then◌else◌, add-one, add-suc, add-zero}
 use Rattle.std.specs.Prelude.{◌==◌}
+use Rattle.std.proofs.Math.Nat.{mul-le-mul_left}
 use Rattle.std.proofs.lemmas.Bool.{cases_Bool, cases_eq, eq-eqb, eqb-true, false_from_ne_true}
-use Rattle.std.proofs.lemmas.List.{get_or-set_same, get_or-set_other}
+use Rattle.std.proofs.lemmas.List.{get_or-set_same, get_or-set_other, length-set}
 use Rattle.page_model.specs.declared.parts.At.{At}
 use Rattle.page_model.specs.declared.parts.PageParts.{PageParts}
-use Rattle.page_model.specs.declared.parts.Plane.{Plane}
 use Rattle.page_model.specs.Conditions.{IsPage}
-use Rattle.page_model.specs.Counts.{plate_changes, sample_changes, plate_changed, zone_samples, zone_changed}
-use Rattle.page_model.specs.Page.{plates, sample_at, samples, tint, width}
-use Rattle.page_model.specs.Planes.{no_plane, plane_at}
-use Rattle.page_model.specs.Tints.{new, trapped_planes}
+use Rattle.page_model.specs.Counts.{plate_changes, plate_changed, sample_changes, zone_changed, zone_samples}
+use Rattle.page_model.specs.Page.{height, plates, sample_at, samples, tint, width}
+use Rattle.page_model.specs.Tints.{new}
 use Rattle.page_model.specs.Zones.{zone_of}
 use Rattle.page_model.proofs.PageLemmas.{plane_of}
 use Rattle.page_model.proofs.ZoneLemmas.{zone_of-is}
-use Rattle.trap_engine.specs.Whole.{sample_changes_of}
-use Rattle.lists.proofs.ListBelow.{list_below-of}
-use Rattle.trap_engine.proofs.StandingLemmas.{place_sample_at}
-use Rattle.trap_engine.proofs.WholeLemmas.{trapped_planes-at, new_tints-at, new_tints-length}
-use Rattle.lists.specs.Words.{any_below, count_below}
+use Rattle.lists.specs.Words.{any_below, count_below, list_below}
+use Rattle.lists.proofs.ListBelow.{list_below-from}
+use Rattle.band_values.specs.Quiet.{KeepsTints}
+use Rattle.trap_engine.proofs.StandingLemmas.{next_row}
+use Rattle.trap_engine.proofs.ZoneRows.{numbered}
+use Rattle.trap_engine.specs.Standing.{ArePlatesCounted, AreZonesCounted}
 
 pub zone_known : (page : PageParts) (p : At) → IsPage page → zone_of page p < length page.zones
 zone_known page p valid = (zone_of-is page p valid).known
@@ -33,11 +34,24 @@ pub count_below-ext : (f g : ℕ → Bool) (n : ℕ) → ((k : ℕ) → k < n �
 count_below-ext f g zero h = refl
 count_below-ext f g (suc n) h = ap (λ (c : ℕ). c + (if f n then 1 else 0)) (count_below-ext f g n (λ k l. h k (omega (arith, l)))) ∙ ap (λ (b : Bool). count_below g n + (if b then 1 else 0)) (h n (omega arith))
 
+-- the first n, and then m more
+pub count_below-add : (f : ℕ → Bool) (n m : ℕ) → count_below f (n + m) ≡ count_below f n + count_below (λ k. f (n + k)) m
+count_below-add f n zero = rw add-zero (omega arith)
+count_below-add f n (suc m) = rw add-suc (omega (arith, count_below-add f n m))
+
+count_none : (f : ℕ → Bool) (m : ℕ) → ((k : ℕ) → k < m → f k ≡ false) → count_below f m ≡ 0
+count_none f zero h = refl
+count_none f (suc m) h = rw (h m (omega arith)) (omega (arith, count_none f m (λ k l. h k (omega (arith, l)))))
+
+-- a row of which none is counted
+row_none : (f : ℕ → Bool) (y w : ℕ) → ((x : ℕ) → x < w → f (y * w + x) ≡ false) → count_below f ((y + 1) * w) ≡ count_below f (y * w)
+row_none f y w h = ap (count_below f) (sym (next_row y w)) ∙ count_below-add f (y * w) w ∙ omega (arith, count_none (λ x. f (y * w + x)) w h)
+
 other : (a z : ℕ) → (z ≡ a → ⊥) → (a == z) ≡ false
 other a z ne = false_from_ne_true (a == z) (λ p. ne (sym (eqb-true _ _ p)))
 
 -- one more item is counted at its own number
-pub tallied : (of : ℕ → ℕ) (test : ℕ → Bool) (counts : List ℕ) (n k a v : ℕ) → a ≡ of k → length counts ≡ n → a < n → test k ≡ true → v ≡ slice_index counts a + 1 → ((z : ℕ) → z < n → slice_index counts z ≡ count_below (λ i. (of i == z) && test i) k) → (z : ℕ) → z < n → slice_index (slice_set counts a v) z ≡ count_below (λ i. (of i == z) && test i) (k + 1)
+tallied : (of : ℕ → ℕ) (test : ℕ → Bool) (counts : List ℕ) (n k a v : ℕ) → a ≡ of k → length counts ≡ n → a < n → test k ≡ true → v ≡ slice_index counts a + 1 → ((z : ℕ) → z < n → slice_index counts z ≡ count_below (λ i. (of i == z) && test i) k) → (z : ℕ) → z < n → slice_index (slice_set counts a v) z ≡ count_below (λ i. (of i == z) && test i) (k + 1)
 tallied of test counts n k a v ea long inside passes ev before z l = rw add-one (elim (cases_eq z a) [
   | inl e ↦ (let same : (of k == z) ≡ true = eq-eqb _ _ (sym ea ∙ sym e) in
       let old = before z l in
@@ -48,42 +62,14 @@ tallied of test counts n k a v ea long inside passes ev before z l = rw add-one 
 ])
 
 -- an item that does not pass is not counted
-pub passed_over : (of : ℕ → ℕ) (test : ℕ → Bool) (counts : List ℕ) (n k : ℕ) → test k ≡ false → ((z : ℕ) → z < n → slice_index counts z ≡ count_below (λ i. (of i == z) && test i) k) → (z : ℕ) → z < n → slice_index counts z ≡ count_below (λ i. (of i == z) && test i) (k + 1)
+passed_over : (of : ℕ → ℕ) (test : ℕ → Bool) (counts : List ℕ) (n k : ℕ) → test k ≡ false → ((z : ℕ) → z < n → slice_index counts z ≡ count_below (λ i. (of i == z) && test i) k) → (z : ℕ) → z < n → slice_index counts z ≡ count_below (λ i. (of i == z) && test i) (k + 1)
 passed_over of test counts n k fails before z l = rw add-one (before z l ∙ skip ((of k == z)) (test k) fails) where
   skip : (a b : Bool) → b ≡ false → count_below (λ i. (of i == z) && test i) k ≡ count_below (λ i. (of i == z) && test i) k + (if a && b then 1 else 0)
   skip true b e = rw e (omega arith)
   skip false b e = omega arith
 
--- the tints of a plate after and before
-pub tint_after : (page : PageParts) (planes : List Plane) (c k : ℕ) → planes ≡ trapped_planes page → c < plates page → k < samples page → slice_index (plane_at planes c).tints k ≡ new page (sample_at page k) c
-tint_after page planes c k e lc lk = ap (λ (ps : List Plane). slice_index (plane_at ps c).tints k) e ∙ ap (λ (p : Plane). slice_index p.tints k) (trapped_planes-at page c no_plane lc) ∙ new_tints-at page c k 0 lk
-
-pub long_after : (page : PageParts) (planes : List Plane) (c : ℕ) → planes ≡ trapped_planes page → c < plates page → length (plane_at planes c).tints ≡ samples page
-long_after page planes c e lc = ap (λ (ps : List Plane). length (plane_at ps c).tints) e ∙ ap (λ (p : Plane). length p.tints) (trapped_planes-at page c no_plane lc) ∙ new_tints-length page c
-
-pub long_before : (page : PageParts) (c : ℕ) → IsPage page → c < plates page → length (plane_at page.planes c).tints ≡ samples page
-long_before page c valid lc = (plane_of page c valid lc).full ∙ ap (λ (w : ℕ). w * (plane_at page.planes c).height) (valid.agree c lc).wide ∙ ap (λ (h : ℕ). width page * h) (valid.agree c lc).tall
-
-pub tint_before : (page : PageParts) (c k : ℕ) → slice_index (plane_at page.planes c).tints k ≡ tint page c (sample_at page k)
-tint_before page c k = ap (slice_index (plane_at page.planes c).tints) (sym (place_sample_at page k))
-
-pub ruleset before_reads = (long_before, tint_before)
-
-pub changed_here : (page : PageParts) (before after : List ℕ) (c k : ℕ) → slice_index before k ≡ tint page c (sample_at page k) → slice_index after k ≡ new page (sample_at page k) c → not (slice_index after k == slice_index before k) ≡ plate_changes page c (sample_at page k)
-changed_here page before after c k b a = ap (λ (n : ℕ). not (n == slice_index before k)) a ∙ ap (λ (n : ℕ). not (new page (sample_at page k) c == n)) b
-
-pub changed_count : (page : PageParts) (before after : List ℕ) (c n : ℕ) → n ≡ samples page → ((k : ℕ) → slice_index before k ≡ tint page c (sample_at page k)) → ((k : ℕ) → k < samples page → slice_index after k ≡ new page (sample_at page k) c) → count_below (λ k. not (slice_index after k == slice_index before k)) n ≡ plate_changed page c
-changed_count page before after c n en b a = ap (count_below (λ k. not (slice_index after k == slice_index before k))) en ∙ count_below-ext (λ k. not (slice_index after k == slice_index before k)) (λ k. plate_changes page c (sample_at page k)) (samples page) (λ k lk. changed_here page before after c k (b k) (a k lk))
-
-pub noted : (page : PageParts) (before after : List ℕ) (old new_changes : List Bool) (c n : ℕ) → n ≡ samples page → ((k : ℕ) → slice_index before k ≡ tint page c (sample_at page k)) → ((k : ℕ) → k < samples page → slice_index after k ≡ new page (sample_at page k) c) → ((k : ℕ) → k < n → slice_index_or new_changes k false ≡ (slice_index_or old k false || not (slice_index after k == slice_index before k))) → ((k : ℕ) → k < samples page → slice_index_or old k false ≡ any_below (λ c. plate_changes page c (sample_at page k)) c) → (k : ℕ) → k < samples page → slice_index_or new_changes k false ≡ any_below (λ c. plate_changes page c (sample_at page k)) (c + 1)
-noted page before after old new_changes c n en b a step so_far k l = rw add-one (step k (omega (arith, en, l)) ∙ ap (λ (x : Bool). x || not (slice_index after k == slice_index before k)) (so_far k l) ∙ ap (λ (x : Bool). any_below (λ c. plate_changes page c (sample_at page k)) c || x) (changed_here page before after c k (b k) (a k l)))
-
 pub count_fits : (counts : List ℕ) (a k : ℕ) (test : ℕ → Bool) → k ≤ 2 ^ 28 → slice_index counts a ≡ count_below test k → slice_index counts a + 1 < 2 ^ 64
 count_fits counts a k test few e = omega (arith, count_below-le test k, few, e)
-
-pub changes_whole : (page : PageParts) (changes : List Bool) (n : ℕ) → n ≡ plates page → length changes ≡ samples page → ((k : ℕ) → k < samples page → slice_index_or changes k false ≡ any_below (λ c. plate_changes page c (sample_at page k)) n) → changes ≡ sample_changes_of page
-unfolding sample_changes_of
-changes_whole page changes n en long each = list_below-of false (λ k. sample_changes page (sample_at page k)) (samples page) changes long (λ k l. each k l ∙ ap (any_below (λ c. plate_changes page c (sample_at page k))) en)
 
 also_true : (b : Bool) → (b && true) ≡ b
 also_true true = refl
@@ -92,5 +78,107 @@ also_true false = refl
 pub samples_counted : (page : PageParts) (z n : ℕ) → n ≡ samples page → count_below (λ i. (zone_of page (sample_at page i) == z) && true) n ≡ zone_samples page z
 samples_counted page z n en = ap (count_below (λ i. (zone_of page (sample_at page i) == z) && true)) en ∙ count_below-ext (λ i. (zone_of page (sample_at page i) == z) && true) (λ i. zone_of page (sample_at page i) == z) (samples page) (λ k _. also_true (zone_of page (sample_at page k) == z))
 
-pub changed_counted : (page : PageParts) (z n : ℕ) → n ≡ samples page → count_below (λ i. (zone_of page (sample_at page i) == z) && sample_changes page (sample_at page i)) n ≡ zone_changed page z
-changed_counted page z n en = ap (count_below (λ i. (zone_of page (sample_at page i) == z) && sample_changes page (sample_at page i))) en
+-- the samples of a page are few enough
+
+pub few_samples : (page : PageParts) (y x : ℕ) → IsPage page → y < height page → x ≤ width page → y * width page + x ≤ 2 ^ 28
+few_samples page y x valid ly lx =
+    let plane = plane_of page 0 valid valid.parts.some_plates in
+    let rows : (y + 1) * width page ≤ (y + 1) * 16384 = mul-le-mul_left (y + 1) plane.narrow in
+    omega (arith, rows, lx, ly, plane.low)
+
+-- what changes in a row
+
+pub changes_here : (page : PageParts) (before after : List ℕ) (y c x : ℕ) → slice_index before x ≡ tint page c (record { x = x; y = y }) → slice_index after x ≡ new page (record { x = x; y = y }) c → not (slice_index after x == slice_index before x) ≡ plate_changes page c (record { x = x; y = y })
+changes_here page before after y c x b a = ap (λ (n : ℕ). not (n == slice_index before x)) a ∙ ap (λ (n : ℕ). not (new page (record { x = x; y = y }) c == n)) b
+
+pub row_differences : (page : PageParts) (before after : List ℕ) (y c n : ℕ) → n ≡ width page → ((x : ℕ) → x < width page → slice_index before x ≡ tint page c (record { x = x; y = y })) → ((x : ℕ) → x < width page → slice_index after x ≡ new page (record { x = x; y = y }) c) → count_below (λ k. not (slice_index after k == slice_index before k)) n ≡ count_below (λ x. plate_changes page c (record { x = x; y = y })) (width page)
+row_differences page before after y c n en b a = ap (count_below (λ k. not (slice_index after k == slice_index before k))) en ∙ count_below-ext (λ k. not (slice_index after k == slice_index before k)) (λ x. plate_changes page c (record { x = x; y = y })) (width page) (λ x l. changes_here page before after y c x (b x l) (a x l))
+
+-- a plate's count, one row further
+pub row_counted : (page : PageParts) (y c old more : ℕ) → old ≡ count_below (λ k. plate_changes page c (sample_at page k)) (y * width page) → more ≡ count_below (λ x. plate_changes page c (record { x = x; y = y })) (width page) → old + more ≡ count_below (λ k. plate_changes page c (sample_at page k)) ((y + 1) * width page)
+row_counted page y c old more eo em =
+    let f : ℕ → Bool = λ k. plate_changes page c (sample_at page k) in
+    let same : count_below (λ x. plate_changes page c (record { x = x; y = y })) (width page) ≡ count_below (λ x. f (y * width page + x)) (width page) = count_below-ext (λ x. plate_changes page c (record { x = x; y = y })) (λ x. f (y * width page + x)) (width page) (λ x l. ap (plate_changes page c) (sym (numbered page y x l))) in
+    let sum : count_below f ((y + 1) * width page) ≡ count_below f (y * width page) + count_below (λ x. f (y * width page + x)) (width page) = ap (count_below f) (sym (next_row y (width page))) ∙ count_below-add f (y * width page) (width page) in
+    omega (arith, eo, em, same, sum)
+
+-- the first c plates are counted one row further than the others
+pub record AreCounting (page : PageParts) (y c : ℕ) (counts : List ℕ) : Type 0 where
+  pub long : length counts ≡ plates page
+  pub done : (j : ℕ) → j < c → j < plates page → slice_index counts j ≡ count_below (λ k. plate_changes page j (sample_at page k)) ((y + 1) * width page)
+  pub rest : (j : ℕ) → c ≤ j → j < plates page → slice_index counts j ≡ count_below (λ k. plate_changes page j (sample_at page k)) (y * width page)
+
+pub counting_none : (page : PageParts) (y : ℕ) (counts : List ℕ) → ArePlatesCounted page (y * width page) counts → AreCounting page y 0 counts
+counting_none page y counts h = record { long = h.long; done = λ j l _. absurd (omega (arith, l)); rest = λ j _ l. h.each j l }
+
+pub counting_all : (page : PageParts) (y c : ℕ) (counts : List ℕ) → c ≡ plates page → AreCounting page y c counts → ArePlatesCounted page ((y + 1) * width page) counts
+counting_all page y c counts e h = record { long = h.long; each = λ j l. h.done j (omega (arith, e, l)) l }
+
+pub counting_next : (page : PageParts) (y c v more : ℕ) (counts : List ℕ) → c < plates page → v ≡ slice_index counts c + more → more ≡ count_below (λ x. plate_changes page c (record { x = x; y = y })) (width page) → AreCounting page y c counts → AreCounting page y (c + 1) (slice_set counts c v)
+counting_next page y c v more counts lc ev em h = record {
+  long = length-set counts c v ∙ h.long;
+  done = λ j l lj. elim (cases_eq j c) [
+    | inl e ↦ rw e (get_or-set_same counts c v 0 (omega (arith, h.long, lc)) ∙ ev ∙ row_counted page y c (slice_index counts c) more (h.rest c (omega arith) lc) em)
+    | inr ne ↦ get_or-set_other counts c j v 0 ne ∙ h.done j (omega (arith, l, ne)) lj
+  ];
+  rest = λ j a lj. get_or-set_other counts c j v 0 (λ e. omega (arith, e, a)) ∙ h.rest j (omega (arith, a)) lj;
+}
+
+pub counting_fits : (page : PageParts) (y c more : ℕ) (counts : List ℕ) → IsPage page → y < height page → c < plates page → more ≤ width page → AreCounting page y c counts → slice_index counts c + more < 2 ^ 64
+counting_fits page y c more counts valid ly lc few h =
+    let plane = plane_of page 0 valid valid.parts.some_plates in
+    omega (arith, h.rest c (omega arith) lc, count_below-le (λ k. plate_changes page c (sample_at page k)) (y * width page), few_samples page y 0 valid ly (omega arith), few, plane.narrow)
+
+-- one more sample of a row
+
+pub zone_passed : (page : PageParts) (y x : ℕ) (counts : List ℕ) → x < width page → sample_changes page (record { x = x; y = y }) ≡ false → AreZonesCounted page (y * width page + x) counts → AreZonesCounted page (y * width page + x + 1) counts
+zone_passed page y x counts lx fails h = record {
+  long = h.long;
+  each = passed_over (λ i. zone_of page (sample_at page i)) (λ i. sample_changes page (sample_at page i)) counts (length page.zones) (y * width page + x) (ap (sample_changes page) (numbered page y x lx) ∙ fails) h.each;
+}
+
+pub zone_tallied : (page : PageParts) (y x a v : ℕ) (counts : List ℕ) → IsPage page → x < width page → a ≡ zone_of page (record { x = x; y = y }) → sample_changes page (record { x = x; y = y }) ≡ true → v ≡ slice_index counts a + 1 → AreZonesCounted page (y * width page + x) counts → AreZonesCounted page (y * width page + x + 1) (slice_set counts a v)
+zone_tallied page y x a v counts valid lx ea passes ev h = record {
+  long = length-set counts a v ∙ h.long;
+  each = tallied (λ i. zone_of page (sample_at page i)) (λ i. sample_changes page (sample_at page i)) counts (length page.zones) (y * width page + x) a v (ea ∙ ap (zone_of page) (sym (numbered page y x lx))) h.long (rw ea (zone_known page (record { x = x; y = y }) valid)) (ap (sample_changes page) (numbered page y x lx) ∙ passes) ev h.each;
+}
+
+pub zone_fits : (page : PageParts) (y x a : ℕ) (counts : List ℕ) → IsPage page → y < height page → x < width page → a < length page.zones → AreZonesCounted page (y * width page + x) counts → slice_index counts a + 1 < 2 ^ 64
+zone_fits page y x a counts valid ly lx la h = count_fits counts a (y * width page + x) _ (few_samples page y x valid ly (omega (arith, lx))) (h.each a la)
+
+-- a quiet row
+
+unchanged : (page : PageParts) (p : At) (c : ℕ) → KeepsTints page p → plate_changes page c p ≡ false
+unchanged page p c keep = ap not (eq-eqb _ _ (keep c))
+
+none_below : (test : ℕ → Bool) (n : ℕ) → ((c : ℕ) → test c ≡ false) → any_below test n ≡ false
+none_below test zero h = refl
+none_below test (suc n) h = rw (none_below test n h, h n) refl
+
+both_false : (a b : Bool) → b ≡ false → (a && b) ≡ false
+both_false true b e = e
+both_false false b e = refl
+
+pub plates_quiet : (page : PageParts) (y : ℕ) (counts : List ℕ) → ((x : ℕ) → x < width page → KeepsTints page (record { x = x; y = y })) → ArePlatesCounted page (y * width page) counts → ArePlatesCounted page ((y + 1) * width page) counts
+plates_quiet page y counts keep h = record {
+  long = h.long;
+  each = λ c l. h.each c l ∙ sym (row_none (λ k. plate_changes page c (sample_at page k)) y (width page) (λ x lx. ap (plate_changes page c) (numbered page y x lx) ∙ unchanged page (record { x = x; y = y }) c (keep x lx)));
+}
+
+pub zones_quiet : (page : PageParts) (y : ℕ) (counts : List ℕ) → ((x : ℕ) → x < width page → KeepsTints page (record { x = x; y = y })) → AreZonesCounted page (y * width page) counts → AreZonesCounted page ((y + 1) * width page) counts
+zones_quiet page y counts keep h = record {
+  long = h.long;
+  each = λ z l. h.each z l ∙ sym (row_none (λ i. (zone_of page (sample_at page i) == z) && sample_changes page (sample_at page i)) y (width page) (λ x lx. both_false (zone_of page (sample_at page (y * width page + x)) == z) (sample_changes page (sample_at page (y * width page + x))) (ap (sample_changes page) (numbered page y x lx) ∙ none_below (λ c. plate_changes page c (record { x = x; y = y })) (plates page) (λ c. unchanged page (record { x = x; y = y }) c (keep x lx)))));
+}
+
+-- the counts of the whole page
+
+pub plates_whole : (page : PageParts) (counts : List ℕ) → ArePlatesCounted page (height page * width page) counts → counts ≡ list_below (plate_changed page) (plates page)
+plates_whole page counts h = list_below-from (plate_changed page) (plates page) counts h.long (λ c l. h.each c l ∙ ap (count_below (λ k. plate_changes page c (sample_at page k))) (let all : height page * width page ≡ samples page = omega arith in all))
+
+pub zones_whole : (page : PageParts) (counts : List ℕ) → AreZonesCounted page (height page * width page) counts → counts ≡ list_below (zone_changed page) (length page.zones)
+zones_whole page counts h = list_below-from (zone_changed page) (length page.zones) counts h.long (λ z l. h.each z l ∙ ap (count_below (λ k. (zone_of page (sample_at page k) == z) && sample_changes page (sample_at page k))) (let all : height page * width page ≡ samples page = omega arith in all))
+
+-- a row is counted to its end
+pub counted_row : (page : PageParts) (y x : ℕ) (counts : List ℕ) → x ≡ width page → AreZonesCounted page (y * width page + x) counts → AreZonesCounted page ((y + 1) * width page) counts
+counted_row page y x counts e h = subst (λ (n : ℕ). AreZonesCounted page n counts) (let all : y * width page + x ≡ (y + 1) * width page = omega (arith, e) in all) h

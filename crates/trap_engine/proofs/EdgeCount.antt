@@ -10,7 +10,7 @@ use Rattle.page_model.specs.Decider.{grid_point, grid_points, is_candidate}
 use Rattle.page_model.specs.Deciding.{decides, lower_mark, mark, right_mark}
 use Rattle.page_model.specs.Page.{height, samples, width}
 use Rattle.lists.specs.Words.{count_below, sum_below}
-use Rattle.trap_engine.proofs.MarkLemmas.{lower_mark-is, right_mark-is}
+use Rattle.page_model.proofs.MarkLemmas.{lower_mark-is, right_mark-is}
 
 abbrev one_if : Bool → ℕ
 one_if b = if b then 1 else 0

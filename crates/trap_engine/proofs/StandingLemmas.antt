@@ -1,102 +1,65 @@
-use Rattle.std.proofs.Common.{◌≡◌, ℕ, ◌+◌, ◌*◌, ◌<◌, ◌≤◌, Bool, true, false, ◌&&◌, ◌||◌, not, nat_lt, inl, inr, refl, sym, ◌∙◌, ap, arith, List, [], ◌∷◌, ◌++◌, length, slice_index, slice_set, Option, Some, None, if◌then◌else◌}
-use Rattle.std.specs.Option.{MatchOption}
-use Rattle.std.proofs.lemmas.Bool.{cases_eq, leb-true}
+-- Planes that are trapped row by row.
+use Rattle.std.proofs.Common.{◌≡◌, ℕ, ◌+◌, ◌-◌, ◌*◌, ◌<◌, ◌≤◌, inl, inr, refl, sym, ◌∙◌, ap, subst, arith, List, [], ◌∷◌, ◌++◌, length, slice_index, slice_set}
+use Rattle.std.proofs.lemmas.Bool.{cases_eq, cases_lt}
 use Rattle.std.proofs.lemmas.List.{get_or-set_same, get_or-set_other, get_or_push, get_or_append_left, length-set}
-use Rattle.std.proofs.lemmas.Nat.{div-add-mod'}
+use Rattle.std.proofs.lemmas.Nat.{div-add-mod', mul-add-lt}
 use Rattle.page_model.specs.declared.parts.At.{At}
-use Rattle.page_model.specs.declared.parts.EdgeAt.{EdgeAt}
 use Rattle.page_model.specs.declared.parts.PageParts.{PageParts}
 use Rattle.page_model.specs.declared.parts.Plane.{Plane}
-use Rattle.page_model.specs.Apart.{apart}
-use Rattle.page_model.specs.Columns.{column_decider}
 use Rattle.page_model.specs.Conditions.{IsPage}
-use Rattle.page_model.specs.Density.{density, shut, spreads}
-use Rattle.page_model.specs.Edges.{IsEdge, across, d2, own}
-use Rattle.page_model.specs.Page.{InPage, ink_at, params_at, place, plates, sample_at, samples, tint, width, height, maxval}
+use Rattle.page_model.specs.Page.{place, plates, sample_at, samples, tint, width, height, maxval}
 use Rattle.page_model.specs.Planes.{PutTint, no_plane, plane_at}
-use Rattle.page_model.specs.Reach.{page_reach, params_reach, zone_reach}
-use Rattle.page_model.specs.Tints.{new, new_from, new_in, new_tints, scaled_in, trapped_plane, trapped_planes}
-use Rattle.page_model.specs.Trapped.{trapped_by, trapped_in}
-use Rattle.page_model.specs.Within.{black, edge_slid, within_in}
-use Rattle.lists.specs.Words.{square}
-use Rattle.page_model.specs.Zones.{zone_of}
-use Rattle.page_model.proofs.ColumnDecider.{IsDecidingEdge, columns_decide}
-use Rattle.page_model.proofs.ReachLemmas.{at_most_greatest, five_false, not_near}
-use Rattle.page_model.proofs.ReachLaws.{traps_by_columns}
+use Rattle.page_model.specs.Tints.{new, new_tints, trapped_plane, trapped_planes}
 use Rattle.page_model.proofs.PageLemmas.{plane_of}
-use Rattle.page_model.proofs.ZoneLemmas.{zone_of-is}
 use Rattle.lists.proofs.ListBelow.{list_below-of}
-use Rattle.trap_engine.proofs.WholeLemmas.{place-below, sample_at-place}
-use Rattle.trap_engine.specs.Standing.{AreTrappedTo, AreTrapping, IsTrappedTo, is_far_off}
+use Rattle.band_values.specs.Quiet.{KeepsTints}
+use Rattle.trap_engine.proofs.ZoneRows.{numbered}
+use Rattle.trap_engine.specs.Standing.{AreTrappedTo, AreTrapping, ArePutting, IsTrappedTo}
 
-enabled_reach : (page : PageParts) (z : ℕ) → z < length page.zones → (params_at page z).enabled ≡ true → params_reach page.resolution (params_at page z) ≤ page_reach page
-unfolding page_reach
-enabled_reach page z known on =
-    let same : zone_reach page z ≡ params_reach page.resolution (params_at page z) = ap (λ (b : Bool). if b then params_reach page.resolution (params_at page z) else 0) on in
-    rw same at (at_most_greatest (zone_reach page) (length page.zones) z known)
+-- samples that keep their tints
 
-not_within : (page : PageParts) (z : ℕ) (p : At) (e : EdgeAt) → z < length page.zones → square (page_reach page + 1) ≤ d2 p e → (params_at page z).enabled ≡ true → within_in page z p e ≡ false
-unfolding within_in
-not_within page z p e known far on =
-    let params = params_at page z in
-    not_near (d2 p e) params.trap_width params.black_width page.resolution (page_reach page) (black page params e) (edge_slid page params e) far (enabled_reach page z known on)
-
-not_trapped : (page : PageParts) (z : ℕ) (p : At) (e : EdgeAt) → ((params_at page z).enabled ≡ true → within_in page z p e ≡ false) → trapped_in page z p e ≡ false
-unfolding trapped_in
-not_trapped page z p e h = five_false (not (shut page p)) (params_at page z).enabled (within_in page z p e) (apart page z p (across p e)) (edge_slid page (params_at page z) e || nat_lt (density page (across p e)) (density page (own p e))) h
-
-kept_in : (page : PageParts) (z : ℕ) (p : At) (e : EdgeAt) (c : ℕ) → trapped_in page z p e ≡ false → new_in page z p e c ≡ tint page c p
-unfolding new_in
-kept_in page z p e c h = ap (λ (b : Bool). if b && spreads (ink_at page c).kind then scaled_in page z p e c else tint page c p) h
-
-kept_from : (page : PageParts) (p : At) (o : Option EdgeAt) (c : ℕ) → trapped_by page p o ≡ false → new_from page p c o ≡ tint page c p
-kept_from page p None c h = refl
-kept_from page p (Some e) c h = kept_in page (zone_of page p) p e c h
-
-far_trapped : (page : PageParts) (p : At) (o : Option EdgeAt) → IsPage page → is_far_off p (page_reach page) o ≡ true → trapped_by page p o ≡ false
-far_trapped page p None valid far = refl
-far_trapped page p (Some e) valid far = not_trapped page (zone_of page p) p e (not_within page (zone_of page p) p e (zone_of-is page p valid).known (leb-true _ _ far))
-
--- the sample keeps its tints
-pub keeps : (page : PageParts) (p : At) (o : Option EdgeAt) (c : ℕ) → IsPage page → o ≡ column_decider page (page_reach page) p → trapped_by page p o ≡ false → new page p c ≡ tint page c p
-keeps page p o c valid e h = sym ((traps_by_columns page p valid).tints_alike c) ∙ ap (new_from page p c) (sym e) ∙ kept_from page p o c h
-
-pub keeps_far : (page : PageParts) (p : At) (o : Option EdgeAt) (c : ℕ) → IsPage page → o ≡ column_decider page (page_reach page) p → is_far_off p (page_reach page) o ≡ true → new page p c ≡ tint page c p
-keeps_far page p o c valid e far = keeps page p o c valid e (far_trapped page p o valid far)
-
-pub new_by_columns : (page : PageParts) (p : At) (o : Option EdgeAt) (c : ℕ) → IsPage page → o ≡ column_decider page (page_reach page) p → new_from page p c o ≡ new page p c
-new_by_columns page p o c valid e = ap (new_from page p c) e ∙ (traps_by_columns page p valid).tints_alike c
-
--- the edge that the columns give is one of the page
-deciding_edge : (page : PageParts) (o : Option EdgeAt) (e : EdgeAt) → MatchOption o (Unit {0}) (IsDecidingEdge page) → o ≡ Some e → IsEdge page e
-deciding_edge page None e h q = cc
-deciding_edge page (Some f) e h q = (let same : f ≡ e = cc in rw (← same) h.edge)
-
-pub edge_is : (page : PageParts) (p : At) (o : Option EdgeAt) (e : EdgeAt) → o ≡ column_decider page (page_reach page) p → o ≡ Some e → IsEdge page e
-edge_is page p o e d q = deciding_edge page o e (rw d (columns_decide page p (page_reach page))) q
-
-pub some_width : (page : PageParts) → IsPage page → 1 ≤ width page
-some_width page valid = (plane_of page 0 valid valid.parts.some_plates).some_width
-
-pub edge_small : (page : PageParts) (e : EdgeAt) → IsPage page → IsEdge page e → (e.x2 < 32768) × (e.y2 < 32768)
-edge_small page e valid is =
-    let plane = plane_of page 0 valid valid.parts.some_plates in
-    (omega (arith, is.across_page, plane.narrow), omega (arith, is.down_page, plane.low))
-
--- plates that are trapped one sample further
-
-plate_kept : (page : PageParts) (c n : ℕ) (plane : Plane) → new page (sample_at page n) c ≡ tint page c (sample_at page n) → n < samples page → IsTrappedTo page c n plane → IsTrappedTo page c (n + 1) plane
-plate_kept page c n plane keep inside h = record {
+plate_kept : (page : PageParts) (c n w : ℕ) (plane : Plane) → n + w ≤ samples page → ((x : ℕ) → x < w → new page (sample_at page (n + x)) c ≡ tint page c (sample_at page (n + x))) → IsTrappedTo page c n plane → IsTrappedTo page c (n + w) plane
+plate_kept page c n w plane inside keep h = record {
   wide = h.wide;
   tall = h.tall;
   deep = h.deep;
   long = h.long;
-  done = λ k l. elim (cases_eq k n) [ inl e ↦ rw e (h.rest n (omega arith) inside ∙ sym keep) | inr ne ↦ h.done k (omega (arith, l, ne)) ];
+  done = λ k l. elim (cases_lt k n) [
+    | inl before ↦ h.done k before
+    | inr from ↦ (let back : n + (k - n) ≡ k = omega (arith, from) in
+        let kept : new page (sample_at page k) c ≡ tint page c (sample_at page k) = subst (λ (i : ℕ). new page (sample_at page i) c ≡ tint page c (sample_at page i)) back (keep (k - n) (omega (arith, from, l))) in
+        h.rest k from (omega (arith, l, inside)) ∙ sym kept)
+  ];
   rest = λ k a l. h.rest k (omega (arith, a)) l;
 }
 
-pub trapped_kept : (page : PageParts) (planes : List Plane) (n : ℕ) → n < samples page → ((c : ℕ) → new page (sample_at page n) c ≡ tint page c (sample_at page n)) → AreTrappedTo page planes n → AreTrappedTo page planes (n + 1)
-trapped_kept page planes n inside keep h = record { count = h.count; each = λ c l. plate_kept page c n (plane_at planes c) (keep c) inside (h.each c l) }
+pub row_inside : (page : PageParts) (y : ℕ) → y < height page → y * width page + width page ≤ samples page
+row_inside page y l = (let d = height page - (y + 1) in let e : height page ≡ y + 1 + d = omega (arith, l) in plain d e) where
+  plain : (d : ℕ) → height page ≡ y + 1 + d → y * width page + width page ≤ samples page
+  plain d e = (let whole : samples page ≡ width page * (y + 1 + d) = ap (λ (h : ℕ). width page * h) e in omega (arith, whole))
+
+pub next_row : (y w : ℕ) → y * w + w ≡ (y + 1) * w
+next_row y w = omega arith
+
+-- a quiet row
+pub planes_quiet : (page : PageParts) (planes : List Plane) (y : ℕ) → y < height page → ((x : ℕ) → x < width page → KeepsTints page (record { x = x; y = y })) → AreTrappedTo page planes (y * width page) → AreTrappedTo page planes ((y + 1) * width page)
+planes_quiet page planes y ly keep h = subst (λ (n : ℕ). AreTrappedTo page planes n) (next_row y (width page)) (record {
+  count = h.count;
+  each = λ c l. plate_kept page c (y * width page) (width page) (plane_at planes c) (row_inside page y ly) (λ x lx. subst (λ (p : At). new page p c ≡ tint page c p) (sym (numbered page y x lx)) (keep x lx c)) (h.each c l);
+})
+
+-- a plate's row that is the same
+pub plate_same : (page : PageParts) (planes : List Plane) (y c : ℕ) (before after : List ℕ) → y < height page → before ≡ after → ((x : ℕ) → x < width page → slice_index before x ≡ tint page c (record { x = x; y = y })) → ((x : ℕ) → x < width page → slice_index after x ≡ new page (record { x = x; y = y }) c) → AreTrapping page planes (y * width page) (width page) c → AreTrapping page planes (y * width page) (width page) (c + 1)
+plate_same page planes y c before after ly e b a h = record {
+  count = h.count;
+  done = λ j l lj. elim (cases_eq j c) [
+    | inl q ↦ plate_kept page j (y * width page) (width page) (plane_at planes j) (row_inside page y ly) (λ x lx. subst (λ (p : At). new page p j ≡ tint page j p) (sym (numbered page y x lx)) (rw q (sym (a x lx) ∙ ap (λ (xs : List ℕ). slice_index xs x) (sym e) ∙ b x lx))) (h.rest j (omega (arith, q)) lj)
+    | inr ne ↦ h.done j (omega (arith, l, ne)) lj
+  ];
+  rest = λ j a lj. h.rest j (omega (arith, a)) lj;
+}
+
+-- one more sample of a plate
 
 plate_put : (page : PageParts) (c n t : ℕ) (plane : Plane) → n < samples page → t ≡ new page (sample_at page n) c → IsTrappedTo page c n plane → IsTrappedTo page c (n + 1) (record plane { tints = slice_set plane.tints n t })
 plate_put page c n t plane inside et h = record {
@@ -111,23 +74,36 @@ plate_put page c n t plane inside et h = record {
   rest = λ k a l. get_or-set_other plane.tints n k t 0 (λ e. omega (arith, e, a)) ∙ h.rest k (omega (arith, a)) l;
 }
 
-pub trapping_none : (page : PageParts) (planes : List Plane) (n : ℕ) → AreTrappedTo page planes n → AreTrapping page planes n 0
-trapping_none page planes n h = record { count = h.count; done = λ j l. absurd (omega (arith, l)); rest = λ j a l. h.each j l }
+pub putting_none : (page : PageParts) (planes : List Plane) (n w c : ℕ) → c < plates page → AreTrapping page planes n w c → ArePutting page planes n w c 0
+putting_none page planes n w c lc h = record {
+  count = h.count;
+  done = h.done;
+  here = subst (λ (k : ℕ). IsTrappedTo page c k (plane_at planes c)) (let e : n ≡ n + 0 = omega arith in e) (h.rest c (omega arith) lc);
+  rest = λ j l lj. h.rest j (omega (arith, l)) lj;
+}
 
-pub trapping_all : (page : PageParts) (planes : List Plane) (n c : ℕ) → c ≡ plates page → AreTrapping page planes n c → AreTrappedTo page planes (n + 1)
-trapping_all page planes n c e h = record { count = h.count; each = λ j l. h.done j (omega (arith, e, l)) l }
-
-pub trapping_next : (page : PageParts) (old new_planes : List Plane) (n c t : ℕ) → n < samples page → c < plates page → t ≡ new page (sample_at page n) c → PutTint old new_planes c n t → AreTrapping page old n c → AreTrapping page new_planes n (c + 1)
-trapping_next page old new_planes n c t inside lc et put h = rw put (record {
-  count = length-set old c (record (plane_at old c) { tints = slice_set (plane_at old c).tints n t }) ∙ h.count;
+pub putting_all : (page : PageParts) (planes : List Plane) (n w c x : ℕ) → x ≡ w → ArePutting page planes n w c x → AreTrapping page planes n w (c + 1)
+putting_all page planes n w c x e h = record {
+  count = h.count;
   done = λ j l lj. elim (cases_eq j c) [
-    | inl e ↦ rw (e, here) (plate_put page c n t (plane_at old c) inside et (h.rest c (omega arith) lc))
-    | inr ne ↦ rw (there j ne) (h.done j (omega (arith, l, ne)) lj)
+    | inl q ↦ rw q (subst (λ (k : ℕ). IsTrappedTo page c (n + k) (plane_at planes c)) e h.here)
+    | inr ne ↦ h.done j (omega (arith, l, ne)) lj
   ];
-  rest = λ j a lj. rw (there j (λ e. omega (arith, e, a))) (h.rest j (omega (arith, a)) lj);
+  rest = λ j a lj. h.rest j (omega (arith, a)) lj;
+}
+
+pub putting_next : (page : PageParts) (old new_planes : List Plane) (y c x t w : ℕ) → w ≡ width page → y < height page → x < width page → c < plates page → t ≡ new page (record { x = x; y = y }) c → PutTint old new_planes c (y * w + x) t → ArePutting page old (y * width page) (width page) c x → ArePutting page new_planes (y * width page) (width page) c (x + 1)
+putting_next page old new_planes y c x t w ew ly lx lc et put h = rw put (record {
+  count = length-set old c placed ∙ h.count;
+  done = λ j l lj. rw (there j (λ e. omega (arith, e, l))) (h.done j l lj);
+  here = rw here (subst (λ (k : ℕ). IsTrappedTo page c k placed) (let e : y * width page + x + 1 ≡ y * width page + (x + 1) = omega arith in e) (subst (λ (i : ℕ). IsTrappedTo page c (y * width page + x + 1) (record (plane_at old c) { tints = slice_set (plane_at old c).tints i t })) (ap (λ (n : ℕ). y * n + x) (sym ew)) (plate_put page c (y * width page + x) t (plane_at old c) inside (et ∙ ap (λ (p : At). new page p c) (sym (numbered page y x lx))) h.here)));
+  rest = λ j l lj. rw (there j (λ e. omega (arith, e, l))) (h.rest j l lj);
 }) where
   placed : Plane
-  placed = record (plane_at old c) { tints = slice_set (plane_at old c).tints n t }
+  placed = record (plane_at old c) { tints = slice_set (plane_at old c).tints (y * w + x) t }
+
+  inside : y * width page + x < samples page
+  inside = omega (arith, mul-add-lt y (width page) x (height page) ly lx)
 
   here : plane_at (slice_set old c placed) c ≡ placed
   here = get_or-set_same old c placed no_plane (omega (arith, h.count, lc))
@@ -135,19 +111,14 @@ trapping_next page old new_planes n c t inside lc et put h = rw put (record {
   there : (j : ℕ) → (j ≡ c → ⊥) → plane_at (slice_set old c placed) j ≡ plane_at old j
   there j ne = get_or-set_other old c j placed no_plane ne
 
-pub trapping_long : (page : PageParts) (planes : List Plane) (n c : ℕ) → c < plates page → AreTrapping page planes n c → length (plane_at planes c).tints ≡ samples page
-trapping_long page planes n c l h = (h.rest c (omega arith) l).long
+pub putting_long : (page : PageParts) (planes : List Plane) (y c x w : ℕ) → w ≡ width page → y < height page → x < width page → ArePutting page planes (y * width page) (width page) c x → y * w + x < length (plane_at planes c).tints
+putting_long page planes y c x w ew ly lx h = rw ew (omega (arith, h.here.long, mul-add-lt y (width page) x (height page) ly lx))
 
--- at sample p
+pub trapping_none : (page : PageParts) (planes : List Plane) (n w : ℕ) → AreTrappedTo page planes n → AreTrapping page planes n w 0
+trapping_none page planes n w h = record { count = h.count; done = λ j l _. absurd (omega (arith, l)); rest = λ j a l. h.each j l }
 
-pub kept_here : (page : PageParts) (planes : List Plane) (p : At) (o : Option EdgeAt) → IsPage page → InPage page p → o ≡ column_decider page (page_reach page) p → trapped_by page p o ≡ false → AreTrappedTo page planes (place page p) → AreTrappedTo page planes (place page p + 1)
-kept_here page planes p o valid inside e h so_far = trapped_kept page planes (place page p) (place-below page p inside) (λ c. ap (λ (q : At). new page q c) (sample_at-place page p inside) ∙ keeps page p o c valid e h ∙ ap (tint page c) (sym (sample_at-place page p inside))) so_far
-
-pub kept_far : (page : PageParts) (planes : List Plane) (p : At) (o : Option EdgeAt) (reach : ℕ) → IsPage page → InPage page p → o ≡ column_decider page (page_reach page) p → reach ≡ page_reach page → true ≡ is_far_off p reach o → AreTrappedTo page planes (place page p) → AreTrappedTo page planes (place page p + 1)
-kept_far page planes p o reach valid inside e er far so_far = kept_here page planes p o valid inside e (far_trapped page p o valid (ap (λ (r : ℕ). is_far_off p r o) (sym er) ∙ sym far)) so_far
-
-pub new_here : (page : PageParts) (p : At) (o : Option EdgeAt) (w c t : ℕ) → IsPage page → InPage page p → w ≡ width page → o ≡ column_decider page (page_reach page) p → t ≡ new_from page p c o → t ≡ new page (sample_at page (p.y * w + p.x)) c
-new_here page p o w c t valid inside ew e et = et ∙ new_by_columns page p o c valid e ∙ ap (λ (q : At). new page q c) (sym (sample_at-place page p inside) ∙ ap (λ (n : ℕ). sample_at page (p.y * n + p.x)) (sym ew))
+pub trapping_all : (page : PageParts) (planes : List Plane) (y c : ℕ) → c ≡ plates page → AreTrapping page planes (y * width page) (width page) c → AreTrappedTo page planes ((y + 1) * width page)
+trapping_all page planes y c e h = subst (λ (n : ℕ). AreTrappedTo page planes n) (next_row y (width page)) (record { count = h.count; each = λ j l. h.done j (omega (arith, e, l)) l })
 
 -- the planes before and after
 

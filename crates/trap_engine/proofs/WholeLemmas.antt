@@ -1,15 +1,12 @@
-use Rattle.std.proofs.Common.{◌≡◌, ℕ, ◌/◌, ◌%◌, ◌<◌, Bool, length, refl}
+use Rattle.std.proofs.Common.{◌≡◌, ℕ, ◌/◌, ◌%◌, ◌<◌, length, refl}
 use Rattle.std.specs.Prelude.{slice_index_or}
 use Rattle.std.proofs.lemmas.Nat.{div-mul-add, mod-mul-add, mul-add-lt}
 use Rattle.page_model.specs.declared.parts.At.{At}
 use Rattle.page_model.specs.declared.parts.PageParts.{PageParts}
-use Rattle.page_model.specs.declared.parts.Plane.{Plane}
-use Rattle.page_model.specs.Counts.{sample_changes}
 use Rattle.page_model.specs.Deciding.{mark}
-use Rattle.page_model.specs.Page.{InPage, place, plates, samples, sample_at, width, height}
-use Rattle.page_model.specs.Tints.{new, new_tints, trapped_plane, trapped_planes}
+use Rattle.page_model.specs.Page.{InPage, place, samples, sample_at, width, height}
 use Rattle.page_model.specs.Zones.{zone_of}
-use Rattle.trap_engine.specs.Whole.{sample_changes_of, sample_marks, sample_zones}
+use Rattle.trap_engine.specs.Whole.{sample_marks, sample_zones}
 use Rattle.lists.proofs.ListBelow.{length-list_below, list_below-at}
 
 pub sample_zones-length : (page : PageParts) → length (sample_zones page) ≡ samples page
@@ -28,29 +25,9 @@ pub sample_marks-at : (page : PageParts) (k d : ℕ) → k < samples page → sl
 unfolding sample_marks
 sample_marks-at page k d l = list_below-at _ (samples page) k d l
 
-pub sample_changes_of-length : (page : PageParts) → length (sample_changes_of page) ≡ samples page
-unfolding sample_changes_of
-sample_changes_of-length page = length-list_below _ (samples page)
+pub ruleset zone_reads = (sample_zones-length, sample_zones-at)
 
-pub sample_changes_of-at : (page : PageParts) (k : ℕ) (d : Bool) → k < samples page → slice_index_or (sample_changes_of page) k d ≡ sample_changes page (sample_at page k)
-unfolding sample_changes_of
-sample_changes_of-at page k d l = list_below-at _ (samples page) k d l
-
-pub trapped_planes-length : (page : PageParts) → length (trapped_planes page) ≡ plates page
-unfolding trapped_planes
-trapped_planes-length page = length-list_below _ (plates page)
-
-pub trapped_planes-at : (page : PageParts) (c : ℕ) (d : Plane) → c < plates page → slice_index_or (trapped_planes page) c d ≡ trapped_plane page c
-unfolding trapped_planes
-trapped_planes-at page c d l = list_below-at _ (plates page) c d l
-
-pub new_tints-length : (page : PageParts) (c : ℕ) → length (new_tints page c) ≡ samples page
-unfolding new_tints
-new_tints-length page c = length-list_below _ (samples page)
-
-pub new_tints-at : (page : PageParts) (c k d : ℕ) → k < samples page → slice_index_or (new_tints page c) k d ≡ new page (sample_at page k) c
-unfolding new_tints
-new_tints-at page c k d l = list_below-at _ (samples page) k d l
+pub ruleset mark_reads = (sample_marks-length, sample_marks-at)
 
 -- a sample's place is its number
 pub sample_at-place : (page : PageParts) (p : At) → InPage page p → sample_at page (place page p) ≡ p
@@ -58,13 +35,5 @@ sample_at-place page p h = rw (div-mul-add p.y (width page) p.x h.x, mod-mul-add
 
 pub place-below : (page : PageParts) (p : At) → InPage page p → place page p < samples page
 place-below page p h = mul-add-lt p.y (width page) p.x (height page) h.y h.x
-
-pub ruleset zone_reads = (sample_zones-length, sample_zones-at)
-
-pub ruleset mark_reads = (sample_marks-length, sample_marks-at)
-
-pub ruleset change_reads = (sample_changes_of-length, sample_changes_of-at)
-
-pub ruleset plane_reads = (trapped_planes-length, trapped_planes-at, new_tints-length, new_tints-at)
 
 pub ruleset places = (sample_at-place, place-below)

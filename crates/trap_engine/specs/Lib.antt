@@ -1,4 +1,3 @@
-pub mod Arms
 pub mod Rows
 pub mod Standing
 pub mod Whole

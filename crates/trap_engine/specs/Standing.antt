@@ -1,13 +1,12 @@
-use Rattle.std.specs.Prelude.{◌≡◌, ℕ, ◌+◌, ◌<◌, ◌≤◌, Bool, true, nat_le, List, length, slice_index, Option, Some, None}
-use Rattle.page_model.specs.declared.parts.At.{At}
-use Rattle.page_model.specs.declared.parts.EdgeAt.{EdgeAt}
+use Rattle.std.specs.Prelude.{◌≡◌, ℕ, ◌+◌, ◌*◌, ◌<◌, ◌≤◌, ◌&&◌, ◌==◌, List, length, slice_index}
 use Rattle.page_model.specs.declared.parts.PageParts.{PageParts}
 use Rattle.page_model.specs.declared.parts.Plane.{Plane}
-use Rattle.page_model.specs.Edges.{d2}
+use Rattle.page_model.specs.Counts.{plate_changes, sample_changes}
 use Rattle.page_model.specs.Page.{height, maxval, plates, sample_at, samples, tint, width}
 use Rattle.page_model.specs.Planes.{plane_at}
 use Rattle.page_model.specs.Tints.{new}
-use Rattle.lists.specs.Words.{square}
+use Rattle.page_model.specs.Zones.{zone_of}
+use Rattle.lists.specs.Words.{count_below}
 
 -- plate c of the page with new tints in its first n samples, and its own tints in the others
 pub record IsTrappedTo (page : PageParts) (c n : ℕ) (plane : Plane) : Type 0 where
@@ -23,13 +22,30 @@ pub record AreTrappedTo (page : PageParts) (planes : List Plane) (n : ℕ) : Typ
   pub count : length planes ≡ plates page
   pub each : (c : ℕ) → c < plates page → IsTrappedTo page c n (plane_at planes c)
 
--- the first c plates are trapped up to sample n + 1, the others up to sample n
-pub record AreTrapping (page : PageParts) (planes : List Plane) (n c : ℕ) : Type 0 where
+-- the first c plates are trapped w samples further than the others, which are trapped up to sample n
+pub record AreTrapping (page : PageParts) (planes : List Plane) (n w c : ℕ) : Type 0 where
   pub count : length planes ≡ plates page
-  pub done : (j : ℕ) → j < c → j < plates page → IsTrappedTo page j (n + 1) (plane_at planes j)
+  pub done : (j : ℕ) → j < c → j < plates page → IsTrappedTo page j (n + w) (plane_at planes j)
   pub rest : (j : ℕ) → c ≤ j → j < plates page → IsTrappedTo page j n (plane_at planes j)
 
--- there is no edge, or it is farther from the sample than the reach and a half-sample
-abbrev pub is_far_off : At → ℕ → Option EdgeAt → Bool
-is_far_off p reach None = true
-is_far_off p reach (Some e) = nat_le (square (reach + 1)) (d2 p e)
+-- and plate c is trapped x samples further
+pub record ArePutting (page : PageParts) (planes : List Plane) (n w c x : ℕ) : Type 0 where
+  pub count : length planes ≡ plates page
+  pub done : (j : ℕ) → j < c → j < plates page → IsTrappedTo page j (n + w) (plane_at planes j)
+  pub here : IsTrappedTo page c (n + x) (plane_at planes c)
+  pub rest : (j : ℕ) → c < j → j < plates page → IsTrappedTo page j n (plane_at planes j)
+
+-- the new tints of row y, plate after plate
+pub record IsNewRow (page : PageParts) (y : ℕ) (row : List ℕ) : Type 0 where
+  pub long : length row ≡ plates page * width page
+  pub each : (c x : ℕ) → c < plates page → x < width page → slice_index row (c * width page + x) ≡ new page (record { x = x; y = y }) c
+
+-- for each plate how many of the first n samples change
+pub record ArePlatesCounted (page : PageParts) (n : ℕ) (counts : List ℕ) : Type 0 where
+  pub long : length counts ≡ plates page
+  pub each : (c : ℕ) → c < plates page → slice_index counts c ≡ count_below (λ k. plate_changes page c (sample_at page k)) n
+
+-- for each zone how many of the first n samples lie in it and change
+pub record AreZonesCounted (page : PageParts) (n : ℕ) (counts : List ℕ) : Type 0 where
+  pub long : length counts ≡ length page.zones
+  pub each : (z : ℕ) → z < length page.zones → slice_index counts z ≡ count_below (λ i. (zone_of page (sample_at page i) == z) && sample_changes page (sample_at page i)) n

@@ -1,6 +1,5 @@
-use Rattle.std.specs.Prelude.{ℕ, Bool, List, ◌/◌, ◌%◌}
+use Rattle.std.specs.Prelude.{ℕ, List, ◌/◌, ◌%◌}
 use Rattle.page_model.specs.declared.parts.PageParts.{PageParts}
-use Rattle.page_model.specs.Counts.{sample_changes}
 use Rattle.page_model.specs.Deciding.{mark}
 use Rattle.page_model.specs.Page.{sample_at, samples, width}
 use Rattle.lists.specs.Words.{list_below}
@@ -13,7 +12,3 @@ sample_zones page = list_below (λ k. zone_of page (sample_at page k)) (samples 
 -- the two marks of each sample, row by row
 unfoldable pub sample_marks : PageParts → List ℕ
 sample_marks page = list_below (λ k. mark page (k / width page) (k % width page)) (samples page)
-
--- whether each sample changes in some plate
-unfoldable pub sample_changes_of : PageParts → List Bool
-sample_changes_of page = list_below (λ k. sample_changes page (sample_at page k)) (samples page)

@@ -1,24 +1,39 @@
-// What trapping changed: the planes compared with those of the page, plate by plate.
+// What trapping changes in a row: its new tints compared with the page's own, plate by plate, while it is at hand.
 
-ghost use Rattle.std.specs.Prelude.{◌≡◌, ◌<◌, ◌==◌, ◌||◌, not, false, ℕ, IfOk, length, slice_index, slice_index_or};
-ghost use Rattle.page_model.specs.Counts.{plate_changed};
-ghost use Rattle.page_model.specs.Page.{plates, samples, sample_at, tint};
-ghost use Rattle.page_model.specs.Tints.{new, trapped_planes};
-ghost use Rattle.lists.specs.Words.{count_below, list_below};
-ghost use Rattle.trap_engine.specs.Whole.{sample_changes_of};
+ghost use Rattle.std.specs.Prelude.{◌≡◌, ◌<◌, ◌≤◌, ◌+◌, ◌*◌, ◌==◌, ◌||◌, not, false, true, ℕ, length, slice_index, slice_index_or};
+ghost use Rattle.page_model.specs.Counts.{plate_changes, sample_changes};
+ghost use Rattle.page_model.specs.Page.{height, plates, width};
+ghost use Rattle.page_model.specs.Zones.{AreZones};
+ghost use Rattle.lists.specs.Words.{count_below};
+ghost use Rattle.trap_engine.specs.Standing.{ArePlatesCounted, AreZonesCounted, IsNewRow};
 
 use crate::counting::one_if;
-use crate::grid::samples_of;
-use crate::memory::{no_changes, push};
-use lists::list::List;
+use band_values::{row_of, tints_of_row};
 use page_model::page::Page;
-use page_model::parts::{CountList, OutOfMemory, PlaneList};
-use std::alloc::Global;
 
-/// How many tints of a plate differ.
+/// The new tints of plate c, out of those of a row.
+pub fn plate_row<'a>(page: &Page, row: &'a [u16], y: u32, c: u32) -> &'a [u16]
+    requires row { IsNewRow page.now y row.now }
+    requires plate { c < plates page.now }
+    ensures len { length result.now ≡ width page.now }
+    ensures each { (x : ℕ) → x < width page.now → slice_index result.now x ≡ slice_index row.now (c * width page.now + x) }
+{
+    let _valid = page.plates();
+    row_of(row, page.width() as usize, c as usize)
+}
+
+/// Whether two rows of tints are the same.
+pub fn are_same(one: &[u16], other: &[u16]) -> bool
+    ensures { result ≡ true → one.now ≡ other.now }
+{
+    one == other
+}
+
+/// How many tints differ.
 fn differences(before: &[u16], after: &[u16]) -> u64
     requires { length before.now ≡ length after.now }
-    ensures { result ≡ count_below (λ k. not (slice_index after.now k == slice_index before.now k)) (length after.now) }
+    ensures count { result ≡ count_below (λ k. not (slice_index after.now k == slice_index before.now k)) (length after.now) }
+    ensures few { result ≤ length after.now }
 {
     let mut count = 0;
     for k in 0..after.len() {
@@ -27,7 +42,31 @@ fn differences(before: &[u16], after: &[u16]) -> u64
     count
 }
 
-/// Notes the samples at which the tints of a plate differ.
+/// How many samples of plate c change in row y.
+fn changed_in(page: &Page, row: &[u16], y: u32, c: u32) -> u64
+    requires row { IsNewRow page.now y row.now }
+    requires line { y < height page.now }
+    requires plate { c < plates page.now }
+    ensures count { result ≡ count_below (λ x. plate_changes page.now c (record { x = x; y = y })) (width page.now) }
+    ensures few { result ≤ width page.now }
+{
+    differences(tints_of_row(page, c, y), plate_row(page, row, y, c))
+}
+
+/// Counts for each plate the samples of row y that change.
+pub fn count_plates(page: &Page, row: &[u16], y: u32, counts: &mut [u64])
+    requires row { IsNewRow page.now y row.now }
+    requires line { y < height page.now }
+    requires counts { ArePlatesCounted page.now (y * width page.now) counts.old }
+    ensures { ArePlatesCounted page.now ((y + 1) * width page.now) counts.new }
+{
+    let _valid = page.plates();
+    for c in 0..page.plates() {
+        counts[c as usize] += changed_in(page, row, y, c);
+    }
+}
+
+/// Notes where the tints differ.
 fn note_differences(before: &[u16], after: &[u16], changes: &mut [bool])
     requires before { length before.now ≡ length after.now }
     requires changes { length changes.old ≡ length after.now }
@@ -42,73 +81,65 @@ fn note_differences(before: &[u16], after: &[u16], changes: &mut [bool])
     }
 }
 
-/// The tints of plate c before trapping.
-#[tactic(auto, using(crate::proofs::CountLemmas::before_reads))]
-fn tints_before<'a>(page: &'a Page, c: u32) -> &'a [u16]
+/// Notes the samples of row y at which plate c changes.
+fn note_plate(page: &Page, row: &[u16], y: u32, c: u32, changes: &mut [bool])
+    requires row { IsNewRow page.now y row.now }
+    requires line { y < height page.now }
     requires plate { c < plates page.now }
-    ensures len { length result.now ≡ samples page.now }
-    ensures each { (k : ℕ) → slice_index result.now k ≡ tint page.now c (sample_at page.now k) }
+    requires changes { length changes.old ≡ width page.now }
+    ensures len { length changes.new ≡ width page.now }
+    ensures each { (x : ℕ) → x < width page.now → slice_index_or changes.new x false ≡ (slice_index_or changes.old x false || plate_changes page.now c (record { x = x; y = y })) }
 {
-    let planes = page.planes().as_slice();
-    planes[c as usize].tints.as_slice()
+    note_differences(
+        tints_of_row(page, c, y),
+        plate_row(page, row, y, c),
+        changes,
+    );
 }
 
-/// The tints of plate c after trapping.
-#[tactic(auto, using(crate::proofs::WholeLemmas::plane_reads))]
-fn tints_after<'a>(page: &Page, planes: &'a PlaneList, c: u32) -> &'a [u16]
-    requires planes { planes.now ≡ trapped_planes page.now }
-    requires plate { c < plates page.now }
-    ensures len { length result.now ≡ samples page.now }
-    ensures each { (k : ℕ) → k < samples page.now → slice_index result.now k ≡ new page.now (sample_at page.now k) c }
+/// Notes the samples of row y at which some plate changes.
+pub fn note_changes(page: &Page, row: &[u16], y: u32, changes: &mut [bool])
+    requires row { IsNewRow page.now y row.now }
+    requires line { y < height page.now }
+    requires changes { length changes.old ≡ width page.now }
+    ensures len { length changes.new ≡ width page.now }
+    ensures each { (x : ℕ) → x < width page.now → slice_index_or changes.new x false ≡ sample_changes page.now (record { x = x; y = y }) }
+{
+    changes.fill(false);
+    for c in 0..page.plates() {
+        note_plate(page, row, y, c, changes);
+    }
+}
+
+/// Counts sample x of row y in its zone, where it changes.
+#[tactic(auto, using(crate::proofs::CountLemmas::zone_known))]
+fn count_sample(page: &Page, zones: &[u8], y: u32, x: usize, changes: &[bool], counts: &mut [u64])
+    requires zones { AreZones page.now y zones.now }
+    requires line { y < height page.now }
+    requires column { x < width page.now }
+    requires changes { length changes.now ≡ width page.now }
+    requires each { (x : ℕ) → x < width page.now → slice_index_or changes.now x false ≡ sample_changes page.now (record { x = x; y = y }) }
+    requires counts { AreZonesCounted page.now (y * width page.now + x) counts.old }
+    ensures { AreZonesCounted page.now (y * width page.now + x + 1) counts.new }
 {
     let _valid = page.plates();
-    let planes = planes.as_slice();
-    planes[c as usize].tints.as_slice()
-}
-
-/// How many samples of plate c change.
-fn changed_on(page: &Page, planes: &PlaneList, c: u32) -> u64
-    requires planes { planes.now ≡ trapped_planes page.now }
-    requires plate { c < plates page.now }
-    ensures { result ≡ plate_changed page.now c }
-{
-    differences(tints_before(page, c), tints_after(page, planes, c))
-}
-
-/// For each plate how many of its samples change.
-pub fn plate_changed_of(
-    alloc: Global,
-    page: &Page,
-    planes: &PlaneList,
-) -> Result<CountList, OutOfMemory>
-    requires { planes.now ≡ trapped_planes page.now }
-    ensures { IfOk result (λ counts. counts ≡ list_below (plate_changed page.now) (plates page.now)) }
-{
-    let mut counts = List::new(alloc);
-    for c in 0..page.plates() {
-        push(&mut counts, changed_on(page, planes, c))?;
+    if !changes[x] {
+        return;
     }
-    Ok(counts)
+    let zone = usize::from(zones[x]);
+    counts[zone] += 1;
 }
 
-/// Notes the samples at which some plate changes.
-fn note_changes(page: &Page, planes: &PlaneList, changes: &mut [bool])
-    requires planes { planes.now ≡ trapped_planes page.now }
-    requires changes { length changes.old ≡ samples page.now }
-    requires none { (k : ℕ) → k < samples page.now → slice_index_or changes.old k false ≡ false }
-    ensures { changes.new ≡ sample_changes_of page.now }
+/// Counts for each zone the samples of row y that change.
+pub fn count_changed(page: &Page, zones: &[u8], y: u32, changes: &[bool], counts: &mut [u64])
+    requires zones { AreZones page.now y zones.now }
+    requires line { y < height page.now }
+    requires changes { length changes.now ≡ width page.now }
+    requires each { (x : ℕ) → x < width page.now → slice_index_or changes.now x false ≡ sample_changes page.now (record { x = x; y = y }) }
+    requires counts { AreZonesCounted page.now (y * width page.now) counts.old }
+    ensures { AreZonesCounted page.now ((y + 1) * width page.now) counts.new }
 {
-    for c in 0..page.plates() {
-        note_differences(tints_before(page, c), tints_after(page, planes, c), changes);
+    for x in 0..changes.len() {
+        count_sample(page, zones, y, x, changes, counts);
     }
-}
-
-/// For each sample, row by row, whether it changes in some plate.
-pub fn changes_of(alloc: Global, page: &Page, planes: &PlaneList) -> Result<Vec<bool>, OutOfMemory>
-    requires { planes.now ≡ trapped_planes page.now }
-    ensures { IfOk result (λ changes. changes.items ≡ sample_changes_of page.now) }
-{
-    let mut changes = no_changes(alloc, samples_of(page))?;
-    note_changes(page, planes, &mut changes);
-    Ok(changes)
 }

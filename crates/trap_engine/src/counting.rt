@@ -1,15 +1,15 @@
-// How many samples lie in each zone and how many of them change, and how many edges decide, each in one pass.
+// How many samples lie in each zone, and how many edges decide, each in one pass.
 
-ghost use Rattle.std.specs.Prelude.{◌≡◌, ◌<◌, ◌&&◌, ◌==◌, true, ℕ, IfOk, if◌then◌else◌, length, slice_index};
-ghost use Rattle.page_model.specs.Counts.{deciding_edges, zone_changed, zone_samples};
+ghost use Rattle.std.specs.Prelude.{◌≡◌, ◌<◌, ℕ, IfOk, if◌then◌else◌, length, slice_index};
+ghost use Rattle.page_model.specs.Counts.{deciding_edges, zone_samples};
 ghost use Rattle.page_model.specs.Page.{samples, sample_at};
 ghost use Rattle.lists.specs.Words.{list_below};
 ghost use Rattle.page_model.specs.Zones.{zone_of};
-ghost use Rattle.trap_engine.specs.Whole.{sample_changes_of, sample_marks, sample_zones};
+ghost use Rattle.trap_engine.specs.Whole.{sample_marks, sample_zones};
 
 use crate::grid::samples_of;
 use crate::memory::no_counts;
-use crate::reads::{change_at, mark_at, zone_number};
+use crate::reads::{mark_at, zone_number};
 use lists::list::List;
 use page_model::page::Page;
 use page_model::parts::{CountList, OutOfMemory};
@@ -60,21 +60,6 @@ fn count_samples(page: &Page, zones: &[u8], counts: &mut [u64])
     }
 }
 
-/// Counts the samples of each zone that change.
-fn count_changed(page: &Page, zones: &[u8], changes: &[bool], counts: &mut [u64])
-    requires zones { zones.now ≡ sample_zones page.now }
-    requires changes { changes.now ≡ sample_changes_of page.now }
-    requires counts { length counts.old ≡ length page.now.zones }
-    requires none { (z : ℕ) → z < length page.now.zones → slice_index counts.old z ≡ 0 }
-    ensures { counts.new ≡ list_below (zone_changed page.now) (length page.now.zones) }
-{
-    for k in 0..samples_of(page) {
-        if change_at(page, changes, k) {
-            counts[count_place(page, zones, k)] += 1;
-        }
-    }
-}
-
 /// For each zone how many samples lie in it.
 pub fn zone_samples_of(alloc: Global, page: &Page, zones: &[u8]) -> Result<CountList, OutOfMemory>
     requires { zones.now ≡ sample_zones page.now }
@@ -82,21 +67,5 @@ pub fn zone_samples_of(alloc: Global, page: &Page, zones: &[u8]) -> Result<Count
 {
     let mut counts = no_counts(alloc, page.zones() as usize)?;
     count_samples(page, zones, &mut counts);
-    Ok(List::from_vec(counts))
-}
-
-/// For each zone how many of its samples change.
-pub fn zone_changed_of(
-    alloc: Global,
-    page: &Page,
-    zones: &[u8],
-    changes: &[bool],
-) -> Result<CountList, OutOfMemory>
-    requires zones { zones.now ≡ sample_zones page.now }
-    requires changes { changes.now ≡ sample_changes_of page.now }
-    ensures { IfOk result (λ counts. counts ≡ list_below (zone_changed page.now) (length page.now.zones)) }
-{
-    let mut counts = no_counts(alloc, page.zones() as usize)?;
-    count_changed(page, zones, changes, &mut counts);
     Ok(List::from_vec(counts))
 }

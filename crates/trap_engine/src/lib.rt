@@ -2,18 +2,15 @@
 #![tactic(auto)]
 
 mod alone;
-mod arms;
 mod changes;
 mod counting;
 mod grid;
 mod marks;
 mod memory;
-mod nearest;
 mod planes;
 #[cfg(test)]
 mod random_pages;
 mod reads;
-mod samples;
 #[cfg(test)]
 mod slow_marks;
 #[cfg(test)]

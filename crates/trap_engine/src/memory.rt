@@ -1,4 +1,4 @@
-ghost use Rattle.std.specs.Prelude.{◌≡◌, ◌∷◌, ◌++◌, [], IfOk, OnOk, false, replicate, vec_len};
+ghost use Rattle.std.specs.Prelude.{◌≡◌, ◌∷◌, ◌++◌, [], IfOk, OnOk, replicate, vec_len};
 
 use lists::list::List;
 use page_model::parts::OutOfMemory;
@@ -9,16 +9,6 @@ pub fn push<T: Drop>(list: &mut List<T>, item: T) -> Result<(), OutOfMemory>
     ensures { OnOk result (list.new ≡ list.old ++ item ∷ []) }
 {
     match list.push(item) {
-        Ok(()) => Ok(()),
-        Err(_) => Err(OutOfMemory),
-    }
-}
-
-/// Adds the items at the end.
-pub fn extend(items: &mut Vec<u8>, more: &[u8]) -> Result<(), OutOfMemory>
-    ensures { OnOk result (items.new.items ≡ items.old.items ++ more.now) }
-{
-    match items.extend_from_slice(more) {
         Ok(()) => Ok(()),
         Err(_) => Err(OutOfMemory),
     }
@@ -39,16 +29,6 @@ pub fn no_counts(alloc: Global, count: usize) -> Result<Vec<u64>, OutOfMemory>
     ensures { IfOk result (λ counts. counts.items ≡ replicate count 0) }
 {
     match vec![in alloc; 0u64; count] {
-        Ok(items) => Ok(items),
-        Err(_) => Err(OutOfMemory),
-    }
-}
-
-/// So many times `false`.
-pub fn no_changes(alloc: Global, count: usize) -> Result<Vec<bool>, OutOfMemory>
-    ensures { IfOk result (λ changes. changes.items ≡ replicate count false) }
-{
-    match vec![in alloc; false; count] {
         Ok(items) => Ok(items),
         Err(_) => Err(OutOfMemory),
     }

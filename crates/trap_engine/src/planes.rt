@@ -1,21 +1,18 @@
-// The planes of the page: copies of them, trapped strip by strip.
+// The planes of the page: copies of them, into which the new tints of its rows are put.
 
-ghost use Rattle.std.specs.Prelude.{◌≡◌, ◌<◌, IfOk, vec_len};
-ghost use Rattle.page_model.specs.Page.{plates};
-ghost use Rattle.page_model.specs.Tints.{trapped_planes};
-ghost use Rattle.trap_engine.specs.Standing.{AreTrappedTo, IsTrappedTo};
-ghost use Rattle.trap_engine.specs.Whole.{sample_marks, sample_zones};
+ghost use Rattle.std.specs.Prelude.{◌≡◌, ◌<◌, ◌+◌, ◌*◌, ℕ, IfOk, length, slice_index};
+ghost use Rattle.page_model.specs.Page.{height, plates, width};
+ghost use Rattle.page_model.specs.Tints.{new};
+ghost use Rattle.trap_engine.specs.Standing.{AreTrappedTo, AreTrapping, IsNewRow, IsTrappedTo};
 
-use crate::memory::{filled, push};
-use crate::strips::{STRIP, trap_strips};
+use crate::changes::{are_same, plate_row};
+use crate::memory::push;
+use band_values::tints_of_row;
 use lists::list::List;
-use page_model::arms::Arm;
 use page_model::page::Page;
 use page_model::parts::{OutOfMemory, Plane, PlaneList};
-use page_model::steps::Steps;
-use row_envelope::HullBuf;
+use page_model::planes::set_tint;
 use std::alloc::Global;
-use std::sync::ledger::{Blank, Ledger};
 
 /// A copy of plate c.
 fn copy_of(alloc: Global, page: &Page, c: u32) -> Result<Plane, OutOfMemory>
@@ -35,7 +32,7 @@ fn copy_of(alloc: Global, page: &Page, c: u32) -> Result<Plane, OutOfMemory>
 }
 
 /// Copies of all plates.
-fn copies_of(alloc: Global, page: &Page) -> Result<PlaneList, OutOfMemory>
+pub fn copies_of(alloc: Global, page: &Page) -> Result<PlaneList, OutOfMemory>
     ensures { IfOk result (λ planes. AreTrappedTo page.now planes 0) }
 {
     let mut planes = List::new(alloc);
@@ -45,43 +42,46 @@ fn copies_of(alloc: Global, page: &Page) -> Result<PlaneList, OutOfMemory>
     Ok(planes)
 }
 
-/// The planes after trapping. All memory is taken before the work.
-pub fn planes_of<L: Ledger>(
-    alloc: Global,
-    page: &Page,
-    zones: &[u8],
-    marks: &[u8],
-    blank: Blank,
-) -> Result<PlaneList, OutOfMemory>
-    requires zones { zones.now ≡ sample_zones page.now }
-    requires marks { marks.now ≡ sample_marks page.now }
-    requires name { blank.name ≡ L.name }
-    requires parts { blank.parts ≡ L.parts }
-    requires some { 0 < L.parts }
-    ensures { IfOk result (λ planes. planes ≡ trapped_planes page.now) }
+/// Puts the new tints of plate c into its row y, one after another.
+fn put_each(page: &Page, y: u32, c: u32, after: &[u16], planes: &mut PlaneList)
+    requires line { y < height page.now }
+    requires plate { c < plates page.now }
+    requires len { length after.now ≡ width page.now }
+    requires tints { (x : ℕ) → x < width page.now → slice_index after.now x ≡ new page.now (record { x = x; y = y }) c }
+    requires planes { AreTrapping page.now planes.old (y * width page.now) (width page.now) c }
+    ensures { AreTrapping page.now planes.new (y * width page.now) (width page.now) (c + 1) }
 {
-    let width = page.width();
-    let doubled = 2 * width as usize - 1;
-    let mut codes = filled(alloc, 0u16, STRIP as usize * doubled)?;
-    let mut arms = filled(alloc, Arm::new(0, 0), doubled)?;
-    let mut columns = filled(alloc, 0u32, doubled)?;
-    let mut places = filled(alloc, None, width as usize)?;
-    let mut hull = HullBuf::new(alloc, width)?;
-    let mut tints = filled(alloc, 0u16, page.plates() as usize)?;
-    let mut planes = copies_of(alloc, page)?;
-    let mut steps = Steps::<L>::new(blank);
-    trap_strips(
-        page,
-        zones,
-        marks,
-        &mut codes,
-        &mut arms,
-        &mut columns,
-        &mut places,
-        &mut hull,
-        &mut tints,
-        &mut planes,
-        &mut steps,
-    );
-    Ok(planes)
+    let _valid = page.plates();
+    let start = y as usize * page.width() as usize;
+    for x in 0..after.len() {
+        set_tint(planes, c as usize, start + x, after[x]);
+    }
+}
+
+/// Puts the new tints of plate c into its row y, where they are not those of the page.
+fn put_plate(page: &Page, row: &[u16], y: u32, c: u32, planes: &mut PlaneList)
+    requires row { IsNewRow page.now y row.now }
+    requires line { y < height page.now }
+    requires plate { c < plates page.now }
+    requires planes { AreTrapping page.now planes.old (y * width page.now) (width page.now) c }
+    ensures { AreTrapping page.now planes.new (y * width page.now) (width page.now) (c + 1) }
+{
+    let before = tints_of_row(page, c, y);
+    let after = plate_row(page, row, y, c);
+    if are_same(before, after) {
+        return;
+    }
+    put_each(page, y, c, after, planes);
+}
+
+/// Puts the new tints of row y into the planes.
+pub fn put_row(page: &Page, row: &[u16], y: u32, planes: &mut PlaneList)
+    requires row { IsNewRow page.now y row.now }
+    requires line { y < height page.now }
+    requires planes { AreTrappedTo page.now planes.old (y * width page.now) }
+    ensures { AreTrappedTo page.now planes.new ((y + 1) * width page.now) }
+{
+    for c in 0..page.plates() {
+        put_plate(page, row, y, c, planes);
+    }
 }

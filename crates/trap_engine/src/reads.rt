@@ -1,11 +1,10 @@
 // Reads of the lists that a page's work makes.
 
 ghost use Rattle.std.specs.Prelude.{◌≡◌, ◌<◌, ◌/◌, ◌%◌};
-ghost use Rattle.page_model.specs.Counts.{sample_changes};
 ghost use Rattle.page_model.specs.Deciding.{mark};
 ghost use Rattle.page_model.specs.Page.{samples, sample_at, width};
 ghost use Rattle.page_model.specs.Zones.{zone_of};
-ghost use Rattle.trap_engine.specs.Whole.{sample_changes_of, sample_marks, sample_zones};
+ghost use Rattle.trap_engine.specs.Whole.{sample_marks, sample_zones};
 
 use page_model::page::Page;
 
@@ -29,15 +28,4 @@ pub fn mark_at(page: &Page, marks: &[u8], k: usize) -> u8
 {
     let _valid = page.plates();
     marks[k]
-}
-
-/// Whether sample k changes in some plate.
-#[tactic(auto, using(crate::proofs::WholeLemmas::change_reads))]
-pub fn change_at(page: &Page, changes: &[bool], k: usize) -> bool
-    requires changes { changes.now ≡ sample_changes_of page.now }
-    requires sample { k < samples page.now }
-    ensures { result ≡ sample_changes page.now (sample_at page.now k) }
-{
-    let _valid = page.plates();
-    changes[k]
 }

@@ -11,12 +11,33 @@ use crate::grid::{sample_of, samples_of};
 use crate::memory::{filled, push};
 use crate::slow_marks::{decides_at, zone_among};
 use crate::zones::zones_of;
+use band_values::Workspace;
 use lists::list::List;
 use page_model::edges::squared_distance;
 use page_model::page::Page;
 use page_model::parts::{At, CountList, Counts, EdgeAt, OutOfMemory, Plane, PlaneList};
 use std::alloc::Global;
+use std::marker::Brand;
+use std::sync::ledger::{Blank, Ledger};
 use trap_color::trap_sample;
+
+fn zones_with<L: Ledger>(alloc: Global, page: &Page, blank: Blank) -> Result<Vec<u8>, OutOfMemory>
+    requires name { blank.name ≡ L.name }
+    requires parts { blank.parts ≡ L.parts }
+    requires some { 0 < L.parts }
+    ensures { IfOk result (λ zones. zones.items ≡ sample_zones page.now) }
+{
+    let mut room = Workspace::<L>::new(alloc, page, blank)?;
+    zones_of(alloc, page, &mut room)
+}
+
+/// The zone of each sample, row by row.
+pub fn zones_alone(alloc: Global, page: &Page) -> Result<Vec<u8>, OutOfMemory>
+    ensures { IfOk result (λ zones. zones.items ≡ sample_zones page.now) }
+{
+    let blank = Blank::new(1);
+    zones_with::<Brand>(alloc, page, blank)
+}
 
 /// Adds the deciding edges of a column of the doubled grid.
 fn add_column(
@@ -241,7 +262,7 @@ fn slow_differences(
 
 /// The planes and the counts of the page after trapping.
 pub fn slow_traps(alloc: Global, page: &Page) -> Result<Trapped, OutOfMemory> {
-    let zones = zones_of(alloc, page)?;
+    let zones = zones_alone(alloc, page)?;
     let edges = deciding_edges(alloc, page, zones.as_slice())?;
     let deciders = slow_deciders(alloc, page, edges.as_slice())?;
     let planes = slow_planes(alloc, page, zones.as_slice(), deciders.as_slice())?;

@@ -1,204 +1,292 @@
 // The page strip by strip: the column answers of some rows, and then the traps of each row.
 
-ghost use Rattle.std.specs.Prelude.{◌≡◌, ◌<◌, ◌≤◌, ◌+◌, ◌*◌, ◌-◌, ℕ, length, slice_index};
-ghost use Rattle.page_model.specs.Columns.{column_answer};
+ghost use Rattle.std.specs.Prelude.{◌≡◌, ◌<◌, ◌≤◌, ◌+◌, ◌*◌, ◌-◌, length};
+ghost use Rattle.band_values.specs.Arms.{AreAnswers};
+ghost use Rattle.band_values.specs.Room.{Serves};
+ghost use Rattle.band_values.specs.Rows.{HoldsAnswers, doubled};
+ghost use Rattle.lists.specs.Words.{list_below};
+ghost use Rattle.page_model.specs.Counts.{plate_changed, zone_changed};
 ghost use Rattle.page_model.specs.Page.{height, plates, width};
 ghost use Rattle.page_model.specs.Reach.{page_reach};
-ghost use Rattle.trap_engine.specs.Arms.{AreAnswers};
-ghost use Rattle.trap_engine.specs.Standing.{AreTrappedTo};
+ghost use Rattle.page_model.specs.Tints.{trapped_planes};
+ghost use Rattle.page_model.specs.Zones.{AreZones};
+ghost use Rattle.trap_engine.specs.Standing.{ArePlatesCounted, AreTrappedTo, AreZonesCounted, IsNewRow};
 ghost use Rattle.trap_engine.specs.Whole.{sample_marks, sample_zones};
 
-use crate::marks::marks_between;
-use crate::nearest::nearest_arms;
-use crate::samples::trap_samples;
-use page_model::arms::Arm;
+use crate::changes::{count_changed, count_plates, note_changes};
+use crate::marks::{marks_between, zones_of_row};
+use crate::planes::put_row;
+use band_values::{Rows, Workspace, is_quiet, make_answers, make_row, row_of};
 use page_model::page::Page;
 use page_model::parts::PlaneList;
-use page_model::steps::Steps;
-use row_envelope::HullBuf;
 use std::sync::ledger::Ledger;
 
 /// How many rows a strip has at most.
 pub const STRIP: u32 = 64;
 
-/// Traps row y, whose column answers these are.
+/// Puts the new tints of row y into the planes, and counts what they change.
+fn note_row(
+    page: &Page,
+    y: u32,
+    zones: &[u8],
+    row: &[u16],
+    changes: &mut [bool],
+    planes: &mut PlaneList,
+    zone_counts: &mut [u64],
+    plate_counts: &mut [u64],
+)
+    requires line { y < height page.now }
+    requires zones { AreZones page.now y zones.now }
+    requires row { IsNewRow page.now y row.now }
+    requires changes { length changes.old ≡ width page.now }
+    requires planes { AreTrappedTo page.now planes.old (y * width page.now) }
+    requires zone_counts { AreZonesCounted page.now (y * width page.now) zone_counts.old }
+    requires plate_counts { ArePlatesCounted page.now (y * width page.now) plate_counts.old }
+    ensures changes { length changes.new ≡ length changes.old }
+    ensures planes { AreTrappedTo page.now planes.new ((y + 1) * width page.now) }
+    ensures zone_counts { AreZonesCounted page.now ((y + 1) * width page.now) zone_counts.new }
+    ensures plate_counts { ArePlatesCounted page.now ((y + 1) * width page.now) plate_counts.new }
+{
+    put_row(page, row, y, planes);
+    count_plates(page, row, y, plate_counts);
+    note_changes(page, row, y, changes);
+    count_changed(page, zones, y, changes, zone_counts);
+}
+
+/// Traps row y, whose column answers these are. A quiet row stays as it was copied.
 fn trap_row<L: Ledger>(
     page: &Page,
-    zones: &[u8],
     y: u32,
-    reach2: u32,
+    zones: &[u8],
     codes: &[u16],
-    arms: &mut [Arm],
-    columns: &mut [u32],
-    places: &mut [Option<u32>],
-    hull: &mut HullBuf,
-    tints: &mut [u16],
+    row: &mut [u16],
+    changes: &mut [bool],
     planes: &mut PlaneList,
-    steps: &mut Steps<L>,
+    zone_counts: &mut [u64],
+    plate_counts: &mut [u64],
+    room: &mut Workspace<L>,
 )
+    requires line { y < height page.now }
     requires zones { zones.now ≡ sample_zones page.now }
-    requires row { y < height page.now }
-    requires reach { reach2 ≡ page_reach page.now }
-    requires few { reach2 ≤ 256 }
-    requires codes { AreAnswers page.now reach2 y (2 * width page.now - 1) codes.now }
-    requires arms { length arms.old ≡ 2 * width page.now - 1 }
-    requires columns { length columns.old ≡ 2 * width page.now - 1 }
-    requires places { length places.old ≡ width page.now }
-    requires hull { hull.old ≡ 2 * width page.now - 1 }
-    requires tints { length tints.old ≡ plates page.now }
+    requires codes { AreAnswers page.now (page_reach page.now) y (doubled page.now) codes.now }
+    requires row { length row.old ≡ plates page.now * width page.now }
+    requires changes { length changes.old ≡ width page.now }
     requires planes { AreTrappedTo page.now planes.old (y * width page.now) }
-    ensures arms { length arms.new ≡ length arms.old }
-    ensures columns { length columns.new ≡ length columns.old }
-    ensures places { length places.new ≡ length places.old }
-    ensures hull { hull.new ≡ hull.old }
-    ensures tints { length tints.new ≡ length tints.old }
+    requires zone_counts { AreZonesCounted page.now (y * width page.now) zone_counts.old }
+    requires plate_counts { ArePlatesCounted page.now (y * width page.now) plate_counts.old }
+    requires room { Serves room.old page.now }
+    ensures row { length row.new ≡ length row.old }
+    ensures changes { length changes.new ≡ length changes.old }
     ensures planes { AreTrappedTo page.now planes.new ((y + 1) * width page.now) }
+    ensures zone_counts { AreZonesCounted page.now ((y + 1) * width page.now) zone_counts.new }
+    ensures plate_counts { ArePlatesCounted page.now ((y + 1) * width page.now) plate_counts.new }
+    ensures room { room.new ≡ room.old }
 {
-    let _valid = page.plates();
-    nearest_arms(page, codes, y, reach2, arms, columns, places, hull, steps);
-    trap_samples(
-        page, zones, y, reach2, codes, columns, places, tints, planes,
+    if is_quiet(page, y, codes) {
+        return;
+    }
+    let here = zones_of_row(page, zones, y);
+    make_row(page, y, here, codes, row, room);
+    note_row(
+        page,
+        y,
+        here,
+        row,
+        changes,
+        planes,
+        zone_counts,
+        plate_counts,
     );
 }
 
-/// Row k of a strip's column answers.
-fn row_of<'a>(codes: &'a [u16], columns: usize, k: usize) -> &'a [u16]
-    requires columns { columns ≤ 32767 }
-    requires row { k ≤ 16384 }
-    requires inside { (k + 1) * columns ≤ length codes.now }
-    ensures len { length result.now ≡ columns }
-    ensures each { (x2 : ℕ) → x2 < columns → slice_index result.now x2 ≡ slice_index codes.now (k * columns + x2) }
-{
-    let start = k * columns;
-    &codes[start..start + columns]
-}
-
-/// Traps the rows of a strip, whose column answers these are.
+/// Traps these rows, whose column answers these are.
 fn trap_rows<L: Ledger>(
     page: &Page,
+    rows: Rows,
     zones: &[u8],
-    first: u32,
-    rows: u32,
-    reach2: u32,
     codes: &[u16],
-    arms: &mut [Arm],
-    columns: &mut [u32],
-    places: &mut [Option<u32>],
-    hull: &mut HullBuf,
-    tints: &mut [u16],
+    row: &mut [u16],
+    changes: &mut [bool],
     planes: &mut PlaneList,
-    steps: &mut Steps<L>,
+    zone_counts: &mut [u64],
+    plate_counts: &mut [u64],
+    room: &mut Workspace<L>,
 )
+    requires inside { rows.first + rows.count ≤ height page.now }
     requires zones { zones.now ≡ sample_zones page.now }
-    requires rows { first + rows ≤ height page.now }
-    requires reach { reach2 ≡ page_reach page.now }
-    requires few { reach2 ≤ 256 }
-    requires codes { length codes.now ≡ rows * (2 * width page.now - 1) }
-    requires answers { (k x2 : ℕ) → k < rows → x2 < 2 * width page.now - 1 → slice_index codes.now (k * (2 * width page.now - 1) + x2) ≡ column_answer page.now reach2 x2 (first + k) }
-    requires arms { length arms.old ≡ 2 * width page.now - 1 }
-    requires columns { length columns.old ≡ 2 * width page.now - 1 }
-    requires places { length places.old ≡ width page.now }
-    requires hull { hull.old ≡ 2 * width page.now - 1 }
-    requires tints { length tints.old ≡ plates page.now }
-    requires planes { AreTrappedTo page.now planes.old (first * width page.now) }
-    ensures arms { length arms.new ≡ length arms.old }
-    ensures columns { length columns.new ≡ length columns.old }
-    ensures places { length places.new ≡ length places.old }
-    ensures hull { hull.new ≡ hull.old }
-    ensures tints { length tints.new ≡ length tints.old }
-    ensures planes { AreTrappedTo page.now planes.new ((first + rows) * width page.now) }
+    requires codes { HoldsAnswers page.now rows codes.now }
+    requires row { length row.old ≡ plates page.now * width page.now }
+    requires changes { length changes.old ≡ width page.now }
+    requires planes { AreTrappedTo page.now planes.old (rows.first * width page.now) }
+    requires zone_counts { AreZonesCounted page.now (rows.first * width page.now) zone_counts.old }
+    requires plate_counts { ArePlatesCounted page.now (rows.first * width page.now) plate_counts.old }
+    requires room { Serves room.old page.now }
+    ensures row { length row.new ≡ length row.old }
+    ensures changes { length changes.new ≡ length changes.old }
+    ensures planes { AreTrappedTo page.now planes.new ((rows.first + rows.count) * width page.now) }
+    ensures zone_counts { AreZonesCounted page.now ((rows.first + rows.count) * width page.now) zone_counts.new }
+    ensures plate_counts { ArePlatesCounted page.now ((rows.first + rows.count) * width page.now) plate_counts.new }
+    ensures room { room.new ≡ room.old }
 {
-    let doubled = 2 * page.width() as usize - 1;
-    for k in 0..rows {
-        let row = row_of(codes, doubled, k as usize);
-        let y = first + k;
+    let wide = 2 * page.width() as usize - 1;
+    for k in 0..rows.count {
+        let answers = row_of(codes, wide, k as usize);
         trap_row(
-            page, zones, y, reach2, row, arms, columns, places, hull, tints, planes, steps,
+            page,
+            rows.first + k,
+            zones,
+            answers,
+            row,
+            changes,
+            planes,
+            zone_counts,
+            plate_counts,
+            room,
         );
     }
 }
 
-/// Traps some rows of the page, from `first` on. The codes have a place for each doubled column of each of the rows.
+/// Traps these rows. The codes have a place for each doubled column of each of them.
 fn trap_strip<L: Ledger>(
     page: &Page,
+    rows: Rows,
     zones: &[u8],
     marks: &[u8],
-    first: u32,
-    rows: u32,
     codes: &mut [u16],
-    arms: &mut [Arm],
-    columns: &mut [u32],
-    places: &mut [Option<u32>],
-    hull: &mut HullBuf,
-    tints: &mut [u16],
+    row: &mut [u16],
+    changes: &mut [bool],
     planes: &mut PlaneList,
-    steps: &mut Steps<L>,
+    zone_counts: &mut [u64],
+    plate_counts: &mut [u64],
+    room: &mut Workspace<L>,
 )
+    requires some { 1 ≤ rows.count }
+    requires inside { rows.first + rows.count ≤ height page.now }
     requires zones { zones.now ≡ sample_zones page.now }
     requires marks { marks.now ≡ sample_marks page.now }
-    requires some { 1 ≤ rows }
-    requires rows { first + rows ≤ height page.now }
-    requires codes { length codes.old ≡ rows * (2 * width page.now - 1) }
-    requires arms { length arms.old ≡ 2 * width page.now - 1 }
-    requires columns { length columns.old ≡ 2 * width page.now - 1 }
-    requires places { length places.old ≡ width page.now }
-    requires hull { hull.old ≡ 2 * width page.now - 1 }
-    requires tints { length tints.old ≡ plates page.now }
-    requires planes { AreTrappedTo page.now planes.old (first * width page.now) }
+    requires codes { length codes.old ≡ rows.count * doubled page.now }
+    requires row { length row.old ≡ plates page.now * width page.now }
+    requires changes { length changes.old ≡ width page.now }
+    requires planes { AreTrappedTo page.now planes.old (rows.first * width page.now) }
+    requires zone_counts { AreZonesCounted page.now (rows.first * width page.now) zone_counts.old }
+    requires plate_counts { ArePlatesCounted page.now (rows.first * width page.now) plate_counts.old }
+    requires room { Serves room.old page.now }
     ensures codes { length codes.new ≡ length codes.old }
-    ensures arms { length arms.new ≡ length arms.old }
-    ensures columns { length columns.new ≡ length columns.old }
-    ensures places { length places.new ≡ length places.old }
-    ensures hull { hull.new ≡ hull.old }
-    ensures tints { length tints.new ≡ length tints.old }
-    ensures planes { AreTrappedTo page.now planes.new ((first + rows) * width page.now) }
+    ensures row { length row.new ≡ length row.old }
+    ensures changes { length changes.new ≡ length changes.old }
+    ensures planes { AreTrappedTo page.now planes.new ((rows.first + rows.count) * width page.now) }
+    ensures zone_counts { AreZonesCounted page.now ((rows.first + rows.count) * width page.now) zone_counts.new }
+    ensures plate_counts { ArePlatesCounted page.now ((rows.first + rows.count) * width page.now) plate_counts.new }
+    ensures room { room.new ≡ room.old }
 {
-    let reach2 = page.reach2();
-    let halo = reach2.div_ceil(2);
-    let from = first.saturating_sub(halo);
-    let to = (first + rows + halo).min(page.height());
-    let held = marks_between(page, marks, from, to);
-    column_scan::columns(&held, page.width(), first, rows, reach2, codes, steps);
+    let halo = page.reach2().div_ceil(2);
+    let first = rows.first.saturating_sub(halo);
+    let to = (rows.first + rows.count + halo).min(page.height());
+    let held = Rows {
+        first,
+        count: to - first,
+    };
+    let near = marks_between(page, marks, held);
+    make_answers(page, rows, held, near, codes, room);
     trap_rows(
-        page, zones, first, rows, reach2, codes, arms, columns, places, hull, tints, planes, steps,
+        page,
+        rows,
+        zones,
+        codes,
+        row,
+        changes,
+        planes,
+        zone_counts,
+        plate_counts,
+        room,
     );
 }
 
-/// Traps the page, strip by strip.
-pub fn trap_strips<L: Ledger>(
+/// Traps the page, strip by strip. The codes have a place for each doubled column of each row of a strip.
+fn trap_strips<L: Ledger>(
     page: &Page,
     zones: &[u8],
     marks: &[u8],
     codes: &mut [u16],
-    arms: &mut [Arm],
-    columns: &mut [u32],
-    places: &mut [Option<u32>],
-    hull: &mut HullBuf,
-    tints: &mut [u16],
+    row: &mut [u16],
+    changes: &mut [bool],
     planes: &mut PlaneList,
-    steps: &mut Steps<L>,
+    zone_counts: &mut [u64],
+    plate_counts: &mut [u64],
+    room: &mut Workspace<L>,
 )
     requires zones { zones.now ≡ sample_zones page.now }
     requires marks { marks.now ≡ sample_marks page.now }
-    requires codes { length codes.old ≡ 64 * (2 * width page.now - 1) }
-    requires arms { length arms.old ≡ 2 * width page.now - 1 }
-    requires columns { length columns.old ≡ 2 * width page.now - 1 }
-    requires places { length places.old ≡ width page.now }
-    requires hull { hull.old ≡ 2 * width page.now - 1 }
-    requires tints { length tints.old ≡ plates page.now }
+    requires codes { length codes.old ≡ 64 * doubled page.now }
+    requires row { length row.old ≡ plates page.now * width page.now }
+    requires changes { length changes.old ≡ width page.now }
     requires planes { AreTrappedTo page.now planes.old 0 }
+    requires zone_counts { AreZonesCounted page.now 0 zone_counts.old }
+    requires plate_counts { ArePlatesCounted page.now 0 plate_counts.old }
+    requires room { Serves room.old page.now }
     ensures planes { AreTrappedTo page.now planes.new (height page.now * width page.now) }
+    ensures zone_counts { AreZonesCounted page.now (height page.now * width page.now) zone_counts.new }
+    ensures plate_counts { ArePlatesCounted page.now (height page.now * width page.now) plate_counts.new }
 {
     let height = page.height();
-    let doubled = 2 * page.width() as usize - 1;
+    let wide = 2 * page.width() as usize - 1;
     let mut first = 0;
     while first < height {
-        let rows = (height - first).min(STRIP);
-        let codes = &mut codes[..rows as usize * doubled];
+        let count = (height - first).min(STRIP);
+        let codes = &mut codes[..count as usize * wide];
         trap_strip(
-            page, zones, marks, first, rows, codes, arms, columns, places, hull, tints, planes,
-            steps,
+            page,
+            Rows { first, count },
+            zones,
+            marks,
+            codes,
+            row,
+            changes,
+            planes,
+            zone_counts,
+            plate_counts,
+            room,
         );
-        first += rows;
+        first += count;
     }
+}
+
+/// Traps the page, and counts what changes for each zone and each plate.
+pub fn trap_page<L: Ledger>(
+    page: &Page,
+    zones: &[u8],
+    marks: &[u8],
+    codes: &mut [u16],
+    row: &mut [u16],
+    changes: &mut [bool],
+    planes: &mut PlaneList,
+    zone_counts: &mut [u64],
+    plate_counts: &mut [u64],
+    room: &mut Workspace<L>,
+)
+    requires zones { zones.now ≡ sample_zones page.now }
+    requires marks { marks.now ≡ sample_marks page.now }
+    requires codes { length codes.old ≡ 64 * doubled page.now }
+    requires row { length row.old ≡ plates page.now * width page.now }
+    requires changes { length changes.old ≡ width page.now }
+    requires planes { AreTrappedTo page.now planes.old 0 }
+    requires zone_counts { AreZonesCounted page.now 0 zone_counts.old }
+    requires plate_counts { ArePlatesCounted page.now 0 plate_counts.old }
+    requires room { Serves room.old page.now }
+    ensures planes { planes.new ≡ trapped_planes page.now }
+    ensures zone_counts { zone_counts.new ≡ list_below (zone_changed page.now) (length page.now.zones) }
+    ensures plate_counts { plate_counts.new ≡ list_below (plate_changed page.now) (plates page.now) }
+{
+    trap_strips(
+        page,
+        zones,
+        marks,
+        codes,
+        row,
+        changes,
+        planes,
+        zone_counts,
+        plate_counts,
+        room,
+    );
 }

@@ -6,9 +6,8 @@ use crate::marks::marks_of;
 use crate::memory::push;
 use crate::random_pages::{Shape, some_page, some_shape};
 use crate::slow_marks::slow_marks;
-use crate::slow_traps::{same_traps, slow_traps};
+use crate::slow_traps::{same_traps, slow_traps, zones_alone};
 use crate::trap_alone;
-use crate::zones::zones_of;
 use lists::list::List;
 use page_model::page::Page;
 use page_model::parts::{Ink, InkKind, OutOfMemory, PageParts, Plane, TrapParams, Zone};
@@ -127,7 +126,7 @@ fn writes_a_row_of_zones(rt: HostRuntime) -> Result<(), Fail> {
 /// How many edges of a page by chance decide, or `None` where its marks are not those that its samples have one by one.
 fn edges_alike(alloc: Global, dice: &mut u64, shape: Shape) -> Result<Option<u64>, Fail> {
     let page = some_page(alloc, dice, shape)?.ok_or("a fault")?;
-    let zones = zones_of(alloc, &page)?;
+    let zones = zones_alone(alloc, &page)?;
     let marks = marks_of(alloc, &page, zones.as_slice())?;
     let slow = slow_marks(alloc, &page, zones.as_slice())?;
     if marks.as_slice() == slow.as_slice() {

@@ -1,24 +1,38 @@
-ghost use Rattle.std.specs.Prelude.{◌≡◌, IfOk};
+ghost use Rattle.std.specs.Prelude.{◌≡◌, IfOk, length};
+ghost use Rattle.band_values.specs.Room.{Serves};
+ghost use Rattle.page_model.specs.Page.{samples};
 ghost use Rattle.trap_engine.specs.Whole.{sample_zones};
 
-use crate::memory::{extend, filled};
-use lists::list::List;
+use crate::grid::samples_of;
+use crate::memory::filled;
+use band_values::{Rows, Workspace, make_zones};
 use page_model::page::Page;
 use page_model::parts::OutOfMemory;
 use std::alloc::Global;
-use zone_map::{SpanBuf, zone_row};
+use std::sync::ledger::Ledger;
+
+/// Writes the zone of each sample, row by row.
+fn fill_zones<L: Ledger>(page: &Page, out: &mut [u8], room: &mut Workspace<L>)
+    requires out { length out.old ≡ samples page.now }
+    requires room { Serves room.old page.now }
+    ensures zones { out.new ≡ sample_zones page.now }
+    ensures room { room.new ≡ room.old }
+{
+    let count = page.height();
+    make_zones(page, Rows { first: 0, count }, out, room);
+}
 
 /// The zone of each sample, row by row.
-#[tactic(auto, unfolding(crate::specs::Whole::sample_zones))]
-pub fn zones_of(alloc: Global, page: &Page) -> Result<List<u8>, OutOfMemory>
-    ensures { IfOk result (λ zones. zones ≡ sample_zones page.now) }
+pub fn zones_of<L: Ledger>(
+    alloc: Global,
+    page: &Page,
+    room: &mut Workspace<L>,
+) -> Result<Vec<u8>, OutOfMemory>
+    requires { Serves room.old page.now }
+    ensures zones { IfOk result (λ zones. zones.items ≡ sample_zones page.now) }
+    ensures room { room.new ≡ room.old }
 {
-    let mut spans = SpanBuf::new(alloc, page.width())?;
-    let mut row = filled(alloc, 0u8, page.width() as usize)?;
-    let mut zones = Vec::new(alloc);
-    for y in 0..page.height() {
-        zone_row(page, y, row.as_mut_slice(), &mut spans);
-        extend(&mut zones, row.as_slice())?;
-    }
-    Ok(List::from_vec(zones))
+    let mut zones = filled(alloc, 0u8, samples_of(page))?;
+    fill_zones(page, &mut zones, room);
+    Ok(zones)
 }

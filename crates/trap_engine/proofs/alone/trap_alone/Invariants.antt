@@ -1,4 +1,4 @@
 use Rattle.trap_engine.proofs.alone.trap_alone.Given as goal
 
-abbrev pub ghosts-planes_of : goal.ghosts-planes_of
-ghosts-planes_of a = record { name = a.blank.name; parts = a.blank.parts }
+abbrev pub ghosts-trap_with : goal.ghosts-trap_with
+ghosts-trap_with a = record { name = a.blank.name; parts = a.blank.parts }

@@ -1,11 +1,10 @@
 use Rattle.std.proofs.Common.{◌+◌, ◌∙◌, ap, arith, length}
-use Rattle.trap_engine.proofs.MarkLemmas.{rows_fit}
 use Rattle.trap_engine.proofs.WholeLemmas.{sample_zones-length}
-use Rattle.trap_engine.proofs.ZoneRows.{zones_of_row-are}
+use Rattle.trap_engine.proofs.ZoneRows.{rows_fit, zones_of_row-are}
 use Rattle.trap_engine.proofs.marks.zones_of_row.Goals as goal
 
 pub rows_between-requires-clause-inside : goal.rows_between-requires-clause-inside
-rows_between-requires-clause-inside c = rows_fit c.args.page.now c.width.result c.args.y (c.args.y + 1) c.args.zones.now c.width.ensures.value (omega arith) (omega (arith, c.if-y-height.true, c.height.ensures.value)) (ap length c.requires.zones ∙ sample_zones-length c.args.page.now)
+rows_between-requires-clause-inside c = rows_fit c.args.page.now c.width.result c.args.y (c.args.y + 1) c.args.zones.now c.width.ensures.value (omega arith) (omega (arith, c.requires.row)) (ap length c.requires.zones ∙ sample_zones-length c.args.page.now)
 
-pub returns-then-y-height-clause-zones : goal.returns-then-y-height-clause-zones
-returns-then-y-height-clause-zones c = λ l. zones_of_row-are c.args.page.now c.width.result c.args.y c.args.zones.now c.rows_between.result.now c.width.ensures.value l c.requires.zones c.rows_between.ensures
+pub returns : goal.returns
+returns c = zones_of_row-are c.args.page.now c.width.result c.args.y c.args.zones.now c.rows_between.result.now c.width.ensures.value c.requires.row c.requires.zones c.rows_between.ensures

@@ -1,0 +1,4 @@
+pub mod AnswerLemmas
+pub mod ArmsLemmas
+pub mod QuietLemmas
+pub mod RowLemmas

@@ -1,0 +1,13 @@
+use Rattle.std.specs.Prelude.{◌≡◌, ℕ}
+use Rattle.page_model.specs.declared.parts.PageParts.{PageParts}
+use Rattle.page_model.specs.Page.{plates, width}
+
+-- the samples of a row and the plates that a workspace has room for
+pub record Room : Type 0 where
+  pub wide : ℕ
+  pub deep : ℕ
+
+-- the workspace was made for pages of these sides
+pub record Serves (room : Room) (page : PageParts) : Type 0 where
+  pub wide : room.wide ≡ width page
+  pub deep : room.deep ≡ plates page

@@ -1,0 +1,74 @@
+// The arms of a row, from its column answers.
+
+ghost use Rattle.std.specs.Prelude.{◌≡◌, ◌≤◌, ◌<◌, ◌+◌, ◌*◌, ◌-◌, ℕ, length, slice_index};
+ghost use Rattle.std.specs.Option.{MatchOption};
+ghost use Rattle.band_values.specs.Arms.{arm_of, AreArms, edge_at_place};
+
+use page_model::arms::Arm;
+use page_model::parts::EdgeAt;
+
+fn arm_at(x2: u32, code: u16) -> Arm
+    requires column { x2 ≤ 32766 }
+    requires some { 1 ≤ code }
+    requires fits { code ≤ 513 }
+    ensures { result ≡ arm_of x2 code }
+{
+    Arm::new(x2, i32::from(code) - 257)
+}
+
+/// Adds the arm of one column where it has a code, and gives the new number of arms.
+fn add(codes: &[u16], x2: usize, arms: &mut [Arm], columns: &mut [u32], count: usize) -> usize
+    requires column { x2 < length codes.now }
+    requires few { length codes.now ≤ 32767 }
+    requires fits { (k : ℕ) → k < length codes.now → slice_index codes.now k ≤ 513 }
+    requires arms { length codes.now ≤ length arms.old }
+    requires columns { length codes.now ≤ length columns.old }
+    requires so_far { AreArms codes.now x2 arms.old columns.old count }
+    ensures arms { length arms.new ≡ length arms.old }
+    ensures columns { length columns.new ≡ length columns.old }
+    ensures so_far { AreArms codes.now (x2 + 1) arms.new columns.new result }
+{
+    let code = codes[x2];
+    if code == 0 {
+        return count;
+    }
+    arms[count] = arm_at(x2 as u32, code);
+    columns[count] = x2 as u32;
+    count + 1
+}
+
+/// Writes the arms of the columns that have a code, with their columns, and gives their number.
+pub fn raise_arms(codes: &[u16], arms: &mut [Arm], columns: &mut [u32]) -> usize
+    requires few { length codes.now ≤ 32767 }
+    requires fits { (k : ℕ) → k < length codes.now → slice_index codes.now k ≤ 513 }
+    requires arms { length codes.now ≤ length arms.old }
+    requires columns { length codes.now ≤ length columns.old }
+    ensures arms { length arms.new ≡ length arms.old }
+    ensures columns { length columns.new ≡ length columns.old }
+    ensures whole { AreArms codes.now (length codes.now) arms.new columns.new result }
+{
+    let mut count = 0;
+    for x2 in 0..codes.len() {
+        count = add(codes, x2, arms, columns, count);
+    }
+    count
+}
+
+/// The edge whose arm stands at a place.
+pub fn edge_at(codes: &[u16], y: u32, columns: &[u32], place: Option<u32>) -> Option<EdgeAt>
+    requires row { y ≤ 16384 }
+    requires place { MatchOption place (0 ≤ y) (λ k. (k < length columns.now) × (slice_index columns.now k < length codes.now) × (257 ≤ slice_index codes.now (slice_index columns.now k) + 2 * y)) }
+    ensures { result ≡ edge_at_place codes.now y columns.now place }
+{
+    match place {
+        Some(k) => {
+            let x2 = columns[k as usize];
+            let code = codes[x2 as usize];
+            Some(EdgeAt {
+                x2,
+                y2: u32::from(code) + 2 * y - 257,
+            })
+        }
+        None => None,
+    }
+}

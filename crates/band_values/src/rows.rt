@@ -1,0 +1,34 @@
+// Rows of a page that lie below one another, and what is held of them.
+
+ghost use Rattle.std.specs.Prelude.{◌≡◌, ◌<◌, ◌≤◌, ◌+◌, ◌*◌, ℕ, length, slice_index};
+
+/// The rows from `first` on, so many of them.
+#[derive(Clone, Copy, Debug, Drop, PartialEq, Eq)]
+pub struct Rows {
+    pub first: u32,
+    pub count: u32,
+}
+
+/// Row k of bytes that stand row by row, so many a row.
+pub(crate) fn row_of_bytes<'a>(items: &'a [u8], width: usize, k: usize) -> &'a [u8]
+    requires narrow { width ≤ 16384 }
+    requires row { k ≤ 16384 }
+    requires inside { (k + 1) * width ≤ length items.now }
+    ensures len { length result.now ≡ width }
+    ensures each { (x : ℕ) → x < width → slice_index result.now x ≡ slice_index items.now (k * width + x) }
+{
+    let start = k * width;
+    &items[start..start + width]
+}
+
+/// Row k of numbers that stand row by row, so many a row.
+pub fn row_of<'a>(items: &'a [u16], wide: usize, k: usize) -> &'a [u16]
+    requires narrow { wide ≤ 32767 }
+    requires row { k ≤ 16384 }
+    requires inside { (k + 1) * wide ≤ length items.now }
+    ensures len { length result.now ≡ wide }
+    ensures each { (x : ℕ) → x < wide → slice_index result.now x ≡ slice_index items.now (k * wide + x) }
+{
+    let start = k * wide;
+    &items[start..start + wide]
+}
