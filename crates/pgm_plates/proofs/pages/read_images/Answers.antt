@@ -1,4 +1,4 @@
-use Rattle.std.proofs.Common.{◌≡◌, ℕ, ◌+◌, ◌∙◌, Option, Ok, Err, sym, subst, rules, arith}
+use Rattle.std.proofs.Common.{ℕ, Option, Ok, Err, sym, subst, rules, arith}
 use Rattle.pgm_plates.specs.declared.plate.PlateRefusal.{PlateRefusal}
 use Rattle.pgm_plates.specs.declared.plate.Plate.{Plate}
 use Rattle.pgm_plates.specs.Images.{PageAnswers, ReadsImage}
@@ -17,7 +17,7 @@ pub returns-in-Err-clause-answer : goal.returns-in-Err-clause-answer
 returns-in-Err-clause-answer g c =
     subst (λ (r : PlateRefusal). PageAnswers c.args.page (g.T.Tray.state c.args.tray.now) (g.T.Tray.state c.read_image.new.tray) (Err r)) (sym c.further_refused.ensures)
     (page_refused (g.T.Tray.state c.args.tray.now) (g.T.Tray.state c.loop.tray) (g.T.Tray.state c.read_image.new.tray) c.args.page c.loop.counter c.loop.start c.in-Err.refusal
-      (omega arith) c.loop.invariant c.in-Err.ensures.answer c.in-Err.ensures.near c.in-Err.ensures.some)
+    (omega arith) c.loop.invariant c.in-Err.ensures.answer c.in-Err.ensures.near c.in-Err.ensures.some)
 
 pub returns-in-Ok-Some-read_image-clause-answer : goal.returns-in-Ok-Some-read_image-clause-answer
 returns-in-Ok-Some-read_image-clause-answer g c =
@@ -28,4 +28,4 @@ pub returns-in-Err-read_image-clause-answer : goal.returns-in-Err-read_image-cla
 returns-in-Err-read_image-clause-answer g c =
     subst (λ (r : PlateRefusal). PageAnswers c.args.page (g.T.Tray.state c.args.tray.now) (g.T.Tray.state c.read_image-2.new.tray) (Err r)) (sym c.further_refused-in-Err-read_image.ensures)
     (page_refused (g.T.Tray.state c.args.tray.now) (g.T.Tray.state c.loop.tray) (g.T.Tray.state c.read_image-2.new.tray) c.args.page c.loop.counter c.loop.start c.in-Err-read_image.refusal
-      (omega arith) c.loop.invariant c.in-Err-read_image.ensures.answer c.in-Err-read_image.ensures.near c.in-Err-read_image.ensures.some)
+    (omega arith) c.loop.invariant c.in-Err-read_image.ensures.answer c.in-Err-read_image.ensures.near c.in-Err-read_image.ensures.some)
