@@ -184,7 +184,7 @@ raster_refused a b c header start (Fault (TooManySamples at)) read r = absurd r
 raster_refused a b c header start (Fault (MaxvalRange at)) read r = absurd r
 raster_refused a b c header start (Fault (TrailingBytes at)) read r = absurd r
 
-raster_within : (m count : ℕ) (samples : List ℕ) → length samples ≡ count → length (raster m samples) ≡ count * sample_size m
+pub raster_within : (m count : ℕ) (samples : List ℕ) → length samples ≡ count → length (raster m samples) ≡ count * sample_size m
 raster_within m count samples all = raster_size m samples ∙ ap (λ (n : ℕ). n * sample_size m) all
 
 pub end_refused : (a b c d : TrayState) (header : Header) (start at : ℕ) (samples : List ℕ) (refusal : PlateRefusal) → HeaderRead a b header start → RasterTaken header.maxval (header.width * header.height) b c samples → at ≡ start + header.width * header.height * sample_size header.maxval → EndsFile at c d (Err refusal) → Answers a d (Err refusal)
@@ -247,6 +247,24 @@ end_refused a b c d header start at samples (Fault (MaxvalRange place)) read tak
 end_refused a b c d header start at samples (Fault (SampleAboveMaxval place)) read taken is r = absurd r
 end_refused a b c d header start at samples (Fault (Truncated place)) read taken is r = absurd r
 
+-- the file of a header and the samples behind it
+pub file_of : (a b c : TrayState) (header : Header) (start : ℕ) (samples : List ℕ) (read : HeaderRead a b header start) → RasterTaken header.maxval (header.width * header.height) b c samples → IsPlateFile (read.bytes ++ raster header.maxval samples) (record { width = header.width; height = header.height; maxval = header.maxval; samples = samples })
+file_of a b c header start samples read taken = record {
+  header = read.bytes;
+  is_header = read.is_header;
+  short = omega (arith, read.size, read.short);
+  whole = refl;
+  plate_ok = record {
+    width = read.width;
+    height = read.height;
+    product = read.product;
+    positive = read.positive;
+    maxval = read.maxval;
+    count = taken.all;
+    samples = taken.fit;
+  };
+}
+
 pub plate_read : (a b c d : TrayState) (header : Header) (start : ℕ) (samples : List ℕ) → HeaderRead a b header start → RasterTaken header.maxval (header.width * header.height) b c samples → Takes [] c d × AtEnd c d → Answers a d (Ok (record { width = header.width; height = header.height; maxval = header.maxval; samples = samples }))
 plate_read a b c d header start samples read taken end =
     let w = header.width in
@@ -262,21 +280,7 @@ plate_read a b c d header start samples read taken end =
       few = few_behind read.bytes back w h m read.is_header (omega (arith, read.size, read.short)) (omega arith);
       answer = (
         end.0.begun,
-        record {
-          header = read.bytes;
-          is_header = read.is_header;
-          short = omega (arith, read.size, read.short);
-          whole = refl;
-          plate_ok = record {
-            width = read.width;
-            height = read.height;
-            product = read.product;
-            positive = read.positive;
-            maxval = read.maxval;
-            count = taken.all;
-            samples = taken.fit;
-          };
-        },
+        file_of a b c header start samples read taken,
         λ tells. end.1 (told_on front a c so_far tells),
       );
     }

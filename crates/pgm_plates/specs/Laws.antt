@@ -9,6 +9,7 @@ use Rattle.pgm_plates.specs.Plates.{IsPlate, IsPlateFile, spelled}
 use Rattle.pgm_plates.specs.Planes.{plane_of, plate_of}
 use Rattle.pgm_plates.specs.Faults.{IsFault}
 use Rattle.pgm_plates.specs.Reading.{IsTruncated, ReadsPlate}
+use Rattle.pgm_plates.specs.Sequences.{IsSequence}
 
 -- Bytes are a plate file or have a fault.
 abbrev pub PlateOrFault : Type 0
@@ -29,6 +30,10 @@ OneFault = (bytes : List ℕ) (one two : PlateFault) → IsFault bytes one → I
 -- No plate file is a proper front of another.
 abbrev pub NoFront : Type 0
 NoFront = (bytes more : List ℕ) (one two : Plate) → IsPlateFile bytes one → IsPlateFile (bytes ++ more) two → more ≡ []
+
+-- Bytes are plate files of one list of plates at most, one directly behind the other.
+abbrev pub OneSequence : Type 0
+OneSequence = (bytes : List ℕ) (one two : List Plate) → IsSequence bytes one → IsSequence bytes two → one ≡ two
 
 -- A fault stays, whatever comes behind the bytes that have it, but for an early end.
 abbrev pub FaultStays : Type 0

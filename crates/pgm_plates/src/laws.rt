@@ -1,6 +1,6 @@
 //! Laws of plate files, each the contract of an empty function: a caller that calls it has the law.
 
-ghost use Rattle.pgm_plates.specs.Laws.{FilePlate, FileFault, PlateOrFault, NotBoth, OnePlate, OneFault, NoFront, FaultStays, SpelledReads, TurnsBack};
+ghost use Rattle.pgm_plates.specs.Laws.{FilePlate, FileFault, PlateOrFault, NotBoth, OnePlate, OneFault, NoFront, OneSequence, FaultStays, SpelledReads, TurnsBack};
 
 /// A plate file has no fault.
 pub fn not_both()
@@ -20,6 +20,11 @@ pub fn one_fault()
 /// No plate file is a proper front of another.
 pub fn no_front()
     ensures { NoFront }
+{}
+
+/// Bytes are plate files of one list of plates at most, one directly behind the other.
+pub fn one_sequence()
+    ensures { OneSequence }
 {}
 
 /// A fault stays, whatever comes behind the bytes that have it, but for an early end.

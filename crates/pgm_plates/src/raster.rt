@@ -1,8 +1,9 @@
-ghost use Rattle.std.specs.Prelude.{IsTrue, ◌≡◌, ◌≢◌, ◌≤◌, ◌<◌, ◌*◌, ◌^◌, [], length, take, IfOk};
+ghost use Rattle.std.specs.Prelude.{IsTrue, ◌≡◌, ◌≢◌, ◌≤◌, ◌<◌, ◌*◌, ◌^◌, [], length, take, IfOk, IfErr, Err};
 ghost use Rattle.outside.specs.Causes.{Rose};
 ghost use Rattle.outside.specs.Reading.{Takes};
 ghost use Rattle.pgm_plates.specs.Limits.{most_header};
 ghost use Rattle.pgm_plates.specs.Plates.{sample_size as bytes_of_sample};
+ghost use Rattle.pgm_plates.specs.Images.{IsNearRefusal};
 ghost use Rattle.pgm_plates.specs.Reading.{KeepsCount};
 ghost use Rattle.pgm_plates.specs.Readers.{ReadsPiece, ReadsRaster};
 
@@ -26,10 +27,13 @@ pub fn read_raster<T: Tray>(
 ) -> Result<Tints, PlateRefusal>
     requires begun { IsTrue (T.state tray.old).begun }
     requires start { start ≤ most_header }
+    requires first { 0 < start }
     requires some { 0 < count }
     requires count { count < 2 ^ 30 }
     ensures answer { ReadsRaster maxval count start (T.state tray.old) (T.state tray.new) result }
     ensures count { KeepsCount (T.state tray.old) (T.state tray.new) result }
+    ensures near { IfErr result IsNearRefusal }
+    ensures uncut { result ≢ Err (PlateRefusal.Fault (PlateFault.Truncated 0)) }
 {
     let most = count.min(PIECE);
     let Ok(mut piece) = no_samples(alloc, most) else {
@@ -80,6 +84,7 @@ fn read_pieces<T: Tray>(
 ) -> Result<(), PlateRefusal>
     requires begun { IsTrue (T.state tray.old).begun }
     requires start { start ≤ most_header }
+    requires first { 0 < start }
     requires count { count < 2 ^ 30 }
     requires some { 0 < length piece.old }
     requires room { 2 * length piece.old ≤ length bytes.old }
@@ -87,6 +92,8 @@ fn read_pieces<T: Tray>(
     ensures answer { let samples = samples.new.items in
         ReadsPiece maxval count start (T.state tray.old) (T.state tray.new) result samples }
     ensures count { KeepsCount (T.state tray.old) (T.state tray.new) result }
+    ensures near { IfErr result IsNearRefusal }
+    ensures uncut { result ≢ Err (PlateRefusal.Fault (PlateFault.Truncated 0)) }
 {
     let size = sample_size(maxval);
     while samples.len() < count {
@@ -119,11 +126,14 @@ fn read_piece<T: Tray>(
 ) -> Result<(), PlateRefusal>
     requires begun { IsTrue (T.state tray.old).begun }
     requires start { start < 2 ^ 40 }
+    requires first { 0 < start }
     requires count { length samples.old < 2 ^ 30 }
     requires room { length bytes.old ≡ length samples.old * bytes_of_sample maxval }
     ensures answer { let count = length samples.new in
         ReadsPiece maxval count start (T.state tray.old) (T.state tray.new) result samples.new }
     ensures count { KeepsCount (T.state tray.old) (T.state tray.new) result }
+    ensures near { IfErr result IsNearRefusal }
+    ensures uncut { result ≢ Err (PlateRefusal.Fault (PlateFault.Truncated 0)) }
 {
     let size = sample_size(maxval);
     let (filled, end) = fill(tray, bytes);

@@ -1,0 +1,16 @@
+use Rattle.std.proofs.Common.{◌*◌, ◌+◌, ap, ℕ}
+use Rattle.pgm_plates.proofs.Sequences.{image_read}
+use Rattle.pgm_plates.proofs.Wholes.{raster_refused}
+use Rattle.pgm_plates.proofs.pages.read_image.Goals as goal
+
+pub returns-in-Ok-read_raster-clause-answer : goal.returns-in-Ok-read_raster-clause-answer
+returns-in-Ok-read_raster-clause-answer g c =
+    let header = c.in-Ok.read.0 in
+    image_read (g.T.Tray.state c.args.tray.now) (g.T.Tray.state c.read_header.new.tray) (g.T.Tray.state c.read_raster.new.tray)
+    header c.in-Ok.read.1 (c.in-Ok.read.1 + header.width * header.height * c.sample_size.result) c.in-Ok-read_raster.samples c.in-Ok.ensures.answer c.in-Ok-read_raster.ensures.answer
+    (ap (λ (n : ℕ). c.in-Ok.read.1 + header.width * header.height * n) c.sample_size.ensures)
+
+pub returns-in-Err-read_raster-clause-answer : goal.returns-in-Err-read_raster-clause-answer
+returns-in-Err-read_raster-clause-answer g c =
+    raster_refused (g.T.Tray.state c.args.tray.now) (g.T.Tray.state c.read_header.new.tray) (g.T.Tray.state c.read_raster.new.tray)
+    c.in-Ok.read.0 c.in-Ok.read.1 c.in-Err-read_raster.refusal c.in-Ok.ensures.answer c.in-Err-read_raster.ensures.answer

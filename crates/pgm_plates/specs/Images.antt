@@ -1,0 +1,57 @@
+-- What the reader of one image among others does. No public clause cites this file.
+use Rattle.std.specs.Prelude.{◌≡◌, ℕ, ◌*◌, ◌<◌, ◌≤◌, ◌^◌, List, length, Option, Some, None, Result, Ok, Err}
+use Rattle.outside.specs.Tray.{TrayState}
+use Rattle.outside.specs.Reading.{Takes}
+use Rattle.pgm_plates.specs.declared.plate.Plate.{Plate}
+use Rattle.pgm_plates.specs.declared.plate.PlateFault.{PlateFault}
+use Rattle.pgm_plates.specs.declared.plate.PlateFault.TheVariants.{BadMagic, BadHeader, SideRange, TooManySamples, MaxvalRange, SampleAboveMaxval, Truncated, TrailingBytes}
+use Rattle.pgm_plates.specs.declared.plate.PlateRefusal.{PlateRefusal}
+use Rattle.pgm_plates.specs.declared.plate.PlateRefusal.TheVariants.{Fault, ReadFault, OutOfMemory}
+use Rattle.pgm_plates.specs.Plates.{IsPlateFile}
+use Rattle.pgm_plates.specs.Reading.{AtEnd}
+use Rattle.pgm_plates.specs.Readers.{Answers}
+use Rattle.pgm_plates.specs.Sequences.{IsSequence, AnswersPage, further}
+
+-- a fault of an image, with its place far below the end of the numbers
+abbrev pub IsNear : PlateFault → Type 0
+IsNear (BadMagic at) = at < 2 ^ 42
+IsNear (BadHeader at) = at < 2 ^ 42
+IsNear (SideRange at) = at < 2 ^ 42
+IsNear (TooManySamples at) = at < 2 ^ 42
+IsNear (MaxvalRange at) = at < 2 ^ 42
+IsNear (SampleAboveMaxval at) = at < 2 ^ 42
+IsNear (Truncated at) = at < 2 ^ 42
+IsNear (TrailingBytes at) = ⊥
+
+abbrev pub IsNearRefusal : PlateRefusal → Type 0
+IsNearRefusal (Fault fault) = IsNear fault
+IsNearRefusal ReadFault = Unit {0}
+IsNearRefusal OutOfMemory = Unit {0}
+
+-- One image is taken, of so many bytes, or there is none.
+abbrev pub ReadsImage : TrayState → TrayState → Result (Option (Plate × ℕ)) PlateRefusal → Type 0
+ReadsImage before after (Ok (Some read)) = (image : List ℕ) × Takes image before after × IsPlateFile image read.0 × (length image ≡ read.1)
+ReadsImage before after (Ok None) = (nothing : List ℕ) × Takes nothing before after × (length nothing ≡ 0) × AtEnd before after
+ReadsImage before after (Err refusal) = Answers before after (Err refusal)
+
+-- So many images were taken, of so many bytes together.
+pub record Passed (before now : TrayState) (count size : ℕ) : Type 0 where
+  pub bytes : List ℕ
+  pub plates : List Plate
+  pub takes : Takes bytes before now
+  pub sequence : IsSequence bytes plates
+  pub counted : length plates ≡ count
+  pub sized : length bytes ≡ size
+  pub well : now.faults ≡ before.faults
+  pub small : size ≤ count * 2 ^ 30
+
+-- Some bytes are taken, which the answer fits.
+pub record PageAnswers (page : ℕ) (before after : TrayState) (result : Result (Option Plate) PlateRefusal) : Type 0 where
+  pub bytes : List ℕ
+  pub takes : Takes bytes before after
+  pub answer : AnswersPage page bytes before after result
+
+abbrev pub further_refusal : ℕ → PlateRefusal → PlateRefusal
+further_refusal n (Fault fault) = Fault (further n fault)
+further_refusal n ReadFault = ReadFault
+further_refusal n OutOfMemory = OutOfMemory
