@@ -30,8 +30,8 @@ pub fn sound_table_law()
         → Sound (shape_of key) (cell key) (board_of (shape_of key) s.words) }
 {}
 
-/// Whatever steps any seats make on a table, in any order: the rule holds after them, the events that they are for the board are a
-/// run of the page, and the words are the board that this run leads to.
+/// Whatever steps any seats make on a table, in any order: the rule holds after them, the events that they are for
+/// the board are a run of the page, and the words are the board that this run leads to.
 pub fn steps_are_a_run_law()
     ensures { (key : Sheet) → IsFit key → StepsAreRun key }
 {}

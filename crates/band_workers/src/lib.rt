@@ -1,5 +1,5 @@
-//! Workers at the shared table: each walks over the pieces in order, claims those that it can, makes them and publishes them, until
-//! a walk wins nothing.
+//! Workers at the shared table: each walks over the pieces in order, claims those that it can, makes them and
+//! publishes them, until a walk wins nothing.
 #![tactic(auto)]
 
 mod gate;

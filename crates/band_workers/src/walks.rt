@@ -74,8 +74,9 @@ fn walk<M: Maker, G: Gate>(
     won
 }
 
-/// Walks over the pieces, claims and makes those that it can, and ends after a walk that won nothing. Each piece is then accounted
-/// for in the pass: it was published or seen done, or `looked` shows a need of it that was not done or that it was not free.
+/// Walks over the pieces, claims and makes those that it can, and ends after a walk that won nothing. Each piece is
+/// then accounted for in the pass: it was published or seen done, or `looked` shows a need of it that was not done or
+/// that it was not free.
 pub fn work<M: Maker, G: Gate>(
     shared: &Shared,
     pass: Pass,
@@ -102,8 +103,8 @@ pub fn work<M: Maker, G: Gate>(
     pass
 }
 
-/// Runs `work` once for each maker, on threads of their own, and joins their passes. It waits for its own workers alone; where a
-/// thread can't be started the caller does that work itself.
+/// Runs `work` once for each maker, on threads of their own, and joins their passes. It waits for its own workers
+/// alone; where a thread can't be started the caller does that work itself.
 pub fn work_many<R: Threads + Sync, M: Maker + Send, G: Gate + Sync>(
     rt: &R,
     shared: &Shared,
