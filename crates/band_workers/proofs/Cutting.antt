@@ -14,7 +14,7 @@ use Rattle.band_core.specs.Values.{value}
 use Rattle.band_core.proofs.Bridges.{cell_packs, fits}
 use Rattle.band_claims.specs.declared.sheet.Sheet.{Sheet}
 use Rattle.band_claims.specs.Sheets.{cell, IsFit}
-use Rattle.band_workers.specs.Filled.{AreValues}
+use Rattle.band_workers.specs.Filled.{AreValues, IsCut}
 
 begins : (v l o : ℕ) → 1 ≤ l → o < ceiling v l → o * l < v
 begins v l o some m = elim (cases_eq v 0) [
@@ -39,39 +39,33 @@ few_values layout i is = let low = is.bands.low in rows_fit (rows_in layout.band
 pub cell_at : (layout : Layout) (i o n : ℕ) → IsLayout layout → o < cell_total layout i → n ≡ lanes_of (phase_of layout.bands i) → (o * n < value_total layout i) × (value_total layout i ≤ 1073741824)
 cell_at layout i o n is m e = (subst (λ (z : ℕ). o * z < value_total layout i) (sym e) (cell_begins layout i o m), few_values layout i is)
 
--- the values of cell o of a piece, n of them a cell
-pub record AreCellValues (sheet : Sheet) (i o n : ℕ) (vs : List ℕ) : Type 0 where
+-- the values of cell o of a piece, cut out of all its values
+pub record AreCellValues (sheet : Sheet) (i o phase first count : ℕ) (values vs : List ℕ) : Type 0 where
   pub piece : i < piece_count sheet.layout
   pub cell : o < cell_total sheet.layout i
-  pub lanes : n ≡ lanes_of (phase_of sheet.layout.bands i)
-  pub long : length vs ≡ min n (value_total sheet.layout i - o * n)
-  pub each : (l : ℕ) → l < length vs → slice_index vs l ≡ value sheet.page.value sheet.layout i (o * n + l)
+  pub cut : IsCut sheet.layout i o phase first count
+  pub all : AreValues sheet i values
+  pub long : length vs ≡ count
+  pub each : (l : ℕ) → l < length vs → slice_index vs l ≡ slice_index values (first + l)
 
 -- packed, they are the cell
-pub packs : (sheet : Sheet) (i o n bits : ℕ) (vs : List ℕ) → AreCellValues sheet i o n vs → bits ≡ bits_of (phase_of sheet.layout.bands i) → 1 + packed bits vs ≡ cell sheet (first_cell_of sheet.layout i + o)
+pub packs : (sheet : Sheet) (i o phase first count bits : ℕ) (values vs : List ℕ) → AreCellValues sheet i o phase first count values vs → bits ≡ bits_of phase → 1 + packed bits vs ≡ cell sheet (first_cell_of sheet.layout i + o)
 unfolding cell
-packs sheet i o n bits vs are b =
-    let e = are.lanes in
-    ap (λ (z : ℕ). 1 + packed z vs) b
+packs sheet i o phase first count bits values vs are b =
+    let p = are.cut.same_phase in let few = are.cut.few in let inside = are.cut.inside in let long = are.long in let all = are.all.long in
+    let start : first ≡ o * lanes_of (phase_of sheet.layout.bands i) = are.cut.begins ∙ ap (λ (q : ℕ). o * lanes_of q) p in
+    ap (λ (z : ℕ). 1 + packed z vs) (b ∙ ap bits_of p)
     ∙ cell_packs sheet.page.value sheet.layout i o vs are.piece are.cell
-    (are.long ∙ ap (λ (z : ℕ). min z (value_total sheet.layout i - o * z)) e)
-    (λ l m. are.each l m ∙ ap (λ (z : ℕ). value sheet.page.value sheet.layout i (o * z + l)) e)
+    (long ∙ (few ∙ (ap (λ (q : ℕ). min (lanes_of q) (value_total sheet.layout i - first)) p ∙ ap (λ (z : ℕ). min (lanes_of (phase_of sheet.layout.bands i)) (value_total sheet.layout i - z)) start)))
+    (λ l m. are.each l m ∙ (are.all.each (first + l) (omega (arith, m, long, few, inside, all)) ∙ ap (λ (z : ℕ). value sheet.page.value sheet.layout i (z + l)) start))
 
 -- and they fit their lanes
-pub small : (sheet : Sheet) → IsFit sheet → (i o n bits : ℕ) (vs : List ℕ) → AreCellValues sheet i o n vs → bits ≡ bits_of (phase_of sheet.layout.bands i) → (k d : ℕ) → k < length vs → slice_index_or vs k d < 2 ^ bits
-small sheet fit i o n bits vs are b k d l =
-    rw (b, get_or_default vs k d 0 l) (subst (λ (z : ℕ). z < 2 ^ bits_of (phase_of sheet.layout.bands i)) (sym (are.each k l)) (fits sheet.page.value sheet.layout i (o * n + k) fit are.piece (omega (arith, l, are.long))))
-
--- a cut of all values is that of a cell
-pub cut_values : (sheet : Sheet) (i o n : ℕ) (values vs : List ℕ) → i < piece_count sheet.layout → o < cell_total sheet.layout i → n ≡ lanes_of (phase_of sheet.layout.bands i) → AreValues sheet i values → length vs ≡ min n (length values - o * n)
-    → ((l : ℕ) → l < length vs → slice_index vs l ≡ slice_index values (o * n + l)) → AreCellValues sheet i o n vs
-cut_values sheet i o n values vs l m e are long each = record {
-  piece = l;
-  cell = m;
-  lanes = e;
-  long = long ∙ ap (λ (z : ℕ). min n (z - o * n)) are.long;
-  each = λ k q. each k q ∙ are.each (o * n + k) (omega (arith, q, long));
-}
+pub small : (sheet : Sheet) → IsFit sheet → (i o phase first count bits : ℕ) (values vs : List ℕ) → AreCellValues sheet i o phase first count values vs → bits ≡ bits_of phase → (k d : ℕ) → k < length vs → slice_index_or vs k d < 2 ^ bits
+small sheet fit i o phase first count bits values vs are b k d l =
+    let few = are.cut.few in let inside = are.cut.inside in let long = are.long in let all = are.all.long in
+    let here : first + k < value_total sheet.layout i = omega (arith, l, long, few, inside) in
+    let is = are.each k l ∙ are.all.each (first + k) (omega (arith, here, all)) in
+    rw (b ∙ ap bits_of are.cut.same_phase, get_or_default vs k d 0 l) (subst (λ (z : ℕ). z < 2 ^ bits_of (phase_of sheet.layout.bands i)) (sym is) (fits sheet.page.value sheet.layout i (first + k) fit are.piece here))
 
 -- the front of the 31 places
 pub front_of : (n : ℕ) → length {A = ℕ} (take n (replicate 31 0)) ≡ min n 31

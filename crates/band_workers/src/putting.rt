@@ -2,8 +2,8 @@ ghost use Rattle.std.specs.Prelude.{◌≡◌, ℕ, ◌<◌, ◌≤◌, ◌+◌,
 ghost use Rattle.band_claims.specs.Seating.{Seats};
 ghost use Rattle.band_claims.specs.Sheets.{cell, shape_of};
 ghost use Rattle.page_model.specs.Bands.{pieces_of};
-ghost use Rattle.row_cells.specs.Places.{cell_total, first_cell_of};
-ghost use Rattle.band_workers.specs.Filled.{AreValues, filled_to};
+ghost use Rattle.row_cells.specs.Places.{cell_total, first_cell_of, value_total};
+ghost use Rattle.band_workers.specs.Filled.{AreValues, IsCut, filled_to};
 
 use band_claims::{Pass, Shared};
 use row_cells::layout::{bits, lanes};
@@ -41,6 +41,30 @@ pub fn put_bytes(shared: &Shared, pass: &mut Pass, piece: u32, values: &[u8])
     }
 }
 
+// Which values of a piece make one of its cells: so many from number `first` on.
+#[derive(Clone, Copy, Drop)]
+struct Cut {
+    phase: u32,
+    first: usize,
+    count: usize,
+}
+
+fn cut_of(shared: &Shared, piece: u32, o: u32, total: usize) -> Cut
+    requires piece { piece < pieces_of shared.now.sheet.layout.bands }
+    requires cell { o < cell_total shared.now.sheet.layout piece }
+    requires total { total ≡ value_total shared.now.sheet.layout piece }
+    ensures { IsCut shared.now.sheet.layout piece o result.phase result.first result.count }
+{
+    let phase = piece / shared.bands().count;
+    let per_cell = lanes(phase);
+    let first = (o * per_cell) as usize;
+    Cut {
+        phase,
+        first,
+        count: (per_cell as usize).min(total - first),
+    }
+}
+
 // The word of cell o of a piece.
 fn word_of_values(shared: &Shared, piece: u32, o: u32, values: &[u16]) -> u64
     requires piece { piece < pieces_of shared.now.sheet.layout.bands }
@@ -48,11 +72,9 @@ fn word_of_values(shared: &Shared, piece: u32, o: u32, values: &[u16]) -> u64
     requires values { AreValues shared.now.sheet piece values.now }
     ensures { result ≡ cell shared.now.sheet (first_cell_of shared.now.sheet.layout piece + o) }
 {
-    let phase = piece / shared.bands().count;
-    let per_cell = lanes(phase);
-    let first = (o * per_cell) as usize;
-    let count = (per_cell as usize).min(values.len() - first);
-    pack(bits(phase), part_of(values, first, count))
+    let _fits = shared.bands();
+    let cut = cut_of(shared, piece, o, values.len());
+    pack(bits(cut.phase), part_of(values, cut.first, cut.count))
 }
 
 fn part_of(values: &[u16], first: usize, count: usize) -> &[u16]
@@ -70,14 +92,12 @@ fn word_of_bytes(shared: &Shared, piece: u32, o: u32, values: &[u8]) -> u64
     requires values { AreValues shared.now.sheet piece values.now }
     ensures { result ≡ cell shared.now.sheet (first_cell_of shared.now.sheet.layout piece + o) }
 {
-    let phase = piece / shared.bands().count;
-    let per_cell = lanes(phase);
-    let first = (o * per_cell) as usize;
-    let count = (per_cell as usize).min(values.len() - first);
+    let _fits = shared.bands();
+    let cut = cut_of(shared, piece, o, values.len());
     let mut all = [0u16; 31];
-    let part = &mut all[..count];
-    widen(values, first, part);
-    pack(bits(phase), part)
+    let part = &mut all[..cut.count];
+    widen(values, cut.first, part);
+    pack(bits(cut.phase), part)
 }
 
 fn widen(values: &[u8], first: usize, out: &mut [u16])
