@@ -44,7 +44,7 @@ one_word k words (Put j v) wide l = cell_changed k words j v wide l
 one_word k words (Done i) wide l = piece_changed k words i 2 wide l
 
 -- words that are all 0
-zero_at : (n i : ℕ) → slice_index (replicate n 0) i ≡ 0
+pub zero_at : (n i : ℕ) → slice_index (replicate n 0) i ≡ 0
 zero_at zero i = refl
 zero_at (suc n) zero = refl
 zero_at (suc n) (suc i) = zero_at n i

@@ -8,14 +8,14 @@ ghost use Rattle.band_board.specs.Shapes.{Shape, IsShape};
 ghost use Rattle.band_board.specs.Stuck.{NeverStuck};
 ghost use Rattle.band_board.specs.TableWords.{AreWords, board_of, rewritten};
 
-/// Whatever the defined cells are, each event that may happen, with the defined value where it fills a cell, keeps a sound
-/// board sound.
+/// Whatever the defined cells are, each event that may happen, with the defined value where it fills a cell, keeps a
+/// sound board sound.
 pub fn keeps_sound_law()
     ensures { (k : Shape) → IsShape k → (defined : ℕ → ℕ) → KeepsSound k defined }
 {}
 
-/// Where the recipe gives the defined value of each cell whose piece has its needs done, over every run each board is sound,
-/// no cell changes once it is filled, and no piece is done twice.
+/// Where the recipe gives the defined value of each cell whose piece has its needs done, over every run each board is
+/// sound, no cell changes once it is filled, and no piece is done twice.
 pub fn run_law()
     ensures { (k : Shape) → IsShape k → (defined : ℕ → ℕ) (recipe : Board → ℕ → ℕ)
         → Halo k defined recipe → RunLaw k defined recipe }
@@ -38,8 +38,8 @@ pub fn one_word_law()
         → board_of k (rewritten k words event) ≡ changed (board_of k words) event }
 {}
 
-/// A change of a word that is an event which may happen, with the defined value where it fills a cell, keeps the words those of
-/// a sound board.
+/// A change of a word that is an event which may happen, with the defined value where it fills a cell, keeps the
+/// words those of a sound board.
 pub fn sound_words_law()
     ensures words { (k : Shape) (words : List ℕ) (event : Event)
         → AreWords k words → InRange k event → AreWords k (rewritten k words event) }

@@ -1,13 +1,12 @@
 -- The steps of a table are a run of the core.
-use Rattle.std.proofs.Common.{◌≡◌, ◌≢◌, ℕ, ◌+◌, ◌<◌, ◌≤◌, ◌==◌, Bool, true, false, ◌&&◌, nat_le, nat_lt, List, [], ◌∷◌, length, set, refl, sym, ap, ◌∙◌, arith, subst, Option, Some, None, inl, inr, replicate}
+use Rattle.std.proofs.Common.{◌≡◌, ℕ, ◌+◌, ◌<◌, ◌≤◌, ◌==◌, Bool, true, ◌&&◌, nat_le, nat_lt, List, [], ◌∷◌, length, set, sym, ap, ◌∙◌, arith, subst, Option, Some, None}
 use Rattle.std.specs.Prelude.{not, if◌then◌else◌}
 use Rattle.std.proofs.lemmas.Bool.{and_from, eq-eqb, le-leb, lt-ltb}
 use Rattle.atomic_table.specs.Table.{State}
 use Rattle.lists.proofs.AnyBelow.{any_below-from}
 use Rattle.band_board.specs.declared.event.Event.{Event}
-use Rattle.band_board.specs.declared.event.Event.TheVariants.{Claim, Put, Done}
 use Rattle.band_board.specs.Shapes.{Shape, IsShape}
-use Rattle.band_board.specs.Boards.{Board, state_at, cell_at, state_free, state_claimed, is_free, is_claimed, lacks, has_empty, in_hand, hand_in, allowed, changed, after, InRange}
+use Rattle.band_board.specs.Boards.{Board, cell_at, state_free, state_claimed, is_free, is_claimed, lacks, has_empty, in_hand, hand_in, allowed, changed, InRange}
 use Rattle.band_board.specs.Runs.{Sound, ByDefinition, Halo, Step, IsRun, played}
 use Rattle.band_board.specs.TableWords.{board_of, rewritten}
 use Rattle.band_board.proofs.Runs.{defined_fits}
@@ -15,9 +14,9 @@ use Rattle.band_board.proofs.TableWords.{one_word, cell_is}
 use Rattle.band_claims.specs.declared.sheet.Sheet.{Sheet}
 use Rattle.band_claims.specs.declared.view.View.{View}
 use Rattle.band_claims.specs.Kinds.{Kind, looks, wins, loses, reads, puts, finishes, splits, joins, Happens, Leads, event_of, events_of, and_then}
-use Rattle.band_claims.specs.Rule.{piece_word, cell_word}
+use Rattle.band_claims.specs.Rule.{piece_word}
 use Rattle.band_claims.specs.Views.{put}
-use Rattle.band_claims.proofs.Boards.{word_state, none_lack, none_left, inside_at, has}
+use Rattle.band_claims.proofs.Boards.{word_state, none_lack, none_left, inside_at}
 use Rattle.band_claims.proofs.Keeps.{after_look, after_loss, after_read, wins as keeps_wins, stores, ends, held_by, splits as keeps_splits, joins as keeps_joins}
 use Rattle.band_claims.proofs.Kept.{Kept}
 use Rattle.atomic_table.proofs.Lists.{set_else}

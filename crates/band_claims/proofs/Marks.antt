@@ -33,11 +33,6 @@ marked_set (m ∷ ms) n (suc p) i l ne =
       | inr other ↦ rw (ne_eqb m 1 other) (omega (arith, t, e))
     ]
 
-pub zeros_at : (n i : ℕ) → slice_index (replicate n 0) i ≡ 0
-zeros_at zero i = refl
-zeros_at (suc n) zero = refl
-zeros_at (suc n) (suc i) = zeros_at n i
-
 -- the marked places ascend
 from_later : (n : ℕ) (xs : List ℕ) → Ascends (n + 1) xs → Ascends n xs
 from_later n [] t = tt

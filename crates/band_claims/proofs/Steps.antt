@@ -14,9 +14,9 @@ use Rattle.band_core.proofs.Shapes.{is_shape}
 use Rattle.band_board.specs.Boards.{Board}
 use Rattle.band_board.proofs.TableWords.{opening_words}
 use Rattle.band_claims.specs.Kinds.{events_of, first_state}
-use Rattle.band_claims.specs.Laws.{StepsAreRun}
-use Rattle.band_claims.proofs.Events.{steps_run}
-use Rattle.band_claims.proofs.Marks.{zeros_at}
+use Rattle.band_claims.specs.Laws.{KeepsRule, StepsAreRun}
+use Rattle.band_claims.proofs.Events.{keeps_rule, steps_run}
+use Rattle.band_board.proofs.TableWords.{zero_at}
 use Rattle.std.proofs.lemmas.List.{length-replicate}
 use Rattle.band_core.proofs.Bridges.{cell_word}
 use Rattle.band_claims.specs.declared.sheet.Sheet.{Sheet}
@@ -129,11 +129,17 @@ module _ (key : Sheet) (fit : IsFit key) where
         subst (λ (ws' : List ℕ). (i : ℕ) → i < k.pieces → piece_word ws' i ≤ 2) e r.states,
       )
 
+-- one step of any kind
+pub each_keeps : (key : Sheet) → IsFit key → KeepsRule key
+each_keeps key fit s t kind rule happens =
+    let k = shape_of key in let ok = fit_shape key fit in
+    ruled k ok (cell key) key t (keeps_rule k ok (cell key) (cell_some key fit) key s t kind (kept k ok (cell key) key s rule) happens)
+
 -- whatever steps are made from the opening on
 pub steps_are_run : (key : Sheet) → IsFit key → StepsAreRun key
 steps_are_run key fit kinds t leads =
     let k = shape_of key in let ok = fit_shape key fit in let words : List ℕ = replicate (k.pieces + k.cells) 0 in
-    let first = keeps_opens k ok (cell key) (cell_some key fit) key words (length-replicate (k.pieces + k.cells) 0) (zeros_at (k.pieces + k.cells)) in
+    let first = keeps_opens k ok (cell key) (cell_some key fit) key words (length-replicate (k.pieces + k.cells) 0) (zero_at (k.pieces + k.cells)) in
     let all = steps_run k ok (cell key) (cell_some key fit) key (recipe key.page.value key.layout) (halo_of key fit) (first_state k key) t kinds first leads in
     let board = opening_words k in (
       ruled k ok (cell key) key t all.0,

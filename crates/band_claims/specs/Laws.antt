@@ -9,7 +9,7 @@ use Rattle.band_board.specs.TableWords.{board_of}
 use Rattle.band_claims.specs.declared.sheet.Sheet.{Sheet}
 use Rattle.band_claims.specs.declared.view.View.{View}
 use Rattle.band_claims.specs.Views.{times}
-use Rattle.band_claims.specs.Kinds.{Kind, Leads, events_of, first_state}
+use Rattle.band_claims.specs.Kinds.{Kind, Happens, Leads, events_of, first_state}
 use Rattle.band_claims.specs.Rule.{Ruled, RuleOf, Sees}
 use Rattle.band_claims.specs.Sheets.{shape_of, cell}
 
@@ -31,3 +31,7 @@ StepsAreRun key = (kinds : List Kind) (t : State (Unit {0}) View) → Leads (sha
     → RuleOf key t
     × IsRun (shape_of key) (recipe key.page.value key.layout) (opening (shape_of key)) (events_of kinds)
     × (board_of (shape_of key) t.words ≡ played (opening (shape_of key)) (events_of kinds))
+
+-- each kind of step keeps the rule
+abbrev pub KeepsRule : Sheet → Type 0
+KeepsRule key = (s t : State (Unit {0}) View) (kind : Kind) → RuleOf key s → Happens (shape_of key) (cell key) s kind t → RuleOf key t

@@ -33,16 +33,16 @@ pub record FirstFilled (k : Shape) (board : Board) (i n : ℕ) : Type 0 where
 pub record Ruled (k : Shape) (defined : ℕ → ℕ) (key : Sheet) (s : State (Unit {0}) View) : Type 0 where
   -- there is a word for each piece and cell, and a piece's word is 0, 1 or 2: free, claimed or done
   pub words : AreWords k s.words
-  -- 1: all views have one page and the same bands, and the board is sound for that page
+  -- all views have one page and the same bands, and the board is sound for that page
   pub one_page : (id : ℕ) (v : View) → Sees s id v → MatchOption v.sheet (Unit {0}) (λ x. x ≡ key)
   pub sound : Sound k defined (board_of k s.words)
-  -- 2: of all views one holds a piece that is claimed, and none holds one that is not
+  -- of all views one holds a piece that is claimed, and none holds one that is not
   pub one_holder : (i : ℕ) → i < k.pieces → total (holds i) s.views ≡ one_if (is_claimed (board_of k s.words) i)
-  -- 3: of a held piece the first cells are filled, as many as its holder says, and the others are empty
+  -- of a held piece the first cells are filled, as many as its holder says, and the others are empty
   pub held_filled : (id i : ℕ) (v : View) → Sees s id v → v.held ≡ Some i → FirstFilled k (board_of k s.words) i v.filled
-  -- 4: a piece that is in a list of published or seen pieces is done
+  -- a piece that is in a list of published or seen pieces is done
   pub known_done : (id i : ℕ) (v : View) → Sees s id v → Knows v i → (i < k.pieces) × (is_done (board_of k s.words) i ≡ true)
-  -- 5: in all lists of published pieces together no piece stands twice
+  -- in all lists of published pieces together no piece stands twice
   pub once : (i : ℕ) → total (publishes i) s.views ≤ 1
 
 -- the rule of the table of a page

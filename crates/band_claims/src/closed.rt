@@ -87,8 +87,8 @@ impl Closed {
         self.table.words.put(word, value);
     }
 
-    /// Makes a piece done that was not, and adds it to the list of the pieces that were made alone, which ascends. All else
-    /// stays.
+    /// Makes a piece done that was not, and adds it to the list of the pieces that were made alone, which ascends.
+    /// All else stays.
     pub fn set_done(&mut self, piece: u32)
         requires piece { piece < pieces_of self.old.sheet.layout.bands }
         requires not_done { slice_index self.old.words piece ≢ 2 }

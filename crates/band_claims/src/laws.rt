@@ -1,8 +1,13 @@
 // What the rule of the table means: each function does nothing, and its contract is the law.
 
 ghost use Rattle.band_claims.specs.declared.sheet.Sheet.{Sheet};
-ghost use Rattle.band_claims.specs.Laws.{HeldOnce, PublishedOnce, StepsAreRun};
-ghost use Rattle.band_claims.specs.Sheets.{IsFit};
+ghost use Rattle.band_claims.specs.declared.view.View.{View};
+ghost use Rattle.band_claims.specs.Laws.{HeldOnce, KeepsRule, PublishedOnce, StepsAreRun};
+ghost use Rattle.band_claims.specs.Rule.{RuleOf};
+ghost use Rattle.band_claims.specs.Sheets.{IsFit, cell, shape_of};
+ghost use Rattle.atomic_table.specs.Table.{State};
+ghost use Rattle.band_board.specs.Runs.{Sound};
+ghost use Rattle.band_board.specs.TableWords.{board_of};
 
 /// A claimed piece is held by exactly one view, and no other piece by any.
 pub fn held_once_law()
@@ -14,8 +19,19 @@ pub fn published_once_law()
     ensures { PublishedOnce }
 {}
 
-/// Whatever steps any seats make on a table, in any order: the rule holds after them, the events that they are for the board are a
-/// run of the page, and the words are the board that this run leads to.
+/// Whatever kind of step a seat makes, the rule holds after it where it held before.
+pub fn each_kind_keeps_the_rule_law()
+    ensures { (key : Sheet) → IsFit key → KeepsRule key }
+{}
+
+/// The words of a table that meets the rule are those of a board that is sound for its page.
+pub fn sound_table_law()
+    ensures { (key : Sheet) (s : State (Unit {0}) View) → RuleOf key s
+        → Sound (shape_of key) (cell key) (board_of (shape_of key) s.words) }
+{}
+
+/// Whatever steps any seats make on a table, in any order: the rule holds after them, the events that they are for
+/// the board are a run of the page, and the words are the board that this run leads to.
 pub fn steps_are_a_run_law()
     ensures { (key : Sheet) → IsFit key → StepsAreRun key }
 {}

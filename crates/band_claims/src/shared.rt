@@ -37,8 +37,9 @@ impl TableRule<(), View, Sheet> for Claiming {
     ghost first = { newcomer };
 }
 
-/// The shared table of a page: a word for each piece, 0 while it is free, 1 while it is claimed and 2 when it is done, and then a
-/// word for each cell, 0 while it is empty. Threads share it by reference, each with a pass of its own.
+/// The shared table of a page: a word for each piece, 0 while it is free, 1 while it is claimed and 2 when it is
+/// done, and then a word for each cell, 0 while it is empty. Threads share it by reference, each with a pass of its
+/// own.
 #[derive(Drop)]
 pub struct Shared {
     table: Table<(), View, Sheet, Claiming, Global>,
@@ -143,8 +144,8 @@ impl Shared {
         found == 2
     }
 
-    /// Claims a piece. It answers false exactly where it found a need of the piece that is not done, or the piece itself not
-    /// free; the pass then holds nothing, and `looked` ends with what was found.
+    /// Claims a piece. It answers false exactly where it found a need of the piece that is not done, or the piece
+    /// itself not free; the pass then holds nothing, and `looked` ends with what was found.
     pub fn claim(&self, pass: &mut Pass, piece: u32) -> bool
         requires pass { Seats self.now pass.old }
         requires piece { piece < pieces_of self.now.sheet.layout.bands }

@@ -63,9 +63,9 @@ impl Board {
 
     /// Makes the event happen, and answers false exactly where it may not happen; nothing then changes.
     ///
-    /// A piece is claimed where it is free and each of its needs is done, a cell is filled where it is empty and its piece is
-    /// claimed, and a piece is done where it was claimed and none of its cells is empty. Where a cell is filled with what the
-    /// recipe gives over the board, a board that is sound for a page stays so.
+    /// A piece is claimed where it is free and each of its needs is done, a cell is filled where it is empty and its
+    /// piece is claimed, and a piece is done where it was claimed and none of its cells is empty. Where a cell is
+    /// filled with what the recipe gives over the board, a board that is sound for a page stays so.
     pub fn step(&mut self, event: Event) -> bool
         requires range { InRange (shape_of self.old.layout) event }
         ensures layout { self.new.layout ≡ self.old.layout }

@@ -1,5 +1,5 @@
-// Laws over the definitions: each function does nothing, and its contract is the law. Those of runs, of words and of boards that
-// are not stuck stand over any shape in `band_board`; here they are told of the pieces of a page.
+// Laws over the definitions: each function does nothing, and its contract is the law. Those of runs, of words and of
+// boards that are not stuck stand over any shape in `band_board`; here they are told of the pieces of a page.
 
 ghost use Rattle.std.specs.Prelude.{◌≡◌, ◌<◌, ◌≤◌, ◌^◌, ℕ};
 ghost use Rattle.page_model.specs.declared.parts.PageParts.{PageParts};
@@ -13,32 +13,34 @@ ghost use Rattle.band_core.specs.Recipe.{recipe};
 ghost use Rattle.band_core.specs.Shapes.{shape_of};
 ghost use Rattle.band_core.specs.Values.{IsFor, cell};
 
-/// A zone is found at each sample by itself, so a band needs no other band: its zones, made from the page alone, are those of the
-/// undivided page.
+/// A zone is found at each sample by itself, so a band needs no other band: its zones, made from the page alone, are
+/// those of the undivided page.
 pub fn zones_law()
     ensures { PhaseLaw 0 }
 {}
 
-/// An edge lies between a row and itself or the next one, so a band and the one below it are enough: the band's marks, made from
-/// the zones of these two, are those of the undivided page.
+/// An edge lies between a row and itself or the next one, so a band and the one below it are enough: the band's
+/// marks, made from the zones of these two, are those of the undivided page.
 pub fn edges_law()
     ensures { PhaseLaw 1 }
 {}
 
-/// An edge within reach of a row lies at most half the reach of rows away, cut up to whole rows, and so in a band that is at most
-/// these rows, cut up to whole bands, away: the band's answers, made from the marks of these bands, are those of the undivided
-/// page.
+/// An edge within reach of a row lies at most half the reach of rows away, cut up to whole rows, and so in a band
+/// that is at most these rows, cut up to whole bands, away: the band's answers, made from the marks of these bands,
+/// are those of the undivided page.
 pub fn columns_law()
     ensures { PhaseLaw 2 }
 {}
 
-/// The nearest edge of a sample is the nearest of its row's column answers, or it is out of reach and traps nothing, so the
-/// band's own answers are enough: its new tints, made from these and from its zones, are those of the undivided page.
+/// The nearest edge of a sample is the nearest of its row's column answers, or it is out of reach and traps nothing,
+/// so the band's own answers are enough: its new tints, made from these and from its zones, are those of the
+/// undivided page.
 pub fn traps_law()
     ensures { PhaseLaw 3 }
 {}
 
-/// On a board that is sound for a page the recipe gives the defined cell, for each cell of a piece whose needs are all done.
+/// On a board that is sound for a page the recipe gives the defined cell, for each cell of a piece whose needs are
+/// all done.
 pub fn halo_law()
     ensures { (page : PageParts) (layout : Layout) → IsFor page layout
         → Halo (shape_of layout) (cell page layout) (recipe page layout) }

@@ -172,7 +172,8 @@ fn two_passes(shared: &Shared, pass: Pass) -> &'static str
     ""
 }
 
-/// The words of the two ZONES pieces and their cells of a table that was left half done, before and after it is finished alone.
+/// The words of the two ZONES pieces and their cells of a table that was left half done, before and after it is
+/// finished alone.
 fn closed_words(shared: Shared, pass: Pass) -> Option<[[u64; 4]; 2]>
     requires sheet { OneColumn shared.sheet }
     requires seats { Seats shared pass }

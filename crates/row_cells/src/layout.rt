@@ -8,8 +8,8 @@ ghost use Rattle.row_cells.specs.Places.{piece_count, per_row, bits_of, lanes_of
 use page_model::bands::Bands;
 use std::marker::Model;
 
-/// Where the cells of each piece of work stand, for pages of a width and so many plates, in bands. Cells are numbered from 0,
-/// those of piece 0 first.
+/// Where the cells of each piece of work stand, for pages of a width and so many plates, in bands. Cells are numbered
+/// from 0, those of piece 0 first.
 #[derive(Clone, Copy, Drop)]
 pub struct Layout {
     bands: Bands,
@@ -82,8 +82,8 @@ impl Layout {
         &self.bands
     }
 
-    /// How many values a row of a phase has: a zone or two marks for each sample, an answer for each doubled column, a tint
-    /// for each plate and sample.
+    /// How many values a row of a phase has: a zone or two marks for each sample, an answer for each doubled column,
+    /// a tint for each plate and sample.
     #[tactic(auto, using(crate::proofs::Places::per_row_few))]
     pub fn row_values(&self, phase: u32) -> u32
         ensures value { result ≡ per_row self.now phase }

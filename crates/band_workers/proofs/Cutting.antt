@@ -1,0 +1,72 @@
+-- Where the values of a cell begin, and that they fit.
+use Rattle.std.proofs.Common.{◌≡◌, ℕ, ◌+◌, ◌-◌, ◌*◌, ◌^◌, ◌<◌, ◌≤◌, List, length, take, replicate, subst, sym, ap, ◌∙◌, arith, inl, inr, ne_eqb}
+use Rattle.std.specs.Prelude.{slice_index, slice_index_or, min}
+use Rattle.std.proofs.lemmas.Bool.{cases_eq}
+use Rattle.std.proofs.lemmas.Nat.{div_below}
+use Rattle.std.proofs.lemmas.List.{get_or_default, length-take}
+use Rattle.page_model.specs.Bands.{phase_of, band_of, ceiling, rows_in}
+use Rattle.page_model.proofs.BandLemmas.{ceiling-below}
+use Rattle.row_cells.specs.Layouts.{Layout, IsLayout}
+use Rattle.row_cells.specs.Places.{piece_count, per_row, value_total, cell_total, lanes_of, bits_of, first_cell_of}
+use Rattle.row_cells.specs.Packing.{packed}
+use Rattle.row_cells.proofs.Places.{some_lanes, rows_fit, per_row_few}
+use Rattle.band_core.specs.Values.{value}
+use Rattle.band_core.proofs.Bridges.{cell_packs, fits}
+use Rattle.band_claims.specs.declared.sheet.Sheet.{Sheet}
+use Rattle.band_claims.specs.Sheets.{cell, IsFit}
+use Rattle.band_workers.specs.Filled.{AreValues, IsCut}
+
+begins : (v l o : ℕ) → 1 ≤ l → o < ceiling v l → o * l < v
+begins v l o some m = elim (cases_eq v 0) [
+  | inl e ↦ (let none : ceiling v l < 1 = div_below (v + l - 1) l 1 some (omega (arith, e, some)) in absurd (omega (arith, none, m)))
+  | inr there ↦ ceiling-below v l o some (omega (arith, there)) m
+]
+
+pub cell_begins : (layout : Layout) (i o : ℕ) → o < cell_total layout i → o * lanes_of (phase_of layout.bands i) < value_total layout i
+unfolding cell_total
+cell_begins layout i o m = begins (value_total layout i) (lanes_of (phase_of layout.bands i)) o (some_lanes (phase_of layout.bands i)) m
+
+row_few : (layout : Layout) (phase : ℕ) → IsLayout layout → per_row layout phase ≤ 262144
+row_few layout phase is = let w = is.narrow in elim (cases_eq phase 2) [
+  | inl two ↦ rw two (omega (arith, w))
+  | inr n2 ↦ elim (cases_eq phase 3) [ inl three ↦ rw three (per_row_few layout.plates layout.width is.few_plates w) | inr n3 ↦ rw (ne_eqb phase 2 n2, ne_eqb phase 3 n3) (omega (arith, w)) ]
+]
+
+few_values : (layout : Layout) (i : ℕ) → IsLayout layout → value_total layout i ≤ 1073741824
+few_values layout i is = let low = is.bands.low in rows_fit (rows_in layout.bands (band_of layout.bands i)) (per_row layout (phase_of layout.bands i)) (omega (arith, low)) (row_few layout (phase_of layout.bands i) is)
+
+-- where cell o of a piece begins in its values
+pub cell_at : (layout : Layout) (i o n : ℕ) → IsLayout layout → o < cell_total layout i → n ≡ lanes_of (phase_of layout.bands i) → (o * n < value_total layout i) × (value_total layout i ≤ 1073741824)
+cell_at layout i o n is m e = (subst (λ (z : ℕ). o * z < value_total layout i) (sym e) (cell_begins layout i o m), few_values layout i is)
+
+-- the values of cell o of a piece, cut out of all its values
+pub record AreCellValues (sheet : Sheet) (i o phase first count : ℕ) (values vs : List ℕ) : Type 0 where
+  pub piece : i < piece_count sheet.layout
+  pub cell : o < cell_total sheet.layout i
+  pub cut : IsCut sheet.layout i o phase first count
+  pub all : AreValues sheet i values
+  pub long : length vs ≡ count
+  pub each : (l : ℕ) → l < length vs → slice_index vs l ≡ slice_index values (first + l)
+
+-- packed, they are the cell
+pub packs : (sheet : Sheet) (i o phase first count bits : ℕ) (values vs : List ℕ) → AreCellValues sheet i o phase first count values vs → bits ≡ bits_of phase → 1 + packed bits vs ≡ cell sheet (first_cell_of sheet.layout i + o)
+unfolding cell
+packs sheet i o phase first count bits values vs are b =
+    let p = are.cut.same_phase in let few = are.cut.few in let inside = are.cut.inside in let long = are.long in let all = are.all.long in
+    let start : first ≡ o * lanes_of (phase_of sheet.layout.bands i) = are.cut.begins ∙ ap (λ (q : ℕ). o * lanes_of q) p in
+    ap (λ (z : ℕ). 1 + packed z vs) (b ∙ ap bits_of p)
+    ∙ cell_packs sheet.page.value sheet.layout i o vs are.piece are.cell
+    (long ∙ (few ∙ (ap (λ (q : ℕ). min (lanes_of q) (value_total sheet.layout i - first)) p ∙ ap (λ (z : ℕ). min (lanes_of (phase_of sheet.layout.bands i)) (value_total sheet.layout i - z)) start)))
+    (λ l m. are.each l m ∙ (are.all.each (first + l) (omega (arith, m, long, few, inside, all)) ∙ ap (λ (z : ℕ). value sheet.page.value sheet.layout i (z + l)) start))
+
+-- and they fit their lanes
+pub small : (sheet : Sheet) → IsFit sheet → (i o phase first count bits : ℕ) (values vs : List ℕ) → AreCellValues sheet i o phase first count values vs → bits ≡ bits_of phase → (k d : ℕ) → k < length vs → slice_index_or vs k d < 2 ^ bits
+small sheet fit i o phase first count bits values vs are b k d l =
+    let few = are.cut.few in let inside = are.cut.inside in let long = are.long in let all = are.all.long in
+    let here : first + k < value_total sheet.layout i = omega (arith, l, long, few, inside) in
+    let is = are.each k l ∙ are.all.each (first + k) (omega (arith, here, all)) in
+    rw (b ∙ ap bits_of are.cut.same_phase, get_or_default vs k d 0 l) (subst (λ (z : ℕ). z < 2 ^ bits_of (phase_of sheet.layout.bands i)) (sym is) (fits sheet.page.value sheet.layout i (first + k) fit are.piece here))
+
+-- the front of the 31 places
+pub front_of : (n : ℕ) → length {A = ℕ} (take n (replicate 31 0)) ≡ min n 31
+front_of n = length-take {A = ℕ} n (replicate 31 0)

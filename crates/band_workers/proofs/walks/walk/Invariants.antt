@@ -1,0 +1,16 @@
+use Rattle.std.proofs.Common.{◌≡◌, ℕ, ◌+◌, ◌<◌, ◌≤◌, length, None, true, false}
+use Rattle.page_model.specs.Bands.{pieces_of}
+use Rattle.band_claims.specs.Seating.{Seats}
+use Rattle.band_workers.specs.Accounts.{IsAccounted, Publishes}
+use Rattle.band_workers.proofs.walks.walk.Given as goal
+
+abbrev pub invariant-loop-piece : goal.invariant-loop-piece
+invariant-loop-piece g l = record {
+  maker : g.M.Maker.serves l.maker l.shared.sheet;
+  pass : Seats l.shared l.pass;
+  idle : l.pass.view.held ≡ None;
+  published : Publishes l.initial.pass.view l.pass.view;
+  few : l.won ≡ true → length l.pass.view.published ≤ pieces_of l.shared.sheet.layout.bands;
+  more : l.won ≡ true → length l.initial.pass.view.published + 1 ≤ length l.pass.view.published;
+  accounted : l.won ≡ false → (i : ℕ) → i < l.piece → IsAccounted l.shared.sheet.layout.bands l.pass.view i;
+}

@@ -1,0 +1,17 @@
+use Rattle.std.proofs.Common.{◌≡◌, ℕ, ◌+◌, ◌-◌, ◌<◌, length, None, false, if◌then◌else◌}
+use Rattle.page_model.specs.Bands.{pieces_of}
+use Rattle.band_claims.specs.Seating.{Seats}
+use Rattle.band_workers.specs.Accounts.{IsAccounted, Publishes}
+use Rattle.band_workers.proofs.walks.work.Given as goal
+
+abbrev pub invariant-loop-won : goal.invariant-loop-won
+invariant-loop-won g l = record {
+  maker : g.M.Maker.serves l.maker l.shared.sheet;
+  pass : Seats l.shared l.pass;
+  idle : l.pass.view.held ≡ None;
+  published : Publishes l.initial.pass.view l.pass.view;
+  accounted : l.won ≡ false → (i : ℕ) → i < pieces_of l.shared.sheet.layout.bands → IsAccounted l.shared.sheet.layout.bands l.pass.view i;
+}
+
+abbrev pub decreases-loop-won : goal.decreases-loop-won
+decreases-loop-won g l = if l.won then pieces_of l.shared.sheet.layout.bands - length l.pass.view.published + 1 else 0

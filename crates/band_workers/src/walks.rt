@@ -1,0 +1,161 @@
+ghost use Rattle.std.specs.Prelude.{◌≡◌, ℕ, ◌+◌, ◌<◌, ◌≤◌, All, length, IsTrue, false, None};
+ghost use Rattle.band_claims.specs.Seating.{Seats};
+ghost use Rattle.band_claims.specs.Views.{IsFair, Lost};
+ghost use Rattle.page_model.specs.Bands.{pieces_of};
+ghost use Rattle.band_workers.specs.Accounts.{IsAccounted, Publishes, Made};
+
+use crate::gate::Gate;
+use crate::maker::Maker;
+use band_claims::{Pass, Shared};
+use band_graph::needs::pieces;
+use page_model::page::Page;
+use std::thread;
+use std::thread::Threads;
+
+// Claims the piece and makes it, if it can.
+fn visit<M: Maker, G: Gate>(
+    shared: &Shared,
+    pass: &mut Pass,
+    page: &Page,
+    maker: &mut M,
+    gate: &G,
+    piece: u32,
+) -> bool
+    requires page { page.now ≡ shared.now.sheet.page.value }
+    requires maker { M.serves maker.old shared.now.sheet }
+    requires pass { Seats shared.now pass.old }
+    requires piece { piece < pieces_of shared.now.sheet.layout.bands }
+    requires idle { pass.old.view.held ≡ None }
+    ensures maker { M.serves maker.new shared.now.sheet }
+    ensures pass { Seats shared.now pass.new }
+    ensures made { IsTrue result → Made piece pass.old.view pass.new.view }
+    ensures fair { IsTrue result → IsFair (pieces_of shared.now.sheet.layout.bands) pass.new.view }
+    ensures lost { result ≡ false
+        → Lost shared.now.sheet.layout.bands piece pass.old.view pass.new.view }
+{
+    if !shared.claim(pass, piece) {
+        return false;
+    }
+    gate.claimed(pass, piece);
+    maker.fill(page, shared, pass, piece);
+    shared.finish(pass);
+    true
+}
+
+// One walk over the pieces in order: claims and makes those that it can. True where it won one.
+fn walk<M: Maker, G: Gate>(
+    shared: &Shared,
+    pass: &mut Pass,
+    page: &Page,
+    maker: &mut M,
+    gate: &G,
+) -> bool
+    requires page { page.now ≡ shared.now.sheet.page.value }
+    requires maker { M.serves maker.old shared.now.sheet }
+    requires pass { Seats shared.now pass.old }
+    requires idle { pass.old.view.held ≡ None }
+    ensures maker { M.serves maker.new shared.now.sheet }
+    ensures pass { Seats shared.now pass.new }
+    ensures idle { pass.new.view.held ≡ None }
+    ensures published { Publishes pass.old.view pass.new.view }
+    ensures few { IsTrue result
+        → length pass.new.view.published ≤ pieces_of shared.now.sheet.layout.bands }
+    ensures more { IsTrue result
+        → length pass.old.view.published + 1 ≤ length pass.new.view.published }
+    ensures accounted { result ≡ false → (i : ℕ) → i < pieces_of shared.now.sheet.layout.bands
+        → IsAccounted shared.now.sheet.layout.bands pass.new.view i }
+{
+    let mut won = false;
+    for piece in 0..pieces(shared.bands()) {
+        if visit(shared, pass, page, maker, gate, piece) {
+            won = true;
+        }
+    }
+    won
+}
+
+/// Walks over the pieces, claims and makes those that it can, and ends after a walk that won nothing. Each piece is
+/// then accounted for in the pass: it was published or seen done, or `looked` shows a need of it that was not done or
+/// that it was not free.
+pub fn work<M: Maker, G: Gate>(
+    shared: &Shared,
+    pass: Pass,
+    page: &Page,
+    maker: &mut M,
+    gate: &G,
+) -> Pass
+    requires page { page.now ≡ shared.now.sheet.page.value }
+    requires maker { M.serves maker.old shared.now.sheet }
+    requires pass { Seats shared.now pass }
+    requires idle { pass.view.held ≡ None }
+    ensures maker { M.serves maker.new shared.now.sheet }
+    ensures pass { Seats shared.now result }
+    ensures idle { result.view.held ≡ None }
+    ensures published { Publishes pass.view result.view }
+    ensures accounted { (i : ℕ) → i < pieces_of shared.now.sheet.layout.bands
+        → IsAccounted shared.now.sheet.layout.bands result.view i }
+{
+    let mut pass = pass;
+    let mut won = true;
+    while won {
+        won = walk(shared, &mut pass, page, maker, gate);
+    }
+    pass
+}
+
+/// Runs `work` once for each maker, on threads of their own, and joins their passes. It waits for its own workers
+/// alone; where a thread can't be started the caller does that work itself.
+pub fn work_many<R: Threads + Sync, M: Maker + Send, G: Gate + Sync>(
+    rt: &R,
+    shared: &Shared,
+    pass: Pass,
+    page: &Page,
+    makers: &mut [M],
+    gate: &G,
+) -> Pass
+    requires page { page.now ≡ shared.now.sheet.page.value }
+    requires makers { All (λ m. M.serves m shared.now.sheet) makers.old }
+    requires some { 1 ≤ length makers.old }
+    requires pass { Seats shared.now pass }
+    requires idle { pass.view.held ≡ None }
+    ensures pass { Seats shared.now result }
+    ensures idle { result.view.held ≡ None }
+    ensures published { Publishes pass.view result.view }
+    ensures accounted { (i : ℕ) → i < pieces_of shared.now.sheet.layout.bands
+        → IsAccounted shared.now.sheet.layout.bands result.view i }
+{
+    let count = makers.len();
+    if count == 1 {
+        return work(shared, pass, page, &mut makers[0], gate);
+    }
+    let half = count / 2;
+    let (one, two) = shared.split(pass);
+    let (left, right) = makers.split_at_mut(half);
+    let (one, two) = thread::join(
+        rt,
+        move || -> Pass
+            requires page { page.now ≡ shared.now.sheet.page.value }
+            requires makers { All (λ m. M.serves m shared.now.sheet) left.now }
+            requires some { 1 ≤ length left.now }
+            requires pass { Seats shared.now one }
+            requires idle { one.view.held ≡ None }
+            ensures pass { Seats shared.entry.now result }
+            ensures idle { result.view.held ≡ None }
+            ensures published { Publishes one.view result.view }
+            ensures accounted { (i : ℕ) → i < pieces_of shared.entry.now.sheet.layout.bands
+                → IsAccounted shared.entry.now.sheet.layout.bands result.view i }
+        { work_many(rt, shared, one, page, left, gate) },
+        move || -> Pass
+            requires page { page.now ≡ shared.now.sheet.page.value }
+            requires makers { All (λ m. M.serves m shared.now.sheet) right.now }
+            requires some { 1 ≤ length right.now }
+            requires pass { Seats shared.now two }
+            requires idle { two.view.held ≡ None }
+            ensures pass { Seats shared.entry.now result }
+            ensures idle { result.view.held ≡ None }
+            ensures accounted { (i : ℕ) → i < pieces_of shared.entry.now.sheet.layout.bands
+                → IsAccounted shared.entry.now.sheet.layout.bands result.view i }
+        { work_many(rt, shared, two, page, right, gate) },
+    );
+    shared.join(one, two)
+}
