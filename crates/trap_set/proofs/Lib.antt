@@ -1,3 +1,5 @@
 mod WorkedSets
 pub mod RunLemmas
 pub mod SetLemmas
+pub mod HoldingLemmas
+pub mod TextLemmas

@@ -1,16 +1,14 @@
 -- The runs of what changed cover the samples that changed, each with its new tints, and no others.
-use Rattle.std.specs.Prelude.{⊤}
-use Rattle.std.proofs.Common.{◌≡◌, ℕ, zero, suc, ◌+◌, ◌-◌, ◌*◌, ◌/◌, ◌%◌, ◌<◌, ◌≤◌, Bool, true, false, ◌&&◌, ◌||◌, not, nat_eq, nat_le, nat_lt, List, [], ◌∷◌, ◌++◌, length, slice_index, find, Option, Some, None, refl, sym, ap, ◌∙◌, inl, inr, arith, subst, add-suc, if◌then◌else◌}
+use Rattle.std.proofs.Common.{◌≡◌, ℕ, zero, suc, ◌+◌, ◌-◌, ◌*◌, ◌/◌, ◌%◌, ◌<◌, ◌≤◌, Bool, true, false, ◌&&◌, ◌||◌, not, nat_eq, nat_le, nat_lt, List, [], ◌∷◌, ◌++◌, length, slice_index, find, Option, Some, None, refl, sym, ap, ◌∙◌, inl, inr, arith, subst, if◌then◌else◌}
 use Rattle.std.specs.Option.{MatchOption}
 use Rattle.std.proofs.Math.Nat.{div-lt_iff_lt-mul, mod-lt}
 use Rattle.std.proofs.lemmas.Nat.{div-add-mod', div-mul-add, mod-mul-add, mul-add-lt}
-use Rattle.std.proofs.lemmas.Bool.{cases_Bool, cases_eq, and_parts, and_from, leb-true, le-leb, ltb-true, lt-ltb, eqb-true, eq-eqb, not-true, not-false, both_ways, false_from_ne_true, false≢true}
+use Rattle.std.proofs.lemmas.Bool.{cases_Bool, cases_eq, and_parts, and_from, leb-true, le-leb, ltb-true, lt-ltb, eqb-true, eq-eqb, not-true, not-false, both_ways, false≢true}
 use Rattle.page_model.specs.declared.parts.Plane.{Plane}
 use Rattle.page_model.specs.Planes.{plane_at, no_plane, tints_of}
 use Rattle.lists.specs.Words.{any_below, list_below, or_else}
 use Rattle.lists.proofs.ListBelow.{length-list_below, list_below-at, list_below-of, list_below-from}
-use Rattle.lists.proofs.Sums.{any_below-at}
-use Rattle.plane_shapes.specs.Shapes.{AreOneShape, wide, tall, deep}
+use Rattle.plane_shapes.specs.Shapes.{wide, tall}
 use Rattle.plane_shapes.proofs.ShapeLemmas.{plane_of, like_of, tints_count}
 use Rattle.trap_set.specs.Applied.{covering, tint_by, applied_plane, applied}
 use Rattle.trap_set.specs.Runs.{Run, covers, tint_at, changes, same_tints, goes_on, begins, run_on, run_at, runs_below, trap_runs, ArePair}

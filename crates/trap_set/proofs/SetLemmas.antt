@@ -1,19 +1,18 @@
 -- The runs of what changed are a set: each within its row, and in their order.
-use Rattle.std.proofs.Common.{◌≡◌, ℕ, zero, suc, ◌+◌, ◌-◌, ◌*◌, ◌/◌, ◌%◌, ◌<◌, ◌≤◌, Bool, true, false, ◌&&◌, not, List, [], ◌∷◌, ◌++◌, length, refl, sym, ap, ◌∙◌, inl, inr, arith, subst, if◌then◌else◌}
+use Rattle.std.proofs.Common.{◌≡◌, ℕ, zero, suc, ◌+◌, ◌-◌, ◌*◌, ◌/◌, ◌%◌, ◌<◌, ◌≤◌, true, not, List, [], length, refl, sym, ap, ◌∙◌, inl, inr, arith, subst}
 use Rattle.std.specs.List.{All, AllPairs}
 use Rattle.std.proofs.Math.Nat.{div-lt_iff_lt-mul, mod-lt, mul-le-mul}
 use Rattle.std.proofs.lemmas.Nat.{div-add-mod', mul-add-lt}
 use Rattle.std.proofs.lemmas.List.{append-nil}
 use Rattle.std.proofs.lemmas.List.Quantifiers.{all_pairs_push}
-use Rattle.std.proofs.lemmas.Bool.{cases_Bool, cases_eq, cases_lt, cases_order, and_parts, both_ways, not-true}
+use Rattle.std.proofs.lemmas.Bool.{cases_Bool, cases_lt, cases_order, and_parts, both_ways, not-true}
 use Rattle.std.proofs.lemmas.List.Elements.{All-append, All-push}
 use Rattle.page_model.specs.declared.parts.Plane.{Plane}
-use Rattle.page_model.specs.Planes.{plane_at, no_plane, tints_of}
 use Rattle.lists.proofs.ListBelow.{length-list_below, all_below}
-use Rattle.plane_shapes.specs.Shapes.{AreOneShape, wide, tall, deep}
+use Rattle.plane_shapes.specs.Shapes.{wide, tall, deep}
 use Rattle.plane_shapes.proofs.ShapeLemmas.{plane_of, like_of, tints_count}
 use Rattle.trap_set.specs.Runs.{Run, covers, tint_at, changes, goes_on, begins, run_on, run_at, runs_below, trap_runs, ArePair}
-use Rattle.trap_set.specs.SetText.{IsHead, IsRun, IsSet, Follows, head_of}
+use Rattle.trap_set.specs.SetText.{IsRun, IsSet, Follows, head_of}
 use Rattle.trap_set.proofs.RunLemmas.{covered, row_of, each_goes_on}
 
 -- what a run stands for: a sample below place n that begins one

@@ -2,3 +2,5 @@ pub mod Applied
 pub mod Lines
 pub mod Runs
 pub mod SetText
+pub mod Holding
+pub mod Rows

@@ -1,0 +1,17 @@
+use Rattle.std.proofs.Common.{[], ap, refl}
+use Rattle.trap_set.proofs.HoldingLemmas.{puts_then, puts_failed, puts_as}
+use Rattle.trap_set.proofs.holding.put.Goals as goal
+
+pub returns-in-Ok-flush : goal.returns-in-Ok-flush
+returns-in-Ok-flush g c =
+    let kept = ap (λ h. h.items) c.in-Err.ensures.err in
+    puts_then c.in-Ok-flush.field-0 c.put_past.result [] c.args.piece.now c.args.held.now.items c.flush.new.held.items c.put_past.new.held.items
+    (g.R.Rack.state c.args.rack.now) (g.R.Rack.state c.flush.new.rack) (g.R.Rack.state c.put_past.new.rack)
+    (puts_as _ [] [] c.try_extend_from_slice.new.self.items c.args.held.now.items c.flush.new.held.items _ _ refl kept c.in-Ok-flush.ensures.puts) c.put_past.ensures
+
+pub returns-in-Err-flush : goal.returns-in-Err-flush
+returns-in-Err-flush g c =
+    let kept = ap (λ h. h.items) c.in-Err.ensures.err in
+    puts_failed c.in-Err-flush.field-0 _ [] c.args.piece.now c.args.held.now.items c.flush.new.held.items c.flush.new.held.items
+    (g.R.Rack.state c.args.rack.now) (g.R.Rack.state c.flush.new.rack)
+    (puts_as _ [] [] c.try_extend_from_slice.new.self.items c.args.held.now.items c.flush.new.held.items _ _ refl kept c.in-Err-flush.ensures.puts)

@@ -1,0 +1,6 @@
+use Rattle.std.proofs.Common.{◌∙◌, ap}
+use Rattle.trap_set.proofs.HoldingLemmas.{puts_past}
+use Rattle.trap_set.proofs.holding.put_past.Goals as goal
+
+pub returns-in-Err : goal.returns-in-Err
+returns-in-Err g c = puts_past _ c.args.piece.now c.args.held.now.items c.try_extend_from_slice.new.self.items _ _ c.requires.is_open c.requires.none (ap (λ h. h.items) c.in-Err.ensures.err ∙ c.requires.none) c.write_on.ensures

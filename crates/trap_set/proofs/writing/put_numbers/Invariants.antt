@@ -1,0 +1,9 @@
+use Rattle.std.proofs.Common.{take, Ok}
+use Rattle.std.specs.List.{flat_map}
+use Rattle.outside.specs.declared.tray.Failed.{Failed}
+use Rattle.trap_set.specs.Holding.{Puts}
+use Rattle.trap_set.specs.SetText.{number}
+use Rattle.trap_set.proofs.writing.put_numbers.Given as goal
+
+abbrev pub invariant-loop-n : goal.invariant-loop-n
+invariant-loop-n g l = Puts {T = Unit {0}} {E = Failed} (flat_map number (take l.n-index l.numbers)) l.initial.held.items l.held.items (g.R.Rack.state l.initial.rack) (g.R.Rack.state l.rack) (Ok tt)

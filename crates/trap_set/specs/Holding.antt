@@ -1,0 +1,30 @@
+-- What it means to write a text piece by piece, of which the last bytes are held back until there are enough for a write.
+use Rattle.std.specs.Prelude.{◌≡◌, ℕ, IsTrue, List, ◌++◌, take, Result, OnOk, OnErr}
+use Rattle.outside.specs.Causes.{Rose}
+use Rattle.outside.specs.Rack.{RackState, KeepsRack}
+use Rattle.outside.specs.Writing.{Grows}
+
+-- all of a text is written or held back, behind what the open file had at the start, and no call has failed since
+pub record Holds (text held : List ℕ) (start state : RackState) : Type 0 where
+  pub tells : state.tells ≡ start.tells
+  pub faults : state.faults ≡ start.faults
+  pub asked : state.asked ≡ start.asked
+  pub told : IsTrue start.tells → state.told ≡ start.told
+  pub current : IsTrue start.tells → state.current ≡ start.current
+  pub written : List ℕ
+  pub whole : text ≡ written ++ held
+  pub files : IsTrue start.tells → Grows written start state
+
+-- a front of the text was written, and then a call failed
+pub record Breaks (text : List ℕ) (start state : RackState) : Type 0 where
+  pub keeps : KeepsRack start state
+  pub asked : state.asked ≡ start.asked
+  pub told : IsTrue start.tells → state.told ≡ start.told
+  pub part : IsTrue start.tells → (k : ℕ) × Grows (take k text) start state
+  pub cause : Rose start.faults state.faults
+
+-- the piece is put behind any text that is held, or the rack fails within it
+pub record Puts {T E : Type 0} (piece held held2 : List ℕ) (before after : RackState) (result : Result T E) : Type 0 where
+  pub well : OnOk result ((start : RackState) (text : List ℕ) → Holds text held start before → Holds (text ++ piece) held2 start after)
+  pub fault : OnErr result ((start : RackState) (text : List ℕ) → Holds text held start before → Breaks (text ++ piece) start after)
+  pub is_open : OnOk result (IsTrue after.is_open)
