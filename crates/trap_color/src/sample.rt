@@ -24,6 +24,10 @@ fn trap_by(page: &Page, zone: u32, p: At, e: EdgeAt, out: &mut [u16]) -> bool
     ensures tints { (c : ℕ) → c < plates page.now → slice_index out.new c ≡ new_in page.now zone p e c }
 {
     let trapped = is_trapped(page, zone, p, e);
+    if !trapped {
+        keep_tints(page, p, out);
+        return false;
+    }
     let densities = Densities {
         here: density(page, p),
         there: density_of_full(page, p, e),
@@ -31,7 +35,7 @@ fn trap_by(page: &Page, zone: u32, p: At, e: EdgeAt, out: &mut [u16]) -> bool
     for c in 0..page.plates() {
         out[c as usize] = new_at(page, zone, p, e, c, trapped, densities);
     }
-    trapped
+    true
 }
 
 fn keep_tints(page: &Page, p: At, out: &mut [u16])

@@ -1,13 +1,16 @@
 ghost use Rattle.std.specs.Prelude.{◌≡◌, ◌+◌, ◌-◌, ◌*◌, ◌/◌, ◌^◌, ◌<◌, ◌≤◌, nat_le, if◌then◌else◌};
 ghost use Rattle.lists.specs.Words.{square};
+ghost use Rattle.page_model.specs.Limits.{half_sample, scale};
+
+use page_model::bounds::HALF_SAMPLE;
 
 /// The part of the full tint that a trapped sample gets, from the densities of its tints and of its full tints.
 pub fn scaled_tint(full: u16, here: u64, there: u64, scaling: u32) -> u16
     requires some { 0 < there }
     requires less { here ≤ there }
     requires bound { there < 2 ^ 40 }
-    requires scaling { scaling ≤ 10000 }
-    ensures { result ≡ (full * (here * 10000 + scaling * (there - here))) / (there * 10000) }
+    requires scaling { scaling ≤ scale }
+    ensures { result ≡ (full * (here * scale + scaling * (there - here))) / (there * scale) }
 {
     let light = u128::from(here) * 10_000 + u128::from(scaling) * u128::from(there - here);
     let value = u128::from(full) * light / (u128::from(there) * 10_000);
@@ -20,10 +23,11 @@ pub fn is_near(d2: u32, slid: bool, width: u32, factor: u32, resolution: u32) ->
     requires width { width ≤ 1000000 }
     requires factor { factor ≤ 100000 }
     requires resolution { resolution ≤ 10000 }
-    ensures { result ≡ nat_le (d2 * square (3600000000 * (if slid then 2 else 1))) (square (width * factor * resolution)) }
+    ensures { result ≡ nat_le (d2 * square (half_sample * (if slid then 2 else 1))) (square (width * factor * resolution)) }
 {
-    let unit = if slid { 7_200_000_000 } else { 3_600_000_000 };
+    let unit = if slid { 2 * HALF_SAMPLE } else { HALF_SAMPLE };
     let reach = u64::from(width) * u64::from(factor) * u64::from(resolution);
+    let unit = u128::from(unit);
     u128::from(d2) * (unit * unit) <= u128::from(reach) * u128::from(reach)
 }
 
