@@ -37,7 +37,7 @@ pub fn assemble(
     requires plates { CanAssemble plates names.now }
     ensures { let made = assembly job plates names.now in
         MatchResult result (λ page. made ≡ Ok page)
-            (λ refusal. (refusal ≡ Refusal.Memory) ⊎ (made ≡ Err refusal)) }
+        (λ refusal. (refusal ≡ Refusal.Memory) ⊎ (made ≡ Err refusal)) }
 {
     if let Some(plate) = without_details(&job, names) {
         return Err(Refusal::NoDetails(plate));

@@ -29,7 +29,7 @@ pub(crate) fn run_page<T: Tray, R: Rack>(
     requires { IsPageWithin command.now }
     ensures { let page = page_in command.now in
         EndsPage (Unit {0}) (sources_of page) (targets_of page) (T.state tray.old)
-            (T.state tray.new) (R.state rack.old) (R.state rack.new) result }
+        (T.state tray.new) (R.state rack.old) (R.state rack.new) result }
 {
     match carry_out(alloc, command, tray, rack) {
         Ok(()) => DONE,
@@ -47,7 +47,7 @@ fn carry_out<T: Tray, R: Rack>(
     requires { IsPageWithin command.now }
     ensures { let page = page_in command.now in
         CarriesOut (sources_of page) (targets_of page) (T.state tray.old) (T.state tray.new)
-            (R.state rack.old) (R.state rack.new) result }
+        (R.state rack.old) (R.state rack.new) result }
 {
     match read_page(alloc, command, tray) {
         Ok(page) => put_out(alloc, command, &page, rack),
