@@ -2,8 +2,8 @@ ghost use Rattle.std.specs.Prelude.{◌≡◌, ◌<◌, ◌≤◌};
 ghost use Rattle.page_model.specs.Bands.{AreBands, first_row, rows_in};
 ghost use Rattle.page_model.specs.Limits.{most_band_height, most_reach, most_side};
 
-/// A page of so many rows, cut from the top into bands of a height; the last band has what is left. `reach2` is the
-/// reach of the page in half-samples. `Bands::new` makes it.
+/// A page of so many rows, cut from the top into bands of a height; the last band has what is left. `reach2` is the reach
+/// of the page in half-samples. `Bands::new` makes it.
 #[derive(Clone, Copy, Debug, Drop, PartialEq, Eq)]
 pub struct Bands {
     pub rows: u32,
