@@ -26,7 +26,8 @@ fn darken_row(shades: &mut [u8], y: usize, row: &[u8])
 fn close_row(shades: &mut [u8], y: u32, until: &[u32])
     requires place { (y + 1) * length until.now ≤ length shades.old }
     ensures { IsRowPut shades.old shades.new (length until.now) y
-        (λ x. if nat_lt y (slice_index until.now x) then at shades.old (length until.now) y x else 0) }
+        (λ x. if nat_lt y (slice_index until.now x)
+        then at shades.old (length until.now) y x else 0) }
 {
     let first = y as usize * until.len();
     for x in 0..until.len() {
@@ -48,7 +49,8 @@ fn enter_row<L: Ledger>(
     requires radius { radius ≤ 16 }
     requires room { HasRoom sheet.now room.old }
     ensures room { HasRoom sheet.now room.new }
-    ensures entered { (older : List ℕ) (left : ℕ) → left ≤ y → IsUnderWay sheet.now radius c older room.old y left
+    ensures entered { (older : List ℕ) (left : ℕ) → left ≤ y
+        → IsUnderWay sheet.now radius c older room.old y left
         → IsUnderWay sheet.now radius c older room.new (y + 1) left }
     ensures steps { steps.new ≡ steps.old + wide sheet.now }
 {
@@ -69,7 +71,8 @@ fn leave_row(sheet: &Sheet, y: u32, room: &mut Room)
     requires row { y < tall sheet.now }
     requires room { HasRoom sheet.now room.old }
     ensures room { HasRoom sheet.now room.new }
-    ensures left { (radius c : ℕ) (older : List ℕ) (entered : ℕ) → entered ≡ min (y + radius + 1) (tall sheet.now)
+    ensures left { (radius c : ℕ) (older : List ℕ) (entered : ℕ) → entered
+        ≡ min (y + radius + 1) (tall sheet.now)
         → IsUnderWay sheet.now radius c older room.old entered y
         → IsUnderWay sheet.now radius c older room.new entered (y + 1) }
 {
@@ -114,7 +117,8 @@ fn pass_rows<L: Ledger>(
     requires radius { radius ≤ 16 }
     requires room { HasRoom sheet.now room.old }
     ensures room { HasRoom sheet.now room.new }
-    ensures passed { (older : List ℕ) → IsUnderWay sheet.now radius c older room.old (min radius (tall sheet.now)) 0
+    ensures passed { (older : List ℕ)
+        → IsUnderWay sheet.now radius c older room.old (min radius (tall sheet.now)) 0
         → IsUnderWay sheet.now radius c older room.new (tall sheet.now) rows }
     ensures steps { steps.new ≡ steps.old + wide sheet.now * rows }
 {
@@ -130,7 +134,8 @@ fn leave_rows(sheet: &Sheet, first: u32, height: u32, room: &mut Room)
     requires height { height ≡ tall sheet.now }
     requires room { HasRoom sheet.now room.old }
     ensures room { HasRoom sheet.now room.new }
-    ensures left { (radius c : ℕ) (older : List ℕ) → tall sheet.now ≤ first + radius → first ≤ height
+    ensures left { (radius c : ℕ) (older : List ℕ) → tall sheet.now ≤ first + radius
+        → first ≤ height
         → IsUnderWay sheet.now radius c older room.old (tall sheet.now) first
         → IsUnderWay sheet.now radius c older room.new (tall sheet.now) (tall sheet.now) }
 {

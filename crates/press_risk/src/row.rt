@@ -62,7 +62,8 @@ fn put_ahead(
     requires first { first ≡ bared_until (is_clear row.now) radius lead }
     ensures reach { result ≡ bared_until (is_clear row.now) radius (length row.now) }
     ensures put { (x : ℕ) → x + lead < length row.now → slice_index until.new x
-        ≡ (if nat_lt x (bared_until (is_clear row.now) radius (x + lead + 1)) then value else slice_index until.old x) }
+        ≡ (if nat_lt x (bared_until (is_clear row.now) radius (x + lead + 1))
+        then value else slice_index until.old x) }
     ensures kept { (x : ℕ) → length row.now ≤ x + lead
         → slice_index until.new x ≡ slice_index until.old x }
 {
@@ -92,7 +93,9 @@ pub(crate) fn put_near(row: &[u8], radius: usize, value: u32, until: &mut [u32])
     requires long { length until.old ≡ length row.now }
     requires radius { radius ≤ 16 }
     ensures { (x : ℕ) → x < length row.now → slice_index until.new x
-        ≡ (if any_below (λ j. is_near radius x j && is_clear row.now j) (length row.now) then value else slice_index until.old x) }
+        ≡ (if any_below
+        (λ j. is_near radius x j && is_clear row.now j) (length row.now)
+        then value else slice_index until.old x) }
 {
     let lead = radius.min(row.len());
     let first = first_reach(row, lead, radius);

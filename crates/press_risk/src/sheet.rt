@@ -71,7 +71,9 @@ impl<'a> Sheet<'a> {
     pub(crate) fn row(&self, c: u32, y: u32) -> &[u16]
         requires plate { c < length self.now }
         requires row { y < tall self.now }
-        ensures tints { result.now ≡ slice_range (tints_of self.now c) (y * wide self.now) (y * wide self.now + wide self.now) }
+        ensures tints { result.now
+            ≡ slice_range (tints_of self.now c)
+            (y * wide self.now) (y * wide self.now + wide self.now) }
         ensures wide { length result.now ≡ wide self.now }
     {
         let plane = &self.planes.as_slice()[c as usize];

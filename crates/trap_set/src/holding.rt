@@ -17,7 +17,8 @@ pub(crate) type Held = ArrayVec<u8, 4096>;
 /// Writes what is held back.
 pub(crate) fn flush<R: Rack>(rack: &mut R, held: &mut Held) -> Result<(), Failed>
     requires { IsTrue (R.state rack.old).is_open }
-    ensures puts { Puts [] held.old.items held.new.items (R.state rack.old) (R.state rack.new) result }
+    ensures puts { Puts []
+        held.old.items held.new.items (R.state rack.old) (R.state rack.new) result }
     ensures none { OnOk result (held.new.items ≡ []) }
 {
     match write_on(rack, held.as_slice()) {
@@ -32,7 +33,8 @@ pub(crate) fn flush<R: Rack>(rack: &mut R, held: &mut Held) -> Result<(), Failed
 /// Puts a piece behind what is held back, which is written where there is no room for it.
 pub(crate) fn put<R: Rack>(rack: &mut R, held: &mut Held, piece: &[u8]) -> Result<(), Failed>
     requires { IsTrue (R.state rack.old).is_open }
-    ensures { Puts piece.now held.old.items held.new.items (R.state rack.old) (R.state rack.new) result }
+    ensures { Puts piece.now
+        held.old.items held.new.items (R.state rack.old) (R.state rack.new) result }
 {
     match held.try_extend_from_slice(piece) {
         Ok(()) => Ok(()),
@@ -47,7 +49,8 @@ pub(crate) fn put<R: Rack>(rack: &mut R, held: &mut Held, piece: &[u8]) -> Resul
 fn put_past<R: Rack>(rack: &mut R, held: &mut Held, piece: &[u8]) -> Result<(), Failed>
     requires is_open { IsTrue (R.state rack.old).is_open }
     requires none { held.old.items ≡ [] }
-    ensures { Puts piece.now held.old.items held.new.items (R.state rack.old) (R.state rack.new) result }
+    ensures { Puts piece.now
+        held.old.items held.new.items (R.state rack.old) (R.state rack.new) result }
 {
     match held.try_extend_from_slice(piece) {
         Ok(()) => Ok(()),
@@ -58,7 +61,8 @@ fn put_past<R: Rack>(rack: &mut R, held: &mut Held, piece: &[u8]) -> Result<(), 
 /// Puts a space and a number.
 pub(crate) fn put_number<R: Rack>(rack: &mut R, held: &mut Held, n: u32) -> Result<(), Failed>
     requires { IsTrue (R.state rack.old).is_open }
-    ensures { Puts (number n) held.old.items held.new.items (R.state rack.old) (R.state rack.new) result }
+    ensures { Puts (number n)
+        held.old.items held.new.items (R.state rack.old) (R.state rack.new) result }
 {
     match put(rack, held, b" ") {
         Ok(()) => put(rack, held, Buffer::new().format(n).as_bytes()),

@@ -21,7 +21,8 @@ pub fn round_law(old: &PlaneList, new: &PlaneList)
 pub fn set_law(old: &PlaneList, new: &PlaneList)
     requires { ArePair old.now new.now }
     ensures set { IsSet (head_of old.now) (trap_runs old.now new.now) }
-    ensures covers { All (λ run. (x y : ℕ) → covers run x y ≡ true → changes old.now new.now x y ≡ true)
+    ensures covers { All (λ run. (x y : ℕ) → covers run x y ≡ true → changes old.now new.now x y
+        ≡ true)
         (trap_runs old.now new.now) }
 {
     let _old = old;

@@ -12,7 +12,9 @@ fn row_of(planes: &PlaneList, c: u32, y: u32) -> &[u16]
     requires shape { AreOneShape planes.now }
     requires plate { c < length planes.now }
     requires row { y < tall planes.now }
-    ensures tints { result.now ≡ slice_range (tints_of planes.now c) (y * wide planes.now) (y * wide planes.now + wide planes.now) }
+    ensures tints { result.now
+        ≡ slice_range (tints_of planes.now c)
+        (y * wide planes.now) (y * wide planes.now + wide planes.now) }
     ensures wide { length result.now ≡ wide planes.now }
 {
     let plane = &planes.as_slice()[c as usize];

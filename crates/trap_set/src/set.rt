@@ -25,7 +25,9 @@ fn put_lines<R: Rack>(
     requires pair { ArePair old.now new.now }
     requires width { width ≡ wide old.now }
     requires height { height ≡ tall old.now }
-    ensures { Puts ((title_line ++ page_line (head_of old.now)) ++ rows_text old.now new.now (tall old.now)) held.old.items held.new.items (R.state rack.old) (R.state rack.new) result }
+    ensures { Puts ((title_line ++ page_line (head_of old.now))
+        ++ rows_text old.now new.now (tall old.now))
+        held.old.items held.new.items (R.state rack.old) (R.state rack.new) result }
 {
     match put_head(rack, held, old) {
         Ok(()) => put_rows(rack, held, old, new, width, height),
@@ -46,7 +48,8 @@ fn put_set<R: Rack>(
     requires pair { ArePair old.now new.now }
     requires width { width ≡ wide old.now }
     requires height { height ≡ tall old.now }
-    ensures { Puts (set_text old.now new.now) held.old.items held.new.items (R.state rack.old) (R.state rack.new) result }
+    ensures { Puts (set_text old.now new.now)
+        held.old.items held.new.items (R.state rack.old) (R.state rack.new) result }
 {
     match put_lines(rack, held, old, new, width, height) {
         Ok(()) => put(rack, held, b"end\n"),
@@ -67,7 +70,8 @@ fn put_whole<R: Rack>(
     requires pair { ArePair old.now new.now }
     requires width { width ≡ wide old.now }
     requires height { height ≡ tall old.now }
-    ensures puts { Puts (set_text old.now new.now) held.old.items held.new.items (R.state rack.old) (R.state rack.new) result }
+    ensures puts { Puts (set_text old.now new.now)
+        held.old.items held.new.items (R.state rack.old) (R.state rack.new) result }
     ensures none { OnOk result (held.new.items ≡ []) }
 {
     match put_set(rack, held, old, new, width, height) {
@@ -98,7 +102,8 @@ pub fn write_set<R: Rack>(
     new: &PlaneList,
 ) -> Result<(), Failed>
     requires { ArePair old.now new.now }
-    ensures { WritesFile name.now (set_text old.now new.now) (R.state rack.old) (R.state rack.new) result }
+    ensures { WritesFile name.now (set_text old.now new.now)
+        (R.state rack.old) (R.state rack.new) result }
 {
     match rack.create(name) {
         Ok(()) => fill_set(rack, old, new),

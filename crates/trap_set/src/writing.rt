@@ -18,7 +18,8 @@ use page_model::parts::PlaneList;
 /// Puts a space and a number, for each of some.
 fn put_numbers<R: Rack>(rack: &mut R, held: &mut Held, numbers: &[u32]) -> Result<(), Failed>
     requires { IsTrue (R.state rack.old).is_open }
-    ensures { Puts (flat_map number numbers.now) held.old.items held.new.items (R.state rack.old) (R.state rack.new) result }
+    ensures { Puts (flat_map number numbers.now)
+        held.old.items held.new.items (R.state rack.old) (R.state rack.new) result }
 {
     for n in numbers {
         match put_number(rack, held, *n) {
@@ -41,7 +42,9 @@ fn put_tints<R: Rack>(
     requires shape { AreOneShape planes.now }
     requires column { x < wide planes.now }
     requires row { y < tall planes.now }
-    ensures { Puts (flat_map number (list_below (λ c. tint_at planes.now c x y) (length planes.now))) held.old.items held.new.items (R.state rack.old) (R.state rack.new) result }
+    ensures { Puts (flat_map number (list_below
+        (λ c. tint_at planes.now c x y) (length planes.now)))
+        held.old.items held.new.items (R.state rack.old) (R.state rack.new) result }
 {
     for c in 0..planes.len() as u32 {
         match put_number(rack, held, u32::from(tint_of(planes, c, x, y))) {
@@ -61,7 +64,8 @@ fn put_place<R: Rack>(
     count: u32,
 ) -> Result<(), Failed>
     requires { IsTrue (R.state rack.old).is_open }
-    ensures { Puts (codes "run" ++ flat_map number (y ∷ x ∷ count ∷ [])) held.old.items held.new.items (R.state rack.old) (R.state rack.new) result }
+    ensures { Puts (codes "run" ++ flat_map number (y ∷ x ∷ count ∷ []))
+        held.old.items held.new.items (R.state rack.old) (R.state rack.new) result }
 {
     match put(rack, held, b"run") {
         Ok(()) => put_numbers(rack, held, &[y, x, count]),
@@ -81,7 +85,8 @@ fn put_last_tints<R: Rack>(
     requires shape { AreOneShape planes.now }
     requires column { x < wide planes.now }
     requires row { y < tall planes.now }
-    ensures { Puts (flat_map number (list_below (λ c. tint_at planes.now c x y) (length planes.now)) ++ 10 ∷ []) held.old.items held.new.items (R.state rack.old) (R.state rack.new) result }
+    ensures { Puts (flat_map number (list_below (λ c. tint_at planes.now c x y) (length planes.now))
+        ++ 10 ∷ []) held.old.items held.new.items (R.state rack.old) (R.state rack.new) result }
 {
     match put_tints(rack, held, planes, x, y) {
         Ok(()) => put(rack, held, b"\n"),
@@ -104,7 +109,8 @@ fn put_run<R: Rack>(
     requires width { width ≡ wide old.now }
     requires column { x < width }
     requires row { y < tall old.now }
-    ensures { Puts (run_line (run_at old.now new.now x y)) held.old.items held.new.items (R.state rack.old) (R.state rack.new) result }
+    ensures { Puts (run_line (run_at old.now new.now x y))
+        held.old.items held.new.items (R.state rack.old) (R.state rack.new) result }
 {
     let count = run_length(old, new, x, y, width);
     match put_place(rack, held, x, y, count) {
@@ -128,7 +134,8 @@ fn put_sample<R: Rack>(
     requires width { width ≡ wide old.now }
     requires column { x < width }
     requires row { y < tall old.now }
-    ensures { Puts (run_text old.now new.now y x) held.old.items held.new.items (R.state rack.old) (R.state rack.new) result }
+    ensures { Puts (run_text old.now new.now y x)
+        held.old.items held.new.items (R.state rack.old) (R.state rack.new) result }
 {
     if begins_at(old, new, x, y) {
         return put_run(rack, held, old, new, x, y, width);
@@ -149,7 +156,8 @@ fn put_row<R: Rack>(
     requires pair { ArePair old.now new.now }
     requires width { width ≡ wide old.now }
     requires row { y < tall old.now }
-    ensures { Puts (row_text old.now new.now y (wide old.now)) held.old.items held.new.items (R.state rack.old) (R.state rack.new) result }
+    ensures { Puts (row_text old.now new.now y (wide old.now))
+        held.old.items held.new.items (R.state rack.old) (R.state rack.new) result }
 {
     for x in 0..width {
         match put_sample(rack, held, old, new, x, y, width) {
@@ -173,7 +181,8 @@ pub(crate) fn put_rows<R: Rack>(
     requires pair { ArePair old.now new.now }
     requires width { width ≡ wide old.now }
     requires height { height ≡ tall old.now }
-    ensures { Puts (rows_text old.now new.now (tall old.now)) held.old.items held.new.items (R.state rack.old) (R.state rack.new) result }
+    ensures { Puts (rows_text old.now new.now (tall old.now))
+        held.old.items held.new.items (R.state rack.old) (R.state rack.new) result }
 {
     for y in 0..height {
         match put_row(rack, held, old, new, y, width) {
@@ -193,7 +202,8 @@ fn put_sides<R: Rack>(
     maxval: u32,
 ) -> Result<(), Failed>
     requires { IsTrue (R.state rack.old).is_open }
-    ensures { Puts ((title_line ++ codes "page") ++ flat_map number (width ∷ height ∷ maxval ∷ [])) held.old.items held.new.items (R.state rack.old) (R.state rack.new) result }
+    ensures { Puts ((title_line ++ codes "page") ++ flat_map number (width ∷ height ∷ maxval ∷ []))
+        held.old.items held.new.items (R.state rack.old) (R.state rack.new) result }
 {
     match put(rack, held, b"trap set\npage") {
         Ok(()) => put_numbers(rack, held, &[width, height, maxval]),
@@ -204,7 +214,8 @@ fn put_sides<R: Rack>(
 /// Puts how many planes there are.
 fn put_count<R: Rack>(rack: &mut R, held: &mut Held, plates: u32) -> Result<(), Failed>
     requires { IsTrue (R.state rack.old).is_open }
-    ensures { Puts (codes " plates" ++ number plates) held.old.items held.new.items (R.state rack.old) (R.state rack.new) result }
+    ensures { Puts (codes " plates" ++ number plates)
+        held.old.items held.new.items (R.state rack.old) (R.state rack.new) result }
 {
     match put(rack, held, b" plates") {
         Ok(()) => put_number(rack, held, plates),
@@ -215,7 +226,8 @@ fn put_count<R: Rack>(rack: &mut R, held: &mut Held, plates: u32) -> Result<(), 
 /// Puts how many planes there are, and the end of the line.
 fn put_plates<R: Rack>(rack: &mut R, held: &mut Held, plates: u32) -> Result<(), Failed>
     requires { IsTrue (R.state rack.old).is_open }
-    ensures { Puts ((codes " plates" ++ number plates) ++ 10 ∷ []) held.old.items held.new.items (R.state rack.old) (R.state rack.new) result }
+    ensures { Puts ((codes " plates" ++ number plates) ++ 10 ∷ [])
+        held.old.items held.new.items (R.state rack.old) (R.state rack.new) result }
 {
     match put_count(rack, held, plates) {
         Ok(()) => put(rack, held, b"\n"),
@@ -231,7 +243,8 @@ pub(crate) fn put_head<R: Rack>(
 ) -> Result<(), Failed>
     requires is_open { IsTrue (R.state rack.old).is_open }
     requires shape { AreOneShape planes.now }
-    ensures { Puts (title_line ++ page_line (head_of planes.now)) held.old.items held.new.items (R.state rack.old) (R.state rack.new) result }
+    ensures { Puts (title_line ++ page_line (head_of planes.now))
+        held.old.items held.new.items (R.state rack.old) (R.state rack.new) result }
 {
     let first = &planes.as_slice()[0];
     let plates = planes.len() as u32;
