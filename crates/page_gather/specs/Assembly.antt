@@ -24,10 +24,12 @@ detail_of details name = find (λ (ink : Ink). bytes_eq ink.name name) details
 abbrev pub plain_ink : List ℕ → Ink
 plain_ink name = record { name = name; density = 10000; kind = Normal }
 
+-- the details, or the plain ink where there are none
 abbrev pub ink_or : Option Ink → Ink → Ink
 ink_or None plain = plain
 ink_or (Some ink) plain = ink
 
+-- the ink of a colorant's name
 abbrev pub ink_of : List Ink → List ℕ → Ink
 ink_of details name = ink_or (detail_of details name) (plain_ink name)
 
@@ -44,6 +46,7 @@ assembled job plates names = record {
   zones = map (zone_for names) job.zones;
 }
 
+-- whether some zone of the job is enabled
 abbrev pub some_enabled : Job → Bool
 some_enabled job = list_any (λ (z : Zone). z.params.enabled) job.zones
 
@@ -51,10 +54,12 @@ some_enabled job = list_any (λ (z : Zone). z.params.enabled) job.zones
 abbrev pub without_details : Job → List (List ℕ) → Option ℕ
 without_details job names = if some_enabled job then position (λ name. is_none (detail_of job.details name)) names else None
 
+-- the page of these parts, or its fault
 abbrev pub faulted : PageParts → Option PageFault → Result PageParts Refusal
 faulted parts None = Ok parts
 faulted parts (Some fault) = Err (Page fault)
 
+-- the page of these parts, or the plate that lacks its details
 abbrev pub detailed : Option ℕ → PageParts → Result PageParts Refusal
 detailed None parts = faulted parts (page_fault parts)
 detailed (Some plate) parts = Err (NoDetails plate)

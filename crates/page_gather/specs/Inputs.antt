@@ -17,6 +17,7 @@ pub record Sources : Type 0 where
   pub names : List (List ℕ)
   pub inputs : List (List ℕ)
 
+-- the sources of these names
 abbrev pub sources : List ℕ → List (List ℕ) → List (List ℕ) → Sources
 sources job names inputs = record { job = job; names = names; inputs = inputs }
 
@@ -34,6 +35,7 @@ pub record Spelling : Type 1 where
 abbrev pub one_page : Spelling
 one_page = record { job = job_of; plate = IsPlateFile; fault = IsFault }
 
+-- name k, and no byte where there is none
 abbrev pub name_at : List (List ℕ) → ℕ → List ℕ
 name_at names k = slice_index_or names k []
 
@@ -41,6 +43,7 @@ name_at names k = slice_index_or names k []
 abbrev pub no_plate : Plate
 no_plate = record { width = 0; height = 0; maxval = 0; samples = [] }
 
+-- plate k
 abbrev pub plate_at : List Plate → ℕ → Plate
 plate_at plates k = slice_index_or plates k no_plate
 

@@ -46,6 +46,7 @@ AnswersJob name before after (Err (Read None)) = Rose before.faults after.faults
 AnswersJob name before after (Err Memory) = Unit {0}
 AnswersJob name before after (Err other) = ⊥
 
+-- The job of that name is read.
 pub record ReadsJob (name : List ℕ) (before after : TrayState) (result : Result Job Refusal) : Type 0 where
   pub keeps : KeepsTray before after
   pub asked : Asks before.asked after.asked (name ∷ [])
@@ -65,6 +66,7 @@ AnswersPlate k name before after (Err (Read (Some at))) = (at ≡ k) × Rose bef
 AnswersPlate k name before after (Err Memory) = Unit {0}
 AnswersPlate k name before after (Err other) = ⊥
 
+-- Plate k is read from the file of that name.
 pub record ReadsOne (k : ℕ) (name : List ℕ) (before after : TrayState) (result : Result PlateRead Refusal) : Type 0 where
   pub keeps : KeepsTray before after
   pub asked : Asks before.asked after.asked (name ∷ [])
@@ -79,6 +81,7 @@ pub record Stops (names : List (List ℕ)) (k : ℕ) (before after : TrayState) 
   pub plates : List PlateRead
   pub before_it : IsTrue before.tells → AreRead one_page before.file names k plates
 
+-- what the answer says of the plates' bytes, where these are told
 abbrev pub AnswersPlates : List (List ℕ) → TrayState → TrayState → Result (List PlateRead) Refusal → Type 0
 AnswersPlates names before after (Ok plates) = Asks before.asked after.asked names × (length plates ≡ length names) × All IsPlate plates × (IsTrue before.tells → AreRead one_page before.file names (length names) plates)
 AnswersPlates names before after (Err (Plate k fault)) = Stops names k before after × (IsTrue before.tells → Holds before.file (name_at names k) (λ bytes. IsFault bytes fault))
@@ -90,6 +93,7 @@ AnswersPlates names before after (Err other) = ⊥
 abbrev pub PlateInHand : List (List ℕ) → TrayState → TrayState → Type 0
 PlateInHand names before after = (k : ℕ) × (k < length names) × TakesPlate (name_at names k) before after
 
+-- The plates of these files are read, up to the first that is refused.
 pub record ReadsPlates (names : List (List ℕ)) (before after : TrayState) (result : Result (List PlateRead) Refusal) : Type 0 where
   pub keeps : KeepsTray before after
   pub few : 0 < length names → PlateInHand names before after

@@ -20,6 +20,7 @@ plate_files (output ∷ outputs) (plane ∷ planes) = record { name = output; by
 abbrev pub page_files : List (List ℕ) → List Plane → List ℕ → List ℕ → List Written
 page_files outputs planes report text = plate_files outputs planes ++ record { name = report; bytes = text } ∷ []
 
+-- the names of these files
 abbrev pub names_of : List Written → List (List ℕ)
 names_of = map (λ w. w.name)
 

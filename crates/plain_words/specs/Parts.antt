@@ -19,16 +19,19 @@ pub record CopyNames : Type 0 where
   pub input : List ℕ
   pub output : List ℕ
 
+-- the byte of a colon
 abbrev pub is_colon : ℕ → Bool
 is_colon b = b == 58
 
+-- a text that is not empty
 abbrev pub is_some_text : List ℕ → Bool
 is_some_text text = nat_le 1 (length text)
 
--- what stands before the first colon, and behind it
+-- what stands before the first colon
 abbrev pub before_colon : List ℕ → List ℕ
 before_colon word = before_first is_colon word
 
+-- what stands behind the first colon
 abbrev pub behind_colon : List ℕ → List ℕ
 behind_colon word = after_first is_colon word
 
@@ -52,6 +55,7 @@ input_of word = record { name = before_colon word; input = behind_colon word }
 abbrev pub is_input : InputNames → Bool
 is_input plate = is_name plate.name && is_last_part plate.input
 
+-- the same parts, as a file to read and one to write
 abbrev pub copy_of : List ℕ → CopyNames
 copy_of word = record { input = before_colon word; output = behind_colon word }
 

@@ -14,6 +14,7 @@ use Rattle.trap_report.specs.declared.refusal.Refusal.TheVariants.{Usage, Job, N
 use Rattle.trap_report.specs.Report.{line}
 use Rattle.trap_report.specs.Statuses.{usage, job_refused, page_refused, not_read, not_written, out_of_memory}
 
+-- the name of a parameter
 abbrev pub key_name : Key → List ℕ
 key_name TrapWidth = codes "TrapWidth"
 key_name BlackWidth = codes "BlackWidth"
@@ -60,9 +61,11 @@ named_key (WrongKind key) = key_name key
 named_key (OutOfRange key) = key_name key
 named_key other = []
 
+-- the line of a job's fault: its kind, the parameter where it names one, and its place
 abbrev pub job_line : JobFault → List ℕ
 job_line fault = line (codes "job: " ++ kind_name fault.kind ++ named_key fault.kind ++ codes " at " ++ decimal fault.at)
 
+-- the name of a plate's fault
 abbrev pub plate_fault_name : PlateFault → List ℕ
 plate_fault_name (BadMagic at) = codes "BadMagic"
 plate_fault_name (BadHeader at) = codes "BadHeader"
@@ -73,6 +76,7 @@ plate_fault_name (SampleAboveMaxval at) = codes "SampleAboveMaxval"
 plate_fault_name (Truncated at) = codes "Truncated"
 plate_fault_name (TrailingBytes at) = codes "TrailingBytes"
 
+-- the place of a plate's fault
 abbrev pub plate_fault_place : PlateFault → ℕ
 plate_fault_place (BadMagic at) = at
 plate_fault_place (BadHeader at) = at
@@ -83,9 +87,11 @@ plate_fault_place (SampleAboveMaxval at) = at
 plate_fault_place (Truncated at) = at
 plate_fault_place (TrailingBytes at) = at
 
+-- the line of a plate's fault: the plate, the kind and the place
 abbrev pub plate_fault_line : ℕ → PlateFault → List ℕ
 plate_fault_line plate fault = line (codes "plate " ++ decimal plate ++ codes ": " ++ plate_fault_name fault ++ codes " at " ++ decimal (plate_fault_place fault))
 
+-- the line of a page's fault
 abbrev pub page_fault_line : PageFault → List ℕ
 page_fault_line (SizeDiffers plate) = line (codes "page: SizeDiffers plate " ++ decimal plate)
 page_fault_line (MaxvalDiffers plate) = line (codes "page: MaxvalDiffers plate " ++ decimal plate)

@@ -17,6 +17,7 @@ page_line page = line (codes "page " ++ decimal (width page) ++ codes " " ++ dec
 abbrev pub zone_line : ℕ → ℕ → ℕ → List ℕ
 zone_line zone samples changed = line (codes "zone " ++ decimal zone ++ codes " samples " ++ decimal samples ++ codes " changed " ++ decimal changed)
 
+-- how many edges decide
 abbrev pub edges_line : ℕ → List ℕ
 edges_line edges = line (codes "edges " ++ decimal edges)
 

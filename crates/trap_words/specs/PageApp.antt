@@ -28,6 +28,7 @@ page_app =
     (word_rule (codes "report")))
     (words_rule (codes "plate"))
 
+-- no fault among these
 abbrev pub is_faultless : Kinds → Bool
 is_faultless [] = true
 is_faultless (k ∷ ks) = false

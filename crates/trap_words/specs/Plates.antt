@@ -4,9 +4,11 @@ use Rattle.std.specs.List.{list_all}
 use Rattle.plain_words.specs.Distinct.{are_distinct}
 use Rattle.plain_words.specs.Parts.{PlateNames, is_plate, parts_of}
 
+-- the names of the plates' colorants
 abbrev pub names_of : List PlateNames → List (List ℕ)
 names_of = map (λ p. p.name)
 
+-- the files that the plates are written into
 abbrev pub outputs_of : List PlateNames → List (List ℕ)
 outputs_of = map (λ p. p.output)
 

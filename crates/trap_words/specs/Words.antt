@@ -24,10 +24,12 @@ pub record SampleWords : Type 0 where
   pub height : ℕ
   pub workers : ℕ
 
+-- what the words ask for
 pub data Command : Type 0 where
   Page : PageWords → Command
   Sample : SampleWords → Command
 
+-- the page of these parts, where each of them is there
 abbrev pub page_with : Option ℕ → Option ℕ → List ℕ → List ℕ → Option (List PlateNames) → Option PageWords
 page_with (Some workers) (Some band) job report (Some plates) = Some (record { workers = workers; band = band; job = job; report = report; plates = plates })
 page_with _ _ _ _ _ = None
@@ -45,6 +47,7 @@ page_of_rows rows = page_of (first_of (codes "workers") rows) (first_of (codes "
 abbrev pub page_of_words : List (List ℕ) → Option PageWords
 page_of_words words = if is_taken words then page_of_rows (rows_in words) else None
 
+-- the sample page of these numbers, where each of them is there
 abbrev pub sample_with : Option ℕ → Option ℕ → Option ℕ → Option ℕ → Option SampleWords
 sample_with (Some number) (Some width) (Some height) (Some workers) = Some (record { number = number; width = width; height = height; workers = workers })
 sample_with _ _ _ _ = None

@@ -9,6 +9,7 @@ use Rattle.trap_report.specs.declared.refusal.Refusal.{Refusal}
 use Rattle.trap_report.specs.declared.refusal.Refusal.TheVariants.{Job, NoDetails, Plate, Page}
 use Rattle.trap_report.specs.Report.{report_of}
 
+-- what is to come
 pub data Verdict : Type 0 where
   -- the job, a plate or the page is refused
   Refused : Refusal → Verdict
