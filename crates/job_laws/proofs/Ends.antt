@@ -24,7 +24,7 @@ use Rattle.job_reader.specs.Jobs.{then_job, statement_then, read_from, job_of, j
 use Rattle.job_reader.specs.Starts.{nothing_read}
 use Rattle.job_reader.specs.Statements.{fault, state_after, job_shown, shown_fault, job_unless, job_at, under_trapping}
 use Rattle.job_reader.proofs.InForce.{resolution-in_force, trapping-in_force, details-in_force, params-in_force, limits-in_force, read_from-after}
-use Rattle.job_laws.specs.Faults.{AreFaultless, IsFaultOf, fault_behind}
+use Rattle.job_laws.specs.Faults.{IsFaultOf}
 use Rattle.job_laws.specs.Jobs.{IsJobOf, EndJob, IsSpelledBy, IsFaultOfBytes}
 use Rattle.job_laws.proofs.Faulting.{fault_in, PassedOn, refused, ends-shown, shown-ends, faulty-refused, fault-there, performed-faultless, faultless-performed}
 use Rattle.job_laws.proofs.Following.{zones-in_force}

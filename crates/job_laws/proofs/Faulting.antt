@@ -1,6 +1,6 @@
 -- The fault that a statement is refused with is its fault by what is in force.
-use Rattle.std.proofs.Common.{◌≡◌, ◌⊎◌, inl, inr, ℕ, ℤ, ◌==◌, Bool, true, false, cond, List, [], ◌∷◌, ◌++◌, length, Option, Some, None, Result, Ok, Err, refl, sym, ap, ◌∙◌, subst, append_assoc, append-nil, true≢false}
-use Rattle.std.specs.Prelude.{nat_le, nat_lt, sum_by, slice_get, ◌&&◌, ◌+◌}
+use Rattle.std.proofs.Common.{◌≡◌, ◌⊎◌, inl, inr, ℕ, ℤ, ◌==◌, Bool, true, false, cond, List, [], ◌∷◌, ◌++◌, length, Option, Some, None, Result, Ok, Err, refl, sym, ap, ◌∙◌, subst, append_assoc, append-nil}
+use Rattle.std.specs.Prelude.{nat_le, nat_lt, sum_by, ◌+◌}
 use Rattle.std.proofs.lemmas.List.Elements.{All-nil, All-cons, All-head, All-tail}
 use Rattle.page_model.specs.declared.parts.Ink.{Ink}
 use Rattle.page_model.specs.declared.parts.Limit.{Limit}
@@ -21,10 +21,10 @@ use Rattle.job_reader.specs.InForce.{NoneShows, after_one, going_on, after_all, 
 use Rattle.job_reader.specs.Jobs.{then_job, statement_then}
 use Rattle.job_reader.specs.Operands.{is_one_dict, two_numbers}
 use Rattle.job_reader.specs.Starts.{nothing_read}
-use Rattle.job_reader.specs.Statements.{most_zones, most_vertices, fault, params_set, path_drawn, with_numbers, zone_of, zone_made, state_after, wants_device, behind_fault, shown_fault, job_at, job_unless, job_shown}
+use Rattle.job_reader.specs.Statements.{most_zones, most_vertices, fault, params_set, path_drawn, with_numbers, zone_of, zone_made, state_after, shown_fault, job_at, job_unless, job_shown}
 use Rattle.job_reader.proofs.InForce.{resolution-in_force, trapping-in_force, details-in_force, params-in_force, limits-in_force}
 use Rattle.job_reader.proofs.StateRanges.{IsState, state_after-leaves, nothing_read-state}
-use Rattle.job_laws.specs.Faults.{state_in_force, vertices_in_force, fault_of, at_operator, unless_wrong, drawing_fault, stroke_fault, zone_fault, showpage_fault, fault_by, fault_behind, AreFaultless}
+use Rattle.job_laws.specs.Faults.{state_in_force, fault_of, at_operator, unless_wrong, drawing_fault, stroke_fault, fault_by, fault_behind, AreFaultless}
 use Rattle.job_laws.proofs.Following.{going, after-push, path-in_force, zones-in_force}
 
 -- What a statement is refused with.

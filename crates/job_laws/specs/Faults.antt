@@ -1,5 +1,5 @@
 -- The fault of a statement, by what is in force behind the statements before it, and the first fault of all.
-use Rattle.std.specs.Prelude.{◌≡◌, ◌⊎◌, ℕ, ℤ, Bool, false, List, [], ◌∷◌, ◌++◌, length, sum_by, slice_get, nat_le, nat_lt, ◌+◌, ◌==◌, ◌&&◌, ◌||◌, Option, Some, None, Result, Ok, Err, if◌then◌else◌}
+use Rattle.std.specs.Prelude.{◌≡◌, ◌⊎◌, ℕ, ℤ, Bool, false, List, ◌∷◌, ◌++◌, length, sum_by, slice_get, nat_le, nat_lt, ◌+◌, ◌==◌, ◌&&◌, ◌||◌, Option, Some, None, Result, Ok, Err, if◌then◌else◌}
 use Rattle.page_model.specs.declared.parts.Zone.{Zone}
 use Rattle.ps_tokens.specs.declared.faults.FaultKind.{FaultKind}
 use Rattle.ps_tokens.specs.declared.faults.FaultKind.TheVariants.{UnknownOperator, WrongOperands, TooManyZones, TooManyVertices, NoPageDevice, NoShowpage}

@@ -11,7 +11,6 @@ use Rattle.ps_tokens.specs.declared.faults.FaultKind.{FaultKind}
 use Rattle.ps_tokens.specs.declared.faults.JobFault.{JobFault}
 use Rattle.ps_tokens.specs.declared.faults.Key.{Key}
 use Rattle.ps_tokens.specs.declared.faults.Key.TheVariants.{TrapWidth, BlackWidth, BlackColorLimit, BlackDensityLimit, StepLimit, SlidingTrapLimit, TrapColorScaling, Enabled, Trapping}
-use Rattle.ps_tokens.specs.declared.object.Body.{Body}
 use Rattle.ps_tokens.specs.declared.object.Object.{Object}
 use Rattle.ps_tokens.specs.Dictionaries.{last_of}
 use Rattle.ps_tokens.specs.Misfits.{misfit_of}

@@ -1,6 +1,6 @@
 -- What is in force stays in range, statement after statement.
 use Rattle.std.proofs.Common.{◌≡◌, ℕ, ℤ, pos, negsuc, ◌≤◌, ◌<◌, ◌+◌, ◌/◌, ◌%◌, ◌==◌, Bool, true, false, cond, List, [], ◌∷◌, ◌++◌, length, Option, Some, None, Result, Ok, Err, refl, ap, ◌∙◌, subst, arith, All}
-use Rattle.std.specs.Prelude.{nat_le, nat_lt, ◌&&◌, slice_get, codes, sum_by}
+use Rattle.std.specs.Prelude.{nat_le, nat_lt, ◌&&◌, codes, sum_by}
 use Rattle.std.specs.Result.{result_unwrap_or}
 use Rattle.std.proofs.lemmas.Bool.{and_parts}
 use Rattle.std.proofs.lemmas.Bool.Decides.{nat_tests}

@@ -1,6 +1,6 @@
 -- The fault of a token among the open brackets is the first that it has, in the order of the list.
-use Rattle.std.proofs.Common.{◌≡◌, ℕ, ◌<◌, Bool, true, false, cond, eqb, List, [], ◌∷◌, length, Result, Ok, Err, refl, sym, ap, ◌∙◌, subst, ⊎_elim, arith}
-use Rattle.std.proofs.lemmas.Bool.{cases_Bool, false≢true, eqb-true, eqb-false, eq-eqb, ne_eqb, false_from_ne_true, cond_both}
+use Rattle.std.proofs.Common.{◌≡◌, ℕ, ◌<◌, Bool, true, false, eqb, List, [], ◌∷◌, length, Result, Ok, Err, refl, sym, ap, ◌∙◌, subst, ⊎_elim, arith}
+use Rattle.std.proofs.lemmas.Bool.{cases_Bool, false≢true, eqb-true, eq-eqb, ne_eqb, false_from_ne_true}
 use Rattle.ps_tokens.specs.declared.faults.FaultKind.{FaultKind}
 use Rattle.ps_tokens.specs.declared.faults.FaultKind.TheVariants.{Unmatched, OddDictionary, KeyNotName, NameInside, TooDeep}
 use Rattle.ps_tokens.specs.declared.token.TokenKind.{TokenKind}
@@ -12,7 +12,6 @@ use Rattle.ps_tokens.specs.Words.{is_value_word}
 use Rattle.ps_tokens.specs.Brackets.{is_key_due, after_opening, array_end, after_array_end, dict_end, after_dict_end, after_value, after_operator, after_kind}
 use Rattle.ps_tokens.specs.Limits.{deepest}
 use Rattle.ps_tokens.specs.Objects.{is_opening, is_closing}
-use Rattle.ps_laws.specs.Writes.{IsValueWord}
 use Rattle.ps_laws.specs.Firsts.{Mismatches, closes_nothing, closes_dict, closes_array, LacksValue, no_value, IsNoKey, IsInside, IsTooDeep, HasFault, is_unmatched, is_odd, is_no_key, is_inside, is_too_deep}
 use Rattle.ps_laws.proofs.Judging.{is_value-word, value_word-from}
 

@@ -1,5 +1,5 @@
 -- The last entry of a name is the one that is looked up, and the last keys are those of the last entries.
-use Rattle.std.proofs.Common.{◌≡◌, ◌≢◌, ◌⊎◌, inl, inr, ℕ, zero, suc, ◌+◌, ◌-◌, ◌<◌, ◌≤◌, Bool, true, false, cond, List, [], ◌∷◌, ◌++◌, length, drop, take, get_or, fold, Option, Some, None, refl, sym, ap, ◌∙◌, subst, ⊎_elim, arith, append_assoc, All}
+use Rattle.std.proofs.Common.{◌≡◌, ◌≢◌, ◌⊎◌, inl, inr, ℕ, zero, suc, ◌+◌, ◌<◌, Bool, true, false, cond, List, [], ◌∷◌, ◌++◌, length, drop, take, get_or, fold, Option, Some, None, refl, sym, ap, ◌∙◌, subst, ⊎_elim, arith, append_assoc}
 use Rattle.std.specs.Prelude.{slice_get, map, Contains}
 use Rattle.std.specs.BTreeMap.{insert_entry}
 use Rattle.std.specs.Cmp.Lexicographic.{slice_cmp}
@@ -16,7 +16,7 @@ use Rattle.std.proofs.lemmas.Option.{same_Some}
 use Rattle.std.proofs.lemmas.Slice.Eq.{bytes_eq-Decides}
 use Rattle.ps_tokens.specs.declared.object.Body.TheVariants.{Literal}
 use Rattle.ps_tokens.specs.declared.object.Object.{Object}
-use Rattle.ps_tokens.specs.Dictionaries.{IsBefore, inside_of, is_literal, key_names, keys_from, keys_of, last_among, last_keys_of, last_of, name_in, name_of, names, put_key, within}
+use Rattle.ps_tokens.specs.Dictionaries.{inside_of, is_literal, key_names, keys_from, keys_of, last_among, last_keys_of, last_of, name_in, name_of, names, put_key, within}
 use Rattle.ps_tokens.proofs.Ascending.{AreKeys, IsBeforeAll, fold-keys, same_names}
 use Rattle.ps_tokens.proofs.Entries.{keys_from-before}
 use Rattle.ps_laws.specs.Writes.{Part, whole, items, entries}

@@ -1,19 +1,14 @@
 -- Where tokens cannot write objects out, the first that is out of place.
-use Rattle.std.proofs.Common.{◌≡◌, inl, inr, ℕ, Bool, true, false, eqb, List, [], ◌∷◌, ◌++◌, length, fold, Result, Ok, Err, refl, sym, ap, ◌∙◌, subst}
-use Rattle.std.proofs.lemmas.Bool.{cond_both}
+use Rattle.std.proofs.Common.{◌≡◌, inl, inr, ℕ, List, [], ◌∷◌, ◌++◌, fold, Result, Ok, Err, refl, sym, ap, ◌∙◌, subst}
 use Rattle.std.proofs.lemmas.List.Sums.{fold-append}
 use Rattle.ps_tokens.specs.declared.faults.FaultKind.{FaultKind}
-use Rattle.ps_tokens.specs.declared.faults.FaultKind.TheVariants.{Unclosed, Unmatched, OddDictionary, KeyNotName, NameInside, TooDeep}
+use Rattle.ps_tokens.specs.declared.faults.FaultKind.TheVariants.{Unclosed}
 use Rattle.ps_tokens.specs.declared.faults.JobFault.{JobFault}
 use Rattle.ps_tokens.specs.declared.token.Token.{Token}
-use Rattle.ps_tokens.specs.declared.token.TokenKind.{TokenKind}
-use Rattle.ps_tokens.specs.declared.token.TokenKind.TheVariants as kinds
-use Rattle.ps_tokens.specs.declared.brackets.Expects.{Expects}
-use Rattle.ps_tokens.specs.declared.brackets.Expects.TheVariants.{Item, Key, Value}
 use Rattle.ps_tokens.specs.declared.brackets.Bracket.{Bracket}
 use Rattle.ps_tokens.specs.declared.object.Object.{Object}
-use Rattle.ps_tokens.specs.Words.{spelling, is_value_word}
-use Rattle.ps_tokens.specs.Brackets.{is_key_due, after_opening, array_end, after_array_end, dict_end, after_dict_end, after_value, after_operator, after_kind, after_token, at_token, after_next, brackets_after}
+use Rattle.ps_tokens.specs.Words.{spelling}
+use Rattle.ps_tokens.specs.Brackets.{after_token, at_token, after_next, brackets_after}
 use Rattle.ps_tokens.specs.Objects.{objects_in, unless_open, objects_of}
 use Rattle.ps_tokens.proofs.Judgements.{fold-err}
 use Rattle.ps_tokens.proofs.Completing.{completed, never_completed}
