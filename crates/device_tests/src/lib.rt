@@ -4,6 +4,8 @@
 #[cfg(test)]
 mod fixtures;
 #[cfg(test)]
+mod pages_read;
+#[cfg(test)]
 mod plates_read;
 #[cfg(test)]
 mod plates_written;
