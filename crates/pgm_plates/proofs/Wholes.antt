@@ -294,6 +294,7 @@ answers_from a b c bytes (Err OutOfMemory) keeps answer = answer
 no_shape : HoldsNoHeader []
 no_shape = unended Start [] [] refl (λ e. let f : Start ≡ Ended = e in cc)
 
+-- The file is begun, and then read.
 -- a count that stayed before it, too
 pub kept_count : {T : Type 0} (a b c : TrayState) (result : Result T PlateRefusal) → b.faults ≡ a.faults → KeepsCount b c result → KeepsCount a c result
 kept_count a b c (Ok x) before count = count ∙ before
@@ -308,7 +309,6 @@ kept_count a b c (Err (Fault (MaxvalRange at))) before count = count ∙ before
 kept_count a b c (Err (Fault (Truncated at))) before count = count ∙ before
 kept_count a b c (Err (Fault (TrailingBytes at))) before count = count ∙ before
 
--- The file is begun, and then read.
 pub begun_then : (name : List ℕ) (a b c : TrayState) (x : Unit {0}) (result : Result Plate PlateRefusal) → Begins {E = Failed} name a b (Ok x) → Answers b c result → KeepsCount b c result → ReadsPlate name a c result
 begun_then name a b c x result begun answers count = record {
   keeps = kept_tray a b c begun.keeps answers.takes.keeps;
