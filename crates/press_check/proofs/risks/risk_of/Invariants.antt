@@ -1,0 +1,4 @@
+use Rattle.press_check.proofs.risks.risk_of.Given as goal
+
+abbrev pub ghosts-risk_by : goal.ghosts-risk_by
+ghosts-risk_by a = record { name = a.blank.name; parts = a.blank.parts }

@@ -1,0 +1,15 @@
+-- What the program holds of a check, as the words that it stands for.
+use Rattle.std.specs.Prelude.{◌≤◌, length, map, string_bytes}
+use Rattle.plain_words.specs.Parts.{input_of}
+use Rattle.press_check.specs.Words.{CheckWords}
+use Rattle.press_check.specs.declared.words.Check.{Check}
+
+-- the check of the words that are held
+abbrev pub check_in : Check → CheckWords
+check_in check = record { radius = check.radius; job = check.job.now; plates = map input_of (map string_bytes check.plates.now) }
+
+-- the limits of what the words may ask for
+pub record IsWithin (check : Check) : Type 0 where
+  pub radius : check.radius ≤ 16
+  pub some : 1 ≤ length check.plates.now
+  pub few : length check.plates.now ≤ 16

@@ -1,0 +1,84 @@
+ghost use Rattle.std.specs.Prelude.{◌≡◌, ◌≤◌, MatchResult};
+ghost use Rattle.page_model.specs.Conditions.{IsPage};
+ghost use Rattle.press_check.specs.Endings.{ChecksPage, EndsCheck, ReadsPage, TellsResult};
+ghost use Rattle.press_check.specs.Held.{check_in, IsWithin};
+ghost use Rattle.press_check.specs.Text.{text_of};
+ghost use Rattle.press_check.specs.Words.{sources_of};
+
+use crate::files::{inputs_of, names_of};
+use crate::risks::page_text;
+use crate::words::Check;
+use outside::rack::Rack;
+use outside::tray::{Failed, Tray};
+use page_gather::gather::gather;
+use page_model::page::Page;
+use page_model::parts::{Name, OutOfMemory};
+use std::alloc::Global;
+use trap_report::refusal::Refusal;
+use trap_report::statuses::{DONE, NOT_WRITTEN};
+use trap_report::telling::refuse;
+
+// Makes a check and tells its result, and gives the status that it ends with.
+pub(crate) fn run_check<T: Tray, R: Rack>(
+    alloc: Global,
+    check: &Check<'_>,
+    tray: &mut T,
+    rack: &mut R,
+) -> u8
+    requires { IsWithin check.now }
+    ensures { EndsCheck (check_in check.now) (T.state tray.old) (T.state tray.new)
+        (R.state rack.old) (R.state rack.new) result }
+{
+    match checked(alloc, check, tray) {
+        Ok(text) => tell_result(rack, text.as_slice()),
+        Err(refusal) => refuse(rack, &refusal),
+    }
+}
+
+fn tell_result<R: Rack>(rack: &mut R, text: &[u8]) -> u8
+    ensures { TellsResult text.now (R.state rack.old) (R.state rack.new) result }
+{
+    match rack.tell(text) {
+        Ok(()) => DONE,
+        Err(Failed) => NOT_WRITTEN,
+    }
+}
+
+// Reads the page, and gives the text that tells of it.
+fn checked<T: Tray>(alloc: Global, check: &Check<'_>, tray: &mut T) -> Result<Name, Refusal>
+    requires { IsWithin check.now }
+    ensures { let words = check_in check.now in
+        ChecksPage (sources_of words) words.radius (T.state tray.old) (T.state tray.new) result }
+{
+    match read_page(alloc, check, tray) {
+        Ok(page) => text_or_refusal(alloc, &page, check.radius),
+        Err(refusal) => Err(refusal),
+    }
+}
+
+// Gathers the page of the check's job and plates.
+fn read_page<T: Tray>(alloc: Global, check: &Check<'_>, tray: &mut T) -> Result<Page, Refusal>
+    requires { IsWithin check.now }
+    ensures { ReadsPage (sources_of (check_in check.now)) (T.state tray.old) (T.state tray.new)
+        result }
+{
+    match (
+        names_of(alloc, check.plates),
+        inputs_of(alloc, check.plates),
+    ) {
+        (Ok(names), Ok(inputs)) => gather(alloc, tray, check.job, &names, inputs.as_slice()),
+        _ => Err(Refusal::Memory),
+    }
+}
+
+fn text_or_refusal(alloc: Global, page: &Page, radius: u32) -> Result<Name, Refusal>
+    requires { radius ≤ 16 }
+    ensures valid { IsPage page.now }
+    ensures text { let told = text_of radius page.now in
+        MatchResult result (λ text. text ≡ told) (λ refusal. refusal ≡ Refusal.Memory) }
+{
+    match page_text(alloc, page, radius) {
+        Ok(text) => Ok(text),
+        Err(OutOfMemory) => Err(Refusal::Memory),
+    }
+}
