@@ -3,3 +3,4 @@ pub mod RunLemmas
 pub mod SetLemmas
 pub mod HoldingLemmas
 pub mod TextLemmas
+pub mod NumberLemmas

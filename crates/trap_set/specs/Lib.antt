@@ -1,5 +1,6 @@
 pub mod Applied
 pub mod Lines
+pub mod Numbers
 pub mod Runs
 pub mod SetText
 pub mod Holding

@@ -3,6 +3,7 @@
 
 mod holding;
 pub mod laws;
+mod numbers;
 mod samples;
 mod set;
 mod writing;
