@@ -4,3 +4,4 @@ pub mod SetLemmas
 pub mod HoldingLemmas
 pub mod TextLemmas
 pub mod NumberLemmas
+pub mod LineLemmas

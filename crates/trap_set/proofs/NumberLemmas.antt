@@ -134,7 +134,7 @@ same_digits text m n r s one other = (
   behind : (k : ℕ) (t : List ℕ) → BeginsDigits text k t → drop (length (decimal k)) text ≡ t
   behind k t h = ap (drop (length (decimal k))) h.whole ∙ drop_at (decimal k) t (length (decimal k)) refl
 
-behind_number : (ns : List ℕ) (s : List ℕ) → NoDigit s → NoDigit (flat_map number ns ++ s)
+pub behind_number : (ns : List ℕ) (s : List ℕ) → NoDigit s → NoDigit (flat_map number ns ++ s)
 behind_number [] s h = h
 behind_number (n ∷ ns) s h = ap (λ (t : List ℕ). is_ascii_digit (get_or (t ++ s) 0 0)) (flat_map-cons number n ns)
 

@@ -3,6 +3,7 @@
 
 mod holding;
 pub mod laws;
+mod lines;
 mod numbers;
 mod samples;
 mod set;
