@@ -5,3 +5,4 @@ pub mod HoldingLemmas
 pub mod TextLemmas
 pub mod NumberLemmas
 pub mod LineLemmas
+pub mod SkipLemmas
