@@ -3,3 +3,6 @@ pub mod RunLemmas
 pub mod SetLemmas
 pub mod HoldingLemmas
 pub mod TextLemmas
+pub mod NumberLemmas
+pub mod LineLemmas
+pub mod SkipLemmas

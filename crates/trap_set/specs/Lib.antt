@@ -1,5 +1,7 @@
 pub mod Applied
 pub mod Lines
+pub mod Numbers
+pub mod Reading
 pub mod Runs
 pub mod SetText
 pub mod Holding

@@ -3,6 +3,8 @@
 
 mod holding;
 pub mod laws;
+mod lines;
+mod numbers;
 mod samples;
 mod set;
 mod writing;

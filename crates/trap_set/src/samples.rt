@@ -1,6 +1,6 @@
 // What changed between planes before and after, sample by sample.
 
-ghost use Rattle.std.specs.Prelude.{◌≡◌, ◌<◌, ◌+◌, ◌*◌, ◌==◌, ℕ, not, suc, length, slice_range};
+ghost use Rattle.std.specs.Prelude.{◌≡◌, ◌<◌, ◌≤◌, ◌+◌, ◌*◌, ◌==◌, ℕ, IsTrue, EachIndex, false, not, suc, length, slice_index, slice_range};
 ghost use Rattle.page_model.specs.Planes.{tints_of};
 ghost use Rattle.plane_shapes.specs.Shapes.{AreOneShape, wide, tall};
 ghost use Rattle.trap_set.specs.Runs.{ArePair, begins, changes, goes_on, run_at, same_tints, tint_at};
@@ -32,6 +32,71 @@ pub(crate) fn tint_of(planes: &PlaneList, c: u32, x: u32, y: u32) -> u16
     ensures { result ≡ tint_at planes.now c x y }
 {
     row_of(planes, c, y)[x as usize]
+}
+
+// How many samples of a row are looked at together.
+const SPAN: u32 = 64;
+
+// Whether the tints at each place are the same. It reads all of them, so that many are compared at once.
+fn are_same(old: &[u16], new: &[u16]) -> bool
+    requires { length old.now ≡ length new.now }
+    ensures { IsTrue result → EachIndex old.now
+        (λ k. slice_index old.now k ≡ slice_index new.now k) }
+{
+    let mut same = true;
+    for k in 0..old.len() {
+        same = same && old[k] == new[k];
+    }
+    same
+}
+
+// Whether plane c has the tints of before at some samples of a row, one beside another.
+fn plane_is_same(old: &PlaneList, new: &PlaneList, c: u32, y: u32, from: u32, to: u32) -> bool
+    requires pair { ArePair old.now new.now }
+    requires plate { c < length old.now }
+    requires row { y < tall old.now }
+    requires span { (from ≤ to) × (to ≤ wide old.now) }
+    ensures { IsTrue result → (x : ℕ) → from ≤ x → x < to
+        → tint_at old.now c x y ≡ tint_at new.now c x y }
+{
+    let before = row_of(old, c, y);
+    let after = row_of(new, c, y);
+    are_same(
+        &before[from as usize..to as usize],
+        &after[from as usize..to as usize],
+    )
+}
+
+// Whether no plane has another tint than before at some samples of a row, one beside another.
+fn span_is_same(old: &PlaneList, new: &PlaneList, y: u32, from: u32, to: u32) -> bool
+    requires pair { ArePair old.now new.now }
+    requires row { y < tall old.now }
+    requires span { (from ≤ to) × (to ≤ wide old.now) }
+    ensures { IsTrue result → (x : ℕ) → from ≤ x → x < to → changes old.now new.now x y ≡ false }
+{
+    for c in 0..old.len() as u32 {
+        if !plane_is_same(old, new, c, y, from, to) {
+            return false;
+        }
+    }
+    true
+}
+
+/// The column to go on at in a row, from column x on: behind the span that begins there if nothing changes in it, else x.
+pub(crate) fn skip_same(old: &PlaneList, new: &PlaneList, y: u32, x: u32, width: u32) -> u32
+    requires pair { ArePair old.now new.now }
+    requires width { width ≡ wide old.now }
+    requires column { x < width }
+    requires row { y < tall old.now }
+    ensures within { (x ≤ result) × (result ≤ width) }
+    ensures same { (i : ℕ) → x ≤ i → i < result → changes old.now new.now i y ≡ false }
+{
+    let end = x + (width - x).min(SPAN);
+    if x % SPAN == 0 && span_is_same(old, new, y, x, end) {
+        end
+    } else {
+        x
+    }
 }
 
 /// Whether some plane has another tint than before at a sample.

@@ -10,7 +10,7 @@ ghost use Rattle.trap_set.specs.Runs.{ArePair, run_at, tint_at};
 ghost use Rattle.trap_set.specs.SetText.{head_of, number, page_line, run_line, title_line};
 
 use crate::holding::{Held, put, put_number};
-use crate::samples::{begins_at, run_length, tint_of};
+use crate::samples::{begins_at, run_length, skip_same, tint_of};
 use outside::rack::Rack;
 use outside::tray::Failed;
 use page_model::parts::PlaneList;
@@ -143,7 +143,7 @@ fn put_sample<R: Rack>(
     Ok(())
 }
 
-/// Puts the lines of the runs of a row.
+/// Puts the lines of the runs of a row. Spans in which nothing changes are passed over.
 fn put_row<R: Rack>(
     rack: &mut R,
     held: &mut Held,
@@ -159,10 +159,16 @@ fn put_row<R: Rack>(
     ensures { Puts (row_text old.now new.now y (wide old.now))
         held.old.items held.new.items (R.state rack.old) (R.state rack.new) result }
 {
-    for x in 0..width {
-        match put_sample(rack, held, old, new, x, y, width) {
-            Ok(()) => {}
-            Err(Failed) => return Err(Failed),
+    let mut x = 0;
+    while x < width {
+        let next = skip_same(old, new, y, x, width);
+        if x < next {
+            x = next;
+        } else {
+            match put_sample(rack, held, old, new, x, y, width) {
+                Ok(()) => x += 1,
+                Err(Failed) => return Err(Failed),
+            }
         }
     }
     Ok(())

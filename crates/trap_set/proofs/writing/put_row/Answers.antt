@@ -3,6 +3,8 @@ use Rattle.plane_shapes.specs.Shapes.{wide}
 use Rattle.trap_set.specs.Rows.{row_text, run_text}
 use Rattle.trap_set.proofs.HoldingLemmas.{puts_as, puts_then, puts_front}
 use Rattle.trap_set.proofs.TextLemmas.{row_next, row_after}
+use Rattle.trap_set.proofs.SkipLemmas.{row_stays}
+use Rattle.std.proofs.Common.{◌≡◌, ap}
 use Rattle.trap_set.proofs.writing.put_row.Goals as goal
 
 pub returns-in-Err : goal.returns-in-Err
@@ -10,8 +12,24 @@ returns-in-Err g c =
     let more = row_after c.args.old.now c.args.new.now c.args.y c.loop-x.x (wide c.args.old.now) (omega arith) in
     puts_front c.in-Err.field-0 _ ((row_text c.args.old.now c.args.new.now c.args.y c.loop-x.x) ++ (run_text c.args.old.now c.args.new.now c.args.y c.loop-x.x)) more.0 (row_text c.args.old.now c.args.new.now c.args.y (wide c.args.old.now)) c.args.held.now.items c.put_sample.new.held.items c.put_sample.new.held.items
     (g.R.Rack.state c.args.rack.now) (g.R.Rack.state c.put_sample.new.rack) more.1
-    (puts_then tt (Err c.in-Err.field-0) (row_text c.args.old.now c.args.new.now c.args.y c.loop-x.x) (run_text c.args.old.now c.args.new.now c.args.y c.loop-x.x) c.args.held.now.items c.loop-x.held.items c.put_sample.new.held.items (g.R.Rack.state c.args.rack.now) (g.R.Rack.state c.loop-x.rack) (g.R.Rack.state c.put_sample.new.rack) c.loop-x.invariant c.in-Err.ensures)
+    (puts_then tt (Err c.in-Err.field-0) (row_text c.args.old.now c.args.new.now c.args.y c.loop-x.x) (run_text c.args.old.now c.args.new.now c.args.y c.loop-x.x) c.args.held.now.items c.loop-x.held.items c.put_sample.new.held.items (g.R.Rack.state c.args.rack.now) (g.R.Rack.state c.loop-x.rack) (g.R.Rack.state c.put_sample.new.rack) c.loop-x.invariant.1 c.in-Err.ensures)
 
 pub loop-x-preserved : goal.loop-x-preserved
-loop-x-preserved g c = puts_as (Ok tt) ((row_text c.args.old.now c.args.new.now c.args.y c.loop-x.x) ++ (run_text c.args.old.now c.args.new.now c.args.y c.loop-x.x)) (row_text c.args.old.now c.args.new.now c.args.y (c.loop-x.x + 1)) c.args.held.now.items c.args.held.now.items c.put_sample.new.held.items (g.R.Rack.state c.args.rack.now) (g.R.Rack.state c.put_sample.new.rack) (sym (row_next c.args.old.now c.args.new.now c.args.y c.loop-x.x)) refl
-    (puts_then tt (Ok tt) (row_text c.args.old.now c.args.new.now c.args.y c.loop-x.x) (run_text c.args.old.now c.args.new.now c.args.y c.loop-x.x) c.args.held.now.items c.loop-x.held.items c.put_sample.new.held.items (g.R.Rack.state c.args.rack.now) (g.R.Rack.state c.loop-x.rack) (g.R.Rack.state c.put_sample.new.rack) c.loop-x.invariant c.in-Ok.ensures)
+loop-x-preserved g c = (
+  omega arith,
+  puts_as (Ok tt) ((row_text c.args.old.now c.args.new.now c.args.y c.loop-x.x) ++ (run_text c.args.old.now c.args.new.now c.args.y c.loop-x.x)) (row_text c.args.old.now c.args.new.now c.args.y (c.loop-x.x + 1)) c.args.held.now.items c.args.held.now.items c.put_sample.new.held.items (g.R.Rack.state c.args.rack.now) (g.R.Rack.state c.put_sample.new.rack) (sym (row_next c.args.old.now c.args.new.now c.args.y c.loop-x.x)) refl
+      (puts_then tt (Ok tt) (row_text c.args.old.now c.args.new.now c.args.y c.loop-x.x) (run_text c.args.old.now c.args.new.now c.args.y c.loop-x.x) c.args.held.now.items c.loop-x.held.items c.put_sample.new.held.items (g.R.Rack.state c.args.rack.now) (g.R.Rack.state c.loop-x.rack) (g.R.Rack.state c.put_sample.new.rack) c.loop-x.invariant.1 c.in-Ok.ensures),
+)
+
+pub loop-x-preserved-then-x-next : goal.loop-x-preserved-then-x-next
+loop-x-preserved-then-x-next g c = (
+  omega (arith, c.skip_same-next.ensures.within),
+  puts_as (Ok tt) (row_text c.args.old.now c.args.new.now c.args.y c.loop-x.x) (row_text c.args.old.now c.args.new.now c.args.y c.skip_same-next.result) c.args.held.now.items c.args.held.now.items c.loop-x.held.items (g.R.Rack.state c.args.rack.now) (g.R.Rack.state c.loop-x.rack)
+      (row_stays c.args.old.now c.args.new.now c.args.y c.loop-x.x c.skip_same-next.result (omega (arith, c.if-x-next.true)) c.skip_same-next.ensures.same) refl c.loop-x.invariant.1,
+)
+
+pub returns : goal.returns
+returns g c =
+    let end : c.loop-x.x ≡ wide c.args.old.now = omega (arith, c.loop-x.invariant.0, c.requires.width) in
+    puts_as (Ok tt) (row_text c.args.old.now c.args.new.now c.args.y c.loop-x.x) (row_text c.args.old.now c.args.new.now c.args.y (wide c.args.old.now)) c.args.held.now.items c.args.held.now.items c.loop-x.held.items (g.R.Rack.state c.args.rack.now) (g.R.Rack.state c.loop-x.rack)
+    (ap (row_text c.args.old.now c.args.new.now c.args.y) end) refl c.loop-x.invariant.1
