@@ -1,9 +1,8 @@
-ghost use Rattle.std.specs.Prelude.{◌≡◌, ◌<◌, ◌≤◌, ◌+◌, ◌*◌, ◌-◌, true, ℕ, length, slice_index};
-ghost use Rattle.band_values.specs.Room.{Serves};
+ghost use Rattle.std.specs.Prelude.{◌≡◌, ◌<◌, ◌≤◌, ◌+◌, ◌*◌, true, ℕ, length, slice_index};
 ghost use Rattle.band_values.specs.Rows.{HoldsAnswers, HoldsMarks, doubled};
 ghost use Rattle.page_model.specs.Columns.{AreMarks, halo};
 ghost use Rattle.page_model.specs.Marks.{held_rows};
-ghost use Rattle.page_model.specs.Page.{height, width};
+ghost use Rattle.page_model.specs.Page.{height};
 ghost use Rattle.page_model.specs.Reach.{page_reach};
 
 use crate::rows::Rows;

@@ -4,6 +4,7 @@ ghost use Rattle.std.specs.Prelude.{◌≡◌, ◌≤◌, ◌<◌, ◌+◌, ◌*
 ghost use Rattle.std.specs.Option.{MatchOption};
 ghost use Rattle.page_model.specs.Columns.{column_decider};
 ghost use Rattle.page_model.specs.Page.{width};
+ghost use Rattle.page_model.specs.Limits.{most_reach, most_side};
 ghost use Rattle.band_values.specs.Arms.{AreAnswers, edge_at_place};
 
 use crate::arms::raise_arms;
@@ -25,8 +26,8 @@ pub fn nearest_arms<L: Ledger>(
     hull: &mut HullBuf,
     steps: &mut Steps<L>,
 )
-    requires row { y ≤ 16384 }
-    requires reach { reach2 ≤ 256 }
+    requires row { y ≤ most_side }
+    requires reach { reach2 ≤ most_reach }
     requires codes { AreAnswers page.now reach2 y (2 * width page.now - 1) codes.now }
     requires arms { length arms.old ≡ 2 * width page.now - 1 }
     requires columns { length columns.old ≡ 2 * width page.now - 1 }

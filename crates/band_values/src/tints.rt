@@ -11,6 +11,7 @@ ghost use Rattle.page_model.specs.Page.{InPage, height, plates, width};
 ghost use Rattle.page_model.specs.Reach.{page_reach};
 ghost use Rattle.page_model.specs.Tints.{new};
 ghost use Rattle.page_model.specs.Zones.{AreZones};
+ghost use Rattle.page_model.specs.Limits.{most_reach, most_side};
 
 use crate::arms::edge_at;
 use crate::nearest::nearest_arms;
@@ -26,10 +27,10 @@ use trap_color::trap_sample;
 
 /// Whether there is no edge, or it is farther from p than any trap of the page is wide.
 fn is_far(p: At, nearest: Option<EdgeAt>, reach2: u32) -> bool
-    requires px { p.x < 16384 }
-    requires py { p.y < 16384 }
-    requires edge { ForSome nearest (λ e. (e.x2 < 32768) × (e.y2 < 32768)) }
-    requires reach { reach2 ≤ 256 }
+    requires px { p.x < most_side }
+    requires py { p.y < most_side }
+    requires edge { ForSome nearest (λ e. (e.x2 < 2 * most_side) × (e.y2 < 2 * most_side)) }
+    requires reach { reach2 ≤ most_reach }
     ensures { result ≡ is_far_off p reach2 nearest }
 {
     match nearest {
@@ -51,7 +52,7 @@ fn trap_at(
     requires sample { InPage page.now p }
     requires zones { AreZones page.now p.y zones.now }
     requires reach { reach2 ≡ page_reach page.now }
-    requires few { reach2 ≤ 256 }
+    requires few { reach2 ≤ most_reach }
     requires edge { nearest ≡ column_decider page.now (page_reach page.now) p }
     requires tints { length tints.old ≡ plates page.now }
     requires out { IsRowTo page.now p.y p.x out.old }
@@ -83,7 +84,7 @@ fn trap_samples(
     requires zones { AreZones page.now y zones.now }
     requires row { y < height page.now }
     requires reach { reach2 ≡ page_reach page.now }
-    requires few { reach2 ≤ 256 }
+    requires few { reach2 ≤ most_reach }
     requires places { length places.now ≡ width page.now }
     requires known { (x : ℕ) → x < width page.now → MatchOption (slice_index_or places.now x None) (0 ≤ y) (λ k. (k < length columns.now) × (slice_index columns.now k < length codes.now) × (257 ≤ slice_index codes.now (slice_index columns.now k) + 2 * y)) }
     requires deciders { (x : ℕ) → x < width page.now → edge_at_place codes.now y columns.now (slice_index_or places.now x None) ≡ column_decider page.now reach2 (record { x = x; y = y }) }

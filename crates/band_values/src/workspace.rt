@@ -1,4 +1,4 @@
-ghost use Rattle.std.specs.Prelude.{◌≡◌, ◌<◌, ◌≤◌, ◌-◌, ◌*◌, IfOk, vec_len};
+ghost use Rattle.std.specs.Prelude.{◌≡◌, ◌<◌, ◌-◌, ◌*◌, IfOk, vec_len};
 ghost use Rattle.page_model.specs.Page.{plates, width};
 ghost use Rattle.band_values.specs.Room.{Serves};
 
