@@ -22,7 +22,6 @@ use crate::workspace::Workspace;
 use page_model::edges::squared_distance;
 use page_model::page::Page;
 use page_model::parts::{At, EdgeAt};
-use std::sync::ledger::Ledger;
 use trap_color::trap_sample;
 
 /// Whether there is no edge, or it is farther from p than any trap of the page is wide.
@@ -101,14 +100,7 @@ fn trap_samples(
 }
 
 /// Traps the samples of a row.
-fn trap_row<L: Ledger>(
-    page: &Page,
-    y: u32,
-    zones: &[u8],
-    codes: &[u16],
-    out: &mut [u16],
-    room: &mut Workspace<L>,
-)
+fn trap_row(page: &Page, y: u32, zones: &[u8], codes: &[u16], out: &mut [u16], room: &mut Workspace)
     requires row { y < height page.now }
     requires zones { AreZones page.now y zones.now }
     requires codes { AreAnswers page.now (page_reach page.now) y (doubled page.now) codes.now }
@@ -130,21 +122,13 @@ fn trap_row<L: Ledger>(
         columns,
         places,
         &mut room.hull,
-        &mut room.steps,
     );
     let tints = room.tints.as_mut_slice();
     trap_samples(page, zones, y, reach2, codes, columns, places, tints, out);
 }
 
 /// Writes the new tints of a row, or its own where it is quiet.
-fn fill_row<L: Ledger>(
-    page: &Page,
-    y: u32,
-    zones: &[u8],
-    codes: &[u16],
-    out: &mut [u16],
-    room: &mut Workspace<L>,
-)
+fn fill_row(page: &Page, y: u32, zones: &[u8], codes: &[u16], out: &mut [u16], room: &mut Workspace)
     requires row { y < height page.now }
     requires zones { AreZones page.now y zones.now }
     requires codes { AreAnswers page.now (page_reach page.now) y (doubled page.now) codes.now }
@@ -161,13 +145,13 @@ fn fill_row<L: Ledger>(
 
 /// Writes the new tints of row y, plate after plate, from the zones of its samples and its column answers. A row that is
 /// quiet costs no more than the copy of its tints.
-pub fn make_row<L: Ledger>(
+pub fn make_row(
     page: &Page,
     y: u32,
     zones: &[u8],
     codes: &[u16],
     out: &mut [u16],
-    room: &mut Workspace<L>,
+    room: &mut Workspace,
 )
     requires row { y < height page.now }
     requires zones { AreZones page.now y zones.now }
@@ -184,14 +168,14 @@ pub fn make_row<L: Ledger>(
 }
 
 /// Writes the new tints of row k of these rows.
-fn write_tints<L: Ledger>(
+fn write_tints(
     page: &Page,
     rows: Rows,
     k: u32,
     zones: &[u8],
     codes: &[u16],
     out: &mut [u16],
-    room: &mut Workspace<L>,
+    room: &mut Workspace,
 )
     requires zones { HoldsZones page.now rows zones.now }
     requires answers { HoldsAnswers page.now rows codes.now }
@@ -221,13 +205,13 @@ fn write_tints<L: Ledger>(
 
 /// Writes the new tints of these rows, in each row plate after plate, from the zones of their samples and their column
 /// answers.
-pub fn make_tints<L: Ledger>(
+pub fn make_tints(
     page: &Page,
     rows: Rows,
     zones: &[u8],
     codes: &[u16],
     out: &mut [u16],
-    room: &mut Workspace<L>,
+    room: &mut Workspace,
 )
     requires zones { HoldsZones page.now rows zones.now }
     requires answers { HoldsAnswers page.now rows codes.now }

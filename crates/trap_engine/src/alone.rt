@@ -17,8 +17,6 @@ use lists::list::List;
 use page_model::page::Page;
 use page_model::parts::{CountList, Counts, OutOfMemory, PlaneList};
 use std::alloc::Global;
-use std::marker::Brand;
-use std::sync::ledger::{Blank, Ledger};
 
 /// A page after trapping: its planes, and what changed.
 #[derive(Drop)]
@@ -36,12 +34,12 @@ struct Changed {
 }
 
 /// Traps the page strip by strip. All memory is taken before the work.
-fn changed_of<L: Ledger>(
+fn changed_of(
     alloc: Global,
     page: &Page,
     zones: &[u8],
     marks: &[u8],
-    room: &mut Workspace<L>,
+    room: &mut Workspace,
 ) -> Result<Changed, OutOfMemory>
     requires zones { zones.now ≡ sample_zones page.now }
     requires marks { marks.now ≡ sample_marks page.now }
@@ -78,11 +76,7 @@ fn changed_of<L: Ledger>(
 }
 
 #[tactic(auto, unfolding(page_model::specs::Counts::page_counts))]
-fn trap_within<L: Ledger>(
-    alloc: Global,
-    page: &Page,
-    room: &mut Workspace<L>,
-) -> Result<Trapped, OutOfMemory>
+fn trap_within(alloc: Global, page: &Page, room: &mut Workspace) -> Result<Trapped, OutOfMemory>
     requires { Serves room.old page.now }
     ensures planes { IfOk result (λ trapped. trapped.planes ≡ trapped_planes page.now) }
     ensures counts { IfOk result (λ trapped. trapped.counts ≡ page_counts page.now) }
@@ -102,23 +96,12 @@ fn trap_within<L: Ledger>(
     })
 }
 
-fn trap_with<L: Ledger>(alloc: Global, page: &Page, blank: Blank) -> Result<Trapped, OutOfMemory>
-    requires name { blank.name ≡ L.name }
-    requires parts { blank.parts ≡ L.parts }
-    requires some { 0 < L.parts }
-    ensures planes { IfOk result (λ trapped. trapped.planes ≡ trapped_planes page.now) }
-    ensures counts { IfOk result (λ trapped. trapped.counts ≡ page_counts page.now) }
-{
-    let mut room = Workspace::<L>::new(alloc, page, blank)?;
-    trap_within(alloc, page, &mut room)
-}
-
 /// Traps a page on one thread: every plate's new tints, and the counts of the whole page. Want of memory is its only
 /// refusal.
 pub fn trap_alone(alloc: Global, page: &Page) -> Result<Trapped, OutOfMemory>
     ensures planes { IfOk result (λ trapped. trapped.planes ≡ trapped_planes page.now) }
     ensures counts { IfOk result (λ trapped. trapped.counts ≡ page_counts page.now) }
 {
-    let blank = Blank::new(1);
-    trap_with::<Brand>(alloc, page, blank)
+    let mut room = Workspace::new(alloc, page)?;
+    trap_within(alloc, page, &mut room)
 }

@@ -19,7 +19,6 @@ use crate::planes::put_row;
 use band_values::{Rows, Workspace, is_quiet, make_answers, make_row, row_of};
 use page_model::page::Page;
 use page_model::parts::PlaneList;
-use std::sync::ledger::Ledger;
 
 /// How many rows a strip has at most.
 pub const STRIP: u32 = 64;
@@ -54,7 +53,7 @@ fn note_row(
 }
 
 /// Traps row y, whose column answers these are. A quiet row stays as it was copied.
-fn trap_row<L: Ledger>(
+fn trap_row(
     page: &Page,
     y: u32,
     zones: &[u8],
@@ -64,7 +63,7 @@ fn trap_row<L: Ledger>(
     planes: &mut PlaneList,
     zone_counts: &mut [u64],
     plate_counts: &mut [u64],
-    room: &mut Workspace<L>,
+    room: &mut Workspace,
 )
     requires line { y < height page.now }
     requires zones { zones.now ≡ sample_zones page.now }
@@ -100,7 +99,7 @@ fn trap_row<L: Ledger>(
 }
 
 /// Traps these rows, whose column answers these are.
-fn trap_rows<L: Ledger>(
+fn trap_rows(
     page: &Page,
     rows: Rows,
     zones: &[u8],
@@ -110,7 +109,7 @@ fn trap_rows<L: Ledger>(
     planes: &mut PlaneList,
     zone_counts: &mut [u64],
     plate_counts: &mut [u64],
-    room: &mut Workspace<L>,
+    room: &mut Workspace,
 )
     requires inside { rows.first + rows.count ≤ height page.now }
     requires zones { zones.now ≡ sample_zones page.now }
@@ -147,7 +146,7 @@ fn trap_rows<L: Ledger>(
 }
 
 /// Traps these rows. The codes have a place for each doubled column of each of them.
-fn trap_strip<L: Ledger>(
+fn trap_strip(
     page: &Page,
     rows: Rows,
     zones: &[u8],
@@ -158,7 +157,7 @@ fn trap_strip<L: Ledger>(
     planes: &mut PlaneList,
     zone_counts: &mut [u64],
     plate_counts: &mut [u64],
-    room: &mut Workspace<L>,
+    room: &mut Workspace,
 )
     requires some { 1 ≤ rows.count }
     requires inside { rows.first + rows.count ≤ height page.now }
@@ -187,7 +186,7 @@ fn trap_strip<L: Ledger>(
         count: to - first,
     };
     let near = marks_between(page, marks, held);
-    make_answers(page, rows, held, near, codes, room);
+    make_answers(page, rows, held, near, codes);
     trap_rows(
         page,
         rows,
@@ -203,7 +202,7 @@ fn trap_strip<L: Ledger>(
 }
 
 /// Traps the page, strip by strip. The codes have a place for each doubled column of each row of a strip.
-fn trap_strips<L: Ledger>(
+fn trap_strips(
     page: &Page,
     zones: &[u8],
     marks: &[u8],
@@ -213,7 +212,7 @@ fn trap_strips<L: Ledger>(
     planes: &mut PlaneList,
     zone_counts: &mut [u64],
     plate_counts: &mut [u64],
-    room: &mut Workspace<L>,
+    room: &mut Workspace,
 )
     requires zones { zones.now ≡ sample_zones page.now }
     requires marks { marks.now ≡ sample_marks page.now }
@@ -252,7 +251,7 @@ fn trap_strips<L: Ledger>(
 }
 
 /// Traps the page, and counts what changes for each zone and each plate.
-pub fn trap_page<L: Ledger>(
+pub fn trap_page(
     page: &Page,
     zones: &[u8],
     marks: &[u8],
@@ -262,7 +261,7 @@ pub fn trap_page<L: Ledger>(
     planes: &mut PlaneList,
     zone_counts: &mut [u64],
     plate_counts: &mut [u64],
-    room: &mut Workspace<L>,
+    room: &mut Workspace,
 )
     requires zones { zones.now ≡ sample_zones page.now }
     requires marks { marks.now ≡ sample_marks page.now }

@@ -4,7 +4,7 @@ use Rattle.trap_engine.specs.Standing.{ArePlatesCounted, AreTrappedTo, AreZonesC
 use Rattle.trap_engine.proofs.strips.trap_rows.Given as goal
 
 abbrev pub invariant-loop-k : goal.invariant-loop-k
-invariant-loop-k g l = record {
+invariant-loop-k l = record {
   end : l.k-end ≡ l.rows.count;
   row : length l.row ≡ length l.initial.row;
   changes : length l.changes ≡ length l.initial.changes;

@@ -4,7 +4,7 @@ use Rattle.trap_engine.specs.Standing.{ArePlatesCounted, AreTrappedTo, AreZonesC
 use Rattle.trap_engine.proofs.strips.trap_strips.Given as goal
 
 abbrev pub invariant-loop-first : goal.invariant-loop-first
-invariant-loop-first g l = record {
+invariant-loop-first l = record {
   inside : l.first ≤ height l.page;
   codes : length l.codes ≡ length l.initial.codes;
   row : length l.row ≡ length l.initial.row;
@@ -16,4 +16,4 @@ invariant-loop-first g l = record {
 }
 
 abbrev pub decreases-loop-first : goal.decreases-loop-first
-decreases-loop-first g l = height l.page - l.first
+decreases-loop-first l = height l.page - l.first
