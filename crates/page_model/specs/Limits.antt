@@ -72,3 +72,7 @@ most_trap_width = 1000000
 -- the greatest factor of the width at black edges, 10 in ten-thousandths
 abbrev pub most_black_width : ℕ
 most_black_width = 100000
+
+-- the workers of a page
+abbrev pub most_workers : ℕ
+most_workers = 64
