@@ -1,4 +1,0 @@
-pub mod Fills
-pub mod Finished
-pub mod Room
-pub mod Spans
