@@ -1,1 +1,2 @@
 pub mod DensityLaw
+pub mod SideLemmas

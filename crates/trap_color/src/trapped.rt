@@ -1,104 +1,140 @@
-ghost use Rattle.std.specs.Prelude.{◌≡◌, ◌<◌, length};
+ghost use Rattle.std.specs.Prelude.{◌≡◌, ◌<◌, ◌&&◌, ◌==◌, false, length};
 ghost use Rattle.page_model.specs.Density.{density};
-ghost use Rattle.page_model.specs.Edges.{IsEdge, first, second};
+ghost use Rattle.page_model.specs.Edges.{IsEdge, across, own};
 ghost use Rattle.page_model.specs.Page.{InPage, params_at};
 ghost use Rattle.page_model.specs.Trapped.{trapped_in};
-ghost use Rattle.page_model.specs.Within.{black, edge_slid, within_in};
+ghost use Rattle.page_model.specs.Within.{black, black_sample, edge_slid, within_in};
+ghost use Rattle.trap_color.specs.There.{is_trapped_there};
 
 use crate::widths::is_near;
 use neutral_density::{density, is_black, is_shut, slid, steps_apart};
 use page_model::bounds::SCALE;
-use page_model::edges::{across_of, first_of, own_of, second_of, squared_distance};
+use page_model::edges::{across_of, own_of, squared_distance};
 use page_model::page::Page;
 use page_model::parts::{At, EdgeAt, TrapParams};
 
-/// The densities of an edge's first and second sample, summed once for all that is asked of them.
+/// The densities of an edge's samples on the side of a third sample and across from it, summed once for all that is asked
+/// of them.
 #[derive(Clone, Copy)]
 struct Sides {
-    one: u64,
-    two: u64,
+    own: u64,
+    across: u64,
 }
 
-fn sides_of(page: &Page, e: EdgeAt) -> Sides
-    requires { IsEdge page.now e }
-    ensures one { result.one ≡ density page.now (first e) }
-    ensures two { result.two ≡ density page.now (second e) }
+fn sides_of(page: &Page, p: At, e: EdgeAt) -> Sides
+    requires sample { InPage page.now p }
+    requires edge { IsEdge page.now e }
+    ensures own { result.own ≡ density page.now (own p e) }
+    ensures across { result.across ≡ density page.now (across p e) }
 {
     let _valid = page.plates();
     Sides {
-        one: density(page, first_of(e)),
-        two: density(page, second_of(e)),
+        own: density(page, own_of(p, e)),
+        across: density(page, across_of(p, e)),
     }
 }
 
+/// Whether a side of this density has a black ink, where no side has a greater one.
+fn is_black_side(page: &Page, params: &TrapParams, side: At, density: u64, most: u64) -> bool
+    requires sample { InPage page.now side }
+    ensures { result ≡ ((density == most) && black_sample page.now params.now side) }
+{
+    density == most && is_black(page, params, side)
+}
+
 /// Whether a side of the edge's greater density has a black ink.
-fn is_edge_black(page: &Page, params: &TrapParams, e: EdgeAt, sides: Sides) -> bool
+fn is_edge_black(page: &Page, params: &TrapParams, p: At, e: EdgeAt, sides: Sides) -> bool
+    requires sample { InPage page.now p }
     requires edge { IsEdge page.now e }
-    requires one { sides.one ≡ density page.now (first e) }
-    requires two { sides.two ≡ density page.now (second e) }
+    requires own { sides.own ≡ density page.now (own p e) }
+    requires across { sides.across ≡ density page.now (across p e) }
     ensures { result ≡ black page.now params.now e }
 {
     let _valid = page.plates();
-    let one = first_of(e);
-    let two = second_of(e);
-    let near = sides.one;
-    let far = sides.two;
-    let most = near.max(far);
-    (near == most && is_black(page, params, one)) || (far == most && is_black(page, params, two))
+    let most = sides.own.max(sides.across);
+    let own = is_black_side(page, params, own_of(p, e), sides.own, most);
+    own || is_black_side(page, params, across_of(p, e), sides.across, most)
 }
 
-fn is_edge_slid(page: &Page, params: &TrapParams, e: EdgeAt, sides: Sides) -> bool
-    requires one { sides.one ≡ density page.now (first e) }
-    requires two { sides.two ≡ density page.now (second e) }
+#[tactic(auto, using(crate::proofs::SideLemmas::slid_sides))]
+fn is_edge_slid(page: &Page, params: &TrapParams, p: At, e: EdgeAt, sides: Sides) -> bool
+    requires own { sides.own ≡ density page.now (own p e) }
+    requires across { sides.across ≡ density page.now (across p e) }
     ensures { result ≡ edge_slid page.now params.now e }
 {
     let _valid = page.plates();
-    slid(params, sides.one.min(sides.two), sides.one.max(sides.two))
+    slid(
+        params,
+        sides.own.min(sides.across),
+        sides.own.max(sides.across),
+    )
 }
 
+/// Whether p, in the zone, is as near to the edge as its widest trap reaches, be the edge black or not, slid or not.
+#[tactic(auto, using(crate::proofs::SideLemmas::beyond))]
+fn may_reach(page: &Page, zone: u32, p: At, e: EdgeAt) -> bool
+    requires sample { InPage page.now p }
+    requires edge { IsEdge page.now e }
+    requires zone { zone < length page.now.zones }
+    ensures { result ≡ false → within_in page.now zone p e ≡ false }
+{
+    let params = page.params(zone);
+    let factor = params.black_width.max(SCALE);
+    let d2 = squared_distance(p, e);
+    is_near(d2, false, params.trap_width, factor, page.resolution())
+}
+
+/// Whether the edge is near enough to trap p. Where the black width and the plain one say the same, it is not asked whether
+/// the edge is black.
 #[tactic(auto, unfolding(page_model::specs::Within::within_in))]
 fn is_within(page: &Page, zone: u32, p: At, e: EdgeAt, sides: Sides, slid: bool) -> bool
     requires sample { InPage page.now p }
     requires edge { IsEdge page.now e }
     requires zone { zone < length page.now.zones }
-    requires one { sides.one ≡ density page.now (first e) }
-    requires two { sides.two ≡ density page.now (second e) }
+    requires own { sides.own ≡ density page.now (own p e) }
+    requires across { sides.across ≡ density page.now (across p e) }
     requires slid { slid ≡ edge_slid page.now (params_at page.now zone) e }
     ensures { result ≡ within_in page.now zone p e }
 {
     let _valid = page.plates();
     let params = page.params(zone);
-    let factor = if is_edge_black(page, params, e, sides) {
-        params.black_width
+    let d2 = squared_distance(p, e);
+    let resolution = page.resolution();
+    let plain = is_near(d2, slid, params.trap_width, SCALE, resolution);
+    let wide = is_near(d2, slid, params.trap_width, params.black_width, resolution);
+    if plain == wide {
+        plain
+    } else if is_edge_black(page, params, p, e, sides) {
+        wide
     } else {
-        SCALE
-    };
-    is_near(
-        squared_distance(p, e),
-        slid,
-        params.trap_width,
-        factor,
-        page.resolution(),
-    )
+        plain
+    }
+}
+
+/// Whether the edge traps p, which lies in the zone, if the zone is enabled. What costs least is asked first.
+fn is_trapped_near(page: &Page, zone: u32, p: At, e: EdgeAt) -> bool
+    requires sample { InPage page.now p }
+    requires edge { IsEdge page.now e }
+    requires zone { zone < length page.now.zones }
+    ensures { result ≡ is_trapped_there page.now zone p e }
+{
+    let _valid = page.plates();
+    let params = page.params(zone);
+    let sides = sides_of(page, p, e);
+    let slid = is_edge_slid(page, params, p, e, sides);
+    (slid || sides.across < sides.own)
+        && is_within(page, zone, p, e, sides, slid)
+        && steps_apart(page, zone, p, across_of(p, e))
+        && !is_shut(page, p)
 }
 
 /// Whether the edge traps p, which lies in the zone.
-#[tactic(auto, unfolding(page_model::specs::Trapped::trapped_in))]
+#[tactic(auto, using(crate::proofs::SideLemmas::trapped))]
 pub fn is_trapped(page: &Page, zone: u32, p: At, e: EdgeAt) -> bool
     requires sample { InPage page.now p }
     requires edge { IsEdge page.now e }
     requires zone { zone < length page.now.zones }
     ensures { result ≡ trapped_in page.now zone p e }
 {
-    let _valid = page.plates();
-    let across = across_of(p, e);
-    let own = own_of(p, e);
-    let params = page.params(zone);
-    let sides = sides_of(page, e);
-    let slid = is_edge_slid(page, params, e, sides);
-    !is_shut(page, p)
-        && params.enabled
-        && is_within(page, zone, p, e, sides, slid)
-        && steps_apart(page, zone, p, across)
-        && (slid || density(page, across) < density(page, own))
+    page.params(zone).enabled && may_reach(page, zone, p, e) && is_trapped_near(page, zone, p, e)
 }

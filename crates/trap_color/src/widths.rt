@@ -12,6 +12,11 @@ pub fn scaled_tint(full: u16, here: u64, there: u64, scaling: u32) -> u16
     requires scaling { scaling ≤ scale }
     ensures { result ≡ (full * (here * scale + scaling * (there - here))) / (there * scale) }
 {
+    if there < 1 << 34 {
+        let light = here * 10_000 + u64::from(scaling) * (there - here);
+        let value = u64::from(full) * light / (there * 10_000);
+        return value as u16;
+    }
     let light = u128::from(here) * 10_000 + u128::from(scaling) * u128::from(there - here);
     let value = u128::from(full) * light / (u128::from(there) * 10_000);
     value as u16

@@ -1,0 +1,9 @@
+use Rattle.std.proofs.Common.{◌≡◌, ◌||◌, Bool, true, false, arith, ap, sym, ◌∙◌}
+use Rattle.trap_color.proofs.SideLemmas.{black_sides}
+use Rattle.trap_color.proofs.trapped.is_edge_black.Goals as goal
+
+pub returns-then-own : goal.returns-then-own
+returns-then-own c = (let h = black_sides c.args.page.now c.args.params.now c.args.p c.args.e in grind (arith, h))
+
+pub returns-else-own : goal.returns-else-own
+returns-else-own c = (let h = black_sides c.args.page.now c.args.params.now c.args.p c.args.e in grind (arith, h))
