@@ -24,6 +24,15 @@ added_none codes n arms columns count none h = record {
   all = λ x2 l some. elim (cases_eq x2 n) [ inl e ↦ absurd (omega (arith, rw e at some, none)) | inr ne ↦ h.all x2 (omega (arith, ne)) some ];
 }
 
+-- columns side by side without a code
+pub added_blank : (codes : List ℕ) (n count : ℕ) (arms : List ArmModel) (columns : List ℕ) (raised : ℕ) → ((k : ℕ) → n ≤ k → k < n + count → slice_index codes k ≡ 0) → AreArms codes n arms columns raised → AreArms codes (n + count) arms columns raised
+added_blank codes n count arms columns raised none h = record {
+  few = omega (arith, h.few);
+  each = λ k l. (let e = h.each k l in record { column = omega (arith, e.column); some = e.some; arm = e.arm });
+  rising = h.rising;
+  all = λ x2 l some. elim (cases_lt x2 n) [ inl before ↦ h.all x2 before some | inr from ↦ absurd (omega (arith, none x2 from l, some)) ];
+}
+
 pub added : (codes : List ℕ) (n : ℕ) (arms : List ArmModel) (columns : List ℕ) (count : ℕ) (joining : ArmModel) → 1 ≤ slice_index codes n → joining ≡ arm_of n (slice_index codes n) → count < length arms → count < length columns → AreArms codes n arms columns count → AreArms codes (n + 1) (slice_set arms count joining) (slice_set columns count n) (count + 1)
 added codes n arms columns count joining some is room_a room_c h = record {
   few = omega (arith, h.few);

@@ -1,6 +1,6 @@
 -- What is too far from every deciding edge keeps its tints.
 use Rattle.std.specs.Prelude.{⊤}
-use Rattle.std.proofs.Common.{◌≡◌, ℕ, zero, suc, ◌+◌, ◌*◌, ◌-◌, ◌<◌, ◌≤◌, Bool, true, false, ◌&&◌, ◌||◌, not, nat_lt, inl, inr, refl, sym, ◌∙◌, ap, arith, List, length, slice_index, Option, Some, None, if◌then◌else◌}
+use Rattle.std.proofs.Common.{◌≡◌, ℕ, zero, suc, ◌+◌, ◌*◌, ◌-◌, ◌<◌, ◌≤◌, Bool, true, false, ◌&&◌, ◌||◌, not, nat_lt, min, inl, inr, refl, sym, ◌∙◌, ap, arith, List, length, slice_index, Option, Some, None, if◌then◌else◌}
 use Rattle.std.specs.Option.{MatchOption}
 use Rattle.std.proofs.Math.Nat.{mul-le-mul}
 use Rattle.std.proofs.lemmas.Bool.{and_from, cases_Bool, cases_lt, eq-eqb, false≢true, le-leb, leb-true}
@@ -124,15 +124,21 @@ answered : (page : PageParts) (reach y : ℕ) (e : EdgeAt) (o : Option ℕ) → 
 answered page reach y e None none l p = absurd (false≢true (sym (none e.y2 l) ∙ p))
 answered page reach y e (Some k) best l p = refl
 
-pub no_answers : (page : PageParts) (p : At) → IsPage page → ((x2 : ℕ) → x2 < 2 * width page - 1 → column_answer page (page_reach page) x2 p.y ≡ 0) → NoMarkNear page p
+pub no_answers : (page : PageParts) (p : At) → IsPage page → ((x2 : ℕ) → x2 < 2 * width page - 1 → gap x2 (2 * p.x) ≤ page_reach page → column_answer page (page_reach page) x2 p.y ≡ 0) → NoMarkNear page p
 no_answers page p valid zeros = λ e is near close. elim (cases_Bool (decides page e)) [
   | inl t ↦ (let p_is : passes page (page_reach page) e.x2 p.y e.y2 ≡ true = and_from _ _ (decides_there page e is t) (le-leb _ _ close) in
       let has = answered page (page_reach page) p.y e (column_edge page (page_reach page) e.x2 p.y) (column_edge-is page (page_reach page) e.x2 p.y) (omega (arith, is.down_page)) p_is in
-      let some = coded page (page_reach page) e.x2 p.y 0 (reach_at_most page valid) (sym (zeros e.x2 (omega (arith, is.across_page)))) has in
+      let some = coded page (page_reach page) e.x2 p.y 0 (reach_at_most page valid) (sym (zeros e.x2 (omega (arith, is.across_page)) near)) has in
       absurd (omega (arith, some)))
   | inr f ↦ f
 ]
 
 -- a row without an answer
 pub quiet_row : (page : PageParts) (y : ℕ) (codes : List ℕ) → IsPage page → AreAnswers page (page_reach page) y (2 * width page - 1) codes → ((k : ℕ) → k < length codes → slice_index codes k ≡ 0) → (x : ℕ) → KeepsTints page (record { x = x; y = y })
-quiet_row page y codes valid are zeros x = let p : At = record { x = x; y = y } in quiet page p valid (no_answers page p valid (λ x2 l. sym (are.each x2 l) ∙ zeros x2 (omega (arith, are.len, l))))
+quiet_row page y codes valid are zeros x = let p : At = record { x = x; y = y } in quiet page p valid (no_answers page p valid (λ x2 l near. sym (are.each x2 l) ∙ zeros x2 (omega (arith, are.len, l))))
+
+-- samples side by side that no answer is within reach of
+pub quiet_samples : (page : PageParts) (y x count reach from to : ℕ) (codes : List ℕ) → IsPage page → reach ≡ page_reach page → AreAnswers page (page_reach page) y (2 * width page - 1) codes → from ≡ 2 * x - reach → to ≡ min (length codes) (2 * (x + count) + reach) → ((k : ℕ) → from ≤ k → k < to → slice_index codes k ≡ 0) → (k : ℕ) → x ≤ k → k < x + count → KeepsTints page (record { x = k; y = y })
+quiet_samples page y x count reach from to codes valid is_reach are is_from is_to zeros k lo hi =
+    let p : At = record { x = k; y = y } in
+    quiet page p valid (no_answers page p valid (λ x2 l near. sym (are.each x2 l) ∙ zeros x2 (omega (arith, is_from, is_reach, near, lo)) (omega (arith, is_to, is_reach, are.len, near, l, hi))))

@@ -1,7 +1,7 @@
 -- Rows that are written one after another, and what stands in a row that was written.
 use Rattle.std.proofs.Common.{◌≡◌, ℕ, ◌+◌, ◌*◌, ◌-◌, ◌/◌, ◌%◌, ◌<◌, ◌≤◌, inl, inr, sym, ◌∙◌, ap, arith, List, length, slice_index, slice_set}
 use Rattle.std.proofs.Math.Nat.{div-lt_iff_lt-mul}
-use Rattle.std.proofs.lemmas.Bool.{cases_eq}
+use Rattle.std.proofs.lemmas.Bool.{cases_eq, cases_lt}
 use Rattle.std.proofs.lemmas.List.{get_or-set_same, get_or-set_other, length-set}
 use Rattle.std.proofs.lemmas.Nat.{div-mul-add, mod-mul-add, mul-add-lt}
 use Rattle.page_model.specs.declared.parts.PageParts.{PageParts}
@@ -89,6 +89,17 @@ kept_further page y n out keep h = record {
   done = λ c x lc l lx. elim (cases_eq x n) [
     | inl e ↦ rw e (h.rest c n lc (omega arith) (rw e at lx) ∙ sym (keep c))
     | inr ne ↦ h.done c x lc (omega (arith, l, ne)) lx
+  ];
+  rest = λ c x lc a lx. h.rest c x lc (omega (arith, a)) lx;
+}
+
+-- samples side by side that keep their tints
+pub kept_all : (page : PageParts) (y n count : ℕ) (out : List ℕ) → ((k : ℕ) → n ≤ k → k < n + count → KeepsTints page (record { x = k; y = y })) → IsRowTo page y n out → IsRowTo page y (n + count) out
+kept_all page y n count out keep h = record {
+  long = h.long;
+  done = λ c x lc l lx. elim (cases_lt x n) [
+    | inl before ↦ h.done c x lc before lx
+    | inr from ↦ h.rest c x lc from lx ∙ sym (keep x from l c)
   ];
   rest = λ c x lc a lx. h.rest c x lc (omega (arith, a)) lx;
 }

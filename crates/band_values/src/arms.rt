@@ -5,8 +5,12 @@ ghost use Rattle.std.specs.Option.{MatchOption};
 ghost use Rattle.band_values.specs.Arms.{arm_of, AreArms, edge_at_place};
 ghost use Rattle.page_model.specs.Limits.{most_column, most_reach, most_side};
 
+use crate::quiet::are_zero;
 use page_model::arms::Arm;
 use page_model::parts::EdgeAt;
+
+/// How many columns are passed over at once at most.
+const SPAN: usize = 32;
 
 fn arm_at(x2: u32, code: u16) -> Arm
     requires column { x2 ≤ most_column }
@@ -38,6 +42,36 @@ fn add(codes: &[u16], x2: usize, arms: &mut [Arm], columns: &mut [u32], count: u
     count + 1
 }
 
+/// Adds the arms of so many columns from x2 on, and gives the new number of arms. Where none of them has a code, they are
+/// passed over at once.
+fn add_some(
+    codes: &[u16],
+    x2: usize,
+    count: usize,
+    arms: &mut [Arm],
+    columns: &mut [u32],
+    before: usize,
+) -> usize
+    requires inside { x2 + count ≤ length codes.now }
+    requires few { length codes.now ≤ most_column + 1 }
+    requires fits { (k : ℕ) → k < length codes.now → slice_index codes.now k ≤ 2 * most_reach + 1 }
+    requires arms { length codes.now ≤ length arms.old }
+    requires columns { length codes.now ≤ length columns.old }
+    requires so_far { AreArms codes.now x2 arms.old columns.old before }
+    ensures arms { length arms.new ≡ length arms.old }
+    ensures columns { length columns.new ≡ length columns.old }
+    ensures so_far { AreArms codes.now (x2 + count) arms.new columns.new result }
+{
+    if are_zero(codes, x2, x2 + count) {
+        return before;
+    }
+    let mut raised = before;
+    for k in x2..x2 + count {
+        raised = add(codes, k, arms, columns, raised);
+    }
+    raised
+}
+
 /// Writes the arms of the columns that have a code, with their columns, and gives their number.
 pub fn raise_arms(codes: &[u16], arms: &mut [Arm], columns: &mut [u32]) -> usize
     requires few { length codes.now ≤ most_column + 1 }
@@ -48,11 +82,14 @@ pub fn raise_arms(codes: &[u16], arms: &mut [Arm], columns: &mut [u32]) -> usize
     ensures columns { length columns.new ≡ length columns.old }
     ensures whole { AreArms codes.now (length codes.now) arms.new columns.new result }
 {
-    let mut count = 0;
-    for x2 in 0..codes.len() {
-        count = add(codes, x2, arms, columns, count);
+    let mut raised = 0;
+    let mut x2 = 0;
+    while x2 < codes.len() {
+        let count = (codes.len() - x2).min(SPAN);
+        raised = add_some(codes, x2, count, arms, columns, raised);
+        x2 += count;
     }
-    count
+    raised
 }
 
 /// The edge whose arm stands at a place.

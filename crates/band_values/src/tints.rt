@@ -15,7 +15,7 @@ ghost use Rattle.page_model.specs.Limits.{most_reach, most_side};
 
 use crate::arms::edge_at;
 use crate::nearest::nearest_arms;
-use crate::quiet::is_quiet;
+use crate::quiet::{are_quiet, is_quiet};
 use crate::rows::{Rows, row_of, row_of_bytes};
 use crate::tint_rows::{copy_row, put_tints};
 use crate::workspace::Workspace;
@@ -23,6 +23,9 @@ use page_model::edges::squared_distance;
 use page_model::page::Page;
 use page_model::parts::{At, EdgeAt};
 use trap_color::trap_sample;
+
+/// How many samples are asked for at once at most.
+const SPAN: u32 = 16;
 
 /// Whether there is no edge, or it is farther from p than any trap of the page is wide.
 fn is_far(p: At, nearest: Option<EdgeAt>, reach2: u32) -> bool
@@ -68,6 +71,46 @@ fn trap_at(
     }
 }
 
+/// Traps so many samples of row y from x on, whose nearest arms stand at these places. Where no arm is within reach of one
+/// of them, none is asked.
+fn trap_some(
+    page: &Page,
+    zones: &[u8],
+    y: u32,
+    x: u32,
+    count: u32,
+    reach2: u32,
+    codes: &[u16],
+    columns: &[u32],
+    places: &[Option<u32>],
+    tints: &mut [u16],
+    out: &mut [u16],
+)
+    requires zones { AreZones page.now y zones.now }
+    requires row { y < height page.now }
+    requires reach { reach2 ≡ page_reach page.now }
+    requires few { reach2 ≤ most_reach }
+    requires places { length places.now ≡ width page.now }
+    requires known { (x : ℕ) → x < width page.now → MatchOption (slice_index_or places.now x None) (0 ≤ y) (λ k. (k < length columns.now) × (slice_index columns.now k < length codes.now) × (257 ≤ slice_index codes.now (slice_index columns.now k) + 2 * y)) }
+    requires deciders { (x : ℕ) → x < width page.now → edge_at_place codes.now y columns.now (slice_index_or places.now x None) ≡ column_decider page.now reach2 (record { x = x; y = y }) }
+    requires answers { AreAnswers page.now (page_reach page.now) y (doubled page.now) codes.now }
+    requires some { 1 ≤ count }
+    requires inside { x + count ≤ width page.now }
+    requires tints { length tints.old ≡ plates page.now }
+    requires out { IsRowTo page.now y x out.old }
+    ensures tints { length tints.new ≡ plates page.now }
+    ensures out { IsRowTo page.now y (x + count) out.new }
+{
+    let _valid = page.plates();
+    if are_quiet(page, y, codes, reach2, x, count) {
+        return;
+    }
+    for k in x..x + count {
+        let nearest = edge_at(codes, y, columns, places[k as usize]);
+        trap_at(page, zones, At { x: k, y }, nearest, reach2, tints, out);
+    }
+}
+
 /// Traps the samples of row y, whose nearest arms stand at these places.
 fn trap_samples(
     page: &Page,
@@ -87,15 +130,20 @@ fn trap_samples(
     requires places { length places.now ≡ width page.now }
     requires known { (x : ℕ) → x < width page.now → MatchOption (slice_index_or places.now x None) (0 ≤ y) (λ k. (k < length columns.now) × (slice_index columns.now k < length codes.now) × (257 ≤ slice_index codes.now (slice_index columns.now k) + 2 * y)) }
     requires deciders { (x : ℕ) → x < width page.now → edge_at_place codes.now y columns.now (slice_index_or places.now x None) ≡ column_decider page.now reach2 (record { x = x; y = y }) }
+    requires answers { AreAnswers page.now (page_reach page.now) y (doubled page.now) codes.now }
     requires tints { length tints.old ≡ plates page.now }
     requires out { IsRowTo page.now y 0 out.old }
     ensures tints { length tints.new ≡ plates page.now }
     ensures out { IsRowTo page.now y (width page.now) out.new }
 {
-    let _valid = page.plates();
-    for x in 0..page.width() {
-        let nearest = edge_at(codes, y, columns, places[x as usize]);
-        trap_at(page, zones, At { x, y }, nearest, reach2, tints, out);
+    let width = page.width();
+    let mut x = 0;
+    while x < width {
+        let count = (width - x).min(SPAN);
+        trap_some(
+            page, zones, y, x, count, reach2, codes, columns, places, tints, out,
+        );
+        x += count;
     }
 }
 

@@ -76,7 +76,8 @@ pub(crate) fn first_row_of<L: Ledger>(
     }
 }
 
-/// Row k + 1 of the asked rows from row k, by one look at the marks for each column.
+/// Row k + 1 of the asked rows from row k, by one look at the marks for each column. Even and odd columns are gone over side
+/// by side, so that many go at once.
 pub(crate) fn row_down<L: Ledger>(
     marks: &Marks,
     columns: u32,
@@ -98,10 +99,22 @@ pub(crate) fn row_down<L: Ledger>(
     ensures steps { steps.new ≡ steps.old + columns }
 {
     let _valid = marks.rows();
-    for x2 in 0..columns {
-        let code = enter(marks, x2, r, reach2, get(out, columns, k, x2), steps);
-        put(out, columns, k + 1, x2, code);
+    for x in 0..columns / 2 {
+        let even = enter(marks, 2 * x, r, reach2, get(out, columns, k, 2 * x), steps);
+        let odd = enter(
+            marks,
+            2 * x + 1,
+            r,
+            reach2,
+            get(out, columns, k, 2 * x + 1),
+            steps,
+        );
+        put(out, columns, k + 1, 2 * x, even);
+        put(out, columns, k + 1, 2 * x + 1, odd);
     }
+    let x2 = columns - 1;
+    let last = enter(marks, x2, r, reach2, get(out, columns, k, x2), steps);
+    put(out, columns, k + 1, x2, last);
 }
 
 /// The last asked row: the nearer one of the edges above and below it.

@@ -1,4 +1,4 @@
-ghost use Rattle.std.specs.Prelude.{◌≡◌, ◌≤◌, ◌<◌, ◌+◌, ◌*◌, ◌-◌, length, slice_index_or, ℕ, None};
+ghost use Rattle.std.specs.Prelude.{◌≡◌, ◌≤◌, ◌<◌, ◌+◌, ◌*◌, ◌-◌, length, slice_index, slice_index_or, ℕ, None, Some};
 ghost use Rattle.row_envelope.specs.Envelope.{Rising, arm_at, nearest};
 ghost use Rattle.row_envelope.specs.Hull.{IsHull};
 ghost use Rattle.page_model.specs.Limits.{most_side};
@@ -8,7 +8,37 @@ use page_model::arms::Arm;
 use page_model::steps::Steps;
 use std::sync::ledger::Ledger;
 
-/// Gives each sample the hull's entry that has it.
+/// Gives the samples from x on and before `end` the arm at a place.
+fn give(out: &mut [Option<u32>], x: usize, end: usize, place: u32)
+    requires order { x ≤ end }
+    requires inside { end ≤ length out.old }
+    ensures len { length out.new ≡ length out.old }
+    ensures before { (j : ℕ) → j < x → slice_index_or out.new j None ≡ slice_index_or out.old j None }
+    ensures here { (j : ℕ) → x ≤ j → j < end → slice_index_or out.new j None ≡ Some place }
+{
+    for j in x..end {
+        out[j] = Some(place);
+    }
+}
+
+/// Where the samples of the hull's entry k end, of which x is one.
+fn end_of(starts: &[u32], held: usize, k: usize, x: usize, width: usize) -> usize
+    requires starts { held ≤ length starts.now }
+    requires k { k < held }
+    requires x { x < width }
+    requires begun { k + 1 < held → 2 * x < slice_index starts.now (k + 1) }
+    ensures some { x < result }
+    ensures inside { result ≤ width }
+    ensures within { (j : ℕ) → j < result → k + 1 < held → 2 * j < slice_index starts.now (k + 1) }
+{
+    if k + 1 < held {
+        (starts[k + 1] as usize).div_ceil(2).min(width)
+    } else {
+        width
+    }
+}
+
+/// Gives each sample the hull's entry that has it, entry by entry.
 fn spread(
     places: &[u32],
     starts: &[u32],
@@ -27,11 +57,14 @@ fn spread(
     ensures nearest { (x : ℕ) → x < length out.old → slice_index_or out.new x None ≡ nearest arms.now x }
 {
     let mut k = 0;
-    for x in 0..out.len() {
+    let mut x = 0;
+    while x < out.len() {
         while k + 1 < held && starts[k + 1] as usize <= 2 * x {
             k += 1;
         }
-        out[x] = Some(places[k]);
+        let end = end_of(starts, held, k, x, out.len());
+        give(out, x, end, places[k]);
+        x = end;
     }
 }
 

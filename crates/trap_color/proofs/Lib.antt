@@ -1,2 +1,3 @@
 pub mod DensityLaw
 pub mod SideLemmas
+pub mod TintLemmas

@@ -1,7 +1,8 @@
-ghost use Rattle.std.specs.Prelude.{◌≡◌, ◌<◌, ◌^◌, length};
+ghost use Rattle.std.specs.Prelude.{◌≡◌, ◌<◌, ◌^◌, true, length};
 ghost use Rattle.page_model.specs.Density.{density, spreads};
 ghost use Rattle.page_model.specs.Edges.{IsEdge};
-ghost use Rattle.page_model.specs.Page.{plates, InPage, ink_at};
+ghost use Rattle.page_model.specs.Page.{plates, InPage, ink_at, params_at};
+ghost use Rattle.page_model.specs.Limits.{scale};
 ghost use Rattle.page_model.specs.Tints.{full, full_density, new_in};
 ghost use Rattle.page_model.specs.Trapped.{trapped_in};
 
@@ -89,4 +90,17 @@ pub fn new_at(
     } else {
         page.tint(c, p.x, p.y)
     }
+}
+
+/// The new tint of plate c at p, which e traps, where the zone scales tints by 1: its full tint.
+pub fn full_new(page: &Page, zone: u32, p: At, e: EdgeAt, c: u32) -> u16
+    requires sample { InPage page.now p }
+    requires edge { IsEdge page.now e }
+    requires plate { c < plates page.now }
+    requires trapped { trapped_in page.now zone p e ≡ true }
+    requires whole { (params_at page.now zone).trap_color_scaling ≡ scale }
+    ensures { result ≡ new_in page.now zone p e c }
+{
+    full_density_law(page, p, e);
+    full_at(page, p, e, c)
 }
