@@ -60,7 +60,8 @@ pub fn finish_alone(closed: &mut Closed, page: &Page, scratch: &mut Scratch)
     ensures looked_stays { closed.new.looked ≡ closed.old.looked }
 {
     let _whole = closed.sheet();
-    for piece in 0..pieces(closed.bands()) {
+    let count = pieces(closed.bands());
+    for piece in 0..count {
         finish_piece(closed, page, scratch, piece);
     }
 }

@@ -7,12 +7,12 @@ use Rattle.band_claims.specs.declared.sheet.Sheet.{Sheet}
 use Rattle.band_pieces.proofs.Finishing.{alone_once, cells_all, finished_more, finished_none}
 use Rattle.band_pieces.proofs.alone.finish_alone.Goals as goal
 
-pub pieces-piece-end-requires : goal.pieces-piece-end-requires
-pieces-piece-end-requires c = record { bands = subst AreBands (sym c.bands.ensures) c.sheet-whole.ensures.fits.made.bands }
+pub pieces-count-requires : goal.pieces-count-requires
+pieces-count-requires c = record { bands = subst AreBands (sym c.bands.ensures) c.sheet-whole.ensures.fits.made.bands }
 
 pub loop-piece-init : goal.loop-piece-init
 loop-piece-init c = record {
-  end = c.pieces-piece-end.ensures.value ∙ ap pieces_of c.bands.ensures;
+  end = c.pieces-count.ensures.value ∙ ap pieces_of c.bands.ensures;
   scratch = refl;
   closed = finished_none c.args.closed.now c.sheet-whole.ensures.fits c.requires.words c.requires.sound c.requires.alone;
 }
@@ -54,7 +54,7 @@ pub returns-clause-once : goal.returns-clause-once
 returns-clause-once c i = alone_once c.args.closed.now c.loop-piece.closed c.loop-piece.piece i c.requires.published c.requires.once c.loop-piece.invariant.closed
 
 pub returns-clause-alone : goal.returns-clause-alone
-returns-clause-alone c i = c.loop-piece.invariant.closed.alone i ∙ ap (λ (n : ℕ). one_if (nat_lt i n && not (piece_word c.args.closed.now.words i == 2))) (omega (arith, c.loop-piece-test.false, c.loop-piece.invariant.end, c.loop-piece.auto.piece-end, c.pieces-piece-end.ensures.value, ap pieces_of c.bands.ensures))
+returns-clause-alone c i = c.loop-piece.invariant.closed.alone i ∙ ap (λ (n : ℕ). one_if (nat_lt i n && not (piece_word c.args.closed.now.words i == 2))) (omega (arith, c.loop-piece-test.false, c.loop-piece.invariant.end, c.loop-piece.auto.piece-end, c.pieces-count.ensures.value, ap pieces_of c.bands.ensures))
 
 pub returns-clause-published_stays : goal.returns-clause-published_stays
 returns-clause-published_stays c = c.loop-piece.invariant.closed.lists.published
