@@ -2,7 +2,7 @@
 ghost use Rattle.std.specs.Prelude.{◌≡◌, ◌≢◌, ℕ, ◌+◌, ◌==◌, ◌<◌, slice_index, slice_set};
 ghost use Rattle.band_claims.specs.Receipt.{Ascends};
 ghost use Rattle.page_model.specs.Bands.{pieces_of};
-ghost use Rattle.band_claims.specs.Sheets.{shape_of};
+ghost use Rattle.band_claims.specs.Sheets.{shape_of, IsFit};
 ghost use Rattle.band_claims.specs.Views.{one_if, times};
 ghost use Rattle.band_claims.specs.Rule.{cell_word};
 
@@ -54,9 +54,18 @@ impl Closed {
 
     /// The layout that the table was made with.
     pub fn layout(&self) -> &Layout
-        ensures { result.now ≡ self.now.sheet.layout }
+        ensures same { result.now ≡ self.now.sheet.layout }
+        ensures fits { IsFit self.now.sheet }
     {
         &self.sheet.layout
+    }
+
+    /// The page and the layout that the table was made with.
+    pub fn sheet(&self) -> &Sheet
+        ensures same { result.now ≡ self.now.sheet }
+        ensures fits { IsFit self.now.sheet }
+    {
+        &self.sheet
     }
 
     /// The word of a piece: 0 where it is free, 1 where it is claimed, 2 where it is done.

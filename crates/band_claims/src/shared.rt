@@ -129,6 +129,14 @@ impl Shared {
         &self.sheet.layout
     }
 
+    /// The page and the layout that the table was made with.
+    pub fn sheet(&self) -> &Sheet
+        ensures same { result.now ≡ self.now.sheet }
+        ensures fits { IsFit self.now.sheet }
+    {
+        &self.sheet
+    }
+
     /// Whether a piece is done: false exactly where the word that was loaded was not 2.
     pub fn is_done(&self, pass: &mut Pass, piece: u32) -> bool
         requires pass { Seats self.now pass.old }
@@ -235,7 +243,8 @@ impl Shared {
         }
     }
 
-    fn read_cell(&self, pass: &mut Pass, j: u32) -> u64
+    /// The word of one cell of a piece that the pass saw done or published: its defined value.
+    pub fn read_cell(&self, pass: &mut Pass, j: u32) -> u64
         requires pass { Seats self.now pass.old }
         requires known { (piece : ℕ) × Has (shape_of self.now.sheet) piece j
             × Knows pass.old.view piece }

@@ -9,14 +9,14 @@ use Rattle.page_model.specs.Page.{width}
 use Rattle.lists.specs.Words.{gap, square, IsFirstLeast}
 use Rattle.page_model.specs.Decider.{grid_rows}
 use Rattle.page_model.specs.Edges.{d2}
-use Rattle.page_model.specs.Arms.{Bow}
-use Rattle.row_envelope.specs.Envelope.{bow_at, bow_d2, arm_d2, every, nearest, no_bow, Rising}
+use Rattle.page_model.specs.Arms.{ArmModel}
+use Rattle.row_envelope.specs.Envelope.{arm_at, d2_of_arm, arm_d2, every, nearest, no_arm, Rising}
 use Rattle.page_model.specs.Columns.{edge_decides, column_edge, column_answer, offset_code, column_decider, answer_edge, answer_or_0, is_answer}
 use Rattle.lists.proofs.FirstLeast.{Answers, first_least-is, first_least-from, first_least-none}
 use Rattle.page_model.proofs.ColumnDecider.{column_edge-is, passes, rank}
 use Rattle.band_values.specs.Arms.{arm_of, coded_edge, AreAnswers, StandsAt, AreArms, edge_at_place}
 
-pub added_none : (codes : List ℕ) (n : ℕ) (arms : List Bow) (columns : List ℕ) (count : ℕ) → slice_index codes n ≡ 0 → AreArms codes n arms columns count → AreArms codes (n + 1) arms columns count
+pub added_none : (codes : List ℕ) (n : ℕ) (arms : List ArmModel) (columns : List ℕ) (count : ℕ) → slice_index codes n ≡ 0 → AreArms codes n arms columns count → AreArms codes (n + 1) arms columns count
 added_none codes n arms columns count none h = record {
   few = omega (arith, h.few);
   each = λ k l. (let e = h.each k l in record { column = omega (arith, e.column); some = e.some; arm = e.arm });
@@ -24,12 +24,12 @@ added_none codes n arms columns count none h = record {
   all = λ x2 l some. elim (cases_eq x2 n) [ inl e ↦ absurd (omega (arith, rw e at some, none)) | inr ne ↦ h.all x2 (omega (arith, ne)) some ];
 }
 
-pub added : (codes : List ℕ) (n : ℕ) (arms : List Bow) (columns : List ℕ) (count : ℕ) (bow : Bow) → 1 ≤ slice_index codes n → bow ≡ arm_of n (slice_index codes n) → count < length arms → count < length columns → AreArms codes n arms columns count → AreArms codes (n + 1) (slice_set arms count bow) (slice_set columns count n) (count + 1)
-added codes n arms columns count bow some is room_a room_c h = record {
+pub added : (codes : List ℕ) (n : ℕ) (arms : List ArmModel) (columns : List ℕ) (count : ℕ) (joining : ArmModel) → 1 ≤ slice_index codes n → joining ≡ arm_of n (slice_index codes n) → count < length arms → count < length columns → AreArms codes n arms columns count → AreArms codes (n + 1) (slice_set arms count joining) (slice_set columns count n) (count + 1)
+added codes n arms columns count joining some is room_a room_c h = record {
   few = omega (arith, h.few);
   each = λ k l. elim (cases_eq k count) [
-    | inl e ↦ record { column = rw (e, column_new) (omega arith); some = rw (e, column_new) some; arm = rw (e, bow_new, column_new) is }
-    | inr ne ↦ (let old = h.each k (omega (arith, ne)) in record { column = rw (column_old k ne) (omega (arith, old.column)); some = rw (column_old k ne) old.some; arm = rw (bow_old k ne, column_old k ne) old.arm })
+    | inl e ↦ record { column = rw (e, column_new) (omega arith); some = rw (e, column_new) some; arm = rw (e, arm_new, column_new) is }
+    | inr ne ↦ (let old = h.each k (omega (arith, ne)) in record { column = rw (column_old k ne) (omega (arith, old.column)); some = rw (column_old k ne) old.some; arm = rw (arm_old k ne, column_old k ne) old.arm })
   ];
   rising = λ j k less l. elim (cases_eq k count) [
     | inl e ↦ (let nj : j ≡ count → ⊥ = λ f. omega (arith, f, e, less) in rw (e, column_new, column_old j nj) (h.each j (omega (arith, e, less))).column)
@@ -46,11 +46,11 @@ added codes n arms columns count bow some is room_a room_c h = record {
   column_old : (k : ℕ) → (k ≡ count → ⊥) → slice_index (slice_set columns count n) k ≡ slice_index columns k
   column_old k ne = get_or-set_other columns count k n 0 ne
 
-  bow_new : bow_at (slice_set arms count bow) count ≡ bow
-  bow_new = get_or-set_same arms count bow no_bow room_a
+  arm_new : arm_at (slice_set arms count joining) count ≡ joining
+  arm_new = get_or-set_same arms count joining no_arm room_a
 
-  bow_old : (k : ℕ) → (k ≡ count → ⊥) → bow_at (slice_set arms count bow) k ≡ bow_at arms k
-  bow_old k ne = get_or-set_other arms count k bow no_bow ne
+  arm_old : (k : ℕ) → (k ≡ count → ⊥) → arm_at (slice_set arms count joining) k ≡ arm_at arms k
+  arm_old k ne = get_or-set_other arms count k joining no_arm ne
 
 abbrev edge_with : ℕ → ℕ → EdgeAt
 edge_with x2 y2 = record { x2 = x2; y2 = y2 }
@@ -99,29 +99,29 @@ answer_fits page reach y n codes few answers k l = elim (cases_lt 0 (slice_index
 ]
 
 -- the arms that are taken
-taken_at : (arms : List Bow) (count k : ℕ) (d : Bow) → count ≤ length arms → k < count → slice_index_or (take count arms) k d ≡ bow_at arms k
-taken_at arms count k d room l = get_or-take count arms k d l ∙ get_or_default arms k d no_bow (omega arith)
+taken_at : (arms : List ArmModel) (count k : ℕ) (d : ArmModel) → count ≤ length arms → k < count → slice_index_or (take count arms) k d ≡ arm_at arms k
+taken_at arms count k d room l = get_or-take count arms k d l ∙ get_or_default arms k d no_arm (omega arith)
 
-column_at : (codes : List ℕ) (n : ℕ) (arms : List Bow) (columns : List ℕ) (count k : ℕ) (d : Bow) → count ≤ length arms → AreArms codes n arms columns count → k < count → (slice_index_or (take count arms) k d).column ≡ slice_index columns k
-column_at codes n arms columns count k d room h l = ap (λ (b : Bow). b.column) (taken_at arms count k d room l ∙ (h.each k l).arm)
+column_at : (codes : List ℕ) (n : ℕ) (arms : List ArmModel) (columns : List ℕ) (count k : ℕ) (d : ArmModel) → count ≤ length arms → AreArms codes n arms columns count → k < count → (slice_index_or (take count arms) k d).column ≡ slice_index columns k
+column_at codes n arms columns count k d room h l = ap (λ (b : ArmModel). b.column) (taken_at arms count k d room l ∙ (h.each k l).arm)
 
-pub taken_rising : (codes : List ℕ) (n : ℕ) (arms : List Bow) (columns : List ℕ) (count : ℕ) → count ≤ length arms → AreArms codes n arms columns count → Rising (take count arms)
+pub taken_rising : (codes : List ℕ) (n : ℕ) (arms : List ArmModel) (columns : List ℕ) (count : ℕ) → count ≤ length arms → AreArms codes n arms columns count → Rising (take count arms)
 taken_rising codes n arms columns count room h = λ i j d less l.
     let whole : length (take count arms) ≡ count = length-take-le count arms room in
     let lj : j < count = omega (arith, l, whole) in
     let li : i < count = omega (arith, lj, less) in
     omega (arith, column_at codes n arms columns count i d room h li, column_at codes n arms columns count j d room h lj, h.rising i j less lj)
 
-pub taken_inside : (codes : List ℕ) (n : ℕ) (arms : List Bow) (columns : List ℕ) (count : ℕ) → count ≤ length arms → AreArms codes n arms columns count → (k : ℕ) → k < length (take count arms) → (bow_at (take count arms) k).column < n
+pub taken_inside : (codes : List ℕ) (n : ℕ) (arms : List ArmModel) (columns : List ℕ) (count : ℕ) → count ≤ length arms → AreArms codes n arms columns count → (k : ℕ) → k < length (take count arms) → (arm_at (take count arms) k).column < n
 taken_inside codes n arms columns count room h k l =
     let whole : length (take count arms) ≡ count = length-take-le count arms room in
     let lk : k < count = omega (arith, l, whole) in
-    omega (arith, column_at codes n arms columns count k no_bow room h lk, (h.each k lk).column)
+    omega (arith, column_at codes n arms columns count k no_arm room h lk, (h.each k lk).column)
 
 -- how far the arm at a place is, and how far its column's edge
-arm_far : (codes : List ℕ) (n : ℕ) (arms : List Bow) (columns : List ℕ) (count k x2 : ℕ) → count ≤ length arms → AreArms codes n arms columns count → k < count → arm_d2 (take count arms) x2 k ≡ square (gap (slice_index columns k) x2) + square (gap (slice_index codes (slice_index columns k)) 257)
+arm_far : (codes : List ℕ) (n : ℕ) (arms : List ArmModel) (columns : List ℕ) (count k x2 : ℕ) → count ≤ length arms → AreArms codes n arms columns count → k < count → arm_d2 (take count arms) x2 k ≡ square (gap (slice_index columns k) x2) + square (gap (slice_index codes (slice_index columns k)) 257)
 unfolding arm_d2
-arm_far codes n arms columns count k x2 room h l = ap (λ (b : Bow). bow_d2 b x2) (taken_at arms count k no_bow room l ∙ (h.each k l).arm)
+arm_far codes n arms columns count k x2 room h l = ap (λ (b : ArmModel). d2_of_arm b x2) (taken_at arms count k no_arm room l ∙ (h.each k l).arm)
 
 edge_far : (page : PageParts) (reach y x2 code x : ℕ) → IsDecoded page reach y x2 code → d2 (record { x = x; y = y }) (answer_edge page reach y x2) ≡ square (gap x2 (2 * x)) + square (gap code 257)
 edge_far page reach y x2 code x is = ap (λ (g : ℕ). square (gap x2 (2 * x)) + square g) (sym is.off)
@@ -142,20 +142,20 @@ far_of page reach x y x2 = d2 (at x y) (answer_edge page reach y x2)
 abbrev answered : PageParts → ℕ → ℕ → ℕ → Bool
 answered page reach y x2 = is_answer (column_edge page reach x2 y)
 
-record IsRow (page : PageParts) (reach y n : ℕ) (codes : List ℕ) (arms : List Bow) (columns : List ℕ) (count : ℕ) : Type 0 where
+record IsRow (page : PageParts) (reach y n : ℕ) (codes : List ℕ) (arms : List ArmModel) (columns : List ℕ) (count : ℕ) : Type 0 where
   few : reach ≤ 256
   answers : AreAnswers page reach y n codes
   stand : AreArms codes n arms columns count
   room : count ≤ length arms
 
-decode : (page : PageParts) (reach y n : ℕ) (codes : List ℕ) (arms : List Bow) (columns : List ℕ) (count k : ℕ) → IsRow page reach y n codes arms columns count → k < count → IsDecoded page reach y (slice_index columns k) (slice_index codes (slice_index columns k))
+decode : (page : PageParts) (reach y n : ℕ) (codes : List ℕ) (arms : List ArmModel) (columns : List ℕ) (count k : ℕ) → IsRow page reach y n codes arms columns count → k < count → IsDecoded page reach y (slice_index columns k) (slice_index codes (slice_index columns k))
 decode page reach y n codes arms columns count k row l = (let e = row.stand.each k l in decoded page reach (slice_index columns k) y (slice_index codes (slice_index columns k)) row.few (row.answers.each (slice_index columns k) e.column) e.some)
 
-same_far : (page : PageParts) (reach x y n : ℕ) (codes : List ℕ) (arms : List Bow) (columns : List ℕ) (count k : ℕ) → IsRow page reach y n codes arms columns count → k < count → arm_d2 (take count arms) (2 * x) k ≡ far_of page reach x y (slice_index columns k)
+same_far : (page : PageParts) (reach x y n : ℕ) (codes : List ℕ) (arms : List ArmModel) (columns : List ℕ) (count k : ℕ) → IsRow page reach y n codes arms columns count → k < count → arm_d2 (take count arms) (2 * x) k ≡ far_of page reach x y (slice_index columns k)
 same_far page reach x y n codes arms columns count k row l = arm_far codes n arms columns count k (2 * x) row.room row.stand l ∙ sym (edge_far page reach y (slice_index columns k) (slice_index codes (slice_index columns k)) x (decode page reach y n codes arms columns count k row l))
 
 -- the nearest arm is that of the nearest answer
-best_column : (page : PageParts) (reach x y n : ℕ) (codes : List ℕ) (arms : List Bow) (columns : List ℕ) (count k : ℕ) → IsRow page reach y n codes arms columns count → IsFirstLeast (arm_d2 (take count arms) (2 * x)) every count k → IsFirstLeast (far_of page reach x y) (answered page reach y) n (slice_index columns k)
+best_column : (page : PageParts) (reach x y n : ℕ) (codes : List ℕ) (arms : List ArmModel) (columns : List ℕ) (count k : ℕ) → IsRow page reach y n codes arms columns count → IsFirstLeast (arm_d2 (take count arms) (2 * x)) every count k → IsFirstLeast (far_of page reach x y) (answered page reach y) n (slice_index columns k)
 best_column page reach x y n codes arms columns count k row best = record {
   below = (row.stand.each k best.below).column;
   passes = (decode page reach y n codes arms columns count k row best.below).answer;
@@ -174,7 +174,7 @@ best_column page reach x y n codes arms columns count k row best = record {
   standing : (j : ℕ) → j < n → answered page reach y j ≡ true → StandsAt columns count j
   standing j l t = row.stand.all j l (coded page reach j y (slice_index codes j) row.few (row.answers.each j l) t)
 
-by_place : (page : PageParts) (reach x y : ℕ) (codes : List ℕ) (arms : List Bow) (columns : List ℕ) (count : ℕ) (o : Option ℕ) → IsRow page reach y (2 * width page - 1) codes arms columns count → Answers (arm_d2 (take count arms) (2 * x)) every count o → edge_at_place codes y columns o ≡ column_decider page reach (at x y)
+by_place : (page : PageParts) (reach x y : ℕ) (codes : List ℕ) (arms : List ArmModel) (columns : List ℕ) (count : ℕ) (o : Option ℕ) → IsRow page reach y (2 * width page - 1) codes arms columns count → Answers (arm_d2 (take count arms) (2 * x)) every count o → edge_at_place codes y columns o ≡ column_decider page reach (at x y)
 unfolding column_decider
 by_place page reach x y codes arms columns count None row none = ap (option_map (answer_edge page reach y)) (sym (first_least-none (far_of page reach x y) (answered page reach y) (2 * width page - 1) (λ j l. unanswered j l))) where
   unanswered : (j : ℕ) → j < 2 * width page - 1 → answered page reach y j ≡ false
@@ -184,7 +184,7 @@ by_place page reach x y codes arms columns count None row none = ap (option_map 
   ]
 by_place page reach x y codes arms columns count (Some k) row best = ap Some (decode page reach y (2 * width page - 1) codes arms columns count k row best.below).edge ∙ ap (option_map (answer_edge page reach y)) (sym (first_least-from (far_of page reach x y) (answered page reach y) (2 * width page - 1) (slice_index columns k) (best_column page reach x y (2 * width page - 1) codes arms columns count k row best)))
 
-pub row_decides : (page : PageParts) (reach x y : ℕ) (codes : List ℕ) (arms : List Bow) (columns : List ℕ) (count : ℕ) → reach ≤ 256 → AreAnswers page reach y (2 * width page - 1) codes → AreArms codes (2 * width page - 1) arms columns count → count ≤ length arms → edge_at_place codes y columns (nearest (take count arms) x) ≡ column_decider page reach (at x y)
+pub row_decides : (page : PageParts) (reach x y : ℕ) (codes : List ℕ) (arms : List ArmModel) (columns : List ℕ) (count : ℕ) → reach ≤ 256 → AreAnswers page reach y (2 * width page - 1) codes → AreArms codes (2 * width page - 1) arms columns count → count ≤ length arms → edge_at_place codes y columns (nearest (take count arms) x) ≡ column_decider page reach (at x y)
 unfolding nearest
 row_decides page reach x y codes arms columns count few answers stand room =
     let row : IsRow page reach y (2 * width page - 1) codes arms columns count = record { few = few; answers = answers; stand = stand; room = room } in
@@ -192,7 +192,7 @@ row_decides page reach x y codes arms columns count few answers stand room =
     rw whole (by_place page reach x y codes arms columns count _ row (first_least-is (arm_d2 (take count arms) (2 * x)) every count))
 
 -- what naming the edges asks of the places
-pub place_known : (page : PageParts) (reach x y : ℕ) (codes : List ℕ) (arms : List Bow) (columns : List ℕ) (count : ℕ) → reach ≤ 256 → AreAnswers page reach y (2 * width page - 1) codes → AreArms codes (2 * width page - 1) arms columns count → count ≤ length arms → count ≤ length columns → MatchOption (nearest (take count arms) x) (0 ≤ y) (λ k. (k < length columns) × (slice_index columns k < length codes) × (257 ≤ slice_index codes (slice_index columns k) + 2 * y))
+pub place_known : (page : PageParts) (reach x y : ℕ) (codes : List ℕ) (arms : List ArmModel) (columns : List ℕ) (count : ℕ) → reach ≤ 256 → AreAnswers page reach y (2 * width page - 1) codes → AreArms codes (2 * width page - 1) arms columns count → count ≤ length arms → count ≤ length columns → MatchOption (nearest (take count arms) x) (0 ≤ y) (λ k. (k < length columns) × (slice_index columns k < length codes) × (257 ≤ slice_index codes (slice_index columns k) + 2 * y))
 unfolding nearest
 place_known page reach x y codes arms columns count few answers stand room_a room_c =
     let row : IsRow page reach y (2 * width page - 1) codes arms columns count = record { few = few; answers = answers; stand = stand; room = room_a } in
@@ -203,14 +203,14 @@ place_known page reach x y codes arms columns count few answers stand room_a roo
       go (Some k) row best = (omega (arith, best.below, room_c), omega (arith, (stand.each k best.below).column, answers.len), (decode page reach y (2 * width page - 1) codes arms columns count k row best.below).back)
 
 -- the row in hand, with the width that the code has
-pub record IsReady (page : PageParts) (reach y : ℕ) (codes : List ℕ) (arms : List Bow) (columns : List ℕ) (count : ℕ) : Type 0 where
+pub record IsReady (page : PageParts) (reach y : ℕ) (codes : List ℕ) (arms : List ArmModel) (columns : List ℕ) (count : ℕ) : Type 0 where
   pub few : reach ≤ 256
   pub answers : AreAnswers page reach y (2 * width page - 1) codes
   pub stand : AreArms codes (2 * width page - 1) arms columns count
   pub room_a : count ≤ length arms
   pub room_c : count ≤ length columns
 
-pub ready : (page : PageParts) (reach y w : ℕ) (codes : List ℕ) (arms : List Bow) (columns : List ℕ) (count : ℕ) → w ≡ width page → reach ≤ 256 → AreAnswers page reach y (2 * w - 1) codes → AreArms codes (length codes) arms columns count → length arms ≡ 2 * w - 1 → length columns ≡ 2 * w - 1 → IsReady page reach y codes arms columns count
+pub ready : (page : PageParts) (reach y w : ℕ) (codes : List ℕ) (arms : List ArmModel) (columns : List ℕ) (count : ℕ) → w ≡ width page → reach ≤ 256 → AreAnswers page reach y (2 * w - 1) codes → AreArms codes (length codes) arms columns count → length arms ≡ 2 * w - 1 → length columns ≡ 2 * w - 1 → IsReady page reach y codes arms columns count
 ready page reach y w codes arms columns count e few answers stand la lc =
     let width_is : 2 * w - 1 ≡ 2 * width page - 1 = ap (λ (n : ℕ). 2 * n - 1) e in
     record {
@@ -221,14 +221,14 @@ ready page reach y w codes arms columns count e few answers stand la lc =
       room_c = omega (arith, stand.few, answers.len, lc);
     }
 
-pub ready_rising : (page : PageParts) (reach y : ℕ) (codes : List ℕ) (arms : List Bow) (columns : List ℕ) (count : ℕ) → IsReady page reach y codes arms columns count → Rising (take count arms)
+pub ready_rising : (page : PageParts) (reach y : ℕ) (codes : List ℕ) (arms : List ArmModel) (columns : List ℕ) (count : ℕ) → IsReady page reach y codes arms columns count → Rising (take count arms)
 ready_rising page reach y codes arms columns count r = taken_rising codes (2 * width page - 1) arms columns count r.room_a r.stand
 
-pub ready_inside : (page : PageParts) (reach y w : ℕ) (codes : List ℕ) (arms : List Bow) (columns : List ℕ) (count : ℕ) → w ≡ width page → 1 ≤ w → IsReady page reach y codes arms columns count → (k : ℕ) → k < length (take count arms) → (bow_at (take count arms) k).column + 2 ≤ 2 * w
+pub ready_inside : (page : PageParts) (reach y w : ℕ) (codes : List ℕ) (arms : List ArmModel) (columns : List ℕ) (count : ℕ) → w ≡ width page → 1 ≤ w → IsReady page reach y codes arms columns count → (k : ℕ) → k < length (take count arms) → (arm_at (take count arms) k).column + 2 ≤ 2 * w
 ready_inside page reach y w codes arms columns count e some r k l = omega (arith, e, taken_inside codes (2 * width page - 1) arms columns count r.room_a r.stand k l)
 
-pub ready_known : (page : PageParts) (reach x y : ℕ) (codes : List ℕ) (arms : List Bow) (columns : List ℕ) (count : ℕ) (o : Option ℕ) → o ≡ nearest (take count arms) x → IsReady page reach y codes arms columns count → MatchOption o (0 ≤ y) (λ k. (k < length columns) × (slice_index columns k < length codes) × (257 ≤ slice_index codes (slice_index columns k) + 2 * y))
+pub ready_known : (page : PageParts) (reach x y : ℕ) (codes : List ℕ) (arms : List ArmModel) (columns : List ℕ) (count : ℕ) (o : Option ℕ) → o ≡ nearest (take count arms) x → IsReady page reach y codes arms columns count → MatchOption o (0 ≤ y) (λ k. (k < length columns) × (slice_index columns k < length codes) × (257 ≤ slice_index codes (slice_index columns k) + 2 * y))
 ready_known page reach x y codes arms columns count o e r = rw e (place_known page reach x y codes arms columns count r.few r.answers r.stand r.room_a r.room_c)
 
-pub ready_decides : (page : PageParts) (reach x y : ℕ) (codes : List ℕ) (arms : List Bow) (columns : List ℕ) (count : ℕ) (o : Option ℕ) → o ≡ nearest (take count arms) x → IsReady page reach y codes arms columns count → edge_at_place codes y columns o ≡ column_decider page reach (at x y)
+pub ready_decides : (page : PageParts) (reach x y : ℕ) (codes : List ℕ) (arms : List ArmModel) (columns : List ℕ) (count : ℕ) (o : Option ℕ) → o ≡ nearest (take count arms) x → IsReady page reach y codes arms columns count → edge_at_place codes y columns o ≡ column_decider page reach (at x y)
 ready_decides page reach x y codes arms columns count o e r = rw e (row_decides page reach x y codes arms columns count r.few r.answers r.stand r.room_a)

@@ -3,12 +3,12 @@ use Rattle.std.specs.Option.{option_map}
 use Rattle.page_model.specs.declared.parts.EdgeAt.{EdgeAt}
 use Rattle.page_model.specs.declared.parts.PageParts.{PageParts}
 use Rattle.lists.specs.Words.{gap, square}
-use Rattle.page_model.specs.Arms.{Bow}
-use Rattle.row_envelope.specs.Envelope.{bow_at}
+use Rattle.page_model.specs.Arms.{ArmModel}
+use Rattle.row_envelope.specs.Envelope.{arm_at}
 use Rattle.page_model.specs.Columns.{column_answer}
 
 -- the arm of a column's code
-abbrev pub arm_of : ℕ → ℕ → Bow
+abbrev pub arm_of : ℕ → ℕ → ArmModel
 arm_of x2 code = record { column = x2; square = square (gap code 257) }
 
 -- the edge of a column's code for row y
@@ -21,10 +21,10 @@ pub record AreAnswers (page : PageParts) (reach y columns : ℕ) (codes : List �
   pub each : (x2 : ℕ) → x2 < columns → slice_index codes x2 ≡ column_answer page reach x2 y
 
 -- the column has a code, and its arm stands at a place
-pub record HasArm (codes : List ℕ) (n : ℕ) (bow : Bow) (x2 : ℕ) : Type 0 where
+pub record HasArm (codes : List ℕ) (n : ℕ) (held : ArmModel) (x2 : ℕ) : Type 0 where
   pub column : x2 < n
   pub some : 1 ≤ slice_index codes x2
-  pub arm : bow ≡ arm_of x2 (slice_index codes x2)
+  pub arm : held ≡ arm_of x2 (slice_index codes x2)
 
 pub record StandsAt (columns : List ℕ) (count x2 : ℕ) : Type 0 where
   pub place : ℕ
@@ -32,9 +32,9 @@ pub record StandsAt (columns : List ℕ) (count x2 : ℕ) : Type 0 where
   pub same : slice_index columns place ≡ x2
 
 -- the first places hold the arms of the first n columns that have a code, in their order
-pub record AreArms (codes : List ℕ) (n : ℕ) (arms : List Bow) (columns : List ℕ) (count : ℕ) : Type 0 where
+pub record AreArms (codes : List ℕ) (n : ℕ) (arms : List ArmModel) (columns : List ℕ) (count : ℕ) : Type 0 where
   pub few : count ≤ n
-  pub each : (k : ℕ) → k < count → HasArm codes n (bow_at arms k) (slice_index columns k)
+  pub each : (k : ℕ) → k < count → HasArm codes n (arm_at arms k) (slice_index columns k)
   pub rising : (j k : ℕ) → j < k → k < count → slice_index columns j < slice_index columns k
   pub all : (x2 : ℕ) → x2 < n → 1 ≤ slice_index codes x2 → StandsAt columns count x2
 

@@ -3,14 +3,15 @@
 ghost use Rattle.std.specs.Prelude.{◌≡◌, ◌≤◌, ◌<◌, ◌+◌, ◌*◌, ◌-◌, ℕ, length, slice_index};
 ghost use Rattle.std.specs.Option.{MatchOption};
 ghost use Rattle.band_values.specs.Arms.{arm_of, AreArms, edge_at_place};
+ghost use Rattle.page_model.specs.Limits.{most_column, most_reach, most_side};
 
 use page_model::arms::Arm;
 use page_model::parts::EdgeAt;
 
 fn arm_at(x2: u32, code: u16) -> Arm
-    requires column { x2 ≤ 32766 }
+    requires column { x2 ≤ most_column }
     requires some { 1 ≤ code }
-    requires fits { code ≤ 513 }
+    requires fits { code ≤ 2 * most_reach + 1 }
     ensures { result ≡ arm_of x2 code }
 {
     Arm::new(x2, i32::from(code) - 257)
@@ -19,8 +20,8 @@ fn arm_at(x2: u32, code: u16) -> Arm
 /// Adds the arm of one column where it has a code, and gives the new number of arms.
 fn add(codes: &[u16], x2: usize, arms: &mut [Arm], columns: &mut [u32], count: usize) -> usize
     requires column { x2 < length codes.now }
-    requires few { length codes.now ≤ 32767 }
-    requires fits { (k : ℕ) → k < length codes.now → slice_index codes.now k ≤ 513 }
+    requires few { length codes.now ≤ most_column + 1 }
+    requires fits { (k : ℕ) → k < length codes.now → slice_index codes.now k ≤ 2 * most_reach + 1 }
     requires arms { length codes.now ≤ length arms.old }
     requires columns { length codes.now ≤ length columns.old }
     requires so_far { AreArms codes.now x2 arms.old columns.old count }
@@ -39,8 +40,8 @@ fn add(codes: &[u16], x2: usize, arms: &mut [Arm], columns: &mut [u32], count: u
 
 /// Writes the arms of the columns that have a code, with their columns, and gives their number.
 pub fn raise_arms(codes: &[u16], arms: &mut [Arm], columns: &mut [u32]) -> usize
-    requires few { length codes.now ≤ 32767 }
-    requires fits { (k : ℕ) → k < length codes.now → slice_index codes.now k ≤ 513 }
+    requires few { length codes.now ≤ most_column + 1 }
+    requires fits { (k : ℕ) → k < length codes.now → slice_index codes.now k ≤ 2 * most_reach + 1 }
     requires arms { length codes.now ≤ length arms.old }
     requires columns { length codes.now ≤ length columns.old }
     ensures arms { length arms.new ≡ length arms.old }
@@ -56,7 +57,7 @@ pub fn raise_arms(codes: &[u16], arms: &mut [Arm], columns: &mut [u32]) -> usize
 
 /// The edge whose arm stands at a place.
 pub fn edge_at(codes: &[u16], y: u32, columns: &[u32], place: Option<u32>) -> Option<EdgeAt>
-    requires row { y ≤ 16384 }
+    requires row { y ≤ most_side }
     requires place { MatchOption place (0 ≤ y) (λ k. (k < length columns.now) × (slice_index columns.now k < length codes.now) × (257 ≤ slice_index codes.now (slice_index columns.now k) + 2 * y)) }
     ensures { result ≡ edge_at_place codes.now y columns.now place }
 {

@@ -1,10 +1,10 @@
 // Rows in which no sample is near enough to an edge to be trapped.
 
-ghost use Rattle.std.specs.Prelude.{◌≡◌, ◌<◌, ◌≤◌, true, ℕ, length, slice_index};
+ghost use Rattle.std.specs.Prelude.{◌≡◌, ◌<◌, true, ℕ, length, slice_index};
 ghost use Rattle.band_values.specs.Arms.{AreAnswers};
 ghost use Rattle.band_values.specs.Quiet.{KeepsTints};
 ghost use Rattle.band_values.specs.Rows.{doubled};
-ghost use Rattle.page_model.specs.Page.{height, width};
+ghost use Rattle.page_model.specs.Page.{width};
 ghost use Rattle.page_model.specs.Reach.{page_reach};
 
 use page_model::page::Page;

@@ -1,6 +1,7 @@
 // Rows of a page that lie below one another, and what is held of them.
 
 ghost use Rattle.std.specs.Prelude.{◌≡◌, ◌<◌, ◌≤◌, ◌+◌, ◌*◌, ℕ, length, slice_index};
+ghost use Rattle.page_model.specs.Limits.{most_column, most_side};
 
 /// The rows from `first` on, so many of them.
 #[derive(Clone, Copy, Debug, Drop, PartialEq, Eq)]
@@ -11,8 +12,8 @@ pub struct Rows {
 
 /// Row k of bytes that stand row by row, so many a row.
 pub(crate) fn row_of_bytes<'a>(items: &'a [u8], width: usize, k: usize) -> &'a [u8]
-    requires narrow { width ≤ 16384 }
-    requires row { k ≤ 16384 }
+    requires narrow { width ≤ most_side }
+    requires row { k ≤ most_side }
     requires inside { (k + 1) * width ≤ length items.now }
     ensures len { length result.now ≡ width }
     ensures each { (x : ℕ) → x < width → slice_index result.now x ≡ slice_index items.now (k * width + x) }
@@ -23,8 +24,8 @@ pub(crate) fn row_of_bytes<'a>(items: &'a [u8], width: usize, k: usize) -> &'a [
 
 /// Row k of numbers that stand row by row, so many a row.
 pub fn row_of<'a>(items: &'a [u16], wide: usize, k: usize) -> &'a [u16]
-    requires narrow { wide ≤ 32767 }
-    requires row { k ≤ 16384 }
+    requires narrow { wide ≤ most_column + 1 }
+    requires row { k ≤ most_side }
     requires inside { (k + 1) * wide ≤ length items.now }
     ensures len { length result.now ≡ wide }
     ensures each { (x : ℕ) → x < wide → slice_index result.now x ≡ slice_index items.now (k * wide + x) }

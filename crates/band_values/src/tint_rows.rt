@@ -1,7 +1,7 @@
 // A row of tints, plate after plate.
 
-ghost use Rattle.std.specs.Prelude.{◌≡◌, ◌<◌, ◌≤◌, ◌+◌, ◌*◌, ℕ, length, slice_index};
-ghost use Rattle.band_values.specs.Quiet.{IsRowPut, IsRowTo};
+ghost use Rattle.std.specs.Prelude.{◌≡◌, ◌<◌, ◌+◌, ◌*◌, ℕ, length, slice_index};
+ghost use Rattle.band_values.specs.Quiet.{IsRowTo};
 ghost use Rattle.page_model.specs.Page.{height, plates, tint, width};
 ghost use Rattle.page_model.specs.Tints.{new};
 

@@ -11,6 +11,7 @@ ghost use Rattle.page_model.specs.Page.{InPage, height, plates, width};
 ghost use Rattle.page_model.specs.Reach.{page_reach};
 ghost use Rattle.page_model.specs.Tints.{new};
 ghost use Rattle.page_model.specs.Zones.{AreZones};
+ghost use Rattle.page_model.specs.Limits.{most_reach, most_side};
 
 use crate::arms::edge_at;
 use crate::nearest::nearest_arms;
@@ -21,15 +22,14 @@ use crate::workspace::Workspace;
 use page_model::edges::squared_distance;
 use page_model::page::Page;
 use page_model::parts::{At, EdgeAt};
-use std::sync::ledger::Ledger;
 use trap_color::trap_sample;
 
 /// Whether there is no edge, or it is farther from p than any trap of the page is wide.
 fn is_far(p: At, nearest: Option<EdgeAt>, reach2: u32) -> bool
-    requires px { p.x < 16384 }
-    requires py { p.y < 16384 }
-    requires edge { ForSome nearest (λ e. (e.x2 < 32768) × (e.y2 < 32768)) }
-    requires reach { reach2 ≤ 256 }
+    requires px { p.x < most_side }
+    requires py { p.y < most_side }
+    requires edge { ForSome nearest (λ e. (e.x2 < 2 * most_side) × (e.y2 < 2 * most_side)) }
+    requires reach { reach2 ≤ most_reach }
     ensures { result ≡ is_far_off p reach2 nearest }
 {
     match nearest {
@@ -51,7 +51,7 @@ fn trap_at(
     requires sample { InPage page.now p }
     requires zones { AreZones page.now p.y zones.now }
     requires reach { reach2 ≡ page_reach page.now }
-    requires few { reach2 ≤ 256 }
+    requires few { reach2 ≤ most_reach }
     requires edge { nearest ≡ column_decider page.now (page_reach page.now) p }
     requires tints { length tints.old ≡ plates page.now }
     requires out { IsRowTo page.now p.y p.x out.old }
@@ -83,7 +83,7 @@ fn trap_samples(
     requires zones { AreZones page.now y zones.now }
     requires row { y < height page.now }
     requires reach { reach2 ≡ page_reach page.now }
-    requires few { reach2 ≤ 256 }
+    requires few { reach2 ≤ most_reach }
     requires places { length places.now ≡ width page.now }
     requires known { (x : ℕ) → x < width page.now → MatchOption (slice_index_or places.now x None) (0 ≤ y) (λ k. (k < length columns.now) × (slice_index columns.now k < length codes.now) × (257 ≤ slice_index codes.now (slice_index columns.now k) + 2 * y)) }
     requires deciders { (x : ℕ) → x < width page.now → edge_at_place codes.now y columns.now (slice_index_or places.now x None) ≡ column_decider page.now reach2 (record { x = x; y = y }) }
@@ -100,14 +100,7 @@ fn trap_samples(
 }
 
 /// Traps the samples of a row.
-fn trap_row<L: Ledger>(
-    page: &Page,
-    y: u32,
-    zones: &[u8],
-    codes: &[u16],
-    out: &mut [u16],
-    room: &mut Workspace<L>,
-)
+fn trap_row(page: &Page, y: u32, zones: &[u8], codes: &[u16], out: &mut [u16], room: &mut Workspace)
     requires row { y < height page.now }
     requires zones { AreZones page.now y zones.now }
     requires codes { AreAnswers page.now (page_reach page.now) y (doubled page.now) codes.now }
@@ -129,21 +122,13 @@ fn trap_row<L: Ledger>(
         columns,
         places,
         &mut room.hull,
-        &mut room.steps,
     );
     let tints = room.tints.as_mut_slice();
     trap_samples(page, zones, y, reach2, codes, columns, places, tints, out);
 }
 
 /// Writes the new tints of a row, or its own where it is quiet.
-fn fill_row<L: Ledger>(
-    page: &Page,
-    y: u32,
-    zones: &[u8],
-    codes: &[u16],
-    out: &mut [u16],
-    room: &mut Workspace<L>,
-)
+fn fill_row(page: &Page, y: u32, zones: &[u8], codes: &[u16], out: &mut [u16], room: &mut Workspace)
     requires row { y < height page.now }
     requires zones { AreZones page.now y zones.now }
     requires codes { AreAnswers page.now (page_reach page.now) y (doubled page.now) codes.now }
@@ -160,13 +145,13 @@ fn fill_row<L: Ledger>(
 
 /// Writes the new tints of row y, plate after plate, from the zones of its samples and its column answers. A row that is
 /// quiet costs no more than the copy of its tints.
-pub fn make_row<L: Ledger>(
+pub fn make_row(
     page: &Page,
     y: u32,
     zones: &[u8],
     codes: &[u16],
     out: &mut [u16],
-    room: &mut Workspace<L>,
+    room: &mut Workspace,
 )
     requires row { y < height page.now }
     requires zones { AreZones page.now y zones.now }
@@ -183,14 +168,14 @@ pub fn make_row<L: Ledger>(
 }
 
 /// Writes the new tints of row k of these rows.
-fn write_tints<L: Ledger>(
+fn write_tints(
     page: &Page,
     rows: Rows,
     k: u32,
     zones: &[u8],
     codes: &[u16],
     out: &mut [u16],
-    room: &mut Workspace<L>,
+    room: &mut Workspace,
 )
     requires zones { HoldsZones page.now rows zones.now }
     requires answers { HoldsAnswers page.now rows codes.now }
@@ -220,13 +205,13 @@ fn write_tints<L: Ledger>(
 
 /// Writes the new tints of these rows, in each row plate after plate, from the zones of their samples and their column
 /// answers.
-pub fn make_tints<L: Ledger>(
+pub fn make_tints(
     page: &Page,
     rows: Rows,
     zones: &[u8],
     codes: &[u16],
     out: &mut [u16],
-    room: &mut Workspace<L>,
+    room: &mut Workspace,
 )
     requires zones { HoldsZones page.now rows zones.now }
     requires answers { HoldsAnswers page.now rows codes.now }

@@ -1,22 +1,20 @@
-ghost use Rattle.std.specs.Prelude.{◌≡◌, ◌<◌, ◌≤◌, ◌-◌, ◌*◌, IfOk, vec_len};
+ghost use Rattle.std.specs.Prelude.{◌≡◌, ◌<◌, ◌-◌, ◌*◌, IfOk, vec_len};
 ghost use Rattle.page_model.specs.Page.{plates, width};
 ghost use Rattle.band_values.specs.Room.{Serves};
 
 use page_model::arms::Arm;
 use page_model::page::Page;
 use page_model::parts::OutOfMemory;
-use page_model::steps::Steps;
 use row_envelope::HullBuf;
 use std::alloc::Global;
 use std::marker::Model;
-use std::sync::ledger::{Blank, Ledger};
 use zone_map::SpanBuf;
 
 /// The room that the makers work in, for pages of one width and number of plates: the crossings of a row, its arms with
-/// their columns, the place of each sample's nearest arm, the hull of the arms, a tint for each plate, and the counter of
-/// steps. It is made once, and nothing is allocated afterwards.
+/// their columns, the place of each sample's nearest arm, the hull of the arms, and a tint for each plate. It is made once,
+/// and nothing is allocated afterwards.
 #[derive(Drop)]
-pub struct Workspace<L: Ledger> {
+pub struct Workspace {
     pub(crate) width: u32,
     pub(crate) plates: u32,
     pub(crate) spans: SpanBuf,
@@ -25,10 +23,9 @@ pub struct Workspace<L: Ledger> {
     pub(crate) places: Vec<Option<u32>>,
     pub(crate) hull: HullBuf,
     pub(crate) tints: Vec<u16>,
-    pub(crate) steps: Steps<L>,
 }
 
-impl<L: Ledger> Model for Workspace<L> {
+impl Model for Workspace {
     ghost use Rattle.std.specs.Prelude.{◌≡◌, ◌-◌, ◌*◌, vec_len};
     ghost use Rattle.band_values.specs.Room.{Room};
 
@@ -49,12 +46,9 @@ fn filled<T: Copy + Drop>(alloc: Global, item: T, count: usize) -> Result<Vec<T>
     }
 }
 
-impl<L: Ledger> Workspace<L> {
-    /// Room for the work on pages of this page's width and number of plates, with a counter of the ledger's own.
-    pub fn new(alloc: Global, page: &Page, blank: Blank) -> Result<Workspace<L>, OutOfMemory>
-        requires name { blank.name ≡ L.name }
-        requires parts { blank.parts ≡ L.parts }
-        requires some { 0 < L.parts }
+impl Workspace {
+    /// Room for the work on pages of this page's width and number of plates.
+    pub fn new(alloc: Global, page: &Page) -> Result<Workspace, OutOfMemory>
         ensures { IfOk result (λ room. Serves room page.now) }
     {
         let width = page.width();
@@ -69,7 +63,6 @@ impl<L: Ledger> Workspace<L> {
             places: filled(alloc, None, width as usize)?,
             hull: HullBuf::new(alloc, width)?,
             tints: filled(alloc, 0u16, plates as usize)?,
-            steps: Steps::<L>::new(blank),
         })
     }
 }

@@ -6,7 +6,6 @@ ghost use Rattle.page_model.specs.Page.{height, width};
 use crate::rows::Rows;
 use crate::workspace::Workspace;
 use page_model::page::Page;
-use std::sync::ledger::Ledger;
 use zone_map::{SpanBuf, zone_row};
 
 /// Writes the zones of row k of these rows.
@@ -39,7 +38,7 @@ fn zones_into(page: &Page, rows: Rows, out: &mut [u8], spans: &mut SpanBuf)
 }
 
 /// Writes the zones of the samples of these rows, row by row.
-pub fn make_zones<L: Ledger>(page: &Page, rows: Rows, out: &mut [u8], room: &mut Workspace<L>)
+pub fn make_zones(page: &Page, rows: Rows, out: &mut [u8], room: &mut Workspace)
     requires inside { rows.first + rows.count ≤ height page.now }
     requires out { length out.old ≡ rows.count * width page.now }
     requires room { Serves room.old page.now }

@@ -1,11 +1,11 @@
 ghost use Rattle.std.specs.Prelude.{◌≡◌, ℕ, ◌<◌, ◌≤◌, ◌+◌, Some, length, slice_index};
 ghost use Rattle.band_claims.specs.Seating.{Seats};
-ghost use Rattle.band_claims.specs.Sheets.{cell, shape_of};
+ghost use Rattle.band_claims.specs.Sheets.{IsFit, cell, shape_of};
 ghost use Rattle.page_model.specs.Bands.{pieces_of};
 ghost use Rattle.row_cells.specs.Places.{cell_total, first_cell_of, value_total};
 ghost use Rattle.band_workers.specs.Filled.{AreValues, IsCut, filled_to};
 
-use band_claims::{Pass, Shared};
+use band_claims::{Pass, Shared, Sheet};
 use row_cells::layout::{bits, lanes};
 use row_cells::packing::pack;
 
@@ -21,7 +21,7 @@ pub fn put_values(shared: &Shared, pass: &mut Pass, piece: u32, values: &[u16])
         ≡ filled_to ((shape_of shared.now.sheet).size piece) pass.old.view }
 {
     for o in 0..shared.layout().cell_count(piece) {
-        shared.put_cell(pass, word_of_values(shared, piece, o, values));
+        shared.put_cell(pass, word_of_values(shared.sheet(), piece, o, values));
     }
 }
 
@@ -37,7 +37,7 @@ pub fn put_bytes(shared: &Shared, pass: &mut Pass, piece: u32, values: &[u8])
         ≡ filled_to ((shape_of shared.now.sheet).size piece) pass.old.view }
 {
     for o in 0..shared.layout().cell_count(piece) {
-        shared.put_cell(pass, word_of_bytes(shared, piece, o, values));
+        shared.put_cell(pass, word_of_bytes(shared.sheet(), piece, o, values));
     }
 }
 
@@ -49,13 +49,14 @@ struct Cut {
     count: usize,
 }
 
-fn cut_of(shared: &Shared, piece: u32, o: u32, total: usize) -> Cut
-    requires piece { piece < pieces_of shared.now.sheet.layout.bands }
-    requires cell { o < cell_total shared.now.sheet.layout piece }
-    requires total { total ≡ value_total shared.now.sheet.layout piece }
-    ensures { IsCut shared.now.sheet.layout piece o result.phase result.first result.count }
+fn cut_of(sheet: &Sheet, piece: u32, o: u32, total: usize) -> Cut
+    requires fit { IsFit sheet.now }
+    requires piece { piece < pieces_of sheet.now.layout.bands }
+    requires cell { o < cell_total sheet.now.layout piece }
+    requires total { total ≡ value_total sheet.now.layout piece }
+    ensures { IsCut sheet.now.layout piece o result.phase result.first result.count }
 {
-    let phase = piece / shared.bands().count;
+    let phase = piece / sheet.layout.bands().count;
     let per_cell = lanes(phase);
     let first = (o * per_cell) as usize;
     Cut {
@@ -65,15 +66,15 @@ fn cut_of(shared: &Shared, piece: u32, o: u32, total: usize) -> Cut
     }
 }
 
-// The word of cell o of a piece.
-fn word_of_values(shared: &Shared, piece: u32, o: u32, values: &[u16]) -> u64
-    requires piece { piece < pieces_of shared.now.sheet.layout.bands }
-    requires cell { o < cell_total shared.now.sheet.layout piece }
-    requires values { AreValues shared.now.sheet piece values.now }
-    ensures { result ≡ cell shared.now.sheet (first_cell_of shared.now.sheet.layout piece + o) }
+/// The word of cell o of a piece, which has these values.
+pub fn word_of_values(sheet: &Sheet, piece: u32, o: u32, values: &[u16]) -> u64
+    requires fit { IsFit sheet.now }
+    requires piece { piece < pieces_of sheet.now.layout.bands }
+    requires cell { o < cell_total sheet.now.layout piece }
+    requires values { AreValues sheet.now piece values.now }
+    ensures { result ≡ cell sheet.now (first_cell_of sheet.now.layout piece + o) }
 {
-    let _fits = shared.bands();
-    let cut = cut_of(shared, piece, o, values.len());
+    let cut = cut_of(sheet, piece, o, values.len());
     pack(bits(cut.phase), part_of(values, cut.first, cut.count))
 }
 
@@ -86,14 +87,15 @@ fn part_of(values: &[u16], first: usize, count: usize) -> &[u16]
     &values[first..first + count]
 }
 
-fn word_of_bytes(shared: &Shared, piece: u32, o: u32, values: &[u8]) -> u64
-    requires piece { piece < pieces_of shared.now.sheet.layout.bands }
-    requires cell { o < cell_total shared.now.sheet.layout piece }
-    requires values { AreValues shared.now.sheet piece values.now }
-    ensures { result ≡ cell shared.now.sheet (first_cell_of shared.now.sheet.layout piece + o) }
+/// The same for values that are bytes, as zones and marks are.
+pub fn word_of_bytes(sheet: &Sheet, piece: u32, o: u32, values: &[u8]) -> u64
+    requires fit { IsFit sheet.now }
+    requires piece { piece < pieces_of sheet.now.layout.bands }
+    requires cell { o < cell_total sheet.now.layout piece }
+    requires values { AreValues sheet.now piece values.now }
+    ensures { result ≡ cell sheet.now (first_cell_of sheet.now.layout piece + o) }
 {
-    let _fits = shared.bands();
-    let cut = cut_of(shared, piece, o, values.len());
+    let cut = cut_of(sheet, piece, o, values.len());
     let mut all = [0u16; 31];
     let part = &mut all[..cut.count];
     widen(values, cut.first, part);

@@ -1,11 +1,12 @@
 // The answer of one doubled column in one row, as a code: 0 for none, else the offset in half-samples plus 257.
 
-ghost use Rattle.std.specs.Prelude.{◌≡◌, ◌≤◌, ◌<◌, ◌*◌};
+ghost use Rattle.std.specs.Prelude.{◌≡◌, ◌≤◌, ◌<◌, ◌*◌, ◌+◌};
 ghost use Rattle.std.specs.Option.{MatchOption};
 ghost use Rattle.column_scan.specs.Sweep.{row_edge, above_code, nearer_code, above_step, raised};
+ghost use Rattle.page_model.specs.Limits.{most_reach, most_side};
 
 fn edge_of(x2: u32, row: u32) -> u32
-    requires { row ≤ 16384 }
+    requires { row ≤ most_side }
     ensures { result ≡ row_edge x2 row }
 {
     2 * row + 1 - x2 % 2
@@ -13,11 +14,11 @@ fn edge_of(x2: u32, row: u32) -> u32
 
 /// The code of the edge at or above row r that was seen last.
 pub(crate) fn above(x2: u32, r: u32, reach2: u32, last: Option<u32>) -> u16
-    requires row { r ≤ 16384 }
-    requires reach { reach2 ≤ 256 }
+    requires row { r ≤ most_side }
+    requires reach { reach2 ≤ most_reach }
     requires last { MatchOption last (0 ≤ r) (λ j. row_edge x2 j ≤ 2 * r) }
     ensures value { result ≡ above_code x2 r reach2 last }
-    ensures fits { result ≤ 257 }
+    ensures fits { result ≤ most_reach + 1 }
 {
     match last {
         Some(j) => {
@@ -34,10 +35,10 @@ pub(crate) fn above(x2: u32, r: u32, reach2: u32, last: Option<u32>) -> u16
 
 /// The code of the nearer one of an edge with a code and of an edge below row r.
 pub(crate) fn nearer(x2: u32, r: u32, reach2: u32, above: u16, next: Option<u32>) -> u16
-    requires row { r ≤ 16384 }
-    requires reach { reach2 ≤ 256 }
-    requires above { above ≤ 257 }
-    requires next { MatchOption next (0 ≤ r) (λ j. (2 * r ≤ row_edge x2 j) × (j ≤ 16384)) }
+    requires row { r ≤ most_side }
+    requires reach { reach2 ≤ most_reach }
+    requires above { above ≤ most_reach + 1 }
+    requires next { MatchOption next (0 ≤ r) (λ j. (2 * r ≤ row_edge x2 j) × (j ≤ most_side)) }
     ensures { result ≡ nearer_code x2 r reach2 above next }
 {
     match next {
@@ -59,7 +60,7 @@ pub(crate) fn nearer(x2: u32, r: u32, reach2: u32, above: u16, next: Option<u32>
 
 /// The code of a row from that of the row above it and the edge in between.
 pub(crate) fn stepped(x2: u32, reach2: u32, seen: bool, code: u16) -> u16
-    requires reach { reach2 ≤ 256 }
+    requires reach { reach2 ≤ most_reach }
     ensures { result ≡ above_step x2 reach2 seen code }
 {
     if seen {
@@ -77,7 +78,7 @@ pub(crate) fn stepped(x2: u32, reach2: u32, seen: bool, code: u16) -> u16
 
 /// The code of a row from its own and that of the row below it.
 pub(crate) fn lifted(reach2: u32, above: u16, below: u16) -> u16
-    requires reach { reach2 ≤ 256 }
+    requires reach { reach2 ≤ most_reach }
     ensures { result ≡ raised reach2 above below }
 {
     let (near, far) = (u32::from(above), u32::from(below));

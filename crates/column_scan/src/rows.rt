@@ -2,6 +2,7 @@
 
 ghost use Rattle.std.specs.Prelude.{◌≡◌, ◌≤◌, ◌<◌, ◌+◌, ◌*◌, ◌-◌, ℕ, length, slice_index, slice_set};
 ghost use Rattle.page_model.specs.Marks.{held_rows};
+ghost use Rattle.page_model.specs.Limits.{most_column, most_reach, most_side};
 ghost use Rattle.column_scan.specs.Sweep.{above_of, column_of, raised, slot, IsRowWritten};
 
 use crate::codes::{above, lifted, nearer, stepped};
@@ -13,8 +14,8 @@ use std::sync::ledger::Ledger;
 fn put(out: &mut [u16], columns: u32, row: u32, x2: u32, code: u16)
     requires column { x2 < columns }
     requires place { row * columns + x2 < length out.old }
-    requires columns { columns ≤ 32767 }
-    requires row { row ≤ 16384 }
+    requires columns { columns ≤ most_column + 1 }
+    requires row { row ≤ most_side }
     ensures { out.new ≡ slice_set out.old (row * columns + x2) code }
 {
     out[row as usize * columns as usize + x2 as usize] = code;
@@ -23,8 +24,8 @@ fn put(out: &mut [u16], columns: u32, row: u32, x2: u32, code: u16)
 fn get(out: &[u16], columns: u32, row: u32, x2: u32) -> u16
     requires column { x2 < columns }
     requires place { row * columns + x2 < length out.now }
-    requires columns { columns ≤ 32767 }
-    requires row { row ≤ 16384 }
+    requires columns { columns ≤ most_column + 1 }
+    requires row { row ≤ most_side }
     ensures { result ≡ slice_index out.now (row * columns + x2) }
 {
     out[row as usize * columns as usize + x2 as usize]
@@ -41,7 +42,7 @@ fn enter<L: Ledger>(
 ) -> u16
     requires column { x2 + 2 ≤ 2 * marks.now.wide }
     requires row { r + 1 < held_rows marks.now }
-    requires reach { reach2 ≤ 256 }
+    requires reach { reach2 ≤ most_reach }
     requires code { code ≡ above_of marks.now x2 reach2 r }
     ensures code { result ≡ above_of marks.now x2 reach2 (r + 1) }
     ensures step { steps.new ≡ steps.old + 1 }
@@ -62,7 +63,7 @@ pub(crate) fn first_row_of<L: Ledger>(
 )
     requires columns { columns + 1 ≡ 2 * marks.now.wide }
     requires row { r < held_rows marks.now }
-    requires reach { reach2 ≤ 256 }
+    requires reach { reach2 ≤ most_reach }
     requires out { columns ≤ length out.old }
     ensures written { IsRowWritten out.old out.new columns 0 (λ x2. above_of marks.now x2 reach2 r) columns }
     ensures steps { steps.new ≡ steps.old + columns * (r + 1) }
@@ -88,9 +89,9 @@ pub(crate) fn row_down<L: Ledger>(
 )
     requires columns { columns + 1 ≡ 2 * marks.now.wide }
     requires row { r + 1 < held_rows marks.now }
-    requires reach { reach2 ≤ 256 }
+    requires reach { reach2 ≤ most_reach }
     requires k { k + 1 < rows }
-    requires rows { rows ≤ 16384 }
+    requires rows { rows ≤ most_side }
     requires out { length out.old ≡ rows * columns }
     requires above { (x2 : ℕ) → x2 < columns → slot out.old columns k x2 ≡ above_of marks.now x2 reach2 r }
     ensures written { IsRowWritten out.old out.new columns (k + 1) (λ x2. above_of marks.now x2 reach2 (r + 1)) columns }
@@ -116,9 +117,9 @@ pub(crate) fn last_row_of<L: Ledger>(
 )
     requires columns { columns + 1 ≡ 2 * marks.now.wide }
     requires row { r < held_rows marks.now }
-    requires reach { reach2 ≤ 256 }
+    requires reach { reach2 ≤ most_reach }
     requires k { k < rows }
-    requires rows { rows ≤ 16384 }
+    requires rows { rows ≤ most_side }
     requires out { length out.old ≡ rows * columns }
     requires above { (x2 : ℕ) → x2 < columns → slot out.old columns k x2 ≡ above_of marks.now x2 reach2 r }
     ensures written { IsRowWritten out.old out.new columns k (λ x2. column_of marks.now x2 reach2 r) columns }
@@ -135,10 +136,10 @@ pub(crate) fn last_row_of<L: Ledger>(
 
 /// Row k of the asked rows with the edges below it, from row k + 1.
 pub(crate) fn row_up(columns: u32, rows: u32, k: u32, reach2: u32, out: &mut [u16])
-    requires columns { columns ≤ 32767 }
-    requires reach { reach2 ≤ 256 }
+    requires columns { columns ≤ most_column + 1 }
+    requires reach { reach2 ≤ most_reach }
     requires k { k + 1 < rows }
-    requires rows { rows ≤ 16384 }
+    requires rows { rows ≤ most_side }
     requires out { length out.old ≡ rows * columns }
     ensures written { IsRowWritten out.old out.new columns k (λ x2. raised reach2 (slot out.old columns k x2) (slot out.old columns (k + 1) x2)) columns }
 {

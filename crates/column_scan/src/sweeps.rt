@@ -2,6 +2,7 @@ ghost use Rattle.std.specs.Prelude.{◌≡◌, ◌≤◌, ◌<◌, ◌+◌, ◌*
 ghost use Rattle.page_model.specs.declared.parts.PageParts.{PageParts};
 ghost use Rattle.page_model.specs.Marks.{held_rows};
 ghost use Rattle.page_model.specs.Columns.{AreMarks, CoverRows, column_answer};
+ghost use Rattle.page_model.specs.Limits.{most_reach};
 ghost use Rattle.column_scan.specs.Sweep.{above_of, column_of, slot};
 
 use crate::rows::{first_row_of, last_row_of, row_down, row_up};
@@ -22,7 +23,7 @@ fn rows_down<L: Ledger>(
     requires columns { columns + 1 ≡ 2 * marks.now.wide }
     requires some { 1 ≤ rows }
     requires asked { first + rows ≤ held_rows marks.now }
-    requires reach { reach2 ≤ 256 }
+    requires reach { reach2 ≤ most_reach }
     requires out { length out.old ≡ rows * columns }
     ensures len { length out.new ≡ length out.old }
     ensures above { (k x2 : ℕ) → k < rows → x2 < columns → slot out.new columns k x2 ≡ above_of marks.now x2 reach2 (first + k) }
@@ -40,7 +41,7 @@ fn rows_up(marks: &Marks, columns: u32, first: u32, rows: u32, reach2: u32, out:
     requires columns { columns + 1 ≡ 2 * marks.now.wide }
     requires some { 1 ≤ rows }
     requires asked { first + rows ≤ held_rows marks.now }
-    requires reach { reach2 ≤ 256 }
+    requires reach { reach2 ≤ most_reach }
     requires out { length out.old ≡ rows * columns }
     requires above { (k x2 : ℕ) → k + 1 < rows → x2 < columns → slot out.old columns k x2 ≡ above_of marks.now x2 reach2 (first + k) }
     requires last { (x2 : ℕ) → x2 < columns → slot out.old columns (rows - 1) x2 ≡ column_of marks.now x2 reach2 (first + (rows - 1)) }
@@ -66,7 +67,7 @@ pub fn columns<L: Ledger>(
     steps: &mut Steps<L>,
 )
     requires width { width ≡ marks.now.wide }
-    requires reach { reach2 ≤ 256 }
+    requires reach { reach2 ≤ most_reach }
     requires some { 1 ≤ rows }
     requires from { marks.now.top ≤ first_row }
     requires to { first_row + rows ≤ marks.now.top + held_rows marks.now }

@@ -1,4 +1,5 @@
 ghost use Rattle.std.specs.Prelude.{◌≡◌, ◌≤◌, ◌<◌, length};
+ghost use Rattle.page_model.specs.Limits.{most_reach};
 
 use crate::columns;
 use page_model::marks::Marks;
@@ -9,7 +10,7 @@ use std::sync::ledger::{Blank, Ledger};
 /// The answers of a page of three samples, one below the other.
 fn answers<L: Ledger>(marks: &[u8], reach2: u32, blank: Blank) -> [u16; 3]
     requires three { length marks.now ≡ 3 }
-    requires reach { reach2 ≤ 256 }
+    requires reach { reach2 ≤ most_reach }
     requires name { blank.name ≡ L.name }
     requires parts { blank.parts ≡ L.parts }
     requires some { 0 < L.parts }

@@ -1,4 +1,4 @@
-use Rattle.std.proofs.Common.{◌≡◌, ◌≢◌, ℕ, zero, suc, ◌+◌, ◌-◌, ◌*◌, ◌<◌, ◌≤◌, Bool, true, false, ◌&&◌, ◌||◌, not, nat_le, nat_lt, refl, sym, ◌∙◌, ap, arith, inl, inr, List, [], length, slice_index, Option, Some, None}
+use Rattle.std.proofs.Common.{◌≡◌, ℕ, zero, suc, ◌+◌, ◌-◌, ◌*◌, ◌<◌, ◌≤◌, Bool, true, false, ◌&&◌, ◌||◌, not, nat_le, nat_lt, refl, sym, ◌∙◌, ap, arith, inl, inr, List, [], length, slice_index, Option, Some, None}
 use Rattle.std.proofs.lemmas.Bool.{cases_eq}
 use Rattle.std.proofs.lemmas.Bool.Decides.{nat_tests}
 use Rattle.std.proofs.Math.Nat.{mul-le-mul}
@@ -11,12 +11,12 @@ use Rattle.page_model.specs.Deciding.{decides, decides_in, lower_mark, right_mar
 use Rattle.page_model.specs.Density.{shut, shuts}
 use Rattle.page_model.specs.Edges.{first, lower_edge, right_edge, second}
 use Rattle.page_model.specs.Page.{height, ink_at, params_at, plates, tint, width}
-use Rattle.page_model.specs.Planes.{plane_at, tints_of}
+use Rattle.page_model.specs.Planes.{plane_at}
 use Rattle.lists.specs.Words.{any_below}
 use Rattle.page_model.specs.Zones.{AreZones, zone_of}
 use Rattle.page_model.proofs.PageLemmas.{plane_of}
 use Rattle.page_model.proofs.ZoneLemmas.{zone_of-is}
-use Rattle.edge_rule.specs.Pairs.{LieIn, along, falls_by, pair_decides}
+use Rattle.edge_rule.specs.Pairs.{LieIn, falls_by, pair_decides}
 use Rattle.edge_rule.proofs.Sides.{first-lower, first-right, second-lower, second-right}
 
 twice : (a b c d : Bool) → (a && b && c && c && d && d) ≡ (c && (d && (a && b)))

@@ -6,6 +6,10 @@ use Rattle.page_model.specs.Density.{shut}
 use Rattle.page_model.specs.Page.{height, params_at, width}
 use Rattle.page_model.specs.Zones.{zone_of}
 
+-- how many samples are marked at once at most
+abbrev pub most_together : ℕ
+most_together = 1024
+
 -- the sample k columns to the right of p
 abbrev pub along : At → ℕ → At
 along p k = record { x = p.x + k; y = p.y }

@@ -1,7 +1,7 @@
 // The samples of a row that lie in one zone with their right and lower neighbours, many at a time.
 
 ghost use Rattle.std.specs.Prelude.{◌≡◌, ◌<◌, ◌≤◌, ◌+◌, ◌-◌, true, false, ℕ, if◌then◌else◌, length, slice_index, slice_index_or};
-ghost use Rattle.edge_rule.specs.Pairs.{LieIn};
+ghost use Rattle.edge_rule.specs.Pairs.{LieIn, most_together};
 ghost use Rattle.page_model.specs.Deciding.{lower_mark, mark, right_mark};
 
 use crate::pairs::decide_pairs;
@@ -52,11 +52,11 @@ fn plain_until(here: &[u8], below: &[u8], x: usize, most: usize) -> usize
     count
 }
 
-/// How many samples from x on lie in the zone of x, with the samples to their right and below them: at most 1024, and none
-/// where there is no row below.
+/// How many samples from x on lie in the zone of x, with the samples to their right and below them: at most as many as
+/// are marked at once, and none where there is no row below.
 pub fn plain_from(here: &[u8], below: &[u8], x: usize) -> usize
     requires { x < length here.now }
-    ensures fits { result ≤ 1024 }
+    ensures fits { result ≤ most_together }
     ensures inside { x + result < length here.now }
     ensures low { result ≤ length below.now - x }
     ensures here { (k : ℕ) → k ≤ result → slice_index here.now (x + k) ≡ slice_index here.now x }
@@ -113,7 +113,7 @@ fn find_lower(page: &Page, y: u32, zone: u32, x: u32, lower: &mut [bool], risen:
 /// Writes the marks of so many samples of row y, from x on.
 pub fn mark_plain(page: &Page, y: u32, zone: u32, x: u32, out: &mut [u8])
     requires lie { LieIn page.now y x (length out.old) zone }
-    requires few { length out.old ≤ 1024 }
+    requires few { length out.old ≤ most_together }
     ensures each { (k : ℕ) → k < length out.old → slice_index out.new k ≡ mark page.now y (x + k) }
     ensures len { length out.new ≡ length out.old }
 {

@@ -1,6 +1,7 @@
 ghost use Rattle.std.specs.Prelude.{◌≡◌, ◌<◌, ◌≤◌, ◌^◌};
 ghost use Rattle.page_model.specs.Density.{counts, density, weight};
 ghost use Rattle.page_model.specs.Page.{plates, InPage};
+ghost use Rattle.page_model.specs.Limits.{most_ink_density};
 
 use page_model::page::Page;
 use page_model::parts::{At, InkKind};
@@ -16,7 +17,7 @@ pub fn kind_counts(kind: InkKind) -> bool
 pub fn weight_of(page: &Page, c: u32) -> u32
     requires { c < plates page.now }
     ensures value { result ≡ weight page.now c }
-    ensures bound { result ≤ 100000 }
+    ensures bound { result ≤ most_ink_density }
 {
     let ink = page.ink(c);
     if kind_counts(ink.kind) {

@@ -17,10 +17,11 @@ fn falls_at(page: &Page, zone: u32, p: At, q: At, c: u32) -> bool
 {
     let here = page.tint(c, p.x, p.y);
     let there = page.tint(c, q.x, q.y);
-    let limit = u64::from(page.step_limit(zone, c));
-    kind_counts(page.ink(c).kind)
-        && there < here
-        && limit * u64::from(page.maxval()) <= u64::from(here - there) * 10_000
+    // most tints are the same on both sides, and the limit is sought by name
+    there < here
+        && kind_counts(page.ink(c).kind)
+        && u64::from(page.step_limit(zone, c)) * u64::from(page.maxval())
+            <= u64::from(here - there) * 10_000
 }
 
 fn some_falls(page: &Page, zone: u32, p: At, q: At) -> bool

@@ -53,3 +53,26 @@ most_reach = 256
 -- the rows of a band
 abbrev pub most_band_height : ℕ
 most_band_height = 4096
+
+-- the greatest doubled column: that of the last sample of the widest row, 2 * (most_side - 1)
+abbrev pub most_column : ℕ
+most_column = 32766
+
+-- a neutral density of 0.001, and one of 10, in ten-thousandths
+abbrev pub least_ink_density : ℕ
+least_ink_density = 10
+
+abbrev pub most_ink_density : ℕ
+most_ink_density = 100000
+
+-- a hundred points, in ten-thousandths
+abbrev pub most_trap_width : ℕ
+most_trap_width = 1000000
+
+-- the greatest factor of the width at black edges, 10 in ten-thousandths
+abbrev pub most_black_width : ℕ
+most_black_width = 100000
+
+-- the workers of a page
+abbrev pub most_workers : ℕ
+most_workers = 64

@@ -18,3 +18,9 @@ pub const MOST_MAXVAL: u32 = 65_535;
 
 /// Half-samples that a trap may reach.
 pub const MOST_REACH: u32 = 256;
+
+/// Rows of a band.
+pub const MOST_BAND_HEIGHT: u32 = 4_096;
+
+/// Workers of a page.
+pub const MOST_WORKERS: u32 = 64;

@@ -1,5 +1,6 @@
-ghost use Rattle.std.specs.Prelude.{◌≡◌, ◌+◌, ◌<◌, ◌≤◌, ◌^◌};
+ghost use Rattle.std.specs.Prelude.{◌≡◌, ◌+◌, ◌<◌, ◌^◌, ◌*◌};
 ghost use Rattle.page_model.specs.Edges.{first, second, on_first_side, own, across, d2};
+ghost use Rattle.page_model.specs.Limits.{most_side};
 ghost use Rattle.lists.specs.Words.{gap, square};
 
 use crate::parts::{At, EdgeAt};
@@ -16,8 +17,8 @@ pub fn first_of(e: EdgeAt) -> At
 
 /// The edge's right or lower sample.
 pub fn second_of(e: EdgeAt) -> At
-    requires x { e.x2 < 2 ^ 15 }
-    requires y { e.y2 < 2 ^ 15 }
+    requires x { e.x2 < 2 * most_side }
+    requires y { e.y2 < 2 * most_side }
     ensures { result ≡ second e }
 {
     At {
@@ -27,8 +28,8 @@ pub fn second_of(e: EdgeAt) -> At
 }
 
 fn is_on_first_side(p: At, e: EdgeAt) -> bool
-    requires x { p.x < 2 ^ 14 }
-    requires y { p.y < 2 ^ 14 }
+    requires x { p.x < most_side }
+    requires y { p.y < most_side }
     ensures { result ≡ on_first_side p e }
 {
     if e.x2 % 2 == 1 {
@@ -40,10 +41,10 @@ fn is_on_first_side(p: At, e: EdgeAt) -> bool
 
 /// The edge's sample on p's side.
 pub fn own_of(p: At, e: EdgeAt) -> At
-    requires px { p.x < 2 ^ 14 }
-    requires py { p.y < 2 ^ 14 }
-    requires ex { e.x2 < 2 ^ 15 }
-    requires ey { e.y2 < 2 ^ 15 }
+    requires px { p.x < most_side }
+    requires py { p.y < most_side }
+    requires ex { e.x2 < 2 * most_side }
+    requires ey { e.y2 < 2 * most_side }
     ensures { result ≡ own p e }
 {
     if is_on_first_side(p, e) {
@@ -55,10 +56,10 @@ pub fn own_of(p: At, e: EdgeAt) -> At
 
 /// The edge's sample across from p.
 pub fn across_of(p: At, e: EdgeAt) -> At
-    requires px { p.x < 2 ^ 14 }
-    requires py { p.y < 2 ^ 14 }
-    requires ex { e.x2 < 2 ^ 15 }
-    requires ey { e.y2 < 2 ^ 15 }
+    requires px { p.x < most_side }
+    requires py { p.y < most_side }
+    requires ex { e.x2 < 2 * most_side }
+    requires ey { e.y2 < 2 * most_side }
     ensures { result ≡ across p e }
 {
     if is_on_first_side(p, e) {
@@ -69,8 +70,8 @@ pub fn across_of(p: At, e: EdgeAt) -> At
 }
 
 fn squared(a: u32, b: u32) -> u32
-    requires a { a < 2 ^ 15 }
-    requires b { b < 2 ^ 15 }
+    requires a { a < 2 * most_side }
+    requires b { b < 2 * most_side }
     ensures value { result ≡ square (gap a b) }
     ensures bound { result < 2 ^ 30 }
 {
@@ -80,10 +81,10 @@ fn squared(a: u32, b: u32) -> u32
 
 /// The squared distance of p's middle from the edge, in half-samples.
 pub fn squared_distance(p: At, e: EdgeAt) -> u32
-    requires px { p.x < 2 ^ 14 }
-    requires py { p.y < 2 ^ 14 }
-    requires ex { e.x2 < 2 ^ 15 }
-    requires ey { e.y2 < 2 ^ 15 }
+    requires px { p.x < most_side }
+    requires py { p.y < most_side }
+    requires ex { e.x2 < 2 * most_side }
+    requires ey { e.y2 < 2 * most_side }
     ensures { result ≡ d2 p e }
 {
     squared(e.x2, 2 * p.x) + squared(e.y2, 2 * p.y)

@@ -2,7 +2,7 @@ ghost use Rattle.std.specs.Prelude.{◌≡◌, ◌<◌, ◌≤◌, length, find,
 ghost use Rattle.std.specs.Str.{bytes_eq};
 ghost use Rattle.page_model.specs.Conditions.{IsParts, IsPage};
 ghost use Rattle.page_model.specs.Faults.{difference, too_many, too_wide, page_fault};
-ghost use Rattle.page_model.specs.Limits.{most_reach};
+ghost use Rattle.page_model.specs.Limits.{most_plates, most_reach};
 ghost use Rattle.page_model.specs.Page.{plates, width, height, maxval, tint, ink_at, params_at, path_at, InPage, named_step, step_limit};
 ghost use Rattle.page_model.specs.Reach.{page_reach};
 ghost use Rattle.lists.specs.Words.{or_else, first_some};
@@ -66,7 +66,7 @@ fn difference_at(parts: &PageParts, c: u32) -> Option<PageFault>
 
 fn first_difference(parts: &PageParts) -> Option<PageFault>
     requires some { 1 ≤ plates parts.now }
-    requires few { plates parts.now ≤ 16 }
+    requires few { plates parts.now ≤ most_plates }
     ensures { result ≡ first_some (difference parts.now) (plates parts.now) }
 {
     let mut found = None;

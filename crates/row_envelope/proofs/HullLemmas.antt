@@ -2,8 +2,8 @@ use Rattle.std.proofs.Common.{◌≡◌, ℕ, zero, suc, ◌+◌, ◌*◌, ◌-�
 use Rattle.std.proofs.lemmas.Bool.{cases_lt, cases_eq}
 use Rattle.std.proofs.lemmas.List.{get_or-set_same, get_or-set_other, get_or_read}
 use Rattle.lists.specs.Words.{gap, square}
-use Rattle.page_model.specs.Arms.{Bow, LeftHolds}
-use Rattle.row_envelope.specs.Envelope.{bow_at, bow_d2, arm_d2, every, nearest, no_bow, Rising}
+use Rattle.page_model.specs.Arms.{ArmModel, LeftHolds}
+use Rattle.row_envelope.specs.Envelope.{arm_at, d2_of_arm, arm_d2, every, nearest, no_arm, Rising}
 use Rattle.lists.proofs.FirstLeast.{only, beaten, kept, first_least-from, first_least-none}
 use Rattle.row_envelope.specs.Hull.{IsStop, Wins, InEntry, IsHull, IsSettled}
 
@@ -21,19 +21,19 @@ multiplied : (u v g h x m n : ℕ) → m + 2 * x * u ≡ u * u + x * x → n + 2
 multiplied u v g h x m n em en = (λ l. omega (arith, em, en, l), λ l. omega (arith, em, en, l))
 
 -- the left arm holds where it is at most as far
-LeftHolds-far : (a b : Bow) (x : ℕ) → LeftHolds a b x ↔ (bow_d2 a x ≤ bow_d2 b x)
+LeftHolds-far : (a b : ArmModel) (x : ℕ) → LeftHolds a b x ↔ (d2_of_arm a x ≤ d2_of_arm b x)
 LeftHolds-far a b x = multiplied a.column b.column a.square b.square x _ _ (square_of_gap a.column x) (square_of_gap b.column x)
 
-far_at : (arms : List Bow) (x k : ℕ) (b : Bow) → bow_at arms k ≡ b → arm_d2 arms x k ≡ bow_d2 b x
+far_at : (arms : List ArmModel) (x k : ℕ) (b : ArmModel) → arm_at arms k ≡ b → arm_d2 arms x k ≡ d2_of_arm b x
 unfolding arm_d2
-far_at arms x k b e = ap (λ (c : Bow). bow_d2 c x) e
+far_at arms x k b e = ap (λ (c : ArmModel). d2_of_arm c x) e
 
 -- below the stop the top is at most as far as the new arm
-near_below : (arms : List Bow) (last from p i x : ℕ) (a b : Bow) → bow_at arms p ≡ a → bow_at arms i ≡ b → IsStop a b last from → x ≤ last → x < from → arm_d2 arms x p ≤ arm_d2 arms x i
+near_below : (arms : List ArmModel) (last from p i x : ℕ) (a b : ArmModel) → arm_at arms p ≡ a → arm_at arms i ≡ b → IsStop a b last from → x ≤ last → x < from → arm_d2 arms x p ≤ arm_d2 arms x i
 near_below arms last from p i x a b ea eb stop fits below = rw (far_at arms x p a ea, far_at arms x i b eb) ((LeftHolds-far a b x).0 ((stop.splits x fits).1 below))
 
 -- from the stop on it is farther
-far_from : (arms : List Bow) (last from p i x : ℕ) (a b : Bow) → bow_at arms p ≡ a → bow_at arms i ≡ b → IsStop a b last from → x ≤ last → from ≤ x → arm_d2 arms x i < arm_d2 arms x p
+far_from : (arms : List ArmModel) (last from p i x : ℕ) (a b : ArmModel) → arm_at arms p ≡ a → arm_at arms i ≡ b → IsStop a b last from → x ≤ last → from ≤ x → arm_d2 arms x i < arm_d2 arms x p
 far_from arms last from p i x a b ea eb stop fits above = elim (cases_lt (arm_d2 arms x i) (arm_d2 arms x p)) [
   | inl l ↦ l
   | inr le ↦ (let holds = (LeftHolds-far a b x).1 (rw (far_at arms x p a ea, far_at arms x i b eb) at le) in
@@ -42,7 +42,7 @@ far_from arms last from p i x a b ea eb stop fits above = elim (cases_lt (arm_d2
 ]
 
 -- the top that is dropped: from its start on the new arm wins
-pub dropped : (arms : List Bow) (i last : ℕ) (places starts : List ℕ) (held left from : ℕ) (a b : Bow) → IsHull arms i last places starts held → 0 < left → left ≤ held → bow_at arms (slice_index places (left - 1)) ≡ a → bow_at arms i ≡ b → IsStop a b last from → from ≤ slice_index starts (left - 1) → ((x2 : ℕ) → left < held → slice_index starts left ≤ x2 → x2 ≤ last → Wins arms (suc i) x2 i) → (x2 : ℕ) → slice_index starts (left - 1) ≤ x2 → x2 ≤ last → Wins arms (suc i) x2 i
+pub dropped : (arms : List ArmModel) (i last : ℕ) (places starts : List ℕ) (held left from : ℕ) (a b : ArmModel) → IsHull arms i last places starts held → 0 < left → left ≤ held → arm_at arms (slice_index places (left - 1)) ≡ a → arm_at arms i ≡ b → IsStop a b last from → from ≤ slice_index starts (left - 1) → ((x2 : ℕ) → left < held → slice_index starts left ≤ x2 → x2 ≤ last → Wins arms (suc i) x2 i) → (x2 : ℕ) → slice_index starts (left - 1) ≤ x2 → x2 ≤ last → Wins arms (suc i) x2 i
 dropped arms i last places starts held left from a b hull some fewer ea eb stop low beyond x2 begun fits = elim (cases_lt left held) [
   | inl more ↦ elim (cases_lt x2 (slice_index starts left)) [
     | inl before ↦ by_top (record { at_start = begun; before_next = λ _. (let e : left - 1 + 1 ≡ left = omega arith in rw e before); fits = fits })
@@ -54,7 +54,7 @@ dropped arms i last places starts held left from a b hull some fewer ea eb stop 
   by_top entry = beaten (arm_d2 arms x2) every i (slice_index places (left - 1)) (hull.wins (left - 1) x2 (omega arith) entry) refl (far_from arms last from _ i x2 a b ea eb stop fits (omega arith))
 
 -- where the hull is empty, there is no arm before
-pub emptied : (arms : List Bow) (i last : ℕ) (places starts : List ℕ) (held left : ℕ) → IsHull arms i last places starts held → left ≡ 0 → ((x2 : ℕ) → left < held → slice_index starts left ≤ x2 → x2 ≤ last → Wins arms (suc i) x2 i) → IsSettled arms i last places starts left 0
+pub emptied : (arms : List ArmModel) (i last : ℕ) (places starts : List ℕ) (held left : ℕ) → IsHull arms i last places starts held → left ≡ 0 → ((x2 : ℕ) → left < held → slice_index starts left ≤ x2 → x2 ≤ last → Wins arms (suc i) x2 i) → IsSettled arms i last places starts left 0
 emptied arms i last places starts held left hull none beyond = record {
   within = omega arith;
   begin = λ _. refl;
@@ -70,7 +70,7 @@ emptied arms i last places starts held left hull none beyond = record {
   first_arm bare = elim (cases_lt 0 i) [ inl l ↦ absurd (omega (arith, hull.some l, bare)) | inr z ↦ omega arith ]
 
 -- the top stays, up to where the new arm begins
-pub stopped : (arms : List Bow) (i last : ℕ) (places starts : List ℕ) (held left from : ℕ) (a b : Bow) → IsHull arms i last places starts held → 0 < left → left ≤ held → bow_at arms (slice_index places (left - 1)) ≡ a → bow_at arms i ≡ b → IsStop a b last from → slice_index starts (left - 1) < from → ((x2 : ℕ) → left < held → slice_index starts left ≤ x2 → x2 ≤ last → Wins arms (suc i) x2 i) → IsSettled arms i last places starts left from
+pub stopped : (arms : List ArmModel) (i last : ℕ) (places starts : List ℕ) (held left from : ℕ) (a b : ArmModel) → IsHull arms i last places starts held → 0 < left → left ≤ held → arm_at arms (slice_index places (left - 1)) ≡ a → arm_at arms i ≡ b → IsStop a b last from → slice_index starts (left - 1) < from → ((x2 : ℕ) → left < held → slice_index starts left ≤ x2 → x2 ≤ last → Wins arms (suc i) x2 i) → IsSettled arms i last places starts left from
 stopped arms i last places starts held left from a b hull some fewer ea eb stop high beyond = record {
   within = stop.within;
   begin = λ e. absurd (omega (arith, e));
@@ -113,7 +113,7 @@ stopped arms i last places starts held left from a b hull some fewer ea eb stop 
       kept (arm_d2 arms x2) every i (slice_index places k) won (λ _. omega (arith, best, near))
 
 -- the new arm joins the entries that are left
-pub joined : (arms : List Bow) (i last : ℕ) (places starts : List ℕ) (held left from : ℕ) → IsHull arms i last places starts held → left ≤ held → left < length places → left < length starts → IsSettled arms i last places starts left from → IsHull arms (i + 1) last (slice_set places left i) (slice_set starts left from) (left + 1)
+pub joined : (arms : List ArmModel) (i last : ℕ) (places starts : List ℕ) (held left from : ℕ) → IsHull arms i last places starts held → left ≤ held → left < length places → left < length starts → IsSettled arms i last places starts left from → IsHull arms (i + 1) last (slice_set places left i) (slice_set starts left from) (left + 1)
 joined arms i last places starts held left from hull fewer room_p room_s settled = record {
   few = omega (arith, hull.few);
   some = λ _. omega arith;
@@ -164,31 +164,31 @@ joined arms i last places starts held left from hull fewer room_p room_s settled
       rw place at wins
 
 -- the entry that has a sample's coordinate has the nearest arm
-pub nearest_by_entry : (arms : List Bow) (last : ℕ) (places starts : List ℕ) (held k x : ℕ) → IsHull arms (length arms) last places starts held → k < held → InEntry starts held last k (2 * x) → Some (slice_index places k) ≡ nearest arms x
+pub nearest_by_entry : (arms : List ArmModel) (last : ℕ) (places starts : List ℕ) (held k x : ℕ) → IsHull arms (length arms) last places starts held → k < held → InEntry starts held last k (2 * x) → Some (slice_index places k) ≡ nearest arms x
 unfolding nearest
 nearest_by_entry arms last places starts held k x hull within entry = sym (first_least-from (arm_d2 arms (2 * x)) every (length arms) (slice_index places k) (hull.wins k (2 * x) within entry))
 
-pub nearest_none : (arms : List Bow) (x : ℕ) → length arms ≡ 0 → None ≡ nearest arms x
+pub nearest_none : (arms : List ArmModel) (x : ℕ) → length arms ≡ 0 → None ≡ nearest arms x
 unfolding nearest
 nearest_none arms x none = sym (first_least-none (arm_d2 arms (2 * x)) every (length arms) (λ j l. absurd (omega (arith, l))))
 
 -- rising arms: what two reads give
-pub rising_at : (arms : List Bow) (p i : ℕ) (a b : Bow) → Rising arms → p < i → i < length arms → a ≡ slice_index_or arms p a → b ≡ slice_index_or arms i b → a.column < b.column
+pub rising_at : (arms : List ArmModel) (p i : ℕ) (a b : ArmModel) → Rising arms → p < i → i < length arms → a ≡ slice_index_or arms p a → b ≡ slice_index_or arms i b → a.column < b.column
 rising_at arms p i a b rising below within at_p at_i =
     let rises = rising p i b below within in
     rw (get_or_read arms p a (omega arith) at_p b) (rw (← at_i) at rises)
 
-pub bow_read : (arms : List Bow) (p : ℕ) (a : Bow) → p < length arms → a ≡ slice_index_or arms p a → bow_at arms p ≡ a
-bow_read arms p a within at_p = sym (get_or_read arms p a within at_p no_bow)
+pub arm_read : (arms : List ArmModel) (p : ℕ) (a : ArmModel) → p < length arms → a ≡ slice_index_or arms p a → arm_at arms p ≡ a
+arm_read arms p a within at_p = sym (get_or_read arms p a within at_p no_arm)
 
-place_at_most_column : (arms : List Bow) → Rising arms → (k : ℕ) → k < length arms → k ≤ (bow_at arms k).column
+place_at_most_column : (arms : List ArmModel) → Rising arms → (k : ℕ) → k < length arms → k ≤ (arm_at arms k).column
 place_at_most_column arms rising zero within = omega arith
 place_at_most_column arms rising (suc k) within =
-    let rises = rising k (suc k) no_bow (omega arith) within in
+    let rises = rising k (suc k) no_arm (omega arith) within in
     omega (arith, place_at_most_column arms rising k (omega arith), rises)
 
 -- there are at most as many arms as doubled columns
-pub few_arms : (arms : List Bow) (width : ℕ) → 1 ≤ width → Rising arms → ((k : ℕ) → k < length arms → (bow_at arms k).column + 2 ≤ 2 * width) → length arms + 1 ≤ 2 * width
+pub few_arms : (arms : List ArmModel) (width : ℕ) → 1 ≤ width → Rising arms → ((k : ℕ) → k < length arms → (arm_at arms k).column + 2 ≤ 2 * width) → length arms + 1 ≤ 2 * width
 few_arms arms width some rising inside = elim (cases_lt 0 (length arms)) [
   | inl l ↦ omega (arith, inside (length arms - 1) (omega arith), place_at_most_column arms rising (length arms - 1) (omega arith))
   | inr z ↦ omega arith

@@ -1,15 +1,15 @@
 use Rattle.std.specs.Prelude.{◌≡◌, ℕ, suc, ◌+◌, ◌-◌, ◌<◌, ◌≤◌, ◌↔◌, List, slice_index}
-use Rattle.page_model.specs.Arms.{Bow, LeftHolds}
+use Rattle.page_model.specs.Arms.{ArmModel, LeftHolds}
 use Rattle.lists.specs.Words.{IsFirstLeast}
 use Rattle.row_envelope.specs.Envelope.{arm_d2, every}
 
 -- of the doubled coordinates up to last the left arm holds exactly those below the stop
-pub record IsStop (a b : Bow) (last stop : ℕ) : Type 0 where
+pub record IsStop (a b : ArmModel) (last stop : ℕ) : Type 0 where
   pub within : stop ≤ last + 1
   pub splits : (x2 : ℕ) → x2 ≤ last → LeftHolds a b x2 ↔ (x2 < stop)
 
 -- arm k is the nearest of the first n at x2
-abbrev pub Wins : List Bow → ℕ → ℕ → ℕ → Type 0
+abbrev pub Wins : List ArmModel → ℕ → ℕ → ℕ → Type 0
 Wins arms n x2 k = IsFirstLeast (arm_d2 arms x2) every n k
 
 -- the hull's entry k has the coordinates from its own start to the next one's
@@ -19,7 +19,7 @@ pub record InEntry (starts : List ℕ) (held last k x2 : ℕ) : Type 0 where
   pub fits : x2 ≤ last
 
 -- the hull of the first n arms
-pub record IsHull (arms : List Bow) (n last : ℕ) (places starts : List ℕ) (held : ℕ) : Type 0 where
+pub record IsHull (arms : List ArmModel) (n last : ℕ) (places starts : List ℕ) (held : ℕ) : Type 0 where
   pub few : held ≤ n
   pub some : 0 < n → 0 < held
   pub below : (k : ℕ) → k < held → slice_index places k < n
@@ -29,7 +29,7 @@ pub record IsHull (arms : List Bow) (n last : ℕ) (places starts : List ℕ) (h
   pub wins : (k x2 : ℕ) → k < held → InEntry starts held last k x2 → Wins arms n x2 (slice_index places k)
 
 -- after the entries from `left` on were dropped, the new arm i begins at `from`
-pub record IsSettled (arms : List Bow) (i last : ℕ) (places starts : List ℕ) (left from : ℕ) : Type 0 where
+pub record IsSettled (arms : List ArmModel) (i last : ℕ) (places starts : List ℕ) (left from : ℕ) : Type 0 where
   pub within : from ≤ last + 1
   pub begin : left ≡ 0 → from ≡ 0
   pub later : 0 < left → slice_index starts (left - 1) ≤ from

@@ -3,6 +3,7 @@
 ghost use Rattle.std.specs.Prelude.{◌≡◌, ◌≤◌, ◌<◌, ◌+◌, ◌*◌, ◌-◌, length, vec_len, IfOk};
 ghost use Rattle.row_envelope.specs.Envelope.{Rising};
 ghost use Rattle.row_envelope.specs.Hull.{IsStop, IsHull, IsSettled};
+ghost use Rattle.page_model.specs.Limits.{most_column, most_side};
 
 use page_model::arms::Arm;
 use page_model::parts::OutOfMemory;
@@ -30,7 +31,7 @@ impl Model for HullBuf {
 
 /// So many zeros.
 fn zeros(alloc: Global, count: usize) -> Result<Vec<u32>, OutOfMemory>
-    requires { count ≤ 32767 }
+    requires { count ≤ most_column + 1 }
     ensures { IfOk result (λ items. vec_len items ≡ count) }
 {
     match vec![in alloc; 0; count] {
@@ -43,7 +44,7 @@ impl HullBuf {
     /// Room for a row of this width, which contracts see as its number of doubled columns.
     pub fn new(alloc: Global, width: u32) -> Result<HullBuf, OutOfMemory>
         requires some { 1 ≤ width }
-        requires narrow { width ≤ 16384 }
+        requires narrow { width ≤ most_side }
         ensures { IfOk result (λ h. h ≡ 2 * width - 1) }
     {
         let columns = 2 * width as usize - 1;
@@ -57,7 +58,7 @@ impl HullBuf {
 /// The number of doubled coordinates up to `last` at which the left arm is as near as the right one.
 fn stop<L: Ledger>(left: &Arm, right: &Arm, last: u32, steps: &mut Steps<L>) -> u32
     requires order { left.now.column < right.now.column }
-    requires last { last ≤ 32766 }
+    requires last { last ≤ most_column }
     ensures stop { IsStop left.now right.now last result }
     ensures step { steps.new ≡ steps.old + 1 }
 {
@@ -83,7 +84,7 @@ fn settle<L: Ledger>(
 ) -> Joint
     requires order { Rising arms.now }
     requires i { i < length arms.now }
-    requires last { last ≤ 32766 }
+    requires last { last ≤ most_column }
     requires places { held ≤ length places.now }
     requires starts { held ≤ length starts.now }
     requires hull { IsHull arms.now i last places.now starts.now held }
@@ -112,8 +113,8 @@ pub(crate) fn raised<L: Ledger>(
     steps: &mut Steps<L>,
 ) -> usize
     requires order { Rising arms.now }
-    requires last { last ≤ 32766 }
-    requires few { length arms.now ≤ 32767 }
+    requires last { last ≤ most_column }
+    requires few { length arms.now ≤ most_column + 1 }
     requires places { length arms.now ≤ length places.old }
     requires starts { length arms.now ≤ length starts.old }
     ensures places { length places.new ≡ length places.old }

@@ -1,6 +1,7 @@
 ghost use Rattle.std.specs.Prelude.{◌≡◌, ◌≤◌, ◌<◌, ◌+◌, ◌*◌, ◌-◌, length, slice_index_or, ℕ, None};
-ghost use Rattle.row_envelope.specs.Envelope.{Rising, bow_at, nearest};
+ghost use Rattle.row_envelope.specs.Envelope.{Rising, arm_at, nearest};
 ghost use Rattle.row_envelope.specs.Hull.{IsHull};
+ghost use Rattle.page_model.specs.Limits.{most_side};
 
 use crate::hull::{HullBuf, raised};
 use page_model::arms::Arm;
@@ -19,7 +20,7 @@ fn spread(
     requires some { 0 < held }
     requires places { held ≤ length places.now }
     requires starts { held ≤ length starts.now }
-    requires narrow { length out.old ≤ 16384 }
+    requires narrow { length out.old ≤ most_side }
     requires last { last + 2 ≡ 2 * length out.old }
     requires hull { IsHull arms.now (length arms.now) last places.now starts.now held }
     ensures len { length out.new ≡ length out.old }
@@ -54,9 +55,9 @@ pub fn nearest_row<L: Ledger>(
     steps: &mut Steps<L>,
 )
     requires some { 1 ≤ width }
-    requires narrow { width ≤ 16384 }
+    requires narrow { width ≤ most_side }
     requires order { Rising arms.now }
-    requires inside { (k : ℕ) → k < length arms.now → (bow_at arms.now k).column + 2 ≤ 2 * width }
+    requires inside { (k : ℕ) → k < length arms.now → (arm_at arms.now k).column + 2 ≤ 2 * width }
     requires hull { hull.old ≡ 2 * width - 1 }
     requires out { length out.old ≡ width }
     ensures len { length out.new ≡ width }

@@ -1,5 +1,5 @@
-ghost use Rattle.std.specs.Prelude.{◌≡◌, ◌≤◌, ◌<◌, ◌*◌, ◌+◌, ◌-◌, ℕ, length};
-ghost use Rattle.row_envelope.specs.Envelope.{Rising, bow_at};
+ghost use Rattle.std.specs.Prelude.{◌≡◌, ◌≤◌, ◌<◌, ◌+◌, ℕ, length};
+ghost use Rattle.row_envelope.specs.Envelope.{Rising, arm_at};
 
 use crate::{HullBuf, nearest_row};
 use page_model::arms::Arm;
@@ -11,7 +11,7 @@ use std::test::Fail;
 /// The places of the nearest arms of a row of three samples.
 fn places<L: Ledger>(arms: &[Arm], hull: &mut HullBuf, blank: Blank) -> [Option<u32>; 3]
     requires order { Rising arms.now }
-    requires inside { (k : ℕ) → k < length arms.now → (bow_at arms.now k).column + 2 ≤ 6 }
+    requires inside { (k : ℕ) → k < length arms.now → (arm_at arms.now k).column + 2 ≤ 6 }
     requires hull { hull.old ≡ 5 }
     requires name { blank.name ≡ L.name }
     requires parts { blank.parts ≡ L.parts }

@@ -6,6 +6,7 @@ ghost use Rattle.page_model.specs.Page.{params_at};
 ghost use Rattle.page_model.specs.Tints.{full_density, new_by};
 ghost use Rattle.page_model.specs.Trapped.{trapped};
 ghost use Rattle.page_model.specs.Zones.{zone_of};
+ghost use Rattle.page_model.specs.Limits.{scale};
 ghost use Rattle.trap_color.specs.Opaque.{HasNoOpaque};
 
 use page_model::laws::full_density_law;
@@ -16,7 +17,7 @@ use page_model::parts::{At, EdgeAt};
 pub fn density_law(page: &Page, p: At, e: EdgeAt)
     requires inks { HasNoOpaque page.now }
     requires trapped { trapped page.now p e ≡ true }
-    ensures { density_of page.now (new_by page.now p e) * 10000 ≤ density page.now p * 10000 + (params_at page.now (zone_of page.now p)).trap_color_scaling * (full_density page.now p e - density page.now p) }
+    ensures { density_of page.now (new_by page.now p e) * scale ≤ density page.now p * scale + (params_at page.now (zone_of page.now p)).trap_color_scaling * (full_density page.now p e - density page.now p) }
 {
     full_density_law(page, p, e);
 }

@@ -1,6 +1,6 @@
 ghost use Rattle.std.specs.Prelude.{◌≡◌, ◌+◌, ◌-◌, ◌*◌, ◌/◌, ◌^◌, ◌<◌, ◌≤◌, nat_le, if◌then◌else◌};
 ghost use Rattle.lists.specs.Words.{square};
-ghost use Rattle.page_model.specs.Limits.{half_sample, scale};
+ghost use Rattle.page_model.specs.Limits.{half_sample, most_black_width, most_resolution, most_trap_width, scale};
 
 use page_model::bounds::HALF_SAMPLE;
 
@@ -20,9 +20,9 @@ pub fn scaled_tint(full: u16, here: u64, there: u64, scaling: u32) -> u16
 /// Whether the squared distance is at most the squared width: the trap width by the factor, half of it where slid. Both
 /// are compared as they are, without cutting the width to whole half-samples.
 pub fn is_near(d2: u32, slid: bool, width: u32, factor: u32, resolution: u32) -> bool
-    requires width { width ≤ 1000000 }
-    requires factor { factor ≤ 100000 }
-    requires resolution { resolution ≤ 10000 }
+    requires width { width ≤ most_trap_width }
+    requires factor { factor ≤ most_black_width }
+    requires resolution { resolution ≤ most_resolution }
     ensures { result ≡ nat_le (d2 * square (half_sample * (if slid then 2 else 1))) (square (width * factor * resolution)) }
 {
     let unit = if slid { 2 * HALF_SAMPLE } else { HALF_SAMPLE };

@@ -17,26 +17,14 @@ use page_model::edges::squared_distance;
 use page_model::page::Page;
 use page_model::parts::{At, CountList, Counts, EdgeAt, OutOfMemory, Plane, PlaneList};
 use std::alloc::Global;
-use std::marker::Brand;
-use std::sync::ledger::{Blank, Ledger};
 use trap_color::trap_sample;
-
-fn zones_with<L: Ledger>(alloc: Global, page: &Page, blank: Blank) -> Result<Vec<u8>, OutOfMemory>
-    requires name { blank.name ≡ L.name }
-    requires parts { blank.parts ≡ L.parts }
-    requires some { 0 < L.parts }
-    ensures { IfOk result (λ zones. zones.items ≡ sample_zones page.now) }
-{
-    let mut room = Workspace::<L>::new(alloc, page, blank)?;
-    zones_of(alloc, page, &mut room)
-}
 
 /// The zone of each sample, row by row.
 pub fn zones_alone(alloc: Global, page: &Page) -> Result<Vec<u8>, OutOfMemory>
     ensures { IfOk result (λ zones. zones.items ≡ sample_zones page.now) }
 {
-    let blank = Blank::new(1);
-    zones_with::<Brand>(alloc, page, blank)
+    let mut room = Workspace::new(alloc, page)?;
+    zones_of(alloc, page, &mut room)
 }
 
 /// Adds the deciding edges of a column of the doubled grid.

@@ -17,7 +17,6 @@ use band_values::{Rows, Workspace, is_quiet, make_answers, make_row, row_of};
 use page_model::page::Page;
 use page_model::parts::OutOfMemory;
 use std::alloc::Global;
-use std::sync::ledger::Ledger;
 
 /// How many rows a strip has at most.
 pub const STRIP: u32 = 64;
@@ -32,10 +31,10 @@ pub struct Bench {
 }
 
 /// The bench of a page.
-pub fn bench_of<L: Ledger>(
+pub fn bench_of(
     alloc: Global,
     page: &Page,
-    room: &mut Workspace<L>,
+    room: &mut Workspace,
 ) -> Result<Bench, OutOfMemory>
     requires { Serves room.old page.now }
     ensures bench { IfOk result (λ bench. IsBench page.now bench) }
@@ -48,12 +47,12 @@ pub fn bench_of<L: Ledger>(
 }
 
 /// Traps row y, whose column answers these are. The tints of a quiet row are neither made nor compared.
-fn trap_row<L: Ledger>(
+fn trap_row(
     page: &Page,
     y: u32,
     codes: &[u16],
     bench: &mut Bench,
-    room: &mut Workspace<L>,
+    room: &mut Workspace,
     outcome: &mut Outcome,
 )
     requires line { y < height page.now }
@@ -76,12 +75,12 @@ fn trap_row<L: Ledger>(
 }
 
 /// Traps these rows, whose column answers these are.
-fn trap_rows<L: Ledger>(
+fn trap_rows(
     page: &Page,
     rows: Rows,
     codes: &[u16],
     bench: &mut Bench,
-    room: &mut Workspace<L>,
+    room: &mut Workspace,
     outcome: &mut Outcome,
 )
     requires inside { rows.first + rows.count ≤ height page.now }
@@ -101,12 +100,12 @@ fn trap_rows<L: Ledger>(
 }
 
 /// Traps these rows. The codes have a place for each doubled column of each of them.
-fn trap_strip<L: Ledger>(
+fn trap_strip(
     page: &Page,
     rows: Rows,
     codes: &mut [u16],
     bench: &mut Bench,
-    room: &mut Workspace<L>,
+    room: &mut Workspace,
     outcome: &mut Outcome,
 )
     requires some { 1 ≤ rows.count }
@@ -128,16 +127,16 @@ fn trap_strip<L: Ledger>(
         count: to - first,
     };
     let near = marks_between(page, &bench.marks, held);
-    make_answers(page, rows, held, near, codes, room);
+    make_answers(page, rows, held, near, codes);
     trap_rows(page, rows, codes, bench, room, outcome);
 }
 
 /// Traps the page, strip by strip. The codes have a place for each doubled column of each row of a strip.
-pub fn trap_strips<L: Ledger>(
+pub fn trap_strips(
     page: &Page,
     codes: &mut [u16],
     bench: &mut Bench,
-    room: &mut Workspace<L>,
+    room: &mut Workspace,
     outcome: &mut Outcome,
 )
     requires codes { length codes.old ≡ 64 * doubled page.now }

@@ -9,10 +9,9 @@ use band_values::{Rows, Workspace, make_zones};
 use page_model::page::Page;
 use page_model::parts::OutOfMemory;
 use std::alloc::Global;
-use std::sync::ledger::Ledger;
 
 /// Writes the zone of each sample, row by row.
-fn fill_zones<L: Ledger>(page: &Page, out: &mut [u8], room: &mut Workspace<L>)
+fn fill_zones(page: &Page, out: &mut [u8], room: &mut Workspace)
     requires out { length out.old ≡ samples page.now }
     requires room { Serves room.old page.now }
     ensures zones { out.new ≡ sample_zones page.now }
@@ -23,11 +22,7 @@ fn fill_zones<L: Ledger>(page: &Page, out: &mut [u8], room: &mut Workspace<L>)
 }
 
 /// The zone of each sample, row by row.
-pub fn zones_of<L: Ledger>(
-    alloc: Global,
-    page: &Page,
-    room: &mut Workspace<L>,
-) -> Result<Vec<u8>, OutOfMemory>
+pub fn zones_of(alloc: Global, page: &Page, room: &mut Workspace) -> Result<Vec<u8>, OutOfMemory>
     requires { Serves room.old page.now }
     ensures zones { IfOk result (λ zones. zones.items ≡ sample_zones page.now) }
     ensures room { room.new ≡ room.old }

@@ -90,7 +90,7 @@ past-step xs x u h l e = let back : x - 1 + 1 ≡ x = omega (arith, h) in rw (ba
     swapped a b = omega arith
 
 -- a sum that goes on fits
-pub past-fits : (xs : List ℕ) (x u : ℕ) → x < length xs → u ≡ sum (drop (x + 1) xs) → sum xs ≤ 5000 → Fits w32 (u + get_or xs x 0)
+pub past-fits : (xs : List ℕ) (x u : ℕ) → x < length xs → u ≡ sum (drop (x + 1) xs) → sum xs ≤ 4096 → Fits w32 (u + get_or xs x 0)
 past-fits xs x u l e h = omega (arith, sum-drop-step xs x l, sum-drop-le xs x, e, h)
 
 other-place : (out : List ℕ) (i k z : ℕ) → (i ≡ k → ⊥) → get_or (set out i z) k 0 ≡ get_or out k 0

@@ -1,4 +1,5 @@
 use Rattle.std.specs.Prelude.{ℕ, ◌+◌, ◌*◌, ◌≤◌, ℤ, nat_abs, pos}
+use Rattle.page_model.specs.Limits.{most_coordinate, most_resolution, scale}
 use Rattle.page_model.specs.Zones.{Point}
 use Rattle.zone_map.specs.declared.crossings.Spot.{Spot}
 
@@ -7,9 +8,13 @@ point s = record { px = s.x; py = s.y }
 
 -- the middle of sample x in the row at height y
 abbrev pub middle : ℕ → ℤ → Point
-middle x y = record { px = pos ((2 * x + 1) * 360000); py = y }
+middle x y = record { px = pos ((2 * x + 1) * (36 * scale)); py = y }
 
--- within the range of vertices, a million points at 10,000 pixels an inch
+-- how far a spot may stand from the lower left corner: as far as a vertex, at the most pixels an inch
+abbrev pub furthest : ℕ
+furthest = most_coordinate * most_resolution
+
+-- within the range of vertices
 pub record IsNear (s : Spot) : Type 0 where
-  pub x_near : nat_abs s.x ≤ 100000000000000
-  pub y_near : nat_abs s.y ≤ 100000000000000
+  pub x_near : nat_abs s.x ≤ furthest
+  pub y_near : nat_abs s.y ≤ furthest

@@ -1,7 +1,8 @@
 ghost use Rattle.std.specs.Prelude.{◌≡◌, ℕ, ◌<◌, ◌≤◌, ◌+◌, ◌*◌, ◌+ℤ◌, ◌*ℤ◌, ◌-ℤ◌, int_lt, nat_abs, nat_lt, pos, true};
 ghost use Rattle.page_model.specs.Conditions.{IsVertex};
 ghost use Rattle.page_model.specs.Zones.{corner, lean};
-ghost use Rattle.zone_map.specs.Spots.{middle, point, IsNear};
+ghost use Rattle.page_model.specs.Limits.{most_resolution, scale};
+ghost use Rattle.zone_map.specs.Spots.{middle, point, IsNear, furthest};
 
 use page_model::parts::Vertex;
 
@@ -15,7 +16,7 @@ pub struct Spot {
 /// Where a vertex stands.
 pub fn spot_of(v: Vertex, resolution: u32) -> Spot
     requires vertex { IsVertex v }
-    requires resolution { resolution ≤ 10000 }
+    requires resolution { resolution ≤ most_resolution }
     ensures value { point result ≡ corner resolution v }
     ensures near { IsNear result }
 {
@@ -27,20 +28,20 @@ pub fn spot_of(v: Vertex, resolution: u32) -> Spot
 
 /// The way from one coordinate to another.
 fn way(from: i64, to: i64) -> i64
-    requires from { nat_abs from ≤ 100000000000000 }
-    requires to { nat_abs to ≤ 100000000000000 }
+    requires from { nat_abs from ≤ furthest }
+    requires to { nat_abs to ≤ furthest }
     ensures value { result ≡ to -ℤ from }
-    ensures bound { nat_abs result ≤ 200000000000000 }
+    ensures bound { nat_abs result ≤ 2 * furthest }
 {
     to - from
 }
 
 /// The product of two lengths on the page.
 fn product(one: i64, two: i64) -> i128
-    requires one { nat_abs one ≤ 200000000000000 }
-    requires two { nat_abs two ≤ 200000000000000 }
+    requires one { nat_abs one ≤ 2 * furthest }
+    requires two { nat_abs two ≤ 2 * furthest }
     ensures value { result ≡ one *ℤ two }
-    ensures bound { nat_abs result ≤ 40000000000000000000000000000 }
+    ensures bound { nat_abs result ≤ 4 * (furthest * furthest) }
 {
     i128::from(one) * i128::from(two)
 }
@@ -49,9 +50,9 @@ fn product(one: i64, two: i64) -> i128
 fn across_of(a: Spot, b: Spot, y: i64) -> i128
     requires a { IsNear a }
     requires b { IsNear b }
-    requires y { nat_abs y ≤ 100000000000000 }
+    requires y { nat_abs y ≤ furthest }
     ensures value { result ≡ ((b.x -ℤ a.x) *ℤ (y -ℤ a.y)) +ℤ (a.x *ℤ (b.y -ℤ a.y)) }
-    ensures bound { nat_abs result ≤ 80000000000000000000000000000 }
+    ensures bound { nat_abs result ≤ 8 * (furthest * furthest) }
 {
     let along = product(way(a.x, b.x), way(a.y, y));
     let aside = product(a.x, way(a.y, b.y));
@@ -60,11 +61,11 @@ fn across_of(a: Spot, b: Spot, y: i64) -> i128
 
 /// How many samples of a row have their middles left of a point of it, which is given times the rise.
 fn samples_below(across: u128, rise: u64, width: u32) -> u32
-    requires across { across ≤ 80000000000000000000000000000 }
+    requires across { across ≤ 8 * (furthest * furthest) }
     requires rises { 0 < rise }
-    requires rise { rise ≤ 200000000000000 }
+    requires rise { rise ≤ 2 * furthest }
     ensures bound { result ≤ width }
-    ensures left { (x : ℕ) → x < width → nat_lt x result ≡ nat_lt ((2 * x + 1) * 360000 * rise) across }
+    ensures left { (x : ℕ) → x < width → nat_lt x result ≡ nat_lt ((2 * x + 1) * (36 * scale) * rise) across }
 {
     let half = 360_000 * u128::from(rise);
     let count = (across + half - 1) / (2 * half);
@@ -79,7 +80,7 @@ fn samples_below(across: u128, rise: u64, width: u32) -> u32
 pub fn samples_left_of(a: Spot, b: Spot, y: i64, width: u32) -> u32
     requires a { IsNear a }
     requires b { IsNear b }
-    requires y { nat_abs y ≤ 100000000000000 }
+    requires y { nat_abs y ≤ furthest }
     requires rising { int_lt a.y b.y ≡ true }
     ensures bound { result ≤ width }
     ensures left { (x : ℕ) → x < width → nat_lt x result ≡ int_lt (pos 0) (lean (point a) (point b) (middle x y)) }

@@ -1,6 +1,8 @@
 ghost use Rattle.std.specs.Prelude.{◌≡◌, ℕ, ◌<◌, ◌≤◌, ◌+◌, ◌-◌, ◌*◌, if◌then◌else◌, length, nat_abs, pos, slice_index, sum};
+ghost use Rattle.page_model.specs.Limits.{scale};
 ghost use Rattle.page_model.specs.Page.{height, width};
 ghost use Rattle.page_model.specs.Zones.{AreZones, covers};
+ghost use Rattle.zone_map.specs.Spots.{furthest};
 
 use crate::spans::{SpanBuf, write_spans};
 use crate::tally::tally_path;
@@ -9,8 +11,8 @@ use page_model::page::Page;
 /// The height of the middles of a row's samples.
 fn middle_of_row(page: &Page, y: u32) -> i64
     requires { y < height page.now }
-    ensures value { result ≡ pos ((2 * (height page.now - y) - 1) * 360000) }
-    ensures near { nat_abs result ≤ 100000000000000 }
+    ensures value { result ≡ pos ((2 * (height page.now - y) - 1) * (36 * scale)) }
+    ensures near { nat_abs result ≤ furthest }
 {
     let _valid = page.plates();
     i64::from(2 * (page.height() - y) - 1) * 360_000

@@ -1,5 +1,6 @@
 ghost use Rattle.std.specs.Prelude.{◌≡◌, ℕ, ◌<◌, ◌≤◌, ◌+◌, IfOk, if◌then◌else◌, length, pos, slice_index, sum};
 ghost use Rattle.std.specs.Ordering.{int_eq};
+ghost use Rattle.page_model.specs.Limits.{most_vertices};
 ghost use Rattle.zone_map.specs.Tallies.{left};
 
 use page_model::parts::OutOfMemory;
@@ -45,7 +46,7 @@ impl SpanBuf {
 pub(crate) fn write_spans(out: &mut [u8], ups: &[u32], downs: &[u32], zone: u8)
     requires ups { length ups.now ≡ length out.old + 1 }
     requires downs { length downs.now ≡ length out.old + 1 }
-    requires few { sum ups.now + sum downs.now ≤ 5000 }
+    requires few { sum ups.now + sum downs.now ≤ most_vertices }
     ensures each { (x : ℕ) → x < length out.old → slice_index out.new x ≡ (if int_eq (left ups.now downs.now x) (pos 0) then slice_index out.old x else zone) }
     ensures long { length out.new ≡ length out.old }
 {

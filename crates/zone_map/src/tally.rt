@@ -1,7 +1,8 @@
 ghost use Rattle.std.specs.Prelude.{◌≡◌, ◌&&◌, int_le, int_lt, true, ℕ, ◌<◌, ◌≤◌, ◌+◌, ◌+ℤ◌, All, if◌then◌else◌, length, nat_abs, nat_lt, sum};
 ghost use Rattle.page_model.specs.Conditions.{IsVertex};
-ghost use Rattle.page_model.specs.Zones.{corner, turn, winding};
-ghost use Rattle.zone_map.specs.Spots.{middle, point, IsNear};
+ghost use Rattle.page_model.specs.Zones.{turn, winding};
+ghost use Rattle.page_model.specs.Limits.{most_resolution, most_vertices};
+ghost use Rattle.zone_map.specs.Spots.{middle, point, IsNear, furthest};
 ghost use Rattle.zone_map.specs.Subpaths.{segment_end, start_at};
 ghost use Rattle.zone_map.specs.Tallies.{left, past};
 
@@ -11,7 +12,7 @@ use page_model::parts::Vertex;
 /// Counts one crossing with n samples left of it.
 fn add_at(counts: &mut [u32], n: u32)
     requires place { n < length counts.old }
-    requires few { sum counts.old ≤ 5000 }
+    requires few { sum counts.old ≤ most_vertices }
     ensures whole { sum counts.new ≡ sum counts.old + 1 }
     ensures past { (x : ℕ) → past counts.new x ≡ past counts.old x + (if nat_lt x n then 1 else 0) }
     ensures long { length counts.new ≡ length counts.old }
@@ -32,10 +33,10 @@ fn rises_through(a: Spot, b: Spot, y: i64) -> bool
 fn note_segment(ups: &mut [u32], downs: &mut [u32], a: Spot, b: Spot, y: i64, width: u32) -> u32
     requires a { IsNear a }
     requires b { IsNear b }
-    requires y { nat_abs y ≤ 100000000000000 }
+    requires y { nat_abs y ≤ furthest }
     requires ups { length ups.old ≡ width + 1 }
     requires downs { length downs.old ≡ width + 1 }
-    requires few { sum ups.old + sum downs.old ≤ 5000 }
+    requires few { sum ups.old + sum downs.old ≤ most_vertices }
     ensures turned { (x : ℕ) → x < width → left ups.new downs.new x ≡ left ups.old downs.old x +ℤ turn (middle x y) (point a) (point b) }
     ensures count { sum ups.new + sum downs.new ≡ sum ups.old + sum downs.old + result }
     ensures one { result ≤ 1 }
@@ -76,17 +77,17 @@ pub fn tally_path(
     y: i64,
     width: u32,
 ) -> u32
-    requires few { length path.now ≤ 4096 }
+    requires few { length path.now ≤ most_vertices }
     requires path { All IsVertex path.now }
-    requires resolution { resolution ≤ 10000 }
-    requires y { nat_abs y ≤ 100000000000000 }
+    requires resolution { resolution ≤ most_resolution }
+    requires y { nat_abs y ≤ furthest }
     requires ups { length ups.old ≡ width + 1 }
     requires downs { length downs.old ≡ width + 1 }
     requires no_ups { sum ups.old ≡ 0 }
     requires no_downs { sum downs.old ≡ 0 }
     ensures turns { (x : ℕ) → x < width → left ups.new downs.new x ≡ winding resolution (middle x y) path.now }
     ensures count { sum ups.new + sum downs.new ≡ result }
-    ensures few { result ≤ 4096 }
+    ensures few { result ≤ most_vertices }
     ensures ups { length ups.new ≡ width + 1 }
     ensures downs { length downs.new ≡ width + 1 }
 {

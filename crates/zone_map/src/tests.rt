@@ -1,5 +1,6 @@
 ghost use Rattle.std.specs.Prelude.{◌≡◌, ◌<◌, ◌≤◌, ◌∷◌, ◌++◌, [], IfOk, OnOk, true};
 ghost use Rattle.page_model.specs.Conditions.{IsInk, IsParts, IsPath, IsPlane, IsVertex, IsZone};
+ghost use Rattle.page_model.specs.Limits.{most_resolution};
 
 use crate::{SpanBuf, zone_row};
 use lists::list::List;
@@ -504,7 +505,7 @@ fn zone_of(alloc: Global, path: VertexList) -> Zone
 
 fn parts_of(alloc: Global, sheet: &Sheet) -> Result<PageParts, Fail>
     requires some { 1 ≤ sheet.now.resolution }
-    requires fine { sheet.now.resolution ≤ 10000 }
+    requires fine { sheet.now.resolution ≤ most_resolution }
     ensures { IfOk result IsParts }
 {
     let [first, second, third] = sheet.zones;

@@ -5,7 +5,7 @@ use Rattle.band_values.proofs.RowLemmas.{rows_more}
 use Rattle.band_values.proofs.tints.make_tints.Goals as goal
 
 pub loop-k-preserved : goal.loop-k-preserved
-loop-k-preserved g c = record {
+loop-k-preserved c = record {
   end = c.loop-k.invariant.end;
   long = c.write_tints.ensures.len ∙ c.loop-k.invariant.long;
   room = c.write_tints.ensures.room ∙ c.loop-k.invariant.room;

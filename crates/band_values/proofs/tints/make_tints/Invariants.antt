@@ -4,7 +4,7 @@ use Rattle.band_values.specs.Rows.{tint_value}
 use Rattle.band_values.proofs.tints.make_tints.Given as goal
 
 abbrev pub invariant-loop-k : goal.invariant-loop-k
-invariant-loop-k g l = record {
+invariant-loop-k l = record {
   end : l.k-end ≡ l.rows.count;
   long : length l.out ≡ l.rows.count * (plates l.page * width l.page);
   room : l.room ≡ l.initial.room;

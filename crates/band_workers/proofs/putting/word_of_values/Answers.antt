@@ -8,11 +8,11 @@ part_of-requires c = let cut = c.cut_of-cut.ensures in omega (arith, cut.inside,
 pub pack-requires-clause-small : goal.pack-requires-clause-small
 pack-requires-clause-small c k d l =
     let cut = c.cut_of-cut.ensures in let made = c.cut_of-cut.result in
-    let are : AreCellValues c.args.shared.now.sheet c.args.piece c.args.o made.phase made.first made.count c.args.values.now c.part_of.result.now = record { piece = c.requires.piece; cell = c.requires.cell; cut = cut; all = c.requires.values; long = c.part_of.ensures.len; each = (λ q m. c.part_of.ensures.each q (omega (arith, m, c.part_of.ensures.len))) } in
-    small c.args.shared.now.sheet c.bands-fits.ensures.fits c.args.piece c.args.o made.phase made.first made.count c.bits.result c.args.values.now c.part_of.result.now are c.bits.ensures.value k d l
+    let are : AreCellValues c.args.sheet.now c.args.piece c.args.o made.phase made.first made.count c.args.values.now c.part_of.result.now = record { piece = c.requires.piece; cell = c.requires.cell; cut = cut; all = c.requires.values; long = c.part_of.ensures.len; each = (λ q m. c.part_of.ensures.each q (omega (arith, m, c.part_of.ensures.len))) } in
+    small c.args.sheet.now c.requires.fit c.args.piece c.args.o made.phase made.first made.count c.bits.result c.args.values.now c.part_of.result.now are c.bits.ensures.value k d l
 
 pub returns : goal.returns
 returns c =
     let cut = c.cut_of-cut.ensures in let made = c.cut_of-cut.result in
-    let are : AreCellValues c.args.shared.now.sheet c.args.piece c.args.o made.phase made.first made.count c.args.values.now c.part_of.result.now = record { piece = c.requires.piece; cell = c.requires.cell; cut = cut; all = c.requires.values; long = c.part_of.ensures.len; each = (λ q m. c.part_of.ensures.each q (omega (arith, m, c.part_of.ensures.len))) } in
-    c.pack.ensures ∙ packs c.args.shared.now.sheet c.args.piece c.args.o made.phase made.first made.count c.bits.result c.args.values.now c.part_of.result.now are c.bits.ensures.value
+    let are : AreCellValues c.args.sheet.now c.args.piece c.args.o made.phase made.first made.count c.args.values.now c.part_of.result.now = record { piece = c.requires.piece; cell = c.requires.cell; cut = cut; all = c.requires.values; long = c.part_of.ensures.len; each = (λ q m. c.part_of.ensures.each q (omega (arith, m, c.part_of.ensures.len))) } in
+    c.pack.ensures ∙ packs c.args.sheet.now c.args.piece c.args.o made.phase made.first made.count c.bits.result c.args.values.now c.part_of.result.now are c.bits.ensures.value

@@ -1,4 +1,4 @@
-use Rattle.std.proofs.Common.{◌≡◌, ◌-◌, ◌<◌, ◌||◌, ◌∙◌, ℕ, Bool, false, ap, arith, length, nat_le, slice_index_or, sym}
+use Rattle.std.proofs.Common.{◌-◌, ◌||◌, ◌∙◌, ℕ, Bool, false, ap, arith, nat_le, slice_index_or}
 use Rattle.page_model.specs.Apart.{falls}
 use Rattle.page_model.specs.Page.{InPage, tint}
 use Rattle.edge_rule.specs.Pairs.{along}

@@ -1,4 +1,4 @@
-use Rattle.std.proofs.Common.{◌≡◌, ◌≤◌, ◌<◌, ◌+◌, ◌-◌, ℕ, length, slice_index}
+use Rattle.std.proofs.Common.{◌≡◌, ◌≤◌, ◌<◌, ◌+◌, ◌-◌, ℕ, slice_index}
 use Rattle.edge_rule.proofs.plain.plain_until.Given as goal
 
 abbrev pub invariant-loop-count : goal.invariant-loop-count

@@ -1,4 +1,4 @@
-use Rattle.std.proofs.Common.{◌≡◌, ◌+◌, ◌-◌, ◌<◌, ◌≤◌, ◌∙◌, ◌++◌, ℕ, ap, arith, drop, length, length-drop, slice_index, subst, sym, take}
+use Rattle.std.proofs.Common.{◌≡◌, ◌+◌, ◌-◌, ◌<◌, ◌≤◌, ◌∙◌, ◌++◌, ℕ, ap, arith, drop, length, length-drop, subst, sym, take}
 use Rattle.std.proofs.lemmas.List.{get_or_append_left, get_or-append_right, length-take}
 use borrow.Rule.Slice.PartMut.{post_of}
 use Rattle.page_model.specs.Deciding.{mark}

@@ -1,5 +1,5 @@
 use Rattle.std.proofs.Common.{arith, slice_index, ◌-◌}
-use Rattle.row_envelope.proofs.HullLemmas.{rising_at, bow_read, stopped, dropped, emptied}
+use Rattle.row_envelope.proofs.HullLemmas.{rising_at, arm_read, stopped, dropped, emptied}
 use Rattle.row_envelope.proofs.hull.settle.Goals as goal
 
 pub stop-from-requires-clause-order : goal.stop-from-requires-clause-order
@@ -9,7 +9,7 @@ stop-from-requires-clause-order g c =
 pub returns-then-from-starts-clause-settled : goal.returns-then-from-starts-clause-settled
 returns-then-from-starts-clause-settled g c =
     let place = c.requires.hull.below (c.loop-left.left - 1) (omega (arith, c.loop-left-test.true, c.loop-left.invariant.fewer)) in
-    stopped _ _ _ _ _ _ _ _ _ _ c.requires.hull c.loop-left-test.true c.loop-left.invariant.fewer (bow_read c.args.arms.now (slice_index c.args.places.now (c.loop-left.left - 1)) _ (omega (arith, place, c.requires.i)) c.index-arms-places.is) (bow_read _ _ _ c.requires.i c.index-arms-i.is) c.stop-from.ensures.stop c.if-from-starts.true c.loop-left.invariant.beyond
+    stopped _ _ _ _ _ _ _ _ _ _ c.requires.hull c.loop-left-test.true c.loop-left.invariant.fewer (arm_read c.args.arms.now (slice_index c.args.places.now (c.loop-left.left - 1)) _ (omega (arith, place, c.requires.i)) c.index-arms-places.is) (arm_read _ _ _ c.requires.i c.index-arms-i.is) c.stop-from.ensures.stop c.if-from-starts.true c.loop-left.invariant.beyond
 
 pub loop-left-preserved : goal.loop-left-preserved
 loop-left-preserved g c =
@@ -17,7 +17,7 @@ loop-left-preserved g c =
     record {
       fewer = omega arith;
       cost = omega (arith, c.stop-from.ensures.step);
-      beyond = λ x2 _. dropped _ _ _ _ _ _ _ _ _ _ c.requires.hull c.loop-left-test.true c.loop-left.invariant.fewer (bow_read c.args.arms.now (slice_index c.args.places.now (c.loop-left.left - 1)) _ (omega (arith, place, c.requires.i)) c.index-arms-places.is) (bow_read _ _ _ c.requires.i c.index-arms-i.is) c.stop-from.ensures.stop c.if-from-starts.false c.loop-left.invariant.beyond x2;
+      beyond = λ x2 _. dropped _ _ _ _ _ _ _ _ _ _ c.requires.hull c.loop-left-test.true c.loop-left.invariant.fewer (arm_read c.args.arms.now (slice_index c.args.places.now (c.loop-left.left - 1)) _ (omega (arith, place, c.requires.i)) c.index-arms-places.is) (arm_read _ _ _ c.requires.i c.index-arms-i.is) c.stop-from.ensures.stop c.if-from-starts.false c.loop-left.invariant.beyond x2;
     }
 
 pub returns-clause-settled : goal.returns-clause-settled

@@ -4,7 +4,7 @@ use Rattle.trap_engine.specs.Standing.{HasRows}
 use Rattle.trap_engine.proofs.strips.trap_rows.Given as goal
 
 abbrev pub invariant-loop-k : goal.invariant-loop-k
-invariant-loop-k g l = record {
+invariant-loop-k l = record {
   end : l.k-end ≡ l.rows.count;
   bench : IsBench l.page l.bench;
   room : l.room ≡ l.initial.room;

@@ -5,7 +5,7 @@ use Rattle.trap_engine.specs.Standing.{HasRows}
 use Rattle.trap_engine.proofs.strips.trap_strips.Given as goal
 
 abbrev pub invariant-loop-first : goal.invariant-loop-first
-invariant-loop-first g l = record {
+invariant-loop-first l = record {
   inside : l.first ≤ height l.page;
   codes : length l.codes ≡ length l.initial.codes;
   bench : IsBench l.page l.bench;
@@ -14,4 +14,4 @@ invariant-loop-first g l = record {
 }
 
 abbrev pub decreases-loop-first : goal.decreases-loop-first
-decreases-loop-first g l = height l.page - l.first
+decreases-loop-first l = height l.page - l.first

@@ -1,7 +1,7 @@
 use Rattle.std.proofs.Common.{arith, ◌∙◌}
 use Rattle.band_values.proofs.ArmsLemmas.{answer_fits, ready, ready_rising, ready_inside, ready_known, ready_decides}
 use Rattle.band_values.proofs.RowLemmas.{some_width}
-use Rattle.band_values.proofs.nearest.nearest_arms.Goals as goal
+use Rattle.band_values.proofs.nearest.nearest_by.Goals as goal
 
 pub raise_arms-count-requires-clause-fits : goal.raise_arms-count-requires-clause-fits
 raise_arms-count-requires-clause-fits g c = answer_fits c.args.page.now c.args.reach2 c.args.y _ c.args.codes.now c.requires.reach c.requires.codes

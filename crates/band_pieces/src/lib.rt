@@ -1,0 +1,19 @@
+//! The pieces of a page's work: each is made from the cells of its needs and filled into its own cells, by workers at the
+//! shared table and, where they left some, by one thread at the closed table.
+#![tactic(auto)]
+
+mod alone;
+mod alone_puts;
+mod closed;
+mod pages;
+mod reading;
+mod rows;
+mod scratch;
+mod sinks;
+mod sources;
+mod spans;
+
+pub use alone::finish_alone;
+pub use closed::{read_marks, read_tints, read_zones};
+pub use pages::fill_table;
+pub use scratch::Scratch;
