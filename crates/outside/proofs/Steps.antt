@@ -32,6 +32,7 @@ written_then_finished bytes a b c x (Ok y) wrote finished = record {
   asked = finished.asked ∙ wrote.asked;
   told = λ tells. finished.told (told_on a b wrote.keeps tells) ∙ wrote.told tells;
   shut = finished.shut;
+  kept = tt;
   files = λ tells. grows_kept bytes a b c (finished.files (told_on a b wrote.keeps tells)) (wrote.files tells);
   part = tt;
   well = finished.fails.well ∙ wrote.well;
@@ -42,6 +43,7 @@ written_then_finished bytes a b c x (Err e) wrote finished = record {
   asked = finished.asked ∙ wrote.asked;
   told = λ tells. finished.told (told_on a b wrote.keeps tells) ∙ wrote.told tells;
   shut = tt;
+  kept = finished.kept.0 ∙ wrote.is_open;
   files = tt;
   part = λ tells. (length bytes, subst (λ (x : List ℕ). Grows x a c) (sym (take-length bytes)) (grows_kept bytes a b c (finished.files (told_on a b wrote.keeps tells)) (wrote.files tells)));
   well = tt;
@@ -65,7 +67,7 @@ created_then_filled name bytes a b c x (Err e) created filled = record {
   told = λ tells. filled.told (told_on a b created.keeps tells) ∙ created.told tells;
   shut = tt;
   files = tt;
-  part = λ tells. let p = filled.part (told_on a b created.keeps tells) in inr (p.0, grows_put name (take p.0 bytes) a b c (created.current tells) (created.files tells) p.1);
+  part = λ tells. let p = filled.part (told_on a b created.keeps tells) in inr (filled.kept ∙ created.opened, (p.0, grows_put name (take p.0 bytes) a b c (created.current tells) (created.files tells) p.1));
   well = tt;
   cause = rose_before a.faults b.faults c.faults created.keeps.faults filled.cause;
 }

@@ -19,12 +19,18 @@ pub record WritesOn {T E : Type 0} (piece : List ℕ) (before after : RackState)
   pub well : OnOk result (after.faults ≡ before.faults)
   pub cause : OnErr result (Rose before.faults after.faults)
 
--- The rest of the open file is written, and the file is finished.
+-- The file is not written whole. Where it was created it is still open, and a front of its bytes stands under its name;
+-- where it could not be created no file is open, and all files are as they were.
+abbrev pub BreaksFile : List ℕ → List ℕ → (List ℕ → Option (List ℕ)) → RackState → Type 0
+BreaksFile name bytes files after = (IsFalse after.is_open × (after.file ≡ files)) ⊎ (IsTrue after.is_open × ((k : ℕ) × (after.file ≡ put name (take k bytes) files)))
+
+-- The rest of the open file is written, and the file is finished. Where that fails it is open still.
 pub record FillsFile {T E : Type 0} (bytes : List ℕ) (before after : RackState) (result : Result T E) : Type 0 where
   pub keeps : KeepsRack before after
   pub asked : after.asked ≡ before.asked
   pub told : IsTrue before.tells → after.told ≡ before.told
   pub shut : OnOk result (IsFalse after.is_open)
+  pub kept : OnErr result (after.is_open ≡ before.is_open)
   pub files : OnOk result (IsTrue before.tells → Grows bytes before after)
   pub part : OnErr result (IsTrue before.tells → (k : ℕ) × Grows (take k bytes) before after)
   pub well : OnOk result (after.faults ≡ before.faults)
@@ -37,6 +43,6 @@ pub record WritesFile {T E : Type 0} (name bytes : List ℕ) (before after : Rac
   pub told : IsTrue before.tells → after.told ≡ before.told
   pub shut : OnOk result (IsFalse after.is_open)
   pub files : OnOk result (IsTrue before.tells → after.file ≡ put name bytes before.file)
-  pub part : OnErr result (IsTrue before.tells → (after.file ≡ before.file) ⊎ ((k : ℕ) × (after.file ≡ put name (take k bytes) before.file)))
+  pub part : OnErr result (IsTrue before.tells → BreaksFile name bytes before.file after)
   pub well : OnOk result (after.faults ≡ before.faults)
   pub cause : OnErr result (Rose before.faults after.faults)

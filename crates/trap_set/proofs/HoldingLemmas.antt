@@ -23,7 +23,7 @@ grows_as a b s t e g = subst (λ (bs : List ℕ). Grows bs s t) e g
 
 -- nothing is held at the start
 pub holds_nothing : (s : RackState) → Holds [] [] s s
-holds_nothing s = record { tells = refl; faults = refl; asked = refl; told = λ t. refl; current = λ t. refl; written = []; whole = refl; files = λ t. grows_nothing s }
+holds_nothing s = record { tells = refl; faults = refl; asked = refl; told = λ t. refl; is_open = refl; current = λ t. refl; written = []; whole = refl; files = λ t. grows_nothing s }
 
 -- what is held back is written
 pub holds_written : {T E : Type 0} (v : T) (text held : List ℕ) (start s t : RackState) → WritesOn {T = T} {E = E} held s t (Ok v) → Holds text held start s → Holds text [] start t
@@ -32,6 +32,7 @@ holds_written v text held start s t w h = record {
   faults = w.well ∙ h.faults;
   asked = w.asked ∙ h.asked;
   told = λ x. w.told (subst IsTrue (sym h.tells) x) ∙ h.told x;
+  is_open = w.is_open ∙ h.is_open;
   current = λ x. w.current (subst IsTrue (sym h.tells) x) ∙ h.current x;
   written = text;
   whole = sym (append-nil text);
@@ -45,6 +46,7 @@ holds_more text held piece start s h = record {
   faults = h.faults;
   asked = h.asked;
   told = h.told;
+  is_open = h.is_open;
   current = h.current;
   written = h.written;
   whole = ap (λ (bs : List ℕ). bs ++ piece) h.whole ∙ append_assoc h.written held piece;
@@ -64,6 +66,7 @@ breaks_written v text held start s t w h = record {
   keeps = record { tells = w.keeps.tells ∙ h.tells; faults = subst (λ (n : ℕ). n ≤ t.faults) h.faults w.keeps.faults };
   asked = w.asked ∙ h.asked;
   told = λ x. w.told (subst IsTrue (sym h.tells) x) ∙ h.told x;
+  is_open = w.is_open ∙ h.is_open;
   part = λ x.
       (let part = w.part (subst IsTrue (sym h.tells) x) in
       (length h.written + part.0, grows_as _ _ start t (front_of_part h.written held part.0 ∙ ap (take (length h.written + part.0)) (sym h.whole)) (grows_both h.written (take part.0 held) start s t (h.current x) (h.files x) part.1)));
@@ -79,6 +82,7 @@ breaks_more text more start t b = record {
   keeps = b.keeps;
   asked = b.asked;
   told = b.told;
+  is_open = b.is_open;
   cause = b.cause;
   part = λ x. (let part = b.part x in (min part.0 (length text), grows_as _ _ start t (take_front text more part.0) part.1));
 }
@@ -170,6 +174,7 @@ fills_whole {T2 = T2} {E2 = E2} v r text held s t u none p f = by r f where
     asked = g.asked ∙ h.asked;
     told = λ x. g.told (told_there x) ∙ h.told x;
     shut = g.shut;
+    kept = tt;
     files = λ x. (λ bytes files e. g.files (told_there x) ∙ grown x bytes files e);
     part = tt;
     well = g.fails.well ∙ h.faults;
@@ -180,6 +185,7 @@ fills_whole {T2 = T2} {E2 = E2} v r text held s t u none p f = by r f where
     asked = g.asked ∙ h.asked;
     told = λ x. g.told (told_there x) ∙ h.told x;
     shut = tt;
+    kept = g.kept.0 ∙ h.is_open;
     files = tt;
     part = λ x. (length text, grows_as text (take (length text) text) s u (sym (take-length text)) (λ bytes files e2. g.files (told_there x) ∙ grown x bytes files e2));
     well = tt;
@@ -189,4 +195,4 @@ fills_whole {T2 = T2} {E2 = E2} v r text held s t u none p f = by r f where
 pub fills_part : {T T2 E E2 : Type 0} (e : E) (e2 : E2) (text held : List ℕ) (s t : RackState) → Puts {T = T} {E = E} text [] held s t (Err e) → FillsFile {T = T2} {E = E2} text s t (Err e2)
 fills_part e e2 text held s t p =
     let b = p.fault s [] (holds_nothing s) in
-    record { keeps = b.keeps; asked = b.asked; told = b.told; shut = tt; files = tt; part = b.part; well = tt; cause = b.cause }
+    record { keeps = b.keeps; asked = b.asked; told = b.told; shut = tt; kept = b.is_open; files = tt; part = b.part; well = tt; cause = b.cause }

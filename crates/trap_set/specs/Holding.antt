@@ -10,6 +10,7 @@ pub record Holds (text held : List ℕ) (start state : RackState) : Type 0 where
   pub faults : state.faults ≡ start.faults
   pub asked : state.asked ≡ start.asked
   pub told : IsTrue start.tells → state.told ≡ start.told
+  pub is_open : state.is_open ≡ start.is_open
   pub current : IsTrue start.tells → state.current ≡ start.current
   pub written : List ℕ
   pub whole : text ≡ written ++ held
@@ -20,6 +21,7 @@ pub record Breaks (text : List ℕ) (start state : RackState) : Type 0 where
   pub keeps : KeepsRack start state
   pub asked : state.asked ≡ start.asked
   pub told : IsTrue start.tells → state.told ≡ start.told
+  pub is_open : state.is_open ≡ start.is_open
   pub part : IsTrue start.tells → (k : ℕ) × Grows (take k text) start state
   pub cause : Rose start.faults state.faults
 
