@@ -19,7 +19,7 @@ use Rattle.std.proofs.lemmas.List.{length-map}
 use Rattle.trap_report.specs.declared.refusal.Refusal.{Refusal}
 use Rattle.trap_report.specs.declared.refusal.Refusal.TheVariants.{Usage, Job as JobRefusal, NoDetails, Plate, Page, Read, Write, Memory}
 use Rattle.page_gather.specs.Inputs.{Sources, Holds, AreRead, Inputs, Makes, one_page, read_files, name_at}
-use Rattle.page_gather.specs.Steps.{ReadsJob, AnswersJob, ReadsPlates, AnswersPlates, PassesNoFault, PlateInHand, TakesPlate}
+use Rattle.page_gather.specs.Steps.{ReadsJob, AnswersJob, ReadsPlates, AnswersPlates, PassesNoFault, PlateInHand}
 use Rattle.page_gather.specs.Gathering.{Gathers, AnswersPage, InHand}
 use Rattle.page_gather.proofs.PlateLemmas.{held_before, faultless_before, count_then}
 

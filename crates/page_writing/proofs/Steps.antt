@@ -1,13 +1,11 @@
 -- Files that are written one after another.
-use Rattle.std.proofs.Common.{◌≡◌, ℕ, ◌+◌, ◌<◌, ◌≤◌, List, [], ◌∷◌, ◌++◌, length, get_or, take, Option, Some, None, Ok, Err, IsTrue, refl, sym, ap, ◌∙◌, subst, arith}
-use Rattle.std.proofs.lemmas.List.{append_assoc, append-nil, map-append, length-append}
-use Rattle.std.proofs.lemmas.Option.{same_Some}
-use Rattle.std.proofs.Math.Seq.{take-append_seam}
+use Rattle.std.proofs.Common.{◌≡◌, ℕ, ◌+◌, ◌<◌, ◌≤◌, List, [], ◌∷◌, ◌++◌, length, get_or, Option, Some, None, Ok, Err, IsTrue, refl, sym, ap, ◌∙◌, subst, arith}
+use Rattle.std.proofs.lemmas.List.{append_assoc, map-append, length-append}
 use Rattle.outside.specs.Causes.{Asks, AsksFront}
 use Rattle.outside.specs.Rack.{RackState, KeepsRack, put}
 use Rattle.outside.specs.Writing.{WritesFile, BreaksFile}
 use Rattle.outside.proofs.Names.{asks_none, asks_then, asks_all, asks_before}
-use Rattle.outside.proofs.Steps.{kept_then, rose_before, told_on}
+use Rattle.outside.proofs.Steps.{kept_then, told_on}
 use Rattle.page_model.specs.declared.parts.Plane.{Plane}
 use Rattle.pgm_plates.specs.Plates.{spelled}
 use Rattle.pgm_plates.specs.Planes.{plate_of}

@@ -24,10 +24,11 @@ use Rattle.trap_cli.specs.Endings.{IsMade, IsSmall, sample_report}
 use Rattle.trap_cli.specs.Locality.{ChangesNearEdges}
 use Rattle.verdicts.specs.Verdicts.{IsVerdict, Refused, Out, outcome, written_names}
 
--- The words are a command of this page, or of this sample page.
+-- The words are a command of this page.
 abbrev pub MeanPage : List (List ℕ) → PageWords → Type 0
 MeanPage words page = command_of words ≡ Some (Page page)
 
+-- The words are a command of this sample page.
 abbrev pub MeanSample : List (List ℕ) → SampleWords → Type 0
 MeanSample words sample = command_of words ≡ Some (Sample sample)
 

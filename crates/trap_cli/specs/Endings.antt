@@ -96,6 +96,7 @@ pub data AnswersSample (words : SampleWords) (rack rack' : RackState) (status : 
   too_many : (IsSmall words → ⊥) → Refuses (Page TooManySamples) rack rack' status → AnswersSample words rack rack' status
   no_memory : IsSmall words → Refuses Memory rack rack' status → AnswersSample words rack rack' status
 
+-- A sample page is carried out: no file is touched.
 pub record EndsSample (words : SampleWords) (rack rack' : RackState) (status : ℕ) : Type 0 where
   pub files : KeepsFiles rack rack'
   pub answer : AnswersSample words rack rack' status
