@@ -5,13 +5,13 @@ use Rattle.outside.specs.Tray.{TrayState}
 use Rattle.outside.specs.Rack.{RackState}
 use Rattle.page_model.specs.declared.parts.PageParts.{PageParts}
 use Rattle.page_gather.specs.Inputs.{Sources, Makes, one_page, read_files}
-use Rattle.page_gather.specs.Gathering.{files_to}
+use Rattle.page_gather.specs.Gathering.{BreaksReading, IsMade, files_to}
 use Rattle.page_gather.specs.Steps.{PassesNoFault}
-use Rattle.press_check.specs.Clauses.{Mean, AreRefused, Success, Usage, RefusesFiles, RefusedInput, ReadFault, TellFault, FaultLine, Completeness, BreaksReading, no_files}
-use Rattle.press_check.specs.Endings.{IsMade, ChecksPage, AnswersTell, Closes, EndsCheck, Ends}
+use Rattle.page_gather.proofs.GatherLemmas.{refused_count}
+use Rattle.press_check.specs.Clauses.{Mean, AreRefused, Success, Usage, RefusesFiles, RefusedInput, ReadFault, TellFault, FaultLine, Completeness, no_files}
+use Rattle.press_check.specs.Endings.{ChecksPage, AnswersTell, Closes, EndsCheck, Ends}
 use Rattle.press_check.specs.Text.{text_of, usage_line}
 use Rattle.press_check.specs.Words.{CheckWords, check_of, sources_of}
-use Rattle.press_check.proofs.EndLemmas.{refused_count}
 use Rattle.trap_report.specs.declared.refusal.Refusal.{Refusal}
 use Rattle.trap_report.specs.declared.refusal.Refusal.TheVariants as refusals
 use Rattle.trap_report.specs.Refusals.{status_of, line_of}

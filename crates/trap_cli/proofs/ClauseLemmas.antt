@@ -15,8 +15,9 @@ use Rattle.page_model.specs.declared.parts.PageParts.{PageParts}
 use Rattle.page_model.specs.Counts.{page_counts}
 use Rattle.page_model.specs.Tints.{trapped_planes}
 use Rattle.page_gather.specs.Inputs.{Sources, one_page, read_files}
-use Rattle.page_gather.specs.Gathering.{InHand, files_to}
+use Rattle.page_gather.specs.Gathering.{BreaksReading, InHand, IsMade, files_to}
 use Rattle.page_gather.specs.Steps.{PassesNoFault}
+use Rattle.page_gather.proofs.GatherLemmas.{refused_count}
 use Rattle.page_writing.specs.Files.{Written, put_all, names_of, plate_files}
 use Rattle.page_writing.specs.Writing.{BreaksAt, Breaks}
 use Rattle.trap_report.specs.declared.refusal.Refusal.{Refusal}
@@ -27,9 +28,8 @@ use Rattle.trap_report.specs.Telling.{TellsText, TellsBehindFault, KeepsFiles, R
 use Rattle.trap_words.specs.Words.{Command, PageWords, SampleWords, begins_with_page, command_of, page_of_words, sample_of_words}
 use Rattle.trap_words.specs.Words.Command.{Page, Sample}
 use Rattle.trap_cli.specs.Commands.{sources_of, targets_of}
-use Rattle.trap_cli.specs.Endings.{IsMade, CarriesOut, Closes, EndsPage, EndsSample, AnswersSample, Ends, IsSmall, sample_report}
-use Rattle.trap_cli.specs.Clauses.{MeanPage, MeanSample, Success, RefusesFiles, RefusedInput, ReadFault, WriteFault, LeavesFiles, FaultLine, SamplePage, Completeness, BreaksReading}
-use Rattle.trap_cli.proofs.EndLemmas.{refused_count}
+use Rattle.trap_cli.specs.Endings.{CarriesOut, Closes, EndsPage, EndsSample, AnswersSample, Ends, IsSmall, sample_report}
+use Rattle.trap_cli.specs.Clauses.{MeanPage, MeanSample, Success, RefusesFiles, RefusedInput, ReadFault, WriteFault, LeavesFiles, FaultLine, SamplePage, Completeness}
 use Rattle.verdicts.specs.Verdicts.{Verdict, Targets, IsVerdict, outcome, written_names}
 use Rattle.verdicts.specs.Verdicts.Verdict.{Refused, Out}
 use Rattle.verdicts.proofs.VerdictLemmas.{PlateLaws, one_verdict}
