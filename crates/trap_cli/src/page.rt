@@ -2,7 +2,8 @@ ghost use Rattle.std.specs.Prelude.{◌≡◌, length, vec_len};
 ghost use Rattle.page_model.specs.Page.{plates};
 ghost use Rattle.trap_words.specs.Held.{IsPageWithin, page_in};
 ghost use Rattle.trap_cli.specs.Commands.{sources_of, targets_of};
-ghost use Rattle.trap_cli.specs.Endings.{CarriesOut, EndsPage, PutsOut, ReadsPage};
+ghost use Rattle.page_gather.specs.Gathering.{ReadsPage};
+ghost use Rattle.trap_cli.specs.Endings.{CarriesOut, EndsPage, PutsOut};
 
 use crate::files::{inputs_of, names_of, outputs_of};
 use crate::outcome::outcome_of;
