@@ -67,8 +67,8 @@ rose_after a b c first then (inr last) = elim (cases_lt a c) [ inl less ↦ inl 
 
 -- a file that broke, after what changes no file
 broken_then : (name bytes : List ℕ) (held : List ℕ → Option (List ℕ)) (b c : RackState) → c.is_open ≡ b.is_open → c.file ≡ b.file → BreaksFile name bytes held b → BreaksFile name bytes held c
-broken_then name bytes held b c open same (inl none) = inl (open ∙ none.0, same ∙ none.1)
-broken_then name bytes held b c open same (inr front) = inr (open ∙ front.0, (front.1.0, same ∙ front.1.1))
+broken_then name bytes held b c opened same (inl none) = inl (opened ∙ none.0, same ∙ none.1)
+broken_then name bytes held b c opened same (inr front) = inr (opened ∙ front.0, (front.1.0, same ∙ front.1.1))
 
 -- the write that failed, after its line was told
 breaks_then : (written : List Written) (k : ℕ) (a b c : RackState) → KeepsRack a b → BreaksAt written k a b → KeepsFiles b c → BreaksAt written k a c
