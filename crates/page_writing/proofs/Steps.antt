@@ -5,7 +5,7 @@ use Rattle.outside.specs.Causes.{Asks, AsksFront}
 use Rattle.outside.specs.Rack.{RackState, KeepsRack, put}
 use Rattle.outside.specs.Writing.{WritesFile, BreaksFile}
 use Rattle.outside.proofs.Names.{asks_none, asks_then, asks_all, asks_before}
-use Rattle.outside.proofs.Steps.{kept_then, told_on}
+use Rattle.outside.proofs.Steps.{kept_then, rose_before, told_on}
 use Rattle.page_model.specs.declared.parts.Plane.{Plane}
 use Rattle.pgm_plates.specs.Plates.{spelled}
 use Rattle.pgm_plates.specs.Planes.{plate_of}
