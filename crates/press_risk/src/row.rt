@@ -6,7 +6,7 @@ ghost use Rattle.plane_shapes.specs.Shapes.{wide, tall};
 ghost use Rattle.press_risk.specs.Risk.{is_bare, is_near};
 ghost use Rattle.press_risk.specs.Sweep.{bared_until, bit, is_clear};
 
-use crate::sheet::{Sheet, step};
+use crate::sheet::Sheet;
 use page_model::steps::Steps;
 use std::sync::ledger::Ledger;
 
@@ -27,7 +27,7 @@ pub(crate) fn ask_row<L: Ledger>(
 {
     let tints = sheet.row(c, y);
     for x in 0..tints.len() {
-        step(steps);
+        steps.tick();
         row[x] = if tints[x] == 0 { 2 } else { 1 };
     }
 }

@@ -4,7 +4,6 @@ ghost use Rattle.page_model.specs.Planes.{tints_of};
 ghost use Rattle.plane_shapes.specs.Shapes.{AreOneShape, wide, tall};
 ghost use Rattle.press_risk.specs.Risk.{is_bare};
 
-use page_model::marks::Marks;
 use page_model::parts::PlaneList;
 use page_model::steps::Steps;
 use std::marker::Model;
@@ -28,13 +27,6 @@ impl<'a> Model for Sheet<'a> {
     ghost invariant = { λ s. AreOneShape s.planes.now };
 }
 
-/// Counts one step: the counter is moved by what it counts alone, here by a look at the marks of one sample.
-pub(crate) fn step<L: Ledger>(steps: &mut Steps<L>)
-    ensures { steps.new ≡ steps.old + 1 }
-{
-    let _none = Marks::new(1, 0, &[0]).deciding(0, 1, steps);
-}
-
 impl<'a> Sheet<'a> {
     /// A view of planes of one shape.
     pub fn new(planes: &'a PlaneList) -> Sheet<'a>
@@ -52,7 +44,7 @@ impl<'a> Sheet<'a> {
         ensures bare { result ≡ is_bare self.now c x y }
         ensures step { steps.new ≡ steps.old + 1 }
     {
-        step(steps);
+        steps.tick();
         self.row(c, y)[x as usize] == 0
     }
 
