@@ -5,8 +5,10 @@ mod refused;
 mod samples;
 mod words;
 mod worked;
+mod workers;
 mod writing;
 
+use band_workers::{Gate, OpenGate};
 use lists::list::List;
 use lists::names::CallList;
 use outside::distinct_names::have_distinct_names;
@@ -15,6 +17,7 @@ use outside::mem_rack::MemRack;
 use outside::mem_tray::MemTray;
 use std::alloc::{AllocError, Global};
 use std::process::Abort;
+use std::thread::Threads;
 use trap_cli::top::trap_main;
 
 // Two plates of one row: on the left Cyan alone, and on the right Magenta.
@@ -37,6 +40,11 @@ const END: &str = " >> settrapparams showpage";
 const ONE_PLATE: &str = "page job report Cyan:in0:out0";
 
 const TWO_PLATES: &str = "page job report Cyan:in0:out0 Magenta:in1:out1";
+
+// Plates of one column: above Cyan alone, and below Magenta.
+const TALL_CYAN: &[u8] = b"P5\n1 12\n255\n\0\0\0\0\0\0\xFF\xFF\xFF\xFF\xFF\xFF";
+
+const TALL_MAGENTA: &[u8] = b"P5\n1 12\n255\n\xFF\xFF\xFF\xFF\xFF\xFF\0\0\0\0\0\0";
 
 // the files that are read: the job, and the plates in order
 const READ: &[&str] = &["job", "in0", "in1", "in2", "in3"];
@@ -148,16 +156,36 @@ fn rack_of(alloc: Global, case: Case<'_>) -> Result<MemRack, AllocError> {
 }
 
 // The status, and the rack as it stands then.
-fn ended(alloc: Global, words: &[String], mut tray: MemTray, mut rack: MemRack) -> (u8, MemRack) {
-    let status = trap_main(alloc, words, &mut tray, &mut rack);
-    (status, rack)
+fn ended<H: Threads + Sync, G: Gate + Sync>(
+    rt: &H,
+    alloc: Global,
+    words: &[String],
+    mut tray: MemTray,
+    mut rack: MemRack,
+    gate: &G,
+) -> (u8, MemRack) {
+    let ended = trap_main(rt, alloc, words, &mut tray, &mut rack, gate);
+    (ended.status, rack)
 }
 
-fn run(rt: &impl Abort, alloc: Global, case: Case<'_>) -> Result<(u8, MemRack), AllocError> {
+fn run_by<H: Abort + Threads + Sync, G: Gate + Sync>(
+    rt: &H,
+    alloc: Global,
+    case: Case<'_>,
+    gate: &G,
+) -> Result<(u8, MemRack), AllocError> {
     let words = words_of(alloc, case.words)?;
     let rack = rack_of(alloc, case)?;
     let tray = tray_of(rt, alloc, case)?;
-    Ok(ended(alloc, &words, tray, rack))
+    Ok(ended(rt, alloc, &words, tray, rack, gate))
+}
+
+fn run(
+    rt: &(impl Abort + Threads + Sync),
+    alloc: Global,
+    case: Case<'_>,
+) -> Result<(u8, MemRack), AllocError> {
+    run_by(rt, alloc, case, &OpenGate)
 }
 
 fn has(rack: &MemRack, name: &str, wanted: Option<&[u8]>) -> bool {
@@ -190,7 +218,7 @@ fn is_empty(rack: &MemRack) -> bool {
 
 // Whether a run ends with the status and the text told, and creates nothing.
 fn is_refused(
-    rt: &impl Abort,
+    rt: &(impl Abort + Threads + Sync),
     alloc: Global,
     case: Case<'_>,
     wanted: u8,

@@ -1,6 +1,7 @@
 //! The program `trap`: its words, the disk and standard output, handed to the top call.
 #![tactic(auto)]
 
+use band_workers::OpenGate;
 use outside::disk_rack::DiskRack;
 use outside::disk_tray::DiskTray;
 use std::env;
@@ -18,7 +19,8 @@ fn main(rt: HostRuntime) -> ExitCode {
         Ok(words) => {
             let mut tray = DiskTray::new(&rt);
             let mut rack = DiskRack::new(&rt);
-            ExitCode::from(trap_main(rt.alloc(), &words, &mut tray, &mut rack))
+            let ended = trap_main(&rt, rt.alloc(), &words, &mut tray, &mut rack, &OpenGate);
+            ExitCode::from(ended.status)
         }
         Err(status) => ExitCode::from(status),
     }

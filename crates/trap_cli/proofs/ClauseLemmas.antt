@@ -4,6 +4,7 @@ use Rattle.std.proofs.lemmas.Bool.{cases_lt}
 use Rattle.std.proofs.lemmas.List.{length-append}
 use Rattle.std.specs.Option.{option_map}
 use Rattle.std.specs.Str.{bytes_eq}
+use Rattle.band_claims.specs.Receipt.{Receipt}
 use Rattle.outside.specs.Causes.{Rose, Asks, AsksFront}
 use Rattle.outside.specs.Tray.{TrayState}
 use Rattle.outside.specs.Rack.{RackState, KeepsRack}
@@ -27,8 +28,8 @@ use Rattle.trap_report.specs.Report.{report_of}
 use Rattle.trap_report.specs.Telling.{TellsText, TellsBehindFault, KeepsFiles, Refuses}
 use Rattle.trap_words.specs.Words.{Command, PageWords, SampleWords, begins_with_page, command_of, page_of_words, sample_of_words}
 use Rattle.trap_words.specs.Words.Command.{Page, Sample}
-use Rattle.trap_cli.specs.Commands.{sources_of, targets_of}
-use Rattle.trap_cli.specs.Endings.{CarriesOut, Closes, EndsPage, EndsSample, AnswersSample, Ends, IsSmall, sample_report}
+use Rattle.trap_cli.specs.Commands.{sample_band, sources_of, targets_of}
+use Rattle.trap_cli.specs.Endings.{CarriesOut, Closes, EndsPage, EndsSample, AnswersSample, Ends, HasReceipt, IsSmall, sample_of, sample_report}
 use Rattle.trap_cli.specs.Clauses.{MeanPage, MeanSample, Success, RefusesFiles, RefusedInput, ReadFault, WriteFault, LeavesFiles, FaultLine, SamplePage, Completeness}
 use Rattle.verdicts.specs.Verdicts.{Verdict, Targets, IsVerdict, outcome, written_names}
 use Rattle.verdicts.specs.Verdicts.Verdict.{Refused, Out}
@@ -53,12 +54,12 @@ line_behind text a b c same tells rose line = (
 )
 
 -- How a page of these files ended, of what was told by its files.
-data Ending (source : Sources) (target : Targets) (t t' : TrayState) (r r' : RackState) (status : ℕ) : Type 0 where
-  done : status ≡ 0 → (t'.faults ≡ t.faults) × (r'.faults ≡ r.faults) → (made : PageParts) → IsMade source t made → Asks t.asked t'.asked (read_files source) → (IsTrue r.tells → r'.file ≡ put_all (outcome target made) r.file) → (IsTrue r.tells → r'.told ≡ r.told) → IsFalse r'.is_open → Asks r.asked r'.asked (written_names target) → Ending source target t t' r r' status
-  refused : (refusal : Refusal) → status ≡ status_of refusal → (status ≡ 3) ⊎ (status ≡ 4) → (IsTrue t.tells → IsVerdict one_page t.file source target (Refused refusal)) → Asks t.asked t'.asked (files_to source refusal) → PassesNoFault {T = Unit {0}} t t' (Err refusal) → KeepsFiles r r' → TellsText (line_of refusal) r r' → Ending source target t t' r r' status
-  unread : (file : Option ℕ) → status ≡ 5 → Rose t.faults t'.faults → Asks t.asked t'.asked (files_to source (refusals.Read file)) → BreaksReading source file t t' → KeepsFiles r r' → TellsText (line_of (refusals.Read file)) r r' → Ending source target t t' r r' status
-  unwritten : (file : Option ℕ) → status ≡ 6 → (made : PageParts) → IsMade source t made → Breaks (length target.outputs) (outcome target made) file r r' → TellsBehindFault (line_of (refusals.Write file)) r r' → Ending source target t t' r r' status
-  no_memory : status ≡ 7 → t'.faults ≡ t.faults → KeepsFiles r r' → TellsText (line_of refusals.Memory) r r' → Ending source target t t' r r' status
+data Ending (band : ℕ) (source : Sources) (target : Targets) (t t' : TrayState) (r r' : RackState) (status : ℕ) (receipt : Option Receipt) : Type 0 where
+  done : status ≡ 0 → (t'.faults ≡ t.faults) × (r'.faults ≡ r.faults) → (made : PageParts) → IsMade source t made → Asks t.asked t'.asked (read_files source) → (IsTrue r.tells → r'.file ≡ put_all (outcome target made) r.file) → (IsTrue r.tells → r'.told ≡ r.told) → IsFalse r'.is_open → Asks r.asked r'.asked (written_names target) → HasReceipt made band receipt → Ending band source target t t' r r' status receipt
+  refused : (refusal : Refusal) → status ≡ status_of refusal → (status ≡ 3) ⊎ (status ≡ 4) → (IsTrue t.tells → IsVerdict one_page t.file source target (Refused refusal)) → Asks t.asked t'.asked (files_to source refusal) → PassesNoFault {T = Unit {0}} t t' (Err refusal) → KeepsFiles r r' → TellsText (line_of refusal) r r' → receipt ≡ None → Ending band source target t t' r r' status receipt
+  unread : (file : Option ℕ) → status ≡ 5 → Rose t.faults t'.faults → Asks t.asked t'.asked (files_to source (refusals.Read file)) → BreaksReading source file t t' → KeepsFiles r r' → TellsText (line_of (refusals.Read file)) r r' → receipt ≡ None → Ending band source target t t' r r' status receipt
+  unwritten : (file : Option ℕ) → status ≡ 6 → (made : PageParts) → IsMade source t made → Breaks (length target.outputs) (outcome target made) file r r' → TellsBehindFault (line_of (refusals.Write file)) r r' → receipt ≡ None → Ending band source target t t' r r' status receipt
+  no_memory : status ≡ 7 → t'.faults ≡ t.faults → KeepsFiles r r' → TellsText (line_of refusals.Memory) r r' → receipt ≡ None → Ending band source target t t' r r' status receipt
 
 -- a count that rose stays above what it was
 rose_after : (a b c : ℕ) → a ≤ b → b ≤ c → Rose a b → Rose a c
@@ -99,42 +100,42 @@ keeps_from a b c same keeps = subst (λ (s : RackState). KeepsFiles s c) same ke
 some_files : (target : Targets) (page : PageParts) → 0 < length (outcome target page)
 some_files target page = let long = length-append (plate_files target.outputs (trapped_planes page)) (record { name = target.report; bytes = report_of page (page_counts page) } ∷ []) in omega (arith, long)
 
-module _ (T : Type 0) (source : Sources) (target : Targets) (t t' : TrayState) (r r' : RackState) (status : ℕ) where
-  line_of_end : (refusal : Refusal) (result : Result T Refusal) (between : RackState) → CarriesOut source target t t' r between result → Refuses refusal between r' status → TellsText (line_of refusal) r r'
+module _ (band : ℕ) (source : Sources) (target : Targets) (t t' : TrayState) (r r' : RackState) (status : ℕ) (receipt : Option Receipt) where
+  line_of_end : (refusal : Refusal) (result : Result Receipt Refusal) (between : RackState) → CarriesOut band source target t t' r between result → Refuses refusal between r' status → TellsText (line_of refusal) r r'
   line_of_end refusal result between carried closed = line_from (line_of refusal) r between r' carried.told carried.rack_keeps.tells carried.rack_keeps.faults closed.line
 
-  ended_done : (x : T) (between : RackState) → CarriesOut source target t t' r between (Ok x) → (r' ≡ between) → status ≡ 0 → Ending source target t t' r r' status
-  ended_done x between carried same is =
+  ended_done : (x : Receipt) (between : RackState) → CarriesOut band source target t t' r between (Ok x) → (r' ≡ between) → status ≡ 0 → receipt ≡ Some x → Ending band source target t t' r r' status receipt
+  ended_done x between carried same is given =
       let made = carried.answer.0 in
-      let wrote = carried.answer.3 in
-      subst (λ (s : RackState). Ending source target t t' r s status) (sym same) (done is (carried.count, wrote.well) made carried.answer.1 carried.answer.2 wrote.whole carried.told (wrote.shut (some_files target made)) carried.answer.4)
+      let wrote = carried.answer.4 in
+      subst (λ (s : RackState). Ending band source target t t' r s status receipt) (sym same) (done is (carried.count, wrote.well) made carried.answer.1 carried.answer.3 wrote.whole carried.told (wrote.shut (some_files target made)) carried.answer.5 (x, given, carried.answer.2))
 
-  ending_of : (result : Result T Refusal) (between : RackState) → CarriesOut source target t t' r between result → Closes result between r' status → Ending source target t t' r r' status
-  ending_of (Ok x) between carried closed = ended_done x between carried closed.0 closed.1
+  ending_of : (result : Result Receipt Refusal) (between : RackState) → CarriesOut band source target t t' r between result → Closes result between r' status receipt → Ending band source target t t' r r' status receipt
+  ending_of (Ok x) between carried closed = ended_done x between carried closed.0 closed.1 closed.2
   ending_of (Err (refusals.Job fault)) between carried closed =
-      refused (refusals.Job fault) closed.status_is (inl closed.status_is) carried.answer.0.1 carried.answer.0.0 (refused_count T (Unit {0}) t t' (refusals.Job fault) carried.count) (keeps_from r between r' carried.answer.1 closed.files) (line_of_end (refusals.Job fault) (Err (refusals.Job fault)) between carried closed)
+      refused (refusals.Job fault) closed.0.status_is (inl closed.0.status_is) carried.answer.0.1 carried.answer.0.0 (refused_count Receipt (Unit {0}) t t' (refusals.Job fault) carried.count) (keeps_from r between r' carried.answer.1 closed.0.files) (line_of_end (refusals.Job fault) (Err (refusals.Job fault)) between carried closed.0) closed.1
   ending_of (Err (refusals.NoDetails k)) between carried closed =
-      refused (refusals.NoDetails k) closed.status_is (inl closed.status_is) carried.answer.0.1 carried.answer.0.0 (refused_count T (Unit {0}) t t' (refusals.NoDetails k) carried.count) (keeps_from r between r' carried.answer.1 closed.files) (line_of_end (refusals.NoDetails k) (Err (refusals.NoDetails k)) between carried closed)
+      refused (refusals.NoDetails k) closed.0.status_is (inl closed.0.status_is) carried.answer.0.1 carried.answer.0.0 (refused_count Receipt (Unit {0}) t t' (refusals.NoDetails k) carried.count) (keeps_from r between r' carried.answer.1 closed.0.files) (line_of_end (refusals.NoDetails k) (Err (refusals.NoDetails k)) between carried closed.0) closed.1
   ending_of (Err (refusals.Plate k fault)) between carried closed =
-      refused (refusals.Plate k fault) closed.status_is (inr closed.status_is) carried.answer.0.1 carried.answer.0.0 (refused_count T (Unit {0}) t t' (refusals.Plate k fault) carried.count) (keeps_from r between r' carried.answer.1 closed.files) (line_of_end (refusals.Plate k fault) (Err (refusals.Plate k fault)) between carried closed)
+      refused (refusals.Plate k fault) closed.0.status_is (inr closed.0.status_is) carried.answer.0.1 carried.answer.0.0 (refused_count Receipt (Unit {0}) t t' (refusals.Plate k fault) carried.count) (keeps_from r between r' carried.answer.1 closed.0.files) (line_of_end (refusals.Plate k fault) (Err (refusals.Plate k fault)) between carried closed.0) closed.1
   ending_of (Err (refusals.Page fault)) between carried closed =
-      refused (refusals.Page fault) closed.status_is (inr closed.status_is) carried.answer.0.1 carried.answer.0.0 (refused_count T (Unit {0}) t t' (refusals.Page fault) carried.count) (keeps_from r between r' carried.answer.1 closed.files) (line_of_end (refusals.Page fault) (Err (refusals.Page fault)) between carried closed)
+      refused (refusals.Page fault) closed.0.status_is (inr closed.0.status_is) carried.answer.0.1 carried.answer.0.0 (refused_count Receipt (Unit {0}) t t' (refusals.Page fault) carried.count) (keeps_from r between r' carried.answer.1 closed.0.files) (line_of_end (refusals.Page fault) (Err (refusals.Page fault)) between carried closed.0) closed.1
   ending_of (Err (refusals.Read None)) between carried closed =
-      unread None closed.status_is carried.answer.0.0 carried.answer.0.1 tt (keeps_from r between r' carried.answer.1 closed.files) (line_of_end (refusals.Read None) (Err (refusals.Read None)) between carried closed)
+      unread None closed.0.status_is carried.answer.0.0 carried.answer.0.1 tt (keeps_from r between r' carried.answer.1 closed.0.files) (line_of_end (refusals.Read None) (Err (refusals.Read None)) between carried closed.0) closed.1
   ending_of (Err (refusals.Read (Some k))) between carried closed =
-      unread (Some k) closed.status_is carried.answer.0.0 carried.answer.0.1 carried.answer.0.2 (keeps_from r between r' carried.answer.1 closed.files) (line_of_end (refusals.Read (Some k)) (Err (refusals.Read (Some k))) between carried closed)
+      unread (Some k) closed.0.status_is carried.answer.0.0 carried.answer.0.1 carried.answer.0.2 (keeps_from r between r' carried.answer.1 closed.0.files) (line_of_end (refusals.Read (Some k)) (Err (refusals.Read (Some k))) between carried closed.0) closed.1
   ending_of (Err (refusals.Write file)) between carried closed =
       let made = carried.answer.0 in
       let broke = carried.answer.2 in
       let rose = breaks_cause (length target.outputs) (outcome target made) file r between broke in
-      unwritten file closed.status_is made carried.answer.1 (file_breaks (length target.outputs) (outcome target made) file r between r' carried.rack_keeps broke closed.files) (line_behind (line_of (refusals.Write file)) r between r' carried.told carried.rack_keeps.tells rose closed.line)
-  ending_of (Err refusals.Memory) between carried closed = no_memory closed.status_is carried.count (keeps_from r between r' carried.answer.1 closed.files) (line_of_end refusals.Memory (Err refusals.Memory) between carried closed)
+      unwritten file closed.0.status_is made carried.answer.1 (file_breaks (length target.outputs) (outcome target made) file r between r' carried.rack_keeps broke closed.0.files) (line_behind (line_of (refusals.Write file)) r between r' carried.told carried.rack_keeps.tells rose closed.0.line) closed.1
+  ending_of (Err refusals.Memory) between carried closed = no_memory closed.0.status_is carried.count (keeps_from r between r' carried.answer.1 closed.0.files) (line_of_end refusals.Memory (Err refusals.Memory) between carried closed.0) closed.1
   ending_of (Err refusals.Usage) between carried closed = absurd carried.answer.0
 
-  ending : EndsPage T source target t t' r r' status → Ending source target t t' r r' status
+  ending : EndsPage band source target t t' r r' status receipt → Ending band source target t t' r r' status receipt
   ending ended = ending_of ended.result ended.between ended.carried ended.closed
 
-module _ (source : Sources) (target : Targets) (t t' : TrayState) (r r' : RackState) (status : ℕ) where
+module _ (band : ℕ) (source : Sources) (target : Targets) (t t' : TrayState) (r r' : RackState) (status : ℕ) (receipt : Option Receipt) where
   out_or_refused : PlateLaws one_page → (written : List Written) (refusal : Refusal) → IsVerdict one_page t.file source target (Out written) → IsVerdict one_page t.file source target (Refused refusal) → ⊥
   out_or_refused laws written refusal out is = let same : ◌≡◌ {A = Verdict} (Out written) (Refused refusal) = one_verdict one_page laws t.file source target (Out written) (Refused refusal) out is in absurd cc
 
@@ -145,110 +146,110 @@ module _ (source : Sources) (target : Targets) (t t' : TrayState) (r r' : RackSt
   out_of : (made : PageParts) → IsMade source t made → IsTrue t.tells → IsVerdict one_page t.file source target (Out (outcome target made))
   out_of made is tells = (made, is.1 tells, refl)
 
-  always_by : PlateLaws one_page → (refusal : Refusal) → Ending source target t t' r r' status → IsTrue t.tells → IsVerdict one_page t.file source target (Refused refusal) → ¬ Rose t.faults t'.faults → (status ≡ status_of refusal) ⊎ (status ≡ 7)
-  always_by laws refusal (done is calm made page begun files told shut asked) tells judged still_tray = absurd (out_or_refused laws (outcome target made) refusal (out_of made page tells) judged)
-  always_by laws refusal (refused other is which verdict begun count keeps line) tells judged still_tray = inl (is ∙ ap (λ (o : Refusal). status_of o) (one_refusal laws other refusal (verdict tells) judged))
-  always_by laws refusal (unread file is rose begun breaks keeps line) tells judged still_tray = absurd (still_tray rose)
-  always_by laws refusal (unwritten file is made page breaks line) tells judged still_tray = absurd (out_or_refused laws (outcome target made) refusal (out_of made page tells) judged)
-  always_by laws refusal (no_memory is calm keeps line) tells judged still_tray = inr is
+  always_by : PlateLaws one_page → (refusal : Refusal) → Ending band source target t t' r r' status receipt → IsTrue t.tells → IsVerdict one_page t.file source target (Refused refusal) → ¬ Rose t.faults t'.faults → (status ≡ status_of refusal) ⊎ (status ≡ 7)
+  always_by laws refusal (done is calm made page begun files told shut asked has) tells judged still_tray = absurd (out_or_refused laws (outcome target made) refusal (out_of made page tells) judged)
+  always_by laws refusal (refused other is which verdict begun count keeps line none) tells judged still_tray = inl (is ∙ ap (λ (o : Refusal). status_of o) (one_refusal laws other refusal (verdict tells) judged))
+  always_by laws refusal (unread file is rose begun breaks keeps line none) tells judged still_tray = absurd (still_tray rose)
+  always_by laws refusal (unwritten file is made page breaks line none) tells judged still_tray = absurd (out_or_refused laws (outcome target made) refusal (out_of made page tells) judged)
+  always_by laws refusal (no_memory is calm keeps line none) tells judged still_tray = inr is
 
-  complete_by : PlateLaws one_page → (written : List Written) → Ending source target t t' r r' status → IsTrue t.tells → IsVerdict one_page t.file source target (Out written) → ¬ Rose t.faults t'.faults → ¬ Rose r.faults r'.faults → (status ≡ 0) ⊎ (status ≡ 7)
-  complete_by laws written (done is calm made page begun files told shut asked) tells judged still_tray still = inl is
-  complete_by laws written (refused refusal is which verdict begun count keeps line) tells judged still_tray still = absurd (out_or_refused laws written refusal judged (verdict tells))
-  complete_by laws written (unread file is rose begun breaks keeps line) tells judged still_tray still = absurd (still_tray rose)
-  complete_by laws written (unwritten file is made page breaks line) tells judged still_tray still = absurd (still (breaks_cause (length target.outputs) (outcome target made) file r r' breaks))
-  complete_by laws written (no_memory is calm keeps line) tells judged still_tray still = inr is
+  complete_by : PlateLaws one_page → (written : List Written) → Ending band source target t t' r r' status receipt → IsTrue t.tells → IsVerdict one_page t.file source target (Out written) → ¬ Rose t.faults t'.faults → ¬ Rose r.faults r'.faults → (status ≡ 0) ⊎ (status ≡ 7)
+  complete_by laws written (done is calm made page begun files told shut asked has) tells judged still_tray still = inl is
+  complete_by laws written (refused refusal is which verdict begun count keeps line none) tells judged still_tray still = absurd (out_or_refused laws written refusal judged (verdict tells))
+  complete_by laws written (unread file is rose begun breaks keeps line none) tells judged still_tray still = absurd (still_tray rose)
+  complete_by laws written (unwritten file is made page breaks line none) tells judged still_tray still = absurd (still (breaks_cause (length target.outputs) (outcome target made) file r r' breaks))
+  complete_by laws written (no_memory is calm keeps line none) tells judged still_tray still = inr is
 
-  read_by : Ending source target t t' r r' status → status ≡ 5 → Rose t.faults t'.faults × ((file : Option ℕ) × Asks t.asked t'.asked (files_to source (refusals.Read file)) × BreaksReading source file t t' × TellsText (line_of (refusals.Read file)) r r')
-  read_by (unread file is rose begun breaks keeps line) s = (rose, (file, begun, breaks, line))
-  read_by (done is calm made page begun files told shut asked) s = absurd (omega arith)
-  read_by (refused refusal is (inl which) verdict begun count keeps line) s = absurd (omega arith)
-  read_by (refused refusal is (inr which) verdict begun count keeps line) s = absurd (omega arith)
-  read_by (unwritten file is made page breaks line) s = absurd (omega arith)
-  read_by (no_memory is calm keeps line) s = absurd (omega arith)
+  read_by : Ending band source target t t' r r' status receipt → status ≡ 5 → Rose t.faults t'.faults × ((file : Option ℕ) × Asks t.asked t'.asked (files_to source (refusals.Read file)) × BreaksReading source file t t' × TellsText (line_of (refusals.Read file)) r r')
+  read_by (unread file is rose begun breaks keeps line none) s = (rose, (file, begun, breaks, line))
+  read_by (done is calm made page begun files told shut asked has) s = absurd (omega arith)
+  read_by (refused refusal is (inl which) verdict begun count keeps line none) s = absurd (omega arith)
+  read_by (refused refusal is (inr which) verdict begun count keeps line none) s = absurd (omega arith)
+  read_by (unwritten file is made page breaks line none) s = absurd (omega arith)
+  read_by (no_memory is calm keeps line none) s = absurd (omega arith)
 
-  write_by : Ending source target t t' r r' status → status ≡ 6 → (file : Option ℕ) × ((made : PageParts) × IsMade source t made × Breaks (length target.outputs) (outcome target made) file r r') × TellsBehindFault (line_of (refusals.Write file)) r r'
-  write_by (unwritten file is made page breaks line) s = (file, (made, page, breaks), line)
-  write_by (done is calm made page begun files told shut asked) s = absurd (omega arith)
-  write_by (refused refusal is (inl which) verdict begun count keeps line) s = absurd (omega arith)
-  write_by (refused refusal is (inr which) verdict begun count keeps line) s = absurd (omega arith)
-  write_by (unread file is rose begun breaks keeps line) s = absurd (omega arith)
-  write_by (no_memory is calm keeps line) s = absurd (omega arith)
+  write_by : Ending band source target t t' r r' status receipt → status ≡ 6 → (file : Option ℕ) × ((made : PageParts) × IsMade source t made × Breaks (length target.outputs) (outcome target made) file r r') × TellsBehindFault (line_of (refusals.Write file)) r r'
+  write_by (unwritten file is made page breaks line none) s = (file, (made, page, breaks), line)
+  write_by (done is calm made page begun files told shut asked has) s = absurd (omega arith)
+  write_by (refused refusal is (inl which) verdict begun count keeps line none) s = absurd (omega arith)
+  write_by (refused refusal is (inr which) verdict begun count keeps line none) s = absurd (omega arith)
+  write_by (unread file is rose begun breaks keeps line none) s = absurd (omega arith)
+  write_by (no_memory is calm keeps line none) s = absurd (omega arith)
 
-  write_cause_by : Ending source target t t' r r' status → status ≡ 6 → Rose r.faults r'.faults
+  write_cause_by : Ending band source target t t' r r' status receipt → status ≡ 6 → Rose r.faults r'.faults
   write_cause_by ended s = let broke = write_by ended s in breaks_cause (length target.outputs) (outcome target broke.1.0) broke.0 r r' broke.1.2
 
-  line_by : Ending source target t t' r r' status → status ≢ 0 → status ≢ 6 → (refusal : Refusal) × (status ≡ status_of refusal) × TellsText (line_of refusal) r r'
-  line_by (done is calm made page begun files told shut asked) some other = absurd (some is)
-  line_by (refused refusal is which verdict begun count keeps line) some other = (refusal, is, line)
-  line_by (unread file is rose begun breaks keeps line) some other = (refusals.Read file, is, line)
-  line_by (unwritten file is made page breaks line) some other = absurd (other is)
-  line_by (no_memory is calm keeps line) some other = (refusals.Memory, is, line)
+  line_by : Ending band source target t t' r r' status receipt → status ≢ 0 → status ≢ 6 → (refusal : Refusal) × (status ≡ status_of refusal) × TellsText (line_of refusal) r r'
+  line_by (done is calm made page begun files told shut asked has) some other = absurd (some is)
+  line_by (refused refusal is which verdict begun count keeps line none) some other = (refusal, is, line)
+  line_by (unread file is rose begun breaks keeps line none) some other = (refusals.Read file, is, line)
+  line_by (unwritten file is made page breaks line none) some other = absurd (other is)
+  line_by (no_memory is calm keeps line none) some other = (refusals.Memory, is, line)
 
-  leaves_by : Ending source target t t' r r' status → status ≢ 0 → status ≢ 6 → KeepsFiles r r'
-  leaves_by (done is calm made page begun files told shut asked) some other = absurd (some is)
-  leaves_by (refused refusal is which verdict begun count keeps line) some other = keeps
-  leaves_by (unread file is rose begun breaks keeps line) some other = keeps
-  leaves_by (unwritten file is made page breaks line) some other = absurd (other is)
-  leaves_by (no_memory is calm keeps line) some other = keeps
+  leaves_by : Ending band source target t t' r r' status receipt → status ≢ 0 → status ≢ 6 → KeepsFiles r r'
+  leaves_by (done is calm made page begun files told shut asked has) some other = absurd (some is)
+  leaves_by (refused refusal is which verdict begun count keeps line none) some other = keeps
+  leaves_by (unread file is rose begun breaks keeps line none) some other = keeps
+  leaves_by (unwritten file is made page breaks line none) some other = absurd (other is)
+  leaves_by (no_memory is calm keeps line none) some other = keeps
 
-  status_by : Ending source target t t' r r' status → (status ≡ 0) ⊎ ((2 ≤ status) × (status ≤ 7))
-  status_by (done is calm made page begun files told shut asked) = inl is
-  status_by (refused refusal is (inl which) verdict begun count keeps line) = inr (omega arith, omega arith)
-  status_by (refused refusal is (inr which) verdict begun count keeps line) = inr (omega arith, omega arith)
-  status_by (unread file is rose begun breaks keeps line) = inr (omega arith, omega arith)
-  status_by (unwritten file is made page breaks line) = inr (omega arith, omega arith)
-  status_by (no_memory is calm keeps line) = inr (omega arith, omega arith)
+  status_by : Ending band source target t t' r r' status receipt → (status ≡ 0) ⊎ ((2 ≤ status) × (status ≤ 7))
+  status_by (done is calm made page begun files told shut asked has) = inl is
+  status_by (refused refusal is (inl which) verdict begun count keeps line none) = inr (omega arith, omega arith)
+  status_by (refused refusal is (inr which) verdict begun count keeps line none) = inr (omega arith, omega arith)
+  status_by (unread file is rose begun breaks keeps line none) = inr (omega arith, omega arith)
+  status_by (unwritten file is made page breaks line none) = inr (omega arith, omega arith)
+  status_by (no_memory is calm keeps line none) = inr (omega arith, omega arith)
 
 -- How a sample page ended.
-module _ (sample : SampleWords) (r r' : RackState) (status : ℕ) where
-  sample_status : AnswersSample sample r r' status → (status ≡ 0) ⊎ (status ≡ 4) ⊎ (status ≡ 6) ⊎ (status ≡ 7)
-  sample_status (AnswersSample.told small is calm text) = inl is
-  sample_status (AnswersSample.told_in_part small is rose text) = inr (inr (inl is))
-  sample_status (AnswersSample.too_many large refuses) = inr (inl refuses.status_is)
-  sample_status (AnswersSample.no_memory small refuses) = inr (inr (inr refuses.status_is))
+module _ (sample : SampleWords) (r r' : RackState) (status : ℕ) (receipt : Option Receipt) where
+  sample_status : AnswersSample sample r r' status receipt → (status ≡ 0) ⊎ (status ≡ 4) ⊎ (status ≡ 6) ⊎ (status ≡ 7)
+  sample_status (AnswersSample.told small is calm text has) = inl is
+  sample_status (AnswersSample.told_in_part small is rose text none) = inr (inr (inl is))
+  sample_status (AnswersSample.too_many large refuses none) = inr (inl refuses.status_is)
+  sample_status (AnswersSample.no_memory small refuses none) = inr (inr (inr refuses.status_is))
 
-  sample_told : AnswersSample sample r r' status → status ≡ 0 → IsTrue r.tells → r'.told ≡ r.told ++ sample_report sample
-  sample_told (AnswersSample.told small is calm text) s = text
-  sample_told (AnswersSample.told_in_part small is rose text) s = absurd (omega arith)
-  sample_told (AnswersSample.too_many large refuses) s = let e : status ≡ 4 = refuses.status_is in absurd (omega arith)
-  sample_told (AnswersSample.no_memory small refuses) s = let e : status ≡ 7 = refuses.status_is in absurd (omega arith)
+  sample_told : AnswersSample sample r r' status receipt → status ≡ 0 → IsTrue r.tells → r'.told ≡ r.told ++ sample_report sample
+  sample_told (AnswersSample.told small is calm text has) s = text
+  sample_told (AnswersSample.told_in_part small is rose text none) s = absurd (omega arith)
+  sample_told (AnswersSample.too_many large refuses none) s = let e : status ≡ 4 = refuses.status_is in absurd (omega arith)
+  sample_told (AnswersSample.no_memory small refuses none) s = let e : status ≡ 7 = refuses.status_is in absurd (omega arith)
 
-  sample_part : AnswersSample sample r r' status → status ≡ 6 → Rose r.faults r'.faults × (IsTrue r.tells → (count : ℕ) × (r'.told ≡ r.told ++ take count (sample_report sample)))
-  sample_part (AnswersSample.told_in_part small is rose text) s = (rose, text)
-  sample_part (AnswersSample.told small is calm text) s = absurd (omega arith)
-  sample_part (AnswersSample.too_many large refuses) s = let e : status ≡ 4 = refuses.status_is in absurd (omega arith)
-  sample_part (AnswersSample.no_memory small refuses) s = let e : status ≡ 7 = refuses.status_is in absurd (omega arith)
+  sample_part : AnswersSample sample r r' status receipt → status ≡ 6 → Rose r.faults r'.faults × (IsTrue r.tells → (count : ℕ) × (r'.told ≡ r.told ++ take count (sample_report sample)))
+  sample_part (AnswersSample.told_in_part small is rose text none) s = (rose, text)
+  sample_part (AnswersSample.told small is calm text has) s = absurd (omega arith)
+  sample_part (AnswersSample.too_many large refuses none) s = let e : status ≡ 4 = refuses.status_is in absurd (omega arith)
+  sample_part (AnswersSample.no_memory small refuses none) s = let e : status ≡ 7 = refuses.status_is in absurd (omega arith)
 
-  sample_large : AnswersSample sample r r' status → status ≡ 4 → IsSmall sample → ⊥
-  sample_large (AnswersSample.too_many large refuses) s = large
-  sample_large (AnswersSample.told small is calm text) s = absurd (omega arith)
-  sample_large (AnswersSample.told_in_part small is rose text) s = absurd (omega arith)
-  sample_large (AnswersSample.no_memory small refuses) s = let e : status ≡ 7 = refuses.status_is in absurd (omega arith)
+  sample_large : AnswersSample sample r r' status receipt → status ≡ 4 → IsSmall sample → ⊥
+  sample_large (AnswersSample.too_many large refuses none) s = large
+  sample_large (AnswersSample.told small is calm text has) s = absurd (omega arith)
+  sample_large (AnswersSample.told_in_part small is rose text none) s = absurd (omega arith)
+  sample_large (AnswersSample.no_memory small refuses none) s = let e : status ≡ 7 = refuses.status_is in absurd (omega arith)
 
-  large_line : AnswersSample sample r r' status → status ≡ 4 → TellsText (line_of (refusals.Page TooManySamples)) r r'
-  large_line (AnswersSample.too_many large refuses) s = refuses.line
-  large_line (AnswersSample.told small is calm text) s = absurd (omega arith)
-  large_line (AnswersSample.told_in_part small is rose text) s = absurd (omega arith)
-  large_line (AnswersSample.no_memory small refuses) s = let e : status ≡ 7 = refuses.status_is in absurd (omega arith)
+  large_line : AnswersSample sample r r' status receipt → status ≡ 4 → TellsText (line_of (refusals.Page TooManySamples)) r r'
+  large_line (AnswersSample.too_many large refuses none) s = refuses.line
+  large_line (AnswersSample.told small is calm text has) s = absurd (omega arith)
+  large_line (AnswersSample.told_in_part small is rose text none) s = absurd (omega arith)
+  large_line (AnswersSample.no_memory small refuses none) s = let e : status ≡ 7 = refuses.status_is in absurd (omega arith)
 
-  large_status : AnswersSample sample r r' status → (IsSmall sample → ⊥) → status ≡ 4
-  large_status (AnswersSample.too_many large refuses) s = refuses.status_is
-  large_status (AnswersSample.told small is calm text) s = absurd (s small)
-  large_status (AnswersSample.told_in_part small is rose text) s = absurd (s small)
-  large_status (AnswersSample.no_memory small refuses) s = absurd (s small)
+  large_status : AnswersSample sample r r' status receipt → (IsSmall sample → ⊥) → status ≡ 4
+  large_status (AnswersSample.too_many large refuses none) s = refuses.status_is
+  large_status (AnswersSample.told small is calm text has) s = absurd (s small)
+  large_status (AnswersSample.told_in_part small is rose text none) s = absurd (s small)
+  large_status (AnswersSample.no_memory small refuses none) s = absurd (s small)
 
-  sample_done : AnswersSample sample r r' status → ¬ Rose r.faults r'.faults → (status ≡ 0) ⊎ (status ≡ 4) ⊎ (status ≡ 7)
-  sample_done (AnswersSample.told small is calm text) still = inl is
-  sample_done (AnswersSample.told_in_part small is rose text) still = absurd (still rose)
-  sample_done (AnswersSample.too_many large refuses) still = inr (inl refuses.status_is)
-  sample_done (AnswersSample.no_memory small refuses) still = inr (inr refuses.status_is)
+  sample_done : AnswersSample sample r r' status receipt → ¬ Rose r.faults r'.faults → (status ≡ 0) ⊎ (status ≡ 4) ⊎ (status ≡ 7)
+  sample_done (AnswersSample.told small is calm text has) still = inl is
+  sample_done (AnswersSample.told_in_part small is rose text none) still = absurd (still rose)
+  sample_done (AnswersSample.too_many large refuses none) still = inr (inl refuses.status_is)
+  sample_done (AnswersSample.no_memory small refuses none) still = inr (inr refuses.status_is)
 
-  sample_line : AnswersSample sample r r' status → status ≢ 0 → status ≢ 6 → (refusal : Refusal) × (status ≡ status_of refusal) × TellsText (line_of refusal) r r'
-  sample_line (AnswersSample.told small is calm text) some other = absurd (some is)
-  sample_line (AnswersSample.told_in_part small is rose text) some other = absurd (other is)
-  sample_line (AnswersSample.too_many large refuses) some other = (refusals.Page TooManySamples, refuses.status_is, refuses.line)
-  sample_line (AnswersSample.no_memory small refuses) some other = (refusals.Memory, refuses.status_is, refuses.line)
+  sample_line : AnswersSample sample r r' status receipt → status ≢ 0 → status ≢ 6 → (refusal : Refusal) × (status ≡ status_of refusal) × TellsText (line_of refusal) r r'
+  sample_line (AnswersSample.told small is calm text has) some other = absurd (some is)
+  sample_line (AnswersSample.told_in_part small is rose text none) some other = absurd (other is)
+  sample_line (AnswersSample.too_many large refuses none) some other = (refusals.Page TooManySamples, refuses.status_is, refuses.line)
+  sample_line (AnswersSample.no_memory small refuses none) some other = (refusals.Memory, refuses.status_is, refuses.line)
 
 -- Words that begin with `page` are no command of a sample page.
 no_sample : (words : List (List ℕ)) (sample : SampleWords) → begins_with_page words ≡ true → command_of words ≡ Some (Sample sample) → ⊥
@@ -258,7 +259,7 @@ no_sample (first ∷ rest) sample begins is = go (page_of_words (first ∷ rest)
   go None same = absurd cc
   go (Some page) same = absurd cc
 
-module _ (T : Type 0) (words : List (List ℕ)) (t t' : TrayState) (r r' : RackState) (status : ℕ) where
+module _ (words : List (List ℕ)) (t t' : TrayState) (r r' : RackState) (status : ℕ) (receipt : Option Receipt) where
   same_page : (one two : PageWords) → MeanPage words one → MeanPage words two → one ≡ two
   same_page one two a b = let same : ◌≡◌ {A = Option Command} (Some (Page one)) (Some (Page two)) = sym a ∙ b in cc
 
@@ -270,58 +271,85 @@ module _ (T : Type 0) (words : List (List ℕ)) (t t' : TrayState) (r r' : RackS
 
   -- how the page that the words mean ended
   abbrev EndingOf : PageWords → Type 0
-  EndingOf page = Ending (sources_of page) (targets_of page) t t' r r' status
+  EndingOf page = Ending page.band (sources_of page) (targets_of page) t t' r r' status receipt
 
-  page_ending : (page : PageWords) → MeanPage words page → Ends T words t t' r r' status → EndingOf page
-  page_ending page means (Ends.no_memory begins same refuses) = no_memory refuses.status_is (ap (λ (s : TrayState). s.faults) same) refuses.files refuses.line
-  page_ending page means (Ends.no_command none same refuses) = let e : ◌≡◌ {A = Option Command} None (Some (Page page)) = sym none ∙ means in absurd cc
-  page_ending page means (Ends.page other also ended) = subst (λ (p : PageWords). EndingOf p) (same_page other page also means) (ending T (sources_of other) (targets_of other) t t' r r' status ended)
+  page_ending : (page : PageWords) → MeanPage words page → Ends words t t' r r' status receipt → EndingOf page
+  page_ending page means (Ends.no_memory begins same refuses none) = no_memory refuses.status_is (ap (λ (s : TrayState). s.faults) same) refuses.files refuses.line none
+  page_ending page means (Ends.no_command means_none same refuses none) = let e : ◌≡◌ {A = Option Command} None (Some (Page page)) = sym means_none ∙ means in absurd cc
+  page_ending page means (Ends.page other also ended) = subst (λ (p : PageWords). EndingOf p) (same_page other page also means) (ending other.band (sources_of other) (targets_of other) t t' r r' status receipt ended)
   page_ending page means (Ends.sample sample also same ended) = absurd (not_both page sample means also)
 
-  sample_ending : (sample : SampleWords) → MeanSample words sample → Ends T words t t' r r' status → (t' ≡ t) × EndsSample sample r r' status
-  sample_ending sample means (Ends.no_memory begins same refuses) = absurd (no_sample words sample begins means)
-  sample_ending sample means (Ends.no_command none same refuses) = let e : ◌≡◌ {A = Option Command} None (Some (Sample sample)) = sym none ∙ means in absurd cc
+  sample_ending : (sample : SampleWords) → MeanSample words sample → Ends words t t' r r' status receipt → (t' ≡ t) × EndsSample sample r r' status receipt
+  sample_ending sample means (Ends.no_memory begins same refuses none) = absurd (no_sample words sample begins means)
+  sample_ending sample means (Ends.no_command means_none same refuses none) = let e : ◌≡◌ {A = Option Command} None (Some (Sample sample)) = sym means_none ∙ means in absurd cc
   sample_ending sample means (Ends.page page also ended) = absurd (not_both page sample also means)
-  sample_ending sample means (Ends.sample other also same ended) = (same, subst (λ (s : SampleWords). EndsSample s r r' status) (same_sample other sample also means) ended)
+  sample_ending sample means (Ends.sample other also same ended) = (same, subst (λ (s : SampleWords). EndsSample s r r' status receipt) (same_sample other sample also means) ended)
 
   -- the files of a page that is done
-  page_files : (page : PageWords) → EndingOf page → status ≡ 0 → (made : PageParts) × IsMade (sources_of page) t made × (IsTrue r.tells → r'.file ≡ put_all (outcome (targets_of page) made) r.file)
-  page_files page (done is calm made valid begun files told shut asked) s = (made, valid, files)
-  page_files page (refused refusal is (inl which) verdict begun count keeps line) s = absurd (omega arith)
-  page_files page (refused refusal is (inr which) verdict begun count keeps line) s = absurd (omega arith)
-  page_files page (unread file is rose begun breaks keeps line) s = absurd (omega arith)
-  page_files page (unwritten file is made valid breaks line) s = absurd (omega arith)
-  page_files page (no_memory is calm keeps line) s = absurd (omega arith)
+  page_files : (page : PageWords) → EndingOf page → status ≡ 0 → (made : PageParts) × IsMade (sources_of page) t made × (IsTrue r.tells → r'.file ≡ put_all (outcome (targets_of page) made) r.file) × HasReceipt made page.band receipt
+  page_files page (done is calm made valid begun files told shut asked has) s = (made, valid, files, has)
+  page_files page (refused refusal is (inl which) verdict begun count keeps line none) s = absurd (omega arith)
+  page_files page (refused refusal is (inr which) verdict begun count keeps line none) s = absurd (omega arith)
+  page_files page (unread file is rose begun breaks keeps line none) s = absurd (omega arith)
+  page_files page (unwritten file is made valid breaks line none) s = absurd (omega arith)
+  page_files page (no_memory is calm keeps line none) s = absurd (omega arith)
 
   page_silent : (page : PageWords) → EndingOf page → status ≡ 0 → (IsTrue r.tells → r'.told ≡ r.told) × IsFalse r'.is_open × Asks t.asked t'.asked (read_files (sources_of page)) × Asks r.asked r'.asked (written_names (targets_of page))
-  page_silent page (done is calm made valid begun files told shut asked) s = (told, shut, begun, asked)
-  page_silent page (refused refusal is (inl which) verdict begun count keeps line) s = absurd (omega arith)
-  page_silent page (refused refusal is (inr which) verdict begun count keeps line) s = absurd (omega arith)
-  page_silent page (unread file is rose begun breaks keeps line) s = absurd (omega arith)
-  page_silent page (unwritten file is made valid breaks line) s = absurd (omega arith)
-  page_silent page (no_memory is calm keeps line) s = absurd (omega arith)
+  page_silent page (done is calm made valid begun files told shut asked has) s = (told, shut, begun, asked)
+  page_silent page (refused refusal is (inl which) verdict begun count keeps line none) s = absurd (omega arith)
+  page_silent page (refused refusal is (inr which) verdict begun count keeps line none) s = absurd (omega arith)
+  page_silent page (unread file is rose begun breaks keeps line none) s = absurd (omega arith)
+  page_silent page (unwritten file is made valid breaks line none) s = absurd (omega arith)
+  page_silent page (no_memory is calm keeps line none) s = absurd (omega arith)
 
   page_calm : (page : PageWords) → EndingOf page → status ≡ 0 → (t'.faults ≡ t.faults) × (r'.faults ≡ r.faults)
-  page_calm page (done is calm made valid begun files told shut asked) s = calm
-  page_calm page (refused refusal is (inl which) verdict begun count keeps line) s = absurd (omega arith)
-  page_calm page (refused refusal is (inr which) verdict begun count keeps line) s = absurd (omega arith)
-  page_calm page (unread file is rose begun breaks keeps line) s = absurd (omega arith)
-  page_calm page (unwritten file is made valid breaks line) s = absurd (omega arith)
-  page_calm page (no_memory is calm keeps line) s = absurd (omega arith)
+  page_calm page (done is calm made valid begun files told shut asked has) s = calm
+  page_calm page (refused refusal is (inl which) verdict begun count keeps line none) s = absurd (omega arith)
+  page_calm page (refused refusal is (inr which) verdict begun count keeps line none) s = absurd (omega arith)
+  page_calm page (unread file is rose begun breaks keeps line none) s = absurd (omega arith)
+  page_calm page (unwritten file is made valid breaks line none) s = absurd (omega arith)
+  page_calm page (no_memory is calm keeps line none) s = absurd (omega arith)
 
-  sample_calm : (sample : SampleWords) → t' ≡ t → AnswersSample sample r r' status → status ≡ 0 → (t'.faults ≡ t.faults) × (r'.faults ≡ r.faults)
-  sample_calm sample same (AnswersSample.told small is calm text) s = (ap (λ (u : TrayState). u.faults) same, calm)
-  sample_calm sample same (AnswersSample.told_in_part small is rose text) s = absurd (omega arith)
-  sample_calm sample same (AnswersSample.too_many large refuses) s = let e : status ≡ 4 = refuses.status_is in absurd (omega arith)
-  sample_calm sample same (AnswersSample.no_memory small refuses) s = let e : status ≡ 7 = refuses.status_is in absurd (omega arith)
+  sample_calm : (sample : SampleWords) → t' ≡ t → AnswersSample sample r r' status receipt → status ≡ 0 → (t'.faults ≡ t.faults) × (r'.faults ≡ r.faults)
+  sample_calm sample same (AnswersSample.told small is calm text has) s = (ap (λ (u : TrayState). u.faults) same, calm)
+  sample_calm sample same (AnswersSample.told_in_part small is rose text none) s = absurd (omega arith)
+  sample_calm sample same (AnswersSample.too_many large refuses none) s = let e : status ≡ 4 = refuses.status_is in absurd (omega arith)
+  sample_calm sample same (AnswersSample.no_memory small refuses none) s = let e : status ≡ 7 = refuses.status_is in absurd (omega arith)
 
-  calm_of : Ends T words t t' r r' status → status ≡ 0 → (t'.faults ≡ t.faults) × (r'.faults ≡ r.faults)
-  calm_of (Ends.no_memory begins same refuses) s = let e : status ≡ 7 = refuses.status_is in absurd (omega arith)
-  calm_of (Ends.no_command none same refuses) s = let e : status ≡ 2 = refuses.status_is in absurd (omega arith)
-  calm_of (Ends.page page also ended) s = page_calm page (ending T (sources_of page) (targets_of page) t t' r r' status ended) s
+  calm_of : Ends words t t' r r' status receipt → status ≡ 0 → (t'.faults ≡ t.faults) × (r'.faults ≡ r.faults)
+  calm_of (Ends.no_memory begins same refuses none) s = let e : status ≡ 7 = refuses.status_is in absurd (omega arith)
+  calm_of (Ends.no_command means_none same refuses none) s = let e : status ≡ 2 = refuses.status_is in absurd (omega arith)
+  calm_of (Ends.page page also ended) s = page_calm page (ending page.band (sources_of page) (targets_of page) t t' r r' status receipt ended) s
   calm_of (Ends.sample sample also same ended) s = sample_calm sample same ended.answer s
 
-  pub success : Ends T words t t' r r' status → Success words t t' r r' status
+  -- the receipt of a sample page that is done
+  sample_has : (sample : SampleWords) → AnswersSample sample r r' status receipt → status ≡ 0 → HasReceipt (sample_of sample) sample_band receipt
+  sample_has sample (AnswersSample.told small is calm text has) s = has
+  sample_has sample (AnswersSample.told_in_part small is rose text none) s = absurd (omega arith)
+  sample_has sample (AnswersSample.too_many large refuses none) s = let e : status ≡ 4 = refuses.status_is in absurd (omega arith)
+  sample_has sample (AnswersSample.no_memory small refuses none) s = let e : status ≡ 7 = refuses.status_is in absurd (omega arith)
+
+  -- there is no receipt where the work is not done
+  page_without : (page : PageWords) → EndingOf page → status ≢ 0 → receipt ≡ None
+  page_without page (done is calm made valid begun files told shut asked has) some = absurd (some is)
+  page_without page (refused refusal is which verdict begun count keeps line none) some = none
+  page_without page (unread file is rose begun breaks keeps line none) some = none
+  page_without page (unwritten file is made valid breaks line none) some = none
+  page_without page (no_memory is calm keeps line none) some = none
+
+  sample_without : (sample : SampleWords) → AnswersSample sample r r' status receipt → status ≢ 0 → receipt ≡ None
+  sample_without sample (AnswersSample.told small is calm text has) some = absurd (some is)
+  sample_without sample (AnswersSample.told_in_part small is rose text none) some = none
+  sample_without sample (AnswersSample.too_many large refuses none) some = none
+  sample_without sample (AnswersSample.no_memory small refuses none) some = none
+
+  without : Ends words t t' r r' status receipt → status ≢ 0 → receipt ≡ None
+  without (Ends.no_memory begins same refuses none) some = none
+  without (Ends.no_command means_none same refuses none) some = none
+  without (Ends.page page also ended) some = page_without page (ending page.band (sources_of page) (targets_of page) t t' r r' status receipt ended) some
+  without (Ends.sample sample also same ended) some = sample_without sample ended.answer some
+
+  pub success : Ends words t t' r r' status receipt → Success words t t' r r' status receipt
   success ended = record {
     calm = calm_of ended;
     files = λ page means s. page_files page (page_ending page means ended) s;
@@ -329,138 +357,140 @@ module _ (T : Type 0) (words : List (List ℕ)) (t t' : TrayState) (r r' : RackS
     finished = λ page means s. (page_silent page (page_ending page means ended) s).1;
     begun = λ page means s. (page_silent page (page_ending page means ended) s).2;
     created = λ page means s. (page_silent page (page_ending page means ended) s).3;
+    sample = λ sample means s. sample_has sample (sample_ending sample means ended).1.answer s;
+    no_receipt = without ended;
   }
 
   only_by : (page : PageWords) → EndingOf page → (status ≡ 3) ⊎ (status ≡ 4) → (refusal : Refusal) × RefusesFiles page t t' r r' status refusal
-  only_by page (refused refusal is which verdict begun count keeps line) s = (refusal, record { status_is = is; verdict = verdict; begun = begun; count = count; line = line })
-  only_by page (done is calm made valid begun files told shut asked) (inl s) = absurd (omega arith)
-  only_by page (done is calm made valid begun files told shut asked) (inr s) = absurd (omega arith)
-  only_by page (unread file is rose begun breaks keeps line) (inl s) = absurd (omega arith)
-  only_by page (unread file is rose begun breaks keeps line) (inr s) = absurd (omega arith)
-  only_by page (unwritten file is made valid breaks line) (inl s) = absurd (omega arith)
-  only_by page (unwritten file is made valid breaks line) (inr s) = absurd (omega arith)
-  only_by page (no_memory is calm keeps line) (inl s) = absurd (omega arith)
-  only_by page (no_memory is calm keeps line) (inr s) = absurd (omega arith)
+  only_by page (refused refusal is which verdict begun count keeps line none) s = (refusal, record { status_is = is; verdict = verdict; begun = begun; count = count; line = line })
+  only_by page (done is calm made valid begun files told shut asked has) (inl s) = absurd (omega arith)
+  only_by page (done is calm made valid begun files told shut asked has) (inr s) = absurd (omega arith)
+  only_by page (unread file is rose begun breaks keeps line none) (inl s) = absurd (omega arith)
+  only_by page (unread file is rose begun breaks keeps line none) (inr s) = absurd (omega arith)
+  only_by page (unwritten file is made valid breaks line none) (inl s) = absurd (omega arith)
+  only_by page (unwritten file is made valid breaks line none) (inr s) = absurd (omega arith)
+  only_by page (no_memory is calm keeps line none) (inl s) = absurd (omega arith)
+  only_by page (no_memory is calm keeps line none) (inr s) = absurd (omega arith)
 
-  pub refused_input : PlateLaws one_page → Ends T words t t' r r' status → RefusedInput words t t' r r' status
+  pub refused_input : PlateLaws one_page → Ends words t t' r r' status receipt → RefusedInput words t t' r r' status
   refused_input laws ended = record {
     only = λ page means s. only_by page (page_ending page means ended) s;
-    always = λ page refusal means tells judged calm. always_by (sources_of page) (targets_of page) t t' r r' status laws refusal (page_ending page means ended) tells judged calm;
+    always = λ page refusal means tells judged calm. always_by page.band (sources_of page) (targets_of page) t t' r r' status receipt laws refusal (page_ending page means ended) tells judged calm;
   }
 
-  read_cause : Ends T words t t' r r' status → status ≡ 5 → Rose t.faults t'.faults
-  read_cause (Ends.no_memory begins same refuses) s = let e : status ≡ 7 = refuses.status_is in absurd (omega arith)
-  read_cause (Ends.no_command none same refuses) s = let e : status ≡ 2 = refuses.status_is in absurd (omega arith)
-  read_cause (Ends.page page also ended) s = (read_by (sources_of page) (targets_of page) t t' r r' status (ending T (sources_of page) (targets_of page) t t' r r' status ended) s).0
-  read_cause (Ends.sample sample also same ended) s = elim (sample_status sample r r' status ended.answer) [
+  read_cause : Ends words t t' r r' status receipt → status ≡ 5 → Rose t.faults t'.faults
+  read_cause (Ends.no_memory begins same refuses none) s = let e : status ≡ 7 = refuses.status_is in absurd (omega arith)
+  read_cause (Ends.no_command means_none same refuses none) s = let e : status ≡ 2 = refuses.status_is in absurd (omega arith)
+  read_cause (Ends.page page also ended) s = (read_by page.band (sources_of page) (targets_of page) t t' r r' status receipt (ending page.band (sources_of page) (targets_of page) t t' r r' status receipt ended) s).0
+  read_cause (Ends.sample sample also same ended) s = elim (sample_status sample r r' status receipt ended.answer) [
     | inl a ↦ absurd (omega arith)
     | inr (inl a) ↦ absurd (omega arith)
     | inr (inr (inl a)) ↦ absurd (omega arith)
     | inr (inr (inr a)) ↦ absurd (omega arith)
   ]
 
-  asked_of : (page : PageWords) → MeanPage words page → Ends T words t t' r r' status → AsksFront t.asked t'.asked (read_files (sources_of page))
-  asked_of page means (Ends.no_memory begins same refuses) = subst (λ (s : TrayState). AsksFront t.asked s.asked (read_files (sources_of page))) (sym same) (asks_none_of t.asked (read_files (sources_of page)))
-  asked_of page means (Ends.no_command none same refuses) = let e : ◌≡◌ {A = Option Command} None (Some (Page page)) = sym none ∙ means in absurd cc
+  asked_of : (page : PageWords) → MeanPage words page → Ends words t t' r r' status receipt → AsksFront t.asked t'.asked (read_files (sources_of page))
+  asked_of page means (Ends.no_memory begins same refuses none) = subst (λ (s : TrayState). AsksFront t.asked s.asked (read_files (sources_of page))) (sym same) (asks_none_of t.asked (read_files (sources_of page)))
+  asked_of page means (Ends.no_command means_none same refuses none) = let e : ◌≡◌ {A = Option Command} None (Some (Page page)) = sym means_none ∙ means in absurd cc
   asked_of page means (Ends.page other also ended) = subst (λ (p : PageWords). AsksFront t.asked t'.asked (read_files (sources_of p))) (same_page other page also means) ended.carried.asked
   asked_of page means (Ends.sample sample also same ended) = absurd (not_both page sample means also)
 
   -- the bytes that were taken of the file in hand
-  hand_of : (page : PageWords) → MeanPage words page → Ends T words t t' r r' status → (t' ≡ t) ⊎ InHand (sources_of page) t t'
-  hand_of page means (Ends.no_memory begins same refuses) = inl same
-  hand_of page means (Ends.no_command none same refuses) = inl same
+  hand_of : (page : PageWords) → MeanPage words page → Ends words t t' r r' status receipt → (t' ≡ t) ⊎ InHand (sources_of page) t t'
+  hand_of page means (Ends.no_memory begins same refuses none) = inl same
+  hand_of page means (Ends.no_command means_none same refuses none) = inl same
   hand_of page means (Ends.page other also ended) = subst (λ (p : PageWords). (t' ≡ t) ⊎ InHand (sources_of p) t t') (same_page other page also means) ended.carried.in_hand
   hand_of page means (Ends.sample sample also same ended) = inl same
 
   -- want of memory passes no fault of the tray over
   memory_calm : (page : PageWords) → EndingOf page → status ≡ 7 → t'.faults ≡ t.faults
-  memory_calm page (no_memory is calm keeps line) s = calm
-  memory_calm page (done is calm made valid begun files told shut asked) s = calm.0
-  memory_calm page (refused refusal is (inl which) verdict begun count keeps line) s = absurd (omega arith)
-  memory_calm page (refused refusal is (inr which) verdict begun count keeps line) s = absurd (omega arith)
-  memory_calm page (unread file is rose begun breaks keeps line) s = absurd (omega arith)
-  memory_calm page (unwritten file is made valid breaks line) s = absurd (omega arith)
+  memory_calm page (no_memory is calm keeps line none) s = calm
+  memory_calm page (done is calm made valid begun files told shut asked has) s = calm.0
+  memory_calm page (refused refusal is (inl which) verdict begun count keeps line none) s = absurd (omega arith)
+  memory_calm page (refused refusal is (inr which) verdict begun count keeps line none) s = absurd (omega arith)
+  memory_calm page (unread file is rose begun breaks keeps line none) s = absurd (omega arith)
+  memory_calm page (unwritten file is made valid breaks line none) s = absurd (omega arith)
 
-  calm_memory : Ends T words t t' r r' status → status ≡ 7 → t'.faults ≡ t.faults
-  calm_memory (Ends.no_memory begins same refuses) s = ap (λ (u : TrayState). u.faults) same
-  calm_memory (Ends.no_command none same refuses) s = ap (λ (u : TrayState). u.faults) same
-  calm_memory (Ends.page page also ended) s = memory_calm page (ending T (sources_of page) (targets_of page) t t' r r' status ended) s
+  calm_memory : Ends words t t' r r' status receipt → status ≡ 7 → t'.faults ≡ t.faults
+  calm_memory (Ends.no_memory begins same refuses none) s = ap (λ (u : TrayState). u.faults) same
+  calm_memory (Ends.no_command means_none same refuses none) s = ap (λ (u : TrayState). u.faults) same
+  calm_memory (Ends.page page also ended) s = memory_calm page (ending page.band (sources_of page) (targets_of page) t t' r r' status receipt ended) s
   calm_memory (Ends.sample sample also same ended) s = ap (λ (u : TrayState). u.faults) same
 
-  pub read_fault : Ends T words t t' r r' status → ReadFault words t t' r r' status
+  pub read_fault : Ends words t t' r r' status receipt → ReadFault words t t' r r' status
   read_fault ended = record {
     cause = read_cause ended;
-    breaks = λ page means s. (read_by (sources_of page) (targets_of page) t t' r r' status (page_ending page means ended) s).1;
+    breaks = λ page means s. (read_by page.band (sources_of page) (targets_of page) t t' r r' status receipt (page_ending page means ended) s).1;
     asked = λ page means. asked_of page means ended;
     in_hand = λ page means. hand_of page means ended;
     calm = calm_memory ended;
   }
 
-  write_cause : Ends T words t t' r r' status → status ≡ 6 → Rose r.faults r'.faults
-  write_cause (Ends.no_memory begins same refuses) s = let e : status ≡ 7 = refuses.status_is in absurd (omega arith)
-  write_cause (Ends.no_command none same refuses) s = let e : status ≡ 2 = refuses.status_is in absurd (omega arith)
-  write_cause (Ends.page page also ended) s = write_cause_by (sources_of page) (targets_of page) t t' r r' status (ending T (sources_of page) (targets_of page) t t' r r' status ended) s
-  write_cause (Ends.sample sample also same ended) s = (sample_part sample r r' status ended.answer s).0
+  write_cause : Ends words t t' r r' status receipt → status ≡ 6 → Rose r.faults r'.faults
+  write_cause (Ends.no_memory begins same refuses none) s = let e : status ≡ 7 = refuses.status_is in absurd (omega arith)
+  write_cause (Ends.no_command means_none same refuses none) s = let e : status ≡ 2 = refuses.status_is in absurd (omega arith)
+  write_cause (Ends.page page also ended) s = write_cause_by page.band (sources_of page) (targets_of page) t t' r r' status receipt (ending page.band (sources_of page) (targets_of page) t t' r r' status receipt ended) s
+  write_cause (Ends.sample sample also same ended) s = (sample_part sample r r' status receipt ended.answer s).0
 
   -- the files that are created, after the line was told
-  created_by : (page : PageWords) (result : Result T Refusal) (between : RackState) → CarriesOut (sources_of page) (targets_of page) t t' r between result → Closes result between r' status → AsksFront r.asked r'.asked (written_names (targets_of page))
+  created_by : (page : PageWords) (result : Result Receipt Refusal) (between : RackState) → CarriesOut page.band (sources_of page) (targets_of page) t t' r between result → Closes result between r' status receipt → AsksFront r.asked r'.asked (written_names (targets_of page))
   created_by page (Ok x) between carried closed = subst (λ (s : RackState). AsksFront r.asked s.asked (written_names (targets_of page))) (sym closed.0) carried.created
-  created_by page (Err refusal) between carried closed = subst (λ (names : Option (List (List ℕ))). AsksFront r.asked names (written_names (targets_of page))) (sym closed.files.asked) carried.created
+  created_by page (Err refusal) between carried closed = subst (λ (names : Option (List (List ℕ))). AsksFront r.asked names (written_names (targets_of page))) (sym closed.0.files.asked) carried.created
 
-  created_of : (page : PageWords) → MeanPage words page → Ends T words t t' r r' status → AsksFront r.asked r'.asked (written_names (targets_of page))
-  created_of page means (Ends.no_memory begins same refuses) = subst (λ (names : Option (List (List ℕ))). AsksFront r.asked names (written_names (targets_of page))) (sym refuses.files.asked) (asks_none_of r.asked (written_names (targets_of page)))
-  created_of page means (Ends.no_command none same refuses) = let e : ◌≡◌ {A = Option Command} None (Some (Page page)) = sym none ∙ means in absurd cc
+  created_of : (page : PageWords) → MeanPage words page → Ends words t t' r r' status receipt → AsksFront r.asked r'.asked (written_names (targets_of page))
+  created_of page means (Ends.no_memory begins same refuses none) = subst (λ (names : Option (List (List ℕ))). AsksFront r.asked names (written_names (targets_of page))) (sym refuses.files.asked) (asks_none_of r.asked (written_names (targets_of page)))
+  created_of page means (Ends.no_command means_none same refuses none) = let e : ◌≡◌ {A = Option Command} None (Some (Page page)) = sym means_none ∙ means in absurd cc
   created_of page means (Ends.page other also ended) = subst (λ (p : PageWords). AsksFront r.asked r'.asked (written_names (targets_of p))) (same_page other page also means) (created_by other ended.result ended.between ended.carried ended.closed)
   created_of page means (Ends.sample sample also same ended) = absurd (not_both page sample means also)
 
-  pub write_fault : Ends T words t t' r r' status → WriteFault words t r r' status
+  pub write_fault : Ends words t t' r r' status receipt → WriteFault words t r r' status
   write_fault ended = record {
     cause = write_cause ended;
-    breaks = λ page means s. write_by (sources_of page) (targets_of page) t t' r r' status (page_ending page means ended) s;
+    breaks = λ page means s. write_by page.band (sources_of page) (targets_of page) t t' r r' status receipt (page_ending page means ended) s;
     asked = λ page means. created_of page means ended;
   }
 
-  pub fault_line : Ends T words t t' r r' status → FaultLine r r' status
-  fault_line (Ends.no_memory begins same refuses) some other = (refusals.Memory, refuses.status_is, refuses.line)
-  fault_line (Ends.no_command none same refuses) some other = (refusals.Usage, refuses.status_is, refuses.line)
-  fault_line (Ends.page page also ended) some other = line_by (sources_of page) (targets_of page) t t' r r' status (ending T (sources_of page) (targets_of page) t t' r r' status ended) some other
-  fault_line (Ends.sample sample also same ended) some other = sample_line sample r r' status ended.answer some other
+  pub fault_line : Ends words t t' r r' status receipt → FaultLine r r' status
+  fault_line (Ends.no_memory begins same refuses none) some other = (refusals.Memory, refuses.status_is, refuses.line)
+  fault_line (Ends.no_command means_none same refuses none) some other = (refusals.Usage, refuses.status_is, refuses.line)
+  fault_line (Ends.page page also ended) some other = line_by page.band (sources_of page) (targets_of page) t t' r r' status receipt (ending page.band (sources_of page) (targets_of page) t t' r r' status receipt ended) some other
+  fault_line (Ends.sample sample also same ended) some other = sample_line sample r r' status receipt ended.answer some other
 
-  left : Ends T words t t' r r' status → status ≢ 0 → status ≢ 6 → KeepsFiles r r'
-  left (Ends.no_memory begins same refuses) some other = refuses.files
-  left (Ends.no_command none same refuses) some other = refuses.files
-  left (Ends.page page also ended) some other = leaves_by (sources_of page) (targets_of page) t t' r r' status (ending T (sources_of page) (targets_of page) t t' r r' status ended) some other
+  left : Ends words t t' r r' status receipt → status ≢ 0 → status ≢ 6 → KeepsFiles r r'
+  left (Ends.no_memory begins same refuses none) some other = refuses.files
+  left (Ends.no_command means_none same refuses none) some other = refuses.files
+  left (Ends.page page also ended) some other = leaves_by page.band (sources_of page) (targets_of page) t t' r r' status receipt (ending page.band (sources_of page) (targets_of page) t t' r r' status receipt ended) some other
   left (Ends.sample sample also same ended) some other = ended.files
 
-  pub leaves_files : Ends T words t t' r r' status → LeavesFiles r r' status
+  pub leaves_files : Ends words t t' r r' status receipt → LeavesFiles r r' status
   leaves_files ended some other = let keeps = left ended some other in (keeps.asked, keeps.is_open, keeps.files)
 
-  pub sample_page : Ends T words t t' r r' status → SamplePage words t t' r r' status
+  pub sample_page : Ends words t t' r r' status receipt → SamplePage words t t' r r' status
   sample_page ended = record {
-    statuses = λ sample means. sample_status sample r r' status (sample_ending sample means ended).1.answer;
-    told = λ sample means. sample_told sample r r' status (sample_ending sample means ended).1.answer;
-    too_many = λ sample means. (sample_large sample r r' status (sample_ending sample means ended).1.answer, large_status sample r r' status (sample_ending sample means ended).1.answer);
-    too_many_line = λ sample means. large_line sample r r' status (sample_ending sample means ended).1.answer;
-    in_part = λ sample means s. (sample_part sample r r' status (sample_ending sample means ended).1.answer s).1;
+    statuses = λ sample means. sample_status sample r r' status receipt (sample_ending sample means ended).1.answer;
+    told = λ sample means. sample_told sample r r' status receipt (sample_ending sample means ended).1.answer;
+    too_many = λ sample means. (sample_large sample r r' status receipt (sample_ending sample means ended).1.answer, large_status sample r r' status receipt (sample_ending sample means ended).1.answer);
+    too_many_line = λ sample means. large_line sample r r' status receipt (sample_ending sample means ended).1.answer;
+    in_part = λ sample means s. (sample_part sample r r' status receipt (sample_ending sample means ended).1.answer s).1;
     files = λ sample means. (sample_ending sample means ended).1.files.files;
     no_begin = λ sample means. ap (λ (s : TrayState). s.asked) (sample_ending sample means ended).0;
     no_create = λ sample means. (sample_ending sample means ended).1.files.asked;
   }
 
-  statuses : Ends T words t t' r r' status → (status ≡ 0) ⊎ ((2 ≤ status) × (status ≤ 7))
-  statuses (Ends.no_memory begins same refuses) = let e : status ≡ 7 = refuses.status_is in inr (omega arith, omega arith)
-  statuses (Ends.no_command none same refuses) = let e : status ≡ 2 = refuses.status_is in inr (omega arith, omega arith)
-  statuses (Ends.page page also ended) = status_by (sources_of page) (targets_of page) t t' r r' status (ending T (sources_of page) (targets_of page) t t' r r' status ended)
-  statuses (Ends.sample sample also same ended) = elim (sample_status sample r r' status ended.answer) [
+  statuses : Ends words t t' r r' status receipt → (status ≡ 0) ⊎ ((2 ≤ status) × (status ≤ 7))
+  statuses (Ends.no_memory begins same refuses none) = let e : status ≡ 7 = refuses.status_is in inr (omega arith, omega arith)
+  statuses (Ends.no_command means_none same refuses none) = let e : status ≡ 2 = refuses.status_is in inr (omega arith, omega arith)
+  statuses (Ends.page page also ended) = status_by page.band (sources_of page) (targets_of page) t t' r r' status receipt (ending page.band (sources_of page) (targets_of page) t t' r r' status receipt ended)
+  statuses (Ends.sample sample also same ended) = elim (sample_status sample r r' status receipt ended.answer) [
     | inl a ↦ inl a
     | inr (inl a) ↦ inr (omega arith, omega arith)
     | inr (inr (inl a)) ↦ inr (omega arith, omega arith)
     | inr (inr (inr a)) ↦ inr (omega arith, omega arith)
   ]
 
-  pub completeness : PlateLaws one_page → Ends T words t t' r r' status → Completeness words t t' r r' status
+  pub completeness : PlateLaws one_page → Ends words t t' r r' status receipt → Completeness words t t' r r' status
   completeness laws ended = record {
-    page = λ page written means tells judged still_tray still. complete_by (sources_of page) (targets_of page) t t' r r' status laws written (page_ending page means ended) tells judged still_tray still;
-    sample = λ sample means still. sample_done sample r r' status (sample_ending sample means ended).1.answer still;
+    page = λ page written means tells judged still_tray still. complete_by page.band (sources_of page) (targets_of page) t t' r r' status receipt laws written (page_ending page means ended) tells judged still_tray still;
+    sample = λ sample means still. sample_done sample r r' status receipt (sample_ending sample means ended).1.answer still;
     statuses = statuses ended;
   }

@@ -1,5 +1,6 @@
 -- How a command of a page ends, from how its page is read and put out.
-use Rattle.std.proofs.Common.{◌≡◌, ℕ, ◌<◌, ◌+◌, List, [], ◌∷◌, ◌++◌, length, Some, None, Result, Ok, Err, IsTrue, inl, inr, refl, sym, subst, arith}
+use Rattle.std.proofs.Common.{◌≡◌, ℕ, Result, Ok, Err, inl, inr, refl, sym, subst, arith}
+use Rattle.band_claims.specs.Receipt.{Receipt}
 use Rattle.outside.specs.Tray.{TrayState}
 use Rattle.outside.specs.Rack.{RackState, KeepsRack}
 use Rattle.page_model.specs.declared.parts.PageParts.{PageParts}
@@ -12,37 +13,37 @@ use Rattle.page_gather.proofs.GatherLemmas.{refused_count}
 use Rattle.trap_report.specs.declared.refusal.Refusal.{Refusal}
 use Rattle.trap_report.specs.declared.refusal.Refusal.TheVariants.{Usage, Job, NoDetails, Plate, Page, Read, Write, Memory}
 use Rattle.trap_cli.specs.Endings.{AnswersPut, PutsOut, AnswersCommand, CarriesOut}
-use Rattle.verdicts.specs.Verdicts.{Targets, outcome, written_names}
+use Rattle.verdicts.specs.Verdicts.{Targets, written_names}
 
 unchanged : (a : RackState) → KeepsRack a a
 unchanged a = record { tells = refl; faults = omega arith }
 
-answer_refused : (T : Type 0) (source : Sources) (target : Targets) (a b : TrayState) (r : RackState) (refusal : Refusal) → AnswersPage source a b (Err refusal) → AnswersCommand {T = T} source target a b r r (Err refusal)
-answer_refused T source target a b r (Job fault) answer = (answer, refl)
-answer_refused T source target a b r (NoDetails plate) answer = (answer, refl)
-answer_refused T source target a b r (Plate plate fault) answer = (answer, refl)
-answer_refused T source target a b r (Page fault) answer = (answer, refl)
-answer_refused T source target a b r (Read file) answer = (answer, refl)
-answer_refused T source target a b r Memory answer = (answer, refl)
-answer_refused T source target a b r Usage answer = absurd answer
-answer_refused T source target a b r (Write file) answer = absurd answer
+answer_refused : (band : ℕ) (source : Sources) (target : Targets) (a b : TrayState) (r : RackState) (refusal : Refusal) → AnswersPage source a b (Err refusal) → AnswersCommand band source target a b r r (Err refusal)
+answer_refused band source target a b r (Job fault) answer = (answer, refl)
+answer_refused band source target a b r (NoDetails plate) answer = (answer, refl)
+answer_refused band source target a b r (Plate plate fault) answer = (answer, refl)
+answer_refused band source target a b r (Page fault) answer = (answer, refl)
+answer_refused band source target a b r (Read file) answer = (answer, refl)
+answer_refused band source target a b r Memory answer = (answer, refl)
+answer_refused band source target a b r Usage answer = absurd answer
+answer_refused band source target a b r (Write file) answer = absurd answer
 
 -- The page could not be read.
-not_read : {T : Type 0} (source : Sources) (target : Targets) (a b : TrayState) (r : RackState) (refusal : Refusal) → Gathers source a b (Err refusal) → CarriesOut {T = T} source target a b r r (Err refusal)
-not_read {T} source target a b r refusal reads = record {
+not_read : (band : ℕ) (source : Sources) (target : Targets) (a b : TrayState) (r : RackState) (refusal : Refusal) → Gathers source a b (Err refusal) → CarriesOut band source target a b r r (Err refusal)
+not_read band source target a b r refusal reads = record {
   tray_keeps = reads.keeps;
   in_hand = inr reads.in_hand;
-  count = refused_count PageParts T a b refusal reads.count;
+  count = refused_count PageParts Receipt a b refusal reads.count;
   asked = reads.asked;
   rack_keeps = unchanged r;
   told = λ tells. refl;
   created = asks_none_of r.asked (written_names target);
-  answer = answer_refused T source target a b r refusal reads.answer;
+  answer = answer_refused band source target a b r refusal reads.answer;
 }
 
 -- There was no memory to begin with.
-not_begun : {T : Type 0} (source : Sources) (target : Targets) (a : TrayState) (r : RackState) → CarriesOut {T = T} source target a a r r (Err Memory)
-not_begun source target a r = record {
+not_begun : (band : ℕ) (source : Sources) (target : Targets) (a : TrayState) (r : RackState) → CarriesOut band source target a a r r (Err Memory)
+not_begun band source target a r = record {
   tray_keeps = record { tells = refl; file = refl; faults = omega arith };
   in_hand = inl refl;
   count = refl;
@@ -54,18 +55,18 @@ not_begun source target a r = record {
 }
 
 -- The page was not read, for one reason or the other.
-pub refused_first : {T : Type 0} (source : Sources) (target : Targets) (a b : TrayState) (r : RackState) (refusal : Refusal) → ReadsPage source a b (Err refusal) → CarriesOut {T = T} source target a b r r (Err refusal)
-refused_first {T} source target a b r refusal (inl none) =
+pub refused_first : (band : ℕ) (source : Sources) (target : Targets) (a b : TrayState) (r : RackState) (refusal : Refusal) → ReadsPage source a b (Err refusal) → CarriesOut band source target a b r r (Err refusal)
+refused_first band source target a b r refusal (inl none) =
     let same : refusal ≡ Memory = (let e : ◌≡◌ {A = Result PageParts Refusal} (Err refusal) (Err Memory) = none.1 in cc) in
-    subst (λ (t : TrayState). CarriesOut {T = T} source target a t r r (Err refusal)) (sym none.0) (subst (λ (e : Refusal). CarriesOut {T = T} source target a a r r (Err e)) (sym same) (not_begun {T = T} source target a r))
-refused_first {T} source target a b r refusal (inr reads) = not_read {T = T} source target a b r refusal reads
+    subst (λ (t : TrayState). CarriesOut band source target a t r r (Err refusal)) (sym none.0) (subst (λ (e : Refusal). CarriesOut band source target a a r r (Err e)) (sym same) (not_begun band source target a r))
+refused_first band source target a b r refusal (inr reads) = not_read band source target a b r refusal reads
 
-module _ (T : Type 0) (source : Sources) (target : Targets) (page : PageParts) (a b : TrayState) (r r' : RackState) (reads : Gathers source a b (Ok page)) where
+module _ (band : ℕ) (source : Sources) (target : Targets) (page : PageParts) (a b : TrayState) (r r' : RackState) (reads : Gathers source a b (Ok page)) where
   made : IsPage page → IsMade source a page
   made valid = (valid, reads.answer.2)
 
-  answer_put : (result : Result T Refusal) → IsPage page → AnswersPut target page r r' result → AnswersCommand source target a b r r' result
-  answer_put (Ok x) valid answer = (page, made valid, reads.answer.1, answer.0, answer.1)
+  answer_put : (result : Result Receipt Refusal) → IsPage page → AnswersPut band target page r r' result → AnswersCommand band source target a b r r' result
+  answer_put (Ok receipt) valid answer = (page, made valid, answer.0, reads.answer.1, answer.1, answer.2)
   answer_put (Err (Write file)) valid answer = (page, made valid, answer)
   answer_put (Err Memory) valid answer = (tt, answer)
   answer_put (Err Usage) valid answer = absurd answer
@@ -75,7 +76,7 @@ module _ (T : Type 0) (source : Sources) (target : Targets) (page : PageParts) (
   answer_put (Err (Page fault)) valid answer = absurd answer
   answer_put (Err (Read file)) valid answer = absurd answer
 
-  put_count : (result : Result T Refusal) → AnswersPut target page r r' result → PassesNoFault a b result
+  put_count : (result : Result Receipt Refusal) → AnswersPut band target page r r' result → PassesNoFault a b result
   put_count (Ok x) answer = reads.count
   put_count (Err (Write file)) answer = reads.count
   put_count (Err Memory) answer = reads.count
@@ -87,7 +88,7 @@ module _ (T : Type 0) (source : Sources) (target : Targets) (page : PageParts) (
   put_count (Err (Read file)) answer = absurd answer
 
   -- A page that was read is put out.
-  pub read_and_put : (result : Result T Refusal) → PutsOut target page r r' result → CarriesOut source target a b r r' result
+  pub read_and_put : (result : Result Receipt Refusal) → PutsOut band target page r r' result → CarriesOut band source target a b r r' result
   read_and_put result put = record {
     tray_keeps = reads.keeps;
     in_hand = inr reads.in_hand;

@@ -1,6 +1,7 @@
 -- What becomes of a page: its counts, and its files.
-use Rattle.std.proofs.Common.{◌≡◌, ℕ, List, length, map, Bor, Some, None, Result, Ok, Err, IsTrue, refl, sym, ap, ◌∙◌, subst, arith}
+use Rattle.std.proofs.Common.{◌≡◌, ℕ, List, length, map, Bor, Result, Ok, Err, refl, sym, ap, ◌∙◌, subst, arith}
 use Rattle.std.proofs.lemmas.List.{length-map}
+use Rattle.band_claims.specs.Receipt.{Receipt}
 use Rattle.outside.specs.Causes.{Asks}
 use Rattle.outside.specs.Rack.{RackState}
 use Rattle.outside.proofs.Names.{asks_none_of}
@@ -14,6 +15,7 @@ use Rattle.page_writing.specs.Files.{names_of}
 use Rattle.page_writing.specs.Writing.{WritesPage, AnswersWriting}
 use Rattle.page_writing.proofs.Steps.{page_names}
 use Rattle.lists.proofs.ListBelow.{length-list_below}
+use Rattle.trap_engine.specs.Receipts.{IsWholeReceipt}
 use Rattle.trap_report.specs.declared.refusal.Refusal.{Refusal}
 use Rattle.trap_report.specs.declared.refusal.Refusal.TheVariants.{Usage, Job, NoDetails, Plate, Page, Read, Write, Memory}
 use Rattle.trap_report.specs.Report.{AreCounts, report_of}
@@ -38,30 +40,35 @@ pub as_many_planes : (page : PageParts) → length (trapped_planes page) ≡ pla
 unfolding trapped_planes
 as_many_planes page = length-list_below (trapped_plane page) (plates page)
 
-answer_put : {T : Type 0} (target : Targets) (page : PageParts) (a b : RackState) (result : Result T Refusal) → names_of (outcome target page) ≡ written_names target → AnswersWriting (length target.outputs) (outcome target page) a b result → AnswersPut target page a b result
-answer_put target page a b (Ok x) named answer = (answer, subst (λ (names : List (List ℕ)). Asks a.asked b.asked names) named answer.asked)
-answer_put target page a b (Err (Write file)) named answer = answer
-answer_put target page a b (Err Usage) named answer = absurd answer
-answer_put target page a b (Err (Job fault)) named answer = absurd answer
-answer_put target page a b (Err (NoDetails plate)) named answer = absurd answer
-answer_put target page a b (Err (Plate plate fault)) named answer = absurd answer
-answer_put target page a b (Err (Page fault)) named answer = absurd answer
-answer_put target page a b (Err (Read file)) named answer = absurd answer
-answer_put target page a b (Err Memory) named answer = absurd answer
+-- what the answer of the writing becomes, where the page's receipt is handed out
+abbrev pub handed : Receipt → Result (Unit {0}) Refusal → Result Receipt Refusal
+handed receipt (Ok x) = Ok receipt
+handed receipt (Err refusal) = Err refusal
 
--- A page's planes and its report are written into the files of these names.
-pub puts_out : {T : Type 0} (target : Targets) (page : PageParts) (outputs : List (List ℕ)) (planes : List Plane) (text : List ℕ) (a b : RackState) (result : Result T Refusal) → IsPage page → length planes ≡ length outputs → outputs ≡ target.outputs → planes ≡ trapped_planes page → text ≡ report_of page (page_counts page) → WritesPage outputs planes target.report text a b result → PutsOut target page a b result
-puts_out {T} target page outputs planes text a b result valid count named trapped told wrote =
-    let one = subst (λ (o : List (List ℕ)). WritesPage {T = T} o planes target.report text a b result) named wrote in
-    let two = subst (λ (p : List Plane). WritesPage {T = T} target.outputs p target.report text a b result) trapped one in
-    let all = subst (λ (t : List ℕ). WritesPage {T = T} target.outputs (trapped_planes page) target.report t a b result) told two in
+answer_put : (band : ℕ) (target : Targets) (page : PageParts) (receipt : Receipt) (a b : RackState) (result : Result (Unit {0}) Refusal) → IsWholeReceipt page band receipt → names_of (outcome target page) ≡ written_names target → AnswersWriting (length target.outputs) (outcome target page) a b result → AnswersPut band target page a b (handed receipt result)
+answer_put band target page receipt a b (Ok x) whole named answer = (whole, answer, subst (λ (names : List (List ℕ)). Asks a.asked b.asked names) named answer.asked)
+answer_put band target page receipt a b (Err (Write file)) whole named answer = answer
+answer_put band target page receipt a b (Err Usage) whole named answer = absurd answer
+answer_put band target page receipt a b (Err (Job fault)) whole named answer = absurd answer
+answer_put band target page receipt a b (Err (NoDetails plate)) whole named answer = absurd answer
+answer_put band target page receipt a b (Err (Plate plate fault)) whole named answer = absurd answer
+answer_put band target page receipt a b (Err (Page fault)) whole named answer = absurd answer
+answer_put band target page receipt a b (Err (Read file)) whole named answer = absurd answer
+answer_put band target page receipt a b (Err Memory) whole named answer = absurd answer
+
+-- A page's planes and its report are written into the files of these names, and its receipt is handed out.
+pub puts_out : (band : ℕ) (target : Targets) (page : PageParts) (outputs : List (List ℕ)) (planes : List Plane) (text : List ℕ) (receipt : Receipt) (a b : RackState) (result : Result (Unit {0}) Refusal) → IsPage page → IsWholeReceipt page band receipt → length planes ≡ length outputs → outputs ≡ target.outputs → planes ≡ trapped_planes page → text ≡ report_of page (page_counts page) → WritesPage outputs planes target.report text a b result → PutsOut band target page a b (handed receipt result)
+puts_out band target page outputs planes text receipt a b result valid whole count named trapped told wrote =
+    let one = subst (λ (o : List (List ℕ)). WritesPage {T = Unit {0}} o planes target.report text a b result) named wrote in
+    let two = subst (λ (p : List Plane). WritesPage {T = Unit {0}} target.outputs p target.report text a b result) trapped one in
+    let all = subst (λ (t : List ℕ). WritesPage {T = Unit {0}} target.outputs (trapped_planes page) target.report t a b result) told two in
     let many : length (trapped_planes page) ≡ length target.outputs = sym (ap (λ (p : List Plane). length p) trapped) ∙ count ∙ ap (λ (o : List (List ℕ)). length o) named in
     let names = page_names target.outputs (trapped_planes page) target.report (report_of page (page_counts page)) many in
-    record { valid = valid; keeps = all.keeps; told = all.told; asked = all.asked; answer = answer_put target page a b result names all.answer }
+    record { valid = valid; keeps = all.keeps; told = all.told; asked = all.asked; answer = answer_put band target page receipt a b result whole names all.answer }
 
 -- Nothing is put out, since there was no memory.
-pub not_put_out : {T : Type 0} (target : Targets) (page : PageParts) (a : RackState) → IsPage page → PutsOut {T = T} target page a a (Err Memory)
-not_put_out target page a valid = record {
+pub not_put_out : (band : ℕ) (target : Targets) (page : PageParts) (a : RackState) → IsPage page → PutsOut band target page a a (Err Memory)
+not_put_out band target page a valid = record {
   valid = valid;
   keeps = record { tells = refl; faults = omega arith };
   told = λ tells. refl;

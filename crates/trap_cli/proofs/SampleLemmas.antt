@@ -1,19 +1,32 @@
--- The report of a sample page.
-use Rattle.std.proofs.Common.{◌≡◌, ℕ, ◌*◌, ◌<◌, List, Result, Ok, Err, MatchResult, inl, inr, sym, ap, ◌∙◌, subst}
+-- The report and the receipt of a sample page.
+use Rattle.std.proofs.Common.{◌≡◌, ℕ, ◌*◌, ◌<◌, List, ◌++◌, take, None, Result, Ok, Err, MatchResult, inl, inr, refl, sym, ap, ◌∙◌, subst}
 use Rattle.std.proofs.lemmas.Bool.{cases_lt}
+use Rattle.outside.specs.declared.tray.Failed.{Failed}
+use Rattle.outside.specs.Rack.{RackState, Tells}
 use Rattle.page_model.specs.declared.parts.PageParts.{PageParts}
 use Rattle.page_model.specs.Counts.{page_counts}
 use Rattle.page_model.specs.Limits.{most_samples}
-use Rattle.page_source.specs.Sample.{sample_parts}
+use Rattle.trap_engine.specs.Receipts.{IsWholeReceipt}
 use Rattle.trap_report.specs.declared.refusal.Refusal.{Refusal}
 use Rattle.trap_report.specs.declared.refusal.Refusal.TheVariants.{Memory}
 use Rattle.trap_report.specs.Report.{report_of}
 use Rattle.trap_words.specs.Words.{SampleWords}
-use Rattle.trap_cli.specs.Endings.{IsSmall, MakesReport}
+use Rattle.trap_cli.specs.declared.outcome.Outcome.{Outcome}
+use Rattle.trap_cli.specs.Commands.{sample_band}
+use Rattle.trap_report.specs.Statuses.{not_written}
+use Rattle.trap_cli.specs.Endings.{EndsSample, IsSmall, MakesReport, sample_of, sample_report}
+use Rattle.trap_cli.specs.Endings.AnswersSample.{told_in_part}
 
 pub is_small : (words : SampleWords) → (most_samples < 4 * words.width * words.height → ⊥) → IsSmall words
 is_small words not_large = elim (cases_lt most_samples (4 * words.width * words.height)) [ inl large ↦ absurd (not_large large) | inr small ↦ small ]
 
-pub report_made : (words : SampleWords) (page : PageParts) (result : Result (List ℕ) Refusal) → IsSmall words → page ≡ sample_parts words.number words.width words.height → MatchResult result (λ text. text ≡ report_of page (page_counts page)) (λ refusal. refusal ≡ Memory) → MakesReport words result
-report_made words page (Ok text) small is made = (small, made ∙ ap (λ (p : PageParts). report_of p (page_counts p)) is)
-report_made words page (Err refusal) small is made = subst (λ (r : Refusal). MakesReport words (Err r)) (sym made) small
+pub report_made : (words : SampleWords) (page : PageParts) (result : Result Outcome Refusal) → IsSmall words → page ≡ sample_of words → MatchResult result (λ made. (made.report ≡ report_of page (page_counts page)) × IsWholeReceipt page sample_band made.receipt) (λ refusal. refusal ≡ Memory) → MakesReport words result
+report_made words page (Ok made) small is has = (small, has.0 ∙ ap (λ (p : PageParts). report_of p (page_counts p)) is, subst (λ (p : PageParts). IsWholeReceipt p sample_band made.receipt) is has.1)
+report_made words page (Err refusal) small is memory = subst (λ (r : Refusal). MakesReport words (Err r)) (sym memory) small
+
+-- The report was told in part, since a call failed.
+pub told_a_part : (words : SampleWords) (text : List ℕ) (a b : RackState) (failed : Failed) → IsSmall words → text ≡ sample_report words → Tells {T = Unit {0}} {E = Failed} text a b (Err failed) → EndsSample words a b not_written None
+told_a_part words text a b failed small is tells = record {
+  files = record { keeps = tells.keeps; asked = tells.asked; is_open = tells.is_open; files = tells.files };
+  answer = told_in_part small refl tells.cause (λ told. (let front = tells.part told in (front.0, front.1 ∙ ap (λ (t : List ℕ). a.told ++ take front.0 t) is))) refl;
+}

@@ -1,5 +1,6 @@
 -- What the top call promises, clause by clause, of the words and of what stands before and, primed, after the call.
 use Rattle.std.specs.Prelude.{◌≡◌, ◌≢◌, ◌⊎◌, ◌↔◌, ℕ, ◌≤◌, IsTrue, IsFalse, true, List, ◌++◌, length, take, Option, Some, None, Ok, Err}
+use Rattle.band_claims.specs.Receipt.{Receipt}
 use Rattle.outside.specs.Causes.{Rose, Asks, AsksFront}
 use Rattle.outside.specs.Tray.{TrayState}
 use Rattle.outside.specs.Rack.{RackState}
@@ -7,7 +8,7 @@ use Rattle.job_reader.specs.declared.job.Job.{Job}
 use Rattle.page_model.specs.declared.page.PageFault.TheVariants.{TooManySamples}
 use Rattle.page_model.specs.declared.parts.PageParts.{PageParts}
 use Rattle.page_gather.specs.Assembly.{assembly}
-use Rattle.page_gather.specs.Inputs.{Sources, Inputs, one_page, read_files}
+use Rattle.page_gather.specs.Inputs.{Inputs, one_page, read_files}
 use Rattle.page_gather.specs.Gathering.{BreaksReading, InHand, IsMade, files_to}
 use Rattle.page_gather.specs.Steps.{PassesNoFault}
 use Rattle.pgm_plates.specs.declared.plate.Plate.{Plate as PlateRead}
@@ -19,8 +20,8 @@ use Rattle.trap_report.specs.Refusals.{line_of, status_of}
 use Rattle.trap_report.specs.Statuses.{done, usage, job_refused, page_refused, not_read, not_written, out_of_memory}
 use Rattle.trap_report.specs.Telling.{TellsText, TellsBehindFault}
 use Rattle.trap_words.specs.Words.{PageWords, SampleWords, begins_with_page, command_of, Page, Sample}
-use Rattle.trap_cli.specs.Commands.{sources_of, targets_of}
-use Rattle.trap_cli.specs.Endings.{IsSmall, sample_report}
+use Rattle.trap_cli.specs.Commands.{sample_band, sources_of, targets_of}
+use Rattle.trap_cli.specs.Endings.{HasReceipt, IsSmall, sample_of, sample_report}
 use Rattle.trap_cli.specs.Locality.{ChangesNearEdges}
 use Rattle.verdicts.specs.Verdicts.{IsVerdict, Refused, Out, outcome, written_names}
 
@@ -32,14 +33,16 @@ MeanPage words page = command_of words ≡ Some (Page page)
 abbrev pub MeanSample : List (List ℕ) → SampleWords → Type 0
 MeanSample words sample = command_of words ≡ Some (Sample sample)
 
--- Status 0 comes only where neither count rose. Of a page: a page is made, which is the one of the job and the plates where the tray tells them, so that the verdict is its outcome; the rack's files are the old ones with these put in, in order. Each file is finished, each was asked for in its order, and nothing is told.
-pub record Success (words : List (List ℕ)) (tray tray' : TrayState) (rack rack' : RackState) (status : ℕ) : Type 0 where
+-- Status 0 comes only where neither count rose. Of a page: a page is made, which is the one of the job and the plates where the tray tells them, so that the verdict is its outcome; the rack's files are the old ones with these put in, in order; and the receipt is the whole one of this page, in bands of as many rows as the words say. Each file is finished, each was asked for in its order, and nothing is told. Of a sample page the receipt is the whole one of the sample page. At no other status there is a receipt.
+pub record Success (words : List (List ℕ)) (tray tray' : TrayState) (rack rack' : RackState) (status : ℕ) (receipt : Option Receipt) : Type 0 where
   pub calm : status ≡ done → (tray'.faults ≡ tray.faults) × (rack'.faults ≡ rack.faults)
-  pub files : (page : PageWords) → MeanPage words page → status ≡ done → (made : PageParts) × IsMade (sources_of page) tray made × (IsTrue rack.tells → rack'.file ≡ put_all (outcome (targets_of page) made) rack.file)
+  pub files : (page : PageWords) → MeanPage words page → status ≡ done → (made : PageParts) × IsMade (sources_of page) tray made × (IsTrue rack.tells → rack'.file ≡ put_all (outcome (targets_of page) made) rack.file) × HasReceipt made page.band receipt
   pub silent : (page : PageWords) → MeanPage words page → status ≡ done → IsTrue rack.tells → rack'.told ≡ rack.told
   pub finished : (page : PageWords) → MeanPage words page → status ≡ done → IsFalse rack'.is_open
   pub begun : (page : PageWords) → MeanPage words page → status ≡ done → Asks tray.asked tray'.asked (read_files (sources_of page))
   pub created : (page : PageWords) → MeanPage words page → status ≡ done → Asks rack.asked rack'.asked (written_names (targets_of page))
+  pub sample : (sample : SampleWords) → MeanSample words sample → status ≡ done → HasReceipt (sample_of sample) sample_band receipt
+  pub no_receipt : status ≢ done → receipt ≡ None
 
 -- Status 2 comes only where the words mean no command, and there always, unless memory is wanted for words after `page`. No name is then handed out.
 pub record Usage (words : List (List ℕ)) (tray tray' : TrayState) (rack rack' : RackState) (status : ℕ) : Type 0 where

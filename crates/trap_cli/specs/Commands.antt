@@ -14,6 +14,10 @@ inputs_of plates = map (λ (p : PlateNames). p.input) plates
 abbrev pub sources_of : PageWords → Sources
 sources_of page = record { job = page.job; names = names_of page.plates; inputs = inputs_of page.plates }
 
+-- the rows of a band in which a sample page is trapped
+abbrev pub sample_band : ℕ
+sample_band = 64
+
 -- the files that are written
 abbrev pub targets_of : PageWords → Targets
 targets_of page = record { outputs = outputs_of page.plates; report = page.report }

@@ -1,6 +1,7 @@
 //! The top call of the program `trap`: from words to files.
 #![tactic(auto)]
 
+mod ending;
 mod files;
 mod outcome;
 mod page;

@@ -1,30 +1,49 @@
-ghost use Rattle.std.specs.Prelude.{◌≡◌, IfOk};
+ghost use Rattle.std.specs.Prelude.{◌≡◌, ◌≤◌, IfOk};
 ghost use Rattle.page_model.specs.Counts.{page_counts};
+ghost use Rattle.page_model.specs.Limits.{most_band_height, most_workers};
 ghost use Rattle.page_model.specs.Tints.{trapped_planes};
+ghost use Rattle.trap_engine.specs.Receipts.{IsWholeReceipt};
 ghost use Rattle.trap_report.specs.Report.{report_of};
 
+use band_claims::Closed;
+use band_workers::Gate;
 use page_model::page::Page;
 use page_model::parts::{Name, OutOfMemory, PlaneList};
 use std::alloc::Global;
-use trap_engine::trap_alone;
+use std::thread::Threads;
+use trap_engine::trap_page;
 use trap_report::report::report;
 
-// A page after trapping, and the report of what changed.
+// A page after trapping, the report of what changed, and the table at which it was trapped.
 #[derive(Drop)]
 pub(crate) struct Outcome {
     pub planes: PlaneList,
     pub report: Name,
+    pub receipt: Closed,
 }
 
-// Traps a page.
-pub(crate) fn outcome_of(alloc: Global, page: &Page) -> Result<Outcome, OutOfMemory>
+// Traps a page by so many workers, in bands of so many rows.
+pub(crate) fn outcome_of<H: Threads + Sync, G: Gate + Sync>(
+    rt: &H,
+    alloc: Global,
+    page: &Page,
+    workers: u32,
+    band: u32,
+    gate: &G,
+) -> Result<Outcome, OutOfMemory>
+    requires some_workers { 1 ≤ workers }
+    requires few_workers { workers ≤ most_workers }
+    requires some_rows { 1 ≤ band }
+    requires few_rows { band ≤ most_band_height }
     ensures planes { IfOk result (λ o. o.planes ≡ trapped_planes page.now) }
     ensures report { IfOk result (λ o. o.report ≡ report_of page.now (page_counts page.now)) }
+    ensures receipt { IfOk result (λ o. IsWholeReceipt page.now band o.receipt) }
 {
-    let trapped = trap_alone(alloc, page)?;
+    let (trapped, receipt) = trap_page(rt, alloc, page, workers, band, gate)?;
     let report = report(alloc, page, &trapped.counts)?;
     Ok(Outcome {
         planes: trapped.planes,
         report,
+        receipt,
     })
 }

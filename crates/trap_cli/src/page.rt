@@ -5,8 +5,11 @@ ghost use Rattle.trap_cli.specs.Commands.{sources_of, targets_of};
 ghost use Rattle.page_gather.specs.Gathering.{ReadsPage};
 ghost use Rattle.trap_cli.specs.Endings.{CarriesOut, EndsPage, PutsOut};
 
+use crate::ending::{Ended, refused};
 use crate::files::{inputs_of, names_of, outputs_of};
 use crate::outcome::outcome_of;
+use band_claims::Closed;
+use band_workers::Gate;
 use outside::rack::Rack;
 use outside::tray::Tray;
 use page_gather::gather::gather;
@@ -15,43 +18,50 @@ use page_model::page::Page;
 use page_model::parts::OutOfMemory;
 use page_writing::writing::write_page;
 use std::alloc::Global;
+use std::thread::Threads;
 use trap_report::refusal::Refusal;
 use trap_report::statuses::DONE;
-use trap_report::telling::refuse;
 use trap_words::command::PageCommand;
 
-// Carries out a command of a page, and gives the status that it ends with.
-pub(crate) fn run_page<T: Tray, R: Rack>(
+// Carries out a command of a page, and gives how it ends.
+pub(crate) fn run_page<H: Threads + Sync, T: Tray, R: Rack, G: Gate + Sync>(
+    rt: &H,
     alloc: Global,
     command: &PageCommand<'_>,
     tray: &mut T,
     rack: &mut R,
-) -> u8
+    gate: &G,
+) -> Ended
     requires { IsPageWithin command.now }
     ensures { let page = page_in command.now in
-        EndsPage (Unit {0}) (sources_of page) (targets_of page) (T.state tray.old)
-        (T.state tray.new) (R.state rack.old) (R.state rack.new) result }
+        EndsPage page.band (sources_of page) (targets_of page) (T.state tray.old)
+        (T.state tray.new) (R.state rack.old) (R.state rack.new) result.status result.receipt }
 {
-    match carry_out(alloc, command, tray, rack) {
-        Ok(()) => DONE,
-        Err(refusal) => refuse(rack, &refusal),
+    match carry_out(rt, alloc, command, tray, rack, gate) {
+        Ok(receipt) => Ended {
+            status: DONE,
+            receipt: Some(receipt),
+        },
+        Err(refusal) => refused(rack, &refusal),
     }
 }
 
 // Reads the page, traps it, and only then writes.
-fn carry_out<T: Tray, R: Rack>(
+fn carry_out<H: Threads + Sync, T: Tray, R: Rack, G: Gate + Sync>(
+    rt: &H,
     alloc: Global,
     command: &PageCommand<'_>,
     tray: &mut T,
     rack: &mut R,
-) -> Result<(), Refusal>
+    gate: &G,
+) -> Result<Closed, Refusal>
     requires { IsPageWithin command.now }
     ensures { let page = page_in command.now in
-        CarriesOut (sources_of page) (targets_of page) (T.state tray.old) (T.state tray.new)
-        (R.state rack.old) (R.state rack.new) result }
+        CarriesOut page.band (sources_of page) (targets_of page) (T.state tray.old)
+        (T.state tray.new) (R.state rack.old) (R.state rack.new) result }
 {
     match read_page(alloc, command, tray) {
-        Ok(page) => put_out(alloc, command, &page, rack),
+        Ok(page) => put_out(rt, alloc, command, &page, rack, gate),
         Err(refusal) => Err(refusal),
     }
 }
@@ -73,31 +83,37 @@ fn read_page<T: Tray>(
     }
 }
 
-// All memory that is wanted is taken before the first file is created.
-fn put_out<R: Rack>(
+// Traps the page and writes its files, and gives the receipt. All memory that is wanted is taken before the first file is
+// created.
+fn put_out<H: Threads + Sync, R: Rack, G: Gate + Sync>(
+    rt: &H,
     alloc: Global,
     command: &PageCommand<'_>,
     page: &Page,
     rack: &mut R,
-) -> Result<(), Refusal>
+    gate: &G,
+) -> Result<Closed, Refusal>
     requires within { IsPageWithin command.now }
     requires count { plates page.now ≡ vec_len command.now.plates }
-    ensures { let target = targets_of (page_in command.now) in
-        PutsOut target page.now (R.state rack.old) (R.state rack.new) result }
+    ensures { let meant = page_in command.now in
+        PutsOut meant.band (targets_of meant) page.now (R.state rack.old) (R.state rack.new) result }
 {
     let _valid = page.plates();
     let Ok(outputs) = outputs_of(alloc, command.plates.as_slice()) else {
         return Err(Refusal::Memory);
     };
-    let Ok(outcome) = outcome_of(alloc, page) else {
+    let Ok(outcome) = outcome_of(rt, alloc, page, command.workers, command.band, gate) else {
         return Err(Refusal::Memory);
     };
     trapped_planes_law(page);
-    write_page(
+    match write_page(
         rack,
         outputs.as_slice(),
         outcome.planes,
         command.report,
         outcome.report.as_slice(),
-    )
+    ) {
+        Ok(()) => Ok(outcome.receipt),
+        Err(refusal) => Err(refusal),
+    }
 }

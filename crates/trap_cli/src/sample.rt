@@ -1,53 +1,89 @@
-ghost use Rattle.std.specs.Prelude.{◌≡◌, MatchResult};
+ghost use Rattle.std.specs.Prelude.{◌≡◌, ◌≤◌, MatchResult};
 ghost use Rattle.page_model.specs.Counts.{page_counts};
+ghost use Rattle.page_model.specs.Limits.{most_workers};
+ghost use Rattle.trap_engine.specs.Receipts.{IsWholeReceipt};
 ghost use Rattle.trap_report.specs.Report.{report_of};
 ghost use Rattle.trap_words.specs.Held.{IsSampleWithin, sample_in};
+ghost use Rattle.trap_cli.specs.Commands.{sample_band};
 ghost use Rattle.trap_cli.specs.Endings.{EndsSample, MakesReport};
 
-use crate::outcome::outcome_of;
+use crate::ending::{Ended, refused};
+use crate::outcome::{Outcome, outcome_of};
+use band_workers::Gate;
 use outside::rack::Rack;
 use outside::tray::Failed;
 use page_model::page::{Page, PageFault};
-use page_model::parts::{Name, OutOfMemory};
+use page_model::parts::OutOfMemory;
 use page_source::sample::{SampleRefusal, sample_page};
 use std::alloc::Global;
+use std::thread::Threads;
 use trap_report::refusal::Refusal;
 use trap_report::statuses::{DONE, NOT_WRITTEN};
-use trap_report::telling::refuse;
 use trap_words::command::SampleCommand;
 
-// Traps a sample page and tells its report, and gives the status that the command ends with.
-pub(crate) fn run_sample<R: Rack>(alloc: Global, command: SampleCommand, rack: &mut R) -> u8
+// The rows of a band in which a sample page is trapped.
+const SAMPLE_BAND: u32 = 64;
+
+// Traps a sample page and tells its report, and gives how the command ends.
+pub(crate) fn run_sample<H: Threads + Sync, R: Rack, G: Gate + Sync>(
+    rt: &H,
+    alloc: Global,
+    command: SampleCommand,
+    rack: &mut R,
+    gate: &G,
+) -> Ended
     requires { IsSampleWithin command }
-    ensures { EndsSample (sample_in command) (R.state rack.old) (R.state rack.new) result }
+    ensures { EndsSample (sample_in command) (R.state rack.old) (R.state rack.new)
+        result.status result.receipt }
 {
-    match sample_report(alloc, command) {
-        Ok(text) => match rack.tell(text.as_slice()) {
-            Ok(()) => DONE,
-            Err(Failed) => NOT_WRITTEN,
+    match sample_outcome(rt, alloc, command, gate) {
+        Ok(outcome) => match rack.tell(outcome.report.as_slice()) {
+            Ok(()) => Ended {
+                status: DONE,
+                receipt: Some(outcome.receipt),
+            },
+            Err(Failed) => Ended {
+                status: NOT_WRITTEN,
+                receipt: None,
+            },
         },
-        Err(refusal) => refuse(rack, &refusal),
+        Err(refusal) => refused(rack, &refusal),
     }
 }
 
-fn sample_report(alloc: Global, command: SampleCommand) -> Result<Name, Refusal>
+fn sample_outcome<H: Threads + Sync, G: Gate + Sync>(
+    rt: &H,
+    alloc: Global,
+    command: SampleCommand,
+    gate: &G,
+) -> Result<Outcome, Refusal>
     requires { IsSampleWithin command }
     ensures { MakesReport (sample_in command) result }
 {
     match sample_page(alloc, command.number, command.width, command.height) {
-        Ok(page) => page_report(alloc, &page),
+        Ok(page) => page_outcome(rt, alloc, &page, command.workers, gate),
         Err(SampleRefusal::TooManySamples) => Err(Refusal::Page(PageFault::TooManySamples)),
         Err(SampleRefusal::OutOfMemory) => Err(Refusal::Memory),
     }
 }
 
-// The report of a page after trapping.
-fn page_report(alloc: Global, page: &Page) -> Result<Name, Refusal>
+// The page after trapping, in the bands of a sample page.
+fn page_outcome<H: Threads + Sync, G: Gate + Sync>(
+    rt: &H,
+    alloc: Global,
+    page: &Page,
+    workers: u32,
+    gate: &G,
+) -> Result<Outcome, Refusal>
+    requires some_workers { 1 ≤ workers }
+    requires few_workers { workers ≤ most_workers }
     ensures { let told = report_of page.now (page_counts page.now) in
-        MatchResult result (λ text. text ≡ told) (λ refusal. refusal ≡ Refusal.Memory) }
+        MatchResult result (λ made. (made.report ≡ told)
+        × IsWholeReceipt page.now sample_band made.receipt)
+        (λ refusal. refusal ≡ Refusal.Memory) }
 {
-    match outcome_of(alloc, page) {
-        Ok(outcome) => Ok(outcome.report),
+    match outcome_of(rt, alloc, page, workers, SAMPLE_BAND, gate) {
+        Ok(outcome) => Ok(outcome),
         Err(OutOfMemory) => Err(Refusal::Memory),
     }
 }

@@ -3,6 +3,7 @@ use outside::mem_rack::MemRack;
 use std::alloc::{AllocError, Global};
 use std::process::Abort;
 use std::test::Fail;
+use std::thread::Threads;
 
 // what the usual case writes, in order
 const NAMES: [&str; 3] = ["out0", "out1", "report"];
@@ -20,7 +21,11 @@ const LINES: [&str; 3] = [
 ];
 
 // Whether Cyan's file, cut to so many bytes, is told as such.
-fn is_cut(rt: &impl Abort, alloc: Global, count: usize) -> Result<bool, AllocError> {
+fn is_cut(
+    rt: &(impl Abort + Threads + Sync),
+    alloc: Global,
+    count: usize,
+) -> Result<bool, AllocError> {
     let front = CYAN.get(..count).unwrap_or(CYAN);
     let case = Case {
         plates: &[front, MAGENTA],
@@ -78,7 +83,7 @@ fn holds_up_to(rack: &MemRack, broken: usize, count: usize) -> bool {
 
 // Whether a run with so much room ends with the status and the line, and holds what fits.
 fn fits(
-    rt: &impl Abort,
+    rt: &(impl Abort + Threads + Sync),
     alloc: Global,
     room: usize,
     wanted: u8,
@@ -135,7 +140,7 @@ fn is_broken(rack: &MemRack) -> bool {
 
 // Whether a run with a call that fails ends as it has to, with this status; `None` where it has no such call.
 fn ends_at_a_call(
-    rt: &impl Abort,
+    rt: &(impl Abort + Threads + Sync),
     alloc: Global,
     case: Case<'_>,
     wanted: u8,

@@ -1,4 +1,5 @@
 use super::{TWO_PLATES, file_of, is_empty, words_of};
+use band_workers::OpenGate;
 use lists::list::List;
 use outside::distinct_names::have_distinct_names;
 use outside::endless_tray::EndlessTray;
@@ -9,6 +10,7 @@ use outside::tray::Tray;
 use std::alloc::{AllocError, Global};
 use std::process::Abort;
 use std::test::Fail;
+use std::thread::Threads;
 use trap_cli::top::trap_main;
 
 // A job's beginning, the piece that it then repeats, how often, and the line told.
@@ -42,14 +44,20 @@ fn files_of(alloc: Global, job: Vec<u8>) -> Result<Vec<MemFile>, AllocError> {
 }
 
 // Whether the job of the tray is refused with that line, and nothing is created.
-fn is_judged<T: Tray + Drop>(alloc: Global, words: &[String], mut tray: T, line: &str) -> bool {
+fn is_judged<H: Threads + Sync, T: Tray + Drop>(
+    rt: &H,
+    alloc: Global,
+    words: &[String],
+    mut tray: T,
+    line: &str,
+) -> bool {
     let mut rack = MemRack::new(alloc, 50, 1000, List::new(alloc));
-    let status = trap_main(alloc, words, &mut tray, &mut rack);
-    status == 3 && rack.told() == line.as_bytes() && is_empty(&rack)
+    let ended = trap_main(rt, alloc, words, &mut tray, &mut rack, &OpenGate);
+    ended.status == 3 && rack.told() == line.as_bytes() && is_empty(&rack)
 }
 
 fn is_too_long(
-    rt: &impl Abort,
+    rt: &(impl Abort + Threads + Sync),
     alloc: Global,
     job: Vec<u8>,
     line: &str,
@@ -58,7 +66,7 @@ fn is_too_long(
     let files = files_of(alloc, job)?;
     assert!(rt; have_distinct_names(&files));
     let tray = MemTray::new(alloc, List::from_vec(files), 4096, List::new(alloc));
-    Ok(is_judged(alloc, &words, tray, line))
+    Ok(is_judged(rt, alloc, &words, tray, line))
 }
 
 #[test]
@@ -74,6 +82,6 @@ fn jobs_beyond_a_limit_are_refused(rt: HostRuntime) -> Result<(), Fail> {
 fn a_job_without_end_is_too_long(rt: HostRuntime) -> Result<(), Fail> {
     let words = words_of(rt.alloc(), TWO_PLATES)?;
     let endless = EndlessTray::new(List::new(rt.alloc()), b' ');
-    assert!(rt; is_judged(rt.alloc(), &words, endless, TOO_LONG));
+    assert!(rt; is_judged(&rt, rt.alloc(), &words, endless, TOO_LONG));
     Ok(())
 }

@@ -2,6 +2,7 @@ use super::{CYAN, Case, DISABLED, MAGENTA, USUAL, run};
 use std::alloc::{AllocError, Global};
 use std::process::Abort;
 use std::test::Fail;
+use std::thread::Threads;
 
 const USAGE: &str =
     "usage: trap page [--workers N] [--band B] JOB REPORT NAME:IN:OUT ... | trap sample NUMBER WIDTH HEIGHT WORKERS\n";
@@ -132,7 +133,7 @@ const WORDS: &[(&str, u8, &str)] = &[
 
 // Whether a run of these words ends with the status and the text told, and writes a plate at status 0 alone.
 fn ends(
-    rt: &impl Abort,
+    rt: &(impl Abort + Threads + Sync),
     alloc: Global,
     words: &str,
     wanted: u8,

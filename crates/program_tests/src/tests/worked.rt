@@ -1,7 +1,11 @@
-use super::{CYAN, Case, END, HEAD, INKS, MAGENTA, ONE_PLATE, SET, TWO_PLATES, USUAL, holds, run};
+use super::{
+    CYAN, Case, END, HEAD, INKS, MAGENTA, ONE_PLATE, SET, TALL_CYAN, TALL_MAGENTA, TWO_PLATES,
+    USUAL, holds, run,
+};
 use std::alloc::{AllocError, Global};
 use std::process::Abort;
 use std::test::Fail;
+use std::thread::Threads;
 
 // A page that is trapped: its words, job and plates, and the plates and the report that are written.
 #[derive(Clone, Copy)]
@@ -17,11 +21,6 @@ struct Worked {
 const DEEP_CYAN: &[u8] = b"P5\n6 1\n65535\n\0\0\0\0\0\0\xFF\xFF\xFF\xFF\xFF\xFF";
 
 const DEEP_MAGENTA: &[u8] = b"P5\n6 1\n65535\n\xFF\xFF\xFF\xFF\xFF\xFF\0\0\0\0\0\0";
-
-// plates of one column
-const TALL_CYAN: &[u8] = b"P5\n1 12\n255\n\0\0\0\0\0\0\xFF\xFF\xFF\xFF\xFF\xFF";
-
-const TALL_MAGENTA: &[u8] = b"P5\n1 12\n255\n\xFF\xFF\xFF\xFF\xFF\xFF\0\0\0\0\0\0";
 
 const PAGES: &[Worked] = &[
     Worked {
@@ -202,34 +201,6 @@ const PAGES: &[Worked] = &[
         report: "trap report\npage 1 12 255 plates 2\nzone 0 samples 12 changed 5\nedges 1\nplate Cyan changed 5\nplate Magenta changed 0\nend\n",
     },
     Worked {
-        words: "page --workers 1 --band 1 job report Cyan:in0:out0 Magenta:in1:out1",
-        job: &[HEAD, INKS, SET, "/TrapWidth 5 /SlidingTrapLimit 1", END],
-        plates: &[TALL_CYAN, TALL_MAGENTA],
-        written: &[b"P5\n1 12\n255\n\0\0\0\0\0\0\0\0\0\0\0\xFF", TALL_MAGENTA],
-        report: "trap report\npage 1 12 255 plates 2\nzone 0 samples 12 changed 5\nedges 1\nplate Cyan changed 5\nplate Magenta changed 0\nend\n",
-    },
-    Worked {
-        words: "page --workers 1 --band 4096 job report Cyan:in0:out0 Magenta:in1:out1",
-        job: &[HEAD, INKS, SET, "/TrapWidth 5 /SlidingTrapLimit 1", END],
-        plates: &[TALL_CYAN, TALL_MAGENTA],
-        written: &[b"P5\n1 12\n255\n\0\0\0\0\0\0\0\0\0\0\0\xFF", TALL_MAGENTA],
-        report: "trap report\npage 1 12 255 plates 2\nzone 0 samples 12 changed 5\nedges 1\nplate Cyan changed 5\nplate Magenta changed 0\nend\n",
-    },
-    Worked {
-        words: "page --workers 7 --band 1 job report Cyan:in0:out0 Magenta:in1:out1",
-        job: &[HEAD, INKS, SET, "/TrapWidth 5 /SlidingTrapLimit 1", END],
-        plates: &[TALL_CYAN, TALL_MAGENTA],
-        written: &[b"P5\n1 12\n255\n\0\0\0\0\0\0\0\0\0\0\0\xFF", TALL_MAGENTA],
-        report: "trap report\npage 1 12 255 plates 2\nzone 0 samples 12 changed 5\nedges 1\nplate Cyan changed 5\nplate Magenta changed 0\nend\n",
-    },
-    Worked {
-        words: "page --workers 7 --band 4096 job report Cyan:in0:out0 Magenta:in1:out1",
-        job: &[HEAD, INKS, SET, "/TrapWidth 5 /SlidingTrapLimit 1", END],
-        plates: &[TALL_CYAN, TALL_MAGENTA],
-        written: &[b"P5\n1 12\n255\n\0\0\0\0\0\0\0\0\0\0\0\xFF", TALL_MAGENTA],
-        report: "trap report\npage 1 12 255 plates 2\nzone 0 samples 12 changed 5\nedges 1\nplate Cyan changed 5\nplate Magenta changed 0\nend\n",
-    },
-    Worked {
         words: TWO_PLATES,
         job: &[HEAD, INKS, SET, "/TrapWidth 100", END],
         plates: &[CYAN, MAGENTA],
@@ -323,10 +294,20 @@ const PAGES: &[Worked] = &[
     },
 ];
 
-// Whether the page is trapped as it has to be, and nothing is told.
-fn is_trapped(rt: &impl Abort, alloc: Global, page: Worked) -> Result<bool, AllocError> {
+// Numbers of workers, and of the rows of a band.
+const WORKERS: [u32; 5] = [1, 2, 3, 7, 64];
+
+const BANDS: [u32; 5] = [1, 2, 5, 64, 4096];
+
+// Whether the page of these words is trapped as it has to be, and nothing is told.
+fn is_trapped(
+    rt: &(impl Abort + Threads + Sync),
+    alloc: Global,
+    page: Worked,
+    words: &str,
+) -> Result<bool, AllocError> {
     let case = Case {
-        words: page.words,
+        words,
         job: page.job,
         plates: page.plates,
         ..USUAL
@@ -338,7 +319,38 @@ fn is_trapped(rt: &impl Abort, alloc: Global, page: Worked) -> Result<bool, Allo
 #[test]
 fn pages_are_trapped_and_reported(rt: HostRuntime) -> Result<(), Fail> {
     for (number, page) in PAGES.iter().enumerate() {
-        assert!(rt; is_trapped(&rt, rt.alloc(), *page)?, "page {number}");
+        assert!(rt;
+            is_trapped(&rt, rt.alloc(), *page, page.words)?,
+            "page {number}"
+        );
+    }
+    Ok(())
+}
+
+// Whether the page is trapped so by that many workers, in bands of so many rows.
+fn is_trapped_by(
+    rt: &(impl Abort + Threads + Sync),
+    alloc: Global,
+    page: Worked,
+    workers: u32,
+    band: u32,
+) -> Result<bool, AllocError> {
+    let rest = page.words.strip_prefix("page ").unwrap_or(page.words);
+    let words = format!(in alloc; "page --workers {workers} --band {band} {rest}")?;
+    is_trapped(rt, alloc, page, words.as_str())
+}
+
+#[test]
+fn workers_and_bands_change_nothing(rt: HostRuntime) -> Result<(), Fail> {
+    for (number, page) in PAGES.iter().enumerate() {
+        for workers in WORKERS {
+            for band in BANDS {
+                assert!(rt;
+                    is_trapped_by(&rt, rt.alloc(), *page, workers, band)?,
+                    "page {number}, {workers} workers, bands of {band} rows"
+                );
+            }
+        }
     }
     Ok(())
 }

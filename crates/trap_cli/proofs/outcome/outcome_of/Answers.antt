@@ -5,4 +5,4 @@ use Rattle.trap_cli.proofs.OutcomeLemmas.{counts_fit}
 use Rattle.trap_cli.proofs.outcome.outcome_of.Goals as goal
 
 pub report-requires : goal.report-requires
-report-requires c = subst (λ (counts : Counts). AreCounts c.args.page.now counts) (sym c.in_ok-trapped.ensures.counts) (counts_fit c.args.page.now)
+report-requires g c = subst (λ (counts : Counts). AreCounts c.args.page.now counts) (sym c.in_ok-trapped.ensures.counts) (counts_fit c.args.page.now)

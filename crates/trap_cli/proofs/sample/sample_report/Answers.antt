@@ -1,6 +1,0 @@
-use Rattle.trap_words.specs.Held.{sample_in}
-use Rattle.trap_cli.proofs.SampleLemmas.{is_small, report_made}
-use Rattle.trap_cli.proofs.sample.sample_report.Goals as goal
-
-pub returns-in-Ok : goal.returns-in-Ok
-returns-in-Ok c = report_made (sample_in c.args.command) c.in-Ok.page c.page_report.result (is_small (sample_in c.args.command) (λ large. let e = c.in-Ok.ensures.too_many.1 large in absurd cc)) c.in-Ok.ensures.page c.page_report.ensures

@@ -1,0 +1,27 @@
+ghost use Rattle.std.specs.Prelude.{◌≡◌, None};
+ghost use Rattle.trap_report.specs.Telling.{Refuses};
+
+use band_claims::Closed;
+use outside::rack::Rack;
+use trap_report::refusal::Refusal;
+use trap_report::telling::refuse;
+
+/// How the top call ended.
+#[derive(Drop)]
+pub struct Ended {
+    /// The status that the program ends with.
+    pub status: u8,
+    /// The closed table at which the workers trapped the page. It is there at status 0 and at no other.
+    pub receipt: Option<Closed>,
+}
+
+// Tells the line of a refusal, which ends the call without a receipt.
+pub(crate) fn refused<R: Rack>(rack: &mut R, refusal: &Refusal) -> Ended
+    ensures line { Refuses refusal.now (R.state rack.old) (R.state rack.new) result.status }
+    ensures receipt { result.receipt ≡ None }
+{
+    Ended {
+        status: refuse(rack, refusal),
+        receipt: None,
+    }
+}
