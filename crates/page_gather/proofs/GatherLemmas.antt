@@ -19,8 +19,8 @@ use Rattle.std.proofs.lemmas.List.{length-map}
 use Rattle.trap_report.specs.declared.refusal.Refusal.{Refusal}
 use Rattle.trap_report.specs.declared.refusal.Refusal.TheVariants.{Usage, Job as JobRefusal, NoDetails, Plate, Page, Read, Write, Memory}
 use Rattle.page_gather.specs.Inputs.{Sources, Holds, AreRead, Inputs, Makes, one_page, read_files, name_at}
-use Rattle.page_gather.specs.Steps.{ReadsJob, AnswersJob, ReadsPlates, AnswersPlates, PassesNoFault, PlateInHand, TakesPlate}
-use Rattle.page_gather.specs.Gathering.{Gathers, AnswersPage, InHand}
+use Rattle.page_gather.specs.Steps.{ReadsJob, AnswersJob, ReadsPlates, AnswersPlates, PassesNoFault, PlateInHand}
+use Rattle.page_gather.specs.Gathering.{Gathers, AnswersPage, InHand, ReadsPage}
 use Rattle.page_gather.proofs.PlateLemmas.{held_before, faultless_before, count_then}
 
 kept : (a b c : TrayState) → KeepsTray a b → KeepsTray b c → KeepsTray a c
@@ -208,3 +208,12 @@ page_made source a b c job plates result some first next met =
 -- as many files as inputs that give their names
 pub some_inputs : {X : Type 0} (text : X → List ℕ) (inputs : List X) → 1 ≤ length inputs → 0 < length (map text inputs)
 some_inputs text inputs some = omega (arith, length-map inputs text, some)
+
+-- a refusal's count of faults, told of another result
+pub refused_count : (T U : Type 0) (a b : TrayState) (refusal : Refusal) → PassesNoFault {T = T} a b (Err refusal) → PassesNoFault {T = U} a b (Err refusal)
+refused_count T U a b refusal count = count_then T U a a b refusal refl count
+
+-- A page that was read was gathered.
+pub gathered : (source : Sources) (a b : TrayState) (page : PageParts) → ReadsPage source a b (Ok page) → Gathers source a b (Ok page)
+gathered source a b page (inl none) = absurd (let e : ◌≡◌ {A = Result PageParts Refusal} (Ok page) (Err Memory) = none.1 in cc)
+gathered source a b page (inr reads) = reads

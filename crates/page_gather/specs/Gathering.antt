@@ -5,6 +5,7 @@ use Rattle.outside.specs.Tray.{TrayState, KeepsTray}
 use Rattle.job_reader.specs.declared.job.Job.{Job}
 use Rattle.job_reader.specs.Jobs.{job_of}
 use Rattle.page_model.specs.declared.parts.PageParts.{PageParts}
+use Rattle.page_model.specs.Conditions.{IsPage}
 use Rattle.page_model.specs.Page.{plates}
 use Rattle.pgm_plates.specs.declared.plate.Plate.{Plate as PlateRead}
 use Rattle.trap_report.specs.declared.refusal.Refusal.{Refusal}
@@ -20,6 +21,11 @@ pub record PlateBreaks (source : Sources) (plate : ℕ) (before after : TrayStat
   pub job_read : IsTrue before.tells → Holds before.file source.job (λ bytes. job_of bytes ≡ Ok job)
   pub before_it : IsTrue before.tells → AreRead one_page before.file source.inputs plate plates
   pub in_hand : IsFaultless (name_at source.inputs plate) before after
+
+-- What was read before the read of a plate that failed.
+abbrev pub BreaksReading : Sources → Option ℕ → TrayState → TrayState → Type 0
+BreaksReading source None before after = Unit {0}
+BreaksReading source (Some plate) before after = PlateBreaks source plate before after
 
 -- the files that are begun where that refusal comes: none stands behind the one that is refused
 abbrev pub files_to : Sources → Refusal → List (List ℕ)
@@ -53,6 +59,14 @@ pub record Gathers (source : Sources) (before after : TrayState) (result : Resul
   pub in_hand : InHand source before after
   pub count : PassesNoFault before after result
   pub answer : AnswersPage source before after result
+
+-- The page is gathered; or there was no memory for the names of its files, and none was begun.
+abbrev pub ReadsPage : Sources → TrayState → TrayState → Result PageParts Refusal → Type 0
+ReadsPage source before after result = ((after ≡ before) × (result ≡ Err Memory)) ⊎ Gathers source before after result
+
+-- A page, and the one that the job and the plates make, where the tray tells their bytes.
+abbrev pub IsMade : Sources → TrayState → PageParts → Type 0
+IsMade source tray page = IsPage page × (IsTrue tray.tells → Makes one_page tray.file source (Ok page))
 
 -- Behind a job that was read, the rest of the page is read.
 abbrev pub GathersRest : Sources → Job → TrayState → TrayState → Result PageParts Refusal → Type 0

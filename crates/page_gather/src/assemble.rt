@@ -1,14 +1,15 @@
-ghost use Rattle.std.specs.Prelude.{◌≡◌, ◌⊎◌, ◌<◌, ◌≤◌, IfOk, OnOk, Ok, Err, map, length, All, is_none, MatchResult, option_copied, option_map};
+ghost use Rattle.std.specs.Prelude.{◌≡◌, ◌⊎◌, ◌<◌, ◌≤◌, IfOk, Ok, Err, map, length, All, is_none, MatchResult, option_copied};
 ghost use Rattle.std.specs.List.{position, list_any};
 ghost use Rattle.std.specs.Str.{bytes_eq};
-ghost use Rattle.page_model.specs.Conditions.{IsParts};
 ghost use Rattle.pgm_plates.specs.Planes.{plane_of};
 ghost use Rattle.pgm_plates.specs.Plates.{IsPlate};
 ghost use Rattle.job_reader.specs.InRange.{IsJob};
-ghost use Rattle.page_gather.specs.Assembly.{CanAssemble, assembled, assembly, without_details as plate_without, detail_of as detail_meant, ink_of as ink_meant, zone_for, some_enabled as some_zone_enabled};
+ghost use Rattle.page_gather.specs.Assembly.{CanAssemble, assembled, assembly, without_details as plate_without, detail_of as detail_meant, ink_of as ink_meant, zone_for};
 
 use job_reader::job::Job;
 use lists::list::List;
+use lists::names::copied;
+use page_model::bounds::SCALE;
 use page_model::limits::keep;
 use page_model::page::Page;
 use page_model::parts::{
@@ -156,7 +157,7 @@ fn ink_of(alloc: Global, details: &DetailList, name: &[u8]) -> Result<Ink, OutOf
 {
     match detail_of(details, name) {
         Some(ink) => make_ink(alloc, ink.name.as_slice(), ink.density, ink.kind),
-        None => make_ink(alloc, name, 10_000, InkKind::Normal),
+        None => make_ink(alloc, name, SCALE, InkKind::Normal),
     }
 }
 
@@ -164,12 +165,9 @@ fn make_ink(alloc: Global, name: &[u8], density: u32, kind: InkKind) -> Result<I
     ensures { IfOk result (λ ink.
         ink ≡ record { name = name.now; density = density; kind = kind }) }
 {
-    let mut copy: Vec<u8> = Vec::new(alloc);
-    if copy.extend_from_slice(name).is_err() {
-        return Err(OutOfMemory);
-    }
+    let name = copied(alloc, name)?;
     Ok(Ink {
-        name: List::from_vec(copy),
+        name,
         density,
         kind,
     })

@@ -1,13 +1,11 @@
 -- The parts of the sample page are those of a page.
-use Rattle.std.proofs.Common.{◌≡◌, ◌≢◌, ℕ, zero, suc, ◌+◌, ◌*◌, ◌/◌, ◌%◌, ◌<◌, ◌≤◌, List, [], ◌∷◌, ◌++◌, length, get_or, Option, Some, None, true, false, Bool, cond, refl, sym, ap, ◌∙◌, arith, rules, All, length-append, leb, ltb, eqb, ◌&&◌, codes}
+use Rattle.std.proofs.Common.{◌≡◌, ℕ, zero, suc, ◌*◌, ◌/◌, ◌%◌, ◌≤◌, List, [], ◌∷◌, length, get_or, None, true, false, refl, ◌∙◌, arith, All, length-append, leb, ltb, eqb, ◌&&◌, codes}
 use Rattle.std.proofs.lemmas.List.Elements.{All-append, All-cons}
 use Rattle.std.proofs.lemmas.Bool.{and_parts}
 use Rattle.std.specs.List.{list_all}
-use Rattle.page_model.specs.declared.parts.Ink.{Ink}
 use Rattle.page_model.specs.declared.parts.Limit.{Limit}
-use Rattle.page_model.specs.declared.page.PageFault.TheVariants.{SizeDiffers, MaxvalDiffers, TooManySamples, ReachTooWide}
 use Rattle.std.proofs.lemmas.Bool.Decides.{nat_tests}
-use Rattle.page_model.specs.Conditions.{IsParts, IsPlane, IsInk, IsZone, InRange, IsPath, AreLimits, IsVertex}
+use Rattle.page_model.specs.Conditions.{IsParts, IsPlane, IsInk, IsZone, IsVertex}
 use Rattle.page_model.specs.Faults.{page_fault}
 use Rattle.lists.specs.Words.{list_below}
 use Rattle.page_source.specs.Sample.{colour, tint_at, sample_tints, sample_plane, sample_parts, sample_zone, normal_ink, cyan_tints, magenta_tints, yellow_tints, black_tints}

@@ -12,16 +12,19 @@ use Rattle.lists.specs.Words.{list_below}
 abbrev pub colour : ℕ → ℕ → ℕ → ℕ
 colour number x y = (number + 3 * (x / 8) + 5 * (y / 8) + (x / 8) * (y / 8)) % 8
 
--- the tints of one ink in the eight colours: cyan, magenta, yellow, black, paper, green, red and grey
+-- the tints of cyan in the eight colours, which are cyan, magenta, yellow, black, paper, green, red and grey
 abbrev pub cyan_tints : List ℕ
 cyan_tints = 255 ∷ 0 ∷ 0 ∷ 0 ∷ 0 ∷ 128 ∷ 0 ∷ 64 ∷ []
 
+-- the same of magenta
 abbrev pub magenta_tints : List ℕ
 magenta_tints = 0 ∷ 255 ∷ 0 ∷ 0 ∷ 0 ∷ 0 ∷ 255 ∷ 64 ∷ []
 
+-- the same of yellow
 abbrev pub yellow_tints : List ℕ
 yellow_tints = 0 ∷ 0 ∷ 255 ∷ 0 ∷ 0 ∷ 255 ∷ 255 ∷ 0 ∷ []
 
+-- the same of black
 abbrev pub black_tints : List ℕ
 black_tints = 0 ∷ 0 ∷ 0 ∷ 255 ∷ 0 ∷ 0 ∷ 0 ∷ 128 ∷ []
 
@@ -29,12 +32,15 @@ black_tints = 0 ∷ 0 ∷ 0 ∷ 255 ∷ 0 ∷ 0 ∷ 0 ∷ 128 ∷ []
 abbrev pub tint_at : List ℕ → ℕ → ℕ → ℕ → ℕ
 tint_at tints number width k = slice_index tints (colour number (k % width) (k / width))
 
+-- the tints of a plane, row by row from the top
 unfoldable pub sample_tints : List ℕ → ℕ → ℕ → ℕ → List ℕ
 sample_tints tints number width height = list_below (tint_at tints number width) (width * height)
 
+-- a plane of these tints, of which 255 is full ink
 abbrev pub sample_plane : List ℕ → ℕ → ℕ → ℕ → Plane
 sample_plane tints number width height = record { width = width; height = height; maxval = 255; tints = sample_tints tints number width height }
 
+-- an ink that is neither clear nor opaque
 abbrev pub normal_ink : List ℕ → ℕ → Ink
 normal_ink name density = record { name = name; density = density; kind = Normal }
 
@@ -42,6 +48,7 @@ normal_ink name density = record { name = name; density = density; kind = Normal
 abbrev pub sample_params : TrapParams
 sample_params = record { trap_width = 7500; black_width = 10000; black_color_limit = 9500; black_density_limit = 16000; step_limit = 2500; sliding_trap_limit = 7000; trap_color_scaling = 10000; enabled = true }
 
+-- zone 0, with no path and no limit of its own
 abbrev pub sample_zone : Zone
 sample_zone = record { params = sample_params; path = []; limits = [] }
 

@@ -1,5 +1,5 @@
-ghost use Rattle.std.specs.Prelude.{◌≡◌, ◌↔◌, ◌*◌, ◌/◌, ◌%◌, ◌+◌, ◌<◌, ◌≤◌, ◌++◌, ◌∷◌, [], IfOk, OnOk, Err, length, slice_index, IsTrue};
-ghost use Rattle.page_source.specs.Sample.{colour as colour_of, tint_at, sample_tints, sample_plane, sample_parts, sample_zone, normal_ink, cyan_tints, magenta_tints, yellow_tints, black_tints};
+ghost use Rattle.std.specs.Prelude.{◌≡◌, ◌↔◌, ◌*◌, ◌/◌, ◌%◌, ◌+◌, ◌<◌, ◌≤◌, ◌++◌, ◌∷◌, [], IfOk, OnOk, Err, length};
+ghost use Rattle.page_source.specs.Sample.{colour as colour_of, sample_tints, sample_plane, sample_parts, sample_zone, normal_ink};
 
 use lists::list::List;
 use page_model::page::Page;

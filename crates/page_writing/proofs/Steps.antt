@@ -1,11 +1,9 @@
 -- Files that are written one after another.
-use Rattle.std.proofs.Common.{◌≡◌, ◌⊎◌, inl, inr, ℕ, ◌+◌, ◌<◌, ◌≤◌, List, [], ◌∷◌, ◌++◌, length, get_or, take, Option, Some, None, Ok, Err, IsTrue, refl, sym, ap, ◌∙◌, subst, arith}
-use Rattle.std.proofs.lemmas.List.{append_assoc, append-nil, map-append, length-append}
-use Rattle.std.proofs.lemmas.Option.{same_Some}
-use Rattle.std.proofs.Math.Seq.{take-append_seam}
+use Rattle.std.proofs.Common.{◌≡◌, ℕ, ◌+◌, ◌<◌, ◌≤◌, List, [], ◌∷◌, ◌++◌, length, get_or, Option, Some, None, Ok, Err, IsTrue, refl, sym, ap, ◌∙◌, subst, arith}
+use Rattle.std.proofs.lemmas.List.{append_assoc, map-append, length-append}
 use Rattle.outside.specs.Causes.{Asks, AsksFront}
 use Rattle.outside.specs.Rack.{RackState, KeepsRack, put}
-use Rattle.outside.specs.Writing.{BreaksFile, WritesFile}
+use Rattle.outside.specs.Writing.{WritesFile, BreaksFile}
 use Rattle.outside.proofs.Names.{asks_none, asks_then, asks_all, asks_before}
 use Rattle.outside.proofs.Steps.{kept_then, rose_before, told_on}
 use Rattle.page_model.specs.declared.parts.Plane.{Plane}
@@ -36,11 +34,6 @@ wrote_more files w a b c x keeps before now = record {
   well = now.well ∙ before.well;
 }
 
--- a front of one file more, or none of it
-part_more : (name bytes : List ℕ) (old mid : List ℕ → Option (List ℕ)) (c : RackState) → mid ≡ old → BreaksFile name bytes mid c → (c.file ≡ old) ⊎ ((k : ℕ) × (c.file ≡ put name (take k bytes) old))
-part_more name bytes old mid c same (inl none) = inl (none.1 ∙ same)
-part_more name bytes old mid c same (inr front) = inr (front.1.0, front.1.1 ∙ ap (put name (take front.1.0 bytes)) same)
-
 -- the next file breaks
 pub breaks_next : {T E : Type 0} (files : List Written) (w : Written) (later : List Written) (a b c : RackState) (e : E) → KeepsRack a b → WritesAll files a b → WritesFile {T = T} {E = E} w.name w.bytes b c (Err e) → BreaksAt (files ++ w ∷ later) (length files) a c
 breaks_next files w later a b c e keeps before now = record {
@@ -50,7 +43,7 @@ breaks_next files w later a b c e keeps before now = record {
   all = refl;
   place = refl;
   asked = asks_then a.asked b.asked c.asked (names_of files) (w.name ∷ []) before.asked now.asked;
-  part = λ tells. part_more w.name w.bytes (put_all files a.file) b.file c (before.whole tells) (now.part (told_on a b keeps tells));
+  part = λ tells. subst (λ (held : List ℕ → Option (List ℕ)). BreaksFile w.name w.bytes held c) (before.whole tells) (now.part (told_on a b keeps tells));
   cause = rose_before a.faults b.faults c.faults keeps.faults now.cause;
 }
 

@@ -1,7 +1,8 @@
 -- What it means to write files one after another, and all files of a page.
-use Rattle.std.specs.Prelude.{◌≡◌, ◌⊎◌, ℕ, ◌<◌, IsTrue, IsFalse, List, [], ◌∷◌, ◌++◌, length, take, Option, Some, None, Result, Ok, Err}
+use Rattle.std.specs.Prelude.{◌≡◌, ℕ, ◌<◌, IsTrue, IsFalse, List, [], ◌∷◌, ◌++◌, length, Option, Some, None, Result, Ok, Err}
 use Rattle.outside.specs.Causes.{Rose, Asks, AsksFront}
-use Rattle.outside.specs.Rack.{RackState, KeepsRack, put}
+use Rattle.outside.specs.Rack.{RackState, KeepsRack}
+use Rattle.outside.specs.Writing.{BreaksFile}
 use Rattle.page_model.specs.declared.parts.Plane.{Plane}
 use Rattle.trap_report.specs.declared.refusal.Refusal.{Refusal}
 use Rattle.trap_report.specs.declared.refusal.Refusal.TheVariants.{Write}
@@ -16,8 +17,8 @@ pub record WritesAll (files : List Written) (before after : RackState) : Type 0 
   -- no fault was passed over
   pub well : after.faults ≡ before.faults
 
--- The rack has a fault at file k: the earlier ones stand whole, and of this one a front of its bytes, or nothing is
--- changed, since it could not be created. None of the later ones is begun.
+-- The rack has a fault at file k: the earlier ones stand whole; of this one a front of its bytes, and it is open still, or
+-- nothing is changed, exactly where it could not be created. None of the later ones is begun.
 pub record BreaksAt (files : List Written) (k : ℕ) (before after : RackState) : Type 0 where
   pub earlier : List Written
   pub file : Written
@@ -25,7 +26,7 @@ pub record BreaksAt (files : List Written) (k : ℕ) (before after : RackState) 
   pub all : files ≡ earlier ++ file ∷ later
   pub place : length earlier ≡ k
   pub asked : Asks before.asked after.asked (names_of earlier ++ file.name ∷ [])
-  pub part : IsTrue before.tells → (after.file ≡ put_all earlier before.file) ⊎ ((n : ℕ) × (after.file ≡ put file.name (take n file.bytes) (put_all earlier before.file)))
+  pub part : IsTrue before.tells → BreaksFile file.name file.bytes (put_all earlier before.file) after
   pub cause : Rose before.faults after.faults
 
 -- The plate of that number breaks, of so many; or, without a number, the report behind them.

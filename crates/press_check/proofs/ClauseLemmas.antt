@@ -1,23 +1,22 @@
 -- The clauses of the top call, by how the check of the words ended.
 use Rattle.std.proofs.Common.{◌≡◌, ◌≢◌, ◌⊎◌, ℕ, ◌≤◌, List, ◌++◌, take, Option, Some, None, Result, Ok, Err, IsTrue, inl, inr, refl, sym, ap, ◌∙◌, subst, arith}
-use Rattle.outside.specs.Causes.{Rose, Asks, AsksFront}
+use Rattle.outside.specs.Causes.{Rose, Asks}
 use Rattle.outside.specs.Tray.{TrayState}
 use Rattle.outside.specs.Rack.{RackState}
-use Rattle.outside.proofs.Names.{asks_none_of}
 use Rattle.page_model.specs.declared.parts.PageParts.{PageParts}
 use Rattle.page_gather.specs.Inputs.{Sources, Makes, one_page, read_files}
-use Rattle.page_gather.specs.Gathering.{InHand, files_to}
+use Rattle.page_gather.specs.Gathering.{BreaksReading, IsMade, files_to}
 use Rattle.page_gather.specs.Steps.{PassesNoFault}
-use Rattle.press_check.specs.Clauses.{Mean, AreRefused, Success, Usage, RefusesFiles, RefusedInput, ReadFault, TellFault, FaultLine, Completeness, BreaksReading, no_files}
-use Rattle.press_check.specs.Endings.{IsMade, ChecksPage, AnswersTell, Closes, EndsCheck, Ends}
+use Rattle.page_gather.proofs.GatherLemmas.{refused_count}
+use Rattle.press_check.specs.Clauses.{Mean, AreRefused, Success, Usage, RefusesFiles, RefusedInput, ReadFault, TellFault, FaultLine, Completeness, no_files}
+use Rattle.press_check.specs.Endings.{ChecksPage, AnswersTell, Closes, EndsCheck, Ends}
 use Rattle.press_check.specs.Text.{text_of, usage_line}
 use Rattle.press_check.specs.Words.{CheckWords, check_of, sources_of}
-use Rattle.press_check.proofs.EndLemmas.{refused_count}
 use Rattle.trap_report.specs.declared.refusal.Refusal.{Refusal}
 use Rattle.trap_report.specs.declared.refusal.Refusal.TheVariants as refusals
 use Rattle.trap_report.specs.Refusals.{status_of, line_of}
 use Rattle.trap_report.specs.Telling.{TellsText, KeepsFiles}
-use Rattle.verdicts.specs.Verdicts.{Verdict, IsVerdict, outcome}
+use Rattle.verdicts.specs.Verdicts.{Verdict, outcome}
 use Rattle.verdicts.specs.Verdicts.Verdict.{Refused, Out}
 use Rattle.verdicts.proofs.VerdictLemmas.{PlateLaws, one_verdict}
 

@@ -4,18 +4,14 @@ use Rattle.outside.specs.Tray.{TrayState}
 use Rattle.outside.proofs.Names.{asks_none_of}
 use Rattle.page_model.specs.declared.parts.PageParts.{PageParts}
 use Rattle.page_model.specs.Conditions.{IsPage}
-use Rattle.page_gather.specs.Gathering.{Gathers}
+use Rattle.page_gather.specs.Gathering.{Gathers, ReadsPage}
 use Rattle.page_gather.specs.Inputs.{Sources, read_files}
 use Rattle.page_gather.specs.Steps.{PassesNoFault}
-use Rattle.page_gather.proofs.PlateLemmas.{count_then}
-use Rattle.press_check.specs.Endings.{AnswersText, ChecksPage, ReadsPage}
+use Rattle.page_gather.proofs.GatherLemmas.{gathered, refused_count}
+use Rattle.press_check.specs.Endings.{AnswersText, ChecksPage}
 use Rattle.press_check.specs.Text.{text_of}
 use Rattle.trap_report.specs.declared.refusal.Refusal.{Refusal}
 use Rattle.trap_report.specs.declared.refusal.Refusal.TheVariants.{Memory}
-
--- a refusal's count of faults, told of another result
-pub refused_count : (T U : Type 0) (a b : TrayState) (refusal : Refusal) → PassesNoFault {T = T} a b (Err refusal) → PassesNoFault {T = U} a b (Err refusal)
-refused_count T U a b refusal count = count_then T U a a b refusal refl count
 
 module _ (source : Sources) (radius : ℕ) (a b : TrayState) where
   -- The page could not be read.
@@ -43,11 +39,6 @@ module _ (source : Sources) (radius : ℕ) (a b : TrayState) where
       subst (λ (t : TrayState). ChecksPage source radius a t (Err refusal)) (sym none.0) (subst (λ (e : Refusal). ChecksPage source radius a a (Err e)) (sym same) not_begun)
   refused_first refusal (inr reads) = not_read refusal reads
 
-  -- A page that was read was gathered.
-  gathered : (page : PageParts) → ReadsPage source a b (Ok page) → Gathers source a b (Ok page)
-  gathered page (inl none) = absurd (let e : ◌≡◌ {A = Result PageParts Refusal} (Ok page) (Err Memory) = none.1 in cc)
-  gathered page (inr reads) = reads
-
   made_text : (page : PageParts) (result : Result (List ℕ) Refusal) → Gathers source a b (Ok page) → IsPage page → MatchResult result (λ text. text ≡ text_of radius page) (λ refusal. refusal ≡ Memory) → AnswersText source radius a b result × PassesNoFault a b result
   made_text page (Ok text) reads valid is = ((page, (valid, reads.answer.2), reads.answer.1, is), reads.count)
   made_text page (Err refusal) reads valid is =
@@ -56,6 +47,6 @@ module _ (source : Sources) (radius : ℕ) (a b : TrayState) where
   -- A page that was read has its text, but for want of memory.
   pub read_and_made : (page : PageParts) (result : Result (List ℕ) Refusal) → ReadsPage source a b (Ok page) → IsPage page → MatchResult result (λ text. text ≡ text_of radius page) (λ refusal. refusal ≡ Memory) → ChecksPage source radius a b result
   read_and_made page result read valid is =
-      let reads = gathered page read in
+      let reads = gathered source a b page read in
       let made = made_text page result reads valid is in
       record { in_hand = inr reads.in_hand; count = made.1; asked = reads.asked; answer = made.0 }

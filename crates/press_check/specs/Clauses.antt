@@ -5,9 +5,8 @@ use Rattle.outside.specs.Tray.{TrayState}
 use Rattle.outside.specs.Rack.{RackState}
 use Rattle.page_model.specs.declared.parts.PageParts.{PageParts}
 use Rattle.page_gather.specs.Inputs.{Sources, Makes, one_page, read_files}
-use Rattle.page_gather.specs.Gathering.{InHand, PlateBreaks, files_to}
+use Rattle.page_gather.specs.Gathering.{BreaksReading, InHand, IsMade, files_to}
 use Rattle.page_gather.specs.Steps.{PassesNoFault}
-use Rattle.press_check.specs.Endings.{IsMade}
 use Rattle.press_check.specs.Text.{text_of, usage_line}
 use Rattle.press_check.specs.Words.{CheckWords, check_of, sources_of}
 use Rattle.trap_report.specs.declared.refusal.Refusal.{Refusal}
@@ -54,11 +53,6 @@ pub record RefusesFiles (check : CheckWords) (tray tray' : TrayState) (rack rack
 pub record RefusedInput (words : List (List ℕ)) (tray tray' : TrayState) (rack rack' : RackState) (status : ℕ) : Type 0 where
   pub only : (check : CheckWords) → Mean words check → (status ≡ job_refused) ⊎ (status ≡ page_refused) → (refusal : Refusal) × RefusesFiles check tray tray' rack rack' status refusal
   pub always : (check : CheckWords) (refusal : Refusal) → Mean words check → IsTrue tray.tells → AreRefused tray.file (sources_of check) refusal → ¬ Rose tray.faults tray'.faults → (status ≡ status_of refusal) ⊎ (status ≡ out_of_memory)
-
--- What was read before the read of a plate that failed.
-abbrev pub BreaksReading : Sources → Option ℕ → TrayState → TrayState → Type 0
-BreaksReading source None before after = Unit {0}
-BreaksReading source (Some plate) before after = PlateBreaks source plate before after
 
 -- Status 5 comes only where the tray's count rose. The names handed to `begin` are a front of those of the job and the plates, and the line names the last of them; what was read before it has no fault. At every status no more was taken of the file in hand than is owed, and want of memory passes no fault over.
 pub record ReadFault (words : List (List ℕ)) (tray tray' : TrayState) (rack rack' : RackState) (status : ℕ) : Type 0 where

@@ -4,24 +4,14 @@ use Rattle.outside.specs.Causes.{Rose, Asks, AsksFront}
 use Rattle.outside.specs.Tray.{TrayState}
 use Rattle.outside.specs.Rack.{RackState}
 use Rattle.page_model.specs.declared.parts.PageParts.{PageParts}
-use Rattle.page_model.specs.Conditions.{IsPage}
-use Rattle.page_gather.specs.Gathering.{AnswersPage, Gathers, InHand}
-use Rattle.page_gather.specs.Inputs.{Sources, Makes, one_page, read_files}
+use Rattle.page_gather.specs.Gathering.{AnswersPage, InHand, IsMade}
+use Rattle.page_gather.specs.Inputs.{Sources, read_files}
 use Rattle.page_gather.specs.Steps.{PassesNoFault}
 use Rattle.press_check.specs.Text.{text_of, usage_line}
 use Rattle.press_check.specs.Words.{CheckWords, check_of, sources_of}
 use Rattle.trap_report.specs.declared.refusal.Refusal.{Refusal}
-use Rattle.trap_report.specs.declared.refusal.Refusal.TheVariants.{Memory}
 use Rattle.trap_report.specs.Statuses.{done, usage, not_written}
 use Rattle.trap_report.specs.Telling.{KeepsFiles, Refuses, TellsText}
-
--- A page, and the one that the job and the plates make, where the tray tells their bytes.
-abbrev pub IsMade : Sources → TrayState → PageParts → Type 0
-IsMade source tray page = IsPage page × (IsTrue tray.tells → Makes one_page tray.file source (Ok page))
-
--- The page is gathered; or there was no memory for the names of its files, and none was begun.
-abbrev pub ReadsPage : Sources → TrayState → TrayState → Result PageParts Refusal → Type 0
-ReadsPage source before after result = ((after ≡ before) × (result ≡ Err Memory)) ⊎ Gathers source before after result
 
 -- What the answer says: the text of the page that was read, or why there is none.
 abbrev pub AnswersText : Sources → ℕ → TrayState → TrayState → Result (List ℕ) Refusal → Type 0

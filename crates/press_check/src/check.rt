@@ -1,6 +1,7 @@
 ghost use Rattle.std.specs.Prelude.{◌≡◌, ◌≤◌, MatchResult};
 ghost use Rattle.page_model.specs.Conditions.{IsPage};
-ghost use Rattle.press_check.specs.Endings.{ChecksPage, EndsCheck, ReadsPage, TellsResult};
+ghost use Rattle.page_gather.specs.Gathering.{ReadsPage};
+ghost use Rattle.press_check.specs.Endings.{ChecksPage, EndsCheck, TellsResult};
 ghost use Rattle.press_check.specs.Held.{check_in, IsWithin};
 ghost use Rattle.press_check.specs.Text.{text_of};
 ghost use Rattle.press_check.specs.Words.{sources_of};

@@ -6,7 +6,8 @@ use Rattle.std.specs.Option.{option_map}
 use Rattle.std.specs.Str.{bytes_eq}
 use Rattle.outside.specs.Causes.{Rose, Asks, AsksFront}
 use Rattle.outside.specs.Tray.{TrayState}
-use Rattle.outside.specs.Rack.{RackState, KeepsRack, put}
+use Rattle.outside.specs.Rack.{RackState, KeepsRack}
+use Rattle.outside.specs.Writing.{BreaksFile}
 use Rattle.outside.proofs.Names.{asks_none_of}
 use Rattle.outside.proofs.Steps.{rose_before}
 use Rattle.page_model.specs.declared.page.PageFault.TheVariants.{TooManySamples}
@@ -14,8 +15,9 @@ use Rattle.page_model.specs.declared.parts.PageParts.{PageParts}
 use Rattle.page_model.specs.Counts.{page_counts}
 use Rattle.page_model.specs.Tints.{trapped_planes}
 use Rattle.page_gather.specs.Inputs.{Sources, one_page, read_files}
-use Rattle.page_gather.specs.Gathering.{InHand, files_to}
+use Rattle.page_gather.specs.Gathering.{BreaksReading, InHand, IsMade, files_to}
 use Rattle.page_gather.specs.Steps.{PassesNoFault}
+use Rattle.page_gather.proofs.GatherLemmas.{refused_count}
 use Rattle.page_writing.specs.Files.{Written, put_all, names_of, plate_files}
 use Rattle.page_writing.specs.Writing.{BreaksAt, Breaks}
 use Rattle.trap_report.specs.declared.refusal.Refusal.{Refusal}
@@ -26,9 +28,8 @@ use Rattle.trap_report.specs.Telling.{TellsText, TellsBehindFault, KeepsFiles, R
 use Rattle.trap_words.specs.Words.{Command, PageWords, SampleWords, begins_with_page, command_of, page_of_words, sample_of_words}
 use Rattle.trap_words.specs.Words.Command.{Page, Sample}
 use Rattle.trap_cli.specs.Commands.{sources_of, targets_of}
-use Rattle.trap_cli.specs.Endings.{IsMade, CarriesOut, Closes, EndsPage, EndsSample, AnswersSample, Ends, IsSmall, sample_report}
-use Rattle.trap_cli.specs.Clauses.{MeanPage, MeanSample, Success, RefusesFiles, RefusedInput, ReadFault, WriteFault, LeavesFiles, FaultLine, SamplePage, Completeness, BreaksReading}
-use Rattle.trap_cli.proofs.EndLemmas.{refused_count}
+use Rattle.trap_cli.specs.Endings.{CarriesOut, Closes, EndsPage, EndsSample, AnswersSample, Ends, IsSmall, sample_report}
+use Rattle.trap_cli.specs.Clauses.{MeanPage, MeanSample, Success, RefusesFiles, RefusedInput, ReadFault, WriteFault, LeavesFiles, FaultLine, SamplePage, Completeness}
 use Rattle.verdicts.specs.Verdicts.{Verdict, Targets, IsVerdict, outcome, written_names}
 use Rattle.verdicts.specs.Verdicts.Verdict.{Refused, Out}
 use Rattle.verdicts.proofs.VerdictLemmas.{PlateLaws, one_verdict}
@@ -64,6 +65,11 @@ rose_after : (a b c : ℕ) → a ≤ b → b ≤ c → Rose a b → Rose a c
 rose_after a b c first then (inl less) = inl (omega arith)
 rose_after a b c first then (inr last) = elim (cases_lt a c) [ inl less ↦ inl less | inr back ↦ inr (omega arith) ]
 
+-- a file that broke, after what changes no file
+broken_then : (name bytes : List ℕ) (held : List ℕ → Option (List ℕ)) (b c : RackState) → c.is_open ≡ b.is_open → c.file ≡ b.file → BreaksFile name bytes held b → BreaksFile name bytes held c
+broken_then name bytes held b c opened same (inl none) = inl (opened ∙ none.0, same ∙ none.1)
+broken_then name bytes held b c opened same (inr front) = inr (opened ∙ front.0, (front.1.0, same ∙ front.1.1))
+
 -- the write that failed, after its line was told
 breaks_then : (written : List Written) (k : ℕ) (a b c : RackState) → KeepsRack a b → BreaksAt written k a b → KeepsFiles b c → BreaksAt written k a c
 breaks_then written k a b c keeps breaks files = record {
@@ -73,11 +79,7 @@ breaks_then written k a b c keeps breaks files = record {
   all = breaks.all;
   place = breaks.place;
   asked = subst (λ (names : Option (List (List ℕ))). Asks a.asked names (names_of breaks.earlier ++ breaks.file.name ∷ [])) (sym files.asked) breaks.asked;
-  part = λ told.
-      subst
-      (λ (f : List ℕ → Option (List ℕ)). (f ≡ put_all breaks.earlier a.file) ⊎ ((n : ℕ) × (f ≡ put breaks.file.name (take n breaks.file.bytes) (put_all breaks.earlier a.file))))
-      (sym (files.files (keeps.tells ∙ told)))
-      (breaks.part told);
+  part = λ told. broken_then breaks.file.name breaks.file.bytes (put_all breaks.earlier a.file) b c files.is_open (files.files (keeps.tells ∙ told)) (breaks.part told);
   cause = rose_after a.faults b.faults c.faults keeps.faults files.keeps.faults breaks.cause;
 }
 

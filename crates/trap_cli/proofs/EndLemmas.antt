@@ -1,17 +1,17 @@
 -- How a command of a page ends, from how its page is read and put out.
-use Rattle.std.proofs.Common.{◌≡◌, ℕ, ◌<◌, ◌+◌, List, [], ◌∷◌, ◌++◌, length, Option, Some, None, Result, Ok, Err, IsTrue, inl, inr, refl, sym, subst, arith}
+use Rattle.std.proofs.Common.{◌≡◌, ℕ, ◌<◌, ◌+◌, List, [], ◌∷◌, ◌++◌, length, Some, None, Result, Ok, Err, IsTrue, inl, inr, refl, sym, subst, arith}
 use Rattle.outside.specs.Tray.{TrayState}
 use Rattle.outside.specs.Rack.{RackState, KeepsRack}
 use Rattle.page_model.specs.declared.parts.PageParts.{PageParts}
 use Rattle.page_model.specs.Conditions.{IsPage}
 use Rattle.outside.proofs.Names.{asks_none_of}
-use Rattle.page_gather.specs.Gathering.{Gathers, AnswersPage}
+use Rattle.page_gather.specs.Gathering.{Gathers, AnswersPage, IsMade, ReadsPage}
 use Rattle.page_gather.specs.Inputs.{Sources, read_files}
 use Rattle.page_gather.specs.Steps.{PassesNoFault}
-use Rattle.page_gather.proofs.PlateLemmas.{count_then}
+use Rattle.page_gather.proofs.GatherLemmas.{refused_count}
 use Rattle.trap_report.specs.declared.refusal.Refusal.{Refusal}
 use Rattle.trap_report.specs.declared.refusal.Refusal.TheVariants.{Usage, Job, NoDetails, Plate, Page, Read, Write, Memory}
-use Rattle.trap_cli.specs.Endings.{IsMade, AnswersPut, PutsOut, ReadsPage, AnswersCommand, CarriesOut}
+use Rattle.trap_cli.specs.Endings.{AnswersPut, PutsOut, AnswersCommand, CarriesOut}
 use Rattle.verdicts.specs.Verdicts.{Targets, outcome, written_names}
 
 unchanged : (a : RackState) → KeepsRack a a
@@ -26,10 +26,6 @@ answer_refused T source target a b r (Read file) answer = (answer, refl)
 answer_refused T source target a b r Memory answer = (answer, refl)
 answer_refused T source target a b r Usage answer = absurd answer
 answer_refused T source target a b r (Write file) answer = absurd answer
-
--- a refusal of gathering, told of a command
-pub refused_count : (T U : Type 0) (a b : TrayState) (refusal : Refusal) → PassesNoFault {T = T} a b (Err refusal) → PassesNoFault {T = U} a b (Err refusal)
-refused_count T U a b refusal count = count_then T U a a b refusal refl count
 
 -- The page could not be read.
 not_read : {T : Type 0} (source : Sources) (target : Targets) (a b : TrayState) (r : RackState) (refusal : Refusal) → Gathers source a b (Err refusal) → CarriesOut {T = T} source target a b r r (Err refusal)
@@ -63,11 +59,6 @@ refused_first {T} source target a b r refusal (inl none) =
     let same : refusal ≡ Memory = (let e : ◌≡◌ {A = Result PageParts Refusal} (Err refusal) (Err Memory) = none.1 in cc) in
     subst (λ (t : TrayState). CarriesOut {T = T} source target a t r r (Err refusal)) (sym none.0) (subst (λ (e : Refusal). CarriesOut {T = T} source target a a r r (Err e)) (sym same) (not_begun {T = T} source target a r))
 refused_first {T} source target a b r refusal (inr reads) = not_read {T = T} source target a b r refusal reads
-
--- A page that was read was gathered.
-pub gathered : (source : Sources) (a b : TrayState) (page : PageParts) → ReadsPage source a b (Ok page) → Gathers source a b (Ok page)
-gathered source a b page (inl none) = absurd (let e : ◌≡◌ {A = Result PageParts Refusal} (Ok page) (Err Memory) = none.1 in cc)
-gathered source a b page (inr reads) = reads
 
 module _ (T : Type 0) (source : Sources) (target : Targets) (page : PageParts) (a b : TrayState) (r r' : RackState) (reads : Gathers source a b (Ok page)) where
   made : IsPage page → IsMade source a page

@@ -8,7 +8,7 @@ use Rattle.page_model.specs.declared.page.PageFault.TheVariants.{TooManySamples}
 use Rattle.page_model.specs.declared.parts.PageParts.{PageParts}
 use Rattle.page_gather.specs.Assembly.{assembly}
 use Rattle.page_gather.specs.Inputs.{Sources, Inputs, one_page, read_files}
-use Rattle.page_gather.specs.Gathering.{InHand, PlateBreaks, files_to}
+use Rattle.page_gather.specs.Gathering.{BreaksReading, InHand, IsMade, files_to}
 use Rattle.page_gather.specs.Steps.{PassesNoFault}
 use Rattle.pgm_plates.specs.declared.plate.Plate.{Plate as PlateRead}
 use Rattle.page_writing.specs.Files.{Written, put_all}
@@ -20,14 +20,15 @@ use Rattle.trap_report.specs.Statuses.{done, usage, job_refused, page_refused, n
 use Rattle.trap_report.specs.Telling.{TellsText, TellsBehindFault}
 use Rattle.trap_words.specs.Words.{PageWords, SampleWords, begins_with_page, command_of, Page, Sample}
 use Rattle.trap_cli.specs.Commands.{sources_of, targets_of}
-use Rattle.trap_cli.specs.Endings.{IsMade, IsSmall, sample_report}
+use Rattle.trap_cli.specs.Endings.{IsSmall, sample_report}
 use Rattle.trap_cli.specs.Locality.{ChangesNearEdges}
 use Rattle.verdicts.specs.Verdicts.{IsVerdict, Refused, Out, outcome, written_names}
 
--- The words are a command of this page, or of this sample page.
+-- The words are a command of this page.
 abbrev pub MeanPage : List (List ℕ) → PageWords → Type 0
 MeanPage words page = command_of words ≡ Some (Page page)
 
+-- The words are a command of this sample page.
 abbrev pub MeanSample : List (List ℕ) → SampleWords → Type 0
 MeanSample words sample = command_of words ≡ Some (Sample sample)
 
@@ -59,11 +60,6 @@ pub record RefusesFiles (page : PageWords) (tray tray' : TrayState) (rack rack' 
 pub record RefusedInput (words : List (List ℕ)) (tray tray' : TrayState) (rack rack' : RackState) (status : ℕ) : Type 0 where
   pub only : (page : PageWords) → MeanPage words page → (status ≡ job_refused) ⊎ (status ≡ page_refused) → (refusal : Refusal) × RefusesFiles page tray tray' rack rack' status refusal
   pub always : (page : PageWords) (refusal : Refusal) → MeanPage words page → IsTrue tray.tells → IsVerdict one_page tray.file (sources_of page) (targets_of page) (Refused refusal) → ¬ Rose tray.faults tray'.faults → (status ≡ status_of refusal) ⊎ (status ≡ out_of_memory)
-
--- What was read before the read of a plate that failed.
-abbrev pub BreaksReading : Sources → Option ℕ → TrayState → TrayState → Type 0
-BreaksReading source None before after = Unit {0}
-BreaksReading source (Some plate) before after = PlateBreaks source plate before after
 
 -- Status 5 comes only for a page, and only where the tray's count rose. The names handed to `begin` are a front of those of the job and the plates, and the line names the last of them; what was read before it has no fault. At every status no more was taken of the file in hand than is owed, and want of memory passes no fault over.
 pub record ReadFault (words : List (List ℕ)) (tray tray' : TrayState) (rack rack' : RackState) (status : ℕ) : Type 0 where

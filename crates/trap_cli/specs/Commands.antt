@@ -6,6 +6,7 @@ use Rattle.trap_words.specs.Plates.{names_of, outputs_of}
 use Rattle.trap_words.specs.Words.{PageWords}
 use Rattle.verdicts.specs.Verdicts.{Targets}
 
+-- the files of the plates, in their order
 abbrev pub inputs_of : List PlateNames → List (List ℕ)
 inputs_of plates = map (λ (p : PlateNames). p.input) plates
 

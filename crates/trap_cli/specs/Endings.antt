@@ -1,5 +1,5 @@
 -- How the steps of a command end. What the work gives where it is done is left open.
-use Rattle.std.specs.Prelude.{◌≡◌, ◌⊎◌, ℕ, ◌*◌, ◌≤◌, IsTrue, true, List, ◌++◌, length, take, Option, Some, None, Result, Ok, Err}
+use Rattle.std.specs.Prelude.{◌≡◌, ◌⊎◌, ℕ, ◌*◌, ◌≤◌, IsTrue, true, List, ◌++◌, length, take, Some, None, Result, Ok, Err}
 use Rattle.outside.specs.Causes.{Rose, Asks, AsksFront}
 use Rattle.outside.specs.Tray.{TrayState, KeepsTray}
 use Rattle.outside.specs.Rack.{RackState, KeepsRack}
@@ -8,8 +8,8 @@ use Rattle.page_model.specs.declared.page.PageFault.TheVariants.{TooManySamples}
 use Rattle.page_model.specs.Conditions.{IsPage}
 use Rattle.page_model.specs.Counts.{page_counts}
 use Rattle.page_model.specs.Limits.{most_samples}
-use Rattle.page_gather.specs.Gathering.{AnswersPage, Gathers, InHand}
-use Rattle.page_gather.specs.Inputs.{Sources, Makes, one_page, read_files}
+use Rattle.page_gather.specs.Gathering.{AnswersPage, InHand, IsMade}
+use Rattle.page_gather.specs.Inputs.{Sources, read_files}
 use Rattle.page_gather.specs.Steps.{PassesNoFault}
 use Rattle.page_source.specs.Sample.{sample_parts}
 use Rattle.page_writing.specs.Writing.{WritesAll, Breaks}
@@ -36,14 +36,6 @@ pub record PutsOut {T : Type 0} (target : Targets) (page : PageParts) (before af
   pub told : IsTrue before.tells → after.told ≡ before.told
   pub asked : AsksFront before.asked after.asked (written_names target)
   pub answer : AnswersPut target page before after result
-
--- A page, and the one that the job and the plates make, where the tray tells their bytes.
-abbrev pub IsMade : Sources → TrayState → PageParts → Type 0
-IsMade source tray page = IsPage page × (IsTrue tray.tells → Makes one_page tray.file source (Ok page))
-
--- The page is gathered; or there was no memory for the names of its files, and none was begun.
-abbrev pub ReadsPage : Sources → TrayState → TrayState → Result PageParts Refusal → Type 0
-ReadsPage source before after result = ((after ≡ before) × (result ≡ Err Memory)) ⊎ Gathers source before after result
 
 -- What the answer says where the page is read first.
 abbrev pub AnswersCommand : {T : Type 0} → Sources → Targets → TrayState → TrayState → RackState → RackState → Result T Refusal → Type 0
@@ -96,6 +88,7 @@ pub data AnswersSample (words : SampleWords) (rack rack' : RackState) (status : 
   too_many : (IsSmall words → ⊥) → Refuses (Page TooManySamples) rack rack' status → AnswersSample words rack rack' status
   no_memory : IsSmall words → Refuses Memory rack rack' status → AnswersSample words rack rack' status
 
+-- A sample page is carried out: no file is touched.
 pub record EndsSample (words : SampleWords) (rack rack' : RackState) (status : ℕ) : Type 0 where
   pub files : KeepsFiles rack rack'
   pub answer : AnswersSample words rack rack' status

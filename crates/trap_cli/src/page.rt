@@ -2,7 +2,8 @@ ghost use Rattle.std.specs.Prelude.{◌≡◌, length, vec_len};
 ghost use Rattle.page_model.specs.Page.{plates};
 ghost use Rattle.trap_words.specs.Held.{IsPageWithin, page_in};
 ghost use Rattle.trap_cli.specs.Commands.{sources_of, targets_of};
-ghost use Rattle.trap_cli.specs.Endings.{CarriesOut, EndsPage, PutsOut, ReadsPage};
+ghost use Rattle.page_gather.specs.Gathering.{ReadsPage};
+ghost use Rattle.trap_cli.specs.Endings.{CarriesOut, EndsPage, PutsOut};
 
 use crate::files::{inputs_of, names_of, outputs_of};
 use crate::outcome::outcome_of;
@@ -85,18 +86,18 @@ fn put_out<R: Rack>(
         PutsOut target page.now (R.state rack.old) (R.state rack.new) result }
 {
     let _valid = page.plates();
-    let words = command.plates.as_slice();
-    match (outputs_of(alloc, words), outcome_of(alloc, page)) {
-        (Ok(outputs), Ok(outcome)) => {
-            trapped_planes_law(page);
-            write_page(
-                rack,
-                outputs.as_slice(),
-                outcome.planes,
-                command.report,
-                outcome.report.as_slice(),
-            )
-        }
-        _ => Err(Refusal::Memory),
-    }
+    let Ok(outputs) = outputs_of(alloc, command.plates.as_slice()) else {
+        return Err(Refusal::Memory);
+    };
+    let Ok(outcome) = outcome_of(alloc, page) else {
+        return Err(Refusal::Memory);
+    };
+    trapped_planes_law(page);
+    write_page(
+        rack,
+        outputs.as_slice(),
+        outcome.planes,
+        command.report,
+        outcome.report.as_slice(),
+    )
 }

@@ -15,10 +15,9 @@ use Rattle.page_model.proofs.PageLemmas.{plane_of}
 use Rattle.page_model.proofs.ZoneLemmas.{zone_of-is}
 use Rattle.lists.specs.Words.{any_below, count_below, list_below}
 use Rattle.lists.proofs.ListBelow.{list_below-from}
-use Rattle.band_values.specs.Quiet.{KeepsTints}
 use Rattle.trap_engine.proofs.StandingLemmas.{next_row}
 use Rattle.trap_engine.proofs.ZoneRows.{numbered}
-use Rattle.trap_engine.specs.Standing.{ArePlatesCounted, AreZonesCounted}
+use Rattle.trap_engine.specs.Standing.{ArePlatesCounted, AreSamplesCounted, AreZonesCounted, KeepsRow}
 
 pub zone_known : (page : PageParts) (p : At) → IsPage page → zone_of page p < length page.zones
 zone_known page p valid = (zone_of-is page p valid).known
@@ -74,9 +73,6 @@ count_fits counts a k test few e = omega (arith, count_below-le test k, few, e)
 also_true : (b : Bool) → (b && true) ≡ b
 also_true true = refl
 also_true false = refl
-
-pub samples_counted : (page : PageParts) (z n : ℕ) → n ≡ samples page → count_below (λ i. (zone_of page (sample_at page i) == z) && true) n ≡ zone_samples page z
-samples_counted page z n en = ap (count_below (λ i. (zone_of page (sample_at page i) == z) && true)) en ∙ count_below-ext (λ i. (zone_of page (sample_at page i) == z) && true) (λ i. zone_of page (sample_at page i) == z) (samples page) (λ k _. also_true (zone_of page (sample_at page k) == z))
 
 -- the samples of a page are few enough
 
@@ -146,29 +142,43 @@ zone_tallied page y x a v counts valid lx ea passes ev h = record {
 pub zone_fits : (page : PageParts) (y x a : ℕ) (counts : List ℕ) → IsPage page → y < height page → x < width page → a < length page.zones → AreZonesCounted page (y * width page + x) counts → slice_index counts a + 1 < 2 ^ 64
 zone_fits page y x a counts valid ly lx la h = count_fits counts a (y * width page + x) _ (few_samples page y x valid ly (omega (arith, lx))) (h.each a la)
 
+-- and of its zone
+
+with_true : (page : PageParts) (z n : ℕ) → count_below (λ i. (zone_of page (sample_at page i) == z) && true) n ≡ count_below (λ i. zone_of page (sample_at page i) == z) n
+with_true page z n = count_below-ext (λ i. (zone_of page (sample_at page i) == z) && true) (λ i. zone_of page (sample_at page i) == z) n (λ k _. also_true (zone_of page (sample_at page k) == z))
+
+pub sample_tallied : (page : PageParts) (y x a v : ℕ) (counts : List ℕ) → IsPage page → x < width page → a ≡ zone_of page (record { x = x; y = y }) → v ≡ slice_index counts a + 1 → AreSamplesCounted page (y * width page + x) counts → AreSamplesCounted page (y * width page + x + 1) (slice_set counts a v)
+sample_tallied page y x a v counts valid lx ea ev h = record {
+  long = length-set counts a v ∙ h.long;
+  each = λ z l. tallied (λ i. zone_of page (sample_at page i)) (λ i. true) counts (length page.zones) (y * width page + x) a v (ea ∙ ap (zone_of page) (sym (numbered page y x lx))) h.long (rw ea (zone_known page (record { x = x; y = y }) valid)) refl ev (λ b lb. h.each b lb ∙ sym (with_true page b (y * width page + x))) z l ∙ with_true page z (y * width page + x + 1);
+}
+
+pub sample_fits : (page : PageParts) (y x a : ℕ) (counts : List ℕ) → IsPage page → y < height page → x < width page → a < length page.zones → AreSamplesCounted page (y * width page + x) counts → slice_index counts a + 1 < 2 ^ 64
+sample_fits page y x a counts valid ly lx la h = count_fits counts a (y * width page + x) _ (few_samples page y x valid ly (omega (arith, lx))) (h.each a la)
+
 -- a quiet row
 
-unchanged : (page : PageParts) (p : At) (c : ℕ) → KeepsTints page p → plate_changes page c p ≡ false
-unchanged page p c keep = ap not (eq-eqb _ _ (keep c))
+unchanged : (page : PageParts) (p : At) (c : ℕ) → new page p c ≡ tint page c p → plate_changes page c p ≡ false
+unchanged page p c keep = ap not (eq-eqb _ _ keep)
 
-none_below : (test : ℕ → Bool) (n : ℕ) → ((c : ℕ) → test c ≡ false) → any_below test n ≡ false
+none_below : (test : ℕ → Bool) (n : ℕ) → ((c : ℕ) → c < n → test c ≡ false) → any_below test n ≡ false
 none_below test zero h = refl
-none_below test (suc n) h = rw (none_below test n h, h n) refl
+none_below test (suc n) h = rw (none_below test n (λ c l. h c (omega (arith, l))), h n (omega arith)) refl
 
 both_false : (a b : Bool) → b ≡ false → (a && b) ≡ false
 both_false true b e = e
 both_false false b e = refl
 
-pub plates_quiet : (page : PageParts) (y : ℕ) (counts : List ℕ) → ((x : ℕ) → x < width page → KeepsTints page (record { x = x; y = y })) → ArePlatesCounted page (y * width page) counts → ArePlatesCounted page ((y + 1) * width page) counts
+pub plates_quiet : (page : PageParts) (y : ℕ) (counts : List ℕ) → KeepsRow page y → ArePlatesCounted page (y * width page) counts → ArePlatesCounted page ((y + 1) * width page) counts
 plates_quiet page y counts keep h = record {
   long = h.long;
-  each = λ c l. h.each c l ∙ sym (row_none (λ k. plate_changes page c (sample_at page k)) y (width page) (λ x lx. ap (plate_changes page c) (numbered page y x lx) ∙ unchanged page (record { x = x; y = y }) c (keep x lx)));
+  each = λ c l. h.each c l ∙ sym (row_none (λ k. plate_changes page c (sample_at page k)) y (width page) (λ x lx. ap (plate_changes page c) (numbered page y x lx) ∙ unchanged page (record { x = x; y = y }) c (keep c x l lx)));
 }
 
-pub zones_quiet : (page : PageParts) (y : ℕ) (counts : List ℕ) → ((x : ℕ) → x < width page → KeepsTints page (record { x = x; y = y })) → AreZonesCounted page (y * width page) counts → AreZonesCounted page ((y + 1) * width page) counts
+pub zones_quiet : (page : PageParts) (y : ℕ) (counts : List ℕ) → KeepsRow page y → AreZonesCounted page (y * width page) counts → AreZonesCounted page ((y + 1) * width page) counts
 zones_quiet page y counts keep h = record {
   long = h.long;
-  each = λ z l. h.each z l ∙ sym (row_none (λ i. (zone_of page (sample_at page i) == z) && sample_changes page (sample_at page i)) y (width page) (λ x lx. both_false (zone_of page (sample_at page (y * width page + x)) == z) (sample_changes page (sample_at page (y * width page + x))) (ap (sample_changes page) (numbered page y x lx) ∙ none_below (λ c. plate_changes page c (record { x = x; y = y })) (plates page) (λ c. unchanged page (record { x = x; y = y }) c (keep x lx)))));
+  each = λ z l. h.each z l ∙ sym (row_none (λ i. (zone_of page (sample_at page i) == z) && sample_changes page (sample_at page i)) y (width page) (λ x lx. both_false (zone_of page (sample_at page (y * width page + x)) == z) (sample_changes page (sample_at page (y * width page + x))) (ap (sample_changes page) (numbered page y x lx) ∙ none_below (λ c. plate_changes page c (record { x = x; y = y })) (plates page) (λ c lc. unchanged page (record { x = x; y = y }) c (keep c x lc lx)))));
 }
 
 -- the counts of the whole page
@@ -179,6 +189,12 @@ plates_whole page counts h = list_below-from (plate_changed page) (plates page) 
 pub zones_whole : (page : PageParts) (counts : List ℕ) → AreZonesCounted page (height page * width page) counts → counts ≡ list_below (zone_changed page) (length page.zones)
 zones_whole page counts h = list_below-from (zone_changed page) (length page.zones) counts h.long (λ z l. h.each z l ∙ ap (count_below (λ k. (zone_of page (sample_at page k) == z) && sample_changes page (sample_at page k))) (let all : height page * width page ≡ samples page = omega arith in all))
 
+pub samples_whole : (page : PageParts) (counts : List ℕ) → AreSamplesCounted page (height page * width page) counts → counts ≡ list_below (zone_samples page) (length page.zones)
+samples_whole page counts h = list_below-from (zone_samples page) (length page.zones) counts h.long (λ z l. h.each z l ∙ ap (count_below (λ k. zone_of page (sample_at page k) == z)) (let all : height page * width page ≡ samples page = omega arith in all))
+
 -- a row is counted to its end
 pub counted_row : (page : PageParts) (y x : ℕ) (counts : List ℕ) → x ≡ width page → AreZonesCounted page (y * width page + x) counts → AreZonesCounted page ((y + 1) * width page) counts
 counted_row page y x counts e h = subst (λ (n : ℕ). AreZonesCounted page n counts) (let all : y * width page + x ≡ (y + 1) * width page = omega (arith, e) in all) h
+
+pub samples_row : (page : PageParts) (y x : ℕ) (counts : List ℕ) → x ≡ width page → AreSamplesCounted page (y * width page + x) counts → AreSamplesCounted page ((y + 1) * width page) counts
+samples_row page y x counts e h = subst (λ (n : ℕ). AreSamplesCounted page n counts) (let all : y * width page + x ≡ (y + 1) * width page = omega (arith, e) in all) h

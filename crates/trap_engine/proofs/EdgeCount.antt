@@ -1,4 +1,4 @@
-use Rattle.std.proofs.Common.{◌≡◌, ℕ, zero, suc, ◌+◌, ◌*◌, ◌-◌, ◌/◌, ◌%◌, ◌<◌, ◌≤◌, Bool, true, false, ◌&&◌, nat_le, refl, sym, ◌∙◌, ap, arith, if◌then◌else◌}
+use Rattle.std.proofs.Common.{◌≡◌, ℕ, zero, suc, ◌+◌, ◌*◌, ◌-◌, ◌/◌, ◌%◌, ◌<◌, ◌≤◌, Bool, true, false, ◌&&◌, nat_le, refl, sym, ◌∙◌, ap, arith, List, length, slice_index, if◌then◌else◌}
 use Rattle.std.specs.Prelude.{◌==◌}
 use Rattle.std.proofs.lemmas.Bool.{and_parts, eqb-true, leb-true, le-leb, false_from_ne_true}
 use Rattle.std.proofs.lemmas.Nat.{div-mul-add, mod-mul-add}
@@ -11,6 +11,7 @@ use Rattle.page_model.specs.Deciding.{decides, lower_mark, mark, right_mark}
 use Rattle.page_model.specs.Page.{height, samples, width}
 use Rattle.lists.specs.Words.{count_below, sum_below}
 use Rattle.page_model.proofs.MarkLemmas.{lower_mark-is, right_mark-is}
+use Rattle.trap_engine.specs.Standing.{AreMarks, edges_of}
 
 abbrev one_if : Bool → ℕ
 one_if b = if b then 1 else 0
@@ -125,10 +126,6 @@ mark_edges true false = refl
 mark_edges false true = refl
 mark_edges false false = refl
 
--- how many edges of sample k decide
-abbrev pub edges_of : PageParts → ℕ → ℕ
-edges_of page k = mark page (k / width page) (k % width page) % 2 + mark page (k / width page) (k % width page) / 2
-
 numbered : (page : PageParts) (y x : ℕ) → x < width page → edges_at page x y ≡ edges_of page (y * width page + x)
 unfolding edges_at
 numbered page y x l =
@@ -146,3 +143,24 @@ edges_by_samples page n sw sh en =
     ∙ sym (sum_swap (edges_at page) (width page) (height page))
     ∙ sym (grid_sum page sw sh)
     ∙ sym (by_columns page sw sh)
+
+-- the edges of row y, by its marks
+edges_of_row : (page : PageParts) (y : ℕ) (marks : List ℕ) → AreMarks page y marks → sum_below (λ x. slice_index marks x % 2 + slice_index marks x / 2) (length marks) ≡ sum_below (λ x. edges_of page (y * width page + x)) (width page)
+edges_of_row page y marks h =
+    ap (sum_below (λ x. slice_index marks x % 2 + slice_index marks x / 2)) h.wide
+    ∙ sum_ext (λ x. slice_index marks x % 2 + slice_index marks x / 2) (λ x. edges_of page (y * width page + x)) (width page) (λ x l.
+    ap (λ (m : ℕ). m % 2 + m / 2) (h.each x l)
+    ∙ ap (λ (n : ℕ). mark page n x % 2 + mark page n x / 2) (sym (div-mul-add y (width page) x l))
+    ∙ ap (λ (n : ℕ). mark page ((y * width page + x) / width page) n % 2 + mark page ((y * width page + x) / width page) n / 2) (sym (mod-mul-add y (width page) x l)))
+
+-- and those of the rows before it
+pub edges_next : (page : PageParts) (y old more : ℕ) (marks : List ℕ) → AreMarks page y marks → old ≡ sum_below (edges_of page) (y * width page) → more ≡ sum_below (λ x. slice_index marks x % 2 + slice_index marks x / 2) (length marks) → old + more ≡ sum_below (edges_of page) ((y + 1) * width page)
+edges_next page y old more marks h eo em =
+    let all : y * width page + width page ≡ (y + 1) * width page = omega arith in
+    let sum : sum_below (edges_of page) ((y + 1) * width page) ≡ sum_below (edges_of page) (y * width page) + sum_below (λ x. edges_of page (y * width page + x)) (width page) = ap (sum_below (edges_of page)) (sym all) ∙ sum_add (edges_of page) (y * width page) (width page) in
+    omega (arith, eo, em, edges_of_row page y marks h, sum)
+
+pub few_next : (y w old more n : ℕ) → n ≡ w → old ≤ 128 * (y * w) → more ≤ 128 * n → old + more ≤ 128 * ((y + 1) * w)
+few_next y w old more n en few here =
+    let all : y * w + w ≡ (y + 1) * w = omega arith in
+    omega (arith, en, few, here, all)

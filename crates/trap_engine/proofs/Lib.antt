@@ -1,5 +1,6 @@
 pub mod CountLemmas
 pub mod EdgeCount
+pub mod OutcomeLemmas
 pub mod StandingLemmas
 pub mod WholeLemmas
 pub mod ZoneRows

@@ -12,9 +12,8 @@ use Rattle.page_model.specs.Planes.{PutTint, no_plane, plane_at}
 use Rattle.page_model.specs.Tints.{new, new_tints, trapped_plane, trapped_planes}
 use Rattle.page_model.proofs.PageLemmas.{plane_of}
 use Rattle.lists.proofs.ListBelow.{list_below-of}
-use Rattle.band_values.specs.Quiet.{KeepsTints}
 use Rattle.trap_engine.proofs.ZoneRows.{numbered}
-use Rattle.trap_engine.specs.Standing.{AreTrappedTo, AreTrapping, ArePutting, IsTrappedTo}
+use Rattle.trap_engine.specs.Standing.{AreTrappedTo, AreTrapping, ArePutting, IsTrappedTo, KeepsRow}
 
 -- samples that keep their tints
 
@@ -42,10 +41,10 @@ pub next_row : (y w : ℕ) → y * w + w ≡ (y + 1) * w
 next_row y w = omega arith
 
 -- a quiet row
-pub planes_quiet : (page : PageParts) (planes : List Plane) (y : ℕ) → y < height page → ((x : ℕ) → x < width page → KeepsTints page (record { x = x; y = y })) → AreTrappedTo page planes (y * width page) → AreTrappedTo page planes ((y + 1) * width page)
+pub planes_quiet : (page : PageParts) (planes : List Plane) (y : ℕ) → y < height page → KeepsRow page y → AreTrappedTo page planes (y * width page) → AreTrappedTo page planes ((y + 1) * width page)
 planes_quiet page planes y ly keep h = subst (λ (n : ℕ). AreTrappedTo page planes n) (next_row y (width page)) (record {
   count = h.count;
-  each = λ c l. plate_kept page c (y * width page) (width page) (plane_at planes c) (row_inside page y ly) (λ x lx. subst (λ (p : At). new page p c ≡ tint page c p) (sym (numbered page y x lx)) (keep x lx c)) (h.each c l);
+  each = λ c l. plate_kept page c (y * width page) (width page) (plane_at planes c) (row_inside page y ly) (λ x lx. subst (λ (p : At). new page p c ≡ tint page c p) (sym (numbered page y x lx)) (keep c x l lx)) (h.each c l);
 })
 
 -- a plate's row that is the same

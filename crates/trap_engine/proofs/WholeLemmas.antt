@@ -27,8 +27,6 @@ sample_marks-at page k d l = list_below-at _ (samples page) k d l
 
 pub ruleset zone_reads = (sample_zones-length, sample_zones-at)
 
-pub ruleset mark_reads = (sample_marks-length, sample_marks-at)
-
 -- a sample's place is its number
 pub sample_at-place : (page : PageParts) (p : At) → InPage page p → sample_at page (place page p) ≡ p
 sample_at-place page p h = rw (div-mul-add p.y (width page) p.x h.x, mod-mul-add p.y (width page) p.x h.x) refl

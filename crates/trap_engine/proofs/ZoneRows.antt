@@ -10,9 +10,9 @@ use Rattle.page_model.specs.Zones.{AreZones, zone_of}
 use Rattle.page_model.proofs.PageLemmas.{plane_of}
 use Rattle.lists.specs.Words.{list_below}
 use Rattle.lists.proofs.ListBelow.{list_below-from}
-use Rattle.band_values.specs.declared.rows.Rows.{Rows}
 use Rattle.band_values.specs.Rows.{HoldsMarks, HoldsRows, HoldsZones, zone_value}
 use Rattle.trap_engine.specs.Rows.{AreRows}
+use Rattle.trap_engine.specs.Standing.{AreMarks}
 use Rattle.trap_engine.specs.Whole.{sample_marks, sample_zones}
 use Rattle.trap_engine.proofs.WholeLemmas.{sample_marks-at, sample_zones-at, sample_zones-length}
 
@@ -69,6 +69,16 @@ zones_of_row-are page w y all row ew down whole rows =
     record {
       wide = rows.long ∙ one;
       each = λ x l. rows.each x (omega (arith, one, l)) ∙ rw (whole, ew) (sample_zones-at page (y * width page + x) 0 (mul-add-lt y (width page) x (height page) down l) ∙ ap (zone_of page) (numbered page y x l));
+    }
+
+-- and of the marks
+pub marks_of_row-are : (page : PageParts) (w y : ℕ) (all row : List ℕ) → w ≡ width page → y < height page → all ≡ sample_marks page → AreRows w y (y + 1) all row → AreMarks page y row
+marks_of_row-are page w y all row ew down whole rows =
+    let step : y + 1 - y ≡ 1 = omega arith in
+    let one : (y + 1 - y) * w ≡ width page = rw step (omega (arith, ew)) in
+    record {
+      wide = rows.long ∙ one;
+      each = λ x l. rows.each x (omega (arith, one, l)) ∙ rw (whole, ew) (sample_marks-at page (y * width page + x) 0 (mul-add-lt y (width page) x (height page) down l) ∙ ap (λ (n : ℕ). mark page n ((y * width page + x) % width page)) (div-mul-add y (width page) x l) ∙ ap (mark page y) (mod-mul-add y (width page) x l));
     }
 
 pub rows_fit : (page : PageParts) (w from to : ℕ) (all : List ℕ) → w ≡ width page → from ≤ to → to ≤ height page → length all ≡ samples page → from * w + (to - from) * w ≤ length all

@@ -1,3 +1,4 @@
+pub mod Bench
 pub mod Rows
 pub mod Standing
 pub mod Whole

@@ -1,19 +1,12 @@
-// How many samples lie in each zone, and how many edges decide, each in one pass.
+// What a row has of each zone, and of edges that decide.
 
-ghost use Rattle.std.specs.Prelude.{◌≡◌, ◌<◌, ℕ, IfOk, if◌then◌else◌, length, slice_index};
-ghost use Rattle.page_model.specs.Counts.{deciding_edges, zone_samples};
-ghost use Rattle.page_model.specs.Page.{samples, sample_at};
-ghost use Rattle.lists.specs.Words.{list_below};
-ghost use Rattle.page_model.specs.Zones.{zone_of};
-ghost use Rattle.trap_engine.specs.Whole.{sample_marks, sample_zones};
+ghost use Rattle.std.specs.Prelude.{◌≡◌, ◌<◌, ◌≤◌, ◌+◌, ◌*◌, ◌/◌, ◌%◌, if◌then◌else◌, length, slice_index};
+ghost use Rattle.lists.specs.Words.{sum_below};
+ghost use Rattle.page_model.specs.Page.{height, width};
+ghost use Rattle.page_model.specs.Zones.{AreZones};
+ghost use Rattle.trap_engine.specs.Standing.{AreSamplesCounted};
 
-use crate::grid::samples_of;
-use crate::memory::no_counts;
-use crate::reads::{mark_at, zone_number};
-use lists::list::List;
 use page_model::page::Page;
-use page_model::parts::{CountList, OutOfMemory};
-use std::alloc::Global;
 
 /// 1 where the test holds, else 0.
 pub fn one_if(test: bool) -> u64
@@ -22,50 +15,43 @@ pub fn one_if(test: bool) -> u64
     if test { 1 } else { 0 }
 }
 
-/// How many edges of the page decide.
-pub fn edges_in(page: &Page, marks: &[u8]) -> u64
-    requires { marks.now ≡ sample_marks page.now }
-    ensures { result ≡ deciding_edges page.now }
+/// How many edges these marks tell of: a mark of 1 or 2 of one edge, and one of 3 of two.
+pub fn edges_in(marks: &[u8]) -> u64
+    requires { length marks.now ≤ 16384 }
+    ensures count { result ≡ sum_below (λ x. slice_index marks.now x % 2 + slice_index marks.now x / 2) (length marks.now) }
+    ensures few { result ≤ 128 * length marks.now }
 {
-    let _valid = page.plates();
     let mut count = 0;
-    for k in 0..samples_of(page) {
-        let mark = mark_at(page, marks, k);
+    for x in 0..marks.len() {
+        let mark = marks[x];
         count += u64::from(mark % 2 + mark / 2);
     }
     count
 }
 
-/// The zone of sample k, as the place of its count.
+/// Counts the samples of row y in their zones.
 #[tactic(auto, using(crate::proofs::CountLemmas::zone_known))]
-fn count_place(page: &Page, zones: &[u8], k: usize) -> usize
-    requires zones { zones.now ≡ sample_zones page.now }
-    requires sample { k < samples page.now }
-    ensures value { result ≡ zone_of page.now (sample_at page.now k) }
-    ensures known { result < length page.now.zones }
+pub fn count_zones(page: &Page, zones: &[u8], y: u32, counts: &mut [u64])
+    requires zones { AreZones page.now y zones.now }
+    requires line { y < height page.now }
+    requires counts { AreSamplesCounted page.now (y * width page.now) counts.old }
+    ensures { AreSamplesCounted page.now ((y + 1) * width page.now) counts.new }
 {
-    let _valid = page.plates();
-    usize::from(zone_number(page, zones, k))
-}
-
-/// Counts the samples of each zone.
-fn count_samples(page: &Page, zones: &[u8], counts: &mut [u64])
-    requires zones { zones.now ≡ sample_zones page.now }
-    requires counts { length counts.old ≡ length page.now.zones }
-    requires none { (z : ℕ) → z < length page.now.zones → slice_index counts.old z ≡ 0 }
-    ensures { counts.new ≡ list_below (zone_samples page.now) (length page.now.zones) }
-{
-    for k in 0..samples_of(page) {
-        counts[count_place(page, zones, k)] += 1;
+    for x in 0..zones.len() {
+        count_zone(page, zones, y, x, counts);
     }
 }
 
-/// For each zone how many samples lie in it.
-pub fn zone_samples_of(alloc: Global, page: &Page, zones: &[u8]) -> Result<CountList, OutOfMemory>
-    requires { zones.now ≡ sample_zones page.now }
-    ensures { IfOk result (λ counts. counts ≡ list_below (zone_samples page.now) (length page.now.zones)) }
+/// Counts sample x of row y in its zone.
+#[tactic(auto, using(crate::proofs::CountLemmas::zone_known))]
+fn count_zone(page: &Page, zones: &[u8], y: u32, x: usize, counts: &mut [u64])
+    requires zones { AreZones page.now y zones.now }
+    requires line { y < height page.now }
+    requires column { x < width page.now }
+    requires counts { AreSamplesCounted page.now (y * width page.now + x) counts.old }
+    ensures { AreSamplesCounted page.now (y * width page.now + x + 1) counts.new }
 {
-    let mut counts = no_counts(alloc, page.zones() as usize)?;
-    count_samples(page, zones, &mut counts);
-    Ok(List::from_vec(counts))
+    let _valid = page.plates();
+    let zone = usize::from(zones[x]);
+    counts[zone] += 1;
 }

@@ -7,9 +7,11 @@ mod counting;
 mod grid;
 mod marks;
 mod memory;
+mod outcome;
 mod planes;
 #[cfg(test)]
 mod random_pages;
+#[cfg(test)]
 mod reads;
 #[cfg(test)]
 mod slow_marks;

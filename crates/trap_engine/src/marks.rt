@@ -5,6 +5,7 @@ ghost use Rattle.band_values.specs.Rows.{HoldsMarks};
 ghost use Rattle.page_model.specs.Page.{height, samples};
 ghost use Rattle.page_model.specs.Zones.{AreZones};
 ghost use Rattle.trap_engine.specs.Rows.{AreRows};
+ghost use Rattle.trap_engine.specs.Standing.{AreMarks};
 ghost use Rattle.trap_engine.specs.Whole.{sample_marks, sample_zones};
 
 use crate::grid::samples_of;
@@ -35,6 +36,16 @@ pub fn zones_of_row<'a>(page: &Page, zones: &'a [u8], y: u32) -> &'a [u8]
 {
     let _valid = page.plates();
     rows_between(zones, page.width(), y, y + 1)
+}
+
+/// The marks of row y.
+pub fn marks_of_row<'a>(page: &Page, marks: &'a [u8], y: u32) -> &'a [u8]
+    requires marks { marks.now ≡ sample_marks page.now }
+    requires row { y < height page.now }
+    ensures { AreMarks page.now y result.now }
+{
+    let _valid = page.plates();
+    rows_between(marks, page.width(), y, y + 1)
 }
 
 /// Writes the marks of all samples, row by row.

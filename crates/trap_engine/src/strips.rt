@@ -1,147 +1,97 @@
 // The page strip by strip: the column answers of some rows, and then the traps of each row.
 
-ghost use Rattle.std.specs.Prelude.{◌≡◌, ◌<◌, ◌≤◌, ◌+◌, ◌*◌, ◌-◌, length};
+ghost use Rattle.std.specs.Prelude.{◌≡◌, ◌<◌, ◌≤◌, ◌+◌, ◌*◌, ◌-◌, IfOk, length};
 ghost use Rattle.band_values.specs.Arms.{AreAnswers};
 ghost use Rattle.band_values.specs.Room.{Serves};
 ghost use Rattle.band_values.specs.Rows.{HoldsAnswers, doubled};
-ghost use Rattle.lists.specs.Words.{list_below};
-ghost use Rattle.page_model.specs.Counts.{plate_changed, zone_changed};
-ghost use Rattle.page_model.specs.Page.{height, plates, width};
+ghost use Rattle.page_model.specs.Page.{height};
 ghost use Rattle.page_model.specs.Reach.{page_reach};
-ghost use Rattle.page_model.specs.Tints.{trapped_planes};
-ghost use Rattle.page_model.specs.Zones.{AreZones};
-ghost use Rattle.trap_engine.specs.Standing.{ArePlatesCounted, AreTrappedTo, AreZonesCounted, IsNewRow};
-ghost use Rattle.trap_engine.specs.Whole.{sample_marks, sample_zones};
+ghost use Rattle.trap_engine.specs.Bench.{IsBench};
+ghost use Rattle.trap_engine.specs.Standing.{HasRows};
 
-use crate::changes::{count_changed, count_plates, note_changes};
-use crate::marks::{marks_between, zones_of_row};
-use crate::planes::put_row;
+use crate::marks::{marks_between, marks_of, marks_of_row, zones_of_row};
+use crate::memory::filled;
+use crate::outcome::Outcome;
+use crate::zones::zones_of;
 use band_values::{Rows, Workspace, is_quiet, make_answers, make_row, row_of};
 use page_model::page::Page;
-use page_model::parts::PlaneList;
+use page_model::parts::OutOfMemory;
+use std::alloc::Global;
 
 /// How many rows a strip has at most.
 pub const STRIP: u32 = 64;
 
-/// Puts the new tints of row y into the planes, and counts what they change.
-fn note_row(
-    page: &Page,
-    y: u32,
-    zones: &[u8],
-    row: &[u16],
-    changes: &mut [bool],
-    planes: &mut PlaneList,
-    zone_counts: &mut [u64],
-    plate_counts: &mut [u64],
-)
-    requires line { y < height page.now }
-    requires zones { AreZones page.now y zones.now }
-    requires row { IsNewRow page.now y row.now }
-    requires changes { length changes.old ≡ width page.now }
-    requires planes { AreTrappedTo page.now planes.old (y * width page.now) }
-    requires zone_counts { AreZonesCounted page.now (y * width page.now) zone_counts.old }
-    requires plate_counts { ArePlatesCounted page.now (y * width page.now) plate_counts.old }
-    ensures changes { length changes.new ≡ length changes.old }
-    ensures planes { AreTrappedTo page.now planes.new ((y + 1) * width page.now) }
-    ensures zone_counts { AreZonesCounted page.now ((y + 1) * width page.now) zone_counts.new }
-    ensures plate_counts { ArePlatesCounted page.now ((y + 1) * width page.now) plate_counts.new }
-{
-    put_row(page, row, y, planes);
-    count_plates(page, row, y, plate_counts);
-    note_changes(page, row, y, changes);
-    count_changed(page, zones, y, changes, zone_counts);
+/// What the strips of a page are trapped with: the zones and marks of all samples, row by row, and room for the new
+/// tints of a row.
+#[derive(Drop)]
+pub struct Bench {
+    pub zones: Vec<u8>,
+    pub marks: Vec<u8>,
+    pub row: Vec<u16>,
 }
 
-/// Traps row y, whose column answers these are. A quiet row stays as it was copied.
+/// The bench of a page.
+pub fn bench_of(alloc: Global, page: &Page, room: &mut Workspace) -> Result<Bench, OutOfMemory>
+    requires { Serves room.old page.now }
+    ensures bench { IfOk result (λ bench. IsBench page.now bench) }
+    ensures room { room.new ≡ room.old }
+{
+    let zones = zones_of(alloc, page, room)?;
+    let marks = marks_of(alloc, page, zones.as_slice())?;
+    let row = filled(alloc, 0u16, page.plates() as usize * page.width() as usize)?;
+    Ok(Bench { zones, marks, row })
+}
+
+/// Traps row y, whose column answers these are. The tints of a quiet row are neither made nor compared.
 fn trap_row(
     page: &Page,
     y: u32,
-    zones: &[u8],
     codes: &[u16],
-    row: &mut [u16],
-    changes: &mut [bool],
-    planes: &mut PlaneList,
-    zone_counts: &mut [u64],
-    plate_counts: &mut [u64],
+    bench: &mut Bench,
     room: &mut Workspace,
+    outcome: &mut Outcome,
 )
     requires line { y < height page.now }
-    requires zones { zones.now ≡ sample_zones page.now }
     requires codes { AreAnswers page.now (page_reach page.now) y (doubled page.now) codes.now }
-    requires row { length row.old ≡ plates page.now * width page.now }
-    requires changes { length changes.old ≡ width page.now }
-    requires planes { AreTrappedTo page.now planes.old (y * width page.now) }
-    requires zone_counts { AreZonesCounted page.now (y * width page.now) zone_counts.old }
-    requires plate_counts { ArePlatesCounted page.now (y * width page.now) plate_counts.old }
+    requires bench { IsBench page.now bench.old }
     requires room { Serves room.old page.now }
-    ensures row { length row.new ≡ length row.old }
-    ensures changes { length changes.new ≡ length changes.old }
-    ensures planes { AreTrappedTo page.now planes.new ((y + 1) * width page.now) }
-    ensures zone_counts { AreZonesCounted page.now ((y + 1) * width page.now) zone_counts.new }
-    ensures plate_counts { ArePlatesCounted page.now ((y + 1) * width page.now) plate_counts.new }
+    requires outcome { HasRows page.now y outcome.old }
+    ensures bench { IsBench page.now bench.new }
     ensures room { room.new ≡ room.old }
+    ensures outcome { HasRows page.now (y + 1) outcome.new }
 {
+    let zones = zones_of_row(page, &bench.zones, y);
+    let marks = marks_of_row(page, &bench.marks, y);
     if is_quiet(page, y, codes) {
+        outcome.take_in(page, y, zones, marks, None);
         return;
     }
-    let here = zones_of_row(page, zones, y);
-    make_row(page, y, here, codes, row, room);
-    note_row(
-        page,
-        y,
-        here,
-        row,
-        changes,
-        planes,
-        zone_counts,
-        plate_counts,
-    );
+    make_row(page, y, zones, codes, &mut bench.row, room);
+    outcome.take_in(page, y, zones, marks, Some(bench.row.as_slice()));
 }
 
 /// Traps these rows, whose column answers these are.
 fn trap_rows(
     page: &Page,
     rows: Rows,
-    zones: &[u8],
     codes: &[u16],
-    row: &mut [u16],
-    changes: &mut [bool],
-    planes: &mut PlaneList,
-    zone_counts: &mut [u64],
-    plate_counts: &mut [u64],
+    bench: &mut Bench,
     room: &mut Workspace,
+    outcome: &mut Outcome,
 )
     requires inside { rows.first + rows.count ≤ height page.now }
-    requires zones { zones.now ≡ sample_zones page.now }
     requires codes { HoldsAnswers page.now rows codes.now }
-    requires row { length row.old ≡ plates page.now * width page.now }
-    requires changes { length changes.old ≡ width page.now }
-    requires planes { AreTrappedTo page.now planes.old (rows.first * width page.now) }
-    requires zone_counts { AreZonesCounted page.now (rows.first * width page.now) zone_counts.old }
-    requires plate_counts { ArePlatesCounted page.now (rows.first * width page.now) plate_counts.old }
+    requires bench { IsBench page.now bench.old }
     requires room { Serves room.old page.now }
-    ensures row { length row.new ≡ length row.old }
-    ensures changes { length changes.new ≡ length changes.old }
-    ensures planes { AreTrappedTo page.now planes.new ((rows.first + rows.count) * width page.now) }
-    ensures zone_counts { AreZonesCounted page.now ((rows.first + rows.count) * width page.now) zone_counts.new }
-    ensures plate_counts { ArePlatesCounted page.now ((rows.first + rows.count) * width page.now) plate_counts.new }
+    requires outcome { HasRows page.now rows.first outcome.old }
+    ensures bench { IsBench page.now bench.new }
     ensures room { room.new ≡ room.old }
+    ensures outcome { HasRows page.now (rows.first + rows.count) outcome.new }
 {
     let wide = 2 * page.width() as usize - 1;
     for k in 0..rows.count {
         let answers = row_of(codes, wide, k as usize);
-        trap_row(
-            page,
-            rows.first + k,
-            zones,
-            answers,
-            row,
-            changes,
-            planes,
-            zone_counts,
-            plate_counts,
-            room,
-        );
+        trap_row(page, rows.first + k, answers, bench, room, outcome);
     }
 }
 
@@ -149,34 +99,21 @@ fn trap_rows(
 fn trap_strip(
     page: &Page,
     rows: Rows,
-    zones: &[u8],
-    marks: &[u8],
     codes: &mut [u16],
-    row: &mut [u16],
-    changes: &mut [bool],
-    planes: &mut PlaneList,
-    zone_counts: &mut [u64],
-    plate_counts: &mut [u64],
+    bench: &mut Bench,
     room: &mut Workspace,
+    outcome: &mut Outcome,
 )
     requires some { 1 ≤ rows.count }
     requires inside { rows.first + rows.count ≤ height page.now }
-    requires zones { zones.now ≡ sample_zones page.now }
-    requires marks { marks.now ≡ sample_marks page.now }
     requires codes { length codes.old ≡ rows.count * doubled page.now }
-    requires row { length row.old ≡ plates page.now * width page.now }
-    requires changes { length changes.old ≡ width page.now }
-    requires planes { AreTrappedTo page.now planes.old (rows.first * width page.now) }
-    requires zone_counts { AreZonesCounted page.now (rows.first * width page.now) zone_counts.old }
-    requires plate_counts { ArePlatesCounted page.now (rows.first * width page.now) plate_counts.old }
+    requires bench { IsBench page.now bench.old }
     requires room { Serves room.old page.now }
+    requires outcome { HasRows page.now rows.first outcome.old }
     ensures codes { length codes.new ≡ length codes.old }
-    ensures row { length row.new ≡ length row.old }
-    ensures changes { length changes.new ≡ length changes.old }
-    ensures planes { AreTrappedTo page.now planes.new ((rows.first + rows.count) * width page.now) }
-    ensures zone_counts { AreZonesCounted page.now ((rows.first + rows.count) * width page.now) zone_counts.new }
-    ensures plate_counts { ArePlatesCounted page.now ((rows.first + rows.count) * width page.now) plate_counts.new }
+    ensures bench { IsBench page.now bench.new }
     ensures room { room.new ≡ room.old }
+    ensures outcome { HasRows page.now (rows.first + rows.count) outcome.new }
 {
     let halo = page.reach2().div_ceil(2);
     let first = rows.first.saturating_sub(halo);
@@ -185,47 +122,24 @@ fn trap_strip(
         first,
         count: to - first,
     };
-    let near = marks_between(page, marks, held);
+    let near = marks_between(page, &bench.marks, held);
     make_answers(page, rows, held, near, codes);
-    trap_rows(
-        page,
-        rows,
-        zones,
-        codes,
-        row,
-        changes,
-        planes,
-        zone_counts,
-        plate_counts,
-        room,
-    );
+    trap_rows(page, rows, codes, bench, room, outcome);
 }
 
 /// Traps the page, strip by strip. The codes have a place for each doubled column of each row of a strip.
-fn trap_strips(
+pub fn trap_strips(
     page: &Page,
-    zones: &[u8],
-    marks: &[u8],
     codes: &mut [u16],
-    row: &mut [u16],
-    changes: &mut [bool],
-    planes: &mut PlaneList,
-    zone_counts: &mut [u64],
-    plate_counts: &mut [u64],
+    bench: &mut Bench,
     room: &mut Workspace,
+    outcome: &mut Outcome,
 )
-    requires zones { zones.now ≡ sample_zones page.now }
-    requires marks { marks.now ≡ sample_marks page.now }
     requires codes { length codes.old ≡ 64 * doubled page.now }
-    requires row { length row.old ≡ plates page.now * width page.now }
-    requires changes { length changes.old ≡ width page.now }
-    requires planes { AreTrappedTo page.now planes.old 0 }
-    requires zone_counts { AreZonesCounted page.now 0 zone_counts.old }
-    requires plate_counts { ArePlatesCounted page.now 0 plate_counts.old }
+    requires bench { IsBench page.now bench.old }
     requires room { Serves room.old page.now }
-    ensures planes { AreTrappedTo page.now planes.new (height page.now * width page.now) }
-    ensures zone_counts { AreZonesCounted page.now (height page.now * width page.now) zone_counts.new }
-    ensures plate_counts { ArePlatesCounted page.now (height page.now * width page.now) plate_counts.new }
+    requires outcome { HasRows page.now 0 outcome.old }
+    ensures { HasRows page.now (height page.now) outcome.new }
 {
     let height = page.height();
     let wide = 2 * page.width() as usize - 1;
@@ -233,59 +147,7 @@ fn trap_strips(
     while first < height {
         let count = (height - first).min(STRIP);
         let codes = &mut codes[..count as usize * wide];
-        trap_strip(
-            page,
-            Rows { first, count },
-            zones,
-            marks,
-            codes,
-            row,
-            changes,
-            planes,
-            zone_counts,
-            plate_counts,
-            room,
-        );
+        trap_strip(page, Rows { first, count }, codes, bench, room, outcome);
         first += count;
     }
-}
-
-/// Traps the page, and counts what changes for each zone and each plate.
-pub fn trap_page(
-    page: &Page,
-    zones: &[u8],
-    marks: &[u8],
-    codes: &mut [u16],
-    row: &mut [u16],
-    changes: &mut [bool],
-    planes: &mut PlaneList,
-    zone_counts: &mut [u64],
-    plate_counts: &mut [u64],
-    room: &mut Workspace,
-)
-    requires zones { zones.now ≡ sample_zones page.now }
-    requires marks { marks.now ≡ sample_marks page.now }
-    requires codes { length codes.old ≡ 64 * doubled page.now }
-    requires row { length row.old ≡ plates page.now * width page.now }
-    requires changes { length changes.old ≡ width page.now }
-    requires planes { AreTrappedTo page.now planes.old 0 }
-    requires zone_counts { AreZonesCounted page.now 0 zone_counts.old }
-    requires plate_counts { ArePlatesCounted page.now 0 plate_counts.old }
-    requires room { Serves room.old page.now }
-    ensures planes { planes.new ≡ trapped_planes page.now }
-    ensures zone_counts { zone_counts.new ≡ list_below (zone_changed page.now) (length page.now.zones) }
-    ensures plate_counts { plate_counts.new ≡ list_below (plate_changed page.now) (plates page.now) }
-{
-    trap_strips(
-        page,
-        zones,
-        marks,
-        codes,
-        row,
-        changes,
-        planes,
-        zone_counts,
-        plate_counts,
-        room,
-    );
 }

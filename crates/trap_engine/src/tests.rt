@@ -1,7 +1,6 @@
 ghost use Rattle.std.specs.Prelude.{◌≡◌, ◌≤◌, ◌∷◌, [], All, IfOk, length};
 ghost use Rattle.page_model.specs.Conditions.{IsInk, IsParts, IsPlane, IsZone};
 
-use crate::counting::edges_in;
 use crate::marks::marks_of;
 use crate::memory::push;
 use crate::random_pages::{Shape, some_page, some_shape};
@@ -130,7 +129,11 @@ fn edges_alike(alloc: Global, dice: &mut u64, shape: Shape) -> Result<Option<u64
     let marks = marks_of(alloc, &page, zones.as_slice())?;
     let slow = slow_marks(alloc, &page, zones.as_slice())?;
     if marks.as_slice() == slow.as_slice() {
-        Ok(Some(edges_in(&page, marks.as_slice())))
+        let edges = marks.iter().fold(
+            0u64,
+            |sum, mark| sum.wrapping_add(u64::from(mark % 2 + mark / 2)),
+        );
+        Ok(Some(edges))
     } else {
         Ok(None)
     }

@@ -1,5 +1,5 @@
 -- The line and the status of each refusal.
-use Rattle.std.specs.Prelude.{ℕ, List, [], ◌∷◌, ◌++◌, Option, Some, None, codes, decimal}
+use Rattle.std.specs.Prelude.{ℕ, List, [], ◌++◌, Some, None, codes, decimal}
 use Rattle.page_model.specs.declared.page.PageFault.{PageFault}
 use Rattle.page_model.specs.declared.page.PageFault.TheVariants.{SizeDiffers, MaxvalDiffers, TooManySamples as PageTooLarge, ReachTooWide}
 use Rattle.pgm_plates.specs.declared.plate.PlateFault.{PlateFault}

@@ -1,4 +1,4 @@
-ghost use Rattle.std.specs.Prelude.{◌≡◌, ◌≤◌, ◌++◌, length, decimal, codes};
+ghost use Rattle.std.specs.Prelude.{◌≡◌, ◌≤◌, ◌++◌, length, decimal};
 ghost use Rattle.trap_report.specs.Report.{line};
 ghost use Rattle.trap_report.specs.Refusals.{line_of, job_line as job_text, plate_fault_line as plate_text, page_fault_line as page_text};
 

@@ -1,6 +1,6 @@
-ghost use Rattle.std.specs.Prelude.{◌≡◌, ◌<◌, ◌++◌, OnOk, IfOk, length, slice_index, codes, decimal};
-ghost use Rattle.page_model.specs.Page.{plates, ink_at};
-ghost use Rattle.trap_report.specs.Report.{AreCounts, report_of, line, page_line, zone_line, edges_line, plate_line, zone_lines, plate_lines};
+ghost use Rattle.std.specs.Prelude.{◌≡◌, ◌<◌, ◌++◌, OnOk, IfOk, length, decimal};
+ghost use Rattle.page_model.specs.Page.{plates};
+ghost use Rattle.trap_report.specs.Report.{AreCounts, report_of, page_line, zone_line, plate_line, zone_lines, plate_lines};
 
 use itoa::Buffer;
 use lists::list::List;

@@ -1,5 +1,5 @@
 -- Where all files are there, a verdict stands.
-use Rattle.std.proofs.Common.{◌≡◌, ◌⊎◌, ℕ, zero, suc, ◌<◌, ◌≤◌, ◌+◌, All, List, [], ◌∷◌, ◌++◌, length, take, Option, Some, Result, Ok, Err, inl, inr, refl, sym, ap, ◌∙◌, subst, arith, length-append, below_more}
+use Rattle.std.proofs.Common.{◌≡◌, ◌⊎◌, ℕ, zero, suc, ◌<◌, ◌≤◌, ◌+◌, All, List, [], ◌∷◌, ◌++◌, length, Option, Some, Result, Ok, Err, inl, inr, refl, subst, arith}
 use Rattle.job_reader.specs.declared.job.Job.{Job as JobRead}
 use Rattle.ps_tokens.specs.declared.faults.JobFault.{JobFault}
 use Rattle.page_model.specs.declared.parts.PageParts.{PageParts}

@@ -1,8 +1,6 @@
-use Rattle.std.proofs.Common.{◌≡◌, ◌*◌, ◌≤◌, Some, sym, ap, ◌∙◌, arith, subst}
+use Rattle.std.proofs.Common.{sym, subst}
 use Rattle.page_model.specs.Conditions.{IsParts}
-use Rattle.page_model.specs.Faults.{page_fault}
-use Rattle.page_source.specs.Sample.{sample_parts}
-use Rattle.page_source.proofs.SampleLemmas.{is_parts, faultless}
+use Rattle.page_source.proofs.SampleLemmas.{is_parts}
 use Rattle.page_source.proofs.sample.sample_page.Goals as goal
 
 pub new-requires : goal.new-requires

@@ -1,6 +1,7 @@
+use Rattle.page_gather.proofs.GatherLemmas.{gathered}
 use Rattle.trap_words.specs.Held.{page_in}
 use Rattle.trap_cli.specs.Commands.{sources_of, targets_of}
-use Rattle.trap_cli.proofs.EndLemmas.{gathered, read_and_put, refused_first}
+use Rattle.trap_cli.proofs.EndLemmas.{read_and_put, refused_first}
 use Rattle.trap_cli.proofs.page.carry_out.Goals as goal
 
 pub returns-in-Ok : goal.returns-in-Ok

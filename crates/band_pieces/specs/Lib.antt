@@ -1,0 +1,4 @@
+pub mod Fills
+pub mod Finished
+pub mod Room
+pub mod Spans

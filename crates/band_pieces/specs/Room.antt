@@ -1,0 +1,20 @@
+-- How much memory a worker has.
+use Rattle.std.specs.Prelude.{◌≡◌, ℕ, ◌+◌, ◌*◌, ◌≤◌, min}
+use Rattle.band_values.specs.Room.{Room}
+use Rattle.page_model.specs.Columns.{halo}
+use Rattle.row_cells.specs.Layouts.{Layout, IsLayout}
+use Rattle.row_cells.specs.Places.{per_row}
+
+-- at least so many rows of a page as are within so many rows of a band of it
+abbrev pub most_rows : Layout → ℕ → ℕ
+most_rows layout near = min (layout.bands.height + near) layout.bands.rows
+
+-- the room of the makers is for the layout's pages; and so many values of each phase there is memory for: the zones of a band and the row below it, the marks of a band and of the rows within its halo, the answers and the tints of a band
+pub record IsRoom (layout : Layout) (room : Room) (zones marks answers tints : ℕ) : Type 0 where
+  pub made : IsLayout layout
+  pub wide : room.wide ≡ layout.width
+  pub deep : room.deep ≡ layout.plates
+  pub for_zones : most_rows layout 1 * per_row layout 0 ≤ zones
+  pub for_marks : most_rows layout (2 * halo layout.bands.reach2) * per_row layout 1 ≤ marks
+  pub for_answers : most_rows layout 0 * per_row layout 2 ≤ answers
+  pub for_tints : most_rows layout 0 * per_row layout 3 ≤ tints

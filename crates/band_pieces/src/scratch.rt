@@ -1,0 +1,117 @@
+ghost use Rattle.std.specs.Prelude.{◌≡◌, ℕ, ◌<◌, true, IfOk, vec_len};
+ghost use Rattle.band_claims.specs.Sheets.{IsFit};
+ghost use Rattle.band_graph.specs.Needs.{is_need};
+ghost use Rattle.page_model.specs.Bands.{AreBands, pieces_of};
+ghost use Rattle.page_model.specs.Page.{height, plates, width};
+ghost use Rattle.page_model.specs.Reach.{page_reach};
+
+use crate::fills::fill;
+use crate::sinks::CellSink;
+use band_claims::{Pass, Shared};
+use band_values::Workspace;
+use band_workers::Maker;
+use page_model::bands::Bands;
+use page_model::page::Page;
+use page_model::parts::OutOfMemory;
+use row_cells::layout::Layout;
+use std::alloc::Global;
+use std::marker::Model;
+
+/// All the memory of one worker: the values that it reads and makes of a piece of each phase, and the room of the makers.
+/// It is taken once, and a piece takes none.
+#[derive(Drop)]
+pub struct Scratch {
+    layout: Layout,
+    zones: Vec<u8>,
+    marks: Vec<u8>,
+    answers: Vec<u16>,
+    tints: Vec<u16>,
+    room: Workspace,
+}
+
+impl Model for Scratch {
+    ghost use Rattle.std.specs.Prelude.{vec_len};
+    ghost use Rattle.row_cells.specs.Layouts.{Layout};
+    ghost use Rattle.band_pieces.specs.Room.{IsRoom};
+
+    ghost Value = { Layout };
+
+    ghost view = { λ s. s.layout };
+
+    ghost invariant = { λ s. IsRoom s.layout s.room (vec_len s.zones) (vec_len s.marks) (vec_len s.answers) (vec_len s.tints) };
+}
+
+/// So many zeros.
+fn zeros<T: Copy + Drop>(alloc: Global, zero: T, count: u32) -> Result<Vec<T>, OutOfMemory>
+    ensures { IfOk result (λ items. vec_len items ≡ count) }
+{
+    match vec![in alloc; zero; count as usize] {
+        Ok(items) => Ok(items),
+        Err(_) => Err(OutOfMemory),
+    }
+}
+
+impl Scratch {
+    /// The memory for the pieces of pages like this one, in these bands.
+    pub fn new(alloc: Global, page: &Page, bands: &Bands) -> Result<Scratch, OutOfMemory>
+        requires bands { AreBands bands.now }
+        requires rows { bands.now.rows ≡ height page.now }
+        requires reach { bands.now.reach2 ≡ page_reach page.now }
+        ensures { IfOk result (λ scratch. scratch
+            ≡ record { bands = bands.now; width = width page.now; plates = plates page.now }) }
+    {
+        let layout = Layout::new(page.width(), page.plates(), bands);
+        let band = bands.height.min(bands.rows);
+        let below = (bands.height + 1).min(bands.rows);
+        let near = (bands.height + bands.reach2 + 1).min(bands.rows);
+        Ok(Scratch {
+            layout,
+            zones: zeros(alloc, 0u8, below * layout.row_values(0))?,
+            marks: zeros(alloc, 0u8, near * layout.row_values(1))?,
+            answers: zeros(alloc, 0u16, band * layout.row_values(2))?,
+            tints: zeros(alloc, 0u16, band * layout.row_values(3))?,
+            room: Workspace::new(alloc, page)?,
+        })
+    }
+
+    /// Makes a piece and fills its cells.
+    pub(crate) fn fill_piece<S, C: CellSink<S>>(
+        &mut self,
+        table: &C,
+        seat: &mut S,
+        page: &Page,
+        piece: u32,
+    )
+        requires layout { self.old ≡ (C.sheet table.now seat.old).layout }
+        requires page { page.now ≡ (C.sheet table.now seat.old).page.value }
+        requires fit { IsFit (C.sheet table.now seat.old) }
+        requires piece { piece < pieces_of self.old.bands }
+        requires may { C.may_fill table.now seat.old piece }
+        requires known { (n : ℕ) → is_need self.old.bands piece n ≡ true
+            → C.knows table.now seat.old n }
+        ensures scratch { self.new ≡ self.old }
+        ensures filled { C.filled table.now seat.old seat.new piece }
+    {
+        fill(
+            table,
+            seat,
+            page,
+            &self.layout,
+            piece,
+            self.zones.as_mut_slice(),
+            self.marks.as_mut_slice(),
+            self.answers.as_mut_slice(),
+            self.tints.as_mut_slice(),
+            &mut self.room,
+        );
+    }
+}
+
+impl Maker for Scratch {
+    ghost serves = { λ scratch sheet. scratch ≡ sheet.layout };
+
+    fn fill(&mut self, page: &Page, shared: &Shared, pass: &mut Pass, piece: u32) {
+        let _fits = shared.bands();
+        self.fill_piece(shared, pass, page, piece);
+    }
+}

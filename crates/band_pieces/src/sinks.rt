@@ -1,0 +1,81 @@
+// Tables whose cells are filled.
+ghost use Rattle.std.specs.Prelude.{◌≡◌, ℕ, ◌<◌, Some};
+ghost use Rattle.band_claims.specs.Seating.{Seats};
+ghost use Rattle.band_claims.specs.Sheets.{shape_of, IsFit};
+ghost use Rattle.band_workers.specs.Filled.{AreValues, filled_to};
+ghost use Rattle.page_model.specs.Bands.{pieces_of};
+ghost use Rattle.band_pieces.specs.Fills.{FillsPiece, HasCells};
+
+use crate::alone_puts::{put_bytes_alone, put_values_alone};
+use crate::sources::CellSource;
+use band_claims::{Closed, Pass, Shared};
+use band_workers::{put_bytes, put_values};
+
+/// A table whose pieces are filled, by a seat at it.
+pub(crate) trait CellSink<S>: CellSource<S> {
+    /// Whether the seat may fill the piece.
+    ghost may_fill: { Self → S → ℕ → Type 0 };
+
+    /// What the seat is after it has filled the piece.
+    ghost filled: { Self → S → S → ℕ → Type 0 };
+
+    /// Packs the values of a piece, which are bytes, into its cells.
+    fn put_bytes(&self, seat: &mut S, piece: u32, values: &[u8])
+        requires fit { IsFit (Self.sheet self.now seat.old) }
+        requires piece { piece < pieces_of (Self.sheet self.now seat.old).layout.bands }
+        requires may { may_fill self.now seat.old piece }
+        requires values { AreValues (Self.sheet self.now seat.old) piece values.now }
+        ensures { filled self.now seat.old seat.new piece };
+
+    /// Packs the values of a piece into its cells.
+    fn put_values(&self, seat: &mut S, piece: u32, values: &[u16])
+        requires fit { IsFit (Self.sheet self.now seat.old) }
+        requires piece { piece < pieces_of (Self.sheet self.now seat.old).layout.bands }
+        requires may { may_fill self.now seat.old piece }
+        requires values { AreValues (Self.sheet self.now seat.old) piece values.now }
+        ensures { filled self.now seat.old seat.new piece };
+}
+
+impl CellSink<Pass> for Shared {
+    ghost may_fill = { λ shared pass piece. Seats shared pass
+        × (pass.view.held ≡ Some piece) × (pass.view.filled ≡ 0) };
+
+    ghost filled = { λ shared before after piece. Seats shared after
+        × (after.view ≡ filled_to ((shape_of shared.sheet).size piece) before.view) };
+
+    fn put_bytes(&self, seat: &mut Pass, piece: u32, values: &[u8]) {
+        put_bytes(self, seat, piece, values);
+    }
+
+    fn put_values(&self, seat: &mut Pass, piece: u32, values: &[u16]) {
+        put_values(self, seat, piece, values);
+    }
+}
+
+/// Who fills the pieces of a closed table that are left: the table itself is the seat.
+pub(crate) struct Alone;
+
+impl CellSource<Closed> for Alone {
+    ghost sheet = { λ alone closed. closed.sheet };
+
+    ghost knows = { λ alone closed piece. HasCells closed piece };
+
+    fn word(&self, seat: &mut Closed, number: u32) -> u64 {
+        let _fits = seat.layout();
+        seat.cell(number)
+    }
+}
+
+impl CellSink<Closed> for Alone {
+    ghost may_fill = { λ alone closed piece. Unit {0} };
+
+    ghost filled = { λ alone before after piece. FillsPiece before after piece };
+
+    fn put_bytes(&self, seat: &mut Closed, piece: u32, values: &[u8]) {
+        put_bytes_alone(seat, piece, values);
+    }
+
+    fn put_values(&self, seat: &mut Closed, piece: u32, values: &[u16]) {
+        put_values_alone(seat, piece, values);
+    }
+}
