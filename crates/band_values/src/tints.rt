@@ -25,7 +25,7 @@ use page_model::parts::{At, EdgeAt};
 use trap_color::trap_sample;
 
 /// How many samples are asked for at once at most.
-const SPAN: u32 = 16;
+const SPAN: u32 = 32;
 
 /// Whether there is no edge, or it is farther from p than any trap of the page is wide.
 fn is_far(p: At, nearest: Option<EdgeAt>, reach2: u32) -> bool

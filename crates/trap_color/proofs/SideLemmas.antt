@@ -13,7 +13,7 @@ use Rattle.page_model.specs.Edges.{across, d2, on_first_side, own}
 use Rattle.page_model.specs.Page.{params_at}
 use Rattle.page_model.specs.Trapped.{trapped_in}
 use Rattle.page_model.specs.Within.{black, black_sample, edge_slid, slid, within_in}
-use Rattle.page_model.proofs.ReachLemmas.{five_false, square_at_most}
+use Rattle.page_model.proofs.ReachLemmas.{square_at_most}
 use Rattle.lists.specs.Words.{square}
 use Rattle.trap_color.specs.There.{is_trapped_there}
 

@@ -1,5 +1,5 @@
 use Rattle.std.proofs.Common.{◌≡◌, ◌≤◌, ◌+◌, length}
-use Rattle.page_model.specs.Page.{plates, width}
+use Rattle.page_model.specs.Page.{plates}
 use Rattle.band_values.specs.Quiet.{IsRowTo}
 use Rattle.band_values.proofs.tints.trap_some.Given as goal
 

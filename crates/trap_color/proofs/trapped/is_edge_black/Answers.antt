@@ -1,4 +1,4 @@
-use Rattle.std.proofs.Common.{◌≡◌, ◌||◌, Bool, true, false, arith, ap, sym, ◌∙◌}
+use Rattle.std.proofs.Common.{arith}
 use Rattle.trap_color.proofs.SideLemmas.{black_sides}
 use Rattle.trap_color.proofs.trapped.is_edge_black.Goals as goal
 
