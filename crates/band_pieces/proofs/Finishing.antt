@@ -2,6 +2,7 @@
 use Rattle.std.proofs.Common.{◌≡◌, ◌≢◌, ℕ, ◌+◌, ◌<◌, ◌≤◌, Bool, true, false, ◌&&◌, not, nat_lt, List, [], length, refl, sym, ap, ◌∙◌, subst, inl, inr, arith, get_or-set_same, get_or-set_other, ne_eqb}
 use Rattle.std.specs.Prelude.{◌==◌, slice_index, slice_set}
 use Rattle.std.proofs.lemmas.Bool.{cases_eq, cases_order, eq-eqb, le-ltb, lt-ltb}
+use Rattle.page_model.specs.declared.parts.PageParts.{PageParts}
 use Rattle.page_model.specs.Bands.{pieces_of}
 use Rattle.band_graph.specs.Needs.{is_need}
 use Rattle.band_graph.proofs.NeedLemmas.{need_less}
@@ -19,6 +20,7 @@ use Rattle.band_claims.specs.Sheets.{IsFit, cell, shape_of}
 use Rattle.band_claims.specs.Views.{one_if, times}
 use Rattle.band_claims.proofs.Steps.{fit_shape}
 use Rattle.band_pieces.specs.Fills.{DoneHaveCells, FillsPiece, FinishesPiece, FinishesTo, HasCells, KeepsLists}
+use Rattle.band_pieces.specs.Finished.{IsFinished}
 use Rattle.band_pieces.proofs.Filling.{HasCellsOf}
 
 same_lists : (r : Receipt) → KeepsLists r r
@@ -167,3 +169,10 @@ alone_once before after n i done once f = elim (cases_eq (times i before.publish
   | inl e ↦ omega (arith, ap (times i) f.lists.published, e, f.alone i, one_at_most (nat_lt i n && not (piece_word before.words i == 2)))
   | inr some ↦ (let none : times i after.alone ≡ 0 = f.alone i ∙ rw (done i (omega (arith, some))) (none_left (nat_lt i n)) in omega (arith, ap (times i) f.lists.published, once i, none))
 ]
+
+-- the cells of a finished table can be read
+pub has_cells : (receipt : Receipt) → IsFit receipt.sheet → ((j : ℕ) → j < (shape_of receipt.sheet).cells → cell_word (shape_of receipt.sheet) receipt.words j ≡ cell receipt.sheet j) → (i : ℕ) → HasCells receipt i
+has_cells receipt fit all i j h = let t = (fit_shape receipt.sheet fit).inside i h.piece in let b = h.below in all j (omega (arith, t, b))
+
+pub finished_has_cells : (page : PageParts) (receipt : Receipt) → IsFinished page receipt → (i : ℕ) → HasCells receipt i
+finished_has_cells page receipt f i = has_cells receipt f.fit f.cells i
