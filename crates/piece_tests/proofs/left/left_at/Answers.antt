@@ -1,0 +1,25 @@
+use Rattle.std.proofs.Common.{◌≡◌, ℕ, ◌<◌, ◌≤◌, sym, ap, ◌∙◌, subst, arith}
+use Rattle.page_model.specs.Bands.{pieces_of}
+use Rattle.band_claims.specs.declared.sheet.Sheet.{Sheet}
+use Rattle.band_claims.specs.Sheets.{IsFit}
+use Rattle.band_claims.specs.Views.{times}
+use Rattle.band_pieces.proofs.Finishing.{has_cells}
+use Rattle.piece_tests.proofs.left.left_at.Goals as goal
+
+pub finish_alone-requires-clause-page : goal.finish_alone-requires-clause-page
+finish_alone-requires-clause-page c = c.requires.page ∙ ap (λ (z : Sheet). z.page.value) (sym c.close_all-closed.ensures.sheet)
+
+pub finish_alone-requires-clause-scratch : goal.finish_alone-requires-clause-scratch
+finish_alone-requires-clause-scratch c = c.make_first-made.ensures.scratch ∙ (c.requires.scratch ∙ ap (λ (z : Sheet). z.layout) (sym c.close_all-closed.ensures.sheet))
+
+pub finish_alone-requires-clause-published : goal.finish_alone-requires-clause-published
+finish_alone-requires-clause-published c i l = c.close_all-closed.ensures.done i (omega (arith, l, ap (times i) c.close_all-closed.ensures.published))
+
+pub is_whole-requires-clause-fit : goal.is_whole-requires-clause-fit
+is_whole-requires-clause-fit c = subst IsFit (sym (c.finish_alone.ensures.sheet ∙ c.close_all-closed.ensures.sheet)) c.bands-fits.ensures.fits
+
+pub is_whole-requires-clause-page : goal.is_whole-requires-clause-page
+is_whole-requires-clause-page c = c.requires.page ∙ ap (λ (z : Sheet). z.page.value) (sym (c.finish_alone.ensures.sheet ∙ c.close_all-closed.ensures.sheet))
+
+pub is_whole-requires-clause-cells : goal.is_whole-requires-clause-cells
+is_whole-requires-clause-cells c = has_cells c.finish_alone.new.closed (subst IsFit (sym (c.finish_alone.ensures.sheet ∙ c.close_all-closed.ensures.sheet)) c.bands-fits.ensures.fits) c.finish_alone.ensures.cells
