@@ -31,11 +31,7 @@ pub struct Bench {
 }
 
 /// The bench of a page.
-pub fn bench_of(
-    alloc: Global,
-    page: &Page,
-    room: &mut Workspace,
-) -> Result<Bench, OutOfMemory>
+pub fn bench_of(alloc: Global, page: &Page, room: &mut Workspace) -> Result<Bench, OutOfMemory>
     requires { Serves room.old page.now }
     ensures bench { IfOk result (λ bench. IsBench page.now bench) }
     ensures room { room.new ≡ room.old }

@@ -1,0 +1,10 @@
+-- The memory of the workers is that of the table's layout.
+use Rattle.std.proofs.Common.{◌≡◌, ℕ, ◌∙◌, All, List, ap, subst, sym}
+use Rattle.page_model.specs.declared.bands.Bands.{Bands}
+use Rattle.row_cells.specs.Layouts.{Layout}
+
+abbrev laid : Bands → ℕ → ℕ → Layout
+laid b w p = record { bands = b; width = w; plates = p }
+
+pub served_by : (layout : Layout) (bands : Bands) (w p w' p' : ℕ) (all : List Layout) → layout ≡ record { bands = bands; width = w; plates = p } → w ≡ w' → p ≡ p' → All (λ (s : Layout). s ≡ record { bands = bands; width = w'; plates = p' }) all → All (λ (s : Layout). s ≡ layout) all
+served_by layout bands w p w' p' all e ew ep h = subst (λ (l : Layout). All (λ (s : Layout). s ≡ l) all) (sym (e ∙ ap (λ (n : ℕ). laid bands n p) ew ∙ ap (laid bands w') ep)) h
