@@ -1,5 +1,5 @@
 // The table after all passes have ended.
-ghost use Rattle.std.specs.Prelude.{◌≡◌, ◌≢◌, ℕ, ◌+◌, ◌==◌, ◌<◌, slice_index, slice_set};
+ghost use Rattle.std.specs.Prelude.{◌≡◌, ◌≢◌, ℕ, ◌+◌, ◌==◌, ◌<◌, length, slice_index, slice_set};
 ghost use Rattle.band_claims.specs.Receipt.{Ascends};
 ghost use Rattle.page_model.specs.Bands.{pieces_of};
 ghost use Rattle.band_claims.specs.Sheets.{shape_of, IsFit};
@@ -64,6 +64,8 @@ impl Closed {
     pub fn sheet(&self) -> &Sheet
         ensures same { result.now ≡ self.now.sheet }
         ensures fits { IsFit self.now.sheet }
+        ensures wide { length self.now.words
+            ≡ (shape_of self.now.sheet).pieces + (shape_of self.now.sheet).cells }
     {
         &self.sheet
     }

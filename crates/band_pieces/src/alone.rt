@@ -5,6 +5,7 @@ ghost use Rattle.band_board.specs.TableWords.{AreWords, board_of};
 ghost use Rattle.band_claims.specs.Rule.{cell_word, piece_word};
 ghost use Rattle.band_claims.specs.Sheets.{cell, shape_of};
 ghost use Rattle.band_claims.specs.Views.{one_if, times};
+ghost use Rattle.band_pieces.specs.Fills.{DoneHaveCells, FinishesPiece};
 ghost use Rattle.page_model.specs.Bands.{pieces_of};
 
 use crate::scratch::Scratch;
@@ -13,13 +14,22 @@ use band_claims::Closed;
 use band_graph::needs::pieces;
 use page_model::page::Page;
 
-/// Makes a piece that is left.
+/// Makes a piece that is left, whose needs are among the pieces before it.
 fn finish_piece(closed: &mut Closed, page: &Page, scratch: &mut Scratch, piece: u32)
+    requires page { page.now ≡ closed.old.sheet.page.value }
+    requires scratch { scratch.old ≡ closed.old.sheet.layout }
+    requires piece { piece < pieces_of closed.old.sheet.layout.bands }
+    requires earlier { (i : ℕ) → i < piece → piece_word closed.old.words i ≡ 2 }
+    requires cells { DoneHaveCells closed.old }
+    ensures scratch { scratch.new ≡ scratch.old }
+    ensures finished { FinishesPiece closed.old closed.new piece }
 {
-    if closed.state(piece) != 2 {
-        scratch.fill_piece(&Alone, closed, page, piece);
-        closed.set_done(piece);
+    let _whole = closed.sheet();
+    if closed.state(piece) == 2 {
+        return;
     }
+    scratch.fill_piece(&Alone, closed, page, piece);
+    closed.set_done(piece);
 }
 
 /// Makes each piece that is not done, in order, from the closed words alone, and adds it to the list of the pieces that
@@ -49,6 +59,7 @@ pub fn finish_alone(closed: &mut Closed, page: &Page, scratch: &mut Scratch)
     ensures seen_stays { closed.new.seen ≡ closed.old.seen }
     ensures looked_stays { closed.new.looked ≡ closed.old.looked }
 {
+    let _whole = closed.sheet();
     for piece in 0..pieces(closed.bands()) {
         finish_piece(closed, page, scratch, piece);
     }

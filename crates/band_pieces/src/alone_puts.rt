@@ -26,6 +26,7 @@ pub(crate) fn put_bytes_alone(closed: &mut Closed, piece: u32, values: &[u8])
     requires values { AreValues closed.old.sheet piece values.now }
     ensures { FillsPiece closed.old closed.new piece }
 {
+    let _whole = closed.sheet();
     for o in 0..closed.layout().cell_count(piece) {
         let word = word_of_bytes(closed.sheet(), piece, o, values);
         put_word(closed, piece, o, word);
@@ -38,6 +39,7 @@ pub(crate) fn put_values_alone(closed: &mut Closed, piece: u32, values: &[u16])
     requires values { AreValues closed.old.sheet piece values.now }
     ensures { FillsPiece closed.old closed.new piece }
 {
+    let _whole = closed.sheet();
     for o in 0..closed.layout().cell_count(piece) {
         let word = word_of_values(closed.sheet(), piece, o, values);
         put_word(closed, piece, o, word);

@@ -1,10 +1,11 @@
 //! The pieces of a page's work: each is made from the cells of its needs and filled into its own cells, by workers at the
-//! shared table and, where they left some, by one thread at the closed table.
+//! shared table and, where they leave some, by one thread at the closed table.
 #![tactic(auto)]
 
 mod alone;
 mod alone_puts;
-mod closed;
+mod fills;
+mod looks;
 mod pages;
 mod reading;
 mod rows;
@@ -14,6 +15,7 @@ mod sources;
 mod spans;
 
 pub use alone::finish_alone;
-pub use closed::{read_marks, read_tints, read_zones};
-pub use pages::fill_table;
+pub use looks::{read_marks, read_tints, read_zones};
+pub use pages::{all_done, fill_table, finish_table};
 pub use scratch::Scratch;
+pub use sources::CellSource;

@@ -3,154 +3,196 @@ ghost use Rattle.std.specs.Prelude.{◌≡◌, ℕ, ◌+◌, ◌-◌, ◌*◌, �
 ghost use Rattle.band_claims.specs.Sheets.{IsFit};
 ghost use Rattle.band_core.specs.Values.{value};
 ghost use Rattle.page_model.specs.Bands.{phase_of, pieces_of};
-ghost use Rattle.row_cells.specs.Packing.{IsBits, lane, lanes as lanes_for};
+ghost use Rattle.row_cells.specs.Packing.{IsBits, IsByteBits, lane, lanes as lanes_for};
 ghost use Rattle.row_cells.specs.Places.{lanes_of, value_total};
 
 use crate::sources::CellSource;
 use row_cells::layout::{Layout, bits, lanes};
-use row_cells::packing::{unpack, unpack_bytes};
+use row_cells::packing::{unpack, unpack_bytes, without_lanes};
 
-/// Where values begin: at a lane of a cell of a piece, its cells counted from 0.
+/// So many values of a piece, from a number on. They are written from that place on.
 #[derive(Clone, Copy, Drop)]
-struct Start {
+pub(crate) struct Run {
+    pub piece: u32,
+    pub from: u32,
+    pub place: usize,
+    pub count: usize,
+}
+
+/// So many values of a cell of a piece, its cells counted from 0, from a lane on.
+#[derive(Clone, Copy, Drop)]
+struct Part {
     piece: u32,
     cell: u32,
     lane: u32,
+    place: usize,
+    count: usize,
 }
 
-/// The cell without its first lanes.
-fn without_lanes(bits: u32, word: u64, skip: u32) -> u64
+/// Unpacks the first values of a cell to a place.
+fn unpack_at(bits: u32, word: u64, place: usize, count: usize, out: &mut [u16])
     requires bits { IsBits bits }
-    requires few { skip ≤ lanes_for bits }
     requires some { 1 ≤ word }
-    ensures some { 1 ≤ result }
-    ensures lanes { (j : ℕ) → lane bits (result - 1) j ≡ lane bits (word - 1) (skip + j) }
+    requires few { count ≤ lanes_for bits }
+    requires out { place + count ≤ length out.old }
+    ensures here { (j : ℕ) → j < count → slice_index out.new (place + j) ≡ lane bits (word - 1) j }
+    ensures kept { (k : ℕ) → k < place → slice_index out.new k ≡ slice_index out.old k }
+    ensures len { length out.new ≡ length out.old }
 {
-    1 + ((word - 1) >> (bits * skip))
+    unpack(bits, word, &mut out[place..place + count]);
 }
 
 /// Unpacks values from one cell.
-fn read_cell_values<S, C: CellSource<S>>(
+fn read_values_part<S, C: CellSource<S>>(
     source: &C,
     seat: &mut S,
     layout: &Layout,
-    start: Start,
+    part: Part,
     out: &mut [u16],
 )
     requires layout { layout.now ≡ (C.sheet source.now seat.old).layout }
     requires fit { IsFit (C.sheet source.now seat.old) }
-    requires piece { start.piece < pieces_of layout.now.bands }
-    requires known { C.knows source.now seat.old start.piece }
-    requires few { start.lane + length out.old ≤ lanes_of (phase_of layout.now.bands start.piece) }
-    requires some { 1 ≤ length out.old }
-    requires inside { start.cell * lanes_of (phase_of layout.now.bands start.piece) + start.lane
-        + length out.old ≤ value_total layout.now start.piece }
+    requires piece { part.piece < pieces_of layout.now.bands }
+    requires known { C.knows source.now seat.old part.piece }
+    requires some { 1 ≤ part.count }
+    requires few { part.lane + part.count ≤ lanes_of (phase_of layout.now.bands part.piece) }
+    requires inside { part.cell * lanes_of (phase_of layout.now.bands part.piece) + part.lane
+        + part.count ≤ value_total layout.now part.piece }
+    requires out { part.place + part.count ≤ length out.old }
     ensures seat { seat.new ≡ seat.old }
+    ensures here { (j : ℕ) → j < part.count → slice_index out.new (part.place + j)
+        ≡ value (C.sheet source.now seat.old).page.value layout.now part.piece
+        (part.cell * lanes_of (phase_of layout.now.bands part.piece) + part.lane + j) }
+    ensures kept { (k : ℕ) → k < part.place → slice_index out.new k ≡ slice_index out.old k }
     ensures len { length out.new ≡ length out.old }
-    ensures values { (j : ℕ) → j < length out.new → slice_index out.new j
-        ≡ value (C.sheet source.now seat.old).page.value layout.now start.piece
-        (start.cell * lanes_of (phase_of layout.now.bands start.piece) + start.lane + j) }
 {
-    let bits = bits(start.piece / layout.bands().count);
-    let word = source.word(seat, layout.first_cell(start.piece) + start.cell);
-    unpack(bits, without_lanes(bits, word, start.lane), out);
+    let bits = bits(part.piece / layout.bands().count);
+    let word = source.word(seat, layout.first_cell(part.piece) + part.cell);
+    let rest = without_lanes(bits, word, part.lane);
+    unpack_at(bits, rest, part.place, part.count, out);
 }
 
-/// The values of a piece from number `from` on, as many as there are places.
+/// Unpacks values of a piece.
 pub(crate) fn read_values<S, C: CellSource<S>>(
     source: &C,
     seat: &mut S,
     layout: &Layout,
-    piece: u32,
-    from: u32,
+    run: Run,
     out: &mut [u16],
 )
     requires layout { layout.now ≡ (C.sheet source.now seat.old).layout }
     requires fit { IsFit (C.sheet source.now seat.old) }
-    requires piece { piece < pieces_of layout.now.bands }
-    requires known { C.knows source.now seat.old piece }
-    requires inside { from + length out.old ≤ value_total layout.now piece }
+    requires piece { run.piece < pieces_of layout.now.bands }
+    requires known { C.knows source.now seat.old run.piece }
+    requires inside { run.from + run.count ≤ value_total layout.now run.piece }
+    requires out { run.place + run.count ≤ length out.old }
     ensures seat { seat.new ≡ seat.old }
+    ensures here { (j : ℕ) → j < run.count → slice_index out.new (run.place + j)
+        ≡ value (C.sheet source.now seat.old).page.value layout.now run.piece (run.from + j) }
+    ensures kept { (k : ℕ) → k < run.place → slice_index out.new k ≡ slice_index out.old k }
     ensures len { length out.new ≡ length out.old }
-    ensures values { (k : ℕ) → k < length out.new → slice_index out.new k
-        ≡ value (C.sheet source.now seat.old).page.value layout.now piece (from + k) }
 {
-    let lanes = lanes(piece / layout.bands().count);
-    let mut start = Start {
-        piece,
-        cell: from / lanes,
-        lane: from % lanes,
-    };
+    let lanes = lanes(run.piece / layout.bands().count);
+    let mut cell = run.from / lanes;
+    let mut lane = run.from % lanes;
     let mut done = 0;
-    while done < out.len() {
-        let count = ((lanes - start.lane) as usize).min(out.len() - done);
-        read_cell_values(source, seat, layout, start, &mut out[done..done + count]);
+    while done < run.count {
+        let count = ((lanes - lane) as usize).min(run.count - done);
+        let part = Part {
+            piece: run.piece,
+            cell,
+            lane,
+            place: run.place + done,
+            count,
+        };
+        read_values_part(source, seat, layout, part, out);
         done += count;
-        start.cell += 1;
-        start.lane = 0;
+        cell += 1;
+        lane = 0;
     }
 }
 
-/// The same for values that are bytes, as zones and marks are.
-fn read_cell_bytes<S, C: CellSource<S>>(
+/// Unpacks the first values of a cell to a place.
+fn unpack_bytes_at(bits: u32, word: u64, place: usize, count: usize, out: &mut [u8])
+    requires bits { IsByteBits bits }
+    requires some { 1 ≤ word }
+    requires few { count ≤ lanes_for bits }
+    requires out { place + count ≤ length out.old }
+    ensures here { (j : ℕ) → j < count → slice_index out.new (place + j) ≡ lane bits (word - 1) j }
+    ensures kept { (k : ℕ) → k < place → slice_index out.new k ≡ slice_index out.old k }
+    ensures len { length out.new ≡ length out.old }
+{
+    unpack_bytes(bits, word, &mut out[place..place + count]);
+}
+
+/// Unpacks values from one cell, where they are bytes, as zones and marks are.
+fn read_bytes_part<S, C: CellSource<S>>(
     source: &C,
     seat: &mut S,
     layout: &Layout,
-    start: Start,
+    part: Part,
     out: &mut [u8],
 )
     requires layout { layout.now ≡ (C.sheet source.now seat.old).layout }
     requires fit { IsFit (C.sheet source.now seat.old) }
-    requires phase { phase_of layout.now.bands start.piece < 2 }
-    requires piece { start.piece < pieces_of layout.now.bands }
-    requires known { C.knows source.now seat.old start.piece }
-    requires few { start.lane + length out.old ≤ lanes_of (phase_of layout.now.bands start.piece) }
-    requires some { 1 ≤ length out.old }
-    requires inside { start.cell * lanes_of (phase_of layout.now.bands start.piece) + start.lane
-        + length out.old ≤ value_total layout.now start.piece }
+    requires phase { phase_of layout.now.bands part.piece < 2 }
+    requires piece { part.piece < pieces_of layout.now.bands }
+    requires known { C.knows source.now seat.old part.piece }
+    requires some { 1 ≤ part.count }
+    requires few { part.lane + part.count ≤ lanes_of (phase_of layout.now.bands part.piece) }
+    requires inside { part.cell * lanes_of (phase_of layout.now.bands part.piece) + part.lane
+        + part.count ≤ value_total layout.now part.piece }
+    requires out { part.place + part.count ≤ length out.old }
     ensures seat { seat.new ≡ seat.old }
+    ensures here { (j : ℕ) → j < part.count → slice_index out.new (part.place + j)
+        ≡ value (C.sheet source.now seat.old).page.value layout.now part.piece
+        (part.cell * lanes_of (phase_of layout.now.bands part.piece) + part.lane + j) }
+    ensures kept { (k : ℕ) → k < part.place → slice_index out.new k ≡ slice_index out.old k }
     ensures len { length out.new ≡ length out.old }
-    ensures values { (j : ℕ) → j < length out.new → slice_index out.new j
-        ≡ value (C.sheet source.now seat.old).page.value layout.now start.piece
-        (start.cell * lanes_of (phase_of layout.now.bands start.piece) + start.lane + j) }
 {
-    let bits = bits(start.piece / layout.bands().count);
-    let word = source.word(seat, layout.first_cell(start.piece) + start.cell);
-    unpack_bytes(bits, without_lanes(bits, word, start.lane), out);
+    let bits = bits(part.piece / layout.bands().count);
+    let word = source.word(seat, layout.first_cell(part.piece) + part.cell);
+    let rest = without_lanes(bits, word, part.lane);
+    unpack_bytes_at(bits, rest, part.place, part.count, out);
 }
 
-/// The same for values that are bytes, as zones and marks are.
+/// Unpacks values of a piece, where they are bytes, as zones and marks are.
 pub(crate) fn read_bytes<S, C: CellSource<S>>(
     source: &C,
     seat: &mut S,
     layout: &Layout,
-    piece: u32,
-    from: u32,
+    run: Run,
     out: &mut [u8],
 )
     requires layout { layout.now ≡ (C.sheet source.now seat.old).layout }
     requires fit { IsFit (C.sheet source.now seat.old) }
-    requires phase { phase_of layout.now.bands piece < 2 }
-    requires piece { piece < pieces_of layout.now.bands }
-    requires known { C.knows source.now seat.old piece }
-    requires inside { from + length out.old ≤ value_total layout.now piece }
+    requires phase { phase_of layout.now.bands run.piece < 2 }
+    requires piece { run.piece < pieces_of layout.now.bands }
+    requires known { C.knows source.now seat.old run.piece }
+    requires inside { run.from + run.count ≤ value_total layout.now run.piece }
+    requires out { run.place + run.count ≤ length out.old }
     ensures seat { seat.new ≡ seat.old }
+    ensures here { (j : ℕ) → j < run.count → slice_index out.new (run.place + j)
+        ≡ value (C.sheet source.now seat.old).page.value layout.now run.piece (run.from + j) }
+    ensures kept { (k : ℕ) → k < run.place → slice_index out.new k ≡ slice_index out.old k }
     ensures len { length out.new ≡ length out.old }
-    ensures values { (k : ℕ) → k < length out.new → slice_index out.new k
-        ≡ value (C.sheet source.now seat.old).page.value layout.now piece (from + k) }
 {
-    let lanes = lanes(piece / layout.bands().count);
-    let mut start = Start {
-        piece,
-        cell: from / lanes,
-        lane: from % lanes,
-    };
+    let lanes = lanes(run.piece / layout.bands().count);
+    let mut cell = run.from / lanes;
+    let mut lane = run.from % lanes;
     let mut done = 0;
-    while done < out.len() {
-        let count = ((lanes - start.lane) as usize).min(out.len() - done);
-        read_cell_bytes(source, seat, layout, start, &mut out[done..done + count]);
+    while done < run.count {
+        let count = ((lanes - lane) as usize).min(run.count - done);
+        let part = Part {
+            piece: run.piece,
+            cell,
+            lane,
+            place: run.place + done,
+            count,
+        };
+        read_bytes_part(source, seat, layout, part, out);
         done += count;
-        start.cell += 1;
-        start.lane = 0;
+        cell += 1;
+        lane = 0;
     }
 }

@@ -6,40 +6,52 @@ ghost use Rattle.band_values.specs.Rows.{HoldsRows};
 ghost use Rattle.page_model.specs.Bands.{band_of_row, piece_of};
 ghost use Rattle.row_cells.specs.Places.{per_row};
 
-use crate::reading::{read_bytes, read_values};
+use crate::reading::{Run, read_bytes, read_values};
 use crate::sources::CellSource;
 use band_graph::needs::piece;
 use band_values::Rows;
 use row_cells::layout::Layout;
 
-/// The values of a phase in row y.
+/// The values of a phase of row k of these rows.
 fn read_row<S, C: CellSource<S>>(
     source: &C,
     seat: &mut S,
     layout: &Layout,
     phase: u32,
-    y: u32,
+    rows: Rows,
+    k: u32,
     out: &mut [u16],
 )
     requires layout { layout.now ≡ (C.sheet source.now seat.old).layout }
     requires fit { IsFit (C.sheet source.now seat.old) }
     requires phase { phase < 4 }
-    requires row { y < layout.now.bands.rows }
+    requires row { k < rows.count }
+    requires inside { rows.first + rows.count ≤ layout.now.bands.rows }
     requires known { C.knows source.now seat.old
-        (piece_of layout.now.bands phase (band_of_row layout.now.bands y)) }
-    requires out { length out.old ≡ per_row layout.now phase }
+        (piece_of layout.now.bands phase (band_of_row layout.now.bands (rows.first + k))) }
+    requires out { length out.old ≡ rows.count * per_row layout.now phase }
     ensures seat { seat.new ≡ seat.old }
+    ensures here { (o : ℕ) → o < per_row layout.now phase
+        → slice_index out.new (k * per_row layout.now phase + o)
+        ≡ row_value (C.sheet source.now seat.old).page.value phase (rows.first + k) o }
+    ensures kept { (i : ℕ) → i < k * per_row layout.now phase
+        → slice_index out.new i ≡ slice_index out.old i }
     ensures len { length out.new ≡ length out.old }
-    ensures values { (o : ℕ) → o < per_row layout.now phase → slice_index out.new o
-        ≡ row_value (C.sheet source.now seat.old).page.value phase y o }
 {
     let bands = layout.bands();
+    let y = rows.first + k;
     let number = piece(bands, phase, y / bands.height);
-    let from = y % bands.height * layout.row_values(phase);
-    read_values(source, seat, layout, number, from, out);
+    let wide = layout.row_values(phase);
+    let run = Run {
+        piece: number,
+        from: y % bands.height * wide,
+        place: k as usize * wide as usize,
+        count: wide as usize,
+    };
+    read_values(source, seat, layout, run, out);
 }
 
-/// The values of a phase in these rows, row by row.
+/// The values of a phase of these rows, row by row, where the pieces of their bands are known.
 pub(crate) fn read_rows<S, C: CellSource<S>>(
     source: &C,
     seat: &mut S,
@@ -57,46 +69,55 @@ pub(crate) fn read_rows<S, C: CellSource<S>>(
         (piece_of layout.now.bands phase (band_of_row layout.now.bands y)) }
     requires out { length out.old ≡ rows.count * per_row layout.now phase }
     ensures seat { seat.new ≡ seat.old }
-    ensures len { length out.new ≡ length out.old }
     ensures rows { HoldsRows (per_row layout.now phase)
         (row_value (C.sheet source.now seat.old).page.value phase) rows out.new }
+    ensures len { length out.new ≡ length out.old }
 {
-    let wide = layout.row_values(phase) as usize;
     for k in 0..rows.count {
-        let start = k as usize * wide;
-        let row = &mut out[start..start + wide];
-        read_row(source, seat, layout, phase, rows.first + k, row);
+        read_row(source, seat, layout, phase, rows, k, out);
     }
 }
 
-/// The zones or marks of row y.
+/// The zones or marks of row k of these rows.
 fn read_byte_row<S, C: CellSource<S>>(
     source: &C,
     seat: &mut S,
     layout: &Layout,
     phase: u32,
-    y: u32,
+    rows: Rows,
+    k: u32,
     out: &mut [u8],
 )
     requires layout { layout.now ≡ (C.sheet source.now seat.old).layout }
     requires fit { IsFit (C.sheet source.now seat.old) }
     requires phase { phase < 2 }
-    requires row { y < layout.now.bands.rows }
+    requires row { k < rows.count }
+    requires inside { rows.first + rows.count ≤ layout.now.bands.rows }
     requires known { C.knows source.now seat.old
-        (piece_of layout.now.bands phase (band_of_row layout.now.bands y)) }
-    requires out { length out.old ≡ per_row layout.now phase }
+        (piece_of layout.now.bands phase (band_of_row layout.now.bands (rows.first + k))) }
+    requires out { length out.old ≡ rows.count * per_row layout.now phase }
     ensures seat { seat.new ≡ seat.old }
+    ensures here { (o : ℕ) → o < per_row layout.now phase
+        → slice_index out.new (k * per_row layout.now phase + o)
+        ≡ row_value (C.sheet source.now seat.old).page.value phase (rows.first + k) o }
+    ensures kept { (i : ℕ) → i < k * per_row layout.now phase
+        → slice_index out.new i ≡ slice_index out.old i }
     ensures len { length out.new ≡ length out.old }
-    ensures values { (o : ℕ) → o < per_row layout.now phase → slice_index out.new o
-        ≡ row_value (C.sheet source.now seat.old).page.value phase y o }
 {
     let bands = layout.bands();
+    let y = rows.first + k;
     let number = piece(bands, phase, y / bands.height);
-    let from = y % bands.height * layout.row_values(phase);
-    read_bytes(source, seat, layout, number, from, out);
+    let wide = layout.row_values(phase);
+    let run = Run {
+        piece: number,
+        from: y % bands.height * wide,
+        place: k as usize * wide as usize,
+        count: wide as usize,
+    };
+    read_bytes(source, seat, layout, run, out);
 }
 
-/// The zones or marks of these rows, row by row.
+/// The zones or marks of these rows, row by row, where the pieces of their bands are known.
 pub(crate) fn read_byte_rows<S, C: CellSource<S>>(
     source: &C,
     seat: &mut S,
@@ -114,14 +135,11 @@ pub(crate) fn read_byte_rows<S, C: CellSource<S>>(
         (piece_of layout.now.bands phase (band_of_row layout.now.bands y)) }
     requires out { length out.old ≡ rows.count * per_row layout.now phase }
     ensures seat { seat.new ≡ seat.old }
-    ensures len { length out.new ≡ length out.old }
     ensures rows { HoldsRows (per_row layout.now phase)
         (row_value (C.sheet source.now seat.old).page.value phase) rows out.new }
+    ensures len { length out.new ≡ length out.old }
 {
-    let wide = layout.row_values(phase) as usize;
     for k in 0..rows.count {
-        let start = k as usize * wide;
-        let row = &mut out[start..start + wide];
-        read_byte_row(source, seat, layout, phase, rows.first + k, row);
+        read_byte_row(source, seat, layout, phase, rows, k, out);
     }
 }

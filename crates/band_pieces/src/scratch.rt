@@ -1,15 +1,14 @@
-ghost use Rattle.std.specs.Prelude.{◌≡◌, ℕ, ◌<◌, true, IfOk};
+ghost use Rattle.std.specs.Prelude.{◌≡◌, ℕ, ◌<◌, true, IfOk, vec_len};
 ghost use Rattle.band_claims.specs.Sheets.{IsFit};
 ghost use Rattle.band_graph.specs.Needs.{is_need};
-ghost use Rattle.page_model.specs.Bands.{AreBands, phase_of, pieces_of};
+ghost use Rattle.page_model.specs.Bands.{AreBands, pieces_of};
 ghost use Rattle.page_model.specs.Page.{height, plates, width};
 ghost use Rattle.page_model.specs.Reach.{page_reach};
 
-use crate::rows::{read_byte_rows, read_rows};
+use crate::fills::fill;
 use crate::sinks::CellSink;
-use crate::spans::{rows_below, rows_near, rows_of};
 use band_claims::{Pass, Shared};
-use band_values::{Workspace, make_answers, make_marks, make_tints, make_zones};
+use band_values::Workspace;
 use band_workers::Maker;
 use page_model::bands::Bands;
 use page_model::page::Page;
@@ -31,6 +30,7 @@ pub struct Scratch {
 }
 
 impl Model for Scratch {
+    ghost use Rattle.std.specs.Prelude.{vec_len};
     ghost use Rattle.row_cells.specs.Layouts.{Layout};
     ghost use Rattle.band_pieces.specs.Room.{IsRoom};
 
@@ -92,121 +92,18 @@ impl Scratch {
         ensures scratch { self.new ≡ self.old }
         ensures filled { C.filled table.now seat.old seat.new piece }
     {
-        match piece / self.layout.bands().count {
-            0 => self.fill_zones(table, seat, page, piece),
-            1 => self.fill_marks(table, seat, page, piece),
-            2 => self.fill_answers(table, seat, page, piece),
-            _ => self.fill_tints(table, seat, page, piece),
-        }
-    }
-
-    /// The zones of a band, from the page alone.
-    fn fill_zones<S, C: CellSink<S>>(
-        &mut self,
-        table: &C,
-        seat: &mut S,
-        page: &Page,
-        piece: u32,
-    )
-        requires layout { self.old ≡ (C.sheet table.now seat.old).layout }
-        requires page { page.now ≡ (C.sheet table.now seat.old).page.value }
-        requires fit { IsFit (C.sheet table.now seat.old) }
-        requires piece { piece < pieces_of self.old.bands }
-        requires phase { phase_of self.old.bands piece ≡ 0 }
-        requires may { C.may_fill table.now seat.old piece }
-        ensures scratch { self.new ≡ self.old }
-        ensures filled { C.filled table.now seat.old seat.new piece }
-    {
-        let rows = rows_of(self.layout.bands(), piece);
-        let zones = &mut self.zones[..self.layout.values(piece) as usize];
-        make_zones(page, rows, zones, &mut self.room);
-        table.put_bytes(seat, piece, zones);
-    }
-
-    /// The marks of a band, from the zones of its rows and of the row below it.
-    fn fill_marks<S, C: CellSink<S>>(
-        &mut self,
-        table: &C,
-        seat: &mut S,
-        page: &Page,
-        piece: u32,
-    )
-        requires layout { self.old ≡ (C.sheet table.now seat.old).layout }
-        requires page { page.now ≡ (C.sheet table.now seat.old).page.value }
-        requires fit { IsFit (C.sheet table.now seat.old) }
-        requires piece { piece < pieces_of self.old.bands }
-        requires phase { phase_of self.old.bands piece ≡ 1 }
-        requires may { C.may_fill table.now seat.old piece }
-        requires known { (n : ℕ) → is_need self.old.bands piece n ≡ true
-            → C.knows table.now seat.old n }
-        ensures scratch { self.new ≡ self.old }
-        ensures filled { C.filled table.now seat.old seat.new piece }
-    {
-        let rows = rows_of(self.layout.bands(), piece);
-        let held = rows_below(self.layout.bands(), rows);
-        let zones = &mut self.zones[..held.count as usize * page.width() as usize];
-        read_byte_rows(table, seat, &self.layout, 0, held, zones);
-        let marks = &mut self.marks[..self.layout.values(piece) as usize];
-        make_marks(page, rows, held, zones, marks);
-        table.put_bytes(seat, piece, marks);
-    }
-
-    /// The column answers of a band, from the marks of its rows and of those that the reach touches.
-    fn fill_answers<S, C: CellSink<S>>(
-        &mut self,
-        table: &C,
-        seat: &mut S,
-        page: &Page,
-        piece: u32,
-    )
-        requires layout { self.old ≡ (C.sheet table.now seat.old).layout }
-        requires page { page.now ≡ (C.sheet table.now seat.old).page.value }
-        requires fit { IsFit (C.sheet table.now seat.old) }
-        requires piece { piece < pieces_of self.old.bands }
-        requires phase { phase_of self.old.bands piece ≡ 2 }
-        requires may { C.may_fill table.now seat.old piece }
-        requires known { (n : ℕ) → is_need self.old.bands piece n ≡ true
-            → C.knows table.now seat.old n }
-        ensures scratch { self.new ≡ self.old }
-        ensures filled { C.filled table.now seat.old seat.new piece }
-    {
-        let rows = rows_of(self.layout.bands(), piece);
-        let held = rows_near(self.layout.bands(), rows);
-        let marks = &mut self.marks[..held.count as usize * page.width() as usize];
-        read_byte_rows(table, seat, &self.layout, 1, held, marks);
-        let answers = &mut self.answers[..self.layout.values(piece) as usize];
-        make_answers(page, rows, held, marks, answers);
-        table.put_values(seat, piece, answers);
-    }
-
-    /// The new tints of a band, from its zones and its column answers.
-    fn fill_tints<S, C: CellSink<S>>(
-        &mut self,
-        table: &C,
-        seat: &mut S,
-        page: &Page,
-        piece: u32,
-    )
-        requires layout { self.old ≡ (C.sheet table.now seat.old).layout }
-        requires page { page.now ≡ (C.sheet table.now seat.old).page.value }
-        requires fit { IsFit (C.sheet table.now seat.old) }
-        requires piece { piece < pieces_of self.old.bands }
-        requires phase { 3 ≤ phase_of self.old.bands piece }
-        requires may { C.may_fill table.now seat.old piece }
-        requires known { (n : ℕ) → is_need self.old.bands piece n ≡ true
-            → C.knows table.now seat.old n }
-        ensures scratch { self.new ≡ self.old }
-        ensures filled { C.filled table.now seat.old seat.new piece }
-    {
-        let rows = rows_of(self.layout.bands(), piece);
-        let count = rows.count as usize;
-        let zones = &mut self.zones[..count * page.width() as usize];
-        read_byte_rows(table, seat, &self.layout, 0, rows, zones);
-        let answers = &mut self.answers[..count * self.layout.row_values(2) as usize];
-        read_rows(table, seat, &self.layout, 2, rows, answers);
-        let tints = &mut self.tints[..count * self.layout.row_values(3) as usize];
-        make_tints(page, rows, zones, answers, tints, &mut self.room);
-        table.put_values(seat, piece, tints);
+        fill(
+            table,
+            seat,
+            page,
+            &self.layout,
+            piece,
+            self.zones.as_mut_slice(),
+            self.marks.as_mut_slice(),
+            self.answers.as_mut_slice(),
+            self.tints.as_mut_slice(),
+            &mut self.room,
+        );
     }
 }
 

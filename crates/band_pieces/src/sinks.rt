@@ -61,6 +61,7 @@ impl CellSource<Closed> for Alone {
     ghost knows = { λ alone closed piece. HasCells closed piece };
 
     fn word(&self, seat: &mut Closed, number: u32) -> u64 {
+        let _fits = seat.layout();
         seat.cell(number)
     }
 }

@@ -10,7 +10,7 @@ ghost use Rattle.band_pieces.specs.Fills.{HasCells};
 use band_claims::{Closed, Pass, Shared};
 
 /// A table whose cells are read, by a seat at it.
-pub(crate) trait CellSource<S> {
+pub trait CellSource<S> {
     /// The table's page and layout.
     ghost sheet: { Self → S → Sheet };
 
@@ -42,6 +42,7 @@ impl CellSource<()> for Closed {
     ghost knows = { λ closed seat piece. HasCells closed piece };
 
     fn word(&self, _seat: &mut (), number: u32) -> u64 {
+        let _fits = self.layout();
         self.cell(number)
     }
 }

@@ -1,7 +1,8 @@
 // The rows of a piece's band, and those about it that it needs.
-ghost use Rattle.std.specs.Prelude.{◌≡◌, ◌+◌, ◌<◌, ◌≤◌};
+ghost use Rattle.std.specs.Prelude.{◌≡◌, ℕ, ◌+◌, ◌<◌, ◌≤◌};
 ghost use Rattle.page_model.specs.Bands.{AreBands, pieces_of};
-ghost use Rattle.band_pieces.specs.Spans.{rows_of_piece, with_halo, with_next};
+ghost use Rattle.page_model.specs.Columns.{halo};
+ghost use Rattle.band_pieces.specs.Spans.{rows_of_piece};
 
 use band_values::Rows;
 use page_model::bands::Bands;
@@ -26,7 +27,11 @@ pub(crate) fn rows_of(bands: &Bands, piece: u32) -> Rows
 pub(crate) fn rows_below(bands: &Bands, rows: Rows) -> Rows
     requires bands { AreBands bands.now }
     requires inside { rows.first + rows.count ≤ bands.now.rows }
-    ensures value { result ≡ with_next bands.now rows }
+    ensures first { result.first ≡ rows.first }
+    ensures here { rows.count ≤ result.count }
+    ensures few { result.count ≤ rows.count + 1 }
+    ensures inside { result.first + result.count ≤ bands.now.rows }
+    ensures below { rows.first + rows.count < bands.now.rows → rows.count < result.count }
 {
     Rows {
         first: rows.first,
@@ -38,7 +43,14 @@ pub(crate) fn rows_below(bands: &Bands, rows: Rows) -> Rows
 pub(crate) fn rows_near(bands: &Bands, rows: Rows) -> Rows
     requires bands { AreBands bands.now }
     requires inside { rows.first + rows.count ≤ bands.now.rows }
-    ensures value { result ≡ with_halo bands.now rows }
+    ensures above { result.first ≤ rows.first }
+    ensures under { rows.first + rows.count ≤ result.first + result.count }
+    ensures near_above { rows.first ≤ result.first + halo bands.now.reach2 }
+    ensures near_under { result.first + result.count ≤ rows.first + rows.count + halo bands.now.reach2 }
+    ensures inside { result.first + result.count ≤ bands.now.rows }
+    ensures far_above { (row : ℕ) → rows.first ≤ row + halo bands.now.reach2 → result.first ≤ row }
+    ensures far_under { (row : ℕ) → row < bands.now.rows
+        → row < rows.first + rows.count + halo bands.now.reach2 → row < result.first + result.count }
 {
     let halo = (bands.reach2 + 1) / 2;
     let first = rows.first.saturating_sub(halo);

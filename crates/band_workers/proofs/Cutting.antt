@@ -32,7 +32,7 @@ row_few layout phase is = let w = is.narrow in elim (cases_eq phase 2) [
   | inr n2 ↦ elim (cases_eq phase 3) [ inl three ↦ rw three (per_row_few layout.plates layout.width is.few_plates w) | inr n3 ↦ rw (ne_eqb phase 2 n2, ne_eqb phase 3 n3) (omega (arith, w)) ]
 ]
 
-few_values : (layout : Layout) (i : ℕ) → IsLayout layout → value_total layout i ≤ 1073741824
+pub few_values : (layout : Layout) (i : ℕ) → IsLayout layout → value_total layout i ≤ 1073741824
 few_values layout i is = let low = is.bands.low in rows_fit (rows_in layout.bands (band_of layout.bands i)) (per_row layout (phase_of layout.bands i)) (omega (arith, low)) (row_few layout (phase_of layout.bands i) is)
 
 -- where cell o of a piece begins in its values

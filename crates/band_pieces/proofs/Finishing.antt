@@ -1,0 +1,169 @@
+-- A closed table that is finished piece by piece.
+use Rattle.std.proofs.Common.{◌≡◌, ◌≢◌, ℕ, ◌+◌, ◌<◌, ◌≤◌, Bool, true, false, ◌&&◌, not, nat_lt, List, [], length, refl, sym, ap, ◌∙◌, subst, inl, inr, arith, get_or-set_same, get_or-set_other, ne_eqb}
+use Rattle.std.specs.Prelude.{◌==◌, slice_index, slice_set}
+use Rattle.std.proofs.lemmas.Bool.{cases_eq, cases_order, eq-eqb, le-ltb, lt-ltb}
+use Rattle.page_model.specs.Bands.{pieces_of}
+use Rattle.band_graph.specs.Needs.{is_need}
+use Rattle.band_graph.proofs.NeedLemmas.{need_less}
+use Rattle.row_cells.specs.Layouts.{Layout}
+use Rattle.row_cells.proofs.Places.{owner}
+use Rattle.row_cells.specs.Places.{piece_of_cell}
+use Rattle.band_board.specs.Boards.{is_done, state_done}
+use Rattle.band_board.specs.Runs.{Sound}
+use Rattle.band_board.specs.TableWords.{AreWords, board_of, state_of}
+use Rattle.band_board.proofs.TableWords.{cell_is, state_is}
+use Rattle.band_claims.specs.declared.sheet.Sheet.{Sheet}
+use Rattle.band_claims.specs.Receipt.{Receipt}
+use Rattle.band_claims.specs.Rule.{cell_word, piece_word}
+use Rattle.band_claims.specs.Sheets.{IsFit, cell, shape_of}
+use Rattle.band_claims.specs.Views.{one_if, times}
+use Rattle.band_claims.proofs.Steps.{fit_shape}
+use Rattle.band_pieces.specs.Fills.{DoneHaveCells, FillsPiece, FinishesPiece, FinishesTo, HasCells, KeepsLists}
+use Rattle.band_pieces.proofs.Filling.{HasCellsOf}
+
+same_lists : (r : Receipt) → KeepsLists r r
+same_lists r = record { published = refl; seen = refl; looked = refl }
+
+then_lists : (a b c : Receipt) → KeepsLists a b → KeepsLists b c → KeepsLists a c
+then_lists a b c f s = record { published = s.published ∙ f.published; seen = s.seen ∙ f.seen; looked = s.looked ∙ f.looked }
+
+-- the needs of a piece are done where all pieces before it are
+pub needs_known : (closed : Receipt) (layout : Layout) (piece n : ℕ) → IsFit closed.sheet → layout ≡ closed.sheet.layout → piece < pieces_of closed.sheet.layout.bands → ((i : ℕ) → i < piece → piece_word closed.words i ≡ 2) → DoneHaveCells closed → is_need layout.bands piece n ≡ true → HasCells closed n
+needs_known closed layout piece n fit same inside earlier cells need =
+    let less = need_less closed.sheet.layout.bands piece n fit.made.bands (subst (λ (z : Layout). is_need z.bands piece n ≡ true) same need) in
+    cells n (omega (arith, less, inside)) (earlier n less)
+
+none_more : (b : Bool) (n : ℕ) → n ≡ n + one_if (b && not true)
+none_more true n = omega arith
+none_more false n = omega arith
+
+-- a piece that is done stays as it is
+pub finished_same : (closed : Receipt) (piece : ℕ) → piece_word closed.words piece ≡ 2 → DoneHaveCells closed → FinishesPiece closed closed piece
+finished_same closed piece done cells = record {
+  sheet = refl;
+  lists = same_lists closed;
+  done = done;
+  others = λ i l ne. refl;
+  cells = cells;
+  alone = λ i. rw done (none_more (i == piece) (times i closed.alone));
+}
+
+-- what making a piece done changes
+pub record SetsDone (before after : Receipt) (piece : ℕ) : Type 0 where
+  pub sheet : after.sheet ≡ before.sheet
+  pub lists : KeepsLists before after
+  pub words : after.words ≡ slice_set before.words piece 2
+  pub alone : (i : ℕ) → times i after.alone ≡ times i before.alone + one_if (i == piece)
+
+and_true : (b : Bool) → b ≡ (b && true)
+and_true true = refl
+and_true false = refl
+
+pub finished_now : (closed filled after : Receipt) (piece : ℕ) → IsFit closed.sheet → length closed.words ≡ (shape_of closed.sheet).pieces + (shape_of closed.sheet).cells → piece < pieces_of closed.sheet.layout.bands → piece_word closed.words piece ≢ 2 → DoneHaveCells closed → FillsPiece closed filled piece → SetsDone filled after piece → FinishesPiece closed after piece
+finished_now closed filled after piece fit wide inside left cells f s = record {
+  sheet = s.sheet ∙ f.sheet;
+  lists = then_lists closed filled after f.lists s.lists;
+  done = ap (λ (ws : List ℕ). slice_index ws piece) s.words ∙ get_or-set_same filled.words piece 2 0 (omega (arith, f.long, wide, inside));
+  others = λ i l ne. other i ne ∙ f.states i l;
+  cells = λ i l e. elim (cases_eq i piece) [
+    | inl q ↦ subst (HasCells after) (sym q) (kept piece f.filled)
+    | inr ne ↦ (let here : i < (shape_of closed.sheet).pieces = subst (λ (z : Sheet). i < (shape_of z).pieces) (s.sheet ∙ f.sheet) l in kept i (f.others i here (cells i here (sym (other i ne ∙ f.states i here) ∙ e))))
+  ];
+  alone = λ i. s.alone i ∙ (λ z. times i (f.alone z) + one_if (second i z));
+} where
+  other : (i : ℕ) → i ≢ piece → slice_index after.words i ≡ slice_index filled.words i
+  other i ne = ap (λ (ws : List ℕ). slice_index ws i) s.words ∙ get_or-set_other filled.words piece i 2 0 ne
+
+  second : (i : ℕ) → (i == piece) ≡ ((i == piece) && not (piece_word closed.words piece == 2))
+  second i = rw (ne_eqb (piece_word closed.words piece) 2 left) (and_true (i == piece))
+
+  kept : (i : ℕ) → HasCells filled i → HasCells after i
+  kept i h = subst (λ (key : Sheet). HasCellsOf key after.words i) (sym s.sheet) (λ j hj. word j ∙ h j hj) where
+    word : (j : ℕ) → cell_word (shape_of filled.sheet) after.words j ≡ cell_word (shape_of filled.sheet) filled.words j
+    word j = other ((shape_of filled.sheet).pieces + j) (λ e. let t : piece < (shape_of filled.sheet).pieces = subst (λ (z : Sheet). piece < (shape_of z).pieces) (sym f.sheet) inside in omega (arith, e, t))
+
+-- at the beginning: what the closed table's soundness says
+pub sound_cells : (closed : Receipt) → IsFit closed.sheet → Sound (shape_of closed.sheet) (cell closed.sheet) (board_of (shape_of closed.sheet) closed.words) → DoneHaveCells closed
+sound_cells closed fit sound i l done j h = elim (sound.cells j inside) [
+  | inl empty ↦ absurd (sound.full i j h is empty)
+  | inr there ↦ sym (cell_is (shape_of closed.sheet) closed.words j inside) ∙ there
+] where
+  inside : j < (shape_of closed.sheet).cells
+  inside = let t = (fit_shape closed.sheet fit).inside i h.piece in let b = h.below in omega (arith, t, b)
+
+  is : is_done (board_of (shape_of closed.sheet) closed.words) i ≡ true
+  is = ap state_done (state_is (shape_of closed.sheet) closed.words i l ∙ ap state_of done)
+
+none_before : (i : ℕ) (b : Bool) → one_if (nat_lt i 0 && b) ≡ 0
+none_before i b = rw (le-ltb i 0 (omega arith)) refl
+
+pub finished_none : (closed : Receipt) → IsFit closed.sheet → AreWords (shape_of closed.sheet) closed.words → Sound (shape_of closed.sheet) (cell closed.sheet) (board_of (shape_of closed.sheet) closed.words) → closed.alone ≡ [] → FinishesTo closed closed 0
+finished_none closed fit words sound alone = record {
+  sheet = refl;
+  lists = same_lists closed;
+  done = λ i l. absurd (omega (arith, l));
+  others = λ i m l. refl;
+  cells = sound_cells closed fit sound;
+  alone = λ i. ap (times i) alone ∙ sym (none_before i (not (piece_word closed.words i == 2)));
+}
+
+count_more : (i n : ℕ) (b : Bool) → one_if (nat_lt i n && b) + one_if ((i == n) && b) ≡ one_if (nat_lt i (n + 1) && b)
+count_more i n b = elim (cases_order i n) [
+  | inl e ↦ rw (e, le-ltb n n (omega arith), eq-eqb n n refl, lt-ltb n (n + 1) (omega arith)) (plain b)
+  | inr (inl less) ↦ rw (lt-ltb i n less, ne_eqb i n (λ e. omega (arith, e, less)), lt-ltb i (n + 1) (omega (arith, less))) (plain_less b)
+  | inr (inr more) ↦ rw (le-ltb i n (omega (arith, more)), ne_eqb i n (λ e. omega (arith, e, more)), le-ltb i (n + 1) (omega (arith, more))) refl
+] where
+  plain : (b : Bool) → one_if (false && b) + one_if (true && b) ≡ one_if (true && b)
+  plain true = refl
+  plain false = refl
+
+  plain_less : (b : Bool) → one_if (true && b) + one_if (false && b) ≡ one_if (true && b)
+  plain_less true = refl
+  plain_less false = refl
+
+pub finished_more : (before now after : Receipt) (n : ℕ) → n < (shape_of before.sheet).pieces → FinishesTo before now n → FinishesPiece now after n → FinishesTo before after (n + 1)
+finished_more before now after n inside f s = record {
+  sheet = s.sheet ∙ f.sheet;
+  lists = then_lists before now after f.lists s.lists;
+  done = λ i l. elim (cases_eq i n) [
+    | inl e ↦ rw e s.done
+    | inr ne ↦ s.others i (here i (omega (arith, l, inside))) ne ∙ f.done i (omega (arith, l, ne))
+  ];
+  others = λ i m l. s.others i (here i l) (λ e. omega (arith, e, m)) ∙ f.others i (omega (arith, m)) l;
+  cells = s.cells;
+  alone = λ i. s.alone i ∙ (sum i ∙ count_more i n (not (piece_word before.words i == 2)));
+} where
+  here : (i : ℕ) → i < (shape_of before.sheet).pieces → i < (shape_of now.sheet).pieces
+  here i l = subst (λ (z : Sheet). i < (shape_of z).pieces) (sym f.sheet) l
+
+  at_n : (i : ℕ) → one_if ((i == n) && not (piece_word now.words n == 2)) ≡ one_if ((i == n) && not (piece_word before.words i == 2))
+  at_n i = elim (cases_eq i n) [
+    | inl e ↦ rw e (ap (λ (w : ℕ). one_if ((n == n) && not (w == 2))) (f.others n (omega arith) inside))
+    | inr ne ↦ rw (ne_eqb i n ne) refl
+  ]
+
+  sum : (i : ℕ) → times i now.alone + one_if ((i == n) && not (piece_word now.words n == 2)) ≡ one_if (nat_lt i n && not (piece_word before.words i == 2)) + one_if ((i == n) && not (piece_word before.words i == 2))
+  sum i = let a = f.alone i in let b = at_n i in λ z. a z + b z
+
+-- at the end: every cell is the defined one
+pub cells_all : (before after : Receipt) (n : ℕ) → IsFit before.sheet → (shape_of before.sheet).pieces ≤ n → FinishesTo before after n → (j : ℕ) → j < (shape_of after.sheet).cells → cell_word (shape_of after.sheet) after.words j ≡ cell after.sheet j
+cells_all before after n fit all f j l =
+    let own = owner after.sheet.layout j l in let i : ℕ = piece_of_cell after.sheet.layout j in
+    let few : (shape_of after.sheet).pieces ≤ n = subst (λ (z : Sheet). (shape_of z).pieces ≤ n) (sym f.sheet) all in
+    let a = own.0 in
+    f.cells i own.0 (f.done i (omega (arith, a, few))) j (record { piece = own.0; from = own.1.from; below = own.1.below })
+
+one_at_most : (b : Bool) → one_if b ≤ 1
+one_at_most true = omega arith
+one_at_most false = omega arith
+
+none_left : (b : Bool) → one_if (b && not true) ≡ 0
+none_left true = refl
+none_left false = refl
+
+-- and no piece was made twice
+pub alone_once : (before after : Receipt) (n i : ℕ) → ((k : ℕ) → 1 ≤ times k before.published → piece_word before.words k ≡ 2) → ((k : ℕ) → times k before.published ≤ 1) → FinishesTo before after n → times i after.published + times i after.alone ≤ 1
+alone_once before after n i done once f = elim (cases_eq (times i before.published) 0) [
+  | inl e ↦ omega (arith, ap (times i) f.lists.published, e, f.alone i, one_at_most (nat_lt i n && not (piece_word before.words i == 2)))
+  | inr some ↦ (let none : times i after.alone ≡ 0 = f.alone i ∙ rw (done i (omega (arith, some))) (none_left (nat_lt i n)) in omega (arith, ap (times i) f.lists.published, once i, none))
+]

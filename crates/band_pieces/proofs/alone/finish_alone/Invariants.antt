@@ -1,0 +1,11 @@
+use Rattle.std.proofs.Common.{◌≡◌}
+use Rattle.page_model.specs.Bands.{pieces_of}
+use Rattle.band_pieces.specs.Fills.{FinishesTo}
+use Rattle.band_pieces.proofs.alone.finish_alone.Given as goal
+
+abbrev pub invariant-loop-piece : goal.invariant-loop-piece
+invariant-loop-piece l = record {
+  end : l.piece-end ≡ pieces_of l.initial.closed.sheet.layout.bands;
+  scratch : l.scratch ≡ l.initial.scratch;
+  closed : FinishesTo l.initial.closed l.closed l.piece;
+}

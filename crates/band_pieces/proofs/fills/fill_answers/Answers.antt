@@ -1,0 +1,58 @@
+use Rattle.std.proofs.Common.{◌≡◌, ℕ, ◌+◌, ◌<◌, ◌≤◌, sym, ap, ◌∙◌, subst, arith}
+use Rattle.page_model.specs.declared.bands.Bands.{Bands}
+use Rattle.page_model.specs.declared.parts.PageParts.{PageParts}
+use Rattle.band_values.specs.declared.rows.Rows.{Rows}
+use Rattle.row_cells.specs.Places.{per_row}
+use Rattle.band_core.specs.Values.{row_value}
+use Rattle.band_values.specs.Rows.{HoldsRows}
+use Rattle.band_claims.specs.declared.sheet.Sheet.{Sheet}
+use Rattle.band_pieces.specs.Spans.{rows_of_piece}
+use Rattle.std.proofs.Common.{refl}
+use Rattle.row_cells.specs.Layouts.{Layout}
+use Rattle.page_model.specs.Bands.{pieces_of}
+use Rattle.page_model.specs.Columns.{halo}
+use Rattle.band_pieces.proofs.Held.{answers_to, made_values, marks_from}
+use Rattle.band_pieces.proofs.Needed.{marks_near}
+use Rattle.band_pieces.proofs.fills.fill_answers.Goals as goal
+
+pub read_byte_rows-requires-clause-known : goal.read_byte_rows-requires-clause-known
+read_byte_rows-requires-clause-known g c y from below =
+    let layout = c.args.layout.now in let i : ℕ = c.args.piece in let key : Sheet = g.C.CellSource.sheet c.args.table.now c.args.seat.now in
+    let rows : c.rows_of-rows.result ≡ rows_of_piece layout.bands i = c.rows_of-rows.ensures.value ∙ ap (λ (z : Bands). rows_of_piece z i) c.bands.ensures.value in
+    let tall = ap (λ (z : Bands). z.rows) c.bands-2.ensures.value in let low = ap (λ (z : Bands). z.height) c.bands.ensures.value in
+    let reach = ap (λ (z : Bands). halo z.reach2) c.bands-2.ensures.value in
+    let held = c.rows_near-held.ensures in let first = ap (λ (z : Rows). z.first) rows in
+    c.requires.known _ (marks_near layout.bands c.requires.lies.made.bands i y (omega (arith, below, held.inside, tall)) c.requires.phase (omega (arith, from, held.near_above, first, reach)) (omega (arith, below, held.near_under, first, c.rows_of-rows.ensures.few, low, reach)))
+
+pub make_answers-requires-clause-marks : goal.make_answers-requires-clause-marks
+make_answers-requires-clause-marks g c =
+    marks_from c.args.page.now c.args.layout.now c.rows_near-held.result c.read_byte_rows.new.out c.requires.lies.wide (subst (λ (p : PageParts). HoldsRows (per_row c.args.layout.now 1) (row_value p 1) c.rows_near-held.result c.read_byte_rows.new.out) (sym c.requires.page) c.read_byte_rows.ensures.rows)
+
+pub make_answers-requires-clause-far_above : goal.make_answers-requires-clause-far_above
+make_answers-requires-clause-far_above g c row l =
+    let reach = sym c.requires.lies.reach ∙ sym (ap (λ (z : Bands). z.reach2) c.bands-2.ensures.value) in
+    c.rows_near-held.ensures.far_above row (subst (λ (z : ℕ). c.rows_of-rows.result.first ≤ row + halo z) reach l)
+
+pub make_answers-requires-clause-far_under : goal.make_answers-requires-clause-far_under
+make_answers-requires-clause-far_under g c row inside l =
+    let reach = sym c.requires.lies.reach ∙ sym (ap (λ (z : Bands). z.reach2) c.bands-2.ensures.value) in
+    let tall = sym c.requires.lies.tall ∙ sym (ap (λ (z : Bands). z.rows) c.bands-2.ensures.value) in
+    c.rows_near-held.ensures.far_under row (omega (arith, inside, tall)) (subst (λ (z : ℕ). row < c.rows_of-rows.result.first + c.rows_of-rows.result.count + halo z) reach l)
+
+pub put_values-requires-clause-values : goal.put_values-requires-clause-values
+put_values-requires-clause-values g c =
+    let layout = c.args.layout.now in let i : ℕ = c.args.piece in let key : Sheet = g.C.CellSource.sheet c.args.table.now c.args.seat.now in
+    let rows : c.rows_of-rows.result ≡ rows_of_piece layout.bands i = c.rows_of-rows.ensures.value ∙ ap (λ (z : Bands). rows_of_piece z i) c.bands.ensures.value in
+    rw c.read_byte_rows.ensures.seat (made_values key c.args.page.now layout i c.rows_of-rows.result c.make_answers.new.out c.requires.layout c.requires.page rows (answers_to c.args.page.now layout _ c.rows_of-rows.result c.make_answers.new.out c.requires.lies.wide c.requires.phase c.make_answers.ensures.answers))
+
+pub put_values-requires-clause-fit : goal.put_values-requires-clause-fit
+put_values-requires-clause-fit g c = rw c.read_byte_rows.ensures.seat c.requires.fit
+
+pub put_values-requires-clause-piece : goal.put_values-requires-clause-piece
+put_values-requires-clause-piece g c = let e = c.read_byte_rows.ensures.seat ∙ refl in rw e (subst (λ (z : Layout). c.args.piece < pieces_of z.bands) c.requires.layout c.requires.piece)
+
+pub put_values-requires-clause-may : goal.put_values-requires-clause-may
+put_values-requires-clause-may g c = rw c.read_byte_rows.ensures.seat c.requires.may
+
+pub returns-clause-filled : goal.returns-clause-filled
+returns-clause-filled g c = rw (sym c.read_byte_rows.ensures.seat) c.put_values.ensures

@@ -1,0 +1,34 @@
+use Rattle.std.proofs.Common.{◌<◌, sym, ap, ◌∙◌, subst, arith}
+use Rattle.band_claims.specs.declared.sheet.Sheet.{Sheet}
+use Rattle.band_claims.specs.Sheets.{IsFit, shape_of}
+use Rattle.band_claims.specs.Views.{times}
+use Rattle.band_workers.specs.Accounts.{IsAccounted}
+use Rattle.band_pieces.specs.Finished.{last_view}
+use Rattle.band_pieces.proofs.Looked.{accounted_same}
+use Rattle.band_pieces.proofs.pages.finish_table.Goals as goal
+
+pub finish_alone-requires-clause-page : goal.finish_alone-requires-clause-page
+finish_alone-requires-clause-page c = c.requires.page ∙ ap (λ (z : Sheet). z.page.value) (sym c.close_all-closed.ensures.sheet)
+
+pub finish_alone-requires-clause-scratch : goal.finish_alone-requires-clause-scratch
+finish_alone-requires-clause-scratch c = c.requires.scratch ∙ ap (λ (z : Sheet). z.layout) (sym c.close_all-closed.ensures.sheet)
+
+pub finish_alone-requires-clause-published : goal.finish_alone-requires-clause-published
+finish_alone-requires-clause-published c i l = c.close_all-closed.ensures.done i (omega (arith, l, ap (times i) c.close_all-closed.ensures.published))
+
+pub returns-clause-sheet : goal.returns-clause-sheet
+returns-clause-sheet c = c.finish_alone.ensures.sheet ∙ c.close_all-closed.ensures.sheet
+
+pub returns-clause-finished : goal.returns-clause-finished
+returns-clause-finished c =
+    let f = c.finish_alone.ensures in let k = c.close_all-closed.ensures in let same = f.sheet ∙ k.sheet in
+    record {
+      fit = subst IsFit (sym same) c.bands-fits.ensures.fits;
+      same_page = ap (λ (z : Sheet). z.page.value) same ∙ sym c.requires.page;
+      done = f.done;
+      cells = f.cells;
+      once = f.once;
+      accounted = λ i l. subst (λ (z : Sheet). IsAccounted z.layout.bands (last_view c.finish_alone.new.closed) i) (sym same)
+          (accounted_same c.args.shared.sheet.layout.bands c.args.pass.view (last_view c.finish_alone.new.closed) i (f.published_stays ∙ k.published) (f.seen_stays ∙ k.seen) (f.looked_stays ∙ k.looked)
+          (c.requires.accounted i (subst (λ (z : Sheet). i < (shape_of z).pieces) same l)));
+    }

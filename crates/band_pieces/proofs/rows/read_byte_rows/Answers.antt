@@ -1,0 +1,24 @@
+use Rattle.std.proofs.Common.{ℕ, ◌+◌, ◌∙◌, arith}
+use Rattle.row_cells.specs.Places.{per_row}
+use Rattle.band_core.specs.Values.{row_value}
+use Rattle.band_values.proofs.RowLemmas.{rows_more}
+use Rattle.band_pieces.proofs.rows.read_byte_rows.Goals as goal
+
+pub read_byte_row-requires-clause-layout : goal.read_byte_row-requires-clause-layout
+read_byte_row-requires-clause-layout g c = rw c.loop-k.invariant.seat c.requires.layout
+
+pub read_byte_row-requires-clause-fit : goal.read_byte_row-requires-clause-fit
+read_byte_row-requires-clause-fit g c = rw c.loop-k.invariant.seat c.requires.fit
+
+pub read_byte_row-requires-clause-known : goal.read_byte_row-requires-clause-known
+read_byte_row-requires-clause-known g c = rw c.loop-k.invariant.seat (c.requires.known (c.args.rows.first + c.loop-k.k) (omega arith) (omega (arith, c.loop-k-test.true, c.loop-k.invariant.end)))
+
+pub loop-k-preserved : goal.loop-k-preserved
+loop-k-preserved g c =
+    let v = c.loop-k.invariant in let s = v.seat in record {
+      end = v.end;
+      seat = c.read_byte_row.ensures.seat ∙ s;
+      long = c.read_byte_row.ensures.len ∙ v.long;
+      done = rows_more (per_row c.args.layout.now c.args.phase) c.loop-k.k (λ (j : ℕ). row_value (g.C.CellSource.sheet c.args.source.now c.args.seat.now).page.value c.args.phase (c.args.rows.first + j)) c.loop-k.out c.read_byte_row.new.out c.read_byte_row.ensures.kept
+          (λ o l. c.read_byte_row.ensures.here o l ∙ (λ i. row_value (g.C.CellSource.sheet c.args.source.now (s i)).page.value c.args.phase (c.args.rows.first + c.loop-k.k) o)) v.done;
+    }

@@ -1,0 +1,78 @@
+// The values of a page's rows, read from the cells of a table whose pieces are done.
+ghost use Rattle.std.specs.Prelude.{◌≡◌, ℕ, ◌+◌, ◌*◌, ◌<◌, ◌≤◌, length};
+ghost use Rattle.band_claims.specs.Sheets.{IsFit};
+ghost use Rattle.band_values.specs.Rows.{HoldsMarks, HoldsTints, HoldsZones};
+ghost use Rattle.page_model.specs.Bands.{pieces_of};
+ghost use Rattle.page_model.specs.Page.{height, plates, width};
+
+use crate::rows::{read_byte_rows, read_rows};
+use crate::sources::CellSource;
+use band_values::Rows;
+use page_model::page::Page;
+use row_cells::layout::Layout;
+
+/// The zones of these rows, from the cells of their bands.
+pub fn read_zones<S, C: CellSource<S>>(
+    source: &C,
+    seat: &mut S,
+    page: &Page,
+    layout: &Layout,
+    rows: Rows,
+    out: &mut [u8],
+)
+    requires page { page.now ≡ (C.sheet source.now seat.old).page.value }
+    requires layout { layout.now ≡ (C.sheet source.now seat.old).layout }
+    requires fit { IsFit (C.sheet source.now seat.old) }
+    requires known { (i : ℕ) → i < pieces_of layout.now.bands → C.knows source.now seat.old i }
+    requires inside { rows.first + rows.count ≤ height page.now }
+    requires out { length out.old ≡ rows.count * width page.now }
+    ensures seat { seat.new ≡ seat.old }
+    ensures zones { HoldsZones page.now rows out.new }
+    ensures len { length out.new ≡ length out.old }
+{
+    read_byte_rows(source, seat, layout, 0, rows, out);
+}
+
+/// The marks of these rows, from the cells of their bands.
+pub fn read_marks<S, C: CellSource<S>>(
+    source: &C,
+    seat: &mut S,
+    page: &Page,
+    layout: &Layout,
+    rows: Rows,
+    out: &mut [u8],
+)
+    requires page { page.now ≡ (C.sheet source.now seat.old).page.value }
+    requires layout { layout.now ≡ (C.sheet source.now seat.old).layout }
+    requires fit { IsFit (C.sheet source.now seat.old) }
+    requires known { (i : ℕ) → i < pieces_of layout.now.bands → C.knows source.now seat.old i }
+    requires inside { rows.first + rows.count ≤ height page.now }
+    requires out { length out.old ≡ rows.count * width page.now }
+    ensures seat { seat.new ≡ seat.old }
+    ensures marks { HoldsMarks page.now rows out.new }
+    ensures len { length out.new ≡ length out.old }
+{
+    read_byte_rows(source, seat, layout, 1, rows, out);
+}
+
+/// The new tints of these rows, in each row plate after plate, from the cells of their bands.
+pub fn read_tints<S, C: CellSource<S>>(
+    source: &C,
+    seat: &mut S,
+    page: &Page,
+    layout: &Layout,
+    rows: Rows,
+    out: &mut [u16],
+)
+    requires page { page.now ≡ (C.sheet source.now seat.old).page.value }
+    requires layout { layout.now ≡ (C.sheet source.now seat.old).layout }
+    requires fit { IsFit (C.sheet source.now seat.old) }
+    requires known { (i : ℕ) → i < pieces_of layout.now.bands → C.knows source.now seat.old i }
+    requires inside { rows.first + rows.count ≤ height page.now }
+    requires out { length out.old ≡ rows.count * (plates page.now * width page.now) }
+    ensures seat { seat.new ≡ seat.old }
+    ensures tints { HoldsTints page.now rows out.new }
+    ensures len { length out.new ≡ length out.old }
+{
+    read_rows(source, seat, layout, 3, rows, out);
+}
