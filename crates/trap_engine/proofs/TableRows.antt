@@ -7,6 +7,10 @@ use Rattle.page_model.specs.Page.{plates, width}
 use Rattle.page_model.specs.Tints.{new}
 use Rattle.page_model.specs.Zones.{AreZones}
 use Rattle.band_values.specs.Rows.{HoldsMarks, HoldsRows, HoldsTints, HoldsZones, tint_value, zone_value}
+use Rattle.band_claims.specs.Receipt.{Receipt}
+use Rattle.band_claims.proofs.Steps.{fit_shape}
+use Rattle.band_pieces.specs.Fills.{HasCells}
+use Rattle.band_pieces.specs.Finished.{IsFinished}
 use Rattle.trap_engine.specs.Standing.{AreMarks, IsNewRow}
 
 -- of one row the places are those of the list
@@ -39,3 +43,7 @@ row_tints page y tints h = record {
       ∙ ap (λ (n : ℕ). new page (record { x = n; y = y }) ((c * width page + x) / width page)) (mod-mul-add c (width page) x lx)
       ∙ ap (λ (n : ℕ). new page (record { x = x; y = y }) n) (div-mul-add c (width page) x lx);
 }
+
+-- all cells of a finished table are known
+pub cells_held : (page : PageParts) (receipt : Receipt) (i : ℕ) → IsFinished page receipt → HasCells receipt i
+cells_held page receipt i h = λ j has. h.cells j (omega (arith, has.below, (fit_shape receipt.sheet h.fit).inside i has.piece))

@@ -14,12 +14,13 @@ pub record IsRowRoom (page : PageParts) (row : RowRoom) : Type 0 where
   pub marks : length row.marks.items ≡ width page
   pub tints : length row.tints.items ≡ plates page * width page
 
--- a table with its first pass, which holds nothing; some workers' memory, made for the table; and an outcome and room for
--- a row of the table's page, of which no row is taken in
-pub record IsRoom (shared : OpenTable) (pass : Seating) (scratches : List Layout) (outcome : Outcome) (row : RowRoom) : Type 0 where
+-- a table with its first pass, which holds nothing; the memory of some workers and of the caller, made for the table; and an
+-- outcome and room for a row of the table's page, of which no row is taken in
+pub record IsRoom (shared : OpenTable) (pass : Seating) (scratches : List Layout) (spare : Layout) (outcome : Outcome) (row : RowRoom) : Type 0 where
   pub seat : Seats shared pass
   pub idle : pass.view.held ≡ None
   pub served : All (λ (scratch : Layout). scratch ≡ shared.sheet.layout) scratches
   pub some : 1 ≤ length scratches
+  pub spare_served : spare ≡ shared.sheet.layout
   pub begun : HasRows shared.sheet.page.value 0 outcome
   pub fits : IsRowRoom shared.sheet.page.value row

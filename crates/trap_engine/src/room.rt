@@ -25,6 +25,8 @@ pub struct TrapRoom {
     pub(crate) shared: Shared,
     pub(crate) pass: Pass,
     pub(crate) scratches: Vec<Scratch>,
+    // of the caller, for what the workers leave
+    pub(crate) spare: Scratch,
     pub(crate) outcome: Outcome,
     pub(crate) row: RowRoom,
 }
@@ -37,7 +39,7 @@ impl Model for TrapRoom {
 
     ghost view = { λ r. r.shared.sheet };
 
-    ghost invariant = { λ r. IsRoom r.shared r.pass r.scratches.items r.outcome r.row };
+    ghost invariant = { λ r. IsRoom r.shared r.pass r.scratches.items r.spare r.outcome r.row };
 }
 
 /// As many workers as are asked for, or as there are bands, if these are fewer.
@@ -104,6 +106,7 @@ impl TrapRoom {
             shared,
             pass,
             scratches: scratches_of(alloc, page, &bands, workers_for(&bands, workers))?,
+            spare: Scratch::new(alloc, page, &bands)?,
             outcome: Outcome::new(alloc, page)?,
             row: row_room(alloc, page)?,
         })

@@ -52,10 +52,11 @@ fn take_row(closed: &Closed, page: &Page, y: u32, row: &mut RowRoom, outcome: &m
     ensures row { IsRowRoom page.now row.new }
     ensures outcome { HasRows page.now (y + 1) outcome.new }
 {
+    let layout = closed.layout();
     let rows = Rows { first: y, count: 1 };
-    read_zones(closed, page, rows, &mut row.zones);
-    read_marks(closed, page, rows, &mut row.marks);
-    read_tints(closed, page, rows, &mut row.tints);
+    read_zones(closed, &mut (), page, layout, rows, &mut row.zones);
+    read_marks(closed, &mut (), page, layout, rows, &mut row.marks);
+    read_tints(closed, &mut (), page, layout, rows, &mut row.tints);
     let tints = changed_row(page, y, &row.tints);
     outcome.take_in(page, y, &row.zones, &row.marks, tints);
 }
@@ -90,10 +91,11 @@ pub fn trap_in<R: Threads + Sync, G: Gate + Sync>(
         shared,
         pass,
         mut scratches,
+        mut spare,
         mut outcome,
         mut row,
     } = room;
-    let closed = fill_table(rt, shared, pass, page, &mut scratches, gate);
+    let closed = fill_table(rt, shared, pass, page, &mut scratches, &mut spare, gate);
     take_rows(&closed, page, &mut row, &mut outcome);
     (outcome.into_trapped(page), closed)
 }
