@@ -1,4 +1,6 @@
 pub mod Bench
+pub mod Receipts
+pub mod Room
 pub mod Rows
 pub mod Standing
 pub mod Whole

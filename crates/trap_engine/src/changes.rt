@@ -5,7 +5,7 @@ ghost use Rattle.page_model.specs.Counts.{plate_changes, sample_changes};
 ghost use Rattle.page_model.specs.Page.{height, plates, width};
 ghost use Rattle.page_model.specs.Zones.{AreZones};
 ghost use Rattle.lists.specs.Words.{count_below};
-ghost use Rattle.trap_engine.specs.Standing.{ArePlatesCounted, AreZonesCounted, IsNewRow};
+ghost use Rattle.trap_engine.specs.Standing.{ArePlatesCounted, AreZonesCounted, IsNewRow, KeepsRow};
 
 use crate::counting::one_if;
 use band_values::{row_of, tints_of_row};
@@ -27,6 +27,20 @@ pub fn are_same(one: &[u16], other: &[u16]) -> bool
     ensures { result ≡ true → one.now ≡ other.now }
 {
     one == other
+}
+
+/// Whether the new tints of row y are those of the page in all plates.
+pub fn is_kept(page: &Page, y: u32, row: &[u16]) -> bool
+    requires row { IsNewRow page.now y row.now }
+    requires line { y < height page.now }
+    ensures { result ≡ true → KeepsRow page.now y }
+{
+    for c in 0..page.plates() {
+        if !are_same(tints_of_row(page, c, y), plate_row(page, row, y, c)) {
+            return false;
+        }
+    }
+    true
 }
 
 /// How many tints differ.

@@ -1,4 +1,4 @@
-//! The traps of a whole page.
+//! The traps of a whole page, by one thread or by workers at a shared table.
 #![tactic(auto)]
 
 mod alone;
@@ -13,13 +13,19 @@ mod planes;
 mod random_pages;
 #[cfg(test)]
 mod reads;
+mod room;
 #[cfg(test)]
 mod slow_marks;
 #[cfg(test)]
 mod slow_traps;
 mod strips;
+mod table;
+#[cfg(test)]
+mod table_tests;
 #[cfg(test)]
 mod tests;
 mod zones;
 
 pub use alone::{Trapped, trap_alone};
+pub use room::TrapRoom;
+pub use table::{trap_in, trap_page};

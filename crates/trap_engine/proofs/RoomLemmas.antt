@@ -1,0 +1,18 @@
+-- The memory of the workers and of the caller is that of the table's layout.
+use Rattle.std.proofs.Common.{◌≡◌, ℕ, ◌∙◌, ◌∷◌, ◌++◌, [], All, List, ap, arith, subst, sym}
+use Rattle.std.proofs.lemmas.List.Elements.{All-append, All-cons}
+use Rattle.page_model.specs.declared.bands.Bands.{Bands}
+use Rattle.row_cells.specs.Layouts.{Layout}
+
+abbrev laid : Bands → ℕ → ℕ → Layout
+laid b w p = record { bands = b; width = w; plates = p }
+
+pub served_by : (layout : Layout) (bands : Bands) (w p w' p' : ℕ) (all : List Layout) → layout ≡ record { bands = bands; width = w; plates = p } → w ≡ w' → p ≡ p' → All (λ (s : Layout). s ≡ record { bands = bands; width = w'; plates = p' }) all → All (λ (s : Layout). s ≡ layout) all
+served_by layout bands w p w' p' all e ew ep h = subst (λ (l : Layout). All (λ (s : Layout). s ≡ l) all) (sym (e ∙ ap (λ (n : ℕ). laid bands n p) ew ∙ ap (laid bands w') ep)) h
+
+pub one_served_by : (layout one : Layout) (bands : Bands) (w p w' p' : ℕ) → layout ≡ record { bands = bands; width = w; plates = p } → w ≡ w' → p ≡ p' → one ≡ record { bands = bands; width = w'; plates = p' } → one ≡ layout
+one_served_by layout one bands w p w' p' e ew ep h = h ∙ sym (e ∙ ap (λ (n : ℕ). laid bands n p) ew ∙ ap (laid bands w') ep)
+
+-- and so it stays where one more is added
+pub one_more_laid : (all : List Layout) (one : Layout) (bands : Bands) (w p : ℕ) → All (λ (s : Layout). s ≡ record { bands = bands; width = w; plates = p }) all → one ≡ record { bands = bands; width = w; plates = p } → All (λ (s : Layout). s ≡ record { bands = bands; width = w; plates = p }) (all ++ one ∷ [])
+one_more_laid all one bands w p h e = All-append (λ (s : Layout). s ≡ laid bands w p) all (one ∷ []) h (All-cons (λ (s : Layout). s ≡ laid bands w p) one [] e (λ j d none. absurd (omega arith)))

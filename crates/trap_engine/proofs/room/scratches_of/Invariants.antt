@@ -1,0 +1,14 @@
+use Rattle.std.proofs.Common.{◌≡◌, ◌≤◌, ◌-◌, All}
+use Rattle.std.specs.Prelude.{vec_len}
+use Rattle.page_model.specs.Page.{plates, width}
+use Rattle.row_cells.specs.Layouts.{Layout}
+use Rattle.trap_engine.proofs.room.scratches_of.Given as goal
+
+abbrev pub invariant-loop-alloc : goal.invariant-loop-alloc
+invariant-loop-alloc l = record {
+  made : All (λ (scratch : Layout). scratch ≡ record { bands = l.bands; width = width l.page; plates = plates l.page }) l.scratches.items;
+  few : vec_len l.scratches ≤ l.count;
+}
+
+abbrev pub decreases-loop-alloc : goal.decreases-loop-alloc
+decreases-loop-alloc l = l.count - vec_len l.scratches
