@@ -135,9 +135,9 @@ part_is_no_line part line none h e =
     let last : get_or part n 0 ≡ 10 = ap (λ (bs : List ℕ). get_or bs n 0) (e ∙ h.is) ∙ get_or-append_right h.text (10 ∷ []) n n 0 refl (omega arith) ∙ ap (λ (i : ℕ). get_or (10 ∷ []) i 0) (let z : n - n ≡ 0 = omega arith in z) in
     none n 0 (omega (arith, long)) last
 
-module _ {T E : Type 0} (start s t : TrayState) (held held2 : List ℕ) (old : List Plane) where
+module _ (start s t : TrayState) (held held2 : List ℕ) (old : List Plane) where
   -- The first line is none.
-  pub no_title : (v : ℕ) → v ≡ 1 → Reached [] start s held → ReadsNext {E = E} (λ line. line ≡ title_line) s t held held2 (Ok None) → AppliesText {T = T} start t old old (Err (BadLine v))
+  pub no_title : {T E : Type 0} → (v : ℕ) → v ≡ 1 → Reached [] start s held → ReadsNext {E = E} (λ line. line ≡ title_line) s t held held2 (Ok None) → AppliesText {T = T} start t old old (Err (BadLine v))
   no_title v is r n = record {
     keeps = kept_tray start s t r.keeps n.keeps;
     asked = n.asked ∙ r.asked;
@@ -154,7 +154,7 @@ module _ {T E : Type 0} (start s t : TrayState) (held held2 : List ℕ) (old : L
     one_less (l ∷ ls) a b e = ap (λ (xs : List (List ℕ)). get_or xs 0 [] ∷ []) e
 
   -- The second line is none.
-  pub no_page : (v : ℕ) → v ≡ 2 → Reached (title_line ∷ []) start s held → ReadsNext {E = E} IsPageLine s t held held2 (Ok None) → AppliesText {T = T} start t old old (Err (BadLine v))
+  pub no_page : {T E : Type 0} → (v : ℕ) → v ≡ 2 → Reached (title_line ∷ []) start s held → ReadsNext {E = E} IsPageLine s t held held2 (Ok None) → AppliesText {T = T} start t old old (Err (BadLine v))
   no_page v is r n = record {
     keeps = kept_tray start s t r.keeps n.keeps;
     asked = n.asked ∙ r.asked;
@@ -168,7 +168,7 @@ module _ {T E : Type 0} (start s t : TrayState) (held held2 : List ℕ) (old : L
   }
 
   -- The set is for other planes.
-  pub other_planes : (head : SetHead) → IsHead head → (Fits head old → ⊥) → Reached (begun_lines head []) start t held2 → IsTrue t.begun → AppliesText {T = T} start t old old (Err Differs)
+  pub other_planes : {T : Type 0} → (head : SetHead) → IsHead head → (Fits head old → ⊥) → Reached (begun_lines head []) start t held2 → IsTrue t.begun → AppliesText {T = T} start t old old (Err Differs)
   other_planes head h others r begun = record {
     keeps = r.keeps;
     asked = r.asked;
@@ -179,7 +179,7 @@ module _ {T E : Type 0} (start s t : TrayState) (held held2 : List ℕ) (old : L
   }
 
   -- The tray failed in the first line, or in the second.
-  pub title_fault : (e : E) → Reached [] start s held → ReadsNext {E = E} (λ line. line ≡ title_line) s t held held2 (Err e) → AppliesText {T = T} start t old old (Err ReadFault)
+  pub title_fault : {T E : Type 0} → (e : E) → Reached [] start s held → ReadsNext {E = E} (λ line. line ≡ title_line) s t held held2 (Err e) → AppliesText {T = T} start t old old (Err ReadFault)
   title_fault e r n = record {
     keeps = kept_tray start s t r.keeps n.keeps;
     asked = n.asked ∙ r.asked;
@@ -200,7 +200,7 @@ module _ {T E : Type 0} (start s t : TrayState) (held held2 : List ℕ) (old : L
         });
   }
 
-  pub page_fault : (e : E) → Reached (title_line ∷ []) start s held → ReadsNext {E = E} IsPageLine s t held held2 (Err e) → AppliesText {T = T} start t old old (Err ReadFault)
+  pub page_fault : {T E : Type 0} → (e : E) → Reached (title_line ∷ []) start s held → ReadsNext {E = E} IsPageLine s t held held2 (Err e) → AppliesText {T = T} start t old old (Err ReadFault)
   page_fault e r n = record {
     keeps = kept_tray start s t r.keeps n.keeps;
     asked = n.asked ∙ r.asked;
@@ -222,7 +222,7 @@ module _ {T E : Type 0} (start s t : TrayState) (held held2 : List ℕ) (old : L
   }
 
 -- behind the page line
-module _ {T E : Type 0} (start s t : TrayState) (held held2 : List ℕ) (old new : List Plane) (head : SetHead) (runs : List Run) (place : Place) (h : IsHead head) (to : RunsTo head runs place) (fits : Fits head old) (is : new ≡ applied runs old) where
+module _ (start s t : TrayState) (held held2 : List ℕ) (old new : List Plane) (head : SetHead) (runs : List Run) (place : Place) (h : IsHead head) (to : RunsTo head runs place) (fits : Fits head old) (is : new ≡ applied runs old) where
   keeps_planes : KeepsPlanes old new
   keeps_planes = subst (KeepsPlanes old) (sym is) (applied_keeps head runs old to.within fits)
 
@@ -232,7 +232,7 @@ module _ {T E : Type 0} (start s t : TrayState) (held held2 : List ℕ) (old new
   set_here : IsSet head runs
   set_here = runs_set head runs place h to
 
-  pub no_run : (v : ℕ) → v ≡ length runs + 3 → Reached (begun_lines head runs) start s held → ReadsNext {E = E} (MayCome head place) s t held held2 (Ok None) → AppliesText {T = T} start t old new (Err (BadLine v))
+  pub no_run : {T E : Type 0} → (v : ℕ) → v ≡ length runs + 3 → Reached (begun_lines head runs) start s held → ReadsNext {E = E} (MayCome head place) s t held held2 (Ok None) → AppliesText {T = T} start t old new (Err (BadLine v))
   no_run v number r n = record {
     keeps = kept_tray start s t r.keeps n.keeps;
     asked = n.asked ∙ r.asked;
@@ -254,7 +254,7 @@ module _ {T E : Type 0} (start s t : TrayState) (held held2 : List ℕ) (old new
     lines_of_begun : start.left ≡ joined (begun_lines head runs) ++ (held ++ s.left) → lines_of start.left ≡ title_line ∷ page_line head ∷ (map run_line runs ++ lines_of (held ++ s.left))
     lines_of_begun e = ap lines_of e ∙ lines_of_lines (begun_lines head runs) (held ++ s.left) (begun_are_lines head h runs to.within)
 
-  pub run_fault : (e : E) → Reached (begun_lines head runs) start s held → ReadsNext {E = E} (MayCome head place) s t held held2 (Err e) → AppliesText {T = T} start t old new (Err ReadFault)
+  pub run_fault : {T E : Type 0} → (e : E) → Reached (begun_lines head runs) start s held → ReadsNext {E = E} (MayCome head place) s t held held2 (Err e) → AppliesText {T = T} start t old new (Err ReadFault)
   run_fault e r n = record {
     keeps = kept_tray start s t r.keeps n.keeps;
     asked = n.asked ∙ r.asked;
@@ -275,7 +275,7 @@ module _ {T E : Type 0} (start s t : TrayState) (held held2 : List ℕ) (old new
   }
 
   -- behind the last line
-  pub set_ends : (number : ℕ) (result : Result T SetRefusal) → number ≡ length runs + 4 → Reached (set_lines head runs) start s held → EndsSet number s t held result → AppliesText start t old new result
+  pub set_ends : {T : Type 0} → (number : ℕ) (result : Result T SetRefusal) → number ≡ length runs + 4 → Reached (set_lines head runs) start s held → EndsSet number s t held result → AppliesText start t old new result
   set_ends number (Ok v) is_number r e = record {
     keeps = kept_tray start s t r.keeps e.keeps;
     asked = e.asked ∙ r.asked;
@@ -401,17 +401,17 @@ begin_failed name a b e old g = record {
 }
 
 -- how the runs end
-module _ {T E : Type 0} (head : SetHead) (place : Place) (number : ℕ) (old planes : List Plane) (before now after : TrayState) (held0 held held2 : List ℕ) (h : IsHead head) (fits : Fits head old) (so : Standing head place number old planes before now held0 held) where
-  pub ends_there : (last : TrayState) (result : Result T SetRefusal) → ReadsNext {E = E} (MayCome head place) now after held held2 (Ok (Some end_line)) → EndsSet (number + 1) after last held2 result → (start : TrayState) → Reached (begun_lines head []) start before held0 → AppliesText start last old planes result
+module _ (head : SetHead) (place : Place) (number : ℕ) (old planes : List Plane) (before now after : TrayState) (held0 held held2 : List ℕ) (h : IsHead head) (fits : Fits head old) (so : Standing head place number old planes before now held0 held) where
+  pub ends_there : {T E : Type 0} → (last : TrayState) (result : Result T SetRefusal) → ReadsNext {E = E} (MayCome head place) now after held held2 (Ok (Some end_line)) → EndsSet (number + 1) after last held2 result → (start : TrayState) → Reached (begun_lines head []) start before held0 → AppliesText start last old planes result
   ends_there last result n e start r =
-      set_ends {T = T} {E = E} start after last held2 held2 old planes head so.runs place h so.to fits so.planes_are (number + 1) result (omega (arith, so.is_number))
-      (reached_line {E = E} (MayCome head place) (begun_lines head so.runs) end_line start now after held held2 (so.text start r) n) e
+      set_ends start after last held2 held2 old planes head so.runs place h so.to fits so.planes_are (number + 1) result (omega (arith, so.is_number))
+      (reached_line (MayCome head place) (begun_lines head so.runs) end_line start now after held held2 (so.text start r) n) e
 
-  pub bad_there : ReadsNext {E = E} (MayCome head place) now after held held2 (Ok None) → (start : TrayState) → Reached (begun_lines head []) start before held0 → AppliesText {T = T} start after old planes (Err (BadLine number))
-  bad_there n start r = no_run {T = T} {E = E} start now after held held2 old planes head so.runs place h so.to fits so.planes_are number so.is_number (so.text start r) n
+  pub bad_there : {T E : Type 0} → ReadsNext {E = E} (MayCome head place) now after held held2 (Ok None) → (start : TrayState) → Reached (begun_lines head []) start before held0 → AppliesText {T = T} start after old planes (Err (BadLine number))
+  bad_there n start r = no_run start now after held held2 old planes head so.runs place h so.to fits so.planes_are number so.is_number (so.text start r) n
 
-  pub fault_there : (e : E) → ReadsNext {E = E} (MayCome head place) now after held held2 (Err e) → (start : TrayState) → Reached (begun_lines head []) start before held0 → AppliesText {T = T} start after old planes (Err ReadFault)
-  fault_there e n start r = run_fault {T = T} {E = E} start now after held held2 old planes head so.runs place h so.to fits so.planes_are e (so.text start r) n
+  pub fault_there : {T E : Type 0} → (e : E) → ReadsNext {E = E} (MayCome head place) now after held held2 (Err e) → (start : TrayState) → Reached (begun_lines head []) start before held0 → AppliesText {T = T} start after old planes (Err ReadFault)
+  fault_there e n start r = run_fault start now after held held2 old planes head so.runs place h so.to fits so.planes_are e (so.text start r) n
 
   pub fit_still : Fits head planes
   fit_still = subst (Fits head) (sym so.planes_are) (applied_fits head so.runs old fits)
