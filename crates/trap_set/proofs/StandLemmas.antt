@@ -71,7 +71,7 @@ runs_more head runs run place next to is behind row column = record {
   then_later earlier other (inr (same, after)) (inr (same2, after2)) = inr (same ∙ same2, omega (arith, after, after2, is.some))
 
   all_before : (other : Run) → Follows run other → All (λ earlier. Follows earlier other) runs
-  all_before other f = λ k d l. then_later _ other ((to.behind run).0 behind k d l) f
+  all_before other f = λ k d l. then_later (get_or runs k d) other ((to.behind run).0 behind k d l) f
 
   place_before : IsBehind place run → length runs + 1 ≤ run.y * head.width + (run.x + run.count)
   place_before (inl less) =
