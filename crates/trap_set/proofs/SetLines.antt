@@ -1,19 +1,14 @@
 -- The lines of a set, against those of a text: a text has one set, and one first bad line.
-use Rattle.std.proofs.Common.{◌≡◌, ◌≢◌, ◌⊎◌, ℕ, zero, suc, ◌+◌, ◌-◌, ◌*◌, ◌<◌, ◌≤◌, List, [], ◌∷◌, ◌++◌, length, take, drop, map, get_or, refl, sym, ap, ◌∙◌, subst, inl, inr, arith, append_assoc}
-use Rattle.std.specs.List.{All, AllPairs, flat_map}
-use Rattle.std.proofs.lemmas.List.{append-nil, length-append, get_or_append_left, get_or-append_right, take-append-le, take_all}
-use Rattle.std.proofs.lemmas.List.Elements.{All-nil, All-cons, All-append, All-from_get_or}
-use Rattle.std.proofs.lemmas.List.Concat.{flat_map-cons}
-use Rattle.std.proofs.lemmas.Grind.{flat_map-append}
-use Rattle.trap_set.specs.Bytes.{IsShortLine}
-use Rattle.trap_set.specs.Lines.{IsLine, HasNoEnd, BeginSet, BeginsSome, IsBadLine, lines_of}
-use Rattle.trap_set.specs.Numbers.{past_numbers}
-use Rattle.trap_set.specs.Reading.{IsShortRun, run_in}
+use Rattle.std.proofs.Common.{◌≡◌, ℕ, zero, suc, ◌+◌, ◌-◌, ◌≤◌, List, [], ◌∷◌, ◌++◌, length, take, drop, map, get_or, refl, sym, ap, ◌∙◌, subst, arith, append_assoc}
+use Rattle.std.specs.List.{All}
+use Rattle.std.proofs.lemmas.List.{append-nil, length-append, get_or_append_left, get_or-append_right}
+use Rattle.std.proofs.lemmas.List.Elements.{All-nil, All-cons, All-append}
+use Rattle.trap_set.specs.Lines.{IsLine, BeginSet, BeginsSome, IsBadLine, lines_of}
 use Rattle.trap_set.specs.Runs.{Run}
-use Rattle.trap_set.specs.SetText.{SetHead, IsHead, IsRun, IsSet, IsSetFile, Follows, number, title_line, page_line, run_line, end_line, set_lines, set_bytes}
+use Rattle.trap_set.specs.SetText.{SetHead, IsHead, IsRun, IsSet, IsSetFile, Follows, title_line, page_line, run_line, end_line, set_lines}
 use Rattle.trap_set.specs.Standing.{begun_lines}
 use Rattle.trap_set.proofs.LineLemmas.{same_head, same_run, short_head, short_run, numbers_of}
-use Rattle.trap_set.proofs.EndLemmas.{joined, joined_cons, lines_of_line, lines_of_lines, first_of_lines, some_line, nothing_left, title_is_line, page_is_line, run_is_line, end_is_line, run_below}
+use Rattle.trap_set.proofs.EndLemmas.{joined, lines_of_line, lines_of_lines, first_of_lines, nothing_left, title_is_line, page_is_line, run_is_line, end_is_line, run_below}
 
 -- the line of a run is no last line, and that of no other run
 not_end : (run : Run) → run_line run ≡ end_line → ⊥

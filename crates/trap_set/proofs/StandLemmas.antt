@@ -1,21 +1,21 @@
 -- How the reading of a set goes on, and how it ends.
-use Rattle.std.proofs.Common.{◌≡◌, ◌≢◌, ◌⊎◌, ◌↔◌, ℕ, zero, suc, ◌+◌, ◌-◌, ◌*◌, ◌<◌, ◌≤◌, List, [], ◌∷◌, ◌++◌, length, take, drop, map, get_or, Option, Some, None, Result, Ok, Err, IsTrue, refl, sym, ap, ◌∙◌, subst, inl, inr, arith, append_assoc}
-use Rattle.std.specs.List.{All, AllPairs, flat_map}
+use Rattle.std.proofs.Common.{◌≡◌, ℕ, zero, suc, ◌+◌, ◌-◌, ◌*◌, ◌<◌, ◌≤◌, List, [], ◌∷◌, ◌++◌, length, take, map, get_or, Option, Some, None, Result, Ok, Err, IsTrue, refl, sym, ap, ◌∙◌, subst, inl, inr, arith, append_assoc}
+use Rattle.std.specs.List.{All}
 use Rattle.std.proofs.Math.Nat.{mul-le-mul}
-use Rattle.std.proofs.lemmas.List.{append-nil, length-append, get_or_append_left, get_or-append_right}
-use Rattle.std.proofs.lemmas.List.Elements.{All-nil, All-cons, All-append, All-push}
+use Rattle.std.proofs.lemmas.List.{append-nil, length-append, get_or-append_right}
+use Rattle.std.proofs.lemmas.List.Elements.{All-nil, All-push}
 use Rattle.std.proofs.lemmas.List.Quantifiers.{all_pairs_push}
 use Rattle.std.proofs.lemmas.List.Concat.{flat_map-cons}
 use Rattle.std.proofs.lemmas.Grind.{flat_map-append}
 use Rattle.outside.specs.Causes.{Rose, Asks}
-use Rattle.outside.specs.Tray.{TrayState, KeepsTray, Begins}
+use Rattle.outside.specs.Tray.{TrayState, Begins}
 use Rattle.std.proofs.lemmas.Bool.{both_ways}
 use Rattle.outside.proofs.Steps.{kept_tray, rose_before}
 use Rattle.page_model.specs.declared.parts.Plane.{Plane}
 use Rattle.trap_set.specs.Applied.{applied}
-use Rattle.trap_set.specs.Applying.{Fits, IsFull, Differ, HaveRuns, TakesSet, MeetsBadLine, BreaksOff, SaysOf, CountsFaults, KeepsPlanes, EndsSet, SaysEnd, AppliesText, AppliesSet}
+use Rattle.trap_set.specs.Applying.{Fits, IsFull, Differ, CountsFaults, KeepsPlanes, EndsSet, AppliesText, AppliesSet}
 use Rattle.trap_set.specs.Bytes.{ReadsNext}
-use Rattle.trap_set.specs.Lines.{IsLine, HasNoEnd, BeginSet, IsBadLine, lines_of}
+use Rattle.trap_set.specs.Lines.{IsLine, HasNoEnd, lines_of}
 use Rattle.trap_set.specs.Runs.{Run}
 use Rattle.trap_set.specs.SetText.{SetHead, IsHead, IsRun, IsSet, Follows, title_line, page_line, run_line, end_line, set_lines}
 use Rattle.trap_set.specs.Standing.{IsBehind, IsPageLine, MayCome, RunsTo, Reached, begun_lines}

@@ -149,8 +149,8 @@ fn end_of(numbers: &[u32]) -> Place
     requires many { 2 < length numbers.now }
     requires small { slice_index numbers.now 1 + slice_index numbers.now 2 < 2 ^ 32 }
     ensures { result ≡ record {
-        row = slice_index numbers.now 0;
-        column = slice_index numbers.now 1 + slice_index numbers.now 2;
+      row = slice_index numbers.now 0;
+      column = slice_index numbers.now 1 + slice_index numbers.now 2;
     } }
 {
     Place {

@@ -119,7 +119,11 @@ fn next_in(line: &[u8], head: Head, place: Place, numbers: &mut [u32]) -> Next
     if !read_run_line(line, head, numbers) {
         return Next::Bad;
     }
-    if is_behind(place, numbers) { Next::Run } else { Next::Bad }
+    if is_behind(place, numbers) {
+        Next::Run
+    } else {
+        Next::Bad
+    }
 }
 
 fn is_end(line: &[u8]) -> bool

@@ -18,7 +18,7 @@ returns-in-Ok-None g c =
     let start = g.T.Tray.state c.args.tray.now in
     let mid = g.T.Tray.state c.read_title.new.tray in
     let held = held_in c.read_title.new.buf c.read_title.new.unread in
-    no_page start mid (g.T.Tray.state c.read_page.new.tray) held _ c.args.planes.now 2 refl (reached_line (λ (l : List ℕ). l ≡ title_line) [] title_line start start mid [] held (reached_none start) (rw c.in-Ok-true.field-0-test at c.in-Ok-true.ensures.line)) c.in-Ok-None.ensures.line
+    no_page start mid (g.T.Tray.state c.read_page.new.tray) held _ c.args.planes.now 2 refl (reached_line (λ (l : List ℕ). l ≡ title_line) [] title_line start start mid [] held (reached_none start) (rw c.in-Ok-true.field-0-test at c.in-Ok-true.ensures.line)) (rw c.in-Ok-None.field-0-is at c.in-Ok-None.ensures.line)
 
 pub returns-in-Err-read_page : goal.returns-in-Err-read_page
 returns-in-Err-read_page g c =
@@ -35,8 +35,8 @@ returns-then-not-fits g c =
     let held = held_in c.read_title.new.buf c.read_title.new.unread in
     let head = head_in c.in-Ok-Some.head in
     let one = reached_line (λ (l : List ℕ). l ≡ title_line) [] title_line start start mid [] held (reached_none start) (rw c.in-Ok-true.field-0-test at c.in-Ok-true.ensures.line) in
-    let two = reached_line IsPageLine (title_line ∷ []) (page_line head) start mid last held (held_in c.read_page.new.buf c.read_page.new.unread) one c.in-Ok-Some.ensures.line in
-    other_planes start start last [] (held_in c.read_page.new.buf c.read_page.new.unread) c.args.planes.now head c.in-Ok-Some.ensures.range (λ f. both_ways _ c.if-not-fits.true (c.fits.ensures.1 f)) two c.in-Ok-Some.ensures.line.begun
+    let two = reached_line IsPageLine (title_line ∷ []) (page_line head) start mid last held (held_in c.read_page.new.buf c.read_page.new.unread) one (rw c.in-Ok-Some.field-0-is at c.in-Ok-Some.ensures.line) in
+    other_planes start start last [] (held_in c.read_page.new.buf c.read_page.new.unread) c.args.planes.now head (rw c.in-Ok-Some.field-0-is at c.in-Ok-Some.ensures.range) (λ f. both_ways _ c.if-not-fits.true (c.fits.ensures.1 f)) two c.in-Ok-Some.ensures.line.begun
 
 pub returns : goal.returns
 returns g c =
@@ -46,5 +46,5 @@ returns g c =
     let held = held_in c.read_title.new.buf c.read_title.new.unread in
     let head = head_in c.in-Ok-Some.head in
     let one = reached_line (λ (l : List ℕ). l ≡ title_line) [] title_line start start mid [] held (reached_none start) (rw c.in-Ok-true.field-0-test at c.in-Ok-true.ensures.line) in
-    let two = reached_line IsPageLine (title_line ∷ []) (page_line head) start mid last held (held_in c.read_page.new.buf c.read_page.new.unread) one c.in-Ok-Some.ensures.line in
+    let two = reached_line IsPageLine (title_line ∷ []) (page_line head) start mid last held (held_in c.read_page.new.buf c.read_page.new.unread) one (rw c.in-Ok-Some.field-0-is at c.in-Ok-Some.ensures.line) in
     c.apply_runs.ensures start two

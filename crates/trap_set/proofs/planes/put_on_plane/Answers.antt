@@ -1,4 +1,4 @@
-use Rattle.std.proofs.Common.{refl, sym, ◌∙◌, ap, arith, ◌≡◌, ◌+◌, slice_index, ℕ}
+use Rattle.std.proofs.Common.{refl, sym, ◌∙◌, ap, arith, ◌≡◌, ◌+◌, slice_index}
 use Rattle.std.proofs.lemmas.List.{get_or-drop}
 use Rattle.trap_set.specs.Reading.{run_in}
 use Rattle.trap_set.proofs.RunLemmas.{same_plane}

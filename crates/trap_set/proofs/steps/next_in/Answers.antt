@@ -1,8 +1,6 @@
-use Rattle.std.proofs.Common.{sym, ◌∙◌, subst, inl, inr, ◌≡◌}
+use Rattle.std.proofs.Common.{sym, ◌∙◌, subst, inl, inr}
 use Rattle.std.proofs.lemmas.Bool.{both_ways}
 use Rattle.trap_set.specs.Reading.{head_in, run_in}
-use Rattle.trap_set.specs.Runs.{Run}
-use Rattle.trap_set.specs.SetText.{IsRun, run_line}
 use Rattle.trap_set.specs.Standing.{IsBehind}
 use Rattle.trap_set.proofs.SetLines.{one_run}
 use Rattle.trap_set.proofs.steps.next_in.Goals as goal

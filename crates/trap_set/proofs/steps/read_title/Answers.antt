@@ -1,4 +1,4 @@
-use Rattle.std.proofs.Common.{◌≡◌, ◌↔◌, IsTrue, sym, subst, List, ℕ}
+use Rattle.std.proofs.Common.{◌≡◌, ◌↔◌, IsTrue, subst, List, ℕ}
 use Rattle.trap_set.specs.SetText.{title_line}
 use Rattle.trap_set.proofs.NextLemmas.{next_none, short_title, title_found}
 use Rattle.trap_set.proofs.steps.read_title.Goals as goal
