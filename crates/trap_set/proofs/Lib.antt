@@ -6,3 +6,8 @@ pub mod TextLemmas
 pub mod NumberLemmas
 pub mod LineLemmas
 pub mod SkipLemmas
+pub mod EndLemmas
+pub mod SetLines
+pub mod PlaneLemmas
+pub mod NextLemmas
+pub mod StandLemmas

@@ -90,7 +90,7 @@ begins_digits text n e plain = record {
 is_digit : (c : ℕ) → IsInRange 48 57 c → is_ascii_digit c ≡ true
 is_digit c h = let low : 48 ≤ c = h.0 in let high : c ≤ 57 = h.1 in grind (arith, nat_tests)
 
-decimal_digits : (n : ℕ) → n < 2 ^ 64 → AreDigits (decimal n)
+pub decimal_digits : (n : ℕ) → n < 2 ^ 64 → AreDigits (decimal n)
 decimal_digits n small k l = is_digit _ (digit_at (decimal n) k (decimal_is_IsNumeral n small).0.1 l)
 
 -- the digits of a number that are at the front of a text are all that the text begins with

@@ -134,7 +134,7 @@ FoundBelow old new x y n found = MatchOption found
     ((k : ℕ) → k < n → begins old new (k % wide old) (k / wide old) ≡ true → covers (run_at old new (k % wide old) (k / wide old)) x y ≡ false)
     (λ run. (k : ℕ) × (begins old new (k % wide old) (k / wide old) ≡ true) × (covers (run_at old new (k % wide old) (k / wide old)) x y ≡ true) × (run ≡ run_at old new (k % wide old) (k / wide old)))
 
-find_both : (test : Run → Bool) (xs ys : List Run) → find test (xs ++ ys) ≡ or_else (find test xs) (find test ys)
+pub find_both : (test : Run → Bool) (xs ys : List Run) → find test (xs ++ ys) ≡ or_else (find test xs) (find test ys)
 find_both test [] ys = refl
 find_both test (x ∷ xs) ys = elim (cases_Bool (test x)) [ inl t ↦ rw t refl | inr f ↦ rw f (find_both test xs ys) ]
 
@@ -180,12 +180,12 @@ tint_after old new x y c in_row in_page plate as_many = by (covering (trap_runs 
         absurd (both_ways _ (none place (mul-add-lt y (wide old) found.0 (tall old) in_page low) beg) cover))
   ]
 
-same_plane : (p q : Plane) → p.width ≡ q.width → p.height ≡ q.height → p.maxval ≡ q.maxval → p.tints ≡ q.tints → p ≡ q
+pub same_plane : (p q : Plane) → p.width ≡ q.width → p.height ≡ q.height → p.maxval ≡ q.maxval → p.tints ≡ q.tints → p ≡ q
 same_plane p q a b c d = ap (λ (w : ℕ). record p { width = w }) a ∙ ap (λ (h : ℕ). record { width = q.width; height = h; maxval = p.maxval; tints = p.tints }) b
     ∙ ap (λ (m : ℕ). record { width = q.width; height = q.height; maxval = m; tints = p.tints }) c ∙ ap (λ (ts : List ℕ). record { width = q.width; height = q.height; maxval = q.maxval; tints = ts }) d
 
 pub round : (old new : List Plane) → ArePair old new → applied (trap_runs old new) old ≡ new
-round old new pair = sym (list_below-of no_plane (applied_plane (trap_runs old new) old) (length old) new pair.as_many each) where
+round old new pair = sym (list_below-of no_plane (λ c. applied_plane (trap_runs old new) c (plane_at old c)) (length old) new pair.as_many each) where
   place_of : (c k : ℕ) → c < length new → k < wide old * tall old → slice_index (tints_of new c) k ≡ tint_by (covering (trap_runs old new) (k % wide old) (k / wide old)) c (slice_index (tints_of old c) k)
   place_of c k l m =
       let some = (plane_of old 0 pair.before (omega (arith, pair.before.some))).some_width in
@@ -195,15 +195,17 @@ round old new pair = sym (list_below-of no_plane (applied_plane (trap_runs old n
       sym (ap (λ (i : ℕ). tint_by (covering (trap_runs old new) (k % wide old) (k / wide old)) c (slice_index (tints_of old c) i)) (sym whole) ∙ after
       ∙ ap (λ (w : ℕ). slice_index (tints_of new c) (k / wide old * w + k % wide old)) pair.as_wide ∙ ap (slice_index (tints_of new c)) whole)
 
-  each : (c : ℕ) → c < length old → plane_at new c ≡ applied_plane (trap_runs old new) old c
+  each : (c : ℕ) → c < length old → plane_at new c ≡ applied_plane (trap_runs old new) c (plane_at old c)
   each c l =
       let m : c < length new = omega (arith, pair.as_many) in
       let mine = like_of new c pair.after m in
       let theirs = like_of old c pair.before l in
+      let before : length (tints_of old c) ≡ wide old * tall old = tints_count old c pair.before l in
       let long : length (tints_of new c) ≡ wide old * tall old = tints_count new c pair.after m ∙ ap (λ (w : ℕ). w * tall new) pair.as_wide ∙ ap (λ (h : ℕ). wide old * h) pair.as_tall in
-      same_plane (plane_at new c) (applied_plane (trap_runs old new) old c)
+      same_plane (plane_at new c) (applied_plane (trap_runs old new) c (plane_at old c))
       (mine.as_wide ∙ pair.as_wide ∙ sym theirs.as_wide) (mine.as_tall ∙ pair.as_tall ∙ sym theirs.as_tall) (mine.as_deep ∙ pair.as_deep ∙ sym theirs.as_deep)
-      (list_below-from _ (wide old * tall old) (tints_of new c) long (λ k n. place_of c k m n))
+      (list_below-from _ (length (tints_of old c)) (tints_of new c) (long ∙ sym before)
+      (λ k n. place_of c k m (subst (λ (a : ℕ). k < a) before n) ∙ ap (λ (w : ℕ). tint_by (covering (trap_runs old new) (k % w) (k / w)) c (slice_index (tints_of old c) k)) (sym theirs.as_wide)))
 
 -- planes that are the same change nowhere
 none_changes : (planes : List Plane) (x y n : ℕ) → any_below (λ c. not (nat_eq (tint_at planes c x y) (tint_at planes c x y))) n ≡ false
@@ -222,30 +224,29 @@ tint_twice : (o : Option Run) (c tint : ℕ) → tint_by o c (tint_by o c tint) 
 tint_twice None c tint = refl
 tint_twice (Some run) c tint = refl
 
-applied_count : (runs : List Run) (planes : List Plane) → length (applied runs planes) ≡ length planes
-applied_count runs planes = length-list_below (applied_plane runs planes) (length planes)
+pub applied_count : (runs : List Run) (planes : List Plane) → length (applied runs planes) ≡ length planes
+applied_count runs planes = length-list_below (λ c. applied_plane runs c (plane_at planes c)) (length planes)
+
+pub applied_at : (runs : List Run) (planes : List Plane) (c : ℕ) → c < length planes → plane_at (applied runs planes) c ≡ applied_plane runs c (plane_at planes c)
+applied_at runs planes c l = list_below-at (λ k. applied_plane runs k (plane_at planes k)) (length planes) c no_plane l
+
+plane_twice : (runs : List Run) (c : ℕ) (plane : Plane) → applied_plane runs c (applied_plane runs c plane) ≡ applied_plane runs c plane
+plane_twice runs c plane =
+    let w = plane.width in
+    let tint = λ (k : ℕ). tint_by (covering runs (k % w) (k / w)) c (slice_index plane.tints k) in
+    let n = length plane.tints in
+    let same : list_below tint n ≡ (applied_plane runs c (applied_plane runs c plane)).tints =
+    list_below-from _ (length (list_below tint n)) (list_below tint n) refl
+    (λ k l.
+    (let m : k < n = omega (arith, l, length-list_below tint n) in
+    let read : slice_index (list_below tint n) k ≡ tint k = list_below-at tint n k 0 m in
+    read ∙ sym (ap (tint_by (covering runs (k % w) (k / w)) c) read ∙ tint_twice (covering runs (k % w) (k / w)) c (slice_index plane.tints k)))) in
+    sym (same_plane (applied_plane runs c plane) (applied_plane runs c (applied_plane runs c plane)) refl refl refl same)
 
 pub twice : (runs : List Run) (planes : List Plane) → applied runs (applied runs planes) ≡ applied runs planes
-twice runs planes = sym (list_below-of no_plane (applied_plane runs (applied runs planes)) (length (applied runs planes)) (applied runs planes) refl each) where
-  at_plate : (c : ℕ) → c < length planes → plane_at (applied runs planes) c ≡ applied_plane runs planes c
-  at_plate c l = list_below-at (applied_plane runs planes) (length planes) c no_plane l
-
-  each : (c : ℕ) → c < length (applied runs planes) → plane_at (applied runs planes) c ≡ applied_plane runs (applied runs planes) c
+twice runs planes = sym (list_below-of no_plane (λ c. applied_plane runs c (plane_at (applied runs planes) c)) (length (applied runs planes)) (applied runs planes) refl each) where
+  each : (c : ℕ) → c < length (applied runs planes) → plane_at (applied runs planes) c ≡ applied_plane runs c (plane_at (applied runs planes) c)
   each c l =
       let m : c < length planes = omega (arith, l, applied_count runs planes) in
-      let w = wide planes in
-      let here = at_plate c m in
-      let first = at_plate 0 (omega arith) in
-      let as_wide : wide (applied runs planes) ≡ w = ap (λ (p : Plane). p.width) first in
-      let as_tall : tall (applied runs planes) ≡ tall planes = ap (λ (p : Plane). p.height) first in
-      let tint = λ (k : ℕ). tint_by (covering runs (k % w) (k / w)) c (slice_index (tints_of planes c) k) in
-      let tints : tints_of (applied runs planes) c ≡ list_below tint (w * tall planes) = ap (λ (p : Plane). p.tints) here in
-      let long : length (tints_of (applied runs planes) c) ≡ wide (applied runs planes) * tall (applied runs planes) =
-      ap length tints ∙ length-list_below tint (w * tall planes) ∙ sym (ap (λ (a : ℕ). a * tall (applied runs planes)) as_wide ∙ ap (λ (a : ℕ). w * a) as_tall) in
-      same_plane (plane_at (applied runs planes) c) (applied_plane runs (applied runs planes) c) refl refl refl
-      (list_below-from _ (wide (applied runs planes) * tall (applied runs planes)) (tints_of (applied runs planes) c) long
-      (λ k n.
-      (let n2 : k < w * tall planes = subst (λ (a : ℕ). k < a) (ap (λ (a : ℕ). a * tall (applied runs planes)) as_wide ∙ ap (λ (a : ℕ). w * a) as_tall) n in
-      let read : slice_index (tints_of (applied runs planes) c) k ≡ tint k = ap (λ (ts : List ℕ). slice_index ts k) tints ∙ list_below-at tint (w * tall planes) k 0 n2 in
-      read ∙ sym (ap (λ (a : ℕ). tint_by (covering runs (k % a) (k / a)) c (slice_index (tints_of (applied runs planes) c) k)) as_wide
-      ∙ ap (tint_by (covering runs (k % w) (k / w)) c) read ∙ tint_twice (covering runs (k % w) (k / w)) c (slice_index (tints_of planes c) k)))))
+      let here = applied_at runs planes c m in
+      here ∙ sym (ap (applied_plane runs c) here ∙ plane_twice runs c (plane_at planes c))

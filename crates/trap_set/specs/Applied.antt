@@ -1,8 +1,7 @@
-use Rattle.std.specs.Prelude.{ℕ, ◌*◌, ◌/◌, ◌%◌, List, length, slice_index, find, Option, Some, None}
+use Rattle.std.specs.Prelude.{ℕ, ◌/◌, ◌%◌, List, length, slice_index, find, Option, Some, None}
 use Rattle.page_model.specs.declared.parts.Plane.{Plane}
-use Rattle.page_model.specs.Planes.{plane_at, tints_of}
+use Rattle.page_model.specs.Planes.{plane_at}
 use Rattle.lists.specs.Words.{list_below}
-use Rattle.plane_shapes.specs.Shapes.{wide, tall}
 use Rattle.trap_set.specs.Runs.{Run, covers}
 
 -- the first run that covers the sample
@@ -14,12 +13,12 @@ abbrev pub tint_by : Option Run → ℕ → ℕ → ℕ
 tint_by None c tint = tint
 tint_by (Some run) c tint = slice_index run.tints c
 
--- plane c with the runs' tints on the samples that they cover, and its own elsewhere
-abbrev pub applied_plane : List Run → List Plane → ℕ → Plane
-applied_plane runs planes c = let plane = plane_at planes c in record plane {
-  tints = list_below (λ k. tint_by (covering runs (k % wide planes) (k / wide planes)) c (slice_index (tints_of planes c) k)) (wide planes * tall planes);
+-- a plane with the runs' tints for plate c on the samples that they cover, and its own elsewhere
+abbrev pub applied_plane : List Run → ℕ → Plane → Plane
+applied_plane runs c plane = record plane {
+  tints = list_below (λ k. tint_by (covering runs (k % plane.width) (k / plane.width)) c (slice_index plane.tints k)) (length plane.tints);
 }
 
 -- all planes with the runs applied
 abbrev pub applied : List Run → List Plane → List Plane
-applied runs planes = list_below (applied_plane runs planes) (length planes)
+applied runs planes = list_below (λ c. applied_plane runs c (plane_at planes c)) (length planes)

@@ -1,4 +1,6 @@
 pub mod Applied
+pub mod Applying
+pub mod Bytes
 pub mod Lines
 pub mod Numbers
 pub mod Reading
@@ -6,3 +8,4 @@ pub mod Runs
 pub mod SetText
 pub mod Holding
 pub mod Rows
+pub mod Standing

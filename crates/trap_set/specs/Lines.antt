@@ -1,5 +1,5 @@
 -- Where the text of no set has its fault: at the first line that no set goes on with.
-use Rattle.std.specs.Prelude.{◌≡◌, ℕ, ◌+◌, ◌≤◌, ◌==◌, List, [], ◌∷◌, length, take, if◌then◌else◌}
+use Rattle.std.specs.Prelude.{◌≡◌, ◌≢◌, ℕ, ◌+◌, ◌≤◌, ◌==◌, List, [], ◌∷◌, ◌++◌, length, take, All, if◌then◌else◌}
 use Rattle.trap_set.specs.Runs.{Run}
 use Rattle.trap_set.specs.SetText.{SetHead, IsSet, IsSetFile, set_lines}
 
@@ -12,6 +12,16 @@ before_first b (text ∷ later) = (b ∷ text) ∷ later
 abbrev pub lines_of : List ℕ → List (List ℕ)
 lines_of [] = [] ∷ []
 lines_of (b ∷ bytes) = if b == 10 then (b ∷ []) ∷ lines_of bytes else before_first b (lines_of bytes)
+
+-- none of the bytes ends a line
+abbrev pub HasNoEnd : List ℕ → Type 0
+HasNoEnd text = All (λ b. b ≢ 10) text
+
+-- a line with its LF, and no more
+pub record IsLine (line : List ℕ) : Type 0 where
+  pub text : List ℕ
+  pub is : line ≡ text ++ 10 ∷ []
+  pub one : HasNoEnd text
 
 -- the first k lines of the text are those of some set
 pub record BeginSet (bytes : List ℕ) (k : ℕ) (head : SetHead) (runs : List Run) : Type 0 where

@@ -3,7 +3,7 @@
 ghost use Rattle.std.specs.Prelude.{◌≡◌, ℕ, [], List, All, true};
 ghost use Rattle.trap_set.specs.Applied.{applied};
 ghost use Rattle.trap_set.specs.Runs.{Run, ArePair, changes, covers, trap_runs};
-ghost use Rattle.trap_set.specs.SetText.{IsSet, head_of};
+ghost use Rattle.trap_set.specs.SetText.{IsSet, IsSetFile, SetHead, head_of};
 
 use page_model::parts::PlaneList;
 
@@ -41,4 +41,12 @@ pub fn twice_law(planes: &PlaneList)
     ensures { (runs : List Run) → applied runs (applied runs planes.now) ≡ applied runs planes.now }
 {
     let _planes = planes;
+}
+
+/// A text has one set at most.
+pub fn one_set_law(text: &[u8])
+    ensures { (a b : SetHead) (runs others : List Run) → IsSetFile text.now a runs
+        → IsSetFile text.now b others → (a ≡ b) × (runs ≡ others) }
+{
+    let _text = text;
 }

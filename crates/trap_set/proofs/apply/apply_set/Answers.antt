@@ -1,0 +1,8 @@
+use Rattle.trap_set.proofs.StandLemmas.{begun_applied, begin_failed}
+use Rattle.trap_set.proofs.apply.apply_set.Goals as goal
+
+pub returns-in-Ok : goal.returns-in-Ok
+returns-in-Ok g c = begun_applied c.args.name.now (g.T.Tray.state c.args.tray.now) (g.T.Tray.state c.begin.new.self) (g.T.Tray.state c.apply_text.new.tray) c.in-Ok.field-0 c.args.planes.now c.apply_text.new.planes c.apply_text.result c.in-Ok.ensures c.apply_text.ensures
+
+pub returns-in-Err : goal.returns-in-Err
+returns-in-Err g c = begin_failed c.args.name.now (g.T.Tray.state c.args.tray.now) (g.T.Tray.state c.begin.new.self) c.in-Err.field-0 c.args.planes.now c.in-Err.ensures

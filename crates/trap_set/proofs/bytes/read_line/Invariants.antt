@@ -1,0 +1,14 @@
+use Rattle.std.proofs.Common.{◌<◌, ◌-◌, length}
+use Rattle.trap_set.specs.Bytes.{IsIn, held_in, most_line}
+use Rattle.trap_set.proofs.NextLemmas.{ReadSoFar}
+use Rattle.trap_set.proofs.bytes.read_line.Given as goal
+
+abbrev pub invariant-loop-tray : goal.invariant-loop-tray
+invariant-loop-tray g l = record {
+  so : ReadSoFar (g.T.Tray.state l.fn.tray) (g.T.Tray.state l.tray) (held_in l.fn.buf l.fn.unread) (held_in l.buf l.unread) l.line.items;
+  within : IsIn l.buf l.unread;
+  room : 0 < length l.buf;
+}
+
+abbrev pub decreases-loop-tray : goal.decreases-loop-tray
+decreases-loop-tray g l = most_line - length l.line.items

@@ -1,0 +1,76 @@
+// The lines of the file that is begun, one after another.
+
+ghost use Rattle.std.specs.Prelude.{◌<◌, IsTrue, length};
+ghost use Rattle.trap_set.specs.Bytes.{GivesByte, IsIn, IsShortLine, ReadsNext, found_line, held_in};
+
+use arrayvec::ArrayVec;
+use outside::tray::{Failed, Tray};
+
+/// A line of a set with its LF. No line of a set has as many bytes as there are places.
+pub(crate) type SetLine = ArrayVec<u8, 160>;
+
+/// Which bytes of a buffer were read from the file and not given out yet: those from one place to before another.
+#[derive(Clone, Copy, Drop)]
+pub(crate) struct Unread {
+    pub(crate) from: usize,
+    pub(crate) to: usize,
+}
+
+/// The next byte of the file; `None` at its end.
+pub(crate) fn next_byte<T: Tray>(
+    tray: &mut T,
+    buf: &mut [u8],
+    unread: &mut Unread,
+) -> Result<Option<u8>, Failed>
+    requires begun { IsTrue (T.state tray.old).begun }
+    requires room { 0 < length buf.old }
+    requires within { IsIn buf.old unread.old }
+    ensures byte { GivesByte (T.state tray.old) (T.state tray.new)
+        (held_in buf.old unread.old) (held_in buf.new unread.new) result }
+    ensures within { IsIn buf.new unread.new }
+{
+    if unread.from < unread.to {
+        let byte = buf[unread.from];
+        unread.from += 1;
+        return Ok(Some(byte));
+    }
+    match tray.read(buf) {
+        Ok(0) => Ok(None),
+        Ok(count) => {
+            *unread = Unread { from: 1, to: count };
+            Ok(Some(buf[0]))
+        }
+        Err(Failed) => Err(Failed),
+    }
+}
+
+/// Reads the next line, and says whether there is one: a line without its LF and one that is too long are none.
+pub(crate) fn read_line<T: Tray>(
+    tray: &mut T,
+    buf: &mut [u8],
+    unread: &mut Unread,
+    line: &mut SetLine,
+) -> Result<bool, Failed>
+    requires begun { IsTrue (T.state tray.old).begun }
+    requires room { 0 < length buf.old }
+    requires within { IsIn buf.old unread.old }
+    ensures line { ReadsNext IsShortLine (T.state tray.old) (T.state tray.new)
+        (held_in buf.old unread.old) (held_in buf.new unread.new)
+        (found_line result line.new.items) }
+    ensures within { IsIn buf.new unread.new }
+{
+    line.clear();
+    while !line.is_full() {
+        match next_byte(tray, buf, unread) {
+            Ok(Some(byte)) => {
+                line.push(byte);
+                if byte == b'\n' {
+                    return Ok(true);
+                }
+            }
+            Ok(None) => return Ok(false),
+            Err(Failed) => return Err(Failed),
+        }
+    }
+    Ok(false)
+}

@@ -1,0 +1,141 @@
+// The lines of a set, as they are looked for one after another.
+
+ghost use Rattle.std.specs.Prelude.{◌≡◌, ◌⊎◌, ◌↔◌, ◌+◌, ◌<◌, ◌≤◌, IsTrue, IfOk, IfSome, length};
+ghost use Rattle.trap_set.specs.Bytes.{IsIn, ReadsNext, found_line, held_in};
+ghost use Rattle.trap_set.specs.Reading.{head_in, run_in};
+ghost use Rattle.trap_set.specs.SetText.{IsHead, IsRun, end_line, run_line, title_line};
+ghost use Rattle.trap_set.specs.Standing.{IsBehind, IsPageLine, MayCome, found_next, found_page};
+
+use crate::bytes::{SetLine, Unread, read_line};
+use crate::lines::{Head, read_page_line, read_run_line};
+use outside::tray::{Failed, Tray};
+
+/// Where the next run may begin: the end of the last one.
+#[derive(Clone, Copy, Drop)]
+pub(crate) struct Place {
+    pub(crate) row: u32,
+    pub(crate) column: u32,
+}
+
+/// What the line behind a page line or a run is.
+#[derive(Clone, Copy, Drop)]
+pub(crate) enum Next {
+    Run,
+    End,
+    Bad,
+}
+
+/// Reads the first line, and says whether a set may begin with it.
+pub(crate) fn read_title<T: Tray>(
+    tray: &mut T,
+    buf: &mut [u8],
+    unread: &mut Unread,
+) -> Result<bool, Failed>
+    requires begun { IsTrue (T.state tray.old).begun }
+    requires room { 0 < length buf.old }
+    requires within { IsIn buf.old unread.old }
+    ensures line { ReadsNext (λ line. line ≡ title_line) (T.state tray.old) (T.state tray.new)
+        (held_in buf.old unread.old) (held_in buf.new unread.new)
+        (found_line result title_line) }
+    ensures within { IsIn buf.new unread.new }
+{
+    let mut line = SetLine::new();
+    match read_line(tray, buf, unread, &mut line) {
+        Ok(true) => Ok(is_title(line.as_slice())),
+        Ok(false) => Ok(false),
+        Err(Failed) => Err(Failed),
+    }
+}
+
+fn is_title(line: &[u8]) -> bool
+    ensures { IsTrue result ↔ (line.now ≡ title_line) }
+{
+    line == b"trap set\n".as_slice()
+}
+
+/// Reads the second line, where it is a page line.
+pub(crate) fn read_page<T: Tray>(
+    tray: &mut T,
+    buf: &mut [u8],
+    unread: &mut Unread,
+) -> Result<Option<Head>, Failed>
+    requires begun { IsTrue (T.state tray.old).begun }
+    requires room { 0 < length buf.old }
+    requires within { IsIn buf.old unread.old }
+    ensures line { ReadsNext IsPageLine (T.state tray.old) (T.state tray.new)
+        (held_in buf.old unread.old) (held_in buf.new unread.new) (found_page result) }
+    ensures range { IfOk result (λ page. IfSome page (λ head. IsHead (head_in head))) }
+    ensures within { IsIn buf.new unread.new }
+{
+    let mut line = SetLine::new();
+    match read_line(tray, buf, unread, &mut line) {
+        Ok(true) => Ok(read_page_line(line.as_slice())),
+        Ok(false) => Ok(None),
+        Err(Failed) => Err(Failed),
+    }
+}
+
+/// Reads a later line, and puts the numbers of a run into the list.
+pub(crate) fn read_next<T: Tray>(
+    tray: &mut T,
+    buf: &mut [u8],
+    unread: &mut Unread,
+    head: Head,
+    place: Place,
+    numbers: &mut [u32],
+) -> Result<Next, Failed>
+    requires begun { IsTrue (T.state tray.old).begun }
+    requires room { 0 < length buf.old }
+    requires within { IsIn buf.old unread.old }
+    requires head { IsHead (head_in head) }
+    requires many { length numbers.old ≡ head.plates + 3 }
+    ensures line { ReadsNext (MayCome (head_in head) place) (T.state tray.old) (T.state tray.new)
+        (held_in buf.old unread.old) (held_in buf.new unread.new)
+        (found_next result numbers.new) }
+    ensures run { IfOk result (λ next. next ≡ Next.Run → IsRun (head_in head) (run_in numbers.new)
+        × IsBehind place (run_in numbers.new)) }
+    ensures within { IsIn buf.new unread.new }
+{
+    let mut line = SetLine::new();
+    match read_line(tray, buf, unread, &mut line) {
+        Ok(true) => Ok(next_in(line.as_slice(), head, place, numbers)),
+        Ok(false) => Ok(Next::Bad),
+        Err(Failed) => Err(Failed),
+    }
+}
+
+// What a whole line is.
+fn next_in(line: &[u8], head: Head, place: Place, numbers: &mut [u32]) -> Next
+    requires head { IsHead (head_in head) }
+    requires many { length numbers.old ≡ head.plates + 3 }
+    ensures end { result ≡ Next.End → line.now ≡ end_line }
+    ensures run { result ≡ Next.Run → (line.now ≡ run_line (run_in numbers.new))
+        × IsRun (head_in head) (run_in numbers.new) × IsBehind place (run_in numbers.new) }
+    ensures bad { result ≡ Next.Bad → MayCome (head_in head) place line.now → ⊥ }
+{
+    if is_end(line) {
+        return Next::End;
+    }
+    if !read_run_line(line, head, numbers) {
+        return Next::Bad;
+    }
+    if is_behind(place, numbers) {
+        Next::Run
+    } else {
+        Next::Bad
+    }
+}
+
+fn is_end(line: &[u8]) -> bool
+    ensures { IsTrue result ↔ (line.now ≡ end_line) }
+{
+    line == b"end\n".as_slice()
+}
+
+// Whether the run of these numbers begins at the place or behind it.
+fn is_behind(place: Place, numbers: &[u32]) -> bool
+    requires { 2 < length numbers.now }
+    ensures { IsTrue result ↔ IsBehind place (run_in numbers.now) }
+{
+    place.row < numbers[0] || (place.row == numbers[0] && place.column <= numbers[1])
+}
