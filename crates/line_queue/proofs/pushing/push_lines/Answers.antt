@@ -1,0 +1,9 @@
+use Rattle.std.proofs.Common.{slice_index_or, rules, sym, ap, subst}
+use Rattle.line_queue.specs.declared.rule.PassView.{PassView}
+use Rattle.line_queue.specs.Rule.{IsAbove}
+use Rattle.line_queue.proofs.Pushes.{above_next}
+use Rattle.line_queue.proofs.pushing.push_lines.Goals as goal
+
+pub push_line-requires-clause-above : goal.push_line-requires-clause-above
+push_line-requires-clause-above g c = subst (IsAbove (slice_index_or c.args.lines.now c.loop.next 0)) (sym (ap (λ (v : PassView). v.pushed) c.loop.invariant.1))
+    (above_next c.args.lines.now c.loop.next 0 c.requires.ascends (search rules))

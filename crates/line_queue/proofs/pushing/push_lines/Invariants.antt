@@ -1,0 +1,7 @@
+use Rattle.std.proofs.Common.{◌≡◌, ◌≤◌, true, [], length, take}
+use Rattle.crossbeam_queue.specs.Passes.{view, IsPassOf}
+use Rattle.line_queue.specs.Rule.{pass_view, whole}
+use Rattle.line_queue.proofs.pushing.push_lines.Given as goal
+
+abbrev pub invariant-loop : goal.invariant-loop
+invariant-loop g l = IsPassOf l.queue l.pass × (view l.pass ≡ pass_view whole true (take l.next l.lines) []) × (l.next ≤ length l.lines)

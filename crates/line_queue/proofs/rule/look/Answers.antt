@@ -1,0 +1,5 @@
+use Rattle.line_queue.proofs.Keeps.{learns}
+use Rattle.line_queue.proofs.rule.look.Goals as goal
+
+pub learn_as-requires-clause-rule : goal.learn_as-requires-clause-rule
+learn_as-requires-clause-rule g = learns _ _

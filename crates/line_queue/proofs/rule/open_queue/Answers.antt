@@ -1,0 +1,5 @@
+use Rattle.line_queue.proofs.Keeps.{begins}
+use Rattle.line_queue.proofs.rule.open_queue.Goals as goal
+
+pub ruled-requires-clause-rule : goal.ruled-requires-clause-rule
+ruled-requires-clause-rule g = begins

@@ -1,0 +1,16 @@
+//! A queue of line numbers that threads share under a rule, and workers that drain it.
+#![tactic(auto)]
+
+mod pushing;
+mod rule;
+mod serving;
+#[cfg(test)]
+mod tests;
+mod work;
+
+pub use pushing::push_lines;
+pub use rule::{
+    LinePass, LineQueue, join_passes, look, open_queue, pop_line, push_line, split_pass,
+};
+pub use serving::{Kept, Rooms, rooms_of, serve_all};
+pub use work::LineWork;
