@@ -1,6 +1,7 @@
 -- The report and the receipt of a sample page.
-use Rattle.std.proofs.Common.{◌≡◌, ℕ, ◌*◌, ◌<◌, List, ◌++◌, take, None, Result, Ok, Err, MatchResult, inl, inr, refl, sym, ap, ◌∙◌, subst}
+use Rattle.std.proofs.Common.{◌≡◌, ℕ, ◌*◌, ◌<◌, List, ◌++◌, take, Some, None, Result, Ok, Err, MatchResult, inl, inr, refl, sym, ap, ◌∙◌, subst}
 use Rattle.std.proofs.lemmas.Bool.{cases_lt}
+use Rattle.band_claims.specs.Receipt.{Receipt}
 use Rattle.outside.specs.declared.tray.Failed.{Failed}
 use Rattle.outside.specs.Rack.{RackState, Tells}
 use Rattle.page_model.specs.declared.parts.PageParts.{PageParts}
@@ -13,9 +14,9 @@ use Rattle.trap_report.specs.Report.{report_of}
 use Rattle.trap_words.specs.Words.{SampleWords}
 use Rattle.trap_cli.specs.declared.outcome.Outcome.{Outcome}
 use Rattle.trap_cli.specs.Commands.{sample_band}
-use Rattle.trap_report.specs.Statuses.{not_written}
+use Rattle.trap_report.specs.Statuses.{done, not_written}
 use Rattle.trap_cli.specs.Endings.{EndsSample, IsSmall, MakesReport, sample_of, sample_report}
-use Rattle.trap_cli.specs.Endings.AnswersSample.{told_in_part}
+use Rattle.trap_cli.specs.Endings.AnswersSample.{told, told_in_part}
 
 pub is_small : (words : SampleWords) → (most_samples < 4 * words.width * words.height → ⊥) → IsSmall words
 is_small words not_large = elim (cases_lt most_samples (4 * words.width * words.height)) [ inl large ↦ absurd (not_large large) | inr small ↦ small ]
@@ -29,4 +30,11 @@ pub told_a_part : (words : SampleWords) (text : List ℕ) (a b : RackState) (fai
 told_a_part words text a b failed small is tells = record {
   files = record { keeps = tells.keeps; asked = tells.asked; is_open = tells.is_open; files = tells.files };
   answer = told_in_part small refl tells.cause (λ told. (let front = tells.part told in (front.0, front.1 ∙ ap (λ (t : List ℕ). a.told ++ take front.0 t) is))) refl;
+}
+
+-- The report was told whole, and the table at which the page was trapped is handed on.
+pub told_whole : (words : SampleWords) (text : List ℕ) (a b : RackState) (receipt : Receipt) (x : Unit {0}) → IsSmall words → text ≡ sample_report words → IsWholeReceipt (sample_of words) sample_band receipt → Tells {T = Unit {0}} {E = Failed} text a b (Ok x) → EndsSample words a b done (Some receipt)
+told_whole words text a b receipt x small is whole tells = record {
+  files = record { keeps = tells.keeps; asked = tells.asked; is_open = tells.is_open; files = tells.files };
+  answer = told small refl tells.well (λ tell. tells.told tell ∙ ap (λ (t : List ℕ). a.told ++ t) is) (receipt, refl, whole);
 }
