@@ -1,5 +1,5 @@
 -- Where pages begin and end, and spaces in a statement's place.
-use Rattle.std.proofs.Common.{◌≡◌, ℕ, suc, ◌<◌, ◌≤◌, ◌+◌, ◌-◌, min, max, List, ◌∷◌, ◌++◌, length, map, take, drop, get_or, refl, sym, ap, ◌∙◌, arith, add-one}
+use Rattle.std.proofs.Common.{◌≡◌, ℕ, suc, ◌<◌, ◌+◌, ◌-◌, min, max, List, ◌∷◌, ◌++◌, length, map, take, drop, get_or, sym, ap, ◌∙◌, arith}
 use Rattle.std.specs.Prelude.{filter, fold, replicate, slice_index}
 use Rattle.std.proofs.lemmas.List.{drop_min, get_or-map, length-drop, length-take, take_min}
 use Rattle.page_jobs.specs.declared.passages.Passage.{Passage}
