@@ -39,11 +39,12 @@ fn ends_so(
     Ok(ends(alloc, &words, tray, rack, status, text))
 }
 
-// Each call of the tray at which a run fails, with what it tells: the job is read in so many calls, and each plate in three.
+// From which call of the tray on a failed one is told so: each file is begun by a call and read to its end by a last one. The
+// job takes four reads of a grain, each plate eleven for the bytes of its header and one for its samples.
 const LINES: [(u64, &str); 3] = [
     (0, "read fault: job\n"),
     (6, "read fault: plate 0\n"),
-    (9, "read fault: plate 1\n"),
+    (20, "read fault: plate 1\n"),
 ];
 
 // What is told where that call of the tray fails.
@@ -59,7 +60,7 @@ fn line_at(call: u64) -> &'static str {
 
 #[test]
 fn each_read_fails_in_turn(rt: HostRuntime) -> Result<(), Fail> {
-    for call in 0..12u64 {
+    for call in 0..34u64 {
         let case = Failing {
             of_tray: Some(call),
             ..USUAL
@@ -68,7 +69,7 @@ fn each_read_fails_in_turn(rt: HostRuntime) -> Result<(), Fail> {
         assert!(rt; ends_so(&rt, rt.alloc(), case, 5, line)?, "call {call}");
     }
     let case = Failing {
-        of_tray: Some(12),
+        of_tray: Some(34),
         ..USUAL
     };
     assert!(rt; ends_so(&rt, rt.alloc(), case, 0, TOLD)?);
