@@ -1,11 +1,13 @@
-ghost use Rattle.std.specs.Prelude.{◌≡◌, true, [], ◌≤◌, length, take};
-ghost use Rattle.crossbeam_queue.specs.Passes.{view, IsPassOf};
-ghost use Rattle.line_queue.specs.Rule.{pass_view, whole, Ascends};
+ghost use Rattle.std.specs.Prelude.{◌≡◌, true, [], ◌≤◌, ◌<◌, length, take};
+ghost use Rattle.crossbeam_queue.specs.Fifo.{Held};
+ghost use Rattle.crossbeam_queue.specs.Passes.{view, IsPassOf, ruled_capacity};
+ghost use Rattle.line_queue.specs.Rule.{pass_view, whole, Ascends, Known};
 
 use crate::rule::{LinePass, LineQueue, push_line};
 use std::sync::Wait;
 
-/// Pushes lines in order, up to the first that finds the queue full, and says how many it pushed.
+/// Pushes lines in order, up to the first that finds the queue full, and says how many it pushed. Where these are not all,
+/// the queue was full at one moment of the call.
 pub fn push_lines<R: Wait>(rt: &R, queue: &LineQueue, pass: &mut LinePass, lines: &[u32]) -> usize
     requires queue { IsPassOf queue.now pass.old }
     requires opening { view pass.old ≡ pass_view whole true [] [] }
@@ -13,6 +15,8 @@ pub fn push_lines<R: Wait>(rt: &R, queue: &LineQueue, pass: &mut LinePass, lines
     ensures queue { IsPassOf queue.now pass.new }
     ensures count { result ≤ length lines.now }
     ensures pushed { view pass.new ≡ pass_view whole true (take result lines.now) [] }
+    ensures full { result < length lines.now
+        → Held (ruled_capacity queue.now) (Known (view pass.new)) }
 {
     let mut next = 0;
     for _ in rt.forever() {
@@ -21,7 +25,7 @@ pub fn push_lines<R: Wait>(rt: &R, queue: &LineQueue, pass: &mut LinePass, lines
         }
         match push_line(rt, queue, pass, lines[next]) {
             Ok(()) => next += 1,
-            Err(_) => break,
+            Err(_) => return next,
         }
     }
     next
