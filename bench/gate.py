@@ -1,10 +1,12 @@
 #!/usr/bin/env python3
-"""What a run of the gate costs: runs `rt ci` with the words given and prints, for each crate, the seconds of a processor
-that went into its proof, into the proof of its tests and into its wrong bodies.
+"""What a run of the gate costs: runs `rt ci` and keeps, for each crate, the seconds of a processor that went into its proof,
+into the proof of its tests and into its wrong bodies. The table is written anew every minute, so that a run that is ended
+leaves what it saw, and it is printed at the end.
 
-gate.py [WORD ..]     (run it on a machine, or with a kept store, that has nothing kept, for a run from nothing)
+gate.py [--to FILE] [WORD ..]     (WORDs go to rt ci; FILE is bench/out/gate.md where none is named)
 
-The seconds are read from /proc four times a second, so each process may lack its last quarter of a second.
+Run it on a machine that has nothing kept for a run from nothing. The seconds are read from /proc four times a second, so each
+process may lack its last quarter of a second.
 """
 import collections
 import os
@@ -15,6 +17,7 @@ import time
 
 TICK = os.sysconf("SC_CLK_TCK")
 KINDS = ("proof", "tests", "edits", "other")
+FILE = os.path.join(os.path.dirname(os.path.abspath(__file__)), "out", "gate.md")
 
 
 def words_of(pid):
@@ -24,6 +27,14 @@ def words_of(pid):
             return file.read().decode(errors="replace").split("\0")[:-1]
     except OSError:
         return []
+
+
+def folder_of(pid):
+    """The folder that a process works in, none where it has ended."""
+    try:
+        return os.readlink(f"/proc/{pid}/cwd")
+    except OSError:
+        return ""
 
 
 def seconds_of(pid):
@@ -36,54 +47,80 @@ def seconds_of(pid):
     return int(fields[1]), (int(fields[11]) + int(fields[12])) / TICK
 
 
-def kind_of(words):
-    """Which crate a process of the toolchain works for, and at what."""
+def kind_of(pid):
+    """Which crate a process of the toolchain works for, and at what. A wrong body is checked in a copy of its crate."""
+    words = words_of(pid)
     if "--crate-name" not in words:
         return "(rt)", "other"
     crate = words[words.index("--crate-name") + 1]
     if "--test" in words or "--tests" in words:
         return crate, "tests"
-    return crate, "edits" if "check" in words[:3] else "proof"
+    return crate, "edits" if "/rt-edit-" in folder_of(pid) else "proof"
 
 
-def watch(root, taken, ended):
+def look(root, taken, known):
     """Notes for each process below root the most seconds that it was seen with."""
+    seen = {int(name): seconds_of(name) for name in os.listdir("/proc") if name.isdigit()}
+    parents = {pid: it for pid, it in seen.items() if it}
+    for pid, (parent, seconds) in parents.items():
+        above = parent
+        while above in parents and above != root:
+            above = parents[above][0]
+        if above != root and pid != root:
+            continue
+        if pid not in known or known[pid][0] == "(rt)":
+            known[pid] = kind_of(pid)
+        key = (pid, *known[pid])
+        taken[key] = max(taken.get(key, 0), seconds)
+
+
+def table_of(taken, minutes):
+    """The table in Markdown, the dearest crate first."""
+    rows = collections.defaultdict(lambda: dict.fromkeys(KINDS, 0.0))
+    for (_, crate, kind), seconds in taken.items():
+        rows[crate][kind] += seconds
+    whole = {kind: sum(row[kind] for row in rows.values()) for kind in KINDS}
+    lines = ["| Crate | Proof | Tests | Wrong bodies | Other | Sum |", "|---|---|---|---|---|---|"]
+    for crate, row in [*sorted(rows.items(), key=lambda it: -sum(it[1].values())), ("all", whole)]:
+        lines.append(f"| {crate} | " + " | ".join(f"{row[kind]:.0f}" for kind in KINDS) + f" | {sum(row.values()):.0f} |")
+    lines.append(f"\n{sum(whole.values()) / 60:.0f} minutes of a processor, {minutes:.0f} by the clock")
+    return "\n".join(lines) + "\n"
+
+
+def keep(file, text):
+    """Writes the file whole or not at all."""
+    os.makedirs(os.path.dirname(os.path.abspath(file)), exist_ok=True)
+    with open(file + ".new", "w", encoding="utf-8") as out:
+        out.write(text)
+    os.replace(file + ".new", file)
+
+
+def watch(root, file, taken, ended):
+    """Looks until the run has ended, and keeps the table every minute."""
+    start = kept = time.time()
+    known = {}
     while not ended.is_set():
-        parents = {}
-        for name in os.listdir("/proc"):
-            if name.isdigit():
-                seen = seconds_of(name)
-                if seen:
-                    parents[int(name)] = seen
-        for pid, (parent, seconds) in parents.items():
-            above = parent
-            while above in parents and above != root:
-                above = parents[above][0]
-            if above == root or pid == root:
-                crate, kind = kind_of(words_of(pid))
-                key = (pid, crate, kind)
-                taken[key] = max(taken.get(key, 0), seconds)
+        look(root, taken, known)
+        if time.time() - kept > 60:
+            kept = time.time()
+            keep(file, table_of(taken, (kept - start) / 60))
         time.sleep(0.25)
+    keep(file, table_of(taken, (time.time() - start) / 60))
 
 
 def main():
-    start = time.time()
-    run = subprocess.Popen(["rt", "ci", *sys.argv[1:]])
+    words, file = sys.argv[1:], FILE
+    if words[:1] == ["--to"] and len(words) > 1:
+        file, words = words[1], words[2:]
+    run = subprocess.Popen(["rt", "ci", *words])
     taken, ended = {}, threading.Event()
-    watcher = threading.Thread(target=watch, args=(run.pid, taken, ended))
+    watcher = threading.Thread(target=watch, args=(run.pid, file, taken, ended))
     watcher.start()
     status = run.wait()
     ended.set()
     watcher.join()
-    rows = collections.defaultdict(lambda: dict.fromkeys(KINDS, 0.0))
-    for (_, crate, kind), seconds in taken.items():
-        rows[crate][kind] += seconds
-    print("\n| Crate | Proof | Tests | Wrong bodies | Other | Sum |\n|---|---|---|---|---|---|")
-    for crate, row in sorted(rows.items(), key=lambda it: -sum(it[1].values())):
-        print(f"| {crate} | " + " | ".join(f"{row[kind]:.0f}" for kind in KINDS) + f" | {sum(row.values()):.0f} |")
-    whole = {kind: sum(row[kind] for row in rows.values()) for kind in KINDS}
-    print("| all | " + " | ".join(f"{whole[kind]:.0f}" for kind in KINDS) + f" | {sum(whole.values()):.0f} |")
-    print(f"\n{sum(whole.values()) / 60:.0f} minutes of a processor, {(time.time() - start) / 60:.0f} by the clock")
+    with open(file, encoding="utf-8") as table:
+        print("\n" + table.read(), end="")
     return status
 
 

@@ -12,11 +12,15 @@ for ink in "${inks[@]}"; do
   gzip -dc "plates/$ink.pgm.gz" > "$out/plates/$ink.pgm"
   words+=("$ink:$out/plates/$ink.pgm:$out/trapped/$ink.pgm")
 done
-../../trap page poster.job "$out/report" "${words[@]}"
 
-cmp "$out/report" expected/report
-for ink in "${inks[@]}"; do
-  gzip -dc "expected/$ink.pgm.gz" | cmp - "$out/trapped/$ink.pgm"
+# What is written does not depend on how many workers share the page, nor on the rows of a band.
+for shared in "--workers 4 --band 64" "--workers 3 --band 17"; do
+  # shellcheck disable=SC2086
+  ../../trap page $shared poster.job "$out/report" "${words[@]}"
+  cmp "$out/report" expected/report
+  for ink in "${inks[@]}"; do
+    gzip -dc "expected/$ink.pgm.gz" | cmp - "$out/trapped/$ink.pgm"
+  done
 done
 cat "$out/report"
 echo "examples/poster: the trapped plates and the report are as expected"

@@ -9,21 +9,9 @@ mod marks;
 mod memory;
 mod outcome;
 mod planes;
-#[cfg(test)]
-mod random_pages;
-#[cfg(test)]
-mod reads;
 mod room;
-#[cfg(test)]
-mod slow_marks;
-#[cfg(test)]
-mod slow_traps;
 mod strips;
 mod table;
-#[cfg(test)]
-mod table_tests;
-#[cfg(test)]
-mod tests;
 mod zones;
 
 pub use alone::{Trapped, trap_alone};

@@ -1,0 +1,27 @@
+// Lists and buffers that are made for a test.
+
+ghost use Rattle.std.specs.Prelude.{◌≡◌, ◌∷◌, ◌++◌, [], IfOk, OnOk, vec_len};
+
+use lists::list::List;
+use page_model::parts::OutOfMemory;
+use std::alloc::Global;
+
+/// Adds the item at the end.
+pub fn push<T: Drop>(list: &mut List<T>, item: T) -> Result<(), OutOfMemory>
+    ensures { OnOk result (list.new ≡ list.old ++ item ∷ []) }
+{
+    match list.push(item) {
+        Ok(()) => Ok(()),
+        Err(_) => Err(OutOfMemory),
+    }
+}
+
+/// So many copies of an item.
+pub fn filled<T: Copy + Drop>(alloc: Global, item: T, count: usize) -> Result<Vec<T>, OutOfMemory>
+    ensures { IfOk result (λ items. vec_len items ≡ count) }
+{
+    match vec![in alloc; item; count] {
+        Ok(items) => Ok(items),
+        Err(_) => Err(OutOfMemory),
+    }
+}

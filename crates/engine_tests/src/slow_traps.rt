@@ -1,0 +1,280 @@
+// The traps of a page by the whole rule, for tests: the decider of each sample is searched for among all deciding edges.
+
+ghost use Rattle.std.specs.Prelude.{◌≡◌, ◌<◌, ◌+◌, ◌*◌, All, IfOk, OnOk, length};
+ghost use Rattle.std.specs.Option.{ForSome};
+ghost use Rattle.page_model.specs.Edges.{IsEdge};
+ghost use Rattle.page_model.specs.Page.{InPage, plates, samples, width};
+ghost use Rattle.trap_engine.specs.Whole.{sample_zones};
+
+use crate::grid::{sample_of, samples_of};
+use crate::memory::{filled, push};
+use crate::slow_marks::{decides_at, zone_among};
+use crate::zones::zones_of;
+use lists::list::List;
+use page_model::edges::squared_distance;
+use page_model::page::Page;
+use page_model::parts::{At, CountList, Counts, EdgeAt, OutOfMemory, Plane, PlaneList};
+use std::alloc::Global;
+use trap_color::trap_sample;
+use trap_engine::Trapped;
+
+/// Adds the deciding edges of a column of the doubled grid.
+fn add_column(
+    page: &Page,
+    zones: &[u8],
+    x2: u32,
+    edges: &mut List<EdgeAt>,
+) -> Result<(), OutOfMemory>
+    requires zones { zones.now ≡ sample_zones page.now }
+    requires column { x2 + 1 < 2 * width page.now }
+    requires edges { All (IsEdge page.now) edges.old }
+    ensures { OnOk result (All (IsEdge page.now) edges.new) }
+{
+    for y2 in 0..2 * page.height() - 1 {
+        let e = EdgeAt { x2, y2 };
+        if (x2 + y2) % 2 == 1 && decides_at(page, zones, e) {
+            push(edges, e)?;
+        }
+    }
+    Ok(())
+}
+
+/// All deciding edges of the page.
+fn deciding_edges(alloc: Global, page: &Page, zones: &[u8]) -> Result<List<EdgeAt>, OutOfMemory>
+    requires zones { zones.now ≡ sample_zones page.now }
+    ensures { IfOk result (All (IsEdge page.now)) }
+{
+    let mut edges = List::new(alloc);
+    for x2 in 0..2 * page.width() - 1 {
+        add_column(page, zones, x2, &mut edges)?;
+    }
+    Ok(edges)
+}
+
+/// Whether e is nearer to p than f is, or as near and further left, or above f in its column.
+fn comes_before(page: &Page, p: At, e: EdgeAt, f: EdgeAt) -> bool
+    requires sample { InPage page.now p }
+    requires e { IsEdge page.now e }
+    requires f { IsEdge page.now f }
+{
+    let _valid = page.plates();
+    let one = squared_distance(p, e);
+    let two = squared_distance(p, f);
+    one < two || one == two && (e.x2 < f.x2 || e.x2 == f.x2 && e.y2 < f.y2)
+}
+
+/// Of the edge found and another the one that comes first for p.
+fn earlier(page: &Page, p: At, found: Option<EdgeAt>, e: EdgeAt) -> EdgeAt
+    requires sample { InPage page.now p }
+    requires found { ForSome found (IsEdge page.now) }
+    requires e { IsEdge page.now e }
+    ensures { IsEdge page.now result }
+{
+    match found {
+        Some(f) => { if comes_before(page, p, e, f) { e } else { f } }
+        None => e,
+    }
+}
+
+/// The first of the edges for p.
+fn first_for(page: &Page, p: At, edges: &[EdgeAt]) -> Option<EdgeAt>
+    requires sample { InPage page.now p }
+    requires edges { All (IsEdge page.now) edges.now }
+    ensures { ForSome result (IsEdge page.now) }
+{
+    let mut found = None;
+    for e in edges {
+        found = Some(earlier(page, p, found, *e));
+    }
+    found
+}
+
+/// The decider of each sample.
+fn slow_deciders(
+    alloc: Global,
+    page: &Page,
+    edges: &[EdgeAt],
+) -> Result<List<Option<EdgeAt>>, OutOfMemory>
+    requires { All (IsEdge page.now) edges.now }
+    ensures count { IfOk result (λ deciders. length deciders ≡ samples page.now) }
+    ensures edges { IfOk result (All (λ decider. ForSome decider (IsEdge page.now))) }
+{
+    let mut deciders = List::new(alloc);
+    for k in 0..samples_of(page) {
+        push(&mut deciders, first_for(page, sample_of(page, k), edges))?;
+    }
+    Ok(deciders)
+}
+
+/// Writes the new tints of sample k, one for each plate.
+fn trap_at(page: &Page, zones: &[u8], deciders: &[Option<EdgeAt>], k: usize, out: &mut [u16])
+    requires zones { zones.now ≡ sample_zones page.now }
+    requires count { length deciders.now ≡ samples page.now }
+    requires edges { All (λ decider. ForSome decider (IsEdge page.now)) deciders.now }
+    requires sample { k < samples page.now }
+    requires out { length out.old ≡ plates page.now }
+    ensures { length out.new ≡ plates page.now }
+{
+    let p = sample_of(page, k);
+    let zone = zone_among(page, zones, p);
+    trap_sample(page, p, zone, deciders[k], out);
+}
+
+/// Plate c after trapping.
+fn slow_plane(
+    alloc: Global,
+    page: &Page,
+    zones: &[u8],
+    deciders: &[Option<EdgeAt>],
+    c: u32,
+) -> Result<Plane, OutOfMemory>
+    requires zones { zones.now ≡ sample_zones page.now }
+    requires count { length deciders.now ≡ samples page.now }
+    requires edges { All (λ decider. ForSome decider (IsEdge page.now)) deciders.now }
+    requires plate { c < plates page.now }
+{
+    let mut out = filled(alloc, 0u16, page.plates() as usize)?;
+    let mut tints = List::new(alloc);
+    for k in 0..samples_of(page) {
+        trap_at(page, zones, deciders, k, &mut out);
+        push(&mut tints, out[c as usize])?;
+    }
+    Ok(Plane {
+        width: page.width(),
+        height: page.height(),
+        maxval: page.maxval(),
+        tints,
+    })
+}
+
+/// All plates after trapping.
+fn slow_planes(
+    alloc: Global,
+    page: &Page,
+    zones: &[u8],
+    deciders: &[Option<EdgeAt>],
+) -> Result<PlaneList, OutOfMemory>
+    requires zones { zones.now ≡ sample_zones page.now }
+    requires count { length deciders.now ≡ samples page.now }
+    requires edges { All (λ decider. ForSome decider (IsEdge page.now)) deciders.now }
+{
+    let mut planes = List::new(alloc);
+    for c in 0..page.plates() {
+        push(&mut planes, slow_plane(alloc, page, zones, deciders, c)?)?;
+    }
+    Ok(planes)
+}
+
+/// Whether some tint is not the one that p has on the page.
+fn is_changed(page: &Page, p: At, tints: &[u16]) -> bool
+    requires sample { InPage page.now p }
+    requires tints { length tints.now ≡ plates page.now }
+{
+    let mut any = false;
+    for c in 0..page.plates() {
+        any = any || tints[c as usize] != page.tint(c, p.x, p.y);
+    }
+    any
+}
+
+/// For each sample whether some plate changes there.
+fn slow_changes(
+    alloc: Global,
+    page: &Page,
+    zones: &[u8],
+    deciders: &[Option<EdgeAt>],
+) -> Result<List<bool>, OutOfMemory>
+    requires zones { zones.now ≡ sample_zones page.now }
+    requires count { length deciders.now ≡ samples page.now }
+    requires edges { All (λ decider. ForSome decider (IsEdge page.now)) deciders.now }
+{
+    let mut out = filled(alloc, 0u16, page.plates() as usize)?;
+    let mut changes = List::new(alloc);
+    for k in 0..samples_of(page) {
+        trap_at(page, zones, deciders, k, &mut out);
+        push(&mut changes, is_changed(page, sample_of(page, k), &out))?;
+    }
+    Ok(changes)
+}
+
+/// How many samples lie in each zone.
+fn slow_samples(alloc: Global, page: &Page, zones: &[u8]) -> Result<CountList, OutOfMemory> {
+    let mut counts = List::new(alloc);
+    for z in 0..page.zones() {
+        let count = zones.iter().filter(|zone| u32::from(**zone) == z).count();
+        push(&mut counts, count as u64)?;
+    }
+    Ok(counts)
+}
+
+/// How many samples of each zone change.
+fn slow_changed(
+    alloc: Global,
+    page: &Page,
+    zones: &[u8],
+    changes: &[bool],
+) -> Result<CountList, OutOfMemory> {
+    let mut counts = List::new(alloc);
+    for z in 0..page.zones() {
+        let both = zones.iter().zip(changes);
+        let count = both
+            .filter(|(zone, changed)| **changed && u32::from(**zone) == z)
+            .count();
+        push(&mut counts, count as u64)?;
+    }
+    Ok(counts)
+}
+
+/// How many tints of each plate change.
+fn slow_differences(
+    alloc: Global,
+    before: &[Plane],
+    after: &[Plane],
+) -> Result<CountList, OutOfMemory> {
+    let mut counts = List::new(alloc);
+    for (old, new) in before.iter().zip(after) {
+        let both = old.tints.as_slice().iter().zip(new.tints.as_slice());
+        push(&mut counts, both.filter(|(a, b)| **a != **b).count() as u64)?;
+    }
+    Ok(counts)
+}
+
+/// The planes and the counts of the page after trapping.
+pub fn slow_traps(alloc: Global, page: &Page) -> Result<Trapped, OutOfMemory> {
+    let zones = zones_of(alloc, page)?;
+    let edges = deciding_edges(alloc, page, zones.as_slice())?;
+    let deciders = slow_deciders(alloc, page, edges.as_slice())?;
+    let planes = slow_planes(alloc, page, zones.as_slice(), deciders.as_slice())?;
+    let changes = slow_changes(alloc, page, zones.as_slice(), deciders.as_slice())?;
+    let counts = Counts {
+        zone_samples: slow_samples(alloc, page, zones.as_slice())?,
+        zone_changed: slow_changed(alloc, page, zones.as_slice(), changes.as_slice())?,
+        edges: edges.len() as u64,
+        plate_changed: slow_differences(alloc, page.planes().as_slice(), planes.as_slice())?,
+    };
+    Ok(Trapped { planes, counts })
+}
+
+fn same_plane(one: &Plane, two: &Plane) -> bool {
+    one.width == two.width
+        && one.height == two.height
+        && one.maxval == two.maxval
+        && one.tints.as_slice() == two.tints.as_slice()
+}
+
+fn same_planes(one: &[Plane], two: &[Plane]) -> bool {
+    one.len() == two.len() && one.iter().zip(two).all(|(a, b)| same_plane(a, b))
+}
+
+fn same_counts(one: &Counts, two: &Counts) -> bool {
+    one.zone_samples.as_slice() == two.zone_samples.as_slice()
+        && one.zone_changed.as_slice() == two.zone_changed.as_slice()
+        && one.edges == two.edges
+        && one.plate_changed.as_slice() == two.plate_changed.as_slice()
+}
+
+/// Whether all planes and all counts are the same.
+pub fn same_traps(one: &Trapped, two: &Trapped) -> bool {
+    same_planes(one.planes.as_slice(), two.planes.as_slice())
+        && same_counts(&one.counts, &two.counts)
+}

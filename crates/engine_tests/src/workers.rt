@@ -1,0 +1,82 @@
+// The page by workers at the shared table, against the page on one thread.
+ghost use Rattle.std.specs.Prelude.{◌≤◌};
+
+use crate::random_pages::{some_page, some_shape};
+use crate::slow_traps::same_traps;
+use band_workers::OpenGate;
+use page_model::page::Page;
+use std::alloc::Global;
+use std::test::Fail;
+use std::thread::Threads;
+use trap_engine::{Trapped, trap_alone, trap_page};
+
+/// Whether the page comes out so by that many workers, in bands of that many rows.
+fn is_alike<R: Threads + Sync>(
+    rt: &R,
+    alloc: Global,
+    page: &Page,
+    workers: u32,
+    band: u32,
+    alone: &Trapped,
+) -> Result<bool, Fail>
+    requires some_workers { 1 ≤ workers }
+    requires few_workers { workers ≤ 64 }
+    requires some_rows { 1 ≤ band }
+    requires few_rows { band ≤ 4096 }
+{
+    let (trapped, _receipt) = trap_page(rt, alloc, page, workers, band, &OpenGate)?;
+    Ok(same_traps(&trapped, alone))
+}
+
+/// Whether it does so in bands of any height.
+fn is_alike_in_bands<R: Threads + Sync>(
+    rt: &R,
+    alloc: Global,
+    page: &Page,
+    workers: u32,
+    alone: &Trapped,
+) -> Result<bool, Fail>
+    requires some_workers { 1 ≤ workers }
+    requires few_workers { workers ≤ 64 }
+{
+    for band in [1, 2, 5, 64, 4096] {
+        if !is_alike(rt, alloc, page, workers, band, alone)? {
+            return Ok(false);
+        }
+    }
+    Ok(true)
+}
+
+/// Whether a page by chance comes out by any workers as it does on one thread.
+fn is_alike_by_workers<R: Threads + Sync>(
+    rt: &R,
+    alloc: Global,
+    width: u32,
+    height: u32,
+    reach2: u32,
+) -> Result<bool, Fail>
+    requires some_width { 1 ≤ width }
+    requires narrow { width ≤ 2000 }
+    requires some_height { 1 ≤ height }
+    requires low { height ≤ 2000 }
+    requires near { reach2 ≤ 256 }
+{
+    let mut dice = 2026;
+    let shape = some_shape(&mut dice, width, height, reach2);
+    let page = some_page(alloc, &mut dice, shape)?.ok_or("a fault")?;
+    let alone = trap_alone(alloc, &page)?;
+    for workers in [1, 2, 3, 7, 64] {
+        if !is_alike_in_bands(rt, alloc, &page, workers, &alone)? {
+            return Ok(false);
+        }
+    }
+    Ok(true)
+}
+
+#[test]
+fn traps_by_any_workers_as_alone(rt: HostRuntime) -> Result<(), Fail> {
+    for (width, height, reach2) in [(9, 23, 5), (1, 40, 0), (70, 7, 40), (30, 130, 256)] {
+        assert!(rt; is_alike_by_workers(&rt, rt.alloc(), width, height, reach2)?);
+    }
+    Ok(())
+}

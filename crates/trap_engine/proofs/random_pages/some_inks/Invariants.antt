@@ -1,7 +1,0 @@
-use Rattle.std.proofs.Common.{◌≡◌, length}
-use Rattle.std.specs.Prelude.{All}
-use Rattle.page_model.specs.Conditions.{IsInk}
-use Rattle.trap_engine.proofs.random_pages.some_inks.Given as goal
-
-abbrev pub invariant-loop-c : goal.invariant-loop-c
-invariant-loop-c l = record { count : length l.inks ≡ l.c; inks : All IsInk l.inks }

@@ -1,6 +1,0 @@
-use Rattle.std.proofs.Common.{◌≡◌, ◌≤◌}
-use Rattle.std.specs.Prelude.{All, vec_len}
-use Rattle.trap_engine.proofs.random_pages.some_tints.Given as goal
-
-abbrev pub invariant-loop-k : goal.invariant-loop-k
-invariant-loop-k l = record { long : vec_len l.tints ≡ l.k; deep : All (λ t. t ≤ 255) l.tints.items }

@@ -1,6 +1,0 @@
-use Rattle.std.specs.Option.{ForSome}
-use Rattle.page_model.specs.Edges.{IsEdge}
-use Rattle.trap_engine.proofs.slow_traps.first_for.Given as goal
-
-abbrev pub invariant-loop-e : goal.invariant-loop-e
-invariant-loop-e l = ForSome l.found (IsEdge l.page)
