@@ -1,17 +1,20 @@
 ghost use Rattle.std.specs.Prelude.{◌≡◌, ◌≤◌, ◌∷◌, [], All, IfOk, length};
 ghost use Rattle.page_model.specs.Conditions.{IsInk, IsParts, IsPlane, IsZone};
+ghost use Rattle.trap_engine.specs.Whole.{sample_zones};
 
-use crate::memory::push;
+use crate::memory::{both, push};
 use crate::random_pages::{Shape, some_page, some_shape};
 use crate::slow_marks::slow_marks;
 use crate::slow_traps::{same_traps, slow_traps};
 use crate::zones::{marks_of, zones_of};
 use lists::list::List;
 use page_model::page::Page;
-use page_model::parts::{Ink, InkKind, OutOfMemory, PageParts, Plane, TrapParams, Zone};
+use page_model::parts::{
+    Ink, InkKind, InkList, OutOfMemory, PageParts, Plane, PlaneList, TrapParams, Zone,
+};
 use std::alloc::Global;
 use std::test::Fail;
-use trap_engine::trap_alone;
+use trap_engine::{Trapped, trap_alone};
 use zone_map::{SpanBuf, zone_row};
 
 /// Six samples in a row.
@@ -59,18 +62,33 @@ fn everywhere(alloc: Global) -> Zone
     }
 }
 
-/// Three samples of cyan beside three of magenta, at 72 pixels an inch.
-fn pair(alloc: Global) -> Result<PageParts, OutOfMemory>
-    ensures { IfOk result IsParts }
+/// Three samples of cyan beside three of magenta.
+fn pair_planes(alloc: Global) -> Result<PlaneList, OutOfMemory>
+    ensures two { IfOk result (λ planes. length planes ≡ 2) }
+    ensures planes { IfOk result (λ planes. All IsPlane planes) }
 {
     let cyan = separation(alloc, &[255, 255, 255, 0, 0, 0])?;
     let magenta = separation(alloc, &[0, 0, 0, 255, 255, 255])?;
-    let mut planes = List::new(alloc);
-    push(&mut planes, cyan)?;
-    push(&mut planes, magenta)?;
-    let mut inks = List::new(alloc);
-    push(&mut inks, colorant(alloc, b'C', 6_100)?)?;
-    push(&mut inks, colorant(alloc, b'M', 7_600)?)?;
+    both(alloc, cyan, magenta)
+}
+
+fn pair_inks(alloc: Global) -> Result<InkList, OutOfMemory>
+    ensures two { IfOk result (λ inks. length inks ≡ 2) }
+    ensures inks { IfOk result (λ inks. All IsInk inks) }
+{
+    let cyan = colorant(alloc, b'C', 6_100)?;
+    let magenta = colorant(alloc, b'M', 7_600)?;
+    both(alloc, cyan, magenta)
+}
+
+/// These planes and inks at 72 pixels an inch, with one zone.
+fn pair_of(alloc: Global, planes: PlaneList, inks: InkList) -> Result<PageParts, OutOfMemory>
+    requires planes { length planes ≡ 2 }
+    requires planes_in_range { All IsPlane planes }
+    requires inks { length inks ≡ 2 }
+    requires inks_in_range { All IsInk inks }
+    ensures { IfOk result IsParts }
+{
     let mut zones = List::new(alloc);
     push(&mut zones, everywhere(alloc))?;
     Ok(PageParts {
@@ -79,6 +97,14 @@ fn pair(alloc: Global) -> Result<PageParts, OutOfMemory>
         inks,
         zones,
     })
+}
+
+fn pair(alloc: Global) -> Result<PageParts, OutOfMemory>
+    ensures { IfOk result IsParts }
+{
+    let planes = pair_planes(alloc)?;
+    let inks = pair_inks(alloc)?;
+    pair_of(alloc, planes, inks)
 }
 
 /// The page of three samples of cyan beside three of magenta.
@@ -122,21 +148,42 @@ fn writes_a_row_of_zones(rt: HostRuntime) -> Result<(), Fail> {
     Ok(())
 }
 
+/// How many edges these marks name.
+fn edges_of(marks: &[u8]) -> u64 {
+    marks.iter().fold(
+        0u64,
+        |sum, mark| sum.wrapping_add(u64::from(mark % 2 + mark / 2)),
+    )
+}
+
+/// How many edges the marks name, or `None` where they are not those that the samples have one by one.
+fn edges_among(alloc: Global, page: &Page, zones: &[u8], marks: &[u8]) -> Result<Option<u64>, Fail>
+    requires { zones.now ≡ sample_zones page.now }
+{
+    let slow = slow_marks(alloc, page, zones)?;
+    Ok(if marks == slow.as_slice() {
+        Some(edges_of(marks))
+    } else {
+        None
+    })
+}
+
+fn marked_edges(alloc: Global, page: &Page, zones: &[u8]) -> Result<Option<u64>, Fail>
+    requires { zones.now ≡ sample_zones page.now }
+{
+    let marks = marks_of(alloc, page, zones)?;
+    edges_among(alloc, page, zones, marks.as_slice())
+}
+
+fn edges_on(alloc: Global, page: &Page) -> Result<Option<u64>, Fail> {
+    let zones = zones_of(alloc, page)?;
+    marked_edges(alloc, page, zones.as_slice())
+}
+
 /// How many edges of a page by chance decide, or `None` where its marks are not those that its samples have one by one.
 fn edges_alike(alloc: Global, dice: &mut u64, shape: Shape) -> Result<Option<u64>, Fail> {
     let page = some_page(alloc, dice, shape)?.ok_or("a fault")?;
-    let zones = zones_of(alloc, &page)?;
-    let marks = marks_of(alloc, &page, zones.as_slice())?;
-    let slow = slow_marks(alloc, &page, zones.as_slice())?;
-    if marks.as_slice() == slow.as_slice() {
-        let edges = marks.iter().fold(
-            0u64,
-            |sum, mark| sum.wrapping_add(u64::from(mark % 2 + mark / 2)),
-        );
-        Ok(Some(edges))
-    } else {
-        Ok(None)
-    }
+    edges_on(alloc, &page)
 }
 
 #[test]
@@ -159,21 +206,37 @@ fn marks_rows_as_their_samples(rt: HostRuntime) -> Result<(), Fail> {
     Ok(())
 }
 
+/// How many tints these counts say to change.
+fn changes_of(trapped: &Trapped) -> u64 {
+    let changed = trapped.counts.plate_changed.as_slice();
+    changed
+        .iter()
+        .fold(0u64, |sum, more| sum.wrapping_add(*more))
+}
+
+/// How many tints of the page change, or `None` where these traps are not those of the slow search.
+fn changes_among(
+    alloc: Global,
+    page: &Page,
+    trapped: &Trapped,
+) -> Result<Option<u64>, OutOfMemory> {
+    let slow = slow_traps(alloc, page)?;
+    Ok(if same_traps(trapped, &slow) {
+        Some(changes_of(&slow))
+    } else {
+        None
+    })
+}
+
+fn changes_on(alloc: Global, page: &Page) -> Result<Option<u64>, OutOfMemory> {
+    let trapped = trap_alone(alloc, page)?;
+    changes_among(alloc, page, &trapped)
+}
+
 /// How many tints of a page by chance change, or `None` where its traps are not those of the slow search.
 fn traps_alike(alloc: Global, dice: &mut u64, shape: Shape) -> Result<Option<u64>, Fail> {
     let page = some_page(alloc, dice, shape)?.ok_or("a fault")?;
-    let trapped = trap_alone(alloc, &page)?;
-    let slow = slow_traps(alloc, &page)?;
-    if same_traps(&trapped, &slow) {
-        let changed = slow.counts.plate_changed.as_slice();
-        Ok(Some(
-            changed
-                .iter()
-                .fold(0u64, |sum, more| sum.wrapping_add(*more)),
-        ))
-    } else {
-        Ok(None)
-    }
+    Ok(changes_on(alloc, &page)?)
 }
 
 /// The changes of some pages of three sizes: higher than two strips, wide and square.

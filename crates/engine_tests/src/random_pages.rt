@@ -1,9 +1,9 @@
 // Small pages by chance, for tests: some plates of runs of few tints, inks of every kind, and two zones.
 
-ghost use Rattle.std.specs.Prelude.{◌≡◌, ◌≤◌, ◌<◌, All, IfOk, length, vec_len};
+ghost use Rattle.std.specs.Prelude.{◌≡◌, ◌≤◌, ◌<◌, [], All, IfOk, length, vec_len};
 ghost use Rattle.page_model.specs.Conditions.{AreLimits, InRange, IsInk, IsParts, IsPath, IsPlane, IsVertex, IsZone};
 
-use crate::memory::push;
+use crate::memory::{both, push};
 use lists::list::List;
 use page_model::page::Page;
 use page_model::parts::{
@@ -313,25 +313,77 @@ fn zone_over(
     })
 }
 
-/// What a page by chance is made of. The zone of its path reaches the farthest, and the rest less by chance.
+/// The plates of a page, each with its ink.
+#[derive(Drop)]
+struct Inked {
+    planes: PlaneList,
+    inks: InkList,
+    ghost some: { 1 ≤ length planes },
+    ghost few: { length planes ≤ 16 },
+    ghost each: { length inks ≡ length planes },
+    ghost planes_in_range: { All IsPlane planes },
+    ghost inks_in_range: { All IsInk inks },
+}
+
+fn some_inked(alloc: Global, dice: &mut u64, shape: Shape) -> Result<Inked, OutOfMemory> {
+    let planes = some_planes(alloc, dice, shape)?;
+    let inks = some_inks(alloc, dice, shape.plates)?;
+    Ok(Inked { planes, inks })
+}
+
+/// Two zones of a page: what no path covers, and one of four vertices.
+#[derive(Drop)]
+struct Zoned {
+    rest: Zone,
+    over: Zone,
+    ghost rest_in_range: { IsZone rest },
+    ghost over_in_range: { IsZone over },
+    ghost rest_covers_none: { rest.path ≡ [] },
+    ghost over_is_small: { length over.path ≡ 4 },
+}
+
+fn path_zone(alloc: Global, dice: &mut u64, shape: Shape) -> Result<Zone, OutOfMemory>
+    ensures zone { IfOk result IsZone }
+    ensures path { IfOk result (λ zone. length zone.path ≡ 4) }
+{
+    let path = some_path(alloc, dice, shape)?;
+    zone_over(alloc, dice, path, shape.resolution, shape.reach2)
+}
+
+/// The zone of the path reaches the farthest, and the rest less by chance.
+fn some_zoned(alloc: Global, dice: &mut u64, shape: Shape) -> Result<Zoned, OutOfMemory> {
+    let less = roll(dice, u64::from(shape.reach2) + 1) as u32;
+    let rest = zone_over(alloc, dice, List::new(alloc), shape.resolution, less)?;
+    let over = path_zone(alloc, dice, shape)?;
+    Ok(Zoned { rest, over })
+}
+
+fn parts_of(
+    alloc: Global,
+    resolution: u32,
+    inked: Inked,
+    zoned: Zoned,
+) -> Result<PageParts, OutOfMemory>
+    requires resolved { 1 ≤ resolution }
+    requires fine { resolution ≤ 10000 }
+    ensures { IfOk result IsParts }
+{
+    let zones = both(alloc, zoned.rest, zoned.over)?;
+    Ok(PageParts {
+        resolution,
+        planes: inked.planes,
+        inks: inked.inks,
+        zones,
+    })
+}
+
+/// What a page by chance is made of.
 fn some_parts(alloc: Global, dice: &mut u64, shape: Shape) -> Result<PageParts, OutOfMemory>
     ensures { IfOk result IsParts }
 {
-    let planes = some_planes(alloc, dice, shape)?;
-    let inks = some_inks(alloc, dice, shape.plates)?;
-    let less = roll(dice, u64::from(shape.reach2) + 1) as u32;
-    let rest = zone_over(alloc, dice, List::new(alloc), shape.resolution, less)?;
-    let path = some_path(alloc, dice, shape)?;
-    let over = zone_over(alloc, dice, path, shape.resolution, shape.reach2)?;
-    let mut zones = List::new(alloc);
-    push(&mut zones, rest)?;
-    push(&mut zones, over)?;
-    Ok(PageParts {
-        resolution: shape.resolution,
-        planes,
-        inks,
-        zones,
-    })
+    let inked = some_inked(alloc, dice, shape)?;
+    let zoned = some_zoned(alloc, dice, shape)?;
+    parts_of(alloc, shape.resolution, inked, zoned)
 }
 
 /// A page by chance.

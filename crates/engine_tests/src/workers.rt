@@ -47,14 +47,33 @@ fn is_alike_in_bands<R: Threads + Sync>(
     Ok(true)
 }
 
-/// Whether a page by chance comes out by any workers as it does on one thread.
+/// Whether it does so by any number of workers.
+fn is_alike_by_each<R: Threads + Sync>(
+    rt: &R,
+    alloc: Global,
+    page: &Page,
+    alone: &Trapped,
+) -> Result<bool, Fail> {
+    for workers in [1, 2, 3, 7, 64] {
+        if !is_alike_in_bands(rt, alloc, page, workers, alone)? {
+            return Ok(false);
+        }
+    }
+    Ok(true)
+}
+
+/// Whether the page comes out by any workers as it does on one thread.
 fn is_alike_by_workers<R: Threads + Sync>(
     rt: &R,
     alloc: Global,
-    width: u32,
-    height: u32,
-    reach2: u32,
-) -> Result<bool, Fail>
+    page: &Page,
+) -> Result<bool, Fail> {
+    let alone = trap_alone(alloc, page)?;
+    is_alike_by_each(rt, alloc, page, &alone)
+}
+
+/// A page by chance of these sides.
+fn page_of(alloc: Global, width: u32, height: u32, reach2: u32) -> Result<Page, Fail>
     requires some_width { 1 ≤ width }
     requires narrow { width ≤ 2000 }
     requires some_height { 1 ≤ height }
@@ -63,20 +82,14 @@ fn is_alike_by_workers<R: Threads + Sync>(
 {
     let mut dice = 2026;
     let shape = some_shape(&mut dice, width, height, reach2);
-    let page = some_page(alloc, &mut dice, shape)?.ok_or("a fault")?;
-    let alone = trap_alone(alloc, &page)?;
-    for workers in [1, 2, 3, 7, 64] {
-        if !is_alike_in_bands(rt, alloc, &page, workers, &alone)? {
-            return Ok(false);
-        }
-    }
-    Ok(true)
+    Ok(some_page(alloc, &mut dice, shape)?.ok_or("a fault")?)
 }
 
 #[test]
 fn traps_by_any_workers_as_alone(rt: HostRuntime) -> Result<(), Fail> {
     for (width, height, reach2) in [(9, 23, 5), (1, 40, 0), (70, 7, 40), (30, 130, 256)] {
-        assert!(rt; is_alike_by_workers(&rt, rt.alloc(), width, height, reach2)?);
+        let page = page_of(rt.alloc(), width, height, reach2)?;
+        assert!(rt; is_alike_by_workers(&rt, rt.alloc(), &page)?);
     }
     Ok(())
 }

@@ -16,7 +16,7 @@ use std::alloc::Global;
 fn fill_zones(page: &Page, out: &mut [u8], room: &mut Workspace)
     requires out { length out.old ≡ samples page.now }
     requires room { Serves room.old page.now }
-    ensures zones { out.new ≡ sample_zones page.now }
+    ensures { out.new ≡ sample_zones page.now }
 {
     let count = page.height();
     make_zones(page, Rows { first: 0, count }, out, room);
