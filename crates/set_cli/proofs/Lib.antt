@@ -1,0 +1,5 @@
+mod PlanesInRange
+mod OneVerdict
+mod TrapsLemmas
+mod ApplyLemmas
+mod ClauseLemmas

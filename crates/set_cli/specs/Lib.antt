@@ -1,0 +1,6 @@
+pub mod Commands
+pub mod Causes
+pub mod Verdicts
+pub mod Endings
+pub mod Putting
+pub mod Clauses

@@ -1,0 +1,10 @@
+//! The top call of the program `trapset`: the traps of a page as a file of their own, and such a file onto plates.
+#![tactic(auto)]
+
+mod apply;
+mod carry;
+pub mod cause;
+mod files;
+mod planes;
+pub mod top;
+mod traps;

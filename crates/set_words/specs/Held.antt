@@ -1,0 +1,31 @@
+-- What the program holds of a command, as the words that it stands for.
+use Rattle.std.specs.Prelude.{◌≤◌, ℕ, length, map, string_bytes}
+use Rattle.plain_words.specs.Parts.{input_of, copy_of}
+use Rattle.set_words.specs.Words.{TrapsWords, ApplyWords, Command as Meaning, Traps as traps, Apply as apply}
+use Rattle.set_words.specs.declared.command.TrapsCommand.{TrapsCommand}
+use Rattle.set_words.specs.declared.command.ApplyCommand.{ApplyCommand}
+use Rattle.set_words.specs.declared.command.Command.{Command}
+use Rattle.set_words.specs.declared.command.Command.TheVariants.{Traps, Apply}
+
+-- a command of `traps`
+abbrev pub traps_in : TrapsCommand → TrapsWords
+traps_in c = record { job = c.job.now; set = c.set.now; plates = map input_of (map string_bytes c.plates.now) }
+
+-- a command of `apply`
+abbrev pub apply_in : ApplyCommand → ApplyWords
+apply_in c = record { set = c.set.now; plates = map copy_of (map string_bytes c.plates.now) }
+
+-- either of them
+abbrev pub command_in : Command → Meaning
+command_in (Traps c) = traps (traps_in c)
+command_in (Apply c) = apply (apply_in c)
+
+-- as many plates as a page may have
+pub record AreFew (count : ℕ) : Type 0 where
+  pub some : 1 ≤ count
+  pub few : count ≤ 16
+
+-- the limits of what the words may ask for
+abbrev pub IsWithin : Command → Type 0
+IsWithin (Traps c) = AreFew (length c.plates.now)
+IsWithin (Apply c) = AreFew (length c.plates.now)
