@@ -4,7 +4,7 @@ ghost use Rattle.band_claims.specs.Sheets.{IsFit};
 ghost use Rattle.band_core.specs.Values.{value};
 ghost use Rattle.page_model.specs.Bands.{phase_of, pieces_of};
 ghost use Rattle.row_cells.specs.Packing.{IsBits, IsByteBits, lane, lanes as lanes_for};
-ghost use Rattle.row_cells.specs.Places.{lanes_of, value_total};
+ghost use Rattle.row_cells.specs.Places.{bits_of, first_cell_of, lanes_of, value_total};
 
 use crate::sources::CellSource;
 use row_cells::layout::{Layout, bits, lanes};
@@ -19,10 +19,13 @@ pub(crate) struct Run {
     pub count: usize,
 }
 
-/// So many values of a cell of a piece, its cells counted from 0, from a lane on.
+/// So many values of a cell of a piece, its cells counted from 0, from a lane on. What is the same for all cells of the piece,
+/// the number of its first cell and the bits of its values, is worked out once a run.
 #[derive(Clone, Copy, Drop)]
 struct Part {
     piece: u32,
+    first: u32,
+    bits: u32,
     cell: u32,
     lane: u32,
     place: usize,
@@ -53,6 +56,8 @@ fn read_values_part<S, C: CellSource<S>>(
     requires layout { layout.now ≡ (C.sheet source.now seat.old).layout }
     requires fit { IsFit (C.sheet source.now seat.old) }
     requires piece { part.piece < pieces_of layout.now.bands }
+    requires first { part.first ≡ first_cell_of layout.now part.piece }
+    requires bits { part.bits ≡ bits_of (phase_of layout.now.bands part.piece) }
     requires known { C.knows source.now seat.old part.piece }
     requires some { 1 ≤ part.count }
     requires few { part.lane + part.count ≤ lanes_of (phase_of layout.now.bands part.piece) }
@@ -66,10 +71,9 @@ fn read_values_part<S, C: CellSource<S>>(
     ensures kept { (k : ℕ) → k < part.place → slice_index out.new k ≡ slice_index out.old k }
     ensures len { length out.new ≡ length out.old }
 {
-    let bits = bits(part.piece / layout.bands().count);
-    let word = source.word(seat, layout.first_cell(part.piece) + part.cell);
-    let rest = without_lanes(bits, word, part.lane);
-    unpack_at(bits, rest, part.place, part.count, out);
+    let word = source.word(seat, part.first + part.cell);
+    let rest = without_lanes(part.bits, word, part.lane);
+    unpack_at(part.bits, rest, part.place, part.count, out);
 }
 
 /// Unpacks values of a piece.
@@ -92,7 +96,10 @@ pub(crate) fn read_values<S, C: CellSource<S>>(
     ensures kept { (k : ℕ) → k < run.place → slice_index out.new k ≡ slice_index out.old k }
     ensures len { length out.new ≡ length out.old }
 {
-    let lanes = lanes(run.piece / layout.bands().count);
+    let phase = run.piece / layout.bands().count;
+    let first = layout.first_cell(run.piece);
+    let bits = bits(phase);
+    let lanes = lanes(phase);
     let mut cell = run.from / lanes;
     let mut lane = run.from % lanes;
     let mut done = 0;
@@ -100,6 +107,8 @@ pub(crate) fn read_values<S, C: CellSource<S>>(
         let count = ((lanes - lane) as usize).min(run.count - done);
         let part = Part {
             piece: run.piece,
+            first,
+            bits,
             cell,
             lane,
             place: run.place + done,
@@ -137,6 +146,8 @@ fn read_bytes_part<S, C: CellSource<S>>(
     requires fit { IsFit (C.sheet source.now seat.old) }
     requires phase { phase_of layout.now.bands part.piece < 2 }
     requires piece { part.piece < pieces_of layout.now.bands }
+    requires first { part.first ≡ first_cell_of layout.now part.piece }
+    requires bits { part.bits ≡ bits_of (phase_of layout.now.bands part.piece) }
     requires known { C.knows source.now seat.old part.piece }
     requires some { 1 ≤ part.count }
     requires few { part.lane + part.count ≤ lanes_of (phase_of layout.now.bands part.piece) }
@@ -150,10 +161,9 @@ fn read_bytes_part<S, C: CellSource<S>>(
     ensures kept { (k : ℕ) → k < part.place → slice_index out.new k ≡ slice_index out.old k }
     ensures len { length out.new ≡ length out.old }
 {
-    let bits = bits(part.piece / layout.bands().count);
-    let word = source.word(seat, layout.first_cell(part.piece) + part.cell);
-    let rest = without_lanes(bits, word, part.lane);
-    unpack_bytes_at(bits, rest, part.place, part.count, out);
+    let word = source.word(seat, part.first + part.cell);
+    let rest = without_lanes(part.bits, word, part.lane);
+    unpack_bytes_at(part.bits, rest, part.place, part.count, out);
 }
 
 /// Unpacks values of a piece, where they are bytes, as zones and marks are.
@@ -177,7 +187,10 @@ pub(crate) fn read_bytes<S, C: CellSource<S>>(
     ensures kept { (k : ℕ) → k < run.place → slice_index out.new k ≡ slice_index out.old k }
     ensures len { length out.new ≡ length out.old }
 {
-    let lanes = lanes(run.piece / layout.bands().count);
+    let phase = run.piece / layout.bands().count;
+    let first = layout.first_cell(run.piece);
+    let bits = bits(phase);
+    let lanes = lanes(phase);
     let mut cell = run.from / lanes;
     let mut lane = run.from % lanes;
     let mut done = 0;
@@ -185,6 +198,8 @@ pub(crate) fn read_bytes<S, C: CellSource<S>>(
         let count = ((lanes - lane) as usize).min(run.count - done);
         let part = Part {
             piece: run.piece,
+            first,
+            bits,
             cell,
             lane,
             place: run.place + done,

@@ -90,6 +90,21 @@ changes_here page before after y c x b a = ap (λ (n : ℕ). not (n == slice_ind
 pub row_differences : (page : PageParts) (before after : List ℕ) (y c n : ℕ) → n ≡ width page → ((x : ℕ) → x < width page → slice_index before x ≡ tint page c (record { x = x; y = y })) → ((x : ℕ) → x < width page → slice_index after x ≡ new page (record { x = x; y = y }) c) → count_below (λ k. not (slice_index after k == slice_index before k)) n ≡ count_below (λ x. plate_changes page c (record { x = x; y = y })) (width page)
 row_differences page before after y c n en b a = ap (count_below (λ k. not (slice_index after k == slice_index before k))) en ∙ count_below-ext (λ k. not (slice_index after k == slice_index before k)) (λ x. plate_changes page c (record { x = x; y = y })) (width page) (λ x l. changes_here page before after y c x (b x l) (a x l))
 
+-- how many places of two rows differ, one block further
+pub block_counted : (before after one other : List ℕ) (from size more n : ℕ) → length other ≡ size → ((k : ℕ) → k < size → slice_index one k ≡ slice_index before (from + k)) → ((k : ℕ) → k < size → slice_index other k ≡ slice_index after (from + k)) → more ≡ count_below (λ k. not (slice_index other k == slice_index one k)) (length other) → n ≡ count_below (λ k. not (slice_index after k == slice_index before k)) from → n + more ≡ count_below (λ k. not (slice_index after k == slice_index before k)) (from + size)
+block_counted before after one other from size more n long b a em en =
+    let f : ℕ → Bool = λ k. not (slice_index after k == slice_index before k) in
+    let g : ℕ → Bool = λ k. not (slice_index other k == slice_index one k) in
+    let same : count_below g size ≡ count_below (λ k. f (from + k)) size = count_below-ext g (λ k. f (from + k)) size (λ k l. ap (λ (x : ℕ). not (x == slice_index one k)) (a k l) ∙ ap (λ (x : ℕ). not (slice_index after (from + k) == x)) (b k l)) in
+    omega (arith, em, ap (count_below g) long, same, count_below-add f from size, en)
+
+-- where the block is the same
+pub block_same : (before after one other : List ℕ) (from size n : ℕ) → ((k : ℕ) → k < size → slice_index one k ≡ slice_index before (from + k)) → ((k : ℕ) → k < size → slice_index other k ≡ slice_index after (from + k)) → one ≡ other → n ≡ count_below (λ k. not (slice_index after k == slice_index before k)) from → n ≡ count_below (λ k. not (slice_index after k == slice_index before k)) (from + size)
+block_same before after one other from size n b a e en =
+    let f : ℕ → Bool = λ k. not (slice_index after k == slice_index before k) in
+    let none = count_none (λ k. f (from + k)) size (λ k l. ap not (eq-eqb _ _ (sym (a k l) ∙ (ap (λ (xs : List ℕ). slice_index xs k) (sym e) ∙ b k l)))) in
+    omega (arith, none, count_below-add f from size, en)
+
 -- a plate's count, one row further
 pub row_counted : (page : PageParts) (y c old more : ℕ) → old ≡ count_below (λ k. plate_changes page c (sample_at page k)) (y * width page) → more ≡ count_below (λ x. plate_changes page c (record { x = x; y = y })) (width page) → old + more ≡ count_below (λ k. plate_changes page c (sample_at page k)) ((y + 1) * width page)
 row_counted page y c old more eo em =
@@ -155,6 +170,42 @@ sample_tallied page y x a v counts valid lx ea ev h = record {
 
 pub sample_fits : (page : PageParts) (y x a : ℕ) (counts : List ℕ) → IsPage page → y < height page → x < width page → a < length page.zones → AreSamplesCounted page (y * width page + x) counts → slice_index counts a + 1 < 2 ^ 64
 sample_fits page y x a counts valid ly lx la h = count_fits counts a (y * width page + x) _ (few_samples page y x valid ly (omega (arith, lx))) (h.each a la)
+
+-- a run of samples that lie in one zone
+
+count_all : (f : ℕ → Bool) (m : ℕ) → ((k : ℕ) → k < m → f k ≡ true) → count_below f m ≡ m
+count_all f zero h = refl
+count_all f (suc m) h = rw (h m (omega arith)) (omega (arith, count_all f m (λ k l. h k (omega (arith, l)))))
+
+in_zone : (page : PageParts) (y x k z : ℕ) → x + k < width page → zone_of page (sample_at page (y * width page + x + k)) ≡ zone_of page (record { x = x + k; y = y })
+in_zone page y x k z l = ap (zone_of page) (ap (sample_at page) (let e : y * width page + x + k ≡ y * width page + (x + k) = omega arith in e) ∙ numbered page y (x + k) l)
+
+pub run_tallied : (page : PageParts) (y x n a v : ℕ) (counts : List ℕ) → IsPage page → 0 < n → x + n ≤ width page → a ≡ zone_of page (record { x = x; y = y }) → ((k : ℕ) → k < n → zone_of page (record { x = x + k; y = y }) ≡ zone_of page (record { x = x; y = y })) → v ≡ slice_index counts a + n → AreSamplesCounted page (y * width page + x) counts → AreSamplesCounted page (y * width page + (x + n)) (slice_set counts a v)
+run_tallied page y x n a v counts valid some inside ea alike ev h = record {
+  long = length-set counts a v ∙ h.long;
+  each = λ z l. elim (cases_eq z a) [
+    | inl e ↦ (let here : slice_index (slice_set counts a v) z ≡ v = ap (slice_index (slice_set counts a v)) e ∙ get_or-set_same counts a v 0 (rw ea (rw h.long (zone_known page (record { x = x; y = y }) valid))) in
+        let value : v ≡ slice_index counts z + n = ev ∙ ap (λ (i : ℕ). slice_index counts i + n) (sym e) in
+        let all = count_all (λ k. zone_of page (sample_at page (y * width page + x + k)) == z) n (λ k m. eq-eqb _ _ (in_zone page y x k z (omega (arith, m, inside)) ∙ (alike k m ∙ (sym ea ∙ sym e)))) in
+        omega (arith, here, value, h.each z l, all, more z))
+    | inr ne ↦ (let none = count_none (λ k. zone_of page (sample_at page (y * width page + x + k)) == z) n (λ k m. other _ z (λ q. ne (q ∙ (in_zone page y x k z (omega (arith, m, inside)) ∙ (alike k m ∙ sym ea))))) in
+        omega (arith, get_or-set_other counts a z v 0 ne, h.each z l, none, more z))
+  ];
+} where
+  more : (z : ℕ) → count_below (λ i. zone_of page (sample_at page i) == z) (y * width page + (x + n)) ≡ count_below (λ i. zone_of page (sample_at page i) == z) (y * width page + x) + count_below (λ k. zone_of page (sample_at page (y * width page + x + k)) == z) n
+  more z = ap (count_below (λ i. zone_of page (sample_at page i) == z)) (let e : y * width page + (x + n) ≡ y * width page + x + n = omega arith in e) ∙ count_below-add (λ i. zone_of page (sample_at page i) == z) (y * width page + x) n
+
+pub run_fits : (page : PageParts) (y x n a : ℕ) (counts : List ℕ) → IsPage page → y < height page → x + n ≤ width page → a < length page.zones → AreSamplesCounted page (y * width page + x) counts → slice_index counts a + n < 2 ^ 64
+run_fits page y x n a counts valid ly inside la h =
+    let plane = plane_of page 0 valid valid.parts.some_plates in
+    omega (arith, h.each a la, count_below-le (λ i. zone_of page (sample_at page i) == a) (y * width page + x), few_samples page y x valid ly (omega (arith, inside)), inside, plane.narrow)
+
+-- a run of samples that do not change
+pub run_passed : (page : PageParts) (y x n : ℕ) (counts : List ℕ) → x + n ≤ width page → ((k : ℕ) → k < n → sample_changes page (record { x = x + k; y = y }) ≡ false) → AreZonesCounted page (y * width page + x) counts → AreZonesCounted page (y * width page + (x + n)) counts
+run_passed page y x zero counts inside quiet h = subst (λ (i : ℕ). AreZonesCounted page (y * width page + i) counts) (let e : x ≡ x + 0 = omega arith in e) h
+run_passed page y x (suc n) counts inside quiet h =
+    subst (λ (i : ℕ). AreZonesCounted page i counts) (let e : y * width page + (x + n) + 1 ≡ y * width page + (x + suc n) = omega arith in e)
+    (zone_passed page y (x + n) counts (omega (arith, inside)) (quiet n (omega arith)) (run_passed page y x n counts (omega (arith, inside)) (λ k l. quiet k (omega (arith, l))) h))
 
 -- a quiet row
 

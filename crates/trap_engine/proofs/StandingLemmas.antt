@@ -91,6 +91,15 @@ putting_all page planes n w c x e h = record {
   rest = λ j a lj. h.rest j (omega (arith, a)) lj;
 }
 
+-- samples that stay as they are
+pub putting_kept : (page : PageParts) (planes : List Plane) (y c x count : ℕ) → y < height page → c < plates page → x + count ≤ width page → ((k : ℕ) → k < count → new page (record { x = x + k; y = y }) c ≡ tint page c (record { x = x + k; y = y })) → ArePutting page planes (y * width page) (width page) c x → ArePutting page planes (y * width page) (width page) c (x + count)
+putting_kept page planes y c x count ly lc inside keep h = record {
+  count = h.count;
+  done = h.done;
+  here = subst (λ (n : ℕ). IsTrappedTo page c n (plane_at planes c)) (let e : y * width page + x + count ≡ y * width page + (x + count) = omega arith in e) (plate_kept page c (y * width page + x) count (plane_at planes c) (omega (arith, row_inside page y ly, inside)) (λ k l. subst (λ (p : At). new page p c ≡ tint page c p) (sym (ap (sample_at page) (let e : y * width page + x + k ≡ y * width page + (x + k) = omega arith in e) ∙ numbered page y (x + k) (omega (arith, l, inside)))) (keep k l)) h.here);
+  rest = h.rest;
+}
+
 pub putting_next : (page : PageParts) (old new_planes : List Plane) (y c x t w : ℕ) → w ≡ width page → y < height page → x < width page → c < plates page → t ≡ new page (record { x = x; y = y }) c → PutTint old new_planes c (y * w + x) t → ArePutting page old (y * width page) (width page) c x → ArePutting page new_planes (y * width page) (width page) c (x + 1)
 putting_next page old new_planes y c x t w ew ly lx lc et put h = rw put (record {
   count = length-set old c placed ∙ h.count;

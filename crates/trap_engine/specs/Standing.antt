@@ -42,6 +42,11 @@ pub record IsNewRow (page : PageParts) (y : ℕ) (row : List ℕ) : Type 0 where
   pub long : length row ≡ plates page * width page
   pub each : (c x : ℕ) → c < plates page → x < width page → slice_index row (c * width page + x) ≡ new page (record { x = x; y = y }) c
 
+-- the page's own tints of plate c in row y
+pub record IsTintRow (page : PageParts) (y c : ℕ) (row : List ℕ) : Type 0 where
+  pub long : length row ≡ width page
+  pub each : (x : ℕ) → x < width page → slice_index row x ≡ tint page c (record { x = x; y = y })
+
 -- for each plate how many of the first n samples change
 pub record ArePlatesCounted (page : PageParts) (n : ℕ) (counts : List ℕ) : Type 0 where
   pub long : length counts ≡ plates page

@@ -7,6 +7,7 @@ ghost use Rattle.page_model.specs.Zones.{AreZones};
 ghost use Rattle.lists.specs.Words.{count_below};
 ghost use Rattle.trap_engine.specs.Standing.{ArePlatesCounted, AreZonesCounted, IsNewRow, KeepsRow};
 
+use crate::blocks::{BLOCK, are_clear, are_same, part_of};
 use crate::counting::one_if;
 use band_values::{row_of, tints_of_row};
 use page_model::page::Page;
@@ -20,13 +21,6 @@ pub fn plate_row<'a>(page: &Page, row: &'a [u16], y: u32, c: u32) -> &'a [u16]
 {
     let _valid = page.plates();
     row_of(row, page.width() as usize, c as usize)
-}
-
-/// Whether two rows of tints are the same.
-pub fn are_same(one: &[u16], other: &[u16]) -> bool
-    ensures { result ≡ true → one.now ≡ other.now }
-{
-    one == other
 }
 
 /// Whether the new tints of row y are those of the page in all plates.
@@ -43,8 +37,8 @@ pub fn is_kept(page: &Page, y: u32, row: &[u16]) -> bool
     true
 }
 
-/// How many tints differ.
-fn differences(before: &[u16], after: &[u16]) -> u64
+/// How many tints of a block differ.
+fn differences_here(before: &[u16], after: &[u16]) -> u64
     requires { length before.now ≡ length after.now }
     ensures count { result ≡ count_below (λ k. not (slice_index after.now k == slice_index before.now k)) (length after.now) }
     ensures few { result ≤ length after.now }
@@ -52,6 +46,26 @@ fn differences(before: &[u16], after: &[u16]) -> u64
     let mut count = 0;
     for k in 0..after.len() {
         count += one_if(after[k] != before[k]);
+    }
+    count
+}
+
+/// How many tints differ. Blocks that are the same are not gone over.
+fn differences(before: &[u16], after: &[u16]) -> u64
+    requires { length before.now ≡ length after.now }
+    ensures count { result ≡ count_below (λ k. not (slice_index after.now k == slice_index before.now k)) (length after.now) }
+    ensures few { result ≤ length after.now }
+{
+    let mut count = 0;
+    let mut from = 0;
+    while from < after.len() {
+        let size = (after.len() - from).min(BLOCK);
+        let one = part_of(before, from, size);
+        let other = part_of(after, from, size);
+        if !are_same(one, other) {
+            count += differences_here(one, other);
+        }
+        from += size;
     }
     count
 }
@@ -144,7 +158,31 @@ fn count_sample(page: &Page, zones: &[u8], y: u32, x: usize, changes: &[bool], c
     counts[zone] += 1;
 }
 
-/// Counts for each zone the samples of row y that change.
+/// Counts for each zone the samples of row y that change, of some samples from one on.
+fn count_block(
+    page: &Page,
+    zones: &[u8],
+    y: u32,
+    from: usize,
+    to: usize,
+    changes: &[bool],
+    counts: &mut [u64],
+)
+    requires zones { AreZones page.now y zones.now }
+    requires line { y < height page.now }
+    requires order { from ≤ to }
+    requires inside { to ≤ width page.now }
+    requires changes { length changes.now ≡ width page.now }
+    requires each { (x : ℕ) → x < width page.now → slice_index_or changes.now x false ≡ sample_changes page.now (record { x = x; y = y }) }
+    requires counts { AreZonesCounted page.now (y * width page.now + from) counts.old }
+    ensures { AreZonesCounted page.now (y * width page.now + to) counts.new }
+{
+    for x in from..to {
+        count_sample(page, zones, y, x, changes, counts);
+    }
+}
+
+/// Counts for each zone the samples of row y that change. Blocks in which none does are not gone over.
 pub fn count_changed(page: &Page, zones: &[u8], y: u32, changes: &[bool], counts: &mut [u64])
     requires zones { AreZones page.now y zones.now }
     requires line { y < height page.now }
@@ -153,7 +191,12 @@ pub fn count_changed(page: &Page, zones: &[u8], y: u32, changes: &[bool], counts
     requires counts { AreZonesCounted page.now (y * width page.now) counts.old }
     ensures { AreZonesCounted page.now ((y + 1) * width page.now) counts.new }
 {
-    for x in 0..changes.len() {
-        count_sample(page, zones, y, x, changes, counts);
+    let mut x = 0;
+    while x < changes.len() {
+        let count = (changes.len() - x).min(BLOCK);
+        if !are_clear(changes, x, count) {
+            count_block(page, zones, y, x, x + count, changes, counts);
+        }
+        x += count;
     }
 }

@@ -1,11 +1,12 @@
 // What a row has of each zone, and of edges that decide.
 
-ghost use Rattle.std.specs.Prelude.{◌≡◌, ◌<◌, ◌≤◌, ◌+◌, ◌*◌, ◌/◌, ◌%◌, if◌then◌else◌, length, slice_index};
+ghost use Rattle.std.specs.Prelude.{◌≡◌, ℕ, ◌<◌, ◌≤◌, ◌+◌, ◌*◌, ◌/◌, ◌%◌, if◌then◌else◌, length, slice_index};
 ghost use Rattle.lists.specs.Words.{sum_below};
 ghost use Rattle.page_model.specs.Page.{height, width};
 ghost use Rattle.page_model.specs.Zones.{AreZones};
 ghost use Rattle.trap_engine.specs.Standing.{AreSamplesCounted};
 
+use crate::blocks::{BLOCK, are_alike};
 use page_model::page::Page;
 
 /// 1 where the test holds, else 0.
@@ -29,15 +30,51 @@ pub fn edges_in(marks: &[u8]) -> u64
     count
 }
 
-/// Counts the samples of row y in their zones.
-#[tactic(auto, using(crate::proofs::CountLemmas::zone_known))]
+/// Counts the samples of row y in their zones, block by block.
 pub fn count_zones(page: &Page, zones: &[u8], y: u32, counts: &mut [u64])
     requires zones { AreZones page.now y zones.now }
     requires line { y < height page.now }
     requires counts { AreSamplesCounted page.now (y * width page.now) counts.old }
     ensures { AreSamplesCounted page.now ((y + 1) * width page.now) counts.new }
 {
-    for x in 0..zones.len() {
+    let mut x = 0;
+    while x < zones.len() {
+        let count = (zones.len() - x).min(BLOCK);
+        if are_alike(zones, x, count) {
+            count_run(page, zones, y, x, count, counts);
+        } else {
+            count_each(page, zones, y, x, x + count, counts);
+        }
+        x += count;
+    }
+}
+
+/// Counts so many samples of row y, from sample x on, in the zone that they all lie in.
+#[tactic(auto, using(crate::proofs::CountLemmas::zone_known))]
+fn count_run(page: &Page, zones: &[u8], y: u32, x: usize, count: usize, counts: &mut [u64])
+    requires zones { AreZones page.now y zones.now }
+    requires line { y < height page.now }
+    requires some { 1 ≤ count }
+    requires inside { x + count ≤ width page.now }
+    requires alike { (k : ℕ) → k < count → slice_index zones.now (x + k) ≡ slice_index zones.now x }
+    requires counts { AreSamplesCounted page.now (y * width page.now + x) counts.old }
+    ensures { AreSamplesCounted page.now (y * width page.now + (x + count)) counts.new }
+{
+    let _valid = page.plates();
+    let zone = usize::from(zones[x]);
+    counts[zone] += count as u64;
+}
+
+/// Counts the samples of row y from one on and before another, each in its zone.
+fn count_each(page: &Page, zones: &[u8], y: u32, from: usize, to: usize, counts: &mut [u64])
+    requires zones { AreZones page.now y zones.now }
+    requires line { y < height page.now }
+    requires order { from ≤ to }
+    requires inside { to ≤ width page.now }
+    requires counts { AreSamplesCounted page.now (y * width page.now + from) counts.old }
+    ensures { AreSamplesCounted page.now (y * width page.now + to) counts.new }
+{
+    for x in from..to {
         count_zone(page, zones, y, x, counts);
     }
 }

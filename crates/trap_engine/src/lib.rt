@@ -2,6 +2,7 @@
 #![tactic(auto)]
 
 mod alone;
+mod blocks;
 mod changes;
 mod counting;
 mod grid;

@@ -1,11 +1,12 @@
 // The planes of the page: copies of them, into which the new tints of its rows are put.
 
-ghost use Rattle.std.specs.Prelude.{◌≡◌, ◌<◌, ◌+◌, ◌*◌, ℕ, IfOk, length, slice_index};
+ghost use Rattle.std.specs.Prelude.{◌≡◌, ◌<◌, ◌≤◌, ◌+◌, ◌*◌, ℕ, IfOk, length, slice_index};
 ghost use Rattle.page_model.specs.Page.{height, plates, width};
 ghost use Rattle.page_model.specs.Tints.{new};
-ghost use Rattle.trap_engine.specs.Standing.{AreTrappedTo, AreTrapping, IsNewRow, IsTrappedTo};
+ghost use Rattle.trap_engine.specs.Standing.{ArePutting, AreTrappedTo, AreTrapping, IsNewRow, IsTintRow, IsTrappedTo};
 
-use crate::changes::{are_same, plate_row};
+use crate::blocks::{BLOCK, are_same, part_of};
+use crate::changes::plate_row;
 use crate::memory::push;
 use band_values::tints_of_row;
 use lists::list::List;
@@ -42,19 +43,74 @@ pub fn copies_of(alloc: Global, page: &Page) -> Result<PlaneList, OutOfMemory>
     Ok(planes)
 }
 
-/// Puts the new tints of plate c into its row y, one after another.
-fn put_each(page: &Page, y: u32, c: u32, after: &[u16], planes: &mut PlaneList)
+/// Puts the new tints of plate c into row y, sample by sample from one on and before another.
+fn put_samples(
+    page: &Page,
+    y: u32,
+    c: u32,
+    after: &[u16],
+    from: usize,
+    to: usize,
+    planes: &mut PlaneList,
+)
     requires line { y < height page.now }
     requires plate { c < plates page.now }
+    requires len { length after.now ≡ width page.now }
+    requires tints { (x : ℕ) → x < width page.now → slice_index after.now x ≡ new page.now (record { x = x; y = y }) c }
+    requires order { from ≤ to }
+    requires inside { to ≤ width page.now }
+    requires planes { ArePutting page.now planes.old (y * width page.now) (width page.now) c from }
+    ensures { ArePutting page.now planes.new (y * width page.now) (width page.now) c to }
+{
+    let _valid = page.plates();
+    let start = y as usize * page.width() as usize;
+    for x in from..to {
+        set_tint(planes, c as usize, start + x, after[x]);
+    }
+}
+
+/// Puts the new tints of some samples of plate c into row y, from sample x on, where they are not those of the page. It gives
+/// the sample that comes next.
+fn put_block(
+    page: &Page,
+    y: u32,
+    c: u32,
+    before: &[u16],
+    after: &[u16],
+    x: usize,
+    planes: &mut PlaneList,
+) -> usize
+    requires line { y < height page.now }
+    requires plate { c < plates page.now }
+    requires column { x < width page.now }
+    requires before { IsTintRow page.now y c before.now }
+    requires len { length after.now ≡ width page.now }
+    requires tints { (x : ℕ) → x < width page.now → slice_index after.now x ≡ new page.now (record { x = x; y = y }) c }
+    requires planes { ArePutting page.now planes.old (y * width page.now) (width page.now) c x }
+    ensures more { x < result }
+    ensures inside { result ≤ width page.now }
+    ensures planes { ArePutting page.now planes.new (y * width page.now) (width page.now) c result }
+{
+    let count = (after.len() - x).min(BLOCK);
+    if !are_same(part_of(before, x, count), part_of(after, x, count)) {
+        put_samples(page, y, c, after, x, x + count, planes);
+    }
+    x + count
+}
+
+/// Puts the new tints of plate c into its row y, block by block.
+fn put_each(page: &Page, y: u32, c: u32, before: &[u16], after: &[u16], planes: &mut PlaneList)
+    requires line { y < height page.now }
+    requires plate { c < plates page.now }
+    requires before { IsTintRow page.now y c before.now }
     requires len { length after.now ≡ width page.now }
     requires tints { (x : ℕ) → x < width page.now → slice_index after.now x ≡ new page.now (record { x = x; y = y }) c }
     requires planes { AreTrapping page.now planes.old (y * width page.now) (width page.now) c }
     ensures { AreTrapping page.now planes.new (y * width page.now) (width page.now) (c + 1) }
 {
-    let _valid = page.plates();
-    let start = y as usize * page.width() as usize;
-    for x in 0..after.len() {
-        set_tint(planes, c as usize, start + x, after[x]);
+    let mut x = 0;
+    while x < after.len() {
+        x = put_block(page, y, c, before, after, x, planes);
     }
 }
 
@@ -71,7 +127,7 @@ fn put_plate(page: &Page, row: &[u16], y: u32, c: u32, planes: &mut PlaneList)
     if are_same(before, after) {
         return;
     }
-    put_each(page, y, c, after, planes);
+    put_each(page, y, c, before, after, planes);
 }
 
 /// Puts the new tints of row y into the planes.

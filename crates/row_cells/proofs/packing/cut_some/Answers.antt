@@ -1,0 +1,11 @@
+use Rattle.std.proofs.Common.{◌/◌, ◌%◌, ◌∙◌, arith}
+use Rattle.row_cells.proofs.Lanes.{lane_next, one_written}
+use Rattle.row_cells.proofs.packing.cut_some.Goals as goal
+
+pub loop-j-preserved : goal.loop-j-preserved
+loop-j-preserved c =
+    let v = c.loop-j.invariant in record {
+      base = v.base;
+      left = (λ i. v.left i / v.base i) ∙ lane_next c.args.bits c.args.packed c.loop-j.j;
+      written = one_written c.loop-j.out c.args.bits c.args.packed c.loop-j.j _ (omega (arith, c.loop-j-test.true)) (λ i. v.left i % v.base i) v.written;
+    }

@@ -1,0 +1,10 @@
+use Rattle.std.proofs.Common.{◌≡◌, ℕ, ◌*◌, ◌/◌, ◌^◌, ◌<◌, slice_index}
+use Rattle.row_cells.specs.Packing.{lane}
+use Rattle.row_cells.proofs.packing.cut_some_bytes.Given as goal
+
+abbrev pub invariant-loop-j : goal.invariant-loop-j
+invariant-loop-j l = record {
+  base : l.base ≡ 2 ^ l.bits;
+  left : l.left ≡ l.packed / 2 ^ (l.bits * l.j);
+  written : (j : ℕ) → j < l.j → slice_index l.out j ≡ lane l.bits l.packed j;
+}
