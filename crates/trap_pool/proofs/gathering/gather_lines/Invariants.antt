@@ -1,0 +1,13 @@
+use Rattle.std.proofs.Common.{◌≡◌, ◌≤◌, length, take, vec_capacity}
+use Rattle.trap_pool.specs.Pools.{InTurn}
+use Rattle.trap_pool.specs.Replies.{accepted, most_in_all}
+use Rattle.trap_pool.proofs.gathering.gather_lines.Given as goal
+
+abbrev pub invariant-loop-number : goal.invariant-loop-number
+invariant-loop-number g l = record {
+  turn : InTurn 0 0 (take l.number l.lines) (g.T.Tray.state l.fn.tray) (g.T.Tray.state l.tray) l.replies.items;
+  count : length l.replies.items ≡ l.number;
+  used : l.used ≡ accepted l.replies.items;
+  few : l.used ≤ most_in_all;
+  room : length l.lines ≤ vec_capacity l.replies;
+}

@@ -1,0 +1,11 @@
+use Rattle.std.proofs.Common.{◌≡◌, ◌≤◌, length, vec_capacity, vec_len}
+use Rattle.line_queue.specs.Rule.{Ascends, IsAbove}
+use Rattle.trap_pool.proofs.pool.waiting_lines.Given as goal
+
+abbrev pub invariant-loop-number : goal.invariant-loop-number
+invariant-loop-number l = record {
+  ascends : Ascends l.numbers.items;
+  above : IsAbove l.number l.numbers.items;
+  few : vec_len l.numbers ≤ l.number;
+  room : length l.replies ≤ vec_capacity l.numbers;
+}

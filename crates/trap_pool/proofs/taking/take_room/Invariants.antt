@@ -1,0 +1,10 @@
+use Rattle.std.proofs.Common.{◌≡◌, ◌++◌, All}
+use Rattle.std.specs.Vec.Iter.{into_iter_items}
+use Rattle.trap_pool.specs.Taking.{AllSettled, TrapsLine}
+use Rattle.trap_pool.proofs.taking.take_room.Given as goal
+
+abbrev pub invariant-loop-kept : goal.invariant-loop-kept
+invariant-loop-kept l = record {
+  settled : AllSettled l.fn.replies.items l.replies.items;
+  left : l.fn.room.items ≡ l.yielded ++ into_iter_items l.kept-iterator;
+}

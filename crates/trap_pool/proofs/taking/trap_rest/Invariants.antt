@@ -1,0 +1,6 @@
+use Rattle.std.proofs.Common.{◌≡◌, length}
+use Rattle.trap_pool.specs.Taking.{AllSettled}
+use Rattle.trap_pool.proofs.taking.trap_rest.Given as goal
+
+abbrev pub invariant-loop-place : goal.invariant-loop-place
+invariant-loop-place l = AllSettled l.fn.replies.items l.replies.items

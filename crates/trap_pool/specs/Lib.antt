@@ -1,0 +1,4 @@
+pub mod Replies
+pub mod Pools
+pub mod Taking
+pub mod Rooms

@@ -1,0 +1,77 @@
+-- What is answered to a line of a list of jobs.
+use Rattle.std.specs.Prelude.{◌≡◌, ℕ, ◌+◌, ◌*◌, ◌<◌, ◌≤◌, List, [], ◌∷◌, Option, Some, None, Result, Ok, Err}
+use Rattle.page_model.specs.declared.parts.PageParts.{PageParts}
+use Rattle.page_model.specs.Counts.{page_counts}
+use Rattle.page_model.specs.Page.{height, plates, width}
+use Rattle.page_model.specs.Tints.{trapped_planes}
+use Rattle.trap_engine.specs.declared.alone.Trapped.{Trapped}
+use Rattle.trap_report.specs.declared.refusal.Refusal.{Refusal}
+use Rattle.trap_report.specs.declared.refusal.Refusal.TheVariants.{Usage, Read, Write, Memory}
+use Rattle.trap_pool.specs.declared.outcome.Outcome.{Outcome}
+use Rattle.trap_pool.specs.declared.outcome.Outcome.TheVariants.{Done, Refused, TooLarge}
+
+-- the reply to a line: its number, its page where one was gathered, and what became of it
+pub record ReplyParts : Type 0 where
+  pub line : ℕ
+  pub page : Option PageParts
+  pub outcome : Outcome
+
+abbrev pub reply_parts : ℕ → Option PageParts → Outcome → ReplyParts
+reply_parts line page outcome = record { line = line; page = page; outcome = outcome }
+
+-- The new tints and the counts are those of the page.
+pub record IsTrapOf (page : PageParts) (trapped : Trapped) : Type 0 where
+  pub planes : trapped.planes ≡ trapped_planes page
+  pub counts : trapped.counts ≡ page_counts page
+
+-- A page is gathered or refused: nothing else comes of the words, and nothing is written.
+abbrev pub IsReading : Refusal → Type 0
+IsReading Usage = ⊥
+IsReading (Write file) = ⊥
+IsReading other = Unit {0}
+
+-- A page that was gathered is trapped, or is too large, or there was no memory to trap it; else there is the refusal of the page.
+abbrev pub IsReply : Option PageParts → Outcome → Type 0
+IsReply (Some page) (Done trapped) = IsTrapOf page trapped
+IsReply (Some page) TooLarge = Unit {0}
+IsReply (Some page) (Refused refusal) = refusal ≡ Memory
+IsReply None (Refused refusal) = IsReading refusal
+IsReply None (Done trapped) = ⊥
+IsReply None TooLarge = ⊥
+
+-- the samples of all plates of a page
+abbrev pub all_samples : PageParts → ℕ
+all_samples page = width page * height page * plates page
+
+-- how many samples the pages of a list may have together
+abbrev pub most_in_all : ℕ
+most_in_all = 320000000
+
+-- the samples that a reply's page takes of these, where it is accepted
+abbrev pub accepted_of : Option PageParts → Outcome → ℕ
+accepted_of None outcome = 0
+accepted_of (Some page) TooLarge = 0
+accepted_of (Some page) (Done trapped) = all_samples page
+accepted_of (Some page) (Refused refusal) = all_samples page
+
+-- the samples of all accepted pages
+abbrev pub accepted : List ReplyParts → ℕ
+accepted [] = 0
+accepted (reply ∷ replies) = accepted_of reply.page reply.outcome + accepted replies
+
+-- 1 where the reply is a read fault
+abbrev pub read_fault : Outcome → ℕ
+read_fault (Refused (Read file)) = 1
+read_fault other = 0
+
+-- how many of the replies are read faults
+abbrev pub read_faults : List ReplyParts → ℕ
+read_faults [] = 0
+read_faults (reply ∷ replies) = read_fault reply.outcome + read_faults replies
+
+-- what was gathered, be it accepted or not
+abbrev pub gathered_of : Option PageParts → Outcome → Result PageParts Refusal
+gathered_of (Some page) outcome = Ok page
+gathered_of None (Refused refusal) = Err refusal
+gathered_of None (Done trapped) = Err Memory
+gathered_of None TooLarge = Err Memory

@@ -1,0 +1,15 @@
+-- The room that a pool takes before it begins.
+use Rattle.std.specs.Prelude.{◌≡◌, ℕ, ◌≤◌, true, [], vec_capacity, vec_len}
+use Rattle.crossbeam_queue.specs.Passes.{IsPassOf, view}
+use Rattle.line_queue.specs.Rule.{pass_view, whole}
+use Rattle.trap_pool.specs.declared.pool.PoolRoom.{PoolRoom}
+
+-- room for so many lines, and for as many workers
+pub record IsRoomFor (lines workers : ℕ) (room : PoolRoom) : Type 0 where
+  pub no_reply : room.replies.items ≡ []
+  pub replies : lines ≤ vec_capacity room.replies
+  pub no_number : room.numbers.items ≡ []
+  pub numbers : lines ≤ vec_capacity room.numbers
+  pub results : vec_len room.results ≡ workers
+  pub passes : IsPassOf room.queue room.pass
+  pub opening : view room.pass ≡ pass_view whole true [] []

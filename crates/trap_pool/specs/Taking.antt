@@ -1,0 +1,55 @@
+-- What workers make of the pages that wait, and how replies take it in.
+use Rattle.std.specs.Prelude.{◌≡◌, ◌⊎◌, ℕ, ◌<◌, List, length, slice_index_or, Option, Some, None}
+use Rattle.page_model.specs.declared.parts.PageParts.{PageParts}
+use Rattle.trap_engine.specs.declared.alone.Trapped.{Trapped}
+use Rattle.trap_report.specs.declared.refusal.Refusal.TheVariants.{Memory}
+use Rattle.trap_pool.specs.declared.outcome.Outcome.{Outcome}
+use Rattle.trap_pool.specs.declared.outcome.Outcome.TheVariants.{Done, Refused, TooLarge}
+use Rattle.trap_pool.specs.Replies.{ReplyParts, IsTrapOf, reply_parts}
+
+-- stands past the last reply
+abbrev pub no_reply : ReplyParts
+no_reply = reply_parts 0 None (Refused Memory)
+
+-- reply k
+abbrev pub reply_at : List ReplyParts → ℕ → ReplyParts
+reply_at replies k = slice_index_or replies k no_reply
+
+-- the page that was accepted, if any
+abbrev pub accepted_page : Option PageParts → Outcome → Option PageParts
+accepted_page (Some page) (Done trapped) = Some page
+accepted_page (Some page) (Refused refusal) = Some page
+accepted_page (Some page) TooLarge = None
+accepted_page None outcome = None
+
+-- the one of it that nothing is made of yet
+abbrev pub waiting_in : Option PageParts → Outcome → Option PageParts
+waiting_in (Some page) (Refused refusal) = Some page
+waiting_in (Some page) (Done trapped) = None
+waiting_in (Some page) TooLarge = None
+waiting_in None outcome = None
+
+-- what a reply's accepted page is trapped to, if anything was made
+abbrev pub TrapsReply : ReplyParts → Option Trapped → Type 0
+TrapsReply reply None = Unit {0}
+TrapsReply reply (Some trapped) = (page : PageParts) × (accepted_page reply.page reply.outcome ≡ Some page) × IsTrapOf page trapped
+
+-- the same of the reply to that line, if there is one
+abbrev pub TrapsLine : List ReplyParts → ℕ → Option Trapped → Type 0
+TrapsLine replies line None = Unit {0}
+TrapsLine replies line (Some trapped) = (line < length replies) × TrapsReply (reply_at replies line) (Some trapped)
+
+-- The outcome stays, or the accepted page is done.
+abbrev pub Settles : Option PageParts → Outcome → Outcome → Type 0
+Settles page old new = (new ≡ old) ⊎ ((made : PageParts) × (trapped : Trapped) × (accepted_page page old ≡ Some made) × (new ≡ Done trapped) × IsTrapOf made trapped)
+
+-- A reply is settled: its line and its page stay.
+pub record Settled (old new : ReplyParts) : Type 0 where
+  pub line : new.line ≡ old.line
+  pub page : new.page ≡ old.page
+  pub outcome : Settles old.page old.outcome new.outcome
+
+-- All of them are.
+pub record AllSettled (old new : List ReplyParts) : Type 0 where
+  pub count : length new ≡ length old
+  pub each : (k : ℕ) → k < length old → Settled (reply_at old k) (reply_at new k)

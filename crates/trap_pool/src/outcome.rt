@@ -1,0 +1,13 @@
+use trap_engine::Trapped;
+use trap_report::refusal::Refusal;
+
+/// What became of a line.
+#[derive(Drop)]
+pub enum Outcome {
+    /// Its page is trapped.
+    Done(Trapped),
+    /// Its page was refused; or there was no memory to trap it.
+    Refused(Refusal),
+    /// Its page, together with the pages that were accepted before it, has more samples than a list may have.
+    TooLarge,
+}
