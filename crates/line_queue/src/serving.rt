@@ -112,7 +112,8 @@ fn serve_rooms<R: Threads + Wait + Sync, K: Drop + Send, W: LineWork<K> + Sync>(
 
 /// Serves the lines that the reader pushed: a worker for each room takes line after line out of the queue, until it finds none
 /// or its room is full. What the workers took and what is left in the queue then is what was pushed, and each result is one
-/// that may be made of its line. Where a thread can't be started the caller does its work.
+/// that may be made of its line. As many rooms come back as were given. Where a thread can't be started the caller does its
+/// work.
 pub fn serve_all<R: Threads + Wait + Sync, K: Drop + Send, W: LineWork<K> + Sync>(
     rt: &R,
     queue: &LineQueue,
@@ -129,6 +130,7 @@ pub fn serve_all<R: Threads + Wait + Sync, K: Drop + Send, W: LineWork<K> + Sync
         ≡ pass_view whole true (view pass).pushed (served_lines result.1.items) }
     ensures taken { (left : List ℕ) × Ascends left × ((line : ℕ) → times line (view pass).pushed
         ≡ times line (served_lines result.1.items) + times line left) }
+    ensures rooms { vec_len result.1 ≡ vec_len rooms }
     ensures made { All (AreMade (W.makes work.now)) result.1.items }
 {
     let (mut pass, rooms) = serve_rooms(rt, queue, work, pass, rooms);
