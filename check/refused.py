@@ -4,7 +4,7 @@
 refused.py [PROGRAM ..]     (trap, presscheck, trapset, traprun and trappool where none is named; what is not built is skipped)
 
 Every such run has to end with the status, the text and the files of the run without a refusal, or with 7, the line
-`out of memory`, and the files as they were before. It needs a C compiler (cc).
+`out of memory` (none where the words themselves found no room), and the files as they were before. It needs a C compiler (cc).
 """
 import os
 import shutil
@@ -119,13 +119,15 @@ def is_right(name, found, plain, before):
 def refuse_all(name, program, words, files, library, mark):
     """Refuses each request in turn. How many runs there were, how many wanted memory, and the numbers of those that went wrong."""
     plain = outcome(program, words, files, 0, library, mark)
-    short, wrong = 0, []
+    short, wrong, has_words = 0, [], False
     for number in range(1, MOST):
         found = outcome(program, words, files, number, library, mark)
         if not os.path.exists(mark):
             return number - 1, short, wrong
         short += found != plain
-        if not is_right(name, found, plain, files):
+        # `main` copies the words first; where these find no room nothing else is begun, and nothing told.
+        has_words = has_words or found[1] != b""
+        if not is_right(name, found, plain, files) and (has_words or found != (7, b"", files)):
             wrong.append((number, found[0], found[1]))
     raise SystemExit("check/refused: %s %s asks for memory more than %d times" % (name, " ".join(words), MOST))
 
