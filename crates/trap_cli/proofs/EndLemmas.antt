@@ -12,7 +12,8 @@ use Rattle.page_gather.specs.Steps.{PassesNoFault}
 use Rattle.page_gather.proofs.GatherLemmas.{refused_count}
 use Rattle.trap_report.specs.declared.refusal.Refusal.{Refusal}
 use Rattle.trap_report.specs.declared.refusal.Refusal.TheVariants.{Usage, Job, NoDetails, Plate, Page, Read, Write, Memory}
-use Rattle.trap_cli.specs.Endings.{AnswersPut, PutsOut, AnswersCommand, CarriesOut}
+use Rattle.page_output.specs.Output.{AnswersPut, PutsOut}
+use Rattle.trap_cli.specs.Endings.{AnswersCommand, CarriesOut}
 use Rattle.verdicts.specs.Verdicts.{Targets, written_names}
 
 unchanged : (a : RackState) → KeepsRack a a

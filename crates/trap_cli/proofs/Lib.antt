@@ -1,5 +1,5 @@
 pub mod EndLemmas
-pub mod OutcomeLemmas
+pub mod OutputLemmas
 pub mod SampleLemmas
 pub mod LocalityLemmas
 pub mod ClauseLemmas

@@ -12,7 +12,7 @@ use Rattle.trap_report.specs.declared.refusal.Refusal.{Refusal}
 use Rattle.trap_report.specs.declared.refusal.Refusal.TheVariants.{Memory}
 use Rattle.trap_report.specs.Report.{report_of}
 use Rattle.trap_words.specs.Words.{SampleWords}
-use Rattle.trap_cli.specs.declared.outcome.Outcome.{Outcome}
+use Rattle.page_output.specs.declared.outcome.Outcome.{Outcome}
 use Rattle.trap_cli.specs.Commands.{sample_band}
 use Rattle.trap_report.specs.Statuses.{done, not_written}
 use Rattle.trap_cli.specs.Endings.{EndsSample, IsSmall, MakesReport, sample_of, sample_report}

@@ -21,24 +21,9 @@ use Rattle.trap_report.specs.Report.{report_of}
 use Rattle.trap_report.specs.Statuses.{done, not_written}
 use Rattle.trap_report.specs.Telling.{KeepsFiles, Refuses}
 use Rattle.trap_words.specs.Words.{PageWords, SampleWords, begins_with_page, command_of, Page as page_command, Sample as sample_command}
-use Rattle.trap_cli.specs.declared.outcome.Outcome.{Outcome}
+use Rattle.page_output.specs.declared.outcome.Outcome.{Outcome}
 use Rattle.trap_cli.specs.Commands.{sample_band, sources_of, targets_of}
 use Rattle.verdicts.specs.Verdicts.{Targets, outcome, written_names}
-
--- What the answer says where the page is put out.
-abbrev pub AnswersPut : ℕ → Targets → PageParts → RackState → RackState → Result Receipt Refusal → Type 0
-AnswersPut band target page before after (Ok receipt) = IsWholeReceipt page band receipt × WritesAll (outcome target page) before after × Asks before.asked after.asked (written_names target)
-AnswersPut band target page before after (Err (Write file)) = Breaks (length target.outputs) (outcome target page) file before after
-AnswersPut band target page before after (Err Memory) = after ≡ before
-AnswersPut band target page before after (Err other) = ⊥
-
--- A page is trapped in bands of so many rows, and its files are written.
-pub record PutsOut (band : ℕ) (target : Targets) (page : PageParts) (before after : RackState) (result : Result Receipt Refusal) : Type 0 where
-  pub valid : IsPage page
-  pub keeps : KeepsRack before after
-  pub told : IsTrue before.tells → after.told ≡ before.told
-  pub asked : AsksFront before.asked after.asked (written_names target)
-  pub answer : AnswersPut band target page before after result
 
 -- What the answer says where the page is read first.
 abbrev pub AnswersCommand : ℕ → Sources → Targets → TrayState → TrayState → RackState → RackState → Result Receipt Refusal → Type 0

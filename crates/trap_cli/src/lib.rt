@@ -3,7 +3,6 @@
 
 mod ending;
 mod files;
-mod outcome;
 mod page;
 mod sample;
 pub mod top;

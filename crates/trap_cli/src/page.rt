@@ -3,20 +3,19 @@ ghost use Rattle.page_model.specs.Page.{plates};
 ghost use Rattle.trap_words.specs.Held.{IsPageWithin, page_in};
 ghost use Rattle.trap_cli.specs.Commands.{sources_of, targets_of};
 ghost use Rattle.page_gather.specs.Gathering.{ReadsPage};
-ghost use Rattle.trap_cli.specs.Endings.{CarriesOut, EndsPage, PutsOut};
+ghost use Rattle.trap_cli.specs.Endings.{CarriesOut, EndsPage};
+ghost use Rattle.page_output.specs.Output.{PutsOut};
 
 use crate::ending::{Ended, refused};
 use crate::files::{inputs_of, names_of, outputs_of};
-use crate::outcome::outcome_of;
 use band_claims::Closed;
 use band_workers::Gate;
 use outside::rack::Rack;
 use outside::tray::Tray;
 use page_gather::gather::gather;
-use page_model::laws::trapped_planes_law;
 use page_model::page::Page;
 use page_model::parts::OutOfMemory;
-use page_writing::writing::write_page;
+use page_output::output::{PageOrder, put_out};
 use std::alloc::Global;
 use std::thread::Threads;
 use trap_report::refusal::Refusal;
@@ -61,7 +60,7 @@ fn carry_out<H: Threads + Sync, T: Tray, R: Rack, G: Gate + Sync>(
         (T.state tray.new) (R.state rack.old) (R.state rack.new) result }
 {
     match read_page(alloc, command, tray) {
-        Ok(page) => put_out(rt, alloc, command, &page, rack, gate),
+        Ok(page) => write_out(rt, alloc, command, &page, rack, gate),
         Err(refusal) => Err(refusal),
     }
 }
@@ -85,7 +84,7 @@ fn read_page<T: Tray>(
 
 // Traps the page and writes its files, and gives the receipt. All memory that is wanted is taken before the first file is
 // created.
-fn put_out<H: Threads + Sync, R: Rack, G: Gate + Sync>(
+fn write_out<H: Threads + Sync, R: Rack, G: Gate + Sync>(
     rt: &H,
     alloc: Global,
     command: &PageCommand<'_>,
@@ -102,18 +101,11 @@ fn put_out<H: Threads + Sync, R: Rack, G: Gate + Sync>(
     let Ok(outputs) = outputs_of(alloc, command.plates.as_slice()) else {
         return Err(Refusal::Memory);
     };
-    let Ok(outcome) = outcome_of(rt, alloc, page, command.workers, command.band, gate) else {
-        return Err(Refusal::Memory);
+    let order = PageOrder {
+        workers: command.workers,
+        band: command.band,
+        outputs: outputs.as_slice(),
+        report: command.report,
     };
-    trapped_planes_law(page);
-    match write_page(
-        rack,
-        outputs.as_slice(),
-        outcome.planes,
-        command.report,
-        outcome.report.as_slice(),
-    ) {
-        Ok(()) => Ok(outcome.receipt),
-        Err(refusal) => Err(refusal),
-    }
+    put_out(rt, alloc, page, &order, rack, gate)
 }

@@ -8,12 +8,12 @@ ghost use Rattle.trap_cli.specs.Commands.{sample_band};
 ghost use Rattle.trap_cli.specs.Endings.{EndsSample, MakesReport};
 
 use crate::ending::{Ended, refused};
-use crate::outcome::{Outcome, outcome_of};
 use band_workers::Gate;
 use outside::rack::Rack;
 use outside::tray::Failed;
 use page_model::page::{Page, PageFault};
 use page_model::parts::OutOfMemory;
+use page_output::outcome::{Outcome, outcome_of};
 use page_source::sample::{SampleRefusal, sample_page};
 use std::alloc::Global;
 use std::thread::Threads;

@@ -111,6 +111,10 @@ line_of (Write None) = line (codes "write fault: report")
 line_of (Write (Some plate)) = line (codes "write fault: plate " ++ decimal plate)
 line_of Memory = line (codes "out of memory")
 
+-- the line of a refusal at one page of many
+abbrev pub numbered_line : ℕ → Refusal → List ℕ
+numbered_line page refusal = codes "page " ++ decimal page ++ codes ": " ++ line_of refusal
+
 -- the status that the program ends with after a refusal
 abbrev pub status_of : Refusal → ℕ
 status_of Usage = usage

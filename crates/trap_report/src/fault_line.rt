@@ -1,6 +1,6 @@
 ghost use Rattle.std.specs.Prelude.{◌≡◌, ◌≤◌, ◌++◌, length, decimal};
 ghost use Rattle.trap_report.specs.Report.{line};
-ghost use Rattle.trap_report.specs.Refusals.{line_of, job_line as job_text, plate_fault_line as plate_text, page_fault_line as page_text};
+ghost use Rattle.trap_report.specs.Refusals.{line_of, numbered_line as numbered_line_of, job_line as job_text, plate_fault_line as plate_text, page_fault_line as page_text};
 
 use crate::kind_names::{kind_name, named_key, plate_fault_name, plate_fault_place};
 use crate::line::Line;
@@ -13,6 +13,26 @@ use ps_tokens::faults::JobFault;
 /// project's own.
 pub fn fault_line(refusal: &Refusal) -> Line
     ensures { result ≡ line_of refusal.now }
+{
+    short_line(refusal)
+}
+
+/// The line of a refusal at one page of many: the page's number, counted from 0, and the refusal's line.
+pub fn numbered_line(page: u32, refusal: &Refusal) -> Line
+    ensures { result ≡ numbered_line_of page refusal.now }
+{
+    let mut told = Line::new();
+    told.push(b"page ");
+    told.push_number(page as u64);
+    told.push(b": ");
+    told.push(short_line(refusal).as_slice());
+    told
+}
+
+// The line of a refusal, which leaves room for a page's number before it.
+fn short_line(refusal: &Refusal) -> Line
+    ensures value { result ≡ line_of refusal.now }
+    ensures short { length result ≤ 113 }
 {
     match refusal {
         Refusal::Usage => text_line(
@@ -31,8 +51,9 @@ pub fn fault_line(refusal: &Refusal) -> Line
 }
 
 fn text_line(text: &[u8]) -> Line
-    requires { length text.now ≤ 150 }
-    ensures { result ≡ line text.now }
+    requires { length text.now ≤ 112 }
+    ensures value { result ≡ line text.now }
+    ensures short { length result ≤ 113 }
 {
     let mut told = Line::new();
     told.push(text);
@@ -42,7 +63,8 @@ fn text_line(text: &[u8]) -> Line
 
 fn number_line(text: &[u8], number: u32) -> Line
     requires { length text.now ≤ 50 }
-    ensures { result ≡ line (text.now ++ decimal number) }
+    ensures value { result ≡ line (text.now ++ decimal number) }
+    ensures short { length result ≤ 113 }
 {
     let mut told = Line::new();
     told.push(text);
@@ -52,7 +74,8 @@ fn number_line(text: &[u8], number: u32) -> Line
 }
 
 fn job_line(fault: &JobFault) -> Line
-    ensures { result ≡ job_text fault.now }
+    ensures value { result ≡ job_text fault.now }
+    ensures short { length result ≤ 113 }
 {
     let mut told = Line::new();
     told.push(b"job: ");
@@ -65,7 +88,8 @@ fn job_line(fault: &JobFault) -> Line
 }
 
 fn plate_fault_line(plate: u32, fault: &PlateFault) -> Line
-    ensures { result ≡ plate_text plate fault.now }
+    ensures value { result ≡ plate_text plate fault.now }
+    ensures short { length result ≤ 113 }
 {
     let mut told = Line::new();
     told.push(b"plate ");
@@ -79,7 +103,8 @@ fn plate_fault_line(plate: u32, fault: &PlateFault) -> Line
 }
 
 fn page_fault_line(fault: &PageFault) -> Line
-    ensures { result ≡ page_text fault.now }
+    ensures value { result ≡ page_text fault.now }
+    ensures short { length result ≤ 113 }
 {
     match fault {
         PageFault::SizeDiffers(plate) => number_line(b"page: SizeDiffers plate ", *plate),

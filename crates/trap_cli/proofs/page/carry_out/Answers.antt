@@ -5,7 +5,7 @@ use Rattle.trap_cli.proofs.EndLemmas.{read_and_put, refused_first}
 use Rattle.trap_cli.proofs.page.carry_out.Goals as goal
 
 pub returns-in-Ok : goal.returns-in-Ok
-returns-in-Ok g c = read_and_put (page_in c.args.command.now).band (sources_of (page_in c.args.command.now)) (targets_of (page_in c.args.command.now)) c.in-Ok.page (g.T.Tray.state c.args.tray.now) (g.T.Tray.state c.read_page.new.tray) (g.R.Rack.state c.args.rack.now) (g.R.Rack.state c.put_out.new.rack) (gathered (sources_of (page_in c.args.command.now)) (g.T.Tray.state c.args.tray.now) (g.T.Tray.state c.read_page.new.tray) c.in-Ok.page c.in-Ok.ensures) c.put_out.result c.put_out.ensures
+returns-in-Ok g c = read_and_put (page_in c.args.command.now).band (sources_of (page_in c.args.command.now)) (targets_of (page_in c.args.command.now)) c.in-Ok.page (g.T.Tray.state c.args.tray.now) (g.T.Tray.state c.read_page.new.tray) (g.R.Rack.state c.args.rack.now) (g.R.Rack.state c.write_out.new.rack) (gathered (sources_of (page_in c.args.command.now)) (g.T.Tray.state c.args.tray.now) (g.T.Tray.state c.read_page.new.tray) c.in-Ok.page c.in-Ok.ensures) c.write_out.result c.write_out.ensures
 
 pub returns-in-Err : goal.returns-in-Err
 returns-in-Err g c = refused_first (page_in c.args.command.now).band (sources_of (page_in c.args.command.now)) (targets_of (page_in c.args.command.now)) (g.T.Tray.state c.args.tray.now) (g.T.Tray.state c.read_page.new.tray) (g.R.Rack.state c.args.rack.now) c.in-Err.refusal c.in-Err.ensures

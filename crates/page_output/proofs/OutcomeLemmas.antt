@@ -1,6 +1,5 @@
 -- What becomes of a page: its counts, and its files.
-use Rattle.std.proofs.Common.{◌≡◌, ℕ, List, length, map, Bor, Result, Ok, Err, refl, sym, ap, ◌∙◌, subst, arith}
-use Rattle.std.proofs.lemmas.List.{length-map}
+use Rattle.std.proofs.Common.{◌≡◌, ℕ, List, length, Result, Ok, Err, refl, sym, ap, ◌∙◌, subst, arith}
 use Rattle.band_claims.specs.Receipt.{Receipt}
 use Rattle.outside.specs.Causes.{Asks}
 use Rattle.outside.specs.Rack.{RackState}
@@ -19,11 +18,7 @@ use Rattle.trap_engine.specs.Receipts.{IsWholeReceipt}
 use Rattle.trap_report.specs.declared.refusal.Refusal.{Refusal}
 use Rattle.trap_report.specs.declared.refusal.Refusal.TheVariants.{Usage, Job, NoDetails, Plate, Page, Read, Write, Memory}
 use Rattle.trap_report.specs.Report.{AreCounts, report_of}
-use Rattle.plain_words.specs.Parts.{PlateNames}
-use Rattle.plain_words.specs.declared.parts.PlateWord.{PlateWord}
-use Rattle.trap_words.specs.Held.{names_in, plates_in}
-use Rattle.trap_words.specs.Plates.{outputs_of}
-use Rattle.trap_cli.specs.Endings.{AnswersPut, PutsOut}
+use Rattle.page_output.specs.Output.{AnswersPut, PutsOut}
 use Rattle.verdicts.specs.Verdicts.{Targets, outcome, written_names}
 
 -- There is one count for each zone and each plate.
@@ -75,7 +70,3 @@ not_put_out band target page a valid = record {
   asked = asks_none_of a.asked (written_names target);
   answer = refl;
 }
-
--- There are as many files as words that name them.
-pub as_many_files : (words : List PlateWord) (files : List (Bor (List ℕ))) → map (λ (f : Bor (List ℕ)). f.now) files ≡ outputs_of (plates_in words) → length files ≡ length words
-as_many_files words files named = sym (length-map files (λ (f : Bor (List ℕ)). f.now)) ∙ ap (λ (l : List (List ℕ)). length l) named ∙ length-map (plates_in words) (λ (p : PlateNames). p.output) ∙ length-map words names_in

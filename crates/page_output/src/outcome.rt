@@ -14,16 +14,16 @@ use std::thread::Threads;
 use trap_engine::trap_page;
 use trap_report::report::report;
 
-// A page after trapping, the report of what changed, and the table at which it was trapped.
+/// A page after trapping, the report of what changed, and the table at which it was trapped.
 #[derive(Drop)]
-pub(crate) struct Outcome {
+pub struct Outcome {
     pub planes: PlaneList,
     pub report: Name,
     pub receipt: Closed,
 }
 
-// Traps a page by so many workers, in bands of so many rows.
-pub(crate) fn outcome_of<H: Threads + Sync, G: Gate + Sync>(
+/// Traps a page by so many workers, in bands of so many rows, and reports what changed. The one refusal is want of memory.
+pub fn outcome_of<H: Threads + Sync, G: Gate + Sync>(
     rt: &H,
     alloc: Global,
     page: &Page,

@@ -1,8 +1,8 @@
 use Rattle.std.proofs.Common.{sym, subst}
 use Rattle.page_model.specs.declared.parts.Counts.{Counts}
 use Rattle.trap_report.specs.Report.{AreCounts}
-use Rattle.trap_cli.proofs.OutcomeLemmas.{counts_fit}
-use Rattle.trap_cli.proofs.outcome.outcome_of.Goals as goal
+use Rattle.page_output.proofs.OutcomeLemmas.{counts_fit}
+use Rattle.page_output.proofs.outcome.outcome_of.Goals as goal
 
 pub report-requires : goal.report-requires
 report-requires g c = subst (λ (counts : Counts). AreCounts c.args.page.now counts) (sym c.in_ok-trapped.ensures.counts) (counts_fit c.args.page.now)

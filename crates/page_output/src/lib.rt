@@ -1,0 +1,5 @@
+//! A page into its files: trapped by workers, reported, and written.
+#![tactic(auto)]
+
+pub mod outcome;
+pub mod output;

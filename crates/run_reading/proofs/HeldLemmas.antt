@@ -1,0 +1,41 @@
+-- A run in hand.
+use Rattle.std.proofs.Common.{◌≡◌, ℕ, List, length, Bor, Some, None, Result, Ok, Err, refl, sym, ap, ◌∙◌, subst}
+use Rattle.std.proofs.lemmas.List.{length-map}
+use Rattle.outside.specs.Tray.{TrayState}
+use Rattle.plain_words.specs.Parts.{PlateNames}
+use Rattle.run_reading.specs.Gathering.{HoldsRun}
+use Rattle.run_reading.specs.Held.{IsHeld, order_in}
+use Rattle.run_reading.specs.Reading.{AnswersRunJob, ReadsRunJob}
+use Rattle.run_reading.specs.Reading.{AnswersRunJob as answers}
+use Rattle.run_reading.specs.Words.{inputs_of}
+use Rattle.run_reading.specs.declared.gather.Held.{Held}
+use Rattle.run_verdicts.specs.declared.stop.RunStop.{RunStop}
+use Rattle.run_verdicts.specs.declared.stop.RunStop.TheVariants.{Whole, TooManyPages}
+use Rattle.run_verdicts.specs.Pages.{pages_of}
+use Rattle.trap_report.specs.declared.refusal.Refusal.TheVariants.{Job, Read, Memory}
+
+-- there are as many files as plates, and as many names
+pub as_many_plates : (held : Held) → length (order_in held.order.now).plates ≡ length held.order.now.plates.now
+as_many_plates held = length-map _ _ ∙ length-map _ _
+
+pub as_many_sources : (held : Held) → length (inputs_of (order_in held.order.now).plates) ≡ length held.order.now.plates.now
+as_many_sources held = length-map (order_in held.order.now).plates (λ (p : PlateNames). p.input) ∙ as_many_plates held
+
+pub as_many_inputs : (held : Held) → IsHeld held → length held.inputs.items ≡ length held.order.now.plates.now
+as_many_inputs held is = sym (length-map held.inputs.items (λ (f : Bor (List ℕ)). f.now)) ∙ ap (λ (l : List (List ℕ)). length l) is.inputs ∙ length-map (order_in held.order.now).plates (λ (p : PlateNames). p.input) ∙ as_many_plates held
+
+pub as_many_names : (held : Held) → IsHeld held → length held.names ≡ length (inputs_of (order_in held.order.now).plates)
+as_many_names held is = ap (λ (l : List (List ℕ)). length l) is.names ∙ length-map (order_in held.order.now).plates (λ (p : PlateNames). p.name) ∙ sym (length-map (order_in held.order.now).plates (λ (p : PlateNames). p.input))
+
+module _ (run : Held) (a b : TrayState) (is : IsHeld run) where
+  held_by : ReadsRunJob run.order.now.job.now a b (Ok run.job) → AnswersRunJob run.order.now.job.now a b (Ok run.job) → HoldsRun run.order.now a b (Ok run)
+  held_by reads (answers.read bytes count same has calm found) =
+      let one : bytes ≡ run.job = (let e : ◌≡◌ {A = Result (List ℕ) RunStop} (Ok run.job) (Ok bytes) = same in cc) in
+      HoldsRun.held run count refl is refl (subst (λ (x : List ℕ). pages_of x ≡ Ok count) one has) reads.keeps calm reads.asked (λ tells. found tells ∙ ap (λ (x : List ℕ). Some x) one)
+  held_by reads (answers.refused fault same calm held) = absurd (let e : ◌≡◌ {A = Result (List ℕ) RunStop} (Ok run.job) (Err (Whole (Job fault))) = same in cc)
+  held_by reads (answers.too_many at same calm held) = absurd (let e : ◌≡◌ {A = Result (List ℕ) RunStop} (Ok run.job) (Err (TooManyPages at)) = same in cc)
+  held_by reads (answers.unread same rose) = absurd (let e : ◌≡◌ {A = Result (List ℕ) RunStop} (Ok run.job) (Err (Whole (Read None))) = same in cc)
+  held_by reads (answers.no_memory same calm) = absurd (let e : ◌≡◌ {A = Result (List ℕ) RunStop} (Ok run.job) (Err (Whole Memory)) = same in cc)
+
+  pub run_held : ReadsRunJob run.order.now.job.now a b (Ok run.job) → HoldsRun run.order.now a b (Ok run)
+  run_held reads = held_by reads reads.answer

@@ -1,0 +1,5 @@
+pub mod JobLemmas
+pub mod ImageLemmas
+pub mod BehindLemmas
+pub mod PageLemmas
+pub mod HeldLemmas

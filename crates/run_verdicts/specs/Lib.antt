@@ -1,0 +1,4 @@
+pub mod Stops
+pub mod Images
+pub mod Pages
+pub mod RunVerdicts

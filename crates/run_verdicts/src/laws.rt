@@ -1,0 +1,8 @@
+//! Laws of the verdict on a run: each is the contract of a function that does nothing.
+
+ghost use Rattle.run_verdicts.specs.RunVerdicts.{OneRunVerdict};
+
+/// The bytes of a run's files have one verdict at most.
+pub fn one_run_verdict()
+    ensures { OneRunVerdict }
+{}
