@@ -16,6 +16,6 @@ mod spans;
 
 pub use alone::finish_alone;
 pub use looks::{read_marks, read_tints, read_zones};
-pub use pages::{all_done, fill_table, finish_table};
+pub use pages::{fill_table, finish_table};
 pub use scratch::Scratch;
 pub use sources::CellSource;

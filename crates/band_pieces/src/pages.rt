@@ -1,7 +1,6 @@
 // The whole of a page's work at a table.
-ghost use Rattle.std.specs.Prelude.{◌≡◌, ℕ, ◌<◌, ◌≤◌, All, IsTrue, None, length};
+ghost use Rattle.std.specs.Prelude.{◌≡◌, ℕ, ◌<◌, ◌≤◌, All, None, length};
 ghost use Rattle.band_claims.specs.Seating.{Seats};
-ghost use Rattle.band_claims.specs.Views.{Knows};
 ghost use Rattle.band_pieces.specs.Finished.{IsFinished};
 ghost use Rattle.band_workers.specs.Accounts.{IsAccounted};
 ghost use Rattle.page_model.specs.Bands.{pieces_of};
@@ -9,28 +8,9 @@ ghost use Rattle.page_model.specs.Bands.{pieces_of};
 use crate::alone::finish_alone;
 use crate::scratch::Scratch;
 use band_claims::{Closed, Pass, Shared};
-use band_graph::needs::pieces;
 use band_workers::{Gate, work_many};
 use page_model::page::Page;
 use std::thread::Threads;
-
-/// Whether all pieces are done. If so the pass knows each of them afterwards.
-pub fn all_done(shared: &Shared, pass: &mut Pass) -> bool
-    requires pass { Seats shared.now pass.old }
-    ensures pass { Seats shared.now pass.new }
-    ensures held { pass.new.view.held ≡ pass.old.view.held }
-    ensures known { IsTrue result → (i : ℕ) → i < pieces_of shared.now.sheet.layout.bands
-        → Knows pass.new.view i }
-    ensures accounted { (i : ℕ) → IsAccounted shared.now.sheet.layout.bands pass.old.view i
-        → IsAccounted shared.now.sheet.layout.bands pass.new.view i }
-{
-    let mut all = true;
-    for piece in 0..pieces(shared.bands()) {
-        let done = shared.is_done(pass, piece);
-        all = all & done;
-    }
-    all
-}
 
 /// Closes the table, whose passes have all been joined into this one, and makes alone what the workers left. It takes no
 /// memory and waits for nobody.

@@ -58,7 +58,7 @@ data Ending (band : ℕ) (source : Sources) (target : Targets) (t t' : TrayState
   done : status ≡ 0 → (t'.faults ≡ t.faults) × (r'.faults ≡ r.faults) → (made : PageParts) → IsMade source t made → Asks t.asked t'.asked (read_files source) → (IsTrue r.tells → r'.file ≡ put_all (outcome target made) r.file) → (IsTrue r.tells → r'.told ≡ r.told) → IsFalse r'.is_open → Asks r.asked r'.asked (written_names target) → HasReceipt made band receipt → Ending band source target t t' r r' status receipt
   refused : (refusal : Refusal) → status ≡ status_of refusal → (status ≡ 3) ⊎ (status ≡ 4) → (IsTrue t.tells → IsVerdict one_page t.file source target (Refused refusal)) → Asks t.asked t'.asked (files_to source refusal) → PassesNoFault {T = Unit {0}} t t' (Err refusal) → KeepsFiles r r' → TellsText (line_of refusal) r r' → receipt ≡ None → Ending band source target t t' r r' status receipt
   unread : (file : Option ℕ) → status ≡ 5 → Rose t.faults t'.faults → Asks t.asked t'.asked (files_to source (refusals.Read file)) → BreaksReading source file t t' → KeepsFiles r r' → TellsText (line_of (refusals.Read file)) r r' → receipt ≡ None → Ending band source target t t' r r' status receipt
-  unwritten : (file : Option ℕ) → status ≡ 6 → (made : PageParts) → IsMade source t made → Breaks (length target.outputs) (outcome target made) file r r' → TellsBehindFault (line_of (refusals.Write file)) r r' → receipt ≡ None → Ending band source target t t' r r' status receipt
+  unwritten : (file : Option ℕ) → status ≡ 6 → t'.faults ≡ t.faults → (made : PageParts) → IsMade source t made → Breaks (length target.outputs) (outcome target made) file r r' → TellsBehindFault (line_of (refusals.Write file)) r r' → receipt ≡ None → Ending band source target t t' r r' status receipt
   no_memory : status ≡ 7 → t'.faults ≡ t.faults → KeepsFiles r r' → TellsText (line_of refusals.Memory) r r' → receipt ≡ None → Ending band source target t t' r r' status receipt
 
 -- a count that rose stays above what it was
@@ -128,7 +128,7 @@ module _ (band : ℕ) (source : Sources) (target : Targets) (t t' : TrayState) (
       let made = carried.answer.0 in
       let broke = carried.answer.2 in
       let rose = breaks_cause (length target.outputs) (outcome target made) file r between broke in
-      unwritten file closed.0.status_is made carried.answer.1 (file_breaks (length target.outputs) (outcome target made) file r between r' carried.rack_keeps broke closed.0.files) (line_behind (line_of (refusals.Write file)) r between r' carried.told carried.rack_keeps.tells rose closed.0.line) closed.1
+      unwritten file closed.0.status_is carried.count made carried.answer.1 (file_breaks (length target.outputs) (outcome target made) file r between r' carried.rack_keeps broke closed.0.files) (line_behind (line_of (refusals.Write file)) r between r' carried.told carried.rack_keeps.tells rose closed.0.line) closed.1
   ending_of (Err refusals.Memory) between carried closed = no_memory closed.0.status_is carried.count (keeps_from r between r' carried.answer.1 closed.0.files) (line_of_end refusals.Memory (Err refusals.Memory) between carried closed.0) closed.1
   ending_of (Err refusals.Usage) between carried closed = absurd carried.answer.0
 
@@ -150,14 +150,14 @@ module _ (band : ℕ) (source : Sources) (target : Targets) (t t' : TrayState) (
   always_by laws refusal (done is calm made page begun files told shut asked has) tells judged still_tray = absurd (out_or_refused laws (outcome target made) refusal (out_of made page tells) judged)
   always_by laws refusal (refused other is which verdict begun count keeps line none) tells judged still_tray = inl (is ∙ ap (λ (o : Refusal). status_of o) (one_refusal laws other refusal (verdict tells) judged))
   always_by laws refusal (unread file is rose begun breaks keeps line none) tells judged still_tray = absurd (still_tray rose)
-  always_by laws refusal (unwritten file is made page breaks line none) tells judged still_tray = absurd (out_or_refused laws (outcome target made) refusal (out_of made page tells) judged)
+  always_by laws refusal (unwritten file is kept made page breaks line none) tells judged still_tray = absurd (out_or_refused laws (outcome target made) refusal (out_of made page tells) judged)
   always_by laws refusal (no_memory is calm keeps line none) tells judged still_tray = inr is
 
   complete_by : PlateLaws one_page → (written : List Written) → Ending band source target t t' r r' status receipt → IsTrue t.tells → IsVerdict one_page t.file source target (Out written) → ¬ Rose t.faults t'.faults → ¬ Rose r.faults r'.faults → (status ≡ 0) ⊎ (status ≡ 7)
   complete_by laws written (done is calm made page begun files told shut asked has) tells judged still_tray still = inl is
   complete_by laws written (refused refusal is which verdict begun count keeps line none) tells judged still_tray still = absurd (out_or_refused laws written refusal judged (verdict tells))
   complete_by laws written (unread file is rose begun breaks keeps line none) tells judged still_tray still = absurd (still_tray rose)
-  complete_by laws written (unwritten file is made page breaks line none) tells judged still_tray still = absurd (still (breaks_cause (length target.outputs) (outcome target made) file r r' breaks))
+  complete_by laws written (unwritten file is kept made page breaks line none) tells judged still_tray still = absurd (still (breaks_cause (length target.outputs) (outcome target made) file r r' breaks))
   complete_by laws written (no_memory is calm keeps line none) tells judged still_tray still = inr is
 
   read_by : Ending band source target t t' r r' status receipt → status ≡ 5 → Rose t.faults t'.faults × ((file : Option ℕ) × Asks t.asked t'.asked (files_to source (refusals.Read file)) × BreaksReading source file t t' × TellsText (line_of (refusals.Read file)) r r')
@@ -165,11 +165,11 @@ module _ (band : ℕ) (source : Sources) (target : Targets) (t t' : TrayState) (
   read_by (done is calm made page begun files told shut asked has) s = absurd (omega arith)
   read_by (refused refusal is (inl which) verdict begun count keeps line none) s = absurd (omega arith)
   read_by (refused refusal is (inr which) verdict begun count keeps line none) s = absurd (omega arith)
-  read_by (unwritten file is made page breaks line none) s = absurd (omega arith)
+  read_by (unwritten file is kept made page breaks line none) s = absurd (omega arith)
   read_by (no_memory is calm keeps line none) s = absurd (omega arith)
 
   write_by : Ending band source target t t' r r' status receipt → status ≡ 6 → (file : Option ℕ) × ((made : PageParts) × IsMade source t made × Breaks (length target.outputs) (outcome target made) file r r') × TellsBehindFault (line_of (refusals.Write file)) r r'
-  write_by (unwritten file is made page breaks line none) s = (file, (made, page, breaks), line)
+  write_by (unwritten file is kept made page breaks line none) s = (file, (made, page, breaks), line)
   write_by (done is calm made page begun files told shut asked has) s = absurd (omega arith)
   write_by (refused refusal is (inl which) verdict begun count keeps line none) s = absurd (omega arith)
   write_by (refused refusal is (inr which) verdict begun count keeps line none) s = absurd (omega arith)
@@ -183,14 +183,14 @@ module _ (band : ℕ) (source : Sources) (target : Targets) (t t' : TrayState) (
   line_by (done is calm made page begun files told shut asked has) some other = absurd (some is)
   line_by (refused refusal is which verdict begun count keeps line none) some other = (refusal, is, line)
   line_by (unread file is rose begun breaks keeps line none) some other = (refusals.Read file, is, line)
-  line_by (unwritten file is made page breaks line none) some other = absurd (other is)
+  line_by (unwritten file is kept made page breaks line none) some other = absurd (other is)
   line_by (no_memory is calm keeps line none) some other = (refusals.Memory, is, line)
 
   leaves_by : Ending band source target t t' r r' status receipt → status ≢ 0 → status ≢ 6 → KeepsFiles r r'
   leaves_by (done is calm made page begun files told shut asked has) some other = absurd (some is)
   leaves_by (refused refusal is which verdict begun count keeps line none) some other = keeps
   leaves_by (unread file is rose begun breaks keeps line none) some other = keeps
-  leaves_by (unwritten file is made page breaks line none) some other = absurd (other is)
+  leaves_by (unwritten file is kept made page breaks line none) some other = absurd (other is)
   leaves_by (no_memory is calm keeps line none) some other = keeps
 
   status_by : Ending band source target t t' r r' status receipt → (status ≡ 0) ⊎ ((2 ≤ status) × (status ≤ 7))
@@ -198,7 +198,7 @@ module _ (band : ℕ) (source : Sources) (target : Targets) (t t' : TrayState) (
   status_by (refused refusal is (inl which) verdict begun count keeps line none) = inr (omega arith, omega arith)
   status_by (refused refusal is (inr which) verdict begun count keeps line none) = inr (omega arith, omega arith)
   status_by (unread file is rose begun breaks keeps line none) = inr (omega arith, omega arith)
-  status_by (unwritten file is made page breaks line none) = inr (omega arith, omega arith)
+  status_by (unwritten file is kept made page breaks line none) = inr (omega arith, omega arith)
   status_by (no_memory is calm keeps line none) = inr (omega arith, omega arith)
 
 -- How a sample page ended.
@@ -291,7 +291,7 @@ module _ (words : List (List ℕ)) (t t' : TrayState) (r r' : RackState) (status
   page_files page (refused refusal is (inl which) verdict begun count keeps line none) s = absurd (omega arith)
   page_files page (refused refusal is (inr which) verdict begun count keeps line none) s = absurd (omega arith)
   page_files page (unread file is rose begun breaks keeps line none) s = absurd (omega arith)
-  page_files page (unwritten file is made valid breaks line none) s = absurd (omega arith)
+  page_files page (unwritten file is kept made valid breaks line none) s = absurd (omega arith)
   page_files page (no_memory is calm keeps line none) s = absurd (omega arith)
 
   page_silent : (page : PageWords) → EndingOf page → status ≡ 0 → (IsTrue r.tells → r'.told ≡ r.told) × IsFalse r'.is_open × Asks t.asked t'.asked (read_files (sources_of page)) × Asks r.asked r'.asked (written_names (targets_of page))
@@ -299,7 +299,7 @@ module _ (words : List (List ℕ)) (t t' : TrayState) (r r' : RackState) (status
   page_silent page (refused refusal is (inl which) verdict begun count keeps line none) s = absurd (omega arith)
   page_silent page (refused refusal is (inr which) verdict begun count keeps line none) s = absurd (omega arith)
   page_silent page (unread file is rose begun breaks keeps line none) s = absurd (omega arith)
-  page_silent page (unwritten file is made valid breaks line none) s = absurd (omega arith)
+  page_silent page (unwritten file is kept made valid breaks line none) s = absurd (omega arith)
   page_silent page (no_memory is calm keeps line none) s = absurd (omega arith)
 
   page_calm : (page : PageWords) → EndingOf page → status ≡ 0 → (t'.faults ≡ t.faults) × (r'.faults ≡ r.faults)
@@ -307,7 +307,7 @@ module _ (words : List (List ℕ)) (t t' : TrayState) (r r' : RackState) (status
   page_calm page (refused refusal is (inl which) verdict begun count keeps line none) s = absurd (omega arith)
   page_calm page (refused refusal is (inr which) verdict begun count keeps line none) s = absurd (omega arith)
   page_calm page (unread file is rose begun breaks keeps line none) s = absurd (omega arith)
-  page_calm page (unwritten file is made valid breaks line none) s = absurd (omega arith)
+  page_calm page (unwritten file is kept made valid breaks line none) s = absurd (omega arith)
   page_calm page (no_memory is calm keeps line none) s = absurd (omega arith)
 
   sample_calm : (sample : SampleWords) → t' ≡ t → AnswersSample sample r r' status receipt → status ≡ 0 → (t'.faults ≡ t.faults) × (r'.faults ≡ r.faults)
@@ -334,7 +334,7 @@ module _ (words : List (List ℕ)) (t t' : TrayState) (r r' : RackState) (status
   page_without page (done is calm made valid begun files told shut asked has) some = absurd (some is)
   page_without page (refused refusal is which verdict begun count keeps line none) some = none
   page_without page (unread file is rose begun breaks keeps line none) some = none
-  page_without page (unwritten file is made valid breaks line none) some = none
+  page_without page (unwritten file is kept made valid breaks line none) some = none
   page_without page (no_memory is calm keeps line none) some = none
 
   sample_without : (sample : SampleWords) → AnswersSample sample r r' status receipt → status ≢ 0 → receipt ≡ None
@@ -367,8 +367,8 @@ module _ (words : List (List ℕ)) (t t' : TrayState) (r r' : RackState) (status
   only_by page (done is calm made valid begun files told shut asked has) (inr s) = absurd (omega arith)
   only_by page (unread file is rose begun breaks keeps line none) (inl s) = absurd (omega arith)
   only_by page (unread file is rose begun breaks keeps line none) (inr s) = absurd (omega arith)
-  only_by page (unwritten file is made valid breaks line none) (inl s) = absurd (omega arith)
-  only_by page (unwritten file is made valid breaks line none) (inr s) = absurd (omega arith)
+  only_by page (unwritten file is kept made valid breaks line none) (inl s) = absurd (omega arith)
+  only_by page (unwritten file is kept made valid breaks line none) (inr s) = absurd (omega arith)
   only_by page (no_memory is calm keeps line none) (inl s) = absurd (omega arith)
   only_by page (no_memory is calm keeps line none) (inr s) = absurd (omega arith)
 
@@ -402,20 +402,20 @@ module _ (words : List (List ℕ)) (t t' : TrayState) (r r' : RackState) (status
   hand_of page means (Ends.page other also ended) = subst (λ (p : PageWords). (t' ≡ t) ⊎ InHand (sources_of p) t t') (same_page other page also means) ended.carried.in_hand
   hand_of page means (Ends.sample sample also same ended) = inl same
 
-  -- want of memory passes no fault of the tray over
-  memory_calm : (page : PageWords) → EndingOf page → status ≡ 7 → t'.faults ≡ t.faults
-  memory_calm page (no_memory is calm keeps line none) s = calm
-  memory_calm page (done is calm made valid begun files told shut asked has) s = calm.0
-  memory_calm page (refused refusal is (inl which) verdict begun count keeps line none) s = absurd (omega arith)
-  memory_calm page (refused refusal is (inr which) verdict begun count keeps line none) s = absurd (omega arith)
-  memory_calm page (unread file is rose begun breaks keeps line none) s = absurd (omega arith)
-  memory_calm page (unwritten file is made valid breaks line none) s = absurd (omega arith)
+  -- neither a failed write nor want of memory passes a fault of the tray over
+  page_calm : (page : PageWords) → EndingOf page → (status ≡ 6) ⊎ (status ≡ 7) → t'.faults ≡ t.faults
+  page_calm page (no_memory is calm keeps line none) s = calm
+  page_calm page (done is calm made valid begun files told shut asked has) s = calm.0
+  page_calm page (refused refusal is (inl which) verdict begun count keeps line none) s = elim s [ inl a ↦ absurd (omega arith) | inr a ↦ absurd (omega arith) ]
+  page_calm page (refused refusal is (inr which) verdict begun count keeps line none) s = elim s [ inl a ↦ absurd (omega arith) | inr a ↦ absurd (omega arith) ]
+  page_calm page (unread file is rose begun breaks keeps line none) s = elim s [ inl a ↦ absurd (omega arith) | inr a ↦ absurd (omega arith) ]
+  page_calm page (unwritten file is kept made valid breaks line none) s = kept
 
-  calm_memory : Ends words t t' r r' status receipt → status ≡ 7 → t'.faults ≡ t.faults
-  calm_memory (Ends.no_memory begins same refuses none) s = ap (λ (u : TrayState). u.faults) same
-  calm_memory (Ends.no_command means_none same refuses none) s = ap (λ (u : TrayState). u.faults) same
-  calm_memory (Ends.page page also ended) s = memory_calm page (ending page.band (sources_of page) (targets_of page) t t' r r' status receipt ended) s
-  calm_memory (Ends.sample sample also same ended) s = ap (λ (u : TrayState). u.faults) same
+  calm_end : Ends words t t' r r' status receipt → (status ≡ 6) ⊎ (status ≡ 7) → t'.faults ≡ t.faults
+  calm_end (Ends.no_memory begins same refuses none) s = ap (λ (u : TrayState). u.faults) same
+  calm_end (Ends.no_command means_none same refuses none) s = ap (λ (u : TrayState). u.faults) same
+  calm_end (Ends.page page also ended) s = page_calm page (ending page.band (sources_of page) (targets_of page) t t' r r' status receipt ended) s
+  calm_end (Ends.sample sample also same ended) s = ap (λ (u : TrayState). u.faults) same
 
   pub read_fault : Ends words t t' r r' status receipt → ReadFault words t t' r r' status
   read_fault ended = record {
@@ -423,7 +423,7 @@ module _ (words : List (List ℕ)) (t t' : TrayState) (r r' : RackState) (status
     breaks = λ page means s. (read_by page.band (sources_of page) (targets_of page) t t' r r' status receipt (page_ending page means ended) s).1;
     asked = λ page means. asked_of page means ended;
     in_hand = λ page means. hand_of page means ended;
-    calm = calm_memory ended;
+    calm = calm_end ended;
   }
 
   write_cause : Ends words t t' r r' status receipt → status ≡ 6 → Rose r.faults r'.faults

@@ -64,13 +64,13 @@ pub record RefusedInput (words : List (List ℕ)) (tray tray' : TrayState) (rack
   pub only : (page : PageWords) → MeanPage words page → (status ≡ job_refused) ⊎ (status ≡ page_refused) → (refusal : Refusal) × RefusesFiles page tray tray' rack rack' status refusal
   pub always : (page : PageWords) (refusal : Refusal) → MeanPage words page → IsTrue tray.tells → IsVerdict one_page tray.file (sources_of page) (targets_of page) (Refused refusal) → ¬ Rose tray.faults tray'.faults → (status ≡ status_of refusal) ⊎ (status ≡ out_of_memory)
 
--- Status 5 comes only for a page, and only where the tray's count rose. The names handed to `begin` are a front of those of the job and the plates, and the line names the last of them; what was read before it has no fault. At every status no more was taken of the file in hand than is owed, and want of memory passes no fault over.
+-- Status 5 comes only for a page, and only where the tray's count rose. The names handed to `begin` are a front of those of the job and the plates, and the line names the last of them; what was read before it has no fault. At every status no more was taken of the file in hand than is owed, and neither a failed write nor want of memory passes a fault of the tray over.
 pub record ReadFault (words : List (List ℕ)) (tray tray' : TrayState) (rack rack' : RackState) (status : ℕ) : Type 0 where
   pub cause : status ≡ not_read → Rose tray.faults tray'.faults
   pub breaks : (page : PageWords) → MeanPage words page → status ≡ not_read → (file : Option ℕ) × Asks tray.asked tray'.asked (files_to (sources_of page) (Refusals.Read file)) × BreaksReading (sources_of page) file tray tray' × TellsText (line_of (Refusals.Read file)) rack rack'
   pub asked : (page : PageWords) → MeanPage words page → AsksFront tray.asked tray'.asked (read_files (sources_of page))
   pub in_hand : (page : PageWords) → MeanPage words page → (tray' ≡ tray) ⊎ InHand (sources_of page) tray tray'
-  pub calm : status ≡ out_of_memory → tray'.faults ≡ tray.faults
+  pub calm : (status ≡ not_written) ⊎ (status ≡ out_of_memory) → tray'.faults ≡ tray.faults
 
 -- Status 6 comes only where the rack's count rose. Of a page the verdict is then a list of files: those before the failed one are whole, it holds a front of its bytes or is as before, and the later ones are as before. The names handed to `create` are a front of those of the plates and the report, and the line names the last of them.
 pub record WriteFault (words : List (List ℕ)) (tray : TrayState) (rack rack' : RackState) (status : ℕ) : Type 0 where
