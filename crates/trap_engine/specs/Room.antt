@@ -1,5 +1,5 @@
 -- What a room for trapping is made of.
-use Rattle.std.specs.Prelude.{◌≡◌, ℕ, ◌*◌, ◌≤◌, All, List, None, length}
+use Rattle.std.specs.Prelude.{◌≡◌, ◌*◌, ◌≤◌, All, List, None, length}
 use Rattle.band_claims.specs.Seating.{OpenTable, Seating, Seats}
 use Rattle.page_model.specs.declared.parts.PageParts.{PageParts}
 use Rattle.page_model.specs.Page.{plates, width}

@@ -1,10 +1,14 @@
 // All the memory of a page's work at the shared table.
 ghost use Rattle.std.specs.Prelude.{◌≡◌, ◌≤◌, ◌*◌, All, IfOk, min, vec_len};
+ghost use Rattle.band_claims.specs.Seating.{Seats};
+ghost use Rattle.band_claims.specs.Views.{newcomer};
+ghost use Rattle.band_core.specs.Values.{IsFor};
 ghost use Rattle.page_model.specs.Bands.{AreBands};
 ghost use Rattle.page_model.specs.Limits.{most_band_height, most_workers};
 ghost use Rattle.page_model.specs.Page.{height, plates, width};
 ghost use Rattle.page_model.specs.Reach.{page_reach};
 ghost use Rattle.trap_engine.specs.Room.{IsRowRoom};
+ghost use Rattle.trap_engine.specs.Standing.{HasRows};
 
 use crate::memory::filled;
 use crate::outcome::Outcome;
@@ -17,6 +21,8 @@ use page_model::parts::OutOfMemory;
 use row_cells::layout::Layout;
 use std::alloc::Global;
 use std::marker::Model;
+use std::thread;
+use std::thread::Threads;
 
 /// All the memory that trapping a page by workers takes: the shared table, the memory of each worker, the planes of
 /// the result and the counts. Contracts see the page that it was made for and the layout of its cells.
@@ -88,10 +94,54 @@ fn row_room(alloc: Global, page: &Page) -> Result<RowRoom, OutOfMemory>
     })
 }
 
+/// The table of a page with its first pass, and an outcome with no row of the page taken in. For more than one worker they
+/// are made side by side: most of that time the system is at work on fresh memory.
+fn table_and_outcome<R: Threads + Sync>(
+    rt: &R,
+    alloc: Global,
+    page: &Page,
+    layout: &Layout,
+    workers: u32,
+) -> Result<(Shared, Pass, Outcome), OutOfMemory>
+    requires layout { IsFor page.now layout.now }
+    ensures pass { IfOk result (λ t. Seats t.0 t.1) }
+    ensures new { IfOk result (λ t. t.1.view ≡ newcomer t.0.sheet) }
+    ensures page { IfOk result (λ t. t.0.sheet.page.value ≡ page.now) }
+    ensures layout { IfOk result (λ t. t.0.sheet.layout ≡ layout.now) }
+    ensures outcome { IfOk result (λ t. HasRows page.now 0 t.2) }
+{
+    if workers == 1 {
+        let (shared, pass) = Shared::new(alloc, page, layout.bands(), layout)?;
+        return Ok((shared, pass, Outcome::new(alloc, page)?));
+    }
+    let (outcome, table) = thread::join(
+        rt,
+        move || -> Result<Outcome, OutOfMemory>
+            ensures { IfOk result (λ outcome. HasRows page.entry.now 0 outcome) }
+        { Outcome::new(alloc, page) },
+        move || -> Result<(Shared, Pass), OutOfMemory>
+            requires layout { IsFor page.now layout.now }
+            ensures pass { IfOk result (λ t. Seats t.0 t.1) }
+            ensures new { IfOk result (λ t. t.1.view ≡ newcomer t.0.sheet) }
+            ensures page { IfOk result (λ t. t.0.sheet.page.value ≡ page.entry.now) }
+            ensures layout { IfOk result (λ t. t.0.sheet.layout ≡ layout.entry.now) }
+        { Shared::new(alloc, page, layout.bands(), layout) },
+    );
+    let (shared, pass) = table?;
+    let outcome = outcome?;
+    Ok((shared, pass, outcome))
+}
+
 impl TrapRoom {
     /// The room for trapping this page by so many workers, in bands of so many rows. As many workers are used as there
     /// are bands, if these are fewer.
-    pub fn new(alloc: Global, page: &Page, workers: u32, band: u32) -> Result<TrapRoom, OutOfMemory>
+    pub fn new<R: Threads + Sync>(
+        rt: &R,
+        alloc: Global,
+        page: &Page,
+        workers: u32,
+        band: u32,
+    ) -> Result<TrapRoom, OutOfMemory>
         requires some_workers { 1 ≤ workers }
         requires few_workers { workers ≤ most_workers }
         requires some_rows { 1 ≤ band }
@@ -101,13 +151,13 @@ impl TrapRoom {
     {
         let bands = Bands::new(page.height(), band, page.reach2());
         let layout = Layout::new(page.width(), page.plates(), &bands);
-        let (shared, pass) = Shared::new(alloc, page, &bands, &layout)?;
+        let (shared, pass, outcome) = table_and_outcome(rt, alloc, page, &layout, workers)?;
         Ok(TrapRoom {
             shared,
             pass,
             scratches: scratches_of(alloc, page, &bands, workers_for(&bands, workers))?,
             spare: Scratch::new(alloc, page, &bands)?,
-            outcome: Outcome::new(alloc, page)?,
+            outcome,
             row: row_room(alloc, page)?,
         })
     }
