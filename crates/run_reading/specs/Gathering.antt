@@ -1,5 +1,5 @@
 -- What it means to read the job of a run, and one page of it.
-use Rattle.std.specs.Prelude.{◌≡◌, ◌⊎◌, ℕ, ◌+◌, IsTrue, List, [], ◌∷◌, length, take, Some, Result, Ok, Err}
+use Rattle.std.specs.Prelude.{◌≡◌, ◌⊎◌, ℕ, ◌+◌, IsTrue, List, [], ◌∷◌, length, take, Some, Result, Ok, Err, IfOk}
 use Rattle.outside.specs.Causes.{Rose, Asks, AsksFront}
 use Rattle.outside.specs.Tray.{TrayState, KeepsTray}
 use Rattle.page_gather.specs.Inputs.{Sources, Holds, AreRead, Makes, name_at}
@@ -67,9 +67,9 @@ abbrev pub AnswersGather : Sources → ℕ → TrayState → TrayState → Resul
 AnswersGather source k before after (Ok page) = IsPageMade source k before after page
 AnswersGather source k before after (Err stop) = StopsPage source k before after stop
 
--- Where the job's file has these bytes, page k is read.
+-- Page k is read, with a plane for each plate; where the job's file has these bytes, it is the page that they and the plates' files make.
 abbrev pub GathersPage : Sources → List ℕ → ℕ → TrayState → TrayState → Result PageParts RunStop → Type 0
-GathersPage source bytes k before after result = KeepsTray before after × (IsJobOf source bytes before → AnswersGather source k before after result)
+GathersPage source bytes k before after result = KeepsTray before after × IfOk result (λ page. plates page ≡ length source.inputs) × (IsJobOf source bytes before → AnswersGather source k before after result)
 
 -- The run is in hand: its job is read and has pages, and its names are those of the words. Or it stops.
 pub data HoldsRun (order : RunOrder) (before after : TrayState) (result : Result Held RunStop) : Type 0 where
