@@ -1,9 +1,9 @@
 -- The steps in which a list of jobs is read.
-use Rattle.std.proofs.Common.{◌≡◌, ◌≢◌, ◌∙◌, ℕ, ◌+◌, ◌-◌, ◌<◌, ◌≤◌, Bool, true, false, List, [], ◌∷◌, ◌++◌, length, cond, Option, Some, None, refl, sym, ap, subst, arith, append_assoc, length-append, append-nil}
+use Rattle.std.proofs.Common.{◌≡◌, ◌≢◌, ◌∙◌, ℕ, ◌+◌, ◌-◌, ◌<◌, ◌≤◌, Bool, true, false, List, [], ◌∷◌, ◌++◌, length, cond, Some, None, refl, sym, ap, subst, arith, length-append, append-nil}
 use Rattle.std.specs.List.{list_any}
 use Rattle.pool_list.specs.Apart.{Follows, IsCut, NextLine, Stands, is_new}
 use Rattle.pool_list.specs.Lines.{LineParts, is_lf, line_of}
-use Rattle.pool_list.specs.Lists.{Begins, IsBadLine, IsList, text_of}
+use Rattle.pool_list.specs.Lists.{IsBadLine, IsList, text_of}
 use Rattle.pool_list.proofs.Cuts.{has_lf, line_without_lf, one_cut}
 use Rattle.pool_list.proofs.Going.{as_many, goes_on, text_more, went_on}
 

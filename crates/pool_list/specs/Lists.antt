@@ -1,5 +1,5 @@
 -- What a list of jobs is, and which of its lines is the first bad one.
-use Rattle.std.specs.Prelude.{◌≡◌, ◌≢◌, ℕ, ◌+◌, ◌<◌, ◌≤◌, true, List, [], ◌∷◌, ◌++◌, length, Option, Some, None, Result, Ok, Err}
+use Rattle.std.specs.Prelude.{◌≡◌, ◌≢◌, ℕ, ◌<◌, ◌≤◌, true, List, [], ◌∷◌, ◌++◌, length, Option, Some, None, Result, Ok, Err}
 use Rattle.plain_words.specs.Distinct.{are_distinct}
 use Rattle.pool_list.specs.Lines.{LineParts, line_of}
 use Rattle.pool_list.specs.declared.reading.ListRefusal.{ListRefusal}

@@ -1,5 +1,5 @@
-use Rattle.std.proofs.Common.{◌≡◌, ◌∙◌, ◌<◌, ℕ, List, Option, Some, sym, subst, arith}
-use Rattle.pool_list.specs.Apart.{NextLine, next_in}
+use Rattle.std.proofs.Common.{◌≡◌, ◌∙◌, ℕ, List, Option, Some, sym, subst, arith}
+use Rattle.pool_list.specs.Apart.{NextLine}
 use Rattle.pool_list.specs.Lines.{LineParts, line_of}
 use Rattle.pool_list.proofs.Steps.{judged, no_line, too_long}
 use Rattle.pool_list.proofs.reading.next_line.Goals as goal

@@ -1,7 +1,7 @@
-use Rattle.std.proofs.Common.{◌≡◌, ◌∙◌, ◌-◌, ℕ, List, length, Option, Some, [], ◌∷◌, ◌++◌, ◌+◌, ap, sym, subst, arith, length-append}
+use Rattle.std.proofs.Common.{◌≡◌, ◌∙◌, ◌-◌, List, length, Some, [], ◌∷◌, ◌++◌, ◌+◌, ap, sym, subst, arith, length-append}
 use Rattle.pool_list.specs.Apart.{NextLine, Stands, next_in}
 use Rattle.pool_list.specs.Lines.{LineParts}
-use Rattle.pool_list.proofs.Steps.{at_most, bad_line, fits, next_stands}
+use Rattle.pool_list.proofs.Steps.{at_most, bad_line, next_stands}
 use Rattle.pool_list.proofs.reading.read_list.Goals as goal
 
 pub returns-in-Ok-None : goal.returns-in-Ok-None

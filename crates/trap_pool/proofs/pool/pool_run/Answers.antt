@@ -1,6 +1,5 @@
-use Rattle.std.proofs.Common.{◌≡◌, ◌∙◌, ℕ, List, length, sym, ap, subst, arith}
+use Rattle.std.proofs.Common.{length, sym, ap, subst, arith}
 use Rattle.trap_pool.specs.Pools.{Pools}
-use Rattle.trap_pool.specs.Replies.{ReplyParts}
 use Rattle.trap_pool.proofs.Settling.{all_then, turn_kept}
 use Rattle.trap_pool.proofs.Turns.{as_many, pools}
 use Rattle.trap_pool.proofs.pool.pool_run.Goals as goal

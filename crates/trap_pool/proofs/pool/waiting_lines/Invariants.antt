@@ -1,4 +1,4 @@
-use Rattle.std.proofs.Common.{◌≡◌, ◌≤◌, length, vec_capacity, vec_len}
+use Rattle.std.proofs.Common.{◌≤◌, length, vec_capacity, vec_len}
 use Rattle.line_queue.specs.Rule.{Ascends, IsAbove}
 use Rattle.trap_pool.proofs.pool.waiting_lines.Given as goal
 

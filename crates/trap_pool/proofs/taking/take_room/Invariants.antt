@@ -1,6 +1,6 @@
-use Rattle.std.proofs.Common.{◌≡◌, ◌++◌, All}
+use Rattle.std.proofs.Common.{◌≡◌, ◌++◌}
 use Rattle.std.specs.Vec.Iter.{into_iter_items}
-use Rattle.trap_pool.specs.Taking.{AllSettled, TrapsLine}
+use Rattle.trap_pool.specs.Taking.{AllSettled}
 use Rattle.trap_pool.proofs.taking.take_room.Given as goal
 
 abbrev pub invariant-loop-kept : goal.invariant-loop-kept

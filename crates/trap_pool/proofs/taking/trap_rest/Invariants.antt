@@ -1,4 +1,3 @@
-use Rattle.std.proofs.Common.{◌≡◌, length}
 use Rattle.trap_pool.specs.Taking.{AllSettled}
 use Rattle.trap_pool.proofs.taking.trap_rest.Given as goal
 
