@@ -1,0 +1,428 @@
+-- The clauses of the top call, by how the run of the words ended.
+use Rattle.std.proofs.Common.{◌≡◌, ◌≢◌, ◌⊎◌, ℕ, suc, ◌<◌, ◌≤◌, List, [], ◌∷◌, ◌++◌, length, take, All, Option, Some, None, Result, Ok, Err, IsTrue, inl, inr, refl, sym, ap, ◌∙◌, subst, arith}
+use Rattle.std.proofs.lemmas.Bool.{cases_lt}
+use Rattle.std.proofs.lemmas.List.Elements.{All-cons}
+use Rattle.outside.specs.Causes.{Rose, Asks, AsksFront}
+use Rattle.outside.specs.Tray.{TrayState}
+use Rattle.outside.specs.Rack.{RackState, KeepsRack}
+use Rattle.outside.specs.Writing.{BreaksFile}
+use Rattle.outside.proofs.Names.{asks_all, asks_none, asks_none_of}
+use Rattle.outside.proofs.Steps.{rose_before}
+use Rattle.page_model.specs.declared.parts.PageParts.{PageParts}
+use Rattle.page_model.specs.Conditions.{IsPage}
+use Rattle.page_run.specs.Clauses.{Mean, Whole, Success, Usage, RefusesPages, RefusedInput, ReadFault, WriteFault, LeavesPages, FaultLine, Completeness}
+use Rattle.page_run.specs.Endings.{AnswersRun, BreaksRun, Closes, EndsRun, EndsWords, Runs, Written, stop_reads}
+use Rattle.page_run.specs.Text.{usage_line}
+use Rattle.page_writing.specs.Files.{Written as File, names_of, put_all}
+use Rattle.page_writing.specs.Writing.{Breaks, BreaksAt, WritesAll}
+use Rattle.run_reading.specs.Words.{RunWords, order_of, sources_of, targets_of}
+use Rattle.run_verdicts.specs.declared.stop.RunStop.{RunStop}
+use Rattle.run_verdicts.specs.declared.stop.RunStop.TheVariants as stops
+use Rattle.run_verdicts.specs.Pages.{AreMade, run_files, run_names, run_reads, target_at}
+use Rattle.run_verdicts.specs.RunVerdicts.{RunVerdict, AllEnd, HasPages, IsRunVerdict}
+use Rattle.run_verdicts.specs.RunVerdicts.RunVerdict.{Stopped, Out}
+use Rattle.run_verdicts.specs.Stops.{RefusesRun, line_of_stop, status_of_stop}
+use Rattle.run_verdicts.proofs.RunLemmas.{one_run_verdict}
+use Rattle.trap_report.specs.declared.refusal.Refusal.TheVariants as refusals
+use Rattle.trap_report.specs.Telling.{KeepsFiles, TellsText, TellsBehindFault}
+use Rattle.page_gather.specs.Inputs.{Sources}
+use Rattle.verdicts.specs.Verdicts.{Targets, outcome}
+
+-- what a write fault leaves
+pub record Breaking (order : RunWords) (t t' : TrayState) (r r' : RackState) : Type 0 where
+  pub pages : List PageParts
+  pub page : PageParts
+  pub file : Option ℕ
+  pub mid : RackState
+  pub wrote : WritesAll (run_files (targets_of order) pages) r mid
+  pub created : Asks r.asked mid.asked (run_names (targets_of order) (length pages))
+  pub begun : Asks t.asked t'.asked (run_reads (sources_of order) (suc (length pages)))
+  pub valid : All IsPage (page ∷ pages)
+  pub made : IsTrue t.tells → AreMade t.file (sources_of order) (page ∷ pages)
+  pub breaks : Breaks (length (targets_of order).outputs) (outcome (target_at (targets_of order) (length pages)) page) file mid r'
+  pub line : TellsBehindFault (line_of_stop (stops.AtPage (length pages) (refusals.Write file))) r r'
+
+-- How a run of these words ended.
+data Ending (order : RunWords) (t t' : TrayState) (r r' : RackState) (status : ℕ) : Type 0 where
+  done : status ≡ 0 → (t'.faults ≡ t.faults) × (r'.faults ≡ r.faults) → (pages : List PageParts) → Whole order t r r' pages → (IsTrue t.tells → HasPages t.file (sources_of order) (length pages) × AllEnd t.file (sources_of order) (length pages) (length (sources_of order).inputs)) → Asks t.asked t'.asked (run_reads (sources_of order) (suc (length pages))) → Asks r.asked r'.asked (run_names (targets_of order) (length pages)) → (IsTrue r.tells → r'.told ≡ r.told) → Ending order t t' r r' status
+  refused : (stop : RunStop) (pages : List PageParts) → (status ≡ 3) ⊎ (status ≡ 4) → RefusesPages order t t' r r' status stop pages → Ending order t t' r r' status
+  unread : (stop : RunStop) (pages : List PageParts) → status ≡ 5 → Rose t.faults t'.faults → status ≡ status_of_stop stop → Whole order t r r' pages → Asks t.asked t'.asked (stop_reads (sources_of order) (length pages) stop) → BreaksRun (sources_of order) (length pages) t t' stop → TellsText (line_of_stop stop) r r' → Asks r.asked r'.asked (run_names (targets_of order) (length pages)) → Ending order t t' r r' status
+  unwritten : status ≡ 6 → Rose r.faults r'.faults → Breaking order t t' r r' → Ending order t t' r r' status
+  no_memory : (pages : List PageParts) → status ≡ 7 → t'.faults ≡ t.faults → ((n : ℕ) × AsksFront t.asked t'.asked (run_reads (sources_of order) n)) → Whole order t r r' pages → Asks r.asked r'.asked (run_names (targets_of order) (length pages)) → TellsText (line_of_stop (stops.Whole refusals.Memory)) r r' → Ending order t t' r r' status
+
+-- a count that rose stays above what it was
+rose_after : (a b c : ℕ) → a ≤ b → b ≤ c → Rose a b → Rose a c
+rose_after a b c first then (inl less) = inl (omega arith)
+rose_after a b c first then (inr last) = elim (cases_lt a c) [ inl less ↦ inl less | inr back ↦ inr (omega arith) ]
+
+broken_then : (name bytes : List ℕ) (held : List ℕ → Option (List ℕ)) (b c : RackState) → c.is_open ≡ b.is_open → c.file ≡ b.file → BreaksFile name bytes held b → BreaksFile name bytes held c
+broken_then name bytes held b c opened same (inl none) = inl (opened ∙ none.0, same ∙ none.1)
+broken_then name bytes held b c opened same (inr front) = inr (opened ∙ front.0, (front.1.0, same ∙ front.1.1))
+
+-- the write that failed, after its line was told
+breaks_then : (written : List File) (k : ℕ) (a b c : RackState) → a.faults ≤ b.faults → b.tells ≡ a.tells → BreaksAt written k a b → KeepsFiles b c → BreaksAt written k a c
+breaks_then written k a b c le tells breaks files = record {
+  earlier = breaks.earlier;
+  file = breaks.file;
+  later = breaks.later;
+  all = breaks.all;
+  place = breaks.place;
+  asked = subst (λ (names : Option (List (List ℕ))). Asks a.asked names (names_of breaks.earlier ++ breaks.file.name ∷ [])) (sym files.asked) breaks.asked;
+  part = λ told. broken_then breaks.file.name breaks.file.bytes (put_all breaks.earlier a.file) b c files.is_open (files.files (tells ∙ told)) (breaks.part told);
+  cause = rose_after a.faults b.faults c.faults le files.keeps.faults breaks.cause;
+}
+
+file_breaks : (plates : ℕ) (written : List File) (file : Option ℕ) (a b c : RackState) → a.faults ≤ b.faults → b.tells ≡ a.tells → Breaks plates written file a b → KeepsFiles b c → Breaks plates written file a c
+file_breaks plates written None a b c le tells breaks files = breaks_then written plates a b c le tells breaks files
+file_breaks plates written (Some k) a b c le tells breaks files = (breaks.0, breaks_then written k a b c le tells breaks.1 files)
+
+breaks_cause : (plates : ℕ) (written : List File) (file : Option ℕ) (a b : RackState) → Breaks plates written file a b → Rose a.faults b.faults
+breaks_cause plates written None a b breaks = breaks.cause
+breaks_cause plates written (Some k) a b breaks = breaks.1.cause
+
+module _ (order : RunWords) (t t' : TrayState) (r m r' : RackState) (status : ℕ) (rack_keeps : KeepsRack r m) (told : IsTrue r.tells → m.told ≡ r.told) where
+  abbrev source : Sources
+  source = sources_of order
+
+  abbrev target : Targets
+  target = targets_of order
+
+  -- a stop's line, seen from the rack as it was at first
+  line_from : (text : List ℕ) → TellsText text m r' → TellsText text r r'
+  line_from text line tells = elim (line (rack_keeps.tells ∙ tells)) [
+    | inl whole ↦ inl (whole ∙ ap (λ (x : List ℕ). x ++ text) (told tells))
+    | inr part ↦ inr (rose_before r.faults m.faults r'.faults rack_keeps.faults part.0, (part.1.0, part.1.1 ∙ ap (λ (x : List ℕ). x ++ take part.1.0 text) (told tells)))
+  ]
+
+  line_behind : (text : List ℕ) → Rose r.faults m.faults → TellsText text m r' → TellsBehindFault text r r'
+  line_behind text rose line = (
+    m.faults,
+    rose,
+    λ tells. elim (line (rack_keeps.tells ∙ tells)) [
+      | inl whole ↦ inl (whole ∙ ap (λ (x : List ℕ). x ++ text) (told tells))
+      | inr part ↦ inr (part.0, (part.1.0, part.1.1 ∙ ap (λ (x : List ℕ). x ++ take part.1.0 text) (told tells)))
+    ],
+  )
+
+  -- pages that were written are whole, after what changes no file
+  whole_then : (u : TrayState) (pages : List PageParts) → Written source target t u r m pages → KeepsFiles m r' → Whole order t r r' pages
+  whole_then u pages written files = record {
+    valid = written.valid;
+    made = written.made;
+    files = λ tells. files.files (rack_keeps.tells ∙ tells) ∙ written.wrote.whole tells;
+  }
+
+  created_then : (names : List (List ℕ)) → Asks r.asked m.asked names → KeepsFiles m r' → Asks r.asked r'.asked names
+  created_then names asked files = subst (λ (o : Option (List (List ℕ))). Asks r.asked o names) (sym files.asked) asked
+
+  -- no page was written
+  whole_none : m ≡ r → KeepsFiles m r' → Whole order t r r' []
+  whole_none same files = record {
+    valid = λ k d within. absurd (omega arith);
+    made = λ tells. tt;
+    files = λ tells. files.files (rack_keeps.tells ∙ tells) ∙ ap (λ (x : RackState). x.file) same;
+  }
+
+  created_none : m ≡ r → KeepsFiles m r' → Asks r.asked r'.asked []
+  created_none same files = created_then [] (subst (λ (x : RackState). Asks r.asked x.asked []) (sym same) (asks_none r.asked)) files
+
+  closes_err : (result : Result (Unit {0}) RunStop) (stop : RunStop) → result ≡ Err stop → Closes result m r' status → RefusesRun stop m r' status
+  closes_err result stop is closed = subst (λ (x : Result (Unit {0}) RunStop). Closes x m r' status) is closed
+
+  closes_ok : (result : Result (Unit {0}) RunStop) → result ≡ Ok tt → Closes result m r' status → (r' ≡ m) × (status ≡ 0)
+  closes_ok result is closed = subst (λ (x : Result (Unit {0}) RunStop). Closes x m r' status) is closed
+
+  ended_done : (pages : List PageParts) (u : TrayState) → Written source target t u r m pages → t'.faults ≡ t.faults → Asks t.asked t'.asked (run_reads source (suc (length pages))) → (IsTrue t.tells → HasPages t.file source (length pages) × AllEnd t.file source (length pages) (length source.inputs)) → (r' ≡ m) × (status ≡ 0) → Ending order t t' r r' status
+  ended_done pages u written calm asked ended closed =
+      let same : m ≡ r' = sym closed.0 in
+      done closed.1 (calm, subst (λ (x : RackState). x.faults ≡ r.faults) same written.wrote.well) pages
+      (record { valid = written.valid; made = written.made; files = subst (λ (x : RackState). IsTrue r.tells → x.file ≡ put_all (run_files target pages) r.file) same written.wrote.whole })
+      ended asked (subst (λ (x : RackState). Asks r.asked x.asked (run_names target (length pages))) same written.created) (subst (λ (x : RackState). IsTrue r.tells → x.told ≡ r.told) same told)
+
+  ending_of : (result : Result (Unit {0}) RunStop) → AnswersRun source target t t' r m result → Closes result m r' status → Ending order t t' r r' status
+  ending_of result (AnswersRun.not_begun is same_tray same) closed =
+      let refuses = closes_err result (stops.Whole refusals.Memory) is closed in
+      no_memory [] refuses.status_is (ap (λ (x : TrayState). x.faults) same_tray) (0, subst (λ (x : TrayState). AsksFront t.asked x.asked (run_reads source 0)) (sym same_tray) (asks_none_of t.asked (run_reads source 0))) (whole_none same refuses.files) (created_none same refuses.files) (line_from _ refuses.line)
+  ending_of result (AnswersRun.unread_job is same rose asked) closed =
+      let refuses = closes_err result (stops.Whole (refusals.Read None)) is closed in
+      unread (stops.Whole (refusals.Read None)) [] refuses.status_is rose refuses.status_is (whole_none same refuses.files) asked refl (line_from _ refuses.line) (created_none same refuses.files)
+  ending_of result (AnswersRun.no_job_memory is same calm asked) closed =
+      let refuses = closes_err result (stops.Whole refusals.Memory) is closed in
+      no_memory [] refuses.status_is calm (0, asks_all t.asked t'.asked (run_reads source 0) asked) (whole_none same refuses.files) (created_none same refuses.files) (line_from _ refuses.line)
+  ending_of result (AnswersRun.done pages u is written calm asked ended) closed = ended_done pages u written calm asked ended (closes_ok result is closed)
+  ending_of result (AnswersRun.refused pages u stop is which written count asked verdict) closed =
+      let refuses = closes_err result stop is closed in
+      refused stop pages (elim which [ inl three ↦ inl (refuses.status_is ∙ three) | inr four ↦ inr (refuses.status_is ∙ four) ]) (record {
+        status_is = refuses.status_is;
+        verdict = verdict;
+        whole = whole_then u pages written refuses.files;
+        begun = asked;
+        created = created_then (run_names target (length pages)) written.created refuses.files;
+        count = count;
+        line = line_from _ refuses.line;
+      })
+  ending_of result (AnswersRun.unread pages u stop is five written rose asked breaks) closed =
+      let refuses = closes_err result stop is closed in
+      unread stop pages (refuses.status_is ∙ five) rose refuses.status_is (whole_then u pages written refuses.files) asked breaks (line_from _ refuses.line) (created_then (run_names target (length pages)) written.created refuses.files)
+  ending_of result (AnswersRun.unwritten pages u mid page file is written keeps wrote_keeps calm asked valid made breaks created) closed =
+      let refuses = closes_err result (stops.AtPage (length pages) (refusals.Write file)) is closed in
+      let cause = breaks_cause (length target.outputs) (outcome (target_at target (length pages)) page) file mid m breaks in
+      let rose : Rose r.faults m.faults = rose_before r.faults mid.faults m.faults keeps.faults cause in
+      unwritten refuses.status_is (rose_after r.faults m.faults r'.faults rack_keeps.faults refuses.files.keeps.faults rose) (record {
+        pages = pages;
+        page = page;
+        file = file;
+        mid = mid;
+        wrote = written.wrote;
+        created = written.created;
+        begun = asked;
+        valid = All-cons IsPage page pages valid written.valid;
+        made = made;
+        breaks = file_breaks (length target.outputs) (outcome (target_at target (length pages)) page) file mid m r' wrote_keeps.faults wrote_keeps.tells breaks refuses.files;
+        line = line_behind _ rose refuses.line;
+      })
+  ending_of result (AnswersRun.no_memory pages u is written calm asked) closed =
+      let refuses = closes_err result (stops.Whole refusals.Memory) is closed in
+      no_memory pages refuses.status_is calm (suc (length pages), asked) (whole_then u pages written refuses.files) (created_then (run_names target (length pages)) written.created refuses.files) (line_from _ refuses.line)
+
+module _ (words : List (List ℕ)) (t t' : TrayState) (r r' : RackState) (status : ℕ) where
+  abbrev EndingOf : RunWords → Type 0
+  EndingOf order = Ending order t t' r r' status
+
+  ending : (order : RunWords) → EndsRun order t t' r r' status → EndingOf order
+  ending order ended = ending_of order t t' r ended.between r' status ended.runs.rack_keeps ended.runs.told ended.result ended.runs.answer ended.closed
+
+  same_order : (one two : RunWords) → Mean words one → Mean words two → one ≡ two
+  same_order one two a b = let same : ◌≡◌ {A = Option RunWords} (Some one) (Some two) = sym a ∙ b in cc
+
+  no_meaning : (order : RunWords) → Mean words order → order_of words ≡ None → ⊥
+  no_meaning order means none = let e : ◌≡◌ {A = Option RunWords} None (Some order) = sym none ∙ means in absurd cc
+
+  order_ending : (order : RunWords) → Mean words order → EndsWords words t t' r r' status → EndingOf order
+  order_ending order means (EndsWords.no_run none same refuses) = absurd (no_meaning order means none)
+  order_ending order means (EndsWords.run other also ended) = subst EndingOf (same_order other order also means) (ending other ended)
+
+  -- what each ending says of its status
+  record Statuses (order : RunWords) : Type 0 where
+    pub known : (status ≡ 0) ⊎ ((3 ≤ status) × (status ≤ 7))
+    pub calm : status ≡ 0 → (t'.faults ≡ t.faults) × (r'.faults ≡ r.faults)
+    pub read : status ≡ 5 → Rose t.faults t'.faults
+    pub wrote : status ≡ 6 → Rose r.faults r'.faults
+    pub memory : status ≡ 7 → t'.faults ≡ t.faults
+    pub line : status ≢ 0 → status ≢ 6 → (stop : RunStop) × (status ≡ status_of_stop stop) × TellsText (line_of_stop stop) r r'
+
+  statuses_of : (order : RunWords) → EndingOf order → Statuses order
+  statuses_of order (done is calm pages whole ended begun created told) = record {
+    known = inl is;
+    calm = λ s. calm;
+    read = λ s. absurd (omega arith);
+    wrote = λ s. absurd (omega arith);
+    memory = λ s. absurd (omega arith);
+    line = λ some other. absurd (some is);
+  }
+  statuses_of order (refused stop pages (inl three) says) = record {
+    known = inr (omega arith, omega arith);
+    calm = λ s. absurd (omega arith);
+    read = λ s. absurd (omega arith);
+    wrote = λ s. absurd (omega arith);
+    memory = λ s. absurd (omega arith);
+    line = λ some other. (stop, says.status_is, says.line);
+  }
+  statuses_of order (refused stop pages (inr four) says) = record {
+    known = inr (omega arith, omega arith);
+    calm = λ s. absurd (omega arith);
+    read = λ s. absurd (omega arith);
+    wrote = λ s. absurd (omega arith);
+    memory = λ s. absurd (omega arith);
+    line = λ some other. (stop, says.status_is, says.line);
+  }
+  statuses_of order (unread stop pages is rose also whole begun breaks line created) = record {
+    known = inr (omega arith, omega arith);
+    calm = λ s. absurd (omega arith);
+    read = λ s. rose;
+    wrote = λ s. absurd (omega arith);
+    memory = λ s. absurd (omega arith);
+    line = λ some other. (stop, also, line);
+  }
+  statuses_of order (unwritten is rose breaking) = record {
+    known = inr (omega arith, omega arith);
+    calm = λ s. absurd (omega arith);
+    read = λ s. absurd (omega arith);
+    wrote = λ s. rose;
+    memory = λ s. absurd (omega arith);
+    line = λ some other. absurd (other is);
+  }
+  statuses_of order (no_memory pages is calm begun whole created line) = record {
+    known = inr (omega arith, omega arith);
+    calm = λ s. absurd (omega arith);
+    read = λ s. absurd (omega arith);
+    wrote = λ s. absurd (omega arith);
+    memory = λ s. calm;
+    line = λ some other. (stops.Whole refusals.Memory, is, line);
+  }
+
+  record Done (order : RunWords) : Type 0 where
+    pub pages : List PageParts
+    pub whole : Whole order t r r' pages
+    pub ended : IsTrue t.tells → HasPages t.file (sources_of order) (length pages) × AllEnd t.file (sources_of order) (length pages) (length (sources_of order).inputs)
+    pub begun : Asks t.asked t'.asked (run_reads (sources_of order) (suc (length pages)))
+    pub created : Asks r.asked r'.asked (run_names (targets_of order) (length pages))
+    pub told : IsTrue r.tells → r'.told ≡ r.told
+
+  done_by : (order : RunWords) → EndingOf order → status ≡ 0 → Done order
+  done_by order (done is calm pages whole ended begun created told) s = record { pages = pages; whole = whole; ended = ended; begun = begun; created = created; told = told }
+  done_by order (refused stop pages (inl three) says) s = absurd (omega arith)
+  done_by order (refused stop pages (inr four) says) s = absurd (omega arith)
+  done_by order (unread stop pages is rose also whole begun breaks line created) s = absurd (omega arith)
+  done_by order (unwritten is rose breaking) s = absurd (omega arith)
+  done_by order (no_memory pages is calm begun whole created line) s = absurd (omega arith)
+
+  -- the verdict where all pages are whole
+  out_of : (order : RunWords) (d : Done order) → IsTrue t.tells → IsRunVerdict t.file (sources_of order) (targets_of order) (Out (run_files (targets_of order) d.pages))
+  out_of order d tells = (record { pages = d.pages; has = (d.ended tells).0; made = d.whole.made tells }, (d.ended tells).1, refl)
+
+  calm_of : EndsWords words t t' r r' status → status ≡ 0 → (t'.faults ≡ t.faults) × (r'.faults ≡ r.faults)
+  calm_of (EndsWords.no_run none same refuses) s = let e : status ≡ 2 = refuses.status_is in absurd (omega arith)
+  calm_of (EndsWords.run order also ended) s = (statuses_of order (ending order ended)).calm s
+
+  pub success : EndsWords words t t' r r' status → Success words t t' r r' status
+  success ended = record {
+    calm = calm_of ended;
+    pages = λ order means s. let d = done_by order (order_ending order means ended) s in (d.pages, d.whole, d.ended, d.begun, d.created);
+    verdict = λ order means s tells. let d = done_by order (order_ending order means ended) s in (run_files (targets_of order) d.pages, out_of order d tells, d.whole.files);
+    silent = λ order means s. (done_by order (order_ending order means ended) s).told;
+  }
+
+  usage_only : EndsWords words t t' r r' status → status ≡ 2 → order_of words ≡ None
+  usage_only (EndsWords.no_run none same refuses) s = none
+  usage_only (EndsWords.run order also ended) s = elim ((statuses_of order (ending order ended)).known) [ inl is ↦ absurd (omega arith) | inr within ↦ absurd (omega (arith, within.0)) ]
+
+  usage_always : EndsWords words t t' r r' status → order_of words ≡ None → (status ≡ 2) × TellsText usage_line r r' × (t'.asked ≡ t.asked) × KeepsFiles r r'
+  usage_always (EndsWords.no_run none same refuses) nothing = (refuses.status_is, refuses.line, ap (λ (u : TrayState). u.asked) same, refuses.files)
+  usage_always (EndsWords.run order also ended) nothing = absurd (no_meaning order also nothing)
+
+  pub usage_ends : EndsWords words t t' r r' status → Usage words t t' r r' status
+  usage_ends ended = record {
+    only = usage_only ended;
+    always = λ none. (usage_always ended none).0;
+    line = λ none. (usage_always ended none).1;
+    no_begin = λ none. (usage_always ended none).2;
+    no_create = λ none. (usage_always ended none).3.asked;
+    files = λ none. (usage_always ended none).3.files;
+  }
+
+  only_by : (order : RunWords) → EndingOf order → (status ≡ 3) ⊎ (status ≡ 4) → (stop : RunStop) × (pages : List PageParts) × RefusesPages order t t' r r' status stop pages
+  only_by order (refused stop pages which says) s = (stop, pages, says)
+  only_by order (done is calm pages whole ended begun created told) (inl s) = absurd (omega arith)
+  only_by order (done is calm pages whole ended begun created told) (inr s) = absurd (omega arith)
+  only_by order (unread stop pages is rose also whole begun breaks line created) (inl s) = absurd (omega arith)
+  only_by order (unread stop pages is rose also whole begun breaks line created) (inr s) = absurd (omega arith)
+  only_by order (unwritten is rose breaking) (inl s) = absurd (omega arith)
+  only_by order (unwritten is rose breaking) (inr s) = absurd (omega arith)
+  only_by order (no_memory pages is calm begun whole created line) (inl s) = absurd (omega arith)
+  only_by order (no_memory pages is calm begun whole created line) (inr s) = absurd (omega arith)
+
+  one_verdict : (order : RunWords) (v w : RunVerdict) → IsRunVerdict t.file (sources_of order) (targets_of order) v → IsRunVerdict t.file (sources_of order) (targets_of order) w → v ≡ w
+  one_verdict order v w a b = one_run_verdict t.file (sources_of order) (targets_of order) v w a b
+
+  always_by : (order : RunWords) (stop : RunStop) → EndingOf order → IsTrue t.tells → IsRunVerdict t.file (sources_of order) (targets_of order) (Stopped stop) → ¬ Rose t.faults t'.faults → ¬ Rose r.faults r'.faults → (status ≡ status_of_stop stop) ⊎ (status ≡ 7)
+  always_by order stop (done is calm pages whole ended begun created told) tells judged still_tray still =
+      let d : Done order = record { pages = pages; whole = whole; ended = ended; begun = begun; created = created; told = told } in
+      let same : Out (run_files (targets_of order) pages) ≡ Stopped stop = one_verdict order (Out (run_files (targets_of order) pages)) (Stopped stop) (out_of order d tells) judged in
+      absurd cc
+  always_by order stop (refused other pages which says) tells judged still_tray still =
+      let same : Stopped other ≡ Stopped stop = one_verdict order (Stopped other) (Stopped stop) (says.verdict tells) judged in
+      let one : other ≡ stop = cc in
+      inl (says.status_is ∙ ap status_of_stop one)
+  always_by order stop (unread other pages is rose also whole begun breaks line created) tells judged still_tray still = absurd (still_tray rose)
+  always_by order stop (unwritten is rose breaking) tells judged still_tray still = absurd (still rose)
+  always_by order stop (no_memory pages is calm begun whole created line) tells judged still_tray still = inr is
+
+  pub refused_input : EndsWords words t t' r r' status → RefusedInput words t t' r r' status
+  refused_input ended = record {
+    only = λ order means s. only_by order (order_ending order means ended) s;
+    always = λ order stop means tells judged still_tray still. always_by order stop (order_ending order means ended) tells judged still_tray still;
+  }
+
+  read_by : (order : RunWords) → EndingOf order → status ≡ 5 → (stop : RunStop) × (pages : List PageParts) × (status ≡ status_of_stop stop) × Whole order t r r' pages × Asks t.asked t'.asked (stop_reads (sources_of order) (length pages) stop) × BreaksRun (sources_of order) (length pages) t t' stop × TellsText (line_of_stop stop) r r'
+  read_by order (unread stop pages is rose also whole begun breaks line created) s = (stop, pages, also, whole, begun, breaks, line)
+  read_by order (done is calm pages whole ended begun created told) s = absurd (omega arith)
+  read_by order (refused stop pages (inl three) says) s = absurd (omega arith)
+  read_by order (refused stop pages (inr four) says) s = absurd (omega arith)
+  read_by order (unwritten is rose breaking) s = absurd (omega arith)
+  read_by order (no_memory pages is calm begun whole created line) s = absurd (omega arith)
+
+  memory_by : (order : RunWords) → EndingOf order → status ≡ 7 → (n : ℕ) × AsksFront t.asked t'.asked (run_reads (sources_of order) n)
+  memory_by order (no_memory pages is calm begun whole created line) s = begun
+  memory_by order (done is calm pages whole ended begun created told) s = absurd (omega arith)
+  memory_by order (refused stop pages (inl three) says) s = absurd (omega arith)
+  memory_by order (refused stop pages (inr four) says) s = absurd (omega arith)
+  memory_by order (unread stop pages is rose also whole begun breaks line created) s = absurd (omega arith)
+  memory_by order (unwritten is rose breaking) s = absurd (omega arith)
+
+  read_cause : EndsWords words t t' r r' status → status ≡ 5 → Rose t.faults t'.faults
+  read_cause (EndsWords.no_run none same refuses) s = let e : status ≡ 2 = refuses.status_is in absurd (omega arith)
+  read_cause (EndsWords.run order also ended) s = (statuses_of order (ending order ended)).read s
+
+  calm_memory : EndsWords words t t' r r' status → status ≡ 7 → t'.faults ≡ t.faults
+  calm_memory (EndsWords.no_run none same refuses) s = ap (λ (u : TrayState). u.faults) same
+  calm_memory (EndsWords.run order also ended) s = (statuses_of order (ending order ended)).memory s
+
+  pub read_fault : EndsWords words t t' r r' status → ReadFault words t t' r r' status
+  read_fault ended = record {
+    cause = read_cause ended;
+    breaks = λ order means s. read_by order (order_ending order means ended) s;
+    asked = λ order means s. memory_by order (order_ending order means ended) s;
+    calm = calm_memory ended;
+  }
+
+  broken_by : (order : RunWords) → EndingOf order → status ≡ 6 → Breaking order t t' r r'
+  broken_by order (unwritten is rose breaking) s = breaking
+  broken_by order (done is calm pages whole ended begun created told) s = absurd (omega arith)
+  broken_by order (refused stop pages (inl three) says) s = absurd (omega arith)
+  broken_by order (refused stop pages (inr four) says) s = absurd (omega arith)
+  broken_by order (unread stop pages is rose also whole begun breaks line created) s = absurd (omega arith)
+  broken_by order (no_memory pages is calm begun whole created line) s = absurd (omega arith)
+
+  write_cause : EndsWords words t t' r r' status → status ≡ 6 → Rose r.faults r'.faults
+  write_cause (EndsWords.no_run none same refuses) s = let e : status ≡ 2 = refuses.status_is in absurd (omega arith)
+  write_cause (EndsWords.run order also ended) s = (statuses_of order (ending order ended)).wrote s
+
+  pub write_fault : EndsWords words t t' r r' status → WriteFault words t t' r r' status
+  write_fault ended = record {
+    cause = write_cause ended;
+    breaks = λ order means s. let b = broken_by order (order_ending order means ended) s in (b.pages, b.page, b.file, b.mid, b.wrote, b.created, b.begun, b.valid, b.made, b.breaks, b.line);
+  }
+
+  left_by : (order : RunWords) → EndingOf order → status ≢ 6 → (pages : List PageParts) × Whole order t r r' pages × Asks r.asked r'.asked (run_names (targets_of order) (length pages))
+  left_by order (done is calm pages whole ended begun created told) other = (pages, whole, created)
+  left_by order (refused stop pages which says) other = (pages, says.whole, says.created)
+  left_by order (unread stop pages is rose also whole begun breaks line created) other = (pages, whole, created)
+  left_by order (unwritten is rose breaking) other = absurd (other is)
+  left_by order (no_memory pages is calm begun whole created line) other = (pages, whole, created)
+
+  pub leaves_pages : EndsWords words t t' r r' status → LeavesPages words t r r' status
+  leaves_pages ended order means other = left_by order (order_ending order means ended) other
+
+  pub fault_line : EndsWords words t t' r r' status → FaultLine r r' status
+  fault_line (EndsWords.no_run none same refuses) some words_mean other = absurd (words_mean refuses.status_is)
+  fault_line (EndsWords.run order also ended) some words_mean other = (statuses_of order (ending order ended)).line some other
+
+  complete_by : (order : RunWords) (files : List File) → EndingOf order → IsTrue t.tells → IsRunVerdict t.file (sources_of order) (targets_of order) (Out files) → ¬ Rose t.faults t'.faults → ¬ Rose r.faults r'.faults → (status ≡ 0) ⊎ (status ≡ 7)
+  complete_by order files (done is calm pages whole ended begun created told) tells judged still_tray still = inl is
+  complete_by order files (refused stop pages which says) tells judged still_tray still =
+      let same : Stopped stop ≡ Out files = one_verdict order (Stopped stop) (Out files) (says.verdict tells) judged in
+      absurd cc
+  complete_by order files (unread stop pages is rose also whole begun breaks line created) tells judged still_tray still = absurd (still_tray rose)
+  complete_by order files (unwritten is rose breaking) tells judged still_tray still = absurd (still rose)
+  complete_by order files (no_memory pages is calm begun whole created line) tells judged still_tray still = inr is
+
+  statuses : EndsWords words t t' r r' status → (status ≡ 0) ⊎ ((2 ≤ status) × (status ≤ 7))
+  statuses (EndsWords.no_run none same refuses) = let e : status ≡ 2 = refuses.status_is in inr (omega arith, omega arith)
+  statuses (EndsWords.run order also ended) = elim ((statuses_of order (ending order ended)).known) [ inl is ↦ inl is | inr within ↦ inr (omega (arith, within.0), within.1) ]
+
+  pub completeness : EndsWords words t t' r r' status → Completeness words t t' r r' status
+  completeness ended = record {
+    pages = λ order files means tells judged still_tray still. complete_by order files (order_ending order means ended) tells judged still_tray still;
+    statuses = statuses ended;
+  }

@@ -1,0 +1,4 @@
+pub mod PutLemmas
+pub mod PageLemmas
+pub mod RunLemmas
+pub mod ClauseLemmas

@@ -1,0 +1,4 @@
+pub mod Text
+pub mod Paging
+pub mod Endings
+pub mod Clauses

@@ -1,0 +1,6 @@
+//! The top call of the program `traprun`: jobs of many pages, and plate files of one image for each page.
+#![tactic(auto)]
+
+mod page;
+mod run;
+pub mod top;

@@ -1,0 +1,76 @@
+ghost use Rattle.std.specs.Prelude.{◌≡◌, length};
+ghost use Rattle.page_jobs.specs.Runs.{HasPage};
+ghost use Rattle.page_model.specs.Page.{plates};
+ghost use Rattle.page_run.specs.Paging.{PutsPage, StepsPage};
+ghost use Rattle.run_reading.specs.Held.{IsHeld, IsWithin, order_in};
+ghost use Rattle.run_reading.specs.Words.{sources_of, targets_of};
+
+use band_workers::Gate;
+use outside::rack::Rack;
+use outside::tray::Tray;
+use page_model::page::Page;
+use page_output::output::{PageOrder, put_out};
+use run_reading::files::{numbered, outputs_at};
+use run_reading::gather::{Held, gather_page};
+use run_reading::words::RunOrder;
+use run_verdicts::stop::{RunStop, stop_at};
+use std::alloc::Global;
+use std::thread::Threads;
+use trap_report::refusal::Refusal;
+
+/// Reads the page of that number, traps it, and writes its files.
+pub(crate) fn trap_one<H: Threads + Sync, T: Tray, R: Rack, G: Gate + Sync>(
+    rt: &H,
+    alloc: Global,
+    held: &Held<'_>,
+    page: u32,
+    tray: &mut T,
+    rack: &mut R,
+    gate: &G,
+) -> Result<(), RunStop>
+    requires held { IsHeld held.now }
+    requires page { HasPage held.now.job page }
+    ensures { let order = order_in held.now.order.now in
+        StepsPage (sources_of order) (targets_of order) held.now.job page (T.state tray.old)
+        (T.state tray.new) (R.state rack.old) (R.state rack.new) result }
+{
+    match gather_page(alloc, held, page, tray) {
+        Ok(made) => put_page(rt, alloc, held.order, page, &made, rack, gate),
+        Err(stop) => Err(stop),
+    }
+}
+
+// Traps a page and writes its files, each under its name and the page's number.
+fn put_page<H: Threads + Sync, R: Rack, G: Gate + Sync>(
+    rt: &H,
+    alloc: Global,
+    order: &RunOrder<'_>,
+    number: u32,
+    page: &Page,
+    rack: &mut R,
+    gate: &G,
+) -> Result<(), RunStop>
+    requires within { IsWithin order.now }
+    requires count { plates page.now ≡ length order.now.plates.now }
+    ensures { PutsPage (targets_of (order_in order.now)) number page.now (R.state rack.old)
+        (R.state rack.new) result }
+{
+    let _valid = page.plates();
+    let (outputs, report) = match (
+        outputs_at(alloc, order.plates, number),
+        numbered(alloc, order.report, number),
+    ) {
+        (Ok(outputs), Ok(report)) => (outputs, report),
+        _ => return Err(RunStop::Whole(Refusal::Memory)),
+    };
+    let files = PageOrder {
+        workers: order.workers,
+        band: order.band,
+        outputs: outputs.as_slice(),
+        report: report.as_str(),
+    };
+    match put_out(rt, alloc, page, &files, rack, gate) {
+        Ok(_receipt) => Ok(()),
+        Err(refusal) => Err(stop_at(number, refusal)),
+    }
+}

@@ -1,0 +1,99 @@
+ghost use Rattle.std.specs.Prelude.{◌≡◌, ◌≤◌, vec_len};
+ghost use Rattle.page_run.specs.Endings.{EndsRun, Runs, RunsFrom, TrapsPages};
+ghost use Rattle.run_reading.specs.Held.{IsHeld, IsWithin, order_in};
+ghost use Rattle.run_reading.specs.Words.{sources_of, targets_of};
+
+use crate::page::trap_one;
+use band_workers::Gate;
+use outside::rack::Rack;
+use outside::tray::Tray;
+use run_reading::behind::look_behind;
+use run_reading::gather::{Held, hold};
+use run_reading::words::RunOrder;
+use run_verdicts::stop::RunStop;
+use run_verdicts::telling::refuse_run;
+use std::alloc::Global;
+use std::thread::Threads;
+use trap_report::statuses::DONE;
+
+// Carries out a run, and gives the status that it ends with.
+pub(crate) fn run_order<H: Threads + Sync, T: Tray, R: Rack, G: Gate + Sync>(
+    rt: &H,
+    alloc: Global,
+    order: &RunOrder<'_>,
+    tray: &mut T,
+    rack: &mut R,
+    gate: &G,
+) -> u8
+    requires { IsWithin order.now }
+    ensures { EndsRun (order_in order.now) (T.state tray.old) (T.state tray.new)
+        (R.state rack.old) (R.state rack.new) result }
+{
+    match carry_out(rt, alloc, order, tray, rack, gate) {
+        Ok(()) => DONE,
+        Err(stop) => refuse_run(rack, &stop),
+    }
+}
+
+// Reads the job, and page after page reads, traps and writes; and looks behind the last page.
+fn carry_out<H: Threads + Sync, T: Tray, R: Rack, G: Gate + Sync>(
+    rt: &H,
+    alloc: Global,
+    order: &RunOrder<'_>,
+    tray: &mut T,
+    rack: &mut R,
+    gate: &G,
+) -> Result<(), RunStop>
+    requires { IsWithin order.now }
+    ensures { let meant = order_in order.now in
+        Runs (sources_of meant) (targets_of meant) (T.state tray.old) (T.state tray.new)
+        (R.state rack.old) (R.state rack.new) result }
+{
+    match hold(alloc, order, tray) {
+        Ok(held) => trap_held(rt, alloc, &held, tray, rack, gate),
+        Err(stop) => Err(stop),
+    }
+}
+
+// Traps all pages of a job that was read, and looks behind the last one.
+fn trap_held<H: Threads + Sync, T: Tray, R: Rack, G: Gate + Sync>(
+    rt: &H,
+    alloc: Global,
+    held: &Held<'_>,
+    tray: &mut T,
+    rack: &mut R,
+    gate: &G,
+) -> Result<(), RunStop>
+    requires { IsHeld held.now }
+    ensures { let meant = order_in held.now.order.now in
+        RunsFrom (sources_of meant) (targets_of meant) held.now.job (T.state tray.old)
+        (T.state tray.new) (R.state rack.old) (R.state rack.new) result }
+{
+    match trap_pages(rt, alloc, held, tray, rack, gate) {
+        Ok(()) => look_behind(alloc, tray, held.job.count(), held.inputs.as_slice()),
+        Err(stop) => Err(stop),
+    }
+}
+
+// Traps all pages of the job, in their order.
+fn trap_pages<H: Threads + Sync, T: Tray, R: Rack, G: Gate + Sync>(
+    rt: &H,
+    alloc: Global,
+    held: &Held<'_>,
+    tray: &mut T,
+    rack: &mut R,
+    gate: &G,
+) -> Result<(), RunStop>
+    requires { IsHeld held.now }
+    ensures { let meant = order_in held.now.order.now in
+        TrapsPages (sources_of meant) (targets_of meant) held.now.job (T.state tray.old)
+        (T.state tray.new) (R.state rack.old) (R.state rack.new) result }
+{
+    for page in 0..held.job.count() {
+        match trap_one(rt, alloc, held, page, tray, rack, gate) {
+            Ok(()) => {}
+            Err(stop) => return Err(stop),
+        }
+    }
+    Ok(())
+}

@@ -1,0 +1,88 @@
+ghost use Rattle.std.specs.Prelude.{◌≡◌, map, string_bytes};
+ghost use Rattle.page_run.specs.Clauses.{Success, Usage, RefusedInput, ReadFault, WriteFault, LeavesPages, FaultLine, Completeness};
+ghost use Rattle.page_run.specs.Endings.{EndsWords, RefusesWords};
+ghost use Rattle.page_run.specs.Text.{usage_line as usage_meant};
+
+use crate::run::run_order;
+use band_workers::Gate;
+use outside::rack::Rack;
+use outside::tray::Tray;
+use run_reading::words::read_words;
+use std::alloc::Global;
+use std::thread::Threads;
+use trap_report::line::Line;
+use trap_report::statuses::USAGE;
+use trap_report::telling::tell_line;
+
+/// Traps each page of a job of many pages, and answers the status that the program ends with.
+///
+/// The words are `WORKERS BAND JOB REPORT NAME:IN:OUT ...`: the workers, from 1 to 64, the rows of a band, from 1 to 4,096, the
+/// job's file, the report's, and one to sixteen plates, each with the name of its colorant, the file that is read and the one
+/// that is written. The job has one `showpage` for each page, and each plate's file one image. Page k, counted from 0, is
+/// written into OUT and REPORT, each followed by `.` and k. It is read, trapped and written before the next one is read; behind
+/// the last page each plate's file has to end.
+///
+/// The status is 0 where all pages are written; 2 where the words mean no run; 3 where the job has a fault, or lacks the details
+/// of a plate's colorant; 4 where a plate's file has a fault, too few images or too many, or the plates are no page; 5 where a
+/// read failed; 6 where a write failed; and 7 where memory was wanted. Each refusal tells one line that names the cause. What
+/// stops a run at one page leaves the files of the pages before it whole.
+pub fn traprun_main<H: Threads + Sync, T: Tray, R: Rack, G: Gate + Sync>(
+    rt: &H,
+    alloc: Global,
+    words: &[String],
+    tray: &mut T,
+    rack: &mut R,
+    gate: &G,
+) -> u8
+    ensures success { Success (map string_bytes words.now) (T.state tray.old) (T.state tray.new)
+        (R.state rack.old) (R.state rack.new) result }
+    ensures usage { Usage (map string_bytes words.now) (T.state tray.old) (T.state tray.new)
+        (R.state rack.old) (R.state rack.new) result }
+    ensures refused_input { RefusedInput (map string_bytes words.now) (T.state tray.old)
+        (T.state tray.new) (R.state rack.old) (R.state rack.new) result }
+    ensures read_fault { ReadFault (map string_bytes words.now) (T.state tray.old)
+        (T.state tray.new) (R.state rack.old) (R.state rack.new) result }
+    ensures write_fault { WriteFault (map string_bytes words.now) (T.state tray.old)
+        (T.state tray.new) (R.state rack.old) (R.state rack.new) result }
+    ensures memory { LeavesPages (map string_bytes words.now) (T.state tray.old)
+        (R.state rack.old) (R.state rack.new) result }
+    ensures fault_line { FaultLine (R.state rack.old) (R.state rack.new) result }
+    ensures completeness { Completeness (map string_bytes words.now) (T.state tray.old)
+        (T.state tray.new) (R.state rack.old) (R.state rack.new) result }
+{
+    run(rt, alloc, words, tray, rack, gate)
+}
+
+fn run<H: Threads + Sync, T: Tray, R: Rack, G: Gate + Sync>(
+    rt: &H,
+    alloc: Global,
+    words: &[String],
+    tray: &mut T,
+    rack: &mut R,
+    gate: &G,
+) -> u8
+    ensures { EndsWords (map string_bytes words.now) (T.state tray.old) (T.state tray.new)
+        (R.state rack.old) (R.state rack.new) result }
+{
+    match read_words(words) {
+        Some(order) => run_order(rt, alloc, &order, tray, rack, gate),
+        None => refuse_words(rack),
+    }
+}
+
+// Words that are no run are refused by this program's own usage line.
+fn refuse_words<R: Rack>(rack: &mut R) -> u8
+    ensures { RefusesWords (R.state rack.old) (R.state rack.new) result }
+{
+    tell_line(rack, &usage_line());
+    USAGE
+}
+
+fn usage_line() -> Line
+    ensures { result ≡ usage_meant }
+{
+    let mut line = Line::new();
+    line.push(b"usage: traprun WORKERS BAND JOB REPORT NAME:IN:OUT ...");
+    line.push(b"\n");
+    line
+}
