@@ -1,5 +1,5 @@
 -- The clauses of the top call, by how the run of the words ended.
-use Rattle.std.proofs.Common.{◌≡◌, ◌≢◌, ◌⊎◌, ℕ, suc, ◌<◌, ◌≤◌, List, [], ◌∷◌, ◌++◌, length, take, All, Option, Some, None, Result, Ok, Err, IsTrue, inl, inr, refl, sym, ap, ◌∙◌, subst, arith}
+use Rattle.std.proofs.Common.{◌≡◌, ◌≢◌, ◌⊎◌, ℕ, suc, ◌<◌, ◌≤◌, List, [], ◌∷◌, ◌++◌, length, take, All, Option, Some, None, Result, Ok, Err, Bool, IsTrue, IsFalse, inl, inr, refl, sym, ap, ◌∙◌, subst, arith}
 use Rattle.std.proofs.lemmas.Bool.{cases_lt}
 use Rattle.std.proofs.lemmas.List.Elements.{All-cons}
 use Rattle.outside.specs.Causes.{Rose, Asks, AsksFront}
@@ -24,6 +24,7 @@ use Rattle.run_verdicts.specs.RunVerdicts.RunVerdict.{Stopped, Out}
 use Rattle.run_verdicts.specs.Stops.{RefusesRun, line_of_stop, status_of_stop}
 use Rattle.run_verdicts.proofs.RunLemmas.{one_run_verdict}
 use Rattle.trap_report.specs.declared.refusal.Refusal.TheVariants as refusals
+use Rattle.page_run.proofs.PageLemmas.{some_run_files}
 use Rattle.trap_report.specs.Telling.{KeepsFiles, TellsText, TellsBehindFault}
 use Rattle.page_gather.specs.Inputs.{Sources}
 use Rattle.verdicts.specs.Verdicts.{Targets, outcome}
@@ -110,6 +111,7 @@ module _ (order : RunWords) (t t' : TrayState) (r m r' : RackState) (status : �
     valid = written.valid;
     made = written.made;
     files = λ tells. files.files (rack_keeps.tells ∙ tells) ∙ written.wrote.whole tells;
+    shut = λ some. subst (λ (b : Bool). IsFalse b) (sym files.is_open) (written.wrote.shut (some_run_files target pages some));
   }
 
   created_then : (names : List (List ℕ)) → Asks r.asked m.asked names → KeepsFiles m r' → Asks r.asked r'.asked names
@@ -121,6 +123,7 @@ module _ (order : RunWords) (t t' : TrayState) (r m r' : RackState) (status : �
     valid = λ k d within. absurd (omega arith);
     made = λ tells. tt;
     files = λ tells. files.files (rack_keeps.tells ∙ tells) ∙ ap (λ (x : RackState). x.file) same;
+    shut = λ some. absurd (omega arith);
   }
 
   created_none : m ≡ r → KeepsFiles m r' → Asks r.asked r'.asked []
@@ -136,7 +139,7 @@ module _ (order : RunWords) (t t' : TrayState) (r m r' : RackState) (status : �
   ended_done pages u written calm asked ended closed =
       let same : m ≡ r' = sym closed.0 in
       done closed.1 (calm, subst (λ (x : RackState). x.faults ≡ r.faults) same written.wrote.well) pages
-      (record { valid = written.valid; made = written.made; files = subst (λ (x : RackState). IsTrue r.tells → x.file ≡ put_all (run_files target pages) r.file) same written.wrote.whole })
+      (record { valid = written.valid; made = written.made; files = subst (λ (x : RackState). IsTrue r.tells → x.file ≡ put_all (run_files target pages) r.file) same written.wrote.whole; shut = λ some. subst (λ (x : RackState). IsFalse x.is_open) same (written.wrote.shut (some_run_files target pages some)) })
       ended asked (subst (λ (x : RackState). Asks r.asked x.asked (run_names target (length pages))) same written.created) (subst (λ (x : RackState). IsTrue r.tells → x.told ≡ r.told) same told)
 
   ending_of : (result : Result (Unit {0}) RunStop) → AnswersRun source target t t' r m result → Closes result m r' status → Ending order t t' r r' status

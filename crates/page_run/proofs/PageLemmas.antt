@@ -59,6 +59,11 @@ wrote_both files more a b c keeps some first then = record {
 some_files : (target : Targets) (page : PageParts) → 0 < length (outcome target page)
 some_files target page = let long = length-append (plate_files target.outputs (trapped_planes page)) (record { name = target.report; bytes = report_of page (page_counts page) } ∷ []) in omega (arith, long)
 
+-- and in a run of some pages
+pub some_run_files : (target : Targets) (pages : List PageParts) → 0 < length pages → 0 < length (run_files target pages)
+some_run_files target [] some = absurd (omega arith)
+some_run_files target (page ∷ earlier) some = let long = length-append (run_files target earlier) (outcome (target_at target (length earlier)) page) in let last = some_files (target_at target (length earlier)) page in omega (arith, long, last)
+
 -- no page yet
 pub no_page_done : (source : Sources) (target : Targets) (t b : TrayState) (r : RackState) → KeepsTray t b → b.faults ≡ t.faults → Asks t.asked b.asked (run_reads source 0) → PagesDone source target t b r r []
 no_page_done source target t b r keeps calm asked = record {

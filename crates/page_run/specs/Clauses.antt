@@ -1,5 +1,5 @@
 -- What the top call promises, clause by clause, of the words and of what stands before and, primed, after the call.
-use Rattle.std.specs.Prelude.{◌≡◌, ◌≢◌, ◌⊎◌, ℕ, suc, ◌≤◌, IsTrue, IsFalse, List, ◌∷◌, ◌++◌, length, All, Option, Some, None, Result, Ok, Err}
+use Rattle.std.specs.Prelude.{◌≡◌, ◌≢◌, ◌⊎◌, ℕ, suc, ◌<◌, ◌≤◌, IsTrue, IsFalse, List, ◌∷◌, ◌++◌, length, All, Option, Some, None, Result, Ok, Err}
 use Rattle.outside.specs.Causes.{Rose, Asks, AsksFront}
 use Rattle.outside.specs.Tray.{TrayState}
 use Rattle.outside.specs.Rack.{RackState}
@@ -31,6 +31,8 @@ pub record Whole (order : RunWords) (tray : TrayState) (rack rack' : RackState) 
   pub valid : All IsPage pages
   pub made : IsTrue tray.tells → AreMade tray.file (sources_of order) pages
   pub files : IsTrue rack.tells → rack'.file ≡ put_all (run_files (targets_of order) pages) rack.file
+  -- each of them is finished, whether or not the rack tells
+  pub shut : 0 < length pages → IsFalse rack'.is_open
 
 -- Status 0 comes only where neither count rose. All pages of the job are then whole, and no plate's file has another image behind the last one, so that the verdict is these files. All inputs were read for each page and looked at behind the last one; each file that was asked for was asked for in its order, and is finished; and nothing is told.
 pub record Success (words : List (List ℕ)) (tray tray' : TrayState) (rack rack' : RackState) (status : ℕ) : Type 0 where
