@@ -153,12 +153,13 @@ module _ (order : RunWords) (t t' : TrayState) (r m r' : RackState) (status : �
       let refuses = closes_err result (stops.Whole refusals.Memory) is closed in
       no_memory [] refuses.status_is calm (0, asks_all t.asked t'.asked (run_reads source 0) asked) (whole_none same refuses.files) (created_none same refuses.files) (line_from _ refuses.line)
   ending_of result (AnswersRun.done pages u is written calm asked ended) closed = ended_done pages u written calm asked ended (closes_ok result is closed)
-  ending_of result (AnswersRun.refused pages u stop is which written count asked verdict) closed =
+  ending_of result (AnswersRun.refused pages u stop is which written place count asked verdict) closed =
       let refuses = closes_err result stop is closed in
       refused stop pages (elim which [ inl three ↦ inl (refuses.status_is ∙ three) | inr four ↦ inr (refuses.status_is ∙ four) ]) (record {
         status_is = refuses.status_is;
         verdict = verdict;
         whole = whole_then u pages written refuses.files;
+        place = place;
         begun = asked;
         created = created_then (run_names target (length pages)) written.created refuses.files;
         count = count;

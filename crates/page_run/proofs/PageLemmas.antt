@@ -133,12 +133,14 @@ module _ (source : Sources) (target : Targets) (t b c : TrayState) (r r1 r2 : Ra
     stopped_by stop same (StopsPage.refused refusal is which passes asked verdict) =
         subst (λ (s : RunStop). AnswersRun source target t c r r2 (Err s)) (sym is)
         (AnswersRun.refused pages b (AtPage (length pages) refusal) refl which (subst (λ (x : RackState). Written source target t b r x pages) (sym same) done.written)
+        refl
         (count_then (Unit {0}) (Unit {0}) t b c refusal done.written.calm passes)
         (asked_more _ asked)
         (λ tells. (comes_to tells, from_first t b (λ files. IsVerdict (page_spelling (length pages)) files source (target_at target (length pages)) (Refused refusal)) done.tray_keeps (λ there. verdict there (target_at target (length pages))) tells)))
     stopped_by stop same (StopsPage.ends plate is calm asked ends) =
         subst (λ (s : RunStop). AnswersRun source target t c r r2 (Err s)) (sym is)
         (AnswersRun.refused pages b (Ends (length pages) plate) refl (inr refl) (subst (λ (x : RackState). Written source target t b r x pages) (sym same) done.written)
+        refl
         (calm ∙ done.written.calm)
         (asked_more _ asked)
         (λ tells. (comes_to tells, from_first t b (λ files. PlateEnds files source (length pages) plate) done.tray_keeps ends tells)))

@@ -71,9 +71,9 @@ module _ (source : Sources) (target : Targets) (t b c : TrayState) (r r' : RackS
   answer_look result (AnswersBehind.ended is calm asked ended) =
       AnswersRun.done pages b is done.written (calm ∙ done.written.calm) (asked_more source.inputs asked) (λ tells. (has_pages tells, ended_before (length source.inputs) ended tells))
   answer_look result (AnswersBehind.extra plate is calm at here) =
-      AnswersRun.refused pages b (Extra plate) is (inr refl) done.written (calm ∙ done.written.calm) (asked_more _ at.asked) (looks_last plate (λ n all. (another : PlateRead) × HasImage n all another) at here)
+      AnswersRun.refused pages b (Extra plate) is (inr refl) done.written has_pages (calm ∙ done.written.calm) (asked_more _ at.asked) (looks_last plate (λ n all. (another : PlateRead) × HasImage n all another) at here)
   answer_look result (AnswersBehind.fails plate fault is count at here) =
-      AnswersRun.refused pages b (Whole (Plate plate fault)) is (inr refl) done.written (plate_count plate t c fault (count_then t b c fault done.written.calm count)) (asked_more _ at.asked) (looks_last plate (λ n all. HasImageFault n all fault) at here)
+      AnswersRun.refused pages b (Whole (Plate plate fault)) is (inr refl) done.written has_pages (plate_count plate t c fault (count_then t b c fault done.written.calm count)) (asked_more _ at.asked) (looks_last plate (λ n all. HasImageFault n all fault) at here)
   answer_look result (AnswersBehind.unread plate is rose at held) =
       AnswersRun.unread pages b (Whole (Read (Some plate))) is refl done.written (rose_before t.faults b.faults c.faults done.tray_keeps.faults rose) (asked_more _ at.asked)
       ((λ tells. (has_pages tells, ended_before plate at.ended tells)), unbroken_before (length pages) t b c (name_at source.inputs plate) done.tray_keeps held)
@@ -94,10 +94,10 @@ module _ (source : Sources) (target : Targets) (t t' : TrayState) (r : RackState
   answer_job stop asked keeps (AnswersRunJob.read bytes count is has calm found) = absurd (let e : ◌≡◌ {A = Result (List ℕ) RunStop} (Err stop) (Ok bytes) = is in cc)
   answer_job stop asked keeps (AnswersRunJob.refused fault is calm held) =
       let same : stop ≡ Whole (Job fault) = (let e : ◌≡◌ {A = Result (List ℕ) RunStop} (Err stop) (Err (Whole (Job fault))) = is in cc) in
-      AnswersRun.refused [] t' (Whole (Job fault)) (ap (λ (s : RunStop). Err s) same) (inl refl) (no_page_done source target t t' r keeps calm asked).written calm asked held
+      AnswersRun.refused [] t' (Whole (Job fault)) (ap (λ (s : RunStop). Err s) same) (inl refl) (no_page_done source target t t' r keeps calm asked).written refl calm asked held
   answer_job stop asked keeps (AnswersRunJob.too_many at is calm held) =
       let same : stop ≡ TooManyPages at = (let e : ◌≡◌ {A = Result (List ℕ) RunStop} (Err stop) (Err (TooManyPages at)) = is in cc) in
-      AnswersRun.refused [] t' (TooManyPages at) (ap (λ (s : RunStop). Err s) same) (inl refl) (no_page_done source target t t' r keeps calm asked).written calm asked held
+      AnswersRun.refused [] t' (TooManyPages at) (ap (λ (s : RunStop). Err s) same) (inl refl) (no_page_done source target t t' r keeps calm asked).written refl calm asked held
   answer_job stop asked keeps (AnswersRunJob.unread is rose) =
       let same : stop ≡ Whole (Read None) = (let e : ◌≡◌ {A = Result (List ℕ) RunStop} (Err stop) (Err (Whole (Read None))) = is in cc) in
       AnswersRun.unread_job (ap (λ (s : RunStop). Err s) same) refl rose asked

@@ -6,7 +6,7 @@ use Rattle.outside.specs.Rack.{RackState}
 use Rattle.page_gather.specs.Inputs.{Makes}
 use Rattle.page_model.specs.declared.parts.PageParts.{PageParts}
 use Rattle.page_model.specs.Conditions.{IsPage}
-use Rattle.page_run.specs.Endings.{BreaksRun, StopKeepsCount, stop_reads}
+use Rattle.page_run.specs.Endings.{BreaksRun, StandsBehind, StopKeepsCount, stop_reads}
 use Rattle.page_run.specs.Text.{usage_line}
 use Rattle.run_reading.specs.Words.{RunWords, order_of, sources_of, targets_of}
 use Rattle.page_writing.specs.Files.{Written, put_all}
@@ -50,11 +50,12 @@ pub record Usage (words : List (List ℕ)) (tray tray' : TrayState) (rack rack' 
   pub no_create : order_of words ≡ None → rack'.asked ≡ rack.asked
   pub files : order_of words ≡ None → IsTrue rack.tells → rack'.file ≡ rack.file
 
--- What comes where the run is refused: the stop's status and its line; the verdict; the pages before it, which are whole; the names that were handed to `begin`, none behind that of the file that is refused, and to `create`; and that no fault of the tray was passed over.
+-- What comes where the run is refused: the stop's status and its line; the verdict; all pages before it, which are whole; the names that were handed to `begin`, none behind that of the file that is refused, and to `create`; and that no fault of the tray was passed over.
 pub record RefusesPages (order : RunWords) (tray tray' : TrayState) (rack rack' : RackState) (status : ℕ) (stop : RunStop) (pages : List PageParts) : Type 0 where
   pub status_is : status ≡ status_of_stop stop
   pub verdict : IsTrue tray.tells → IsRunVerdict tray.file (sources_of order) (targets_of order) (Stopped stop)
   pub whole : Whole order tray rack rack' pages
+  pub place : StandsBehind (sources_of order) tray (length pages) stop
   pub begun : Asks tray.asked tray'.asked (stop_reads (sources_of order) (length pages) stop)
   pub created : Asks rack.asked rack'.asked (run_names (targets_of order) (length pages))
   pub count : StopKeepsCount tray tray' stop

@@ -54,13 +54,21 @@ BreaksRun source k before after (AtPage page (Read (Some plate))) = (page ≡ k)
 BreaksRun source k before after (Whole (Read (Some plate))) = (IsTrue before.tells → HasPages before.file source k × AllEnd before.file source k plate) × IsUnbroken k (name_at source.inputs plate) before after
 BreaksRun source k before after other = ⊥
 
+-- A stop stands behind so many pages: that of a page has the page's number, one of the whole job comes before the first page, and one of a plate's last look behind all pages of the job.
+abbrev pub StandsBehind : Sources → TrayState → ℕ → RunStop → Type 0
+StandsBehind source before k (AtPage page refusal) = page ≡ k
+StandsBehind source before k (Ends page plate) = page ≡ k
+StandsBehind source before k (Extra plate) = IsTrue before.tells → HasPages before.file source k
+StandsBehind source before k (Whole (Plate plate fault)) = IsTrue before.tells → HasPages before.file source k
+StandsBehind source before k other = k ≡ 0
+
 -- How a run ends, before a line is told. The pages are those that were written whole before it, the last of them first.
 pub data AnswersRun (source : Sources) (target : Targets) (tray tray' : TrayState) (rack rack' : RackState) (result : Result (Unit {0}) RunStop) : Type 0 where
   not_begun : result ≡ Err (Whole Memory) → tray' ≡ tray → rack' ≡ rack → AnswersRun source target tray tray' rack rack' result
   unread_job : result ≡ Err (Whole (Read None)) → rack' ≡ rack → Rose tray.faults tray'.faults → Asks tray.asked tray'.asked (run_reads source 0) → AnswersRun source target tray tray' rack rack' result
   no_job_memory : result ≡ Err (Whole Memory) → rack' ≡ rack → tray'.faults ≡ tray.faults → Asks tray.asked tray'.asked (run_reads source 0) → AnswersRun source target tray tray' rack rack' result
   done : (pages : List PageParts) (between : TrayState) → result ≡ Ok tt → Written source target tray between rack rack' pages → tray'.faults ≡ tray.faults → Asks tray.asked tray'.asked (run_reads source (suc (length pages))) → (IsTrue tray.tells → HasPages tray.file source (length pages) × AllEnd tray.file source (length pages) (length source.inputs)) → AnswersRun source target tray tray' rack rack' result
-  refused : (pages : List PageParts) (between : TrayState) (stop : RunStop) → result ≡ Err stop → (status_of_stop stop ≡ job_refused) ⊎ (status_of_stop stop ≡ page_refused) → Written source target tray between rack rack' pages → StopKeepsCount tray tray' stop → Asks tray.asked tray'.asked (stop_reads source (length pages) stop) → (IsTrue tray.tells → IsRunVerdict tray.file source target (Stopped stop)) → AnswersRun source target tray tray' rack rack' result
+  refused : (pages : List PageParts) (between : TrayState) (stop : RunStop) → result ≡ Err stop → (status_of_stop stop ≡ job_refused) ⊎ (status_of_stop stop ≡ page_refused) → Written source target tray between rack rack' pages → StandsBehind source tray (length pages) stop → StopKeepsCount tray tray' stop → Asks tray.asked tray'.asked (stop_reads source (length pages) stop) → (IsTrue tray.tells → IsRunVerdict tray.file source target (Stopped stop)) → AnswersRun source target tray tray' rack rack' result
   unread : (pages : List PageParts) (between : TrayState) (stop : RunStop) → result ≡ Err stop → status_of_stop stop ≡ 5 → Written source target tray between rack rack' pages → Rose tray.faults tray'.faults → Asks tray.asked tray'.asked (stop_reads source (length pages) stop) → BreaksRun source (length pages) tray tray' stop → AnswersRun source target tray tray' rack rack' result
   unwritten : (pages : List PageParts) (between : TrayState) (mid : RackState) (page : PageParts) (file : Option ℕ) → result ≡ Err (AtPage (length pages) (Write file)) → Written source target tray between rack mid pages → KeepsRack rack mid → KeepsRack mid rack' → tray'.faults ≡ tray.faults → Asks tray.asked tray'.asked (run_reads source (suc (length pages))) → IsPage page → (IsTrue tray.tells → AreMade tray.file source (page ∷ pages)) → Breaks (length target.outputs) (outcome (target_at target (length pages)) page) file mid rack' → AsksFront mid.asked rack'.asked (written_names (target_at target (length pages))) → AnswersRun source target tray tray' rack rack' result
   no_memory : (pages : List PageParts) (between : TrayState) → result ≡ Err (Whole Memory) → Written source target tray between rack rack' pages → tray'.faults ≡ tray.faults → AsksFront tray.asked tray'.asked (run_reads source (suc (length pages))) → AnswersRun source target tray tray' rack rack' result
