@@ -1,0 +1,4 @@
+pub mod Steps
+pub mod Writing
+pub mod Fronts
+pub mod Telling
