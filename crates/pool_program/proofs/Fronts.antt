@@ -1,5 +1,5 @@
 -- A list of which one byte more was read than it may have is as good, or as bad, as all of it.
-use Rattle.std.proofs.Common.{◌≡◌, ◌≢◌, ◌⊎◌, ◌∙◌, ℕ, ◌+◌, ◌-◌, ◌<◌, ◌≤◌, Bool, true, false, not, ◌&&◌, cond, List, [], ◌∷◌, ◌++◌, length, map, take, drop, IsTrue, Option, Some, None, Result, Ok, Err, refl, sym, ap, ap₂, subst, inl, inr, arith, append_assoc, length-append}
+use Rattle.std.proofs.Common.{◌≡◌, ◌≢◌, ◌∙◌, ℕ, ◌+◌, ◌≤◌, Bool, true, false, not, ◌&&◌, cond, List, [], ◌∷◌, ◌++◌, length, map, take, drop, IsTrue, Option, Some, None, Result, Ok, Err, refl, sym, ap, ap₂, subst, arith, append_assoc, length-append}
 use Rattle.std.specs.List.{list_any, slice_split}
 use Rattle.std.specs.Str.{is_utf8}
 use Rattle.plain_words.specs.Parts.{PlateNames, is_some_text, parts_of}
@@ -8,7 +8,7 @@ use Rattle.pool_list.specs.Lines.{LineParts, are_plates, is_lf, is_space, line_o
 use Rattle.outside.specs.Causes.{Asks}
 use Rattle.outside.specs.Reading.{TakesFront}
 use Rattle.outside.specs.Tray.{TrayState, KeepsTray}
-use Rattle.pool_list.specs.Lists.{Begins, IsBadLine, IsList, ReadsList, lines_of, one_more, text_of}
+use Rattle.pool_list.specs.Lists.{IsBadLine, IsList, ReadsList, lines_of, one_more, text_of}
 use Rattle.pool_list.specs.declared.reading.ListRefusal.{ListRefusal}
 use Rattle.pool_list.specs.declared.reading.ListRefusal.TheVariants as refused
 use Rattle.pool_program.specs.declared.lines.ListFault.{ListFault}

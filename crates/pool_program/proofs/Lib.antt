@@ -2,3 +2,4 @@ pub mod Steps
 pub mod Writing
 pub mod Fronts
 pub mod Telling
+pub mod Outs

@@ -1,7 +1,7 @@
 -- A line that is told in two pieces.
-use Rattle.std.proofs.Common.{◌≡◌, ◌∙◌, ℕ, ◌+◌, ◌≤◌, min, List, ◌++◌, length, take, IsTrue, MatchResult, Result, Ok, Err, refl, sym, ap, subst, arith, append_assoc}
+use Rattle.std.proofs.Common.{◌≡◌, ◌∙◌, ℕ, ◌+◌, min, List, ◌++◌, length, take, MatchResult, Result, Ok, Err, sym, ap, subst, arith, append_assoc}
 use Rattle.std.proofs.Math.Seq.{take-append-add}
-use Rattle.std.proofs.lemmas.List.{length-take-le, take-append-le, take_min}
+use Rattle.std.proofs.lemmas.List.{take-append-le, take_min}
 use Rattle.outside.specs.Rack.{RackState, Tells}
 use Rattle.outside.proofs.Steps.{kept_then, rose_before, told_on}
 use Rattle.pool_program.specs.Answers.{TellsPart, TellsWhole}

@@ -1,5 +1,5 @@
 -- The files of one line are written.
-use Rattle.std.proofs.Common.{◌≡◌, ◌∙◌, ℕ, List, ◌++◌, [], ◌∷◌, length, Option, Some, None, Result, Ok, Err, IsTrue, refl, sym, ap, subst, arith}
+use Rattle.std.proofs.Common.{◌≡◌, ℕ, List, length, Option, Some, None, Result, Ok, Err, refl, subst, arith}
 use Rattle.lists.proofs.ListBelow.{length-list_below}
 use Rattle.outside.specs.Rack.{RackState, KeepsRack}
 use Rattle.outside.proofs.Names.{asks_none_of}

@@ -1,5 +1,5 @@
 -- How the lines of a list are answered: files are written, and a line is told.
-use Rattle.std.specs.Prelude.{◌≡◌, ◌≢◌, ◌⊎◌, ℕ, ◌+◌, IsTrue, List, [], ◌∷◌, ◌++◌, length, take, Option, Some, None, Result, Ok, Err}
+use Rattle.std.specs.Prelude.{◌≡◌, ◌⊎◌, ℕ, ◌+◌, IsTrue, List, [], ◌∷◌, ◌++◌, length, take, Option, Some, None}
 use Rattle.outside.specs.Causes.{Rose, AsksFront}
 use Rattle.outside.specs.Rack.{RackState, KeepsRack}
 use Rattle.page_model.specs.declared.parts.PageParts.{PageParts}
@@ -11,7 +11,7 @@ use Rattle.trap_pool.specs.declared.outcome.Outcome.TheVariants as outcomes
 use Rattle.trap_pool.specs.Pools.{target_of}
 use Rattle.trap_pool.specs.Replies.{ReplyParts}
 use Rattle.trap_report.specs.declared.refusal.Refusal.TheVariants as refusals
-use Rattle.trap_report.specs.Statuses.{done, not_written}
+use Rattle.trap_report.specs.Statuses.{not_written}
 use Rattle.trap_report.specs.Telling.{KeepsFiles}
 use Rattle.verdicts.specs.Verdicts.{Targets, outcome, written_names}
 use Rattle.pool_program.specs.declared.answering.Said.{Said}

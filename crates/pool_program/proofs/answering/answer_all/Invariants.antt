@@ -1,4 +1,4 @@
-use Rattle.std.proofs.Common.{◌≡◌, ◌++◌, ℕ, drop, length}
+use Rattle.std.proofs.Common.{ℕ, drop}
 use Rattle.std.specs.Vec.Iter.{into_iter_items}
 use Rattle.outside.specs.Rack.{RackState}
 use Rattle.pool_program.specs.Answers.{AllHaveOuts, AnswersAll}

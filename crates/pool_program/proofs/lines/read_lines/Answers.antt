@@ -1,5 +1,4 @@
-use Rattle.std.proofs.Common.{◌∙◌, ℕ, List, Result, subst}
-use Rattle.pool_list.specs.Lines.{LineParts}
+use Rattle.std.proofs.Common.{ℕ, List, subst}
 use Rattle.pool_list.specs.Lists.{ReadsList}
 use Rattle.pool_program.proofs.Fronts.{read_judged}
 use Rattle.pool_program.proofs.lines.read_lines.Goals as goal
