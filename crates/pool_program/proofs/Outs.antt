@@ -19,8 +19,8 @@ outs_in_turn k used [] [] a b paired turns = tt
 outs_in_turn k used [] (reply ∷ replies) a b paired turns = absurd turns
 outs_in_turn k used (line ∷ lines) [] a b paired turns = absurd turns
 outs_in_turn k used (line ∷ lines) (reply ∷ replies) a b paired turns = (
-    line_outs k used line reply a turns.0 paired.0 turns.1,
-    outs_in_turn (k + 1) (used + accepted_of reply.page reply.outcome) lines replies turns.0 b paired.1 turns.2,
+  line_outs k used line reply a turns.0 paired.0 turns.1,
+  outs_in_turn (k + 1) (used + accepted_of reply.page reply.outcome) lines replies turns.0 b paired.1 turns.2,
 )
 
 pub made_outs : (name : List ℕ) (lines : List LineParts) (replies : List ReplyParts) (a b : TrayState) → MakesReplies name a b (Ok (lines, replies)) → AllHaveOuts lines replies

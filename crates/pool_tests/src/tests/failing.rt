@@ -67,8 +67,8 @@ fn each_read_fails_in_turn(rt: HostRuntime) -> Result<(), Fail> {
 }
 
 // How a run ends as the calls of the rack fail one after another: files before the failed one are whole, and no later file of
-// its line is there; after a line that could not be told no file is.
-const WRITES: [Wanted<'static>; 9] = [
+// its line is there; after a line that could not be told, be it in part, no file is.
+const WRITES: [Wanted<'static>; 11] = [
     Wanted {
         status: 9,
         told: "job 0: write fault: plate 0\njob 1: done\n",
@@ -99,6 +99,16 @@ const WRITES: [Wanted<'static>; 9] = [
         ],
     },
     Wanted {
+        status: 6,
+        told: "job 0: ",
+        written: &[
+            ("r0", Some(REPORT)),
+            ("a1", None),
+            ("b1", None),
+            ("r1", None),
+        ],
+    },
+    Wanted {
         status: 9,
         told: "job 0: done\njob 1: write fault: plate 0\n",
         written: &[("r0", Some(REPORT)), ("b1", None), ("r1", None)],
@@ -120,6 +130,11 @@ const WRITES: [Wanted<'static>; 9] = [
     Wanted {
         status: 6,
         told: "job 0: done\n",
+        written: &[("r0", Some(REPORT)), ("r1", Some(UNSLID_REPORT))],
+    },
+    Wanted {
+        status: 6,
+        told: "job 0: done\njob 1: ",
         written: &[("r0", Some(REPORT)), ("r1", Some(UNSLID_REPORT))],
     },
     Wanted {
@@ -176,6 +191,6 @@ fn each_write_fails_in_turn(rt: HostRuntime) -> Result<(), Fail> {
             reached = reached.saturating_add(1);
         }
     }
-    assert_eq!(rt; reached, 8);
+    assert_eq!(rt; reached, 10);
     Ok(())
 }
