@@ -3,3 +3,4 @@ pub mod Writing
 pub mod Fronts
 pub mod Telling
 pub mod Outs
+pub mod Clauses

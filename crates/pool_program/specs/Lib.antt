@@ -3,3 +3,4 @@ pub mod Text
 pub mod Answers
 pub mod Reading
 pub mod Endings
+pub mod Clauses

@@ -1,4 +1,5 @@
 ghost use Rattle.std.specs.Prelude.{map, string_bytes};
+ghost use Rattle.pool_program.specs.Clauses.{AnswersLines, IsStatus, LeavesFiles, RefusedList, Success, Untold, Usage};
 ghost use Rattle.pool_program.specs.Endings.{Ends};
 
 use crate::answering::answer_all;
@@ -23,6 +24,31 @@ use trap_pool::TakeGate;
 /// could not be read; 6 where a line could not be told, after which nothing is written; 7 where memory was wanted before the
 /// first write; and 9 where some line was refused.
 pub fn trappool_main<H: Threads + Wait + Sync, T: Tray, R: Rack, G: TakeGate + Sync>(
+    rt: &H,
+    alloc: Global,
+    words: &[String],
+    tray: &mut T,
+    rack: &mut R,
+    gate: &G,
+) -> u8
+    ensures ends { Ends (map string_bytes words.now) (T.state tray.old) (T.state tray.new)
+        (R.state rack.old) (R.state rack.new) result }
+    ensures usage { Usage (map string_bytes words.now) (T.state tray.old) (T.state tray.new)
+        (R.state rack.old) (R.state rack.new) result }
+    ensures refused_list { RefusedList (map string_bytes words.now) (T.state tray.old)
+        (T.state tray.new) (R.state rack.old) (R.state rack.new) result }
+    ensures files { LeavesFiles (R.state rack.old) (R.state rack.new) result }
+    ensures success { Success (map string_bytes words.now) (T.state tray.old) (R.state rack.old)
+        (R.state rack.new) result }
+    ensures untold { Untold (R.state rack.old) (R.state rack.new) result }
+    ensures answers { AnswersLines (map string_bytes words.now) (T.state tray.old)
+        (T.state tray.new) (R.state rack.old) (R.state rack.new) result }
+    ensures statuses { IsStatus result }
+{
+    run(rt, alloc, words, tray, rack, gate)
+}
+
+fn run<H: Threads + Wait + Sync, T: Tray, R: Rack, G: TakeGate + Sync>(
     rt: &H,
     alloc: Global,
     words: &[String],

@@ -1,14 +1,24 @@
-use Rattle.std.proofs.Common.{sym}
-use Rattle.pool_program.proofs.Outs.{made_outs}
-use Rattle.pool_program.specs.Endings.{answered, no_list}
-use Rattle.pool_program.specs.Words.{asked_in}
+use Rattle.std.proofs.Common.{map, string_bytes, Global}
+use Rattle.pool_program.proofs.Clauses.{answers_lines, leaves_files, refused_list, statuses, success, untold, usage_ends}
 use Rattle.pool_program.proofs.top.trappool_main.Goals as goal
 
-pub answer_all-requires-clause-outs : goal.answer_all-requires-clause-outs
-answer_all-requires-clause-outs g c = made_outs c.in-Some.asked.list.now c.in-Ok.lines c.in-Ok.replies (g.T.Tray.state c.args.tray.now) (g.T.Tray.state c.make_replies.new.tray) c.in-Ok.ensures
+pub returns-clause-usage : goal.returns-clause-usage
+returns-clause-usage g c = usage_ends (map (string_bytes {Z = Global}) c.args.words.now) (g.T.Tray.state c.args.tray.now) (g.T.Tray.state c.run.new.tray) (g.R.Rack.state c.args.rack.now) (g.R.Rack.state c.run.new.rack) c.run.result c.run.ensures
 
-pub returns-in-Ok : goal.returns-in-Ok
-returns-in-Ok g c = answered (asked_in c.in-Some.asked) c.in-Ok.lines c.in-Ok.replies (sym c.in-Some.ensures.meaning) c.in-Ok.ensures c.answer_all.ensures
+pub returns-clause-refused_list : goal.returns-clause-refused_list
+returns-clause-refused_list g c = refused_list (map (string_bytes {Z = Global}) c.args.words.now) (g.T.Tray.state c.args.tray.now) (g.T.Tray.state c.run.new.tray) (g.R.Rack.state c.args.rack.now) (g.R.Rack.state c.run.new.rack) c.run.result c.run.ensures
 
-pub returns-in-Err : goal.returns-in-Err
-returns-in-Err g c = no_list (asked_in c.in-Some.asked) c.in-Err.fault (sym c.in-Some.ensures.meaning) c.in-Err.ensures c.refuse_list.ensures
+pub returns-clause-files : goal.returns-clause-files
+returns-clause-files g c = leaves_files (map (string_bytes {Z = Global}) c.args.words.now) (g.T.Tray.state c.args.tray.now) (g.T.Tray.state c.run.new.tray) (g.R.Rack.state c.args.rack.now) (g.R.Rack.state c.run.new.rack) c.run.result c.run.ensures
+
+pub returns-clause-success : goal.returns-clause-success
+returns-clause-success g c = success (map (string_bytes {Z = Global}) c.args.words.now) (g.T.Tray.state c.args.tray.now) (g.T.Tray.state c.run.new.tray) (g.R.Rack.state c.args.rack.now) (g.R.Rack.state c.run.new.rack) c.run.result c.run.ensures
+
+pub returns-clause-untold : goal.returns-clause-untold
+returns-clause-untold g c = untold (map (string_bytes {Z = Global}) c.args.words.now) (g.T.Tray.state c.args.tray.now) (g.T.Tray.state c.run.new.tray) (g.R.Rack.state c.args.rack.now) (g.R.Rack.state c.run.new.rack) c.run.result c.run.ensures
+
+pub returns-clause-answers : goal.returns-clause-answers
+returns-clause-answers g c = answers_lines (map (string_bytes {Z = Global}) c.args.words.now) (g.T.Tray.state c.args.tray.now) (g.T.Tray.state c.run.new.tray) (g.R.Rack.state c.args.rack.now) (g.R.Rack.state c.run.new.rack) c.run.result c.run.ensures
+
+pub returns-clause-statuses : goal.returns-clause-statuses
+returns-clause-statuses g c = statuses (map (string_bytes {Z = Global}) c.args.words.now) (g.T.Tray.state c.args.tray.now) (g.T.Tray.state c.run.new.tray) (g.R.Rack.state c.args.rack.now) (g.R.Rack.state c.run.new.rack) c.run.result c.run.ensures
