@@ -44,9 +44,18 @@ fn is_refused<H: Threads + Wait + Abort + Sync>(
     line: u32,
 ) -> Result<bool, AllocError> {
     let told = told_of(alloc, line)?;
+    is_refused_by(rt, alloc, list, told.as_str())
+}
+
+fn is_refused_by<H: Threads + Wait + Abort + Sync>(
+    rt: &H,
+    alloc: Global,
+    list: &[u8],
+    told: &str,
+) -> Result<bool, AllocError> {
     let wanted = Wanted {
         status: 3,
-        told: told.as_str(),
+        told,
         written: &[("a0", None), ("r0", None)],
     };
     let run = Run {
