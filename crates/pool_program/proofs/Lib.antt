@@ -1,0 +1,6 @@
+pub mod Steps
+pub mod Writing
+pub mod Fronts
+pub mod Telling
+pub mod Outs
+pub mod Clauses

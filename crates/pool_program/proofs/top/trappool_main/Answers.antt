@@ -1,0 +1,24 @@
+use Rattle.std.proofs.Common.{map, string_bytes, Global}
+use Rattle.pool_program.proofs.Clauses.{answers_lines, leaves_files, refused_list, statuses, success, untold, usage_ends}
+use Rattle.pool_program.proofs.top.trappool_main.Goals as goal
+
+pub returns-clause-usage : goal.returns-clause-usage
+returns-clause-usage g c = usage_ends (map (string_bytes {Z = Global}) c.args.words.now) (g.T.Tray.state c.args.tray.now) (g.T.Tray.state c.run.new.tray) (g.R.Rack.state c.args.rack.now) (g.R.Rack.state c.run.new.rack) c.run.result c.run.ensures
+
+pub returns-clause-refused_list : goal.returns-clause-refused_list
+returns-clause-refused_list g c = refused_list (map (string_bytes {Z = Global}) c.args.words.now) (g.T.Tray.state c.args.tray.now) (g.T.Tray.state c.run.new.tray) (g.R.Rack.state c.args.rack.now) (g.R.Rack.state c.run.new.rack) c.run.result c.run.ensures
+
+pub returns-clause-files : goal.returns-clause-files
+returns-clause-files g c = leaves_files (map (string_bytes {Z = Global}) c.args.words.now) (g.T.Tray.state c.args.tray.now) (g.T.Tray.state c.run.new.tray) (g.R.Rack.state c.args.rack.now) (g.R.Rack.state c.run.new.rack) c.run.result c.run.ensures
+
+pub returns-clause-success : goal.returns-clause-success
+returns-clause-success g c = success (map (string_bytes {Z = Global}) c.args.words.now) (g.T.Tray.state c.args.tray.now) (g.T.Tray.state c.run.new.tray) (g.R.Rack.state c.args.rack.now) (g.R.Rack.state c.run.new.rack) c.run.result c.run.ensures
+
+pub returns-clause-untold : goal.returns-clause-untold
+returns-clause-untold g c = untold (map (string_bytes {Z = Global}) c.args.words.now) (g.T.Tray.state c.args.tray.now) (g.T.Tray.state c.run.new.tray) (g.R.Rack.state c.args.rack.now) (g.R.Rack.state c.run.new.rack) c.run.result c.run.ensures
+
+pub returns-clause-answers : goal.returns-clause-answers
+returns-clause-answers g c = answers_lines (map (string_bytes {Z = Global}) c.args.words.now) (g.T.Tray.state c.args.tray.now) (g.T.Tray.state c.run.new.tray) (g.R.Rack.state c.args.rack.now) (g.R.Rack.state c.run.new.rack) c.run.result c.run.ensures
+
+pub returns-clause-statuses : goal.returns-clause-statuses
+returns-clause-statuses g c = statuses (map (string_bytes {Z = Global}) c.args.words.now) (g.T.Tray.state c.args.tray.now) (g.T.Tray.state c.run.new.tray) (g.R.Rack.state c.args.rack.now) (g.R.Rack.state c.run.new.rack) c.run.result c.run.ensures

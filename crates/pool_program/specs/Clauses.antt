@@ -1,0 +1,60 @@
+-- What the top call promises, clause by clause, of the words and of what stands before and, primed, after the call.
+use Rattle.std.specs.Prelude.{◌≡◌, ◌≢◌, ◌⊎◌, ℕ, ◌+◌, IsTrue, List, [], ◌∷◌, ◌++◌, Some, None, Ok}
+use Rattle.outside.specs.Causes.{Rose}
+use Rattle.outside.specs.Rack.{RackState}
+use Rattle.outside.specs.Tray.{TrayState}
+use Rattle.page_gather.specs.Inputs.{Holds}
+use Rattle.pool_list.specs.Lines.{LineParts}
+use Rattle.pool_list.specs.Lists.{IsBadLine, IsList}
+use Rattle.trap_pool.specs.Replies.{ReplyParts}
+use Rattle.trap_report.specs.Refusals.{line_of}
+use Rattle.trap_report.specs.Statuses.{done, job_refused, not_read, not_written, out_of_memory, usage}
+use Rattle.trap_report.specs.Telling.{KeepsFiles, TellsText}
+use Rattle.trap_report.specs.declared.refusal.Refusal.TheVariants as refusals
+use Rattle.pool_program.specs.Answers.{AnswersAll, lines_refused}
+use Rattle.pool_program.specs.Reading.{MakesReplies}
+use Rattle.pool_program.specs.Text.{bad_line, job_line, unread_line, usage_line}
+use Rattle.pool_program.specs.Words.{AskedWords, asked_of}
+use Rattle.pool_program.specs.declared.answering.Said.TheVariants as said
+
+-- Status 2 comes exactly where the words mean nothing. The usage line is then told, and nothing is read.
+pub record Usage (words : List (List ℕ)) (tray tray' : TrayState) (rack rack' : RackState) (status : ℕ) : Type 0 where
+  pub only : status ≡ usage → asked_of words ≡ None
+  pub always : asked_of words ≡ None → status ≡ usage
+  pub line : asked_of words ≡ None → TellsText usage_line rack rack'
+  pub unread : asked_of words ≡ None → tray' ≡ tray
+
+-- Status 3 comes only where the list has a first bad line, which is told; status 5 only where the tray's count rose while the list was read, which is told; and status 7 tells of want of memory.
+pub record RefusedList (words : List (List ℕ)) (tray tray' : TrayState) (rack rack' : RackState) (status : ℕ) : Type 0 where
+  pub bad : status ≡ job_refused → (asked : AskedWords) × (k : ℕ) × (asked_of words ≡ Some asked) × (tray'.faults ≡ tray.faults) × (IsTrue tray.tells → Holds tray.file asked.list (λ bytes. IsBadLine bytes k)) × TellsText (bad_line k) rack rack'
+  pub unread : status ≡ not_read → Rose tray.faults tray'.faults × TellsText unread_line rack rack'
+  pub memory : status ≡ out_of_memory → TellsText (line_of refusals.Memory) rack rack'
+
+-- At every status but 0, 6 and 9 no file is created, changed, opened or finished.
+abbrev pub LeavesFiles : RackState → RackState → ℕ → Type 0
+LeavesFiles rack rack' status = status ≢ done → status ≢ not_written → status ≢ lines_refused → KeepsFiles rack rack'
+
+-- what is told where each of these lines, the first of them being line k, is done
+abbrev pub done_text : ℕ → List LineParts → List ℕ
+done_text k [] = []
+done_text k (line ∷ lines) = job_line k said.Done ++ done_text (k + 1) lines
+
+-- Status 0 comes only where the list is one, and each of its lines is told done.
+abbrev pub Success : List (List ℕ) → TrayState → RackState → RackState → ℕ → Type 0
+Success words tray rack rack' status = status ≡ done → (asked : AskedWords) × (lines : List LineParts) × (asked_of words ≡ Some asked) × (IsTrue tray.tells → Holds tray.file asked.list (λ bytes. IsList bytes lines)) × (IsTrue rack.tells → rack'.told ≡ rack.told ++ done_text 0 lines)
+
+-- Status 6 comes only where the rack's count rose.
+abbrev pub Untold : RackState → RackState → ℕ → Type 0
+Untold rack rack' status = status ≡ not_written → Rose rack.faults rack'.faults
+
+-- status 0, 9 or 6
+abbrev pub IsAnswer : ℕ → Type 0
+IsAnswer status = (status ≡ done) ⊎ ((status ≡ lines_refused) ⊎ (status ≡ not_written))
+
+-- Status 0, 6 and 9 come only where the list and the pages of its lines were read: its lines are then answered one after another, by the replies of the pool.
+abbrev pub AnswersLines : List (List ℕ) → TrayState → TrayState → RackState → RackState → ℕ → Type 0
+AnswersLines words tray tray' rack rack' status = IsAnswer status → (asked : AskedWords) × (lines : List LineParts) × (replies : List ReplyParts) × (asked_of words ≡ Some asked) × MakesReplies asked.list tray tray' (Ok (lines, replies)) × AnswersAll 0 0 lines replies rack rack' status
+
+-- No other status comes.
+abbrev pub IsStatus : ℕ → Type 0
+IsStatus status = IsAnswer status ⊎ ((status ≡ usage) ⊎ ((status ≡ job_refused) ⊎ ((status ≡ not_read) ⊎ (status ≡ out_of_memory))))

@@ -1,0 +1,6 @@
+pub mod Words
+pub mod Text
+pub mod Answers
+pub mod Reading
+pub mod Endings
+pub mod Clauses
