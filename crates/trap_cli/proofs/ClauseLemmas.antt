@@ -403,18 +403,18 @@ module _ (words : List (List ℕ)) (t t' : TrayState) (r r' : RackState) (status
   hand_of page means (Ends.sample sample also same ended) = inl same
 
   -- neither a failed write nor want of memory passes a fault of the tray over
-  page_calm : (page : PageWords) → EndingOf page → (status ≡ 6) ⊎ (status ≡ 7) → t'.faults ≡ t.faults
-  page_calm page (no_memory is calm keeps line none) s = calm
-  page_calm page (done is calm made valid begun files told shut asked has) s = calm.0
-  page_calm page (refused refusal is (inl which) verdict begun count keeps line none) s = elim s [ inl a ↦ absurd (omega arith) | inr a ↦ absurd (omega arith) ]
-  page_calm page (refused refusal is (inr which) verdict begun count keeps line none) s = elim s [ inl a ↦ absurd (omega arith) | inr a ↦ absurd (omega arith) ]
-  page_calm page (unread file is rose begun breaks keeps line none) s = elim s [ inl a ↦ absurd (omega arith) | inr a ↦ absurd (omega arith) ]
-  page_calm page (unwritten file is kept made valid breaks line none) s = kept
+  no_fault_passed : (page : PageWords) → EndingOf page → (status ≡ 6) ⊎ (status ≡ 7) → t'.faults ≡ t.faults
+  no_fault_passed page (no_memory is calm keeps line none) s = calm
+  no_fault_passed page (done is calm made valid begun files told shut asked has) s = calm.0
+  no_fault_passed page (refused refusal is (inl which) verdict begun count keeps line none) s = elim s [ inl a ↦ absurd (omega arith) | inr a ↦ absurd (omega arith) ]
+  no_fault_passed page (refused refusal is (inr which) verdict begun count keeps line none) s = elim s [ inl a ↦ absurd (omega arith) | inr a ↦ absurd (omega arith) ]
+  no_fault_passed page (unread file is rose begun breaks keeps line none) s = elim s [ inl a ↦ absurd (omega arith) | inr a ↦ absurd (omega arith) ]
+  no_fault_passed page (unwritten file is kept made valid breaks line none) s = kept
 
   calm_end : Ends words t t' r r' status receipt → (status ≡ 6) ⊎ (status ≡ 7) → t'.faults ≡ t.faults
   calm_end (Ends.no_memory begins same refuses none) s = ap (λ (u : TrayState). u.faults) same
   calm_end (Ends.no_command means_none same refuses none) s = ap (λ (u : TrayState). u.faults) same
-  calm_end (Ends.page page also ended) s = page_calm page (ending page.band (sources_of page) (targets_of page) t t' r r' status receipt ended) s
+  calm_end (Ends.page page also ended) s = no_fault_passed page (ending page.band (sources_of page) (targets_of page) t t' r r' status receipt ended) s
   calm_end (Ends.sample sample also same ended) s = ap (λ (u : TrayState). u.faults) same
 
   pub read_fault : Ends words t t' r r' status receipt → ReadFault words t t' r r' status
