@@ -1,0 +1,94 @@
+use super::{AS_IT_WAS, CYAN, Case, DISABLED, MAGENTA, Wanted, ends};
+use std::test::Fail;
+
+const USAGE: &str = "usage: traprun WORKERS BAND JOB REPORT NAME:IN:OUT ...\n";
+
+// Words that mean no run. In the last ones a file that is read is one that a page could write.
+const WRONG: &[&str] = &[
+    "",
+    "1 64 job report",
+    "0 64 job report Cyan:in0:out0",
+    "65 64 job report Cyan:in0:out0",
+    "1 0 job report Cyan:in0:out0",
+    "1 4097 job report Cyan:in0:out0",
+    "00000000001 64 job report Cyan:in0:out0",
+    "1 64 job report Cyan:in0",
+    "1 64 job report Cyan:in0:out0 Cyan:in1:out1",
+    "1 64 job report Cyan:in0:out0 Magenta:in1:out0",
+    "1 64 job report Cyan:in0:report",
+    "1 64 job report :in0:out0",
+    "1 64 report.0 report Cyan:in0:out0",
+    "1 64 out0.12 report Cyan:in0:out0",
+    "1 64 job report Cyan:out0.007:out0",
+    "1 64 job report Cyan:report.1:out0",
+    "1 64 job report Cyan:in0:out0 Magenta:out0.9999999999:out1",
+];
+
+// Words that do mean one: the names that are read only look like such files.
+const RIGHT: &[&str] = &[
+    "64 4096 job report Cyan:in0:out0 Magenta:in1:out1",
+    "0000000001 1 job report Cyan:in0:out0 Magenta:in1:out1",
+];
+
+// Words by which a file that is not there would be read, and the line of that.
+const MISSING: &[(&str, &str)] = &[
+    ("1 64 out0. report Cyan:in0:out0", "read fault: job\n"),
+    ("1 64 out0.1a report Cyan:in0:out0", "read fault: job\n"),
+    ("1 64 report report Cyan:in0:out0", "read fault: job\n"),
+    (
+        "1 64 job report Cyan:out0:out0",
+        "page 0: read fault: plate 0\n",
+    ),
+    (
+        "1 64 job report Cyan:out.1:out0",
+        "page 0: read fault: plate 0\n",
+    ),
+];
+
+fn case_of(words: &str) -> Case<'_> {
+    Case {
+        words,
+        job: &[DISABLED],
+        plates: &[&[CYAN], &[MAGENTA]],
+        tray_fails: None,
+        rack_fails: None,
+    }
+}
+
+fn refused(status: u8, told: &str) -> Wanted<'_> {
+    Wanted {
+        status,
+        told,
+        files: &[],
+    }
+}
+
+#[test]
+fn words_that_mean_no_run_are_refused(rt: HostRuntime) -> Result<(), Fail> {
+    for words in WRONG {
+        assert!(rt;
+            ends(&rt, rt.alloc(), case_of(words), refused(2, USAGE))?,
+            "{words}"
+        );
+    }
+    Ok(())
+}
+
+#[test]
+fn other_words_mean_one(rt: HostRuntime) -> Result<(), Fail> {
+    let wanted = Wanted {
+        status: 0,
+        told: "",
+        files: &[CYAN, MAGENTA, AS_IT_WAS],
+    };
+    for words in RIGHT {
+        assert!(rt; ends(&rt, rt.alloc(), case_of(words), wanted)?, "{words}");
+    }
+    for (words, line) in MISSING {
+        assert!(rt;
+            ends(&rt, rt.alloc(), case_of(words), refused(5, line))?,
+            "{words}"
+        );
+    }
+    Ok(())
+}
