@@ -5,7 +5,5 @@ mod codes;
 mod looks;
 mod rows;
 mod sweeps;
-#[cfg(test)]
-mod tests;
 
 pub use sweeps::columns;

@@ -4,8 +4,6 @@
 mod pushing;
 mod rule;
 mod serving;
-#[cfg(test)]
-mod tests;
 mod work;
 
 pub use pushing::push_lines;

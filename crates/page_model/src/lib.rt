@@ -13,5 +13,3 @@ pub mod parts;
 pub mod planes;
 pub mod reach;
 pub mod steps;
-#[cfg(test)]
-mod tests;

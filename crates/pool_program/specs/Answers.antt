@@ -11,16 +11,12 @@ use Rattle.trap_pool.specs.declared.outcome.Outcome.TheVariants as outcomes
 use Rattle.trap_pool.specs.Pools.{target_of}
 use Rattle.trap_pool.specs.Replies.{ReplyParts}
 use Rattle.trap_report.specs.declared.refusal.Refusal.TheVariants as refusals
-use Rattle.trap_report.specs.Statuses.{not_written}
+use Rattle.trap_report.specs.Statuses.{lines_refused, not_written}
 use Rattle.trap_report.specs.Telling.{KeepsFiles}
 use Rattle.verdicts.specs.Verdicts.{Targets, outcome, written_names}
 use Rattle.pool_program.specs.declared.answering.Said.{Said}
 use Rattle.pool_program.specs.declared.answering.Said.TheVariants as said
 use Rattle.pool_program.specs.Text.{job_line}
-
--- some line was refused
-abbrev pub lines_refused : ℕ
-lines_refused = 9
 
 -- A page that is done is written, unless the rack has a fault or there is no memory for its report.
 abbrev pub AnswersDone : Targets → PageParts → RackState → RackState → Said → Type 0

@@ -8,10 +8,10 @@ use Rattle.pool_list.specs.Lines.{LineParts}
 use Rattle.pool_list.specs.Lists.{IsBadLine, IsList}
 use Rattle.trap_pool.specs.Replies.{ReplyParts}
 use Rattle.trap_report.specs.Refusals.{line_of}
-use Rattle.trap_report.specs.Statuses.{done, job_refused, not_read, not_written, out_of_memory, usage}
+use Rattle.trap_report.specs.Statuses.{done, job_refused, not_read, not_written, out_of_memory, usage, lines_refused}
 use Rattle.trap_report.specs.Telling.{KeepsFiles, TellsText}
 use Rattle.trap_report.specs.declared.refusal.Refusal.TheVariants as refusals
-use Rattle.pool_program.specs.Answers.{AnswersAll, lines_refused}
+use Rattle.pool_program.specs.Answers.{AnswersAll}
 use Rattle.pool_program.specs.Reading.{MakesReplies}
 use Rattle.pool_program.specs.Text.{bad_line, job_line, unread_line, usage_line}
 use Rattle.pool_program.specs.Words.{AskedWords, asked_of}

@@ -16,10 +16,7 @@ use trap_pool::outcome::Outcome;
 use trap_pool::reply::{Reply, ReplyList};
 use trap_report::refusal::Refusal;
 use trap_report::report::report;
-use trap_report::statuses::{DONE, NOT_WRITTEN};
-
-// Some line was refused.
-const LINES_REFUSED: u8 = 9;
+use trap_report::statuses::{DONE, LINES_REFUSED, NOT_WRITTEN};
 
 // What is said of a line.
 #[derive(Clone, Copy, Debug, Drop, PartialEq, Eq)]

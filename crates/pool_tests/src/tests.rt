@@ -1,5 +1,6 @@
 mod bad_lists;
 mod failing;
+mod queue;
 mod worked;
 mod workers;
 

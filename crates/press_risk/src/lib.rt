@@ -7,8 +7,6 @@ mod plate;
 mod room;
 mod row;
 pub mod sheet;
-#[cfg(test)]
-mod tests;
 
 pub use count::risk_count;
 pub use room::RiskBuf;

@@ -1,3 +1,4 @@
+mod counts;
 mod failing;
 mod windows;
 mod worked;

@@ -3,8 +3,6 @@
 
 mod hull;
 mod row;
-#[cfg(test)]
-mod tests;
 
 pub use hull::HullBuf;
 pub use row::nearest_row;

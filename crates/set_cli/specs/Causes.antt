@@ -5,12 +5,8 @@ use Rattle.set_cli.specs.declared.cause.Cause.{Cause}
 use Rattle.set_cli.specs.declared.cause.Cause.TheVariants.{NoCommand, Page, SetUnread, SetUnwritten, BadLine, Differs}
 use Rattle.trap_report.specs.Refusals.{line_of, status_of}
 use Rattle.trap_report.specs.Report.{line}
-use Rattle.trap_report.specs.Statuses.{usage, not_read, not_written}
+use Rattle.trap_report.specs.Statuses.{usage, not_read, not_written, set_refused}
 use Rattle.trap_report.specs.Telling.{KeepsFiles, TellsText}
-
--- the set has a bad line, or is for other plates
-abbrev pub set_refused : ℕ
-set_refused = 8
 
 -- the line that is told of a cause
 abbrev pub cause_line : Cause → List ℕ

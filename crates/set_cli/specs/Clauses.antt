@@ -7,12 +7,12 @@ use Rattle.page_writing.specs.Files.{Written, put_all}
 use Rattle.page_writing.specs.Writing.{BreaksAt}
 use Rattle.set_cli.specs.declared.cause.Cause.{Cause}
 use Rattle.set_cli.specs.declared.cause.Cause.TheVariants.{NoCommand, BadLine, Differs}
-use Rattle.set_cli.specs.Causes.{cause_line, cause_status, set_refused}
+use Rattle.set_cli.specs.Causes.{cause_line, cause_status}
 use Rattle.set_cli.specs.Commands.{read_names, written_names}
 use Rattle.set_cli.specs.Endings.{Breaks, HasInHand, IsToWrite, IsUnwritten, Passes, names_to}
 use Rattle.set_cli.specs.Verdicts.{IsVerdict, Refused, Out}
 use Rattle.set_words.specs.Words.{ApplyWords, Command, Apply, command_of}
-use Rattle.trap_report.specs.Statuses.{done, usage, job_refused, page_refused, not_read, not_written, out_of_memory}
+use Rattle.trap_report.specs.Statuses.{done, usage, job_refused, page_refused, not_read, not_written, out_of_memory, set_refused}
 use Rattle.trap_report.specs.Telling.{TellsText, TellsBehindFault}
 
 -- The words mean this command.

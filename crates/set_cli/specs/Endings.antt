@@ -14,12 +14,12 @@ use Rattle.page_writing.specs.Writing.{WritesAll, BreaksAt}
 use Rattle.pgm_plates.specs.declared.plate.Plate.{Plate as PlateRead}
 use Rattle.set_cli.specs.declared.cause.Cause.{Cause}
 use Rattle.set_cli.specs.declared.cause.Cause.TheVariants.{NoCommand, Page, SetUnread, SetUnwritten}
-use Rattle.set_cli.specs.Causes.{RefusesCause, cause_status, set_refused}
+use Rattle.set_cli.specs.Causes.{RefusesCause, cause_status}
 use Rattle.set_cli.specs.Commands.{inputs_of, read_names, sources_of, written_names}
 use Rattle.set_cli.specs.Verdicts.{ArePlanes, IsVerdict, Refused, Out, set_files}
 use Rattle.set_words.specs.Words.{ApplyWords, Command, Traps, Apply, command_of, outputs_of}
 use Rattle.trap_report.specs.declared.refusal.Refusal.TheVariants.{Plate, Read, Write, Memory}
-use Rattle.trap_report.specs.Statuses.{done, job_refused, page_refused, not_read}
+use Rattle.trap_report.specs.Statuses.{done, job_refused, page_refused, not_read, set_refused}
 use Rattle.trap_set.specs.Applying.{BreaksOff}
 
 -- What a command may write, whatever its files: of `traps` the set of a page, of `apply` planes in range, as many as its plates.

@@ -6,11 +6,8 @@ use outside::rack::Rack;
 use trap_report::fault_line::fault_line;
 use trap_report::line::Line;
 use trap_report::refusal::{Refusal, status};
-use trap_report::statuses::{NOT_READ, NOT_WRITTEN, USAGE};
+use trap_report::statuses::{NOT_READ, NOT_WRITTEN, SET_REFUSED, USAGE};
 use trap_report::telling::tell_line;
-
-/// The set has a bad line, or is for other plates.
-pub const SET_REFUSED: u8 = 8;
 
 /// Why a command ends without its work.
 #[derive(Clone, Copy, Drop)]

@@ -28,3 +28,11 @@ not_written = 6
 -- there was no memory
 abbrev pub out_of_memory : ℕ
 out_of_memory = 7
+
+-- a trap set has a bad line, or is for other plates
+abbrev pub set_refused : ℕ
+set_refused = 8
+
+-- some lines of a list of jobs were refused, and the others are done
+abbrev pub lines_refused : ℕ
+lines_refused = 9

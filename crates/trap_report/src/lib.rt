@@ -8,5 +8,3 @@ pub mod refusal;
 pub mod report;
 pub mod statuses;
 pub mod telling;
-#[cfg(test)]
-mod tests;

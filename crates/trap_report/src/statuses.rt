@@ -20,3 +20,9 @@ pub const NOT_WRITTEN: u8 = 6;
 
 /// There was no memory.
 pub const OUT_OF_MEMORY: u8 = 7;
+
+/// A trap set has a bad line, or is for other plates.
+pub const SET_REFUSED: u8 = 8;
+
+/// Some lines of a list of jobs were refused, and the others are done.
+pub const LINES_REFUSED: u8 = 9;

@@ -6,5 +6,3 @@ mod options;
 mod page;
 mod plates;
 mod sample;
-#[cfg(test)]
-mod tests;

@@ -5,8 +5,6 @@ mod crossings;
 mod row;
 mod spans;
 mod tally;
-#[cfg(test)]
-mod tests;
 
 pub use row::zone_row;
 pub use spans::SpanBuf;

@@ -1,9 +1,9 @@
 ghost use Rattle.std.specs.Prelude.{◌≡◌, ◌≤◌, ◌<◌, ◌+◌, ℕ, length};
 ghost use Rattle.row_envelope.specs.Envelope.{Rising, arm_at};
 
-use crate::{HullBuf, nearest_row};
 use page_model::arms::Arm;
 use page_model::steps::Steps;
+use row_envelope::{HullBuf, nearest_row};
 use std::marker::Brand;
 use std::sync::ledger::{Blank, Ledger};
 use std::test::Fail;

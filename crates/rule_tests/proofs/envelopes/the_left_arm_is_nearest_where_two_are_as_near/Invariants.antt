@@ -1,4 +1,4 @@
-use Rattle.row_envelope.proofs.tests.the_left_arm_is_nearest_where_two_are_as_near.Given as goal
+use Rattle.rule_tests.proofs.envelopes.the_left_arm_is_nearest_where_two_are_as_near.Given as goal
 
 abbrev pub ghosts-places : goal.ghosts-places
 ghosts-places g a = record { name = a.blank.name; parts = a.blank.parts }

@@ -1,6 +1,6 @@
-use crate::limits::keep;
-use crate::parts::{Limit, NameList, TrapParams};
 use lists::list::List;
+use page_model::limits::keep;
+use page_model::parts::{Limit, NameList, TrapParams};
 use std::alloc::Global;
 use std::test::Fail;
 

@@ -1,5 +1,5 @@
 use Rattle.std.proofs.Common.{◌≡◌}
-use Rattle.zone_map.proofs.tests.expect_rows.Given as goal
+use Rattle.rule_tests.proofs.zones.expect_rows.Given as goal
 
 abbrev pub invariant-loop-y : goal.invariant-loop-y
 invariant-loop-y g l = l.spans ≡ 8

@@ -1,7 +1,7 @@
-use crate::command::{Command, PageCommand, read_words};
 use plain_words::parts::PlateWord;
 use std::alloc::{AllocError, Global};
 use std::test::Fail;
+use trap_words::command::{Command, PageCommand, read_words};
 
 // Words that are no command, with single spaces between them: two spaces stand round an empty word.
 const REFUSED: &[&str] = &[

@@ -2,7 +2,6 @@ ghost use Rattle.std.specs.Prelude.{◌≡◌, ◌<◌, ◌≤◌, ◌∷◌, �
 ghost use Rattle.page_model.specs.Conditions.{IsInk, IsParts, IsPath, IsPlane, IsVertex, IsZone};
 ghost use Rattle.page_model.specs.Limits.{most_resolution};
 
-use crate::{SpanBuf, zone_row};
 use lists::list::List;
 use page_model::page::Page;
 use page_model::parts::{
@@ -11,6 +10,7 @@ use page_model::parts::{
 use std::alloc::Global;
 use std::process::Abort;
 use std::test::Fail;
+use zone_map::{SpanBuf, zone_row};
 
 /// A point from the page's lower left corner: x, then y.
 type Point = (i64, i64);

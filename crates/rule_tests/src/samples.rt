@@ -1,4 +1,4 @@
-use crate::sample::{SampleRefusal, sample_page};
+use page_source::sample::{SampleRefusal, sample_page};
 use std::test::Fail;
 
 #[test]

@@ -1,8 +1,8 @@
-use crate::fault_line::fault_line;
-use crate::refusal::{Refusal, status};
 use page_model::page::PageFault;
 use pgm_plates::plate::PlateFault;
 use ps_tokens::faults::{FaultKind, JobFault, Key};
+use trap_report::fault_line::fault_line;
+use trap_report::refusal::{Refusal, status};
 
 // Refusals, with the status and the line of each.
 const TABLE: [(Refusal, u8, &str); 12] = [

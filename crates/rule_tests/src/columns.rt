@@ -1,7 +1,7 @@
 ghost use Rattle.std.specs.Prelude.{◌≡◌, ◌≤◌, ◌<◌, length};
 ghost use Rattle.page_model.specs.Limits.{most_reach};
 
-use crate::columns;
+use column_scan::columns;
 use page_model::marks::Marks;
 use page_model::steps::Steps;
 use std::marker::Brand;

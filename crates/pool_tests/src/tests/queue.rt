@@ -1,6 +1,6 @@
 ghost use Rattle.std.specs.Prelude.{◌≡◌};
 
-use crate::{LineWork, open_queue, push_line, push_lines, rooms_of, serve_all};
+use line_queue::{LineWork, open_queue, push_line, push_lines, rooms_of, serve_all};
 use std::sync::atomic::AtomicBool;
 use std::sync::atomic::Ordering::SeqCst;
 use std::test::*;

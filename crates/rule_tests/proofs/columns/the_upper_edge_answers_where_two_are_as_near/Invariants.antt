@@ -1,4 +1,4 @@
-use Rattle.column_scan.proofs.tests.the_upper_edge_answers_where_two_are_as_near.Given as goal
+use Rattle.rule_tests.proofs.columns.the_upper_edge_answers_where_two_are_as_near.Given as goal
 
 abbrev pub ghosts-answers : goal.ghosts-answers
 ghosts-answers g a = record { name = a.blank.name; parts = a.blank.parts }

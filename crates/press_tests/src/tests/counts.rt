@@ -3,11 +3,11 @@ ghost use Rattle.page_model.specs.declared.parts.Plane.{Plane};
 ghost use Rattle.page_model.specs.Conditions.{IsPlane};
 ghost use Rattle.plane_shapes.specs.Shapes.{AreOneShape, wide, tall};
 
-use crate::sheet::Sheet;
-use crate::{RiskBuf, risk_count};
 use lists::list::List;
 use page_model::parts::{Plane, PlaneList};
 use page_model::steps::Steps;
+use press_risk::sheet::Sheet;
+use press_risk::{RiskBuf, risk_count};
 use std::alloc::Global;
 use std::marker::Brand;
 use std::sync::ledger::{Blank, Ledger};

@@ -1,0 +1,8 @@
+//! The tests of what goes in and out as text: the words of `trap`, and the line and the status of each refusal. They stand
+//! apart so that no heavy crate is proved a second time for them.
+#![tactic(auto)]
+
+#[cfg(test)]
+mod refusals;
+#[cfg(test)]
+mod words;
