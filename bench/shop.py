@@ -40,17 +40,18 @@ def time_page(asked, folder, width, height):
     plates = make_plates(folder, width, height, asked.seed, asked.maxval)
     making = time.perf_counter() - start
     outs = {name: os.path.join(folder, name + "-trapped.pgm") for name in INKS}
-    report = os.path.join(folder, "report")
     jobs = [write(os.path.join(folder, name), text)
             for name, text in (("job", job(width, height, asked.trap_width)), ("no-traps.job", NO_TRAPS))]
+    reports = [name + ".report" for name in jobs]
     words = ["%s:%s:%s" % (name, plates[name], outs[name]) for name in INKS]
     programs = [asked.program] + ([asked.beside] if asked.beside else [])
-    commands = [[program, "page", *asked.options.split(), name, report, *words] for name in jobs for program in programs]
+    commands = [[program, "page", *asked.options.split(), name, report, *words]
+                for name, report in zip(jobs, reports) for program in programs]
     copying = cat([(plates[name], outs[name]) for name in INKS])
-    copied, *results = least_by_turns(asked.runs, [copying] + commands, list(outs.values()) + [report])
+    copied, *results = least_by_turns(asked.runs, [copying] + commands, list(outs.values()))
     whole, passed = results[0], results[len(programs)]
     print("%d by %d samples in %d inks, maxval %d, TrapWidth %s, seed %d; made in %.1f s; %d edges call for a trap"
-          % (width, height, len(INKS), asked.maxval, asked.trap_width, asked.seed, making, edges_in(report)))
+          % (width, height, len(INKS), asked.maxval, asked.trap_width, asked.seed, making, edges_in(reports[0])))
     print_figures(width * height, copied, passed, whole)
     if asked.beside:
         print_beside(results[1], results[3], whole, passed)
