@@ -55,15 +55,26 @@ def warn(line):
     print(f"{command_name()}: warning: {line}", file=sys.stderr, flush=True)
 
 
+STOPS = (signal.SIGINT, signal.SIGTERM, signal.SIGHUP)
+
+
+def stop(number, _):
+    """Ends the command. What was begun is cleared away on the way out, which a second signal does not stop."""
+    for one in STOPS:
+        signal.signal(one, signal.SIG_IGN)
+    sys.exit(128 + number)
+
+
 def run_command(main, text):
     """Calls main with the words, and ends with its status. `text` is what --help prints."""
     words = sys.argv[1:]
     for stream in (sys.stdout, sys.stderr):
         # A file's name may be no UTF-8.
         stream.reconfigure(errors="surrogateescape")
-    for stop in (signal.SIGTERM, signal.SIGHUP):
-        # What was begun is cleared away on the way out.
-        signal.signal(stop, lambda number, _: sys.exit(128 + number))
+    for number in STOPS:
+        # One that is ignored from the start, as by nohup, stays so.
+        if signal.getsignal(number) != signal.SIG_IGN:
+            signal.signal(number, stop)
     if "--help" in words or "-h" in words:
         print(text.strip() + "\n\n" + STATUSES, end="")
         sys.exit(0)
@@ -77,8 +88,6 @@ def run_command(main, text):
     except OSError as fault:
         print(f"{command_name()}: {fault.filename or 'write'}: {fault.strerror}", file=sys.stderr)
         status = OUTPUT
-    except KeyboardInterrupt:
-        status = 130
     sys.exit(status)
 
 
@@ -140,6 +149,40 @@ def whole_number(text, least, most, what):
 
 # Tools and programs
 
+@contextlib.contextmanager
+def running(words, **how):
+    """A tool that runs beside the block. It is stopped, and waited for, where the block is left before it has ended."""
+    how = {"stdin": subprocess.DEVNULL, "stdout": subprocess.PIPE, "stderr": subprocess.PIPE, **how}
+    with subprocess.Popen(words, **how) as child:
+        try:
+            yield child
+        finally:
+            if child.poll() is None:
+                child.terminate()
+
+
+def run_tool(words, **how):
+    """Runs a tool, its texts being kept."""
+    with running(words, **how) as child:
+        told, complaint = child.communicate()
+        return subprocess.CompletedProcess(words, child.returncode, told, complaint)
+
+
+def convert(works):
+    """Runs tools side by side, each of which reads one file and writes one: for each its words, the file that it reads as
+    standard input or None, and the file that it writes."""
+    with contextlib.ExitStack() as stack:
+        children = []
+        for words, source, end in works:
+            given = stack.enter_context(open(source or os.devnull, "rb"))
+            made = stack.enter_context(open(end, "wb"))
+            children.append(stack.enter_context(running([tool(words[0])] + words[1:], stdin=given, stdout=made)))
+        told = [" ".join(child.communicate()[1].decode("utf-8", "replace").split()) for child in children]
+    for (words, _, end), child, text in zip(works, children, told):
+        if child.returncode != 0:
+            raise Refusal(OUTPUT, f"{shown(os.fsencode(os.path.basename(end)))}: {text or words[0] + ' failed'}")
+
+
 def tool(name):
     path = shutil.which(name)
     if path is None:
@@ -162,7 +205,7 @@ def program(name):
     built = os.path.join(top, "crates", name, "out", name)
     if os.path.isdir(os.path.join(top, "crates", name)) and is_program(os.path.join(top, name)):
         # Without words the launcher builds the program where need be, saying so, and the program ends at once with its usage.
-        done = subprocess.run([os.path.join(top, name)], stdin=subprocess.DEVNULL, stdout=subprocess.DEVNULL, check=False)
+        done = run_tool([os.path.join(top, name)], stdout=subprocess.DEVNULL, stderr=None)
         if done.returncode != USAGE:
             raise Refusal(NO_TOOL, f"the program {name} could not be built")
     for place in (built, os.path.join(os.path.dirname(os.path.dirname(top)), "bin", name), shutil.which(name)):
@@ -367,8 +410,3 @@ class Page:
             if head[:3] != self.head[:3]:
                 raise Refusal(PLATES, f"{self.plate(one, True)}: {head.width} by {head.height} samples of maxval {head.maxval}, "
                               f"and the page has {self.head.width} by {self.head.height} of {self.head.maxval}")
-
-
-def run_tool(words, **how):
-    """Runs a tool, its texts being kept."""
-    return subprocess.run(words, stdin=subprocess.DEVNULL, stdout=subprocess.PIPE, stderr=subprocess.PIPE, check=False, **how)
