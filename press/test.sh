@@ -1,6 +1,7 @@
 #!/usr/bin/env bash
 # Tries the press commands: every refusal has its status and its one line and leaves no output, and odd pages go through. It
-# works in press/tests/out, installs nothing, and says what it skips.
+# works in press/tests/out, installs nothing, and says what it skips. With a word or more, runs these parts alone: words inputs
+# outputs folders tools plates pages stopped traps watch pictures.
 
 set -eu
 here=$(cd "$(dirname "$0")" && pwd)
@@ -153,11 +154,15 @@ try_folders() {
     refused 4 "press-$1: lost/Black.pgm: No such file or directory" "$here/$1" "${@:2}" lost "${words[@]}"
     refused 4 "press-$1: words/colorants.txt: not a table of colorants" "$here/$1" "${@:2}" words "${words[@]}"
   done
+  # Plates that hold nothing on the disk, of more samples than a page may have.
+  cp -r two large
+  for one in large/*.pgm; do printf 'P5\n16000 4000\n255\n' >"$one" && truncate -s 64000018 "$one"; done
+  refused 7 "press-trap: large: 16000 by 4000 samples in 3 plates with ink are 192000000, .* 160000000 .*" "$here/trap" large
   cp -r two jobless && rm jobless/page.job
   refused 4 "press-trap: jobless/page.job: No such file" "$here/trap" jobless
   refused 4 "press-tiff: two: not trapped yet .*" "$here/tiff" two new
   refused 4 "press-look: two: not trapped yet .*" "$here/look" two new.png --traps
-  rm -r sizes depths cut other lost words bare jobless
+  rm -r sizes depths cut other lost words bare large jobless
 }
 
 try_tools() {
@@ -232,21 +237,79 @@ try_pages() {
   tried=$((tried + 1))
 }
 
-# A command that is stopped leaves nothing.
-try_stopped() {
+# stopped COMMAND ..: the command is stopped while Ghostscript is at work. It ends as stopped, and nothing is left of it.
+stopped() {
   local child status=0
-  "$here/plates" --dpi 4000 "$top/examples/label/label.pdf" stopped 2>../line &
+  "$@" >../told 2>../line &
   child=$!
-  sleep 1
+  for _ in {1..600}; do ! works_here gs || break; sleep 0.1; done
+  works_here gs || wrong "$*: Ghostscript does not come to work: $(cat ../line)"
   kill "$child"
   wait "$child" || status=$?
-  [ "$status" = 143 ] || wrong "stopped: status $status"
-  [ ! -e stopped ] && [ -z "$(find . -name '.press-*')" ] || wrong "stopped: something is left"
+  [ "$status" = 143 ] || wrong "$* was stopped, and its status is $status"
+  for _ in {1..100}; do works_here || break; sleep 0.1; done
+  ! works_here || wrong "$* was stopped, and a tool of it goes on"
+  [ -z "$(find . -name '.press-*' -o -name 'page-*')" ] || wrong "$* was stopped, and something is left"
+  tried=$((tried + 1))
+}
+
+# Whether a process is at work in a folder below this one: any, or one of that name.
+works_here() {
+  local one
+  while read -r one; do
+    if [ $# = 0 ] || [ "$(cat "$one/comm" 2>/dev/null)" = "$1" ]; then return 0; fi
+  done < <(find /proc/[0-9]*/cwd -maxdepth 0 -lname "$PWD/*" -printf '%h\n' 2>/dev/null)
+  return 1
+}
+
+try_stopped() {
+  stopped "$here/plates" --dpi 4000 "$top/examples/label/label.pdf" stopped
+  [ ! -e stopped ] || wrong "stopped: a folder is left"
+  [ "$built" = yes ] || return 0
+  stopped "$here/all" --dpi 4000 "$top/examples/label/label.pdf" stopped
+  if there parallel; then stopped "$here/farm" --dpi 4000 "$top/examples/label/label.pdf" stopped; fi
+  rm -rf stopped
+}
+
+# What is put into a hot folder while it is watched, and lay there before; names with anything in them.
+try_watch() {
+  if ! there inotifywait; then skip watch inotifywait; return; fi
+  [ "$built" = yes ] || return 0
+  # shellcheck disable=SC2016
+  local watcher name names=('$(touch ran).pdf' ' "b]".pdf' '*.PDF')
+  mkdir hot/done && cp two.pdf hot/first.pdf
+  # A file that another process has open to write since before.
+  exec 7>hot/open.pdf
+  head -c 300 two.pdf >&7
+  "$here/watch" --settle 1 hot >../told 2>../line 7>&- &
+  watcher=$!
+  for _ in {1..300}; do ! grep -q watching ../line || break; sleep 0.1; done
+  grep -q watching ../line || { skip watch "$(tail -n 1 ../line): inotify"; kill "$watcher"; return; }
+  for name in "${names[@]}"; do cp two.pdf "hot/$name"; done
+  cp text.pdf hot/ && mkdir hot/folder.pdf
+  for _ in {1..300}; do [ "$(wc -l <../told)" -lt 5 ] || break; sleep 0.5; done
+  [ -e hot/open.pdf ] || wrong "watch: a file was taken that is open to write"
+  tail -c +301 two.pdf >&7
+  exec 7>&-
+  for _ in {1..300}; do [ "$(wc -l <../told)" -lt 6 ] || break; sleep 0.5; done
+  for name in first.pdf open.pdf "${names[@]}"; do
+    cmp two.pdf "hot/done/${name%.*}/$name" && [ -d "hot/done/${name%.*}/page-001/trapped" ] || wrong "watch: $name: $(cat ../told)"
+  done
+  grep -q 'Ghostscript cannot read it' hot/failed/text/why.txt || wrong "watch: $(cat ../told)"
+  [ ! -e ran ] && [ ! -e hot/ran ] || wrong "watch: a file's name was run"
+  # One that is at work when it is stopped.
+  cp "$top/examples/label/label.pdf" hot/slow.pdf
+  for _ in {1..300}; do [ -z "$(find hot -path '*/.press-*' -name scratch)" ] || break; sleep 0.1; done
+  kill "$watcher"
+  wait "$watcher" || wrong "watch: it was stopped and ended with $?"
+  [ -f hot/slow.pdf ] && [ -z "$(find hot -name '.press-*')" ] && [ ! -e hot/done/slow ] || wrong "watch: what was at work is lost"
+  rm -r hot/done hot/failed hot/*.pdf
   tried=$((tried + 1))
 }
 
 try_traps() {
   local name
+  if [ "$built" = no ]; then skip traps "the program trap"; return; fi
   for name in two gray blank odd; do
     goes "$here/trap" "$name"
     goes "$here/tiff" "$name" "$name/tiff"
@@ -272,6 +335,7 @@ try_traps() {
   [ ! -e pages/page-002.failed ] && [ -d pages/page-002/tiff ] || wrong "all: a page that was done again"
   tried=$((tried + 1))
   if ! there parallel; then skip farm parallel; return; fi
+  refused 8 "press-farm: two.pdf: File exists" "$here/farm" two.pdf two.pdf
   echo 'gsave' >pages.2.zones
   status=0
   "$here/farm" pages.pdf farm >../told 2>../line || status=$?
@@ -287,7 +351,7 @@ try_pictures() {
   if [ "$pictures" != yes ]; then skip pictures "NumPy or Pillow"; return; fi
   goes "$here/look" --untrapped two two.png
   goes "$here/look" --untrapped odd odd.png --part 10,20,30,40 --enlarge 3
-  [ "$(file -b odd.png | grep -o '[0-9]* x [0-9]*')" = "90 x 120" ] || wrong "look: the size of a part"
+  cmp <(head -c 24 odd.png | tail -c 8) <(printf '\0\0\0\132\0\0\0\170') || wrong "look: a part of 90 by 120 points"
   for words in "--part=1,1,0,1" "--part=990,0,20,20" "--part=here" "--enlarge=0" "--shrink=401" "--traps" "--part=most"; do
     refused 2 "press-look: .*" "$here/look" --untrapped two new.png "$words"
   done
@@ -322,14 +386,7 @@ mkdir hot && echo stays >hot/note
 pictures=no
 ! python3 -c 'import numpy, PIL' 2>/dev/null && ! /usr/bin/python3 -c 'import numpy, PIL' 2>/dev/null || pictures=yes
 goes "$here/plates" two.pdf two
-try_words
-try_inputs
-try_outputs
-try_folders
-if there parallel && there inotifywait; then try_tools; else skip "missing tools" "parallel or inotifywait"; fi
-try_plates
-try_pages
-try_stopped
-if [ "$built" = yes ]; then try_traps; else skip traps "the program trap"; fi
-try_pictures
+parts=("$@")
+((${#parts[@]} > 0)) || parts=(words inputs outputs folders tools plates pages stopped traps watch pictures)
+for part in "${parts[@]}"; do "try_$part"; done
 printf 'press/test.sh: %d commands ended as they should\n' "$tried"

@@ -153,12 +153,20 @@ def whole_number(text, least, most, what):
 def running(words, **how):
     """A tool that runs beside the block. It is stopped, and waited for, where the block is left before it has ended."""
     how = {"stdin": subprocess.DEVNULL, "stdout": subprocess.PIPE, "stderr": subprocess.PIPE, **how}
-    with subprocess.Popen(words, **how) as child:
-        try:
-            yield child
-        finally:
+    # A signal that comes while the tool starts is heeded when it is known.
+    before = signal.pthread_sigmask(signal.SIG_BLOCK, STOPS)
+    child = None
+    try:
+        child = subprocess.Popen(words, preexec_fn=lambda: signal.pthread_sigmask(signal.SIG_SETMASK, before), **how)
+        signal.pthread_sigmask(signal.SIG_SETMASK, before)
+        yield child
+    finally:
+        signal.pthread_sigmask(signal.SIG_SETMASK, before)
+        if child is not None:
             if child.poll() is None:
                 child.terminate()
+            with child:
+                pass
 
 
 def run_tool(words, **how):
