@@ -242,9 +242,8 @@ stopped() {
   local child status=0
   "$@" >../told 2>../line &
   child=$!
-  for _ in {1..600}; do ! works_here gs || break; sleep 0.1; done
-  works_here gs || wrong "$*: Ghostscript does not come to work: $(cat ../line)"
-  kill "$child"
+  for _ in {1..600}; do ! works_here gs && kill -0 "$child" || break; sleep 0.1; done
+  kill "$child" || wrong "$* ended before it was stopped: $(cat ../line)"
   wait "$child" || status=$?
   [ "$status" = 143 ] || wrong "$* was stopped, and its status is $status"
   for _ in {1..100}; do works_here || break; sleep 0.1; done
@@ -371,14 +370,18 @@ done
 # python3 itself, and no wrapper of it, which would begin anew each time.
 python=$(python3 -c 'import sys; print(sys.executable)')
 PATH=$(dirname "$python"):$PATH
-built=yes
-if [ ! -x "${TRAP_BIN:-$top/crates/trap/out}/trap" ]; then
-  # Nothing here may begin to build the program, which takes long.
-  built=no
-  export TRAP_BIN=/none
-fi
 rm -rf "$out"
-mkdir -p "$out/work"
+mkdir -p "$out/work" "$out/programs"
+# The programs that are built. Nothing here may begin to build one, which takes long, as their launchers would where the
+# sources are newer.
+if [ -z "${TRAP_BIN-}" ]; then
+  for one in trap presscheck; do
+    [ ! -x "$top/crates/$one/out/$one" ] || ln -s "$top/crates/$one/out/$one" "$out/programs/"
+  done
+  export TRAP_BIN=$out/programs
+fi
+built=yes
+[ -x "$TRAP_BIN/trap" ] || built=no
 cd "$out/work"
 "$here/tests/small_pdf.py" .
 printf 'Gold\t1\nno ink\n' >bad.inks

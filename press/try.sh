@@ -22,9 +22,8 @@ have() {
   done
 }
 
-# Whether the program was built; it is not built here, which takes long.
 have_program() {
-  [ -x "${TRAP_BIN:-$top/crates/trap/out}/trap" ] || { say "$1: skipped, the program trap is not built"; return 1; }
+  [ -x "$TRAP_BIN/trap" ] || { say "$1: skipped, the program trap is not built"; return 1; }
 }
 
 # The plane of a TIFF as raw bytes. Two files are compared by Netpbm, and by libvips where it is there; and by what they say of
@@ -94,7 +93,7 @@ try_all() {
   local page plate file check=() start=$SECONDS worked
   times >"$out/times"
   worked=$(processor_seconds)
-  if [ -x "${TRAP_BIN:-$top/crates/presscheck/out}/presscheck" ]; then
+  if [ -x "$TRAP_BIN/presscheck" ]; then
     check=(--check 2)
   else
     say "all: without --check, the program presscheck is not built"
@@ -193,5 +192,12 @@ try_slurm() {
 parts=("$@")
 ((${#parts[@]} > 0)) || parts=(label tiffsep all pictures farm watch slurm)
 rm -rf "$out"
-mkdir -p "$out"
+mkdir -p "$out/programs"
+# The programs that are built. None is built here, which takes long.
+if [ -z "${TRAP_BIN-}" ]; then
+  for one in trap presscheck; do
+    [ ! -x "$top/crates/$one/out/$one" ] || ln -s "$top/crates/$one/out/$one" "$out/programs/"
+  done
+  export TRAP_BIN=$out/programs
+fi
 for part in "${parts[@]}"; do "try_$part"; done
