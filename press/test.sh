@@ -282,6 +282,8 @@ try_watch() {
   head -c 300 two.pdf >&7
   "$here/watch" --settle 1 hot >../told 2>../line 7>&- &
   watcher=$!
+  # shellcheck disable=SC2064
+  trap "kill $watcher 2>/dev/null" EXIT
   for _ in {1..300}; do ! grep -q watching ../line || break; sleep 0.1; done
   grep -q watching ../line || { skip watch "$(tail -n 1 ../line): inotify"; kill "$watcher"; return; }
   for name in "${names[@]}"; do cp two.pdf "hot/$name"; done
@@ -301,6 +303,7 @@ try_watch() {
   for _ in {1..300}; do [ -z "$(find hot -path '*/.press-*' -name scratch)" ] || break; sleep 0.1; done
   kill "$watcher"
   wait "$watcher" || wrong "watch: it was stopped and ended with $?"
+  trap - EXIT
   [ -f hot/slow.pdf ] && [ -z "$(find hot -name '.press-*')" ] && [ ! -e hot/done/slow ] || wrong "watch: what was at work is lost"
   rm -r hot/done hot/failed hot/*.pdf
   tried=$((tried + 1))

@@ -148,6 +148,8 @@ try_watch() {
   cp "$label"/label.*inks "$label"/label.*zones "$hot"
   "$here/watch" "$hot" --settle 1 >"$out/watch.told" 2>"$out/watch.err" &
   watcher=$!
+  # shellcheck disable=SC2064
+  trap "kill $watcher 2>/dev/null" EXIT
   for _ in {1..50}; do ! grep -q watching "$out/watch.err" || break; sleep 0.2; done
   if ! grep -q watching "$out/watch.err"; then
     say "watch: skipped, inotifywait does not watch here: $(tail -n 1 "$out/watch.err")"
@@ -160,6 +162,7 @@ try_watch() {
   for _ in {1..600}; do [ "$(wc -l <"$out/watch.told")" -lt 3 ] || break; sleep 1; done
   kill "$watcher"
   wait "$watcher" || true
+  trap - EXIT
   cat "$out/watch.told"
   for file in "$hot/done/label/label.pdf" "$hot/done/moved/moved.pdf" "$hot/failed/broken/broken.pdf" "$hot/failed/broken/why.txt"; do
     [ -s "$file" ] || wrong "watch: there is no $file"
