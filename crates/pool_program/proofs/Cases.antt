@@ -187,7 +187,7 @@ module _ (t t' : TrayState) where
       omega arith
   racks_up k used so_far (line ∷ lines) (what ∷ whats) a b status (taken, between, ends, inr last) =
       let first = ends.keeps.faults in
-      let then = last.0.files.keeps.faults in
+      let end = last.0.files.keeps.faults in
       omega arith
 
   -- A failed write raises it.
@@ -200,7 +200,7 @@ module _ (t t' : TrayState) where
   up_by_one a b low (inr last) = absurd (omega arith)
 
   write_one : (used taken : ℕ) (line : LineParts) (a b : RackState) (what : Said) → b.faults < 2 ^ 64 - 1 → a.faults ≤ b.faults → IsCase t t' used taken line a b what → a.faults + write_line what ≤ b.faults
-  write_one used taken line a b (said.Refused (refusals.Write file)) low up ends = up_by_one a.faults b.faults low (broke (length line.outs) _ file a b ends.2)
+  write_one used taken line a b (said.Refused (refusals.Write file)) low up ends = up_by_one a.faults b.faults low (broke (length line.outs) (outcome (target_of line) ends.0) file a b ends.2)
   write_one used taken line a b said.Done low up ends = omega arith
   write_one used taken line a b said.TooLarge low up ends = omega arith
   write_one used taken line a b (said.Refused refusals.Usage) low up ends = omega arith
@@ -222,7 +222,7 @@ module _ (t t' : TrayState) where
       let first = write_one used taken line a between what (omega arith) ends.keeps.faults ends.ends in
       omega arith
   writes_rise k used so_far (line ∷ lines) (what ∷ whats) a b status (taken, between, ends, inr last) low =
-      let then = last.0.files.keeps.faults in
+      let end = last.0.files.keeps.faults in
       let first = write_one used taken line a between what (omega arith) ends.keeps.faults ends.ends in
       let none : write_lines whats ≡ 0 = ap write_lines last.1 in
       omega arith
@@ -281,7 +281,7 @@ module _ (t t' : TrayState) where
       let found = case_at (k + 1) (used + taken) (status_with so_far w) before line behind earlier what later on.0 b status (omega arith) on.2 in
       let first = ends.keeps.faults in
       let calm = on.1.calm in
-      let from = found.5 in
+      let low = found.5 in
       (found.0, found.1, found.2, found.3, found.4, omega arith, found.6, found.7)
   case_at k used so_far (l ∷ before) line behind (w ∷ earlier) what later a b status same (taken, between, ends, inr last) = absurd (never_nil earlier what later last.1)
 
@@ -291,7 +291,7 @@ module _ (t t' : TrayState) where
   calm_case one used taken line x y (said.Refused refusals.Memory) written ends tells out calm still = inr (inr refl)
   calm_case one used taken line x y (said.Refused refusals.Usage) written ends tells out calm still = absurd ends
   calm_case one used taken line x y (said.Refused (refusals.Read file)) written ends tells out calm still = absurd (calm ends.0)
-  calm_case one used taken line x y (said.Refused (refusals.Write file)) written ends tells out calm still = absurd (still (broke t t' (length line.outs) _ file x y ends.2))
+  calm_case one used taken line x y (said.Refused (refusals.Write file)) written ends tells out calm still = absurd (still (broke t t' (length line.outs) (outcome (target_of line) ends.0) file x y ends.2))
   calm_case one used taken line x y (said.Refused (refusals.Job fault)) written ends tells out calm still =
       let same : refused_verdict (refusals.Job fault) ≡ Out written = one t.file (source_of line) (target_of line) (refused_verdict (refusals.Job fault)) (Out written) (ends.0 tells) out in absurd (cc)
   calm_case one used taken line x y (said.Refused (refusals.NoDetails k)) written ends tells out calm still =
