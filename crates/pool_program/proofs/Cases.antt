@@ -10,19 +10,18 @@ use Rattle.page_gather.specs.Gathering.{AnswersPage, Gathers}
 use Rattle.page_gather.specs.Inputs.{Makes, one_page, read_files}
 use Rattle.page_model.specs.declared.parts.PageParts.{PageParts}
 use Rattle.page_writing.specs.Files.{Written}
-use Rattle.page_writing.specs.Writing.{Breaks, BreaksAt}
+use Rattle.page_writing.specs.Writing.{Breaks}
 use Rattle.pool_list.specs.Lines.{LineParts}
-use Rattle.trap_engine.specs.declared.alone.Trapped.{Trapped}
 use Rattle.trap_pool.specs.declared.outcome.Outcome.{Outcome}
 use Rattle.trap_pool.specs.declared.outcome.Outcome.TheVariants as outcomes
 use Rattle.trap_pool.specs.Pools.{AnswersLine, InTurn, IsJudged, KeepsLimit, source_of, target_of}
-use Rattle.trap_pool.specs.Replies.{ReplyParts, IsReading, IsReply, accepted_of, all_samples, gathered_of, most_in_all, read_fault, read_faults}
+use Rattle.trap_pool.specs.Replies.{ReplyParts, IsReading, IsReply, accepted_of, all_samples, gathered_of, read_fault, read_faults}
 use Rattle.trap_pool.proofs.Turns.{keeps_in_turn}
 use Rattle.trap_report.specs.declared.refusal.Refusal.{Refusal}
 use Rattle.trap_report.specs.declared.refusal.Refusal.TheVariants as refusals
-use Rattle.verdicts.specs.Verdicts.{IsVerdict, OneVerdict, Out, Refused as refused_verdict, Verdict, outcome, written_names}
-use Rattle.pool_program.specs.Answers.{AnswersAll, AnswersDone, AnswersOne, AnswersSaid, status_with}
-use Rattle.pool_program.specs.Cases.{AcceptsPage, AsksFronts, IsCase, LineEnds, LinesEnd, MakesPage, read_line, read_lines, write_line, write_lines}
+use Rattle.verdicts.specs.Verdicts.{IsVerdict, OneVerdict, Out, Refused as refused_verdict, outcome, written_names}
+use Rattle.pool_program.specs.Answers.{AnswersAll, AnswersDone, AnswersSaid, status_with}
+use Rattle.pool_program.specs.Cases.{AcceptsPage, AsksFronts, IsCase, LinesEnd, MakesPage, read_line, read_lines, write_line, write_lines}
 use Rattle.pool_program.specs.declared.answering.Said.{Said}
 use Rattle.pool_program.specs.declared.answering.Said.TheVariants as said
 
@@ -32,7 +31,7 @@ less a b = elim (ltb a b) as (λ (v : Bool). ltb a b ≡ v → (a < b) ⊎ (b �
 -- a rise between two moments is one between an earlier and a later
 pub rose_within : (a b c d : ℕ) → a ≤ b → b ≤ c → c ≤ d → Rose b c → Rose a d
 rose_within a b c d p q r (inl up) = inl (omega arith)
-rose_within a b c d p q r (inr last) = elim (less a d) [ | inl up ↦ inl up | inr down ↦ inr (let same : d ≡ c = omega arith in same ∙ last) ]
+rose_within a b c d p q r (inr last) = elim (less a d) [ inl up ↦ inl up | inr down ↦ inr (let same : d ≡ c = omega arith in same ∙ last) ]
 
 module _ (t t' : TrayState) (used : ℕ) (line : LineParts) (m n : TrayState) (keeps : KeepsTray t m) (up : m.faults ≤ n.faults) (later : n.faults ≤ t'.faults) where
   judged_as : (refusal : Refusal) → (IsTrue m.tells → IsJudged m.file (source_of line) refusal) → IsTrue t.tells → IsJudged t.file (source_of line) refusal

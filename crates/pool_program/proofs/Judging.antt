@@ -1,5 +1,5 @@
 -- What the bytes of the list say of how a call ends.
-use Rattle.std.proofs.Common.{◌≡◌, ◌⊎◌, ◌∙◌, ℕ, IsTrue, List, [], ◌∷◌, Option, Some, None, Ok, Err, inl, inr, refl, sym, ap, subst, arith}
+use Rattle.std.proofs.Common.{◌≡◌, ◌⊎◌, ◌∙◌, ℕ, IsTrue, List, [], ◌∷◌, Option, Some, Ok, Err, inl, inr, sym, subst, arith}
 use Rattle.outside.specs.Causes.{Rose, Asks}
 use Rattle.outside.specs.Rack.{RackState}
 use Rattle.outside.specs.Tray.{TrayState}
@@ -20,7 +20,7 @@ use Rattle.pool_program.specs.declared.answering.Said.{Said}
 use Rattle.pool_program.specs.declared.lines.ListFault.{ListFault}
 use Rattle.pool_program.specs.declared.lines.ListFault.TheVariants.{BadLine, NotRead, Memory}
 use Rattle.trap_report.specs.Telling.{TellsText}
-use Rattle.pool_program.proofs.Cases.{asked_reading, asked_writing, calm_at, lines_end, rose_within, writes_rise}
+use Rattle.pool_program.proofs.Cases.{asked_reading, asked_writing, calm_at, lines_end, writes_rise}
 use Rattle.pool_program.proofs.Clauses.{answer_status, both, no_answer, rose_in, usage_no_answer}
 
 -- the words have one meaning
