@@ -1,9 +1,10 @@
 -- What a pass has after a worker is done and joined.
-use Rattle.std.proofs.Common.{◌≡◌, ℕ, ◌+◌, ◌-◌, ◌<◌, Bool, true, false, List, [], ◌∷◌, ◌++◌, Vec, sym, refl, ap, ◌∙◌, append_assoc, arith}
+use Rattle.std.proofs.Common.{◌≡◌, ℕ, ◌+◌, ◌-◌, ◌<◌, Bool, true, false, List, [], ◌∷◌, ◌++◌, sym, refl, ap, subst, ◌∙◌, ◌≤◌, append_assoc, vec_capacity, All, arith}
+use Rattle.std.proofs.lemmas.List.Elements.{All-push}
 use Rattle.line_queue.specs.declared.rule.PassView.{PassView}
 use Rattle.line_queue.specs.Rule.{pass_view, either_mark}
-use Rattle.line_queue.specs.declared.serving.Kept.{Kept}
-use Rattle.line_queue.specs.Serving.{kept_lines, served_lines}
+use Rattle.line_queue.specs.declared.serving.Room.{Room}
+use Rattle.line_queue.specs.Serving.{IsServed, IsUnused, kept_lines, served_lines}
 use Rattle.line_queue.proofs.Keeps.{append_nil}
 
 either_false : (b : Bool) → either_mark b false ≡ b
@@ -26,9 +27,17 @@ drained v cut rest_of w all others mine both_lists part is_cut is_rest is_w is_a
     is_all ∙ ((λ i. both (is_rest' i) (is_w i)) ∙ (λ i. pass_view (parts i) (either_false v.mark i) (append_nil v.pushed i) (taken i)))
 
 -- the room of the last worker comes last
-served_snoc : {K A : Type 0} (rooms : List (Vec (Kept K) A)) (room : Vec (Kept K) A) → served_lines (rooms ++ room ∷ []) ≡ served_lines rooms ++ kept_lines room.items
-served_snoc [] room = append_nil (kept_lines room.items)
-served_snoc (r ∷ rs) room = ap (λ l. kept_lines r.items ++ l) (served_snoc rs room) ∙ sym (append_assoc (kept_lines r.items) (served_lines rs) (kept_lines room.items))
+served_snoc : {K : Type 0} (rooms : List (Room K)) (room : Room K) → served_lines (rooms ++ room ∷ []) ≡ served_lines rooms ++ kept_lines room.kept.items
+served_snoc [] room = append_nil (kept_lines room.kept.items)
+served_snoc (r ∷ rs) room = ap (λ l. kept_lines r.kept.items ++ l) (served_snoc rs room) ∙ sym (append_assoc (kept_lines r.kept.items) (served_lines rs) (kept_lines room.kept.items))
 
-pub served_with : {K A : Type 0} (all rooms : List (Vec (Kept K) A)) (room : Vec (Kept K) A) → all ≡ rooms ++ room ∷ [] → served_lines all ≡ served_lines rooms ++ kept_lines room.items
+pub served_with : {K : Type 0} (all rooms : List (Room K)) (room : Room K) → all ≡ rooms ++ room ∷ [] → served_lines all ≡ served_lines rooms ++ kept_lines room.kept.items
 served_with all rooms room e = ap served_lines e ∙ served_snoc rooms room
+
+-- one room more is served
+pub served_more : {K : Type 0} (all rooms : List (Room K)) (room : Room K) → all ≡ rooms ++ room ∷ [] → All IsServed rooms → IsServed room → All IsServed all
+served_more all rooms room e others this = subst (All IsServed) (sym e) (All-push IsServed rooms room others this)
+
+-- one room more is made
+pub made_more : {K : Type 0} (places : ℕ) (all rooms : List (Room K)) (room : Room K) → all ≡ rooms ++ room ∷ [] → All (λ r. (places ≤ vec_capacity r.kept) × IsUnused r) rooms → places ≤ vec_capacity room.kept → IsUnused room → All (λ r. (places ≤ vec_capacity r.kept) × IsUnused r) all
+made_more places all rooms room e others room_for unused = subst (All (λ r. (places ≤ vec_capacity r.kept) × IsUnused r)) (sym e) (All-push (λ r. (places ≤ vec_capacity r.kept) × IsUnused r) rooms room others (room_for, unused))

@@ -8,7 +8,7 @@ mod work;
 
 pub use pushing::push_lines;
 pub use rule::{
-    LinePass, LineQueue, join_passes, look, open_queue, pop_line, push_line, split_pass,
+    FoundNone, LinePass, LineQueue, join_passes, look, open_queue, pop_line, push_line, split_pass,
 };
-pub use serving::{Kept, Rooms, rooms_of, serve_all};
+pub use serving::{Kept, Room, Rooms, rooms_of, serve_all};
 pub use work::LineWork;

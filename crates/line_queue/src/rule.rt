@@ -1,5 +1,5 @@
 //! The queue of line numbers, its passes, and the six kinds of step.
-ghost use Rattle.std.specs.Prelude.{◌≡◌, ℕ, List, true, false, [], ◌∷◌, ◌++◌, ◌<◌, ◌+◌, ◌-◌, IfOk, IfErr, OnOk, IfSome, IfNone};
+ghost use Rattle.std.specs.Prelude.{◌≡◌, ℕ, List, true, false, [], ◌∷◌, ◌++◌, ◌<◌, ◌+◌, ◌-◌, IfOk, IfErr, OnOk, OnErr};
 ghost use Rattle.crossbeam_queue.specs.Fifo.{Held};
 ghost use Rattle.crossbeam_queue.specs.Passes.{view, IsPassOf, IsSamePass, ruled_capacity};
 ghost use Rattle.line_queue.specs.Rule.{pass_view, either_mark, whole, IsAbove, Known};
@@ -52,6 +52,12 @@ impl Outcome<u32, PassView> for Taken {
 
 impl Lesson<u32, PassView> for Taken {
     ghost fact = { Known };
+}
+
+/// That a pop found the queue empty at one moment. Only `pop_line` gives one.
+#[derive(Drop)]
+pub struct FoundNone {
+    _looked: (),
 }
 
 // A pass is split, or two are joined.
@@ -112,16 +118,19 @@ pub fn push_line<R: Wait>(
 }
 
 /// Takes a line, or finds none.
-pub fn pop_line<R: Wait>(rt: &R, queue: &LineQueue, pass: &mut LinePass) -> Option<u32>
+pub fn pop_line<R: Wait>(rt: &R, queue: &LineQueue, pass: &mut LinePass) -> Result<u32, FoundNone>
     requires queue { IsPassOf queue.now pass.old }
     requires part { 0 < (view pass.old).parts }
     ensures queue { IsPassOf queue.now pass.new }
-    ensures taken { IfSome result (λ x. view pass.new ≡ pass_view (view pass.old).parts
+    ensures taken { IfOk result (λ x. view pass.new ≡ pass_view (view pass.old).parts
         (view pass.old).mark (view pass.old).pushed ((view pass.old).taken ++ x ∷ [])) }
-    ensures none { IfNone result ((view pass.new ≡ view pass.old)
+    ensures none { OnErr result ((view pass.new ≡ view pass.old)
         × Held 0 (Known (view pass.old))) }
 {
-    queue.pop_as::<Taken, R>(rt, pass)
+    match queue.pop_as::<Taken, R>(rt, pass) {
+        Some(line) => Ok(line),
+        None => Err(FoundNone { _looked: () }),
+    }
 }
 
 /// A new pass with one part, which has pushed and taken nothing. The mark stays with the old one.

@@ -2,9 +2,9 @@ ghost use Rattle.std.specs.Prelude.{◌≡◌, ℕ, List, true, false, [], ◌++
 ghost use Rattle.std.specs.Thread.{IsSync};
 ghost use Rattle.crossbeam_queue.specs.Passes.{view, IsPassOf};
 ghost use Rattle.line_queue.specs.Rule.{pass_view, whole, times, Ascends};
-ghost use Rattle.line_queue.specs.Serving.{AreMade, kept_lines, served_lines};
+ghost use Rattle.line_queue.specs.Serving.{AreMade, IsServed, IsUnused, kept_lines, served_lines};
 
-use crate::rule::{LinePass, LineQueue, join_passes, look, pop_line, split_pass};
+use crate::rule::{FoundNone, LinePass, LineQueue, join_passes, look, pop_line, split_pass};
 use crate::work::LineWork;
 use std::alloc::{AllocError, Global};
 use std::sync::Wait;
@@ -18,18 +18,25 @@ pub struct Kept<K: Drop> {
     pub made: K,
 }
 
-/// A room for each worker, for what it makes.
-pub type Rooms<K> = Vec<Vec<Kept<K>>>;
+/// A worker's room: what it made of the lines that it took, and, where it stopped since the queue had none, that it found so.
+#[derive(Drop)]
+pub struct Room<K: Drop> {
+    pub kept: Vec<Kept<K>>,
+    pub end: Option<FoundNone>,
+}
 
-/// So many rooms, each with so many places.
+/// A room for each worker.
+pub type Rooms<K> = Vec<Room<K>>;
+
+/// So many rooms, each with so many places. No worker has been in one.
 pub fn rooms_of<K: Drop>(alloc: Global, count: usize, places: usize) -> Result<Rooms<K>, AllocError>
     ensures { IfOk result (λ rooms. (vec_len rooms ≡ count)
-        × All (λ room. places ≤ vec_capacity room) rooms.items) }
+        × All (λ room. (places ≤ vec_capacity room.kept) × IsUnused room) rooms.items) }
 {
     let mut rooms = Vec::with_capacity(alloc, count)?;
     for _ in 0..count {
-        let room = Vec::with_capacity(alloc, places)?;
-        rooms.push(room)?;
+        let kept = Vec::with_capacity(alloc, places)?;
+        rooms.push(Room { kept, end: None })?;
     }
     Ok(rooms)
 }
@@ -40,27 +47,35 @@ fn serve<R: Wait, K: Drop, W: LineWork<K>>(
     queue: &LineQueue,
     work: &W,
     mut pass: LinePass,
-    mut room: Vec<Kept<K>>,
-) -> (LinePass, Vec<Kept<K>>)
-    requires { IsPassOf queue.now pass × (view pass ≡ pass_view 1 false [] []) }
-    ensures { IsPassOf queue.now result.0
-        × (view result.0 ≡ pass_view 1 false [] (kept_lines result.1.items))
-        × AreMade (W.makes work.now) result.1 }
+    room: Room<K>,
+) -> (LinePass, Room<K>)
+    requires pass { IsPassOf queue.now pass × (view pass ≡ pass_view 1 false [] []) }
+    requires room { IsUnused room }
+    ensures pass { IsPassOf queue.now result.0
+        × (view result.0 ≡ pass_view 1 false [] (kept_lines result.1.kept.items)) }
+    ensures made { AreMade (W.makes work.now) result.1 }
+    ensures served { IsServed result.1 }
 {
-    room.clear();
+    let mut kept = room.kept;
+    kept.clear();
+    let mut end = None;
     for _ in rt.forever() {
-        if room.len() >= room.capacity() {
+        if kept.len() >= kept.capacity() {
             break;
         }
-        let Some(line) = pop_line(rt, queue, &mut pass) else {
-            break;
+        let line = match pop_line(rt, queue, &mut pass) {
+            Ok(line) => line,
+            Err(none) => {
+                end = Some(none);
+                break;
+            }
         };
         let made = work.make(line);
-        let Ok(()) = room.push(Kept { line, made }) else {
+        let Ok(()) = kept.push(Kept { line, made }) else {
             unreachable!()
         };
     }
-    (pass, room)
+    (pass, Room { kept, end })
 }
 
 // A worker for each room, on a thread of its own, serves the lines of the queue.
@@ -73,11 +88,13 @@ fn serve_rooms<R: Threads + Wait + Sync, K: Drop + Send, W: LineWork<K> + Sync>(
 ) -> (LinePass, Rooms<K>)
     requires queue { IsPassOf queue.now pass }
     requires parts { vec_len rooms < (view pass).parts }
+    requires unused { All IsUnused rooms.items }
     ensures queue { IsPassOf queue.now result.0 }
     ensures rooms { (vec_len result.1 ≡ vec_len rooms) × (vec_capacity rooms ≤ vec_capacity result.1) }
     ensures taken { view result.0 ≡ pass_view (view pass).parts (view pass).mark
         (view pass).pushed ((view pass).taken ++ served_lines result.1.items) }
     ensures made { All (AreMade (W.makes work.now)) result.1.items }
+    ensures served { All IsServed result.1.items }
 {
     let Some(room) = rooms.pop() else {
         return (pass, rooms);
@@ -85,22 +102,23 @@ fn serve_rooms<R: Threads + Wait + Sync, K: Drop + Send, W: LineWork<K> + Sync>(
     let worker = split_pass(queue, &mut pass);
     let ((worker, room), (mut pass, mut rooms)) = thread::join(
         rt,
-        move || -> (LinePass, Vec<Kept<K>>)
+        move || -> (LinePass, Room<K>)
             requires { IsSync R.row × IsSync W.row × IsPassOf queue.now worker
-                × (view worker ≡ pass_view 1 false [] []) }
+                × (view worker ≡ pass_view 1 false [] []) × IsUnused room }
             ensures { IsPassOf queue.entry.now result.0
-                × (view result.0 ≡ pass_view 1 false [] (kept_lines result.1.items))
-                × AreMade (W.makes work.entry.now) result.1 }
+                × (view result.0 ≡ pass_view 1 false [] (kept_lines result.1.kept.items))
+                × AreMade (W.makes work.entry.now) result.1 × IsServed result.1 }
         { serve(rt, queue, work, worker, room) },
         move || -> (LinePass, Rooms<K>)
             requires { IsSync R.row × IsSync W.row × IsPassOf queue.now pass
-                × (vec_len rooms < (view pass).parts) }
+                × (vec_len rooms < (view pass).parts) × All IsUnused rooms.items }
             ensures queue { IsPassOf queue.entry.now result.0 }
             ensures rooms { (vec_len result.1 ≡ vec_len rooms)
                 × (vec_capacity rooms ≤ vec_capacity result.1) }
             ensures taken { view result.0 ≡ pass_view (view pass).parts (view pass).mark
                 (view pass).pushed ((view pass).taken ++ served_lines result.1.items) }
             ensures made { All (AreMade (W.makes work.entry.now)) result.1.items }
+            ensures served { All IsServed result.1.items }
         { serve_rooms(rt, queue, work, pass, rooms) },
     );
     join_passes(queue, &mut pass, worker);
@@ -111,9 +129,9 @@ fn serve_rooms<R: Threads + Wait + Sync, K: Drop + Send, W: LineWork<K> + Sync>(
 }
 
 /// Serves the lines that the reader pushed: a worker for each room takes line after line out of the queue, until it finds none
-/// or its room is full. What the workers took and what is left in the queue then is what was pushed, and each result is one
-/// that may be made of its line. As many rooms come back as were given. Where a thread can't be started the caller does its
-/// work.
+/// or its room is full. Each room that comes back is full, or has the token of a pop that found the queue empty. What the
+/// workers took and what is left in the queue then is what was pushed, and each result is one that may be made of its line. As
+/// many rooms come back as were given. Where a thread can't be started the caller does its work.
 pub fn serve_all<R: Threads + Wait + Sync, K: Drop + Send, W: LineWork<K> + Sync>(
     rt: &R,
     queue: &LineQueue,
@@ -122,7 +140,7 @@ pub fn serve_all<R: Threads + Wait + Sync, K: Drop + Send, W: LineWork<K> + Sync
     rooms: Rooms<K>,
 ) -> (LinePass, Rooms<K>)
     requires queue { IsPassOf queue.now pass }
-    requires rooms { vec_len rooms < whole }
+    requires rooms { (vec_len rooms < whole) × All IsUnused rooms.items }
     requires reader { ((view pass).mark ≡ true) × ((view pass).parts ≡ whole)
         × ((view pass).taken ≡ []) }
     ensures queue { IsPassOf queue.now result.0 }
@@ -132,6 +150,7 @@ pub fn serve_all<R: Threads + Wait + Sync, K: Drop + Send, W: LineWork<K> + Sync
         ≡ times line (served_lines result.1.items) + times line left) }
     ensures rooms { vec_len result.1 ≡ vec_len rooms }
     ensures made { All (AreMade (W.makes work.now)) result.1.items }
+    ensures served { All IsServed result.1.items }
 {
     let (mut pass, rooms) = serve_rooms(rt, queue, work, pass, rooms);
     look(queue, &mut pass);

@@ -1,5 +1,5 @@
 -- What a list of jobs is, and which of its lines is the first bad one.
-use Rattle.std.specs.Prelude.{◌≡◌, ◌≢◌, ℕ, ◌<◌, ◌≤◌, true, List, [], ◌∷◌, ◌++◌, length, Option, Some, None, Result, Ok, Err}
+use Rattle.std.specs.Prelude.{◌≡◌, ◌≢◌, ◌⊎◌, ℕ, ◌<◌, ◌≤◌, true, List, [], ◌∷◌, ◌++◌, length, Option, Some, None, Result, Ok, Err}
 use Rattle.plain_words.specs.Distinct.{are_distinct}
 use Rattle.pool_list.specs.Lines.{LineParts, line_of}
 use Rattle.pool_list.specs.declared.reading.ListRefusal.{ListRefusal}
@@ -62,3 +62,13 @@ abbrev pub ReadsList : List ℕ → Result (List LineParts) ListRefusal → Type
 ReadsList bytes (Ok lines) = IsList bytes lines
 ReadsList bytes (Err (BadLine k)) = IsBadLine bytes k
 ReadsList bytes (Err OutOfMemory) = Unit {0}
+
+-- The bytes are a list, or have a first bad line.
+abbrev pub HasReading : List ℕ → Type 0
+HasReading bytes = ((lines : List LineParts) × IsList bytes lines) ⊎ ((k : ℕ) × IsBadLine bytes k)
+
+-- Bytes that are a list have no bad line; there is one first bad line at most; and one list of jobs.
+pub record OneReading : Type 0 where
+  pub no_bad_line : (bytes : List ℕ) (lines : List LineParts) (k : ℕ) → IsList bytes lines → IsBadLine bytes k → ⊥
+  pub one_bad_line : (bytes : List ℕ) (one two : ℕ) → IsBadLine bytes one → IsBadLine bytes two → one ≡ two
+  pub one_list : (bytes : List ℕ) (one two : List LineParts) → IsList bytes one → IsList bytes two → one ≡ two

@@ -41,7 +41,7 @@ refused_on k (line ∷ lines) [] a b status all = absurd all
 refused_on k (line ∷ lines) (reply ∷ replies) a b status (inl one) = refused_on (k + 1) lines replies one.1 b status (subst (λ (n : ℕ). AnswersAll (k + 1) n lines replies one.1 b status) (still_refused one.0) one.3)
 refused_on k (line ∷ lines) (reply ∷ replies) a b status (inr untold) = inr untold.1
 
-answer_status : (k : ℕ) (lines : List LineParts) (replies : List ReplyParts) (a b : RackState) (status : ℕ) → AnswersAll k 0 lines replies a b status → IsAnswer status
+pub answer_status : (k : ℕ) (lines : List LineParts) (replies : List ReplyParts) (a b : RackState) (status : ℕ) → AnswersAll k 0 lines replies a b status → IsAnswer status
 answer_status k [] [] a b status all = inl all.1
 answer_status k [] (reply ∷ replies) a b status all = absurd all
 answer_status k (line ∷ lines) [] a b status all = absurd all
@@ -52,7 +52,7 @@ answer_status k (line ∷ lines) (reply ∷ replies) a b status (inl one) = elim
 answer_status k (line ∷ lines) (reply ∷ replies) a b status (inr untold) = inr (inr untold.1)
 
 -- A line is not told only where the rack has a fault.
-rose_in : (k so_far : ℕ) (lines : List LineParts) (replies : List ReplyParts) (a b : RackState) (status : ℕ) → (so_far ≡ 6 → ⊥) → AnswersAll k so_far lines replies a b status → status ≡ 6 → Rose a.faults b.faults
+pub rose_in : (k so_far : ℕ) (lines : List LineParts) (replies : List ReplyParts) (a b : RackState) (status : ℕ) → (so_far ≡ 6 → ⊥) → AnswersAll k so_far lines replies a b status → status ≡ 6 → Rose a.faults b.faults
 rose_in k so_far [] [] a b status never all six = absurd (never (sym all.1 ∙ six))
 rose_in k so_far [] (reply ∷ replies) a b status never all six = absurd all
 rose_in k so_far (line ∷ lines) [] a b status never all six = absurd all
@@ -93,7 +93,7 @@ fault_statuses (BadLine k) = inl refl
 fault_statuses NotRead = inr (inl refl)
 fault_statuses Memory = inr (inr refl)
 
-no_answer : (fault : ListFault) → IsAnswer (fault_status fault) → ⊥
+pub no_answer : (fault : ListFault) → IsAnswer (fault_status fault) → ⊥
 no_answer (BadLine k) (inl is) = absurd (omega arith)
 no_answer (BadLine k) (inr (inl is)) = absurd (omega arith)
 no_answer (BadLine k) (inr (inr is)) = absurd (omega arith)
@@ -109,7 +109,7 @@ no_usage (BadLine k) is = absurd (omega arith)
 no_usage NotRead is = absurd (omega arith)
 no_usage Memory is = absurd (omega arith)
 
-usage_no_answer : (status : ℕ) → status ≡ 2 → IsAnswer status → ⊥
+pub usage_no_answer : (status : ℕ) → status ≡ 2 → IsAnswer status → ⊥
 usage_no_answer status two (inl is) = absurd (omega arith)
 usage_no_answer status two (inr (inl is)) = absurd (omega arith)
 usage_no_answer status two (inr (inr is)) = absurd (omega arith)
@@ -120,7 +120,7 @@ not_answered status n (inr (inl is)) same others = others.1 (sym same ∙ is)
 not_answered status n (inr (inr is)) same others = others.2 (sym same ∙ is)
 
 module _ (words : List (List ℕ)) (t t' : TrayState) (r r' : RackState) (status : ℕ) where
-  both : (asked : AskedWords) → asked_of words ≡ Some asked → asked_of words ≡ None → ⊥
+  pub both : (asked : AskedWords) → asked_of words ≡ Some asked → asked_of words ≡ None → ⊥
   both asked means none = let never : ◌≡◌ {A = Option AskedWords} (Some asked) None = sym means ∙ none in absurd (cc)
 
   pub usage_ends : Ends words t t' r r' status → Usage words t t' r r' status

@@ -4,3 +4,5 @@ pub mod Fronts
 pub mod Telling
 pub mod Outs
 pub mod Clauses
+pub mod Cases
+pub mod Judging

@@ -1,5 +1,5 @@
 ghost use Rattle.std.specs.Prelude.{map, string_bytes};
-ghost use Rattle.pool_program.specs.Clauses.{AnswersLines, IsStatus, LeavesFiles, RefusedList, Success, Untold, Usage};
+ghost use Rattle.pool_program.specs.Clauses.{AnswersEach, AnswersLines, BeginsList, Completeness, IsStatus, JudgesList, LeavesFiles, RefusedList, Success, Untold, Usage};
 ghost use Rattle.pool_program.specs.Endings.{Ends};
 
 use crate::answering::answer_all;
@@ -7,10 +7,12 @@ use crate::asking::{make_replies, refuse_list, refuse_words};
 use crate::words::read_words;
 use outside::rack::Rack;
 use outside::tray::Tray;
+use pool_list::laws::one_reading;
 use std::alloc::Global;
 use std::sync::Wait;
 use std::thread::Threads;
 use trap_pool::TakeGate;
+use verdicts::laws::one_verdict;
 
 /// Traps the pages of a list of jobs, and answers the status that the program ends with.
 ///
@@ -43,8 +45,18 @@ pub fn trappool_main<H: Threads + Wait + Sync, T: Tray, R: Rack, G: TakeGate + S
     ensures untold { Untold (R.state rack.old) (R.state rack.new) result }
     ensures answers { AnswersLines (map string_bytes words.now) (T.state tray.old)
         (T.state tray.new) (R.state rack.old) (R.state rack.new) result }
+    ensures judged { JudgesList (map string_bytes words.now) (T.state tray.old)
+        (T.state tray.new) (R.state rack.old) (R.state rack.new) result }
+    ensures each_line { AnswersEach (map string_bytes words.now) (T.state tray.old)
+        (T.state tray.new) (R.state rack.old) (R.state rack.new) result }
+    ensures begins { BeginsList (map string_bytes words.now) (T.state tray.old)
+        (T.state tray.new) result }
+    ensures completeness { Completeness (map string_bytes words.now) (T.state tray.old)
+        (T.state tray.new) (R.state rack.old) (R.state rack.new) result }
     ensures statuses { IsStatus result }
 {
+    one_reading();
+    one_verdict();
     run(rt, alloc, words, tray, rack, gate)
 }
 

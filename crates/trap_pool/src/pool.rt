@@ -1,7 +1,7 @@
 ghost use Rattle.std.specs.Prelude.{◌≡◌, ◌+◌, ◌≤◌, ◌<◌, ◌^◌, IfOk, true, [], length, vec_capacity, vec_len, All};
 ghost use Rattle.crossbeam_queue.specs.Passes.{IsPassOf, view};
 ghost use Rattle.line_queue.specs.Rule.{Ascends, IsAbove, pass_view, whole};
-ghost use Rattle.line_queue.specs.Serving.{AreMade};
+ghost use Rattle.line_queue.specs.Serving.{AreMade, IsUnused};
 ghost use Rattle.trap_pool.specs.Pools.{AnswersPool};
 ghost use Rattle.trap_pool.specs.Rooms.{IsRoomFor};
 ghost use Rattle.trap_pool.specs.Taking.{TrapsLine};
@@ -138,7 +138,7 @@ fn serve_waiting<H: Threads + Wait + Sync, G: TakeGate + Sync>(
     requires queue { IsPassOf queue.now pass }
     requires opening { view pass ≡ pass_view whole true [] [] }
     requires ascends { Ascends numbers.now }
-    requires results { vec_len results < whole }
+    requires results { (vec_len results < whole) × All IsUnused results.items }
     ensures { All (AreMade (TrapsLine work.now.replies.now)) result.items }
 {
     let mut pass = pass;

@@ -4,7 +4,7 @@ ghost use Rattle.trap_pool.specs.Taking.{AllSettled, TrapsLine};
 
 use crate::reply::Reply;
 use crate::work::trap_waiting;
-use line_queue::{Kept, Rooms};
+use line_queue::{Kept, Room, Rooms};
 use std::alloc::Global;
 use trap_engine::Trapped;
 
@@ -18,11 +18,11 @@ pub(crate) fn take_in(replies: &mut Vec<Reply>, rooms: Rooms<Option<Trapped>>)
     }
 }
 
-fn take_room(replies: &mut Vec<Reply>, room: Vec<Kept<Option<Trapped>>>)
+fn take_room(replies: &mut Vec<Reply>, room: Room<Option<Trapped>>)
     requires { AreMade (TrapsLine replies.old.items) room }
     ensures { AllSettled replies.old.items replies.new.items }
 {
-    for kept in room {
+    for kept in room.kept {
         let Kept { line, made } = kept;
         if let Some(trapped) = made {
             settle_at(replies, line as usize, trapped);

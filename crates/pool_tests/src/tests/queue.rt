@@ -46,7 +46,7 @@ fn two_workers_meet(rt: HostRuntime) -> Result<(), Fail> {
     let (_, rooms) = serve_all(&rt, &queue, &work, pass, rooms);
     let mut made = 0u64;
     for room in rooms.as_slice() {
-        for kept in room.as_slice() {
+        for kept in room.kept.as_slice() {
             made = made.wrapping_add(kept.made);
         }
     }

@@ -1,7 +1,10 @@
 use Rattle.std.proofs.Common.{rules}
-use Rattle.line_queue.proofs.Rooms.{drained, served_with}
+use Rattle.line_queue.proofs.Rooms.{drained, served_more, served_with}
 use Rattle.line_queue.proofs.serving.+fn-serve_rooms-join+arg3+serve_rooms.Goals as goal
 
 pub returns-clause-taken : goal.returns-clause-taken
 returns-clause-taken g t c = drained _ _ _ _ _ _ _ _ (search rules) c.split_pass-worker.ensures.left c.join-worker.ensures.second.1.1.0 c.join-worker.ensures.first.1 c.join_passes.ensures.both
     (served_with _ _ _ c.in-Ok.ensures.items)
+
+pub returns-clause-served : goal.returns-clause-served
+returns-clause-served g t c = served_more _ _ _ c.in-Ok.ensures.items (search rules) (search rules)

@@ -1,8 +1,8 @@
-use Rattle.std.proofs.Common.{◌≡◌, false, []}
+use Rattle.std.proofs.Common.{◌≡◌, false, [], None, All}
 use Rattle.crossbeam_queue.specs.Passes.{view, IsPassOf}
 use Rattle.line_queue.specs.Rule.{pass_view}
-use Rattle.line_queue.specs.Serving.{AreMade, kept_lines}
+use Rattle.line_queue.specs.Serving.{kept_lines}
 use Rattle.line_queue.proofs.serving.serve.Given as goal
 
 abbrev pub invariant-loop : goal.invariant-loop
-invariant-loop g l = IsPassOf l.queue l.pass × (view l.pass ≡ pass_view 1 false [] (kept_lines l.room.items)) × AreMade (g.W.LineWork.makes l.work) l.room
+invariant-loop g l = IsPassOf l.queue l.pass × (view l.pass ≡ pass_view 1 false [] (kept_lines l.kept.items)) × All (λ k. g.W.LineWork.makes l.work k.line k.made) l.kept.items × (l.end ≡ None)

@@ -1,5 +1,6 @@
 use Rattle.std.proofs.Common.{map, string_bytes, Global}
 use Rattle.pool_program.proofs.Clauses.{answers_lines, leaves_files, refused_list, statuses, success, untold, usage_ends}
+use Rattle.pool_program.proofs.Judging.{answers_each, begins_list, completeness, judges_list}
 use Rattle.pool_program.proofs.top.trappool_main.Goals as goal
 
 pub returns-clause-usage : goal.returns-clause-usage
@@ -22,3 +23,15 @@ returns-clause-answers g c = answers_lines (map (string_bytes {Z = Global}) c.ar
 
 pub returns-clause-statuses : goal.returns-clause-statuses
 returns-clause-statuses g c = statuses (map (string_bytes {Z = Global}) c.args.words.now) (g.T.Tray.state c.args.tray.now) (g.T.Tray.state c.run.new.tray) (g.R.Rack.state c.args.rack.now) (g.R.Rack.state c.run.new.rack) c.run.result c.run.ensures
+
+pub returns-clause-judged : goal.returns-clause-judged
+returns-clause-judged g c = judges_list (map (string_bytes {Z = Global}) c.args.words.now) (g.T.Tray.state c.args.tray.now) (g.T.Tray.state c.run.new.tray) (g.R.Rack.state c.args.rack.now) (g.R.Rack.state c.run.new.rack) c.run.result c.one_reading.ensures c.run.ensures
+
+pub returns-clause-each_line : goal.returns-clause-each_line
+returns-clause-each_line g c = answers_each (map (string_bytes {Z = Global}) c.args.words.now) (g.T.Tray.state c.args.tray.now) (g.T.Tray.state c.run.new.tray) (g.R.Rack.state c.args.rack.now) (g.R.Rack.state c.run.new.rack) c.run.result c.one_verdict.ensures c.run.ensures
+
+pub returns-clause-begins : goal.returns-clause-begins
+returns-clause-begins g c = begins_list (map (string_bytes {Z = Global}) c.args.words.now) (g.T.Tray.state c.args.tray.now) (g.T.Tray.state c.run.new.tray) (g.R.Rack.state c.args.rack.now) (g.R.Rack.state c.run.new.rack) c.run.result c.run.ensures
+
+pub returns-clause-completeness : goal.returns-clause-completeness
+returns-clause-completeness g c = completeness (map (string_bytes {Z = Global}) c.args.words.now) (g.T.Tray.state c.args.tray.now) (g.T.Tray.state c.run.new.tray) (g.R.Rack.state c.args.rack.now) (g.R.Rack.state c.run.new.rack) c.run.result c.one_reading.ensures c.run.ensures
