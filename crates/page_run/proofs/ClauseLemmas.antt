@@ -19,15 +19,16 @@ use Rattle.run_reading.specs.Words.{RunWords, order_of, sources_of, targets_of}
 use Rattle.run_verdicts.specs.declared.stop.RunStop.{RunStop}
 use Rattle.run_verdicts.specs.declared.stop.RunStop.TheVariants as stops
 use Rattle.run_verdicts.specs.Pages.{AreMade, run_files, run_names, run_reads, target_at}
-use Rattle.run_verdicts.specs.RunVerdicts.{RunVerdict, AllEnd, HasPages, IsRunVerdict}
+use Rattle.run_verdicts.specs.RunVerdicts.{RunVerdict, AllEnd, HasPages, IsRunVerdict, status_of_verdict}
 use Rattle.run_verdicts.specs.RunVerdicts.RunVerdict.{Stopped, Out}
 use Rattle.run_verdicts.specs.Stops.{RefusesRun, line_of_stop, status_of_stop}
 use Rattle.run_verdicts.proofs.RunLemmas.{one_run_verdict}
+use Rattle.run_verdicts.proofs.SomeRunLemmas.{some_run_verdict}
 use Rattle.trap_report.specs.declared.refusal.Refusal.TheVariants as refusals
 use Rattle.page_run.proofs.PageLemmas.{some_run_files}
 use Rattle.trap_report.specs.Telling.{KeepsFiles, TellsText, TellsBehindFault}
-use Rattle.page_gather.specs.Inputs.{Sources}
-use Rattle.verdicts.specs.Verdicts.{Targets, outcome}
+use Rattle.page_gather.specs.Inputs.{Sources, name_at}
+use Rattle.verdicts.specs.Verdicts.{IsFile, Targets, outcome}
 
 -- what a write fault leaves
 pub record Breaking (order : RunWords) (t t' : TrayState) (r r' : RackState) : Type 0 where
@@ -421,6 +422,15 @@ module _ (words : List (List ℕ)) (t t' : TrayState) (r r' : RackState) (status
   complete_by order files (unwritten is rose breaking) tells judged still_tray still = absurd (still rose)
   complete_by order files (no_memory pages is calm begun whole created line) tells judged still_tray still = inr is
 
+  decided_by : (order : RunWords) (verdict : RunVerdict) → EndingOf order → IsTrue t.tells → IsRunVerdict t.file (sources_of order) (targets_of order) verdict → ¬ Rose t.faults t'.faults → ¬ Rose r.faults r'.faults → (status ≡ status_of_verdict verdict) ⊎ (status ≡ 7)
+  decided_by order (Stopped stop) ending tells judged still_tray still = always_by order stop ending tells judged still_tray still
+  decided_by order (Out files) ending tells judged still_tray still = complete_by order files ending tells judged still_tray still
+
+  decided : (order : RunWords) → EndingOf order → IsTrue t.tells → IsFile t.file (sources_of order).job → ((k : ℕ) → k < length (sources_of order).inputs → IsFile t.file (name_at (sources_of order).inputs k)) → ¬ Rose t.faults t'.faults → ¬ Rose r.faults r'.faults → (verdict : RunVerdict) × IsRunVerdict t.file (sources_of order) (targets_of order) verdict × ((status ≡ status_of_verdict verdict) ⊎ (status ≡ 7))
+  decided order ending tells job_there plates_there still_tray still =
+      let some = some_run_verdict t.file (sources_of order) (targets_of order) job_there plates_there in
+      (some.0, some.1, decided_by order some.0 ending tells some.1 still_tray still)
+
   statuses : EndsWords words t t' r r' status → (status ≡ 0) ⊎ ((2 ≤ status) × (status ≤ 7))
   statuses (EndsWords.no_run none same refuses) = let e : status ≡ 2 = refuses.status_is in inr (omega arith, omega arith)
   statuses (EndsWords.run order also ended) = elim ((statuses_of order (ending order ended)).known) [ inl is ↦ inl is | inr within ↦ inr (omega (arith, within.0), within.1) ]
@@ -428,5 +438,6 @@ module _ (words : List (List ℕ)) (t t' : TrayState) (r r' : RackState) (status
   pub completeness : EndsWords words t t' r r' status → Completeness words t t' r r' status
   completeness ended = record {
     pages = λ order files means tells judged still_tray still. complete_by order files (order_ending order means ended) tells judged still_tray still;
+    decided = λ order means tells job_there plates_there still_tray still. decided order (order_ending order means ended) tells job_there plates_there still_tray still;
     statuses = statuses ended;
   }

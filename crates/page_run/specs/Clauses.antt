@@ -3,7 +3,7 @@ use Rattle.std.specs.Prelude.{◌≡◌, ◌≢◌, ◌⊎◌, ℕ, suc, ◌<◌
 use Rattle.outside.specs.Causes.{Rose, Asks, AsksFront}
 use Rattle.outside.specs.Tray.{TrayState}
 use Rattle.outside.specs.Rack.{RackState}
-use Rattle.page_gather.specs.Inputs.{Makes}
+use Rattle.page_gather.specs.Inputs.{name_at}
 use Rattle.page_model.specs.declared.parts.PageParts.{PageParts}
 use Rattle.page_model.specs.Conditions.{IsPage}
 use Rattle.page_run.specs.Endings.{BreaksRun, StandsBehind, StopKeepsCount, stop_reads}
@@ -15,12 +15,12 @@ use Rattle.run_verdicts.specs.declared.stop.RunStop.{RunStop}
 use Rattle.run_verdicts.specs.declared.stop.RunStop.TheVariants.{AtPage}
 use Rattle.run_verdicts.specs.Images.{page_spelling}
 use Rattle.run_verdicts.specs.Pages.{AreMade, run_files, run_names, run_reads, target_at}
-use Rattle.run_verdicts.specs.RunVerdicts.{AllEnd, HasPages, IsRunVerdict, Stopped, Out}
+use Rattle.run_verdicts.specs.RunVerdicts.{RunVerdict, AllEnd, HasPages, IsRunVerdict, Stopped, Out, status_of_verdict}
 use Rattle.run_verdicts.specs.Stops.{line_of_stop, status_of_stop}
 use Rattle.trap_report.specs.declared.refusal.Refusal.TheVariants.{Write}
 use Rattle.trap_report.specs.Statuses.{done, usage, job_refused, page_refused, not_read, not_written, out_of_memory}
 use Rattle.trap_report.specs.Telling.{TellsText, TellsBehindFault}
-use Rattle.verdicts.specs.Verdicts.{outcome}
+use Rattle.verdicts.specs.Verdicts.{IsFile, outcome}
 
 -- The words mean this run.
 abbrev pub Mean : List (List ℕ) → RunWords → Type 0
@@ -86,7 +86,8 @@ LeavesPages words tray rack rack' status = (order : RunWords) → Mean words ord
 abbrev pub FaultLine : RackState → RackState → ℕ → Type 0
 FaultLine rack rack' status = status ≢ done → status ≢ usage → status ≢ not_written → (stop : RunStop) × (status ≡ status_of_stop stop) × TellsText (line_of_stop stop) rack rack'
 
--- Where the verdict is a list of files and no count rose, the status is 0 or 7. Every status is 0 or one of 2 to 7.
+-- Where the verdict is a list of files and no count rose, the status is 0 or 7. Where the job and all plates are among the tray's files there is a verdict, and where no count rose the status is the one that it asks for, or 7: valid input comes to 0 or 7, and any other to its first refusal. Every status is 0 or one of 2 to 7.
 pub record Completeness (words : List (List ℕ)) (tray tray' : TrayState) (rack rack' : RackState) (status : ℕ) : Type 0 where
   pub pages : (order : RunWords) (files : List Written) → Mean words order → IsTrue tray.tells → IsRunVerdict tray.file (sources_of order) (targets_of order) (Out files) → ¬ Rose tray.faults tray'.faults → ¬ Rose rack.faults rack'.faults → (status ≡ done) ⊎ (status ≡ out_of_memory)
+  pub decided : (order : RunWords) → Mean words order → IsTrue tray.tells → IsFile tray.file (sources_of order).job → ((k : ℕ) → k < length (sources_of order).inputs → IsFile tray.file (name_at (sources_of order).inputs k)) → ¬ Rose tray.faults tray'.faults → ¬ Rose rack.faults rack'.faults → (verdict : RunVerdict) × IsRunVerdict tray.file (sources_of order) (targets_of order) verdict × ((status ≡ status_of_verdict verdict) ⊎ (status ≡ out_of_memory))
   pub statuses : (status ≡ done) ⊎ ((usage ≤ status) × (status ≤ out_of_memory))
