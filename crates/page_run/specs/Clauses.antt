@@ -1,5 +1,5 @@
 -- What the top call promises, clause by clause, of the words and of what stands before and, primed, after the call.
-use Rattle.std.specs.Prelude.{◌≡◌, ◌≢◌, ◌⊎◌, ℕ, suc, ◌<◌, ◌≤◌, IsTrue, IsFalse, List, ◌∷◌, ◌++◌, length, All, Option, Some, None, Result, Ok, Err}
+use Rattle.std.specs.Prelude.{◌≡◌, ◌≢◌, ◌⊎◌, ℕ, suc, ◌<◌, ◌≤◌, IsTrue, IsFalse, List, ◌∷◌, length, All, Option, Some, None}
 use Rattle.outside.specs.Causes.{Rose, Asks, AsksFront}
 use Rattle.outside.specs.Tray.{TrayState}
 use Rattle.outside.specs.Rack.{RackState}
@@ -13,7 +13,6 @@ use Rattle.page_writing.specs.Files.{Written, put_all}
 use Rattle.page_writing.specs.Writing.{Breaks, WritesAll}
 use Rattle.run_verdicts.specs.declared.stop.RunStop.{RunStop}
 use Rattle.run_verdicts.specs.declared.stop.RunStop.TheVariants.{AtPage}
-use Rattle.run_verdicts.specs.Images.{page_spelling}
 use Rattle.run_verdicts.specs.Pages.{AreMade, run_files, run_names, run_reads, target_at}
 use Rattle.run_verdicts.specs.RunVerdicts.{RunVerdict, AllEnd, HasPages, IsRunVerdict, Stopped, Out, status_of_verdict}
 use Rattle.run_verdicts.specs.Stops.{line_of_stop, status_of_stop}
@@ -66,12 +65,12 @@ pub record RefusedInput (words : List (List ℕ)) (tray tray' : TrayState) (rack
   pub only : (order : RunWords) → Mean words order → (status ≡ job_refused) ⊎ (status ≡ page_refused) → (stop : RunStop) × (pages : List PageParts) × RefusesPages order tray tray' rack rack' status stop pages
   pub always : (order : RunWords) (stop : RunStop) → Mean words order → IsTrue tray.tells → IsRunVerdict tray.file (sources_of order) (targets_of order) (Stopped stop) → ¬ Rose tray.faults tray'.faults → ¬ Rose rack.faults rack'.faults → (status ≡ status_of_stop stop) ⊎ (status ≡ out_of_memory)
 
--- Status 5 comes only where the tray's count rose. The pages before are whole, what was read of this one has no fault, and the line names the file that was handed to `begin` last. At want of memory the names handed to `begin` are a front of the job's and, page after page, the plates', and no fault is passed over.
+-- Status 5 comes only where the tray's count rose. The pages before are whole, what was read of this one has no fault, and the line names the file that was handed to `begin` last. At want of memory the names handed to `begin` are a front of the job's and, page after page, the plates'. Neither a failed write nor want of memory passes a fault of the tray over.
 pub record ReadFault (words : List (List ℕ)) (tray tray' : TrayState) (rack rack' : RackState) (status : ℕ) : Type 0 where
   pub cause : status ≡ not_read → Rose tray.faults tray'.faults
   pub breaks : (order : RunWords) → Mean words order → status ≡ not_read → (stop : RunStop) × (pages : List PageParts) × (status ≡ status_of_stop stop) × Whole order tray rack rack' pages × Asks tray.asked tray'.asked (stop_reads (sources_of order) (length pages) stop) × BreaksRun (sources_of order) (length pages) tray tray' stop × TellsText (line_of_stop stop) rack rack'
   pub asked : (order : RunWords) → Mean words order → status ≡ out_of_memory → (pages : ℕ) × AsksFront tray.asked tray'.asked (run_reads (sources_of order) pages)
-  pub calm : status ≡ out_of_memory → tray'.faults ≡ tray.faults
+  pub calm : (status ≡ not_written) ⊎ (status ≡ out_of_memory) → tray'.faults ≡ tray.faults
 
 -- Status 6 comes only where the rack's count rose, at a page that was made, behind pages that are whole: of its files those before the failed one are whole, it holds a front of its bytes or is as before, and the later ones are as before. The names handed to `create` are those of the pages before and a front of this one's, and the line names the last of them.
 pub record WriteFault (words : List (List ℕ)) (tray tray' : TrayState) (rack rack' : RackState) (status : ℕ) : Type 0 where
