@@ -11,7 +11,7 @@ use Rattle.outside.proofs.Steps.{rose_before}
 use Rattle.page_model.specs.declared.parts.PageParts.{PageParts}
 use Rattle.page_model.specs.Conditions.{IsPage}
 use Rattle.page_run.specs.Clauses.{Mean, Whole, Success, Usage, RefusesPages, RefusedInput, ReadFault, WriteFault, LeavesPages, FaultLine, Completeness}
-use Rattle.page_run.specs.Endings.{AnswersRun, BreaksRun, Closes, EndsRun, EndsWords, Runs, Written, stop_reads}
+use Rattle.page_run.specs.Endings.{AnswersRun, BreaksRun, Closes, EndsRun, EndsWords, Written, stop_reads}
 use Rattle.page_run.specs.Text.{usage_line}
 use Rattle.page_writing.specs.Files.{Written as File, names_of, put_all}
 use Rattle.page_writing.specs.Writing.{Breaks, BreaksAt, WritesAll}
@@ -19,15 +19,16 @@ use Rattle.run_reading.specs.Words.{RunWords, order_of, sources_of, targets_of}
 use Rattle.run_verdicts.specs.declared.stop.RunStop.{RunStop}
 use Rattle.run_verdicts.specs.declared.stop.RunStop.TheVariants as stops
 use Rattle.run_verdicts.specs.Pages.{AreMade, run_files, run_names, run_reads, target_at}
-use Rattle.run_verdicts.specs.RunVerdicts.{RunVerdict, AllEnd, HasPages, IsRunVerdict}
+use Rattle.run_verdicts.specs.RunVerdicts.{RunVerdict, AllEnd, HasPages, IsRunVerdict, status_of_verdict}
 use Rattle.run_verdicts.specs.RunVerdicts.RunVerdict.{Stopped, Out}
 use Rattle.run_verdicts.specs.Stops.{RefusesRun, line_of_stop, status_of_stop}
 use Rattle.run_verdicts.proofs.RunLemmas.{one_run_verdict}
+use Rattle.run_verdicts.proofs.SomeRunLemmas.{some_run_verdict}
 use Rattle.trap_report.specs.declared.refusal.Refusal.TheVariants as refusals
 use Rattle.page_run.proofs.PageLemmas.{some_run_files}
 use Rattle.trap_report.specs.Telling.{KeepsFiles, TellsText, TellsBehindFault}
-use Rattle.page_gather.specs.Inputs.{Sources}
-use Rattle.verdicts.specs.Verdicts.{Targets, outcome}
+use Rattle.page_gather.specs.Inputs.{Sources, name_at}
+use Rattle.verdicts.specs.Verdicts.{IsFile, Targets, outcome}
 
 -- what a write fault leaves
 pub record Breaking (order : RunWords) (t t' : TrayState) (r r' : RackState) : Type 0 where
@@ -37,6 +38,7 @@ pub record Breaking (order : RunWords) (t t' : TrayState) (r r' : RackState) : T
   pub mid : RackState
   pub wrote : WritesAll (run_files (targets_of order) pages) r mid
   pub created : Asks r.asked mid.asked (run_names (targets_of order) (length pages))
+  pub calm : t'.faults ≡ t.faults
   pub begun : Asks t.asked t'.asked (run_reads (sources_of order) (suc (length pages)))
   pub valid : All IsPage (page ∷ pages)
   pub made : IsTrue t.tells → AreMade t.file (sources_of order) (page ∷ pages)
@@ -179,6 +181,7 @@ module _ (order : RunWords) (t t' : TrayState) (r m r' : RackState) (status : �
         mid = mid;
         wrote = written.wrote;
         created = written.created;
+        calm = calm;
         begun = asked;
         valid = All-cons IsPage page pages valid written.valid;
         made = made;
@@ -212,7 +215,7 @@ module _ (words : List (List ℕ)) (t t' : TrayState) (r r' : RackState) (status
     pub calm : status ≡ 0 → (t'.faults ≡ t.faults) × (r'.faults ≡ r.faults)
     pub read : status ≡ 5 → Rose t.faults t'.faults
     pub wrote : status ≡ 6 → Rose r.faults r'.faults
-    pub memory : status ≡ 7 → t'.faults ≡ t.faults
+    pub still : (status ≡ 6) ⊎ (status ≡ 7) → t'.faults ≡ t.faults
     pub line : status ≢ 0 → status ≢ 6 → (stop : RunStop) × (status ≡ status_of_stop stop) × TellsText (line_of_stop stop) r r'
 
   statuses_of : (order : RunWords) → EndingOf order → Statuses order
@@ -221,7 +224,7 @@ module _ (words : List (List ℕ)) (t t' : TrayState) (r r' : RackState) (status
     calm = λ s. calm;
     read = λ s. absurd (omega arith);
     wrote = λ s. absurd (omega arith);
-    memory = λ s. absurd (omega arith);
+    still = λ s. elim s [ inl six ↦ absurd (omega arith) | inr seven ↦ absurd (omega arith) ];
     line = λ some other. absurd (some is);
   }
   statuses_of order (refused stop pages (inl three) says) = record {
@@ -229,7 +232,7 @@ module _ (words : List (List ℕ)) (t t' : TrayState) (r r' : RackState) (status
     calm = λ s. absurd (omega arith);
     read = λ s. absurd (omega arith);
     wrote = λ s. absurd (omega arith);
-    memory = λ s. absurd (omega arith);
+    still = λ s. elim s [ inl six ↦ absurd (omega arith) | inr seven ↦ absurd (omega arith) ];
     line = λ some other. (stop, says.status_is, says.line);
   }
   statuses_of order (refused stop pages (inr four) says) = record {
@@ -237,7 +240,7 @@ module _ (words : List (List ℕ)) (t t' : TrayState) (r r' : RackState) (status
     calm = λ s. absurd (omega arith);
     read = λ s. absurd (omega arith);
     wrote = λ s. absurd (omega arith);
-    memory = λ s. absurd (omega arith);
+    still = λ s. elim s [ inl six ↦ absurd (omega arith) | inr seven ↦ absurd (omega arith) ];
     line = λ some other. (stop, says.status_is, says.line);
   }
   statuses_of order (unread stop pages is rose also whole begun breaks line created) = record {
@@ -245,7 +248,7 @@ module _ (words : List (List ℕ)) (t t' : TrayState) (r r' : RackState) (status
     calm = λ s. absurd (omega arith);
     read = λ s. rose;
     wrote = λ s. absurd (omega arith);
-    memory = λ s. absurd (omega arith);
+    still = λ s. elim s [ inl six ↦ absurd (omega arith) | inr seven ↦ absurd (omega arith) ];
     line = λ some other. (stop, also, line);
   }
   statuses_of order (unwritten is rose breaking) = record {
@@ -253,7 +256,7 @@ module _ (words : List (List ℕ)) (t t' : TrayState) (r r' : RackState) (status
     calm = λ s. absurd (omega arith);
     read = λ s. absurd (omega arith);
     wrote = λ s. rose;
-    memory = λ s. absurd (omega arith);
+    still = λ s. breaking.calm;
     line = λ some other. absurd (other is);
   }
   statuses_of order (no_memory pages is calm begun whole created line) = record {
@@ -261,7 +264,7 @@ module _ (words : List (List ℕ)) (t t' : TrayState) (r r' : RackState) (status
     calm = λ s. absurd (omega arith);
     read = λ s. absurd (omega arith);
     wrote = λ s. absurd (omega arith);
-    memory = λ s. calm;
+    still = λ s. calm;
     line = λ some other. (stops.Whole refusals.Memory, is, line);
   }
 
@@ -368,16 +371,16 @@ module _ (words : List (List ℕ)) (t t' : TrayState) (r r' : RackState) (status
   read_cause (EndsWords.no_run none same refuses) s = let e : status ≡ 2 = refuses.status_is in absurd (omega arith)
   read_cause (EndsWords.run order also ended) s = (statuses_of order (ending order ended)).read s
 
-  calm_memory : EndsWords words t t' r r' status → status ≡ 7 → t'.faults ≡ t.faults
-  calm_memory (EndsWords.no_run none same refuses) s = ap (λ (u : TrayState). u.faults) same
-  calm_memory (EndsWords.run order also ended) s = (statuses_of order (ending order ended)).memory s
+  calm_still : EndsWords words t t' r r' status → (status ≡ 6) ⊎ (status ≡ 7) → t'.faults ≡ t.faults
+  calm_still (EndsWords.no_run none same refuses) s = ap (λ (u : TrayState). u.faults) same
+  calm_still (EndsWords.run order also ended) s = (statuses_of order (ending order ended)).still s
 
   pub read_fault : EndsWords words t t' r r' status → ReadFault words t t' r r' status
   read_fault ended = record {
     cause = read_cause ended;
     breaks = λ order means s. read_by order (order_ending order means ended) s;
     asked = λ order means s. memory_by order (order_ending order means ended) s;
-    calm = calm_memory ended;
+    calm = calm_still ended;
   }
 
   broken_by : (order : RunWords) → EndingOf order → status ≡ 6 → Breaking order t t' r r'
@@ -421,6 +424,15 @@ module _ (words : List (List ℕ)) (t t' : TrayState) (r r' : RackState) (status
   complete_by order files (unwritten is rose breaking) tells judged still_tray still = absurd (still rose)
   complete_by order files (no_memory pages is calm begun whole created line) tells judged still_tray still = inr is
 
+  decided_by : (order : RunWords) (verdict : RunVerdict) → EndingOf order → IsTrue t.tells → IsRunVerdict t.file (sources_of order) (targets_of order) verdict → ¬ Rose t.faults t'.faults → ¬ Rose r.faults r'.faults → (status ≡ status_of_verdict verdict) ⊎ (status ≡ 7)
+  decided_by order (Stopped stop) ending tells judged still_tray still = always_by order stop ending tells judged still_tray still
+  decided_by order (Out files) ending tells judged still_tray still = complete_by order files ending tells judged still_tray still
+
+  decided : (order : RunWords) → EndingOf order → IsTrue t.tells → IsFile t.file (sources_of order).job → ((k : ℕ) → k < length (sources_of order).inputs → IsFile t.file (name_at (sources_of order).inputs k)) → ¬ Rose t.faults t'.faults → ¬ Rose r.faults r'.faults → (verdict : RunVerdict) × IsRunVerdict t.file (sources_of order) (targets_of order) verdict × ((status ≡ status_of_verdict verdict) ⊎ (status ≡ 7))
+  decided order ending tells job_there plates_there still_tray still =
+      let some = some_run_verdict t.file (sources_of order) (targets_of order) job_there plates_there in
+      (some.0, some.1, decided_by order some.0 ending tells some.1 still_tray still)
+
   statuses : EndsWords words t t' r r' status → (status ≡ 0) ⊎ ((2 ≤ status) × (status ≤ 7))
   statuses (EndsWords.no_run none same refuses) = let e : status ≡ 2 = refuses.status_is in inr (omega arith, omega arith)
   statuses (EndsWords.run order also ended) = elim ((statuses_of order (ending order ended)).known) [ inl is ↦ inl is | inr within ↦ inr (omega (arith, within.0), within.1) ]
@@ -428,5 +440,6 @@ module _ (words : List (List ℕ)) (t t' : TrayState) (r r' : RackState) (status
   pub completeness : EndsWords words t t' r r' status → Completeness words t t' r r' status
   completeness ended = record {
     pages = λ order files means tells judged still_tray still. complete_by order files (order_ending order means ended) tells judged still_tray still;
+    decided = λ order means tells job_there plates_there still_tray still. decided order (order_ending order means ended) tells job_there plates_there still_tray still;
     statuses = statuses ended;
   }

@@ -1,5 +1,5 @@
 -- The pages of a run, one after another.
-use Rattle.std.proofs.Common.{◌≡◌, ℕ, suc, ◌<◌, ◌≤◌, ◌+◌, List, [], ◌∷◌, ◌++◌, length, take, All, Option, Some, None, Result, Ok, Err, IsTrue, inl, inr, refl, sym, ap, ◌∙◌, subst, arith}
+use Rattle.std.proofs.Common.{◌≡◌, ℕ, suc, ◌<◌, ◌+◌, List, [], ◌∷◌, ◌++◌, length, take, All, Option, Some, None, Result, Ok, Err, IsTrue, inr, refl, sym, ap, ◌∙◌, subst, arith}
 use Rattle.std.proofs.Math.Seq.{take-append-add}
 use Rattle.std.proofs.lemmas.List.{append_assoc, length-append, map-append}
 use Rattle.std.proofs.lemmas.Option.{same_Some}
@@ -9,28 +9,25 @@ use Rattle.outside.specs.Tray.{TrayState, KeepsTray}
 use Rattle.outside.specs.Rack.{RackState, KeepsRack, put}
 use Rattle.outside.proofs.Names.{asks_none, asks_then}
 use Rattle.outside.proofs.Steps.{kept_then, kept_tray, rose_before}
-use Rattle.page_gather.specs.Inputs.{Sources, AreRead, Holds, Makes, name_at}
-use Rattle.page_gather.specs.Steps.{PassesNoFault}
+use Rattle.page_gather.specs.Inputs.{Sources, AreRead, Makes, name_at}
 use Rattle.page_gather.proofs.PlateLemmas.{count_then, held_before}
 use Rattle.page_model.specs.declared.parts.PageParts.{PageParts}
 use Rattle.page_model.specs.Conditions.{IsPage}
 use Rattle.page_model.specs.Counts.{page_counts}
 use Rattle.page_model.specs.Tints.{trapped_planes}
-use Rattle.page_run.specs.Endings.{AnswersRun, BreaksRun, PagesDone, Runs, Written}
+use Rattle.page_run.specs.Endings.{AnswersRun, PagesDone, Runs, Written}
 use Rattle.page_run.specs.Paging.{AnswersStep, Steps, StepsPage}
 use Rattle.page_writing.specs.Files.{Written as File, names_of, plate_files, put_all}
 use Rattle.page_writing.specs.Writing.{WritesAll}
 use Rattle.page_writing.proofs.Steps.{wrote_none}
-use Rattle.run_reading.specs.Gathering.{IsJobOf, IsPageMade, PageBreaks, StopsPage}
+use Rattle.run_reading.specs.Gathering.{IsJobOf, IsPageMade, StopsPage}
 use Rattle.run_reading.proofs.ImageLemmas.{unbroken_before}
 use Rattle.run_verdicts.specs.declared.stop.RunStop.{RunStop}
-use Rattle.run_verdicts.specs.declared.stop.RunStop.TheVariants.{Whole, AtPage, Ends}
+use Rattle.run_verdicts.specs.declared.stop.RunStop.TheVariants.{AtPage, Ends}
 use Rattle.run_verdicts.specs.Images.{page_spelling}
 use Rattle.run_verdicts.specs.Pages.{AreMade, pages_of, run_files, run_names, run_reads, target_at}
 use Rattle.run_verdicts.specs.RunVerdicts.{ComesTo, PlateEnds}
-use Rattle.run_verdicts.specs.Stops.{status_of_stop}
-use Rattle.trap_report.specs.declared.refusal.Refusal.{Refusal}
-use Rattle.trap_report.specs.declared.refusal.Refusal.TheVariants.{Read, Write, Memory}
+use Rattle.trap_report.specs.declared.refusal.Refusal.TheVariants.{Read, Write}
 use Rattle.trap_report.specs.Report.{report_of}
 use Rattle.verdicts.specs.Verdicts.{Targets, IsVerdict, Refused, outcome, written_names}
 

@@ -1,5 +1,5 @@
 -- A page that is put out, and one that is read and put out.
-use Rattle.std.proofs.Common.{◌≡◌, ℕ, List, [], ◌∷◌, length, map, Option, Some, None, Result, Ok, Err, IsTrue, refl, sym, ap, ◌∙◌, subst, arith}
+use Rattle.std.proofs.Common.{◌≡◌, ℕ, List, length, map, Result, Ok, Err, refl, sym, ap, ◌∙◌, subst, arith}
 use Rattle.std.proofs.lemmas.List.{length-map}
 use Rattle.band_claims.specs.Receipt.{Receipt}
 use Rattle.outside.specs.Tray.{TrayState}
@@ -9,15 +9,15 @@ use Rattle.page_gather.specs.Inputs.{Sources}
 use Rattle.page_model.specs.declared.parts.PageParts.{PageParts}
 use Rattle.page_model.specs.Conditions.{IsPage}
 use Rattle.page_output.specs.Output.{AnswersPut, PutsOut, targets}
-use Rattle.page_run.specs.Paging.{AnswersPutPage, AnswersStep, PutsPage, Steps, StepsPage}
+use Rattle.page_run.specs.Paging.{AnswersPutPage, AnswersStep, PutsPage, StepsPage}
 use Rattle.page_writing.specs.Writing.{Breaks}
 use Rattle.plain_words.specs.Parts.{PlateNames}
 use Rattle.run_reading.specs.Held.{order_in}
 use Rattle.run_reading.specs.Words.{targets_of}
 use Rattle.run_reading.specs.declared.words.RunOrder.{RunOrder}
-use Rattle.run_reading.specs.Gathering.{GathersPage, IsJobOf, IsPageMade, StopsPage}
+use Rattle.run_reading.specs.Gathering.{GathersPage, IsPageMade, StopsPage}
 use Rattle.run_verdicts.specs.declared.stop.RunStop.{RunStop}
-use Rattle.run_verdicts.specs.declared.stop.RunStop.TheVariants.{Whole, AtPage}
+use Rattle.run_verdicts.specs.declared.stop.RunStop.TheVariants.{Whole}
 use Rattle.run_verdicts.specs.Pages.{numbered, target_at}
 use Rattle.run_verdicts.specs.Stops.{stop_at}
 use Rattle.trap_report.specs.declared.refusal.Refusal.{Refusal}

@@ -1,14 +1,13 @@
 -- A run, from its job to the look behind its last page.
-use Rattle.std.proofs.Common.{◌≡◌, ℕ, suc, ◌<◌, ◌≤◌, List, [], ◌∷◌, ◌++◌, length, take, Option, Some, None, Result, Ok, Err, IsTrue, inl, inr, refl, sym, ap, ◌∙◌, subst, arith}
-use Rattle.outside.specs.Causes.{Asks, AsksFront}
+use Rattle.std.proofs.Common.{◌≡◌, ℕ, ◌<◌, List, [], ◌∷◌, ◌++◌, length, Some, None, Result, Ok, Err, IsTrue, inl, inr, refl, sym, ap, ◌∙◌, subst, arith}
+use Rattle.outside.specs.Causes.{Asks}
 use Rattle.outside.specs.Tray.{TrayState, KeepsTray}
-use Rattle.outside.specs.Rack.{RackState, KeepsRack}
-use Rattle.outside.proofs.Names.{asks_none, asks_then}
+use Rattle.outside.specs.Rack.{RackState}
+use Rattle.outside.proofs.Names.{asks_then}
 use Rattle.outside.proofs.Steps.{kept_tray, rose_before}
 use Rattle.page_gather.specs.Inputs.{Sources, Holds, name_at}
 use Rattle.page_gather.specs.Steps.{PassesNoFault}
 use Rattle.page_gather.proofs.PlateLemmas.{held_before}
-use Rattle.page_jobs.specs.declared.run.RunRefusal.TheVariants.{Fault as JobFails, TooManyPages as HasTooMany}
 use Rattle.page_model.specs.declared.parts.PageParts.{PageParts}
 use Rattle.page_run.specs.Endings.{AnswersRun, PagesDone, Runs, RunsFrom}
 use Rattle.page_run.proofs.PageLemmas.{front_more, no_page_done}
@@ -28,7 +27,7 @@ use Rattle.run_reading.proofs.JobLemmas.{counted}
 use Rattle.run_reading.specs.Reading.{AnswersBehind, AnswersRunJob, LookStops, LooksBehind, ReadsRunJob}
 use Rattle.run_reading.proofs.ImageLemmas.{count_then, unbroken_before}
 use Rattle.run_verdicts.specs.declared.stop.RunStop.{RunStop}
-use Rattle.run_verdicts.specs.declared.stop.RunStop.TheVariants.{Whole, TooManyPages, AtPage, Ends, Extra}
+use Rattle.run_verdicts.specs.declared.stop.RunStop.TheVariants.{Whole, TooManyPages, Extra}
 use Rattle.run_verdicts.specs.Images.{HasImage, HasImageFault, HasNoImage}
 use Rattle.run_verdicts.specs.Pages.{pages_of, run_reads}
 use Rattle.run_verdicts.specs.RunVerdicts.{AllEnd, AllMade, HasPages, LooksLast}

@@ -1,9 +1,9 @@
 -- What the top call promises, clause by clause, of the words and of what stands before and, primed, after the call.
-use Rattle.std.specs.Prelude.{◌≡◌, ◌≢◌, ◌⊎◌, ℕ, suc, ◌<◌, ◌≤◌, IsTrue, IsFalse, List, ◌∷◌, ◌++◌, length, All, Option, Some, None, Result, Ok, Err}
+use Rattle.std.specs.Prelude.{◌≡◌, ◌≢◌, ◌⊎◌, ℕ, suc, ◌<◌, ◌≤◌, IsTrue, IsFalse, List, ◌∷◌, length, All, Option, Some, None}
 use Rattle.outside.specs.Causes.{Rose, Asks, AsksFront}
 use Rattle.outside.specs.Tray.{TrayState}
 use Rattle.outside.specs.Rack.{RackState}
-use Rattle.page_gather.specs.Inputs.{Makes}
+use Rattle.page_gather.specs.Inputs.{name_at}
 use Rattle.page_model.specs.declared.parts.PageParts.{PageParts}
 use Rattle.page_model.specs.Conditions.{IsPage}
 use Rattle.page_run.specs.Endings.{BreaksRun, StandsBehind, StopKeepsCount, stop_reads}
@@ -13,14 +13,13 @@ use Rattle.page_writing.specs.Files.{Written, put_all}
 use Rattle.page_writing.specs.Writing.{Breaks, WritesAll}
 use Rattle.run_verdicts.specs.declared.stop.RunStop.{RunStop}
 use Rattle.run_verdicts.specs.declared.stop.RunStop.TheVariants.{AtPage}
-use Rattle.run_verdicts.specs.Images.{page_spelling}
 use Rattle.run_verdicts.specs.Pages.{AreMade, run_files, run_names, run_reads, target_at}
-use Rattle.run_verdicts.specs.RunVerdicts.{AllEnd, HasPages, IsRunVerdict, Stopped, Out}
+use Rattle.run_verdicts.specs.RunVerdicts.{RunVerdict, AllEnd, HasPages, IsRunVerdict, Stopped, Out, status_of_verdict}
 use Rattle.run_verdicts.specs.Stops.{line_of_stop, status_of_stop}
 use Rattle.trap_report.specs.declared.refusal.Refusal.TheVariants.{Write}
 use Rattle.trap_report.specs.Statuses.{done, usage, job_refused, page_refused, not_read, not_written, out_of_memory}
 use Rattle.trap_report.specs.Telling.{TellsText, TellsBehindFault}
-use Rattle.verdicts.specs.Verdicts.{outcome}
+use Rattle.verdicts.specs.Verdicts.{IsFile, outcome}
 
 -- The words mean this run.
 abbrev pub Mean : List (List ℕ) → RunWords → Type 0
@@ -66,12 +65,12 @@ pub record RefusedInput (words : List (List ℕ)) (tray tray' : TrayState) (rack
   pub only : (order : RunWords) → Mean words order → (status ≡ job_refused) ⊎ (status ≡ page_refused) → (stop : RunStop) × (pages : List PageParts) × RefusesPages order tray tray' rack rack' status stop pages
   pub always : (order : RunWords) (stop : RunStop) → Mean words order → IsTrue tray.tells → IsRunVerdict tray.file (sources_of order) (targets_of order) (Stopped stop) → ¬ Rose tray.faults tray'.faults → ¬ Rose rack.faults rack'.faults → (status ≡ status_of_stop stop) ⊎ (status ≡ out_of_memory)
 
--- Status 5 comes only where the tray's count rose. The pages before are whole, what was read of this one has no fault, and the line names the file that was handed to `begin` last. At want of memory the names handed to `begin` are a front of the job's and, page after page, the plates', and no fault is passed over.
+-- Status 5 comes only where the tray's count rose. The pages before are whole, what was read of this one has no fault, and the line names the file that was handed to `begin` last. At want of memory the names handed to `begin` are a front of the job's and, page after page, the plates'. Neither a failed write nor want of memory passes a fault of the tray over.
 pub record ReadFault (words : List (List ℕ)) (tray tray' : TrayState) (rack rack' : RackState) (status : ℕ) : Type 0 where
   pub cause : status ≡ not_read → Rose tray.faults tray'.faults
   pub breaks : (order : RunWords) → Mean words order → status ≡ not_read → (stop : RunStop) × (pages : List PageParts) × (status ≡ status_of_stop stop) × Whole order tray rack rack' pages × Asks tray.asked tray'.asked (stop_reads (sources_of order) (length pages) stop) × BreaksRun (sources_of order) (length pages) tray tray' stop × TellsText (line_of_stop stop) rack rack'
   pub asked : (order : RunWords) → Mean words order → status ≡ out_of_memory → (pages : ℕ) × AsksFront tray.asked tray'.asked (run_reads (sources_of order) pages)
-  pub calm : status ≡ out_of_memory → tray'.faults ≡ tray.faults
+  pub calm : (status ≡ not_written) ⊎ (status ≡ out_of_memory) → tray'.faults ≡ tray.faults
 
 -- Status 6 comes only where the rack's count rose, at a page that was made, behind pages that are whole: of its files those before the failed one are whole, it holds a front of its bytes or is as before, and the later ones are as before. The names handed to `create` are those of the pages before and a front of this one's, and the line names the last of them.
 pub record WriteFault (words : List (List ℕ)) (tray tray' : TrayState) (rack rack' : RackState) (status : ℕ) : Type 0 where
@@ -86,7 +85,8 @@ LeavesPages words tray rack rack' status = (order : RunWords) → Mean words ord
 abbrev pub FaultLine : RackState → RackState → ℕ → Type 0
 FaultLine rack rack' status = status ≢ done → status ≢ usage → status ≢ not_written → (stop : RunStop) × (status ≡ status_of_stop stop) × TellsText (line_of_stop stop) rack rack'
 
--- Where the verdict is a list of files and no count rose, the status is 0 or 7. Every status is 0 or one of 2 to 7.
+-- Where the verdict is a list of files and no count rose, the status is 0 or 7. Where the job and all plates are among the tray's files there is a verdict, and where no count rose the status is the one that it asks for, or 7: valid input comes to 0 or 7, and any other to its first refusal. Every status is 0 or one of 2 to 7.
 pub record Completeness (words : List (List ℕ)) (tray tray' : TrayState) (rack rack' : RackState) (status : ℕ) : Type 0 where
   pub pages : (order : RunWords) (files : List Written) → Mean words order → IsTrue tray.tells → IsRunVerdict tray.file (sources_of order) (targets_of order) (Out files) → ¬ Rose tray.faults tray'.faults → ¬ Rose rack.faults rack'.faults → (status ≡ done) ⊎ (status ≡ out_of_memory)
+  pub decided : (order : RunWords) → Mean words order → IsTrue tray.tells → IsFile tray.file (sources_of order).job → ((k : ℕ) → k < length (sources_of order).inputs → IsFile tray.file (name_at (sources_of order).inputs k)) → ¬ Rose tray.faults tray'.faults → ¬ Rose rack.faults rack'.faults → (verdict : RunVerdict) × IsRunVerdict tray.file (sources_of order) (targets_of order) verdict × ((status ≡ status_of_verdict verdict) ⊎ (status ≡ out_of_memory))
   pub statuses : (status ≡ done) ⊎ ((usage ≤ status) × (status ≤ out_of_memory))

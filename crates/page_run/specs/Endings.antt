@@ -1,5 +1,5 @@
 -- How a run ends.
-use Rattle.std.specs.Prelude.{◌≡◌, ◌⊎◌, ℕ, ◌+◌, suc, IsTrue, IsFalse, List, [], ◌∷◌, ◌++◌, length, take, All, Option, Some, None, Result, Ok, Err}
+use Rattle.std.specs.Prelude.{◌≡◌, ◌⊎◌, ℕ, ◌+◌, suc, IsTrue, List, ◌∷◌, ◌++◌, length, take, All, Option, Some, None, Result, Ok, Err}
 use Rattle.outside.specs.Causes.{Rose, Asks, AsksFront}
 use Rattle.outside.specs.Tray.{TrayState, KeepsTray}
 use Rattle.outside.specs.Rack.{RackState, KeepsRack}
@@ -13,12 +13,11 @@ use Rattle.run_reading.specs.Reading.{IsUnbroken}
 use Rattle.page_run.specs.Text.{usage_line}
 use Rattle.run_reading.specs.Words.{RunWords, order_of, sources_of, targets_of}
 use Rattle.run_verdicts.specs.declared.stop.RunStop.{RunStop}
-use Rattle.run_verdicts.specs.declared.stop.RunStop.TheVariants.{Whole, TooManyPages, AtPage, Ends, Extra}
-use Rattle.run_verdicts.specs.Images.{page_spelling}
+use Rattle.run_verdicts.specs.declared.stop.RunStop.TheVariants.{Whole, AtPage, Ends, Extra}
 use Rattle.run_verdicts.specs.Pages.{AreMade, pages_of, run_files, run_names, run_reads, target_at}
 use Rattle.run_verdicts.specs.RunVerdicts.{AllEnd, HasPages, IsRunVerdict, Stopped}
 use Rattle.run_verdicts.specs.Stops.{RefusesRun, status_of_stop}
-use Rattle.trap_report.specs.declared.refusal.Refusal.TheVariants.{Job, Plate, Read, Write, Memory}
+use Rattle.trap_report.specs.declared.refusal.Refusal.TheVariants.{Plate, Read, Write, Memory}
 use Rattle.trap_report.specs.Statuses.{done as is_done, usage, job_refused, page_refused}
 use Rattle.trap_report.specs.Telling.{KeepsFiles, TellsText}
 use Rattle.verdicts.specs.Verdicts.{Targets, outcome, written_names}

@@ -1,27 +1,18 @@
 -- What it means to trap one page of a run, and to put it out.
-use Rattle.std.specs.Prelude.{◌≡◌, ◌⊎◌, ℕ, ◌+◌, IsTrue, List, [], length, take, Option, Some, Result, Ok, Err}
-use Rattle.outside.specs.Causes.{Rose, Asks, AsksFront}
+use Rattle.std.specs.Prelude.{◌≡◌, ℕ, IsTrue, List, length, Option, Result, Ok, Err}
+use Rattle.outside.specs.Causes.{Asks, AsksFront}
 use Rattle.outside.specs.Tray.{TrayState, KeepsTray}
 use Rattle.outside.specs.Rack.{RackState, KeepsRack}
-use Rattle.page_gather.specs.Inputs.{Sources, Holds, AreRead, Makes, name_at}
-use Rattle.page_gather.specs.Steps.{PassesNoFault}
-use Rattle.job_reader.specs.declared.job.Job.{Job as JobRead}
+use Rattle.page_gather.specs.Inputs.{Sources}
 use Rattle.page_model.specs.declared.parts.PageParts.{PageParts}
 use Rattle.page_model.specs.Conditions.{IsPage}
-use Rattle.page_model.specs.Page.{plates}
 use Rattle.page_writing.specs.Writing.{WritesAll, Breaks}
-use Rattle.pgm_plates.specs.declared.plate.Plate.{Plate as PlateRead}
 use Rattle.run_reading.specs.Gathering.{IsJobOf, IsPageMade, StopsPage}
 use Rattle.run_verdicts.specs.declared.stop.RunStop.{RunStop}
-use Rattle.run_verdicts.specs.declared.stop.RunStop.TheVariants.{Whole, AtPage, Ends}
-use Rattle.run_verdicts.specs.Images.{page_spelling}
+use Rattle.run_verdicts.specs.declared.stop.RunStop.TheVariants.{Whole, AtPage}
 use Rattle.run_verdicts.specs.Pages.{target_at}
-use Rattle.run_verdicts.specs.RunVerdicts.{PlateEnds}
-use Rattle.trap_report.specs.declared.refusal.Refusal.{Refusal}
-use Rattle.trap_report.specs.declared.refusal.Refusal.TheVariants.{Usage, Job, NoDetails, Plate, Page, Read, Write, Memory}
-use Rattle.trap_report.specs.Refusals.{status_of}
-use Rattle.trap_report.specs.Statuses.{job_refused, page_refused}
-use Rattle.verdicts.specs.Verdicts.{Targets, IsVerdict, Refused, outcome, written_names}
+use Rattle.trap_report.specs.declared.refusal.Refusal.TheVariants.{Write, Memory}
+use Rattle.verdicts.specs.Verdicts.{Targets, outcome, written_names}
 
 -- what the answer says where page k is put out
 pub data AnswersPutPage (target : Targets) (k : ℕ) (page : PageParts) (before after : RackState) (result : Result (Unit {0}) RunStop) : Type 0 where

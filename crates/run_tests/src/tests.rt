@@ -44,13 +44,12 @@ const WRITTEN: &[&str] = &[
     "out0.3", "out1.3", "report.3",
 ];
 
-// A run of the program over files in memory: its words, the pieces of its job, those of each plate's file, and a call of the
-// tray or of the rack that fails.
+// A run of the program over files in memory: its words, the pieces of each file of READ, and a call of the tray or of the rack
+// that fails.
 #[derive(Clone, Copy)]
 struct Case<'a> {
     words: &'a str,
-    job: &'a [&'a [u8]],
-    plates: &'a [&'a [&'a [u8]]],
+    files: &'a [&'a [&'a [u8]]],
     tray_fails: Option<u64>,
     rack_fails: Option<u64>,
 }
@@ -63,14 +62,26 @@ struct Wanted<'a> {
     files: &'a [&'a [u8]],
 }
 
+// A run over these files by the usual words, in which no call fails.
+fn case_of<'a>(files: &'a [&'a [&'a [u8]]]) -> Case<'a> {
+    Case {
+        words: TWO_PLATES,
+        files,
+        tray_fails: None,
+        rack_fails: None,
+    }
+}
+
+fn put_word(alloc: Global, words: &mut Vec<String>, word: &str) -> Result<(), AllocError> {
+    words.push(String::from_str(alloc, word)?)?;
+    Ok(())
+}
+
 // Words with single spaces between them; no words where the text is empty.
 fn words_of(alloc: Global, text: &str) -> Result<Vec<String>, AllocError> {
     let mut words = Vec::new(alloc);
-    if text.is_empty() {
-        return Ok(words);
-    }
-    for word in text.split(' ') {
-        words.push(String::from_str(alloc, word)?)?;
+    for word in text.split_terminator(' ') {
+        put_word(alloc, &mut words, word)?;
     }
     Ok(words)
 }
@@ -84,16 +95,9 @@ fn calls(alloc: Global, call: Option<u64>) -> Result<CallList, AllocError> {
     Ok(List::from_vec(numbers))
 }
 
-// The pieces one behind the other.
-fn joined(alloc: Global, pieces: &[&[u8]]) -> Result<Vec<u8>, AllocError> {
-    let mut bytes = Vec::new(alloc);
-    for piece in pieces {
-        bytes.extend_from_slice(piece)?;
-    }
-    Ok(bytes)
-}
-
-fn file_of(alloc: Global, name: &str, bytes: Vec<u8>) -> Result<MemFile, AllocError> {
+// The file of that name, of these pieces one behind the other.
+fn file_of(alloc: Global, name: &str, pieces: &[&[u8]]) -> Result<MemFile, AllocError> {
+    let bytes = pieces.concat(alloc)?;
     Ok(MemFile {
         name: List::from_vec(name.as_bytes().to_vec(alloc)?),
         bytes: List::from_vec(bytes),
@@ -101,12 +105,21 @@ fn file_of(alloc: Global, name: &str, bytes: Vec<u8>) -> Result<MemFile, AllocEr
     })
 }
 
+fn put_file(
+    alloc: Global,
+    files: &mut Vec<MemFile>,
+    name: &str,
+    pieces: &[&[u8]],
+) -> Result<(), AllocError> {
+    files.push(file_of(alloc, name, pieces)?)?;
+    Ok(())
+}
+
 // The job and the plates, by the names of READ.
-fn files_of(alloc: Global, case: Case<'_>) -> Result<FileList, AllocError> {
+fn files_of(alloc: Global, found: &[&[&[u8]]]) -> Result<FileList, AllocError> {
     let mut files = Vec::new(alloc);
-    files.push(file_of(alloc, "job", joined(alloc, case.job)?)?)?;
-    for (name, pieces) in READ.iter().skip(1).zip(case.plates.iter()) {
-        files.push(file_of(alloc, name, joined(alloc, pieces)?)?)?;
+    for (name, pieces) in READ.iter().zip(found.iter()) {
+        put_file(alloc, &mut files, name, pieces)?;
     }
     Ok(List::from_vec(files))
 }
@@ -145,7 +158,7 @@ fn run(
 ) -> Result<(u8, MemRack), AllocError> {
     let words = words_of(alloc, case.words)?;
     let rack = rack_of(alloc, case.rack_fails)?;
-    let files = files_of(alloc, case)?;
+    let files = files_of(alloc, case.files)?;
     let tray = tray_of(rt, alloc, files, case.tray_fails)?;
     Ok(ended(rt, alloc, &words, tray, rack))
 }
@@ -160,8 +173,17 @@ fn holds(rack: &MemRack, files: &[&[u8]]) -> bool {
     true
 }
 
+fn tells(rack: &MemRack, told: &str) -> bool {
+    rack.told() == told.as_bytes()
+}
+
+fn is_left_so(rack: &MemRack, wanted: Wanted<'_>) -> bool {
+    tells(rack, wanted.told) && holds(rack, wanted.files)
+}
+
 fn is_so(status: u8, rack: MemRack, wanted: Wanted<'_>) -> bool {
-    status == wanted.status && rack.told() == wanted.told.as_bytes() && holds(&rack, wanted.files)
+    let is_left = is_left_so(&rack, wanted);
+    is_left && status == wanted.status
 }
 
 // Whether the run ends so.

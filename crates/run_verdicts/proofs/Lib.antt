@@ -1,3 +1,6 @@
 pub mod FrontLemmas
 pub mod ImageLemmas
 pub mod RunLemmas
+pub mod TrailingLemmas
+pub mod SomeImageLemmas
+pub mod SomeRunLemmas

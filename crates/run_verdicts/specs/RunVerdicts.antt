@@ -11,7 +11,9 @@ use Rattle.run_verdicts.specs.declared.stop.RunStop.TheVariants.{Whole, TooManyP
 use Rattle.run_verdicts.specs.Images.{HasImage, HasImageFault, HasNoImage, page_spelling}
 use Rattle.run_verdicts.specs.Pages.{AreMade, pages_of, run_files, target_at}
 use Rattle.trap_report.specs.declared.refusal.Refusal.TheVariants.{Job, Plate}
-use Rattle.verdicts.specs.Verdicts.{Targets, IsVerdict, Refused as PageRefused}
+use Rattle.trap_report.specs.Statuses.{done}
+use Rattle.run_verdicts.specs.Stops.{status_of_stop}
+use Rattle.verdicts.specs.Verdicts.{Targets, IsFile, IsVerdict, Refused as PageRefused}
 
 -- what is to come
 pub data RunVerdict : Type 0 where
@@ -73,3 +75,12 @@ IsRunVerdict files source target (Out written) = (all : AllMade files source) ×
 -- No two verdicts stand on the same files.
 abbrev pub OneRunVerdict : Type 0
 OneRunVerdict = (files : List ℕ → Option (List ℕ)) (source : Sources) (target : Targets) (one two : RunVerdict) → IsRunVerdict files source target one → IsRunVerdict files source target two → one ≡ two
+
+-- Where the job and all plates are among the files, a verdict stands.
+abbrev pub SomeRunVerdict : Type 0
+SomeRunVerdict = (files : List ℕ → Option (List ℕ)) (source : Sources) (target : Targets) → IsFile files source.job → ((k : ℕ) → k < length source.inputs → IsFile files (name_at source.inputs k)) → (verdict : RunVerdict) × IsRunVerdict files source target verdict
+
+-- the status that a verdict asks for
+abbrev pub status_of_verdict : RunVerdict → ℕ
+status_of_verdict (Stopped stop) = status_of_stop stop
+status_of_verdict (Out written) = done

@@ -1,6 +1,7 @@
 mod failing;
 mod lines;
 mod plates;
+mod rows;
 mod words;
 mod worked;
 

@@ -1,4 +1,6 @@
-use super::{AS_IT_WAS, CYAN, Case, DISABLED, MAGENTA, SHOW, TWO_PLATES, WRITTEN, holds, run};
+use super::{
+    AS_IT_WAS, CYAN, Case, DISABLED, MAGENTA, SHOW, TWO_PLATES, WRITTEN, holds, run, tells,
+};
 use outside::mem_rack::MemRack;
 use std::alloc::{AllocError, Global};
 use std::process::Abort;
@@ -29,13 +31,15 @@ const WRITES: &[(&str, usize)] = &[
 
 const FILES: &[&[u8]] = &[CYAN, MAGENTA, AS_IT_WAS, CYAN, MAGENTA, AS_IT_WAS];
 
-const USUAL: Case<'static> = Case {
-    words: TWO_PLATES,
-    job: &[DISABLED, SHOW],
-    plates: &[&[CYAN, CYAN], &[MAGENTA, MAGENTA]],
-    tray_fails: None,
-    rack_fails: None,
-};
+// A run of two pages, and the call of the tray or of the rack that fails.
+fn case_of(tray_fails: Option<u64>, rack_fails: Option<u64>) -> Case<'static> {
+    Case {
+        words: TWO_PLATES,
+        files: &[&[DISABLED, SHOW], &[CYAN, CYAN], &[MAGENTA, MAGENTA]],
+        tray_fails,
+        rack_fails,
+    }
+}
 
 fn whole(count: usize) -> &'static [&'static [u8]] {
     FILES.get(..count).unwrap_or(FILES)
@@ -46,14 +50,19 @@ fn stop_of(stops: &[(&str, usize)], told: &[u8]) -> Option<usize> {
     stops.iter().position(|stop| stop.0.as_bytes() == told)
 }
 
+// Whether the run is done and tells nothing.
+fn is_done(status: u8, rack: &MemRack) -> bool {
+    status == 0 && tells(rack, "") && holds(rack, FILES)
+}
+
 // The number of the stop that a run came to where a read failed, as many as there are where it was done, and none where it
 // ended in another way.
-fn read_stop(status: u8, rack: MemRack) -> Option<usize> {
-    if status == 0 && rack.told().is_empty() && holds(&rack, FILES) {
+fn read_stop(status: u8, rack: &MemRack) -> Option<usize> {
+    if is_done(status, rack) {
         return Some(READS.len());
     }
     let stop = stop_of(READS, rack.told())?;
-    if status == 5 && holds(&rack, whole(READS.get(stop)?.1)) {
+    if status == 5 && holds(rack, whole(READS.get(stop)?.1)) {
         Some(stop)
     } else {
         None
@@ -77,16 +86,24 @@ fn holds_front(rack: &MemRack, count: usize) -> bool {
 }
 
 // The number of the stop that a run came to where a write failed, as `read_stop` gives it.
-fn write_stop(status: u8, rack: MemRack) -> Option<usize> {
-    if status == 0 && rack.told().is_empty() && holds(&rack, FILES) {
+fn write_stop(status: u8, rack: &MemRack) -> Option<usize> {
+    if is_done(status, rack) {
         return Some(WRITES.len());
     }
     let stop = stop_of(WRITES, rack.told())?;
-    if status == 6 && holds_front(&rack, WRITES.get(stop)?.1) {
+    if status == 6 && holds_front(rack, WRITES.get(stop)?.1) {
         Some(stop)
     } else {
         None
     }
+}
+
+fn read_stopped(status: u8, rack: MemRack) -> Option<usize> {
+    read_stop(status, &rack)
+}
+
+fn write_stopped(status: u8, rack: MemRack) -> Option<usize> {
+    write_stop(status, &rack)
 }
 
 fn stop_at_read(
@@ -94,12 +111,8 @@ fn stop_at_read(
     alloc: Global,
     call: u64,
 ) -> Result<Option<usize>, AllocError> {
-    let case = Case {
-        tray_fails: Some(call),
-        ..USUAL
-    };
-    let (status, rack) = run(rt, alloc, case)?;
-    Ok(read_stop(status, rack))
+    let (status, rack) = run(rt, alloc, case_of(Some(call), None))?;
+    Ok(read_stopped(status, rack))
 }
 
 fn stop_at_write(
@@ -107,12 +120,8 @@ fn stop_at_write(
     alloc: Global,
     call: u64,
 ) -> Result<Option<usize>, AllocError> {
-    let case = Case {
-        rack_fails: Some(call),
-        ..USUAL
-    };
-    let (status, rack) = run(rt, alloc, case)?;
-    Ok(write_stop(status, rack))
+    let (status, rack) = run(rt, alloc, case_of(None, Some(call)))?;
+    Ok(write_stopped(status, rack))
 }
 
 // A later call that fails stops the run at the same file or at the next one, and the last ones leave it done.

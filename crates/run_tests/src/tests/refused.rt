@@ -1,260 +1,172 @@
-use super::{AS_IT_WAS, CYAN, Case, DISABLED, INKS, MAGENTA, SHOW, TWO_PLATES, Wanted, ends};
+use super::{AS_IT_WAS, CYAN, DISABLED, INKS, MAGENTA, SHOW, Wanted, case_of, ends};
+use std::alloc::{AllocError, Global};
+use std::process::Abort;
 use std::test::Fail;
+use std::thread::Threads;
 
-// A run that is refused: its job, the images of both plates, how it ends, and how many pages were written whole before.
-#[derive(Clone, Copy)]
-struct Refused {
-    job: &'static [&'static [u8]],
-    cyan: &'static [&'static [u8]],
-    magenta: &'static [&'static [u8]],
-    status: u8,
-    told: &'static str,
-    pages: usize,
-}
+type Pieces = &'static [&'static [u8]];
 
-const RUNS: &[Refused] = &[
-    Refused {
-        job: &[b"5 showpage", SHOW],
-        cyan: &[CYAN, CYAN, CYAN],
-        magenta: &[MAGENTA, MAGENTA, MAGENTA],
-        status: 3,
-        told: "page 0: job: WrongOperands at 2\n",
-        pages: 0,
-    },
-    Refused {
-        job: &[DISABLED, SHOW, b" 5 showpage"],
-        cyan: &[CYAN, CYAN, CYAN],
-        magenta: &[MAGENTA, MAGENTA, MAGENTA],
-        status: 3,
-        told: "page 2: job: WrongOperands at 55\n",
-        pages: 2,
-    },
-    Refused {
-        job: &[
+// Three images of each plate.
+const ALL_CYAN: Pieces = &[CYAN, CYAN, CYAN];
+
+const ALL_MAGENTA: Pieces = &[MAGENTA, MAGENTA, MAGENTA];
+
+// A job of three pages.
+const THREE: Pieces = &[DISABLED, SHOW, SHOW];
+
+// Jobs that are refused over these images, what is told, and how many pages were written whole before.
+const JOBS: &[(Pieces, &str, usize)] = &[
+    (
+        &[b"5 showpage", SHOW],
+        "page 0: job: WrongOperands at 2\n",
+        0,
+    ),
+    (
+        &[DISABLED, SHOW, b" 5 showpage"],
+        "page 2: job: WrongOperands at 55\n",
+        2,
+    ),
+    (
+        &[
             DISABLED,
             SHOW,
             b" << /TrapWidth 0 >> settrapparams showpage",
         ],
-        cyan: &[CYAN, CYAN, CYAN],
-        magenta: &[MAGENTA, MAGENTA, MAGENTA],
-        status: 3,
-        told: "page 2: job: OutOfRange TrapWidth at 67\n",
-        pages: 2,
-    },
-    Refused {
-        job: &[DISABLED, b" 0 0 moveto showpage 5 0 rlineto showpage"],
-        cyan: &[CYAN, CYAN, CYAN],
-        magenta: &[MAGENTA, MAGENTA, MAGENTA],
-        status: 3,
-        told: "page 2: job: NoCurrentPoint at 68\n",
-        pages: 2,
-    },
-    Refused {
-        job: &[
+        "page 2: job: OutOfRange TrapWidth at 67\n",
+        2,
+    ),
+    (
+        &[DISABLED, b" 0 0 moveto showpage 5 0 rlineto showpage"],
+        "page 2: job: NoCurrentPoint at 68\n",
+        2,
+    ),
+    (
+        &[
             DISABLED,
             b" 0 0 moveto showpage settrapzone showpage 5 showpage",
         ],
-        cyan: &[CYAN, CYAN, CYAN],
-        magenta: &[MAGENTA, MAGENTA, MAGENTA],
-        status: 3,
-        told: "page 2: job: NoPageDevice at 76\n",
-        pages: 2,
-    },
-    Refused {
-        job: &[DISABLED, b" << /Enabled true >> settrapparams showpage"],
-        cyan: &[CYAN, CYAN, CYAN],
-        magenta: &[MAGENTA, MAGENTA, MAGENTA],
-        status: 3,
-        told: "page 1: job: NoPageDevice at 78\n",
-        pages: 1,
-    },
-    Refused {
-        job: &[
+        "page 2: job: NoPageDevice at 76\n",
+        2,
+    ),
+    (
+        &[DISABLED, b" << /Enabled true >> settrapparams showpage"],
+        "page 1: job: NoPageDevice at 78\n",
+        1,
+    ),
+    (
+        &[
             DISABLED,
             b" << /TrappingDetails << /Type 1001 /ColorantDetails << /Cyan << /NeutralDensity 1 >> >> >> /HWResolution [72 72] >> setpagedevice << /Enabled true >> settrapparams showpage",
         ],
-        cyan: &[CYAN, CYAN, CYAN],
-        magenta: &[MAGENTA, MAGENTA, MAGENTA],
-        status: 3,
-        told: "page 1: job: NoDetails for plate 1\n",
-        pages: 1,
-    },
-    Refused {
-        job: &[DISABLED, SHOW, SHOW],
-        cyan: &[b"P6\n6 1\n255\n......", CYAN, CYAN],
-        magenta: &[MAGENTA, MAGENTA, MAGENTA],
-        status: 4,
-        told: "page 0: plate 0: BadMagic at 1\n",
-        pages: 0,
-    },
-    Refused {
-        job: &[DISABLED, SHOW, SHOW],
-        cyan: &[CYAN, CYAN, CYAN],
-        magenta: &[b"P5\n6 1\n255\n..."],
-        status: 4,
-        told: "page 0: plate 1: Truncated at 14\n",
-        pages: 0,
-    },
-    Refused {
-        job: &[DISABLED, SHOW, SHOW],
-        cyan: &[CYAN, b"P6\n6 1\n255\n......", CYAN],
-        magenta: &[MAGENTA, MAGENTA, MAGENTA],
-        status: 4,
-        told: "page 1: plate 0: BadMagic at 18\n",
-        pages: 1,
-    },
-    Refused {
-        job: &[DISABLED, SHOW, SHOW],
-        cyan: &[CYAN, CYAN, CYAN],
-        magenta: &[MAGENTA, b"P5\n6 1\n255\n..."],
-        status: 4,
-        told: "page 1: plate 1: Truncated at 31\n",
-        pages: 1,
-    },
-    Refused {
-        job: &[DISABLED, SHOW, SHOW],
-        cyan: &[CYAN, CYAN, b"P6\n6 1\n255\n......"],
-        magenta: &[MAGENTA, MAGENTA, MAGENTA],
-        status: 4,
-        told: "page 2: plate 0: BadMagic at 35\n",
-        pages: 2,
-    },
-    Refused {
-        job: &[DISABLED, SHOW, SHOW],
-        cyan: &[CYAN, CYAN, CYAN],
-        magenta: &[MAGENTA, MAGENTA, b"P5\n6 1\n255\n..."],
-        status: 4,
-        told: "page 2: plate 1: Truncated at 48\n",
-        pages: 2,
-    },
-    Refused {
-        job: &[DISABLED, SHOW, SHOW],
-        cyan: &[CYAN, b"P5\n2 1\n255\n..", CYAN],
-        magenta: &[MAGENTA, MAGENTA, MAGENTA],
-        status: 4,
-        told: "page 1: page: SizeDiffers plate 1\n",
-        pages: 1,
-    },
-    Refused {
-        job: &[DISABLED, SHOW, SHOW],
-        cyan: &[CYAN, CYAN, CYAN],
-        magenta: &[MAGENTA, b"P5\n6 1\n254\n......", MAGENTA],
-        status: 4,
-        told: "page 1: page: MaxvalDiffers plate 1\n",
-        pages: 1,
-    },
-    Refused {
-        job: &[DISABLED, SHOW, SHOW],
-        cyan: &[],
-        magenta: &[MAGENTA, MAGENTA, MAGENTA],
-        status: 4,
-        told: "page 0: plate 0: Ends\n",
-        pages: 0,
-    },
-    Refused {
-        job: &[DISABLED, SHOW, SHOW],
-        cyan: &[CYAN, CYAN, CYAN],
-        magenta: &[],
-        status: 4,
-        told: "page 0: plate 1: Ends\n",
-        pages: 0,
-    },
-    Refused {
-        job: &[DISABLED, SHOW, SHOW],
-        cyan: &[CYAN, CYAN],
-        magenta: &[MAGENTA, MAGENTA, MAGENTA],
-        status: 4,
-        told: "page 2: plate 0: Ends\n",
-        pages: 2,
-    },
-    Refused {
-        job: &[DISABLED, SHOW, SHOW],
-        cyan: &[CYAN, CYAN, CYAN],
-        magenta: &[MAGENTA],
-        status: 4,
-        told: "page 1: plate 1: Ends\n",
-        pages: 1,
-    },
-    Refused {
-        job: &[DISABLED, SHOW, SHOW],
-        cyan: &[CYAN, CYAN, CYAN, CYAN],
-        magenta: &[MAGENTA, MAGENTA, MAGENTA],
-        status: 4,
-        told: "run: plate 0: Extra\n",
-        pages: 3,
-    },
-    Refused {
-        job: &[DISABLED, SHOW, SHOW],
-        cyan: &[CYAN, CYAN, CYAN],
-        magenta: &[MAGENTA, MAGENTA, MAGENTA, MAGENTA],
-        status: 4,
-        told: "run: plate 1: Extra\n",
-        pages: 3,
-    },
-    Refused {
-        job: &[DISABLED, SHOW, SHOW],
-        cyan: &[CYAN, CYAN, CYAN, b"P"],
-        magenta: &[MAGENTA, MAGENTA, MAGENTA, MAGENTA],
-        status: 4,
-        told: "plate 0: Truncated at 52\n",
-        pages: 3,
-    },
-    Refused {
-        job: &[DISABLED, SHOW, SHOW],
-        cyan: &[CYAN, CYAN, CYAN],
-        magenta: &[MAGENTA, MAGENTA, MAGENTA, b"\n"],
-        status: 4,
-        told: "plate 1: BadMagic at 51\n",
-        pages: 3,
-    },
-    Refused {
-        job: &[DISABLED, SHOW, SHOW, b" )"],
-        cyan: &[CYAN, CYAN, CYAN],
-        magenta: &[MAGENTA, MAGENTA, MAGENTA],
-        status: 3,
-        told: "job: BadToken at 62\n",
-        pages: 0,
-    },
-    Refused {
-        job: &[b"newpath"],
-        cyan: &[CYAN, CYAN, CYAN],
-        magenta: &[MAGENTA, MAGENTA, MAGENTA],
-        status: 3,
-        told: "job: NoShowpage at 7\n",
-        pages: 0,
-    },
-    Refused {
-        job: &[DISABLED, SHOW, SHOW, b" newpath 5"],
-        cyan: &[CYAN, CYAN, CYAN],
-        magenta: &[MAGENTA, MAGENTA, MAGENTA],
-        status: 3,
-        told: "job: AfterShowpage at 62\n",
-        pages: 0,
-    },
-    Refused {
-        job: &[DISABLED, SHOW, SHOW, b" [ showpage ]"],
-        cyan: &[CYAN, CYAN, CYAN],
-        magenta: &[MAGENTA, MAGENTA, MAGENTA],
-        status: 3,
-        told: "job: NameInside at 64\n",
-        pages: 0,
-    },
-    Refused {
-        job: &[DISABLED, b" 5 showpage"],
-        cyan: &[CYAN],
-        magenta: &[MAGENTA, MAGENTA, MAGENTA],
-        status: 3,
-        told: "page 1: job: WrongOperands at 46\n",
-        pages: 1,
-    },
-    Refused {
-        job: &[DISABLED, SHOW],
-        cyan: &[CYAN],
-        magenta: &[MAGENTA, b"P6"],
-        status: 4,
-        told: "page 1: plate 0: Ends\n",
-        pages: 1,
-    },
+        "page 1: job: NoDetails for plate 1\n",
+        1,
+    ),
+    (&[DISABLED, SHOW, SHOW, b" )"], "job: BadToken at 62\n", 0),
+    (&[b"newpath"], "job: NoShowpage at 7\n", 0),
+    (
+        &[DISABLED, SHOW, SHOW, b" newpath 5"],
+        "job: AfterShowpage at 62\n",
+        0,
+    ),
+    (
+        &[DISABLED, SHOW, SHOW, b" [ showpage ]"],
+        "job: NameInside at 64\n",
+        0,
+    ),
+];
+
+// Plates' files that are refused under the job of three pages, by the images of both.
+const PLATES: &[(Pieces, Pieces, &str, usize)] = &[
+    (
+        &[b"P6\n6 1\n255\n......", CYAN, CYAN],
+        ALL_MAGENTA,
+        "page 0: plate 0: BadMagic at 1\n",
+        0,
+    ),
+    (
+        ALL_CYAN,
+        &[b"P5\n6 1\n255\n..."],
+        "page 0: plate 1: Truncated at 14\n",
+        0,
+    ),
+    (
+        &[CYAN, b"P6\n6 1\n255\n......", CYAN],
+        ALL_MAGENTA,
+        "page 1: plate 0: BadMagic at 18\n",
+        1,
+    ),
+    (
+        ALL_CYAN,
+        &[MAGENTA, b"P5\n6 1\n255\n..."],
+        "page 1: plate 1: Truncated at 31\n",
+        1,
+    ),
+    (
+        &[CYAN, CYAN, b"P6\n6 1\n255\n......"],
+        ALL_MAGENTA,
+        "page 2: plate 0: BadMagic at 35\n",
+        2,
+    ),
+    (
+        ALL_CYAN,
+        &[MAGENTA, MAGENTA, b"P5\n6 1\n255\n..."],
+        "page 2: plate 1: Truncated at 48\n",
+        2,
+    ),
+    (
+        &[CYAN, b"P5\n2 1\n255\n..", CYAN],
+        ALL_MAGENTA,
+        "page 1: page: SizeDiffers plate 1\n",
+        1,
+    ),
+    (
+        ALL_CYAN,
+        &[MAGENTA, b"P5\n6 1\n254\n......", MAGENTA],
+        "page 1: page: MaxvalDiffers plate 1\n",
+        1,
+    ),
+    (&[], ALL_MAGENTA, "page 0: plate 0: Ends\n", 0),
+    (ALL_CYAN, &[], "page 0: plate 1: Ends\n", 0),
+    (&[CYAN, CYAN], ALL_MAGENTA, "page 2: plate 0: Ends\n", 2),
+    (ALL_CYAN, &[MAGENTA], "page 1: plate 1: Ends\n", 1),
+    (
+        &[CYAN, CYAN, CYAN, CYAN],
+        ALL_MAGENTA,
+        "run: plate 0: Extra\n",
+        3,
+    ),
+    (
+        ALL_CYAN,
+        &[MAGENTA, MAGENTA, MAGENTA, MAGENTA],
+        "run: plate 1: Extra\n",
+        3,
+    ),
+    (
+        &[CYAN, CYAN, CYAN, b"P"],
+        &[MAGENTA, MAGENTA, MAGENTA, MAGENTA],
+        "plate 0: Truncated at 52\n",
+        3,
+    ),
+    (
+        ALL_CYAN,
+        &[MAGENTA, MAGENTA, MAGENTA, b"\n"],
+        "plate 1: BadMagic at 51\n",
+        3,
+    ),
+];
+
+// Runs with two faults, and the one that comes first: a page's job before its images, and a plate before the next one.
+const TWO_FAULTS: &[(&[Pieces], u8, &str)] = &[
+    (
+        &[&[DISABLED, b" 5 showpage"], &[CYAN], ALL_MAGENTA],
+        3,
+        "page 1: job: WrongOperands at 46\n",
+    ),
+    (
+        &[&[DISABLED, SHOW], &[CYAN], &[MAGENTA, b"P6"]],
+        4,
+        "page 1: plate 0: Ends\n",
+    ),
 ];
 
 // The files of three pages on which no zone is enabled.
@@ -262,22 +174,57 @@ const FILES: &[&[u8]] = &[
     CYAN, MAGENTA, AS_IT_WAS, CYAN, MAGENTA, AS_IT_WAS, CYAN, MAGENTA, AS_IT_WAS,
 ];
 
+// Those of the first so many pages.
+fn whole(pages: usize) -> &'static [&'static [u8]] {
+    FILES.get(..pages.saturating_mul(3)).unwrap_or(FILES)
+}
+
+// Whether the run is refused so, and the pages before are whole.
+fn is_refused(
+    rt: &(impl Abort + Threads + Sync),
+    alloc: Global,
+    files: &[&[&[u8]]],
+    (status, told, pages): (u8, &str, usize),
+) -> Result<bool, AllocError> {
+    let wanted = Wanted {
+        status,
+        told,
+        files: whole(pages),
+    };
+    ends(rt, alloc, case_of(files), wanted)
+}
+
 #[test]
-fn a_refusal_leaves_the_pages_before_it_whole(rt: HostRuntime) -> Result<(), Fail> {
-    for (row, refused) in RUNS.iter().enumerate() {
-        let case = Case {
-            words: TWO_PLATES,
-            job: refused.job,
-            plates: &[refused.cyan, refused.magenta],
-            tray_fails: None,
-            rack_fails: None,
-        };
-        let wanted = Wanted {
-            status: refused.status,
-            told: refused.told,
-            files: FILES.get(..refused.pages.saturating_mul(3)).unwrap_or(&[]),
-        };
-        assert!(rt; ends(&rt, rt.alloc(), case, wanted)?, "run {row}");
+fn a_job_that_is_refused_leaves_the_pages_before_whole(rt: HostRuntime) -> Result<(), Fail> {
+    for (job, told, pages) in JOBS {
+        let files = [*job, ALL_CYAN, ALL_MAGENTA];
+        assert!(rt;
+            is_refused(&rt, rt.alloc(), &files, (3, told, *pages))?,
+            "{told}"
+        );
+    }
+    Ok(())
+}
+
+#[test]
+fn a_plate_that_is_refused_leaves_the_pages_before_whole(rt: HostRuntime) -> Result<(), Fail> {
+    for (cyan, magenta, told, pages) in PLATES {
+        let files = [THREE, *cyan, *magenta];
+        assert!(rt;
+            is_refused(&rt, rt.alloc(), &files, (4, told, *pages))?,
+            "{told}"
+        );
+    }
+    Ok(())
+}
+
+#[test]
+fn the_first_of_two_faults_is_told(rt: HostRuntime) -> Result<(), Fail> {
+    for (files, status, told) in TWO_FAULTS {
+        assert!(rt;
+            is_refused(&rt, rt.alloc(), files, (*status, told, 1))?,
+            "{told}"
+        );
     }
     Ok(())
 }

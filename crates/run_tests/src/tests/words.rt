@@ -1,5 +1,8 @@
 use super::{AS_IT_WAS, CYAN, Case, DISABLED, MAGENTA, Wanted, ends};
+use std::alloc::{AllocError, Global};
+use std::process::Abort;
 use std::test::Fail;
+use std::thread::Threads;
 
 const USAGE: &str = "usage: traprun WORKERS BAND JOB REPORT NAME:IN:OUT ...\n";
 
@@ -45,14 +48,20 @@ const MISSING: &[(&str, &str)] = &[
     ),
 ];
 
-fn case_of(words: &str) -> Case<'_> {
-    Case {
+// Whether a run of one page by these words ends so.
+fn end_so(
+    rt: &(impl Abort + Threads + Sync),
+    alloc: Global,
+    words: &str,
+    wanted: Wanted<'_>,
+) -> Result<bool, AllocError> {
+    let case = Case {
         words,
-        job: &[DISABLED],
-        plates: &[&[CYAN], &[MAGENTA]],
+        files: &[&[DISABLED], &[CYAN], &[MAGENTA]],
         tray_fails: None,
         rack_fails: None,
-    }
+    };
+    ends(rt, alloc, case, wanted)
 }
 
 fn refused(status: u8, told: &str) -> Wanted<'_> {
@@ -67,7 +76,7 @@ fn refused(status: u8, told: &str) -> Wanted<'_> {
 fn words_that_mean_no_run_are_refused(rt: HostRuntime) -> Result<(), Fail> {
     for words in WRONG {
         assert!(rt;
-            ends(&rt, rt.alloc(), case_of(words), refused(2, USAGE))?,
+            end_so(&rt, rt.alloc(), words, refused(2, USAGE))?,
             "{words}"
         );
     }
@@ -75,20 +84,25 @@ fn words_that_mean_no_run_are_refused(rt: HostRuntime) -> Result<(), Fail> {
 }
 
 #[test]
-fn other_words_mean_one(rt: HostRuntime) -> Result<(), Fail> {
+fn a_file_that_is_not_there_is_a_read_fault(rt: HostRuntime) -> Result<(), Fail> {
+    for (words, line) in MISSING {
+        assert!(rt;
+            end_so(&rt, rt.alloc(), words, refused(5, line))?,
+            "{words}"
+        );
+    }
+    Ok(())
+}
+
+#[test]
+fn other_words_mean_a_run(rt: HostRuntime) -> Result<(), Fail> {
     let wanted = Wanted {
         status: 0,
         told: "",
         files: &[CYAN, MAGENTA, AS_IT_WAS],
     };
     for words in RIGHT {
-        assert!(rt; ends(&rt, rt.alloc(), case_of(words), wanted)?, "{words}");
-    }
-    for (words, line) in MISSING {
-        assert!(rt;
-            ends(&rt, rt.alloc(), case_of(words), refused(5, line))?,
-            "{words}"
-        );
+        assert!(rt; end_so(&rt, rt.alloc(), words, wanted)?, "{words}");
     }
     Ok(())
 }

@@ -1,14 +1,8 @@
-use super::{AS_IT_WAS, CYAN, Case, DISABLED, INKS, MAGENTA, SHOW, TWO_PLATES, Wanted, ends};
+use super::{AS_IT_WAS, CYAN, DISABLED, INKS, MAGENTA, SHOW, Wanted, case_of, ends};
 use std::test::Fail;
 
-// A run over these pages: its job, the images of both plates, and how it ends.
-#[derive(Clone, Copy)]
-struct Worked {
-    job: &'static [&'static [u8]],
-    cyan: &'static [&'static [u8]],
-    magenta: &'static [&'static [u8]],
-    wanted: Wanted<'static>,
-}
+// The pieces of a run's job, and those of both plates' files.
+type Files = &'static [&'static [&'static [u8]]];
 
 const WIDE: &[u8] = b"<< /TrapWidth 2 >> settrapparams showpage";
 
@@ -41,59 +35,75 @@ const COARSE: &[u8] =
 const OTHER_INKS: &[u8] =
     b" << /TrappingDetails << /Type 1001 /ColorantDetails << /Cyan << /NeutralDensity 0.76 >> /Magenta << /NeutralDensity 0.61 >> >> >> >> setpagedevice << /StepLimit 0.5 /TrapWidth 4 >> settrapparams showpage";
 
-const RUNS: &[Worked] = &[
+// A step of half an ink, which is no edge where the limit of that ink is above it.
+const PALE_CYAN: &[u8] = b"P5\n6 1\n255\n\x7F\x7F\x7F\xFF\xFF\xFF";
+
+const SPREAD_PALE_CYAN: &[u8] = b"P5\n6 1\n255\n\x7F\x7F\x7F\x7F\x7F\xFF";
+
+const CYAN_LIMIT: &[u8] =
+    b" << /ColorantZoneDetails << /Cyan << /StepLimit 0.6 >> >> >> settrapparams showpage";
+
+const MAGENTA_LIMIT: &[u8] =
+    b" << /ColorantZoneDetails << /Magenta << /StepLimit 0.6 >> >> >> settrapparams showpage";
+
+const NO_EDGE: &[u8] = AS_IT_WAS;
+
+// Runs over these files, and how they end.
+const RUNS: &[(Files, Wanted<'static>)] = &[
     // the parameters of a page go on to the next one
-    Worked {
-        job: &[INKS, WIDE, DARKER_SIDE],
-        cyan: &[CYAN, CYAN],
-        magenta: &[MAGENTA, MAGENTA],
-        wanted: Wanted {
+    (
+        &[
+            &[INKS, WIDE, DARKER_SIDE],
+            &[CYAN, CYAN],
+            &[MAGENTA, MAGENTA],
+        ],
+        Wanted {
             status: 0,
             told: "",
             files: &[SLID_CYAN, SLID_MAGENTA, SLID, SPREAD_CYAN, MAGENTA, SPREAD],
         },
-    },
-    Worked {
-        job: &[INKS, WIDE, DARKER_SIDE],
-        cyan: &[CYAN],
-        magenta: &[MAGENTA, MAGENTA],
-        wanted: Wanted {
+    ),
+    (
+        &[&[INKS, WIDE, DARKER_SIDE], &[CYAN], &[MAGENTA, MAGENTA]],
+        Wanted {
             status: 4,
             told: "page 1: plate 0: Ends\n",
             files: &[SLID_CYAN, SLID_MAGENTA, SLID],
         },
-    },
-    Worked {
-        job: &[DISABLED, b" 5 showpage"],
-        cyan: &[CYAN, CYAN],
-        magenta: &[MAGENTA, MAGENTA],
-        wanted: Wanted {
+    ),
+    (
+        &[
+            &[DISABLED, b" 5 showpage"],
+            &[CYAN, CYAN],
+            &[MAGENTA, MAGENTA],
+        ],
+        Wanted {
             status: 3,
             told: "page 1: job: WrongOperands at 46\n",
             files: &[CYAN, MAGENTA, AS_IT_WAS],
         },
-    },
-    Worked {
-        job: &[DISABLED],
-        cyan: &[CYAN, CYAN],
-        magenta: &[MAGENTA, MAGENTA],
-        wanted: Wanted {
+    ),
+    (
+        &[&[DISABLED], &[CYAN, CYAN], &[MAGENTA, MAGENTA]],
+        Wanted {
             status: 4,
             told: "run: plate 0: Extra\n",
             files: &[CYAN, MAGENTA, AS_IT_WAS],
         },
-    },
+    ),
     // a page without an enabled zone between two others
-    Worked {
-        job: &[
-            INKS,
-            WIDE,
-            b" << /Enabled false >> settrapparams showpage << /Enabled true >> settrapparams",
-            SHOW,
+    (
+        &[
+            &[
+                INKS,
+                WIDE,
+                b" << /Enabled false >> settrapparams showpage << /Enabled true >> settrapparams",
+                SHOW,
+            ],
+            &[CYAN, CYAN, CYAN],
+            &[MAGENTA, MAGENTA, MAGENTA],
         ],
-        cyan: &[CYAN, CYAN, CYAN],
-        magenta: &[MAGENTA, MAGENTA, MAGENTA],
-        wanted: Wanted {
+        Wanted {
             status: 0,
             told: "",
             files: &[
@@ -108,13 +118,15 @@ const RUNS: &[Worked] = &[
                 SLID,
             ],
         },
-    },
+    ),
     // the resolution and the details change
-    Worked {
-        job: &[INKS, WIDE, COARSE, OTHER_INKS],
-        cyan: &[CYAN, CYAN, CYAN],
-        magenta: &[MAGENTA, MAGENTA, MAGENTA],
-        wanted: Wanted {
+    (
+        &[
+            &[INKS, WIDE, COARSE, OTHER_INKS],
+            &[CYAN, CYAN, CYAN],
+            &[MAGENTA, MAGENTA, MAGENTA],
+        ],
+        Wanted {
             status: 0,
             told: "",
             files: &[
@@ -129,13 +141,41 @@ const RUNS: &[Worked] = &[
                 b"trap report\npage 6 1 255 plates 2\nzone 0 samples 6 changed 2\nedges 1\nplate Cyan changed 0\nplate Magenta changed 2\nend\n",
             ],
         },
-    },
+    ),
+    // step limits of its own for one ink, which stay in force, and then for the other alone
+    (
+        &[
+            &[INKS, WIDE, CYAN_LIMIT, SHOW, MAGENTA_LIMIT],
+            &[PALE_CYAN, PALE_CYAN, PALE_CYAN, PALE_CYAN],
+            &[MAGENTA, MAGENTA, MAGENTA, MAGENTA],
+        ],
+        Wanted {
+            status: 0,
+            told: "",
+            files: &[
+                SPREAD_PALE_CYAN,
+                MAGENTA,
+                SPREAD,
+                PALE_CYAN,
+                MAGENTA,
+                NO_EDGE,
+                PALE_CYAN,
+                MAGENTA,
+                NO_EDGE,
+                SPREAD_PALE_CYAN,
+                MAGENTA,
+                SPREAD,
+            ],
+        },
+    ),
     // the zones of a page do not go on
-    Worked {
-        job: &[INKS, ZONE, SHOW, TWO_ZONES],
-        cyan: &[CYAN, CYAN, CYAN],
-        magenta: &[MAGENTA, MAGENTA, MAGENTA],
-        wanted: Wanted {
+    (
+        &[
+            &[INKS, ZONE, SHOW, TWO_ZONES],
+            &[CYAN, CYAN, CYAN],
+            &[MAGENTA, MAGENTA, MAGENTA],
+        ],
+        Wanted {
             status: 0,
             told: "",
             files: &[
@@ -150,13 +190,15 @@ const RUNS: &[Worked] = &[
                 b"trap report\npage 6 1 255 plates 2\nzone 0 samples 0 changed 0\nzone 1 samples 2 changed 0\nzone 2 samples 4 changed 2\nedges 1\nplate Cyan changed 1\nplate Magenta changed 1\nend\n",
             ],
         },
-    },
+    ),
     // pages of other sides and another maxval
-    Worked {
-        job: &[INKS, WIDE, SHOW],
-        cyan: &[CYAN, b"P5\n2 1\n100\nKd"],
-        magenta: &[MAGENTA, b"P5\n2 1\n100\ndK"],
-        wanted: Wanted {
+    (
+        &[
+            &[INKS, WIDE, SHOW],
+            &[CYAN, b"P5\n2 1\n100\nKd"],
+            &[MAGENTA, b"P5\n2 1\n100\ndK"],
+        ],
+        Wanted {
             status: 0,
             told: "",
             files: &[
@@ -168,20 +210,16 @@ const RUNS: &[Worked] = &[
                 b"trap report\npage 2 1 100 plates 2\nzone 0 samples 2 changed 2\nedges 1\nplate Cyan changed 1\nplate Magenta changed 1\nend\n",
             ],
         },
-    },
+    ),
 ];
 
 #[test]
 fn each_page_is_that_of_its_own_job_and_images(rt: HostRuntime) -> Result<(), Fail> {
-    for (row, worked) in RUNS.iter().enumerate() {
-        let case = Case {
-            words: TWO_PLATES,
-            job: worked.job,
-            plates: &[worked.cyan, worked.magenta],
-            tray_fails: None,
-            rack_fails: None,
-        };
-        assert!(rt; ends(&rt, rt.alloc(), case, worked.wanted)?, "run {row}");
+    for (row, (files, wanted)) in RUNS.iter().enumerate() {
+        assert!(rt;
+            ends(&rt, rt.alloc(), case_of(files), *wanted)?,
+            "run {row}"
+        );
     }
     Ok(())
 }

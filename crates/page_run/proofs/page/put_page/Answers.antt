@@ -1,4 +1,4 @@
-use Rattle.std.proofs.Common.{ℕ, List, Global, Result, length, map, string_bytes, ap, sym, ◌∙◌, subst}
+use Rattle.std.proofs.Common.{Global, Result, length, map, string_bytes, ap, sym, ◌∙◌, subst}
 use Rattle.band_claims.specs.Receipt.{Receipt}
 use Rattle.page_output.specs.Output.{PutsOut}
 use Rattle.page_run.proofs.PutLemmas.{as_many_outputs, files_named, not_put, page_not_put, page_put}

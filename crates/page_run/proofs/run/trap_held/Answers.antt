@@ -1,4 +1,4 @@
-use Rattle.std.proofs.Common.{◌≡◌, ◌≤◌, ℕ, List, Bor, length, map, ap, ◌∙◌, subst, arith}
+use Rattle.std.proofs.Common.{◌≡◌, ℕ, List, Bor, map, ap, ◌∙◌, subst, arith}
 use Rattle.page_run.proofs.RunLemmas.{looked_behind, same_count}
 use Rattle.run_reading.specs.Held.{order_in}
 use Rattle.run_reading.specs.Reading.{LooksBehind}

@@ -1,4 +1,4 @@
-use Rattle.std.proofs.Common.{◌≡◌, ℕ, ◌<◌, length, [], refl, arith}
+use Rattle.std.proofs.Common.{◌≡◌, ◌<◌, length, [], refl, arith}
 use Rattle.page_run.proofs.PageLemmas.{no_page_done, pages_more, pages_stopped}
 use Rattle.page_run.proofs.RunLemmas.{same_count}
 use Rattle.run_reading.specs.Held.{order_in}
