@@ -1,13 +1,14 @@
 -- The values of a band's rows, as readers and makers hold them, and as a piece's.
-use Rattle.std.proofs.Common.{◌≡◌, ℕ, ◌-◌, ◌*◌, ◌/◌, ◌%◌, ◌<◌, ◌≤◌, List, length, take, sym, ap, ◌∙◌, subst, inl, inr, arith, div-add-mod', length-take}
+use Rattle.std.proofs.Common.{◌≡◌, ℕ, ◌+◌, ◌-◌, ◌*◌, ◌/◌, ◌%◌, ◌<◌, ◌≤◌, List, length, take, sym, ap, ◌∙◌, subst, inl, inr, arith, div-add-mod', length-take}
 use Rattle.std.specs.Prelude.{slice_index}
 use Rattle.std.proofs.Math.Nat.{mod-lt, mul-le-mul_right}
 use Rattle.std.proofs.lemmas.Bool.{cases_eq}
-use Rattle.std.proofs.lemmas.Nat.{div_below}
+use Rattle.std.proofs.lemmas.Nat.{div-mul-add, div_below, mod-mul-add}
 use Rattle.page_model.specs.declared.parts.PageParts.{PageParts}
 use Rattle.page_model.specs.Bands.{band_of, phase_of, rows_in}
 use Rattle.page_model.specs.Deciding.{mark}
 use Rattle.page_model.specs.Page.{plates, width}
+use Rattle.page_model.specs.Tints.{new}
 use Rattle.row_cells.specs.Layouts.{Layout}
 use Rattle.row_cells.specs.Places.{per_row, value_total}
 use Rattle.band_core.specs.Values.{IsFor, row_value, value}
@@ -80,3 +81,11 @@ made_values key page layout i rows items same e r h =
 -- the layout fits the page
 pub lies_for : (key : Sheet) (page : PageParts) (layout : Layout) → page ≡ key.page.value → layout ≡ key.layout → IsFit key → IsFor page layout
 lies_for key page layout e same fit = subst (λ (p : PageParts). IsFor p layout) (sym e) (subst (λ (z : Layout). IsFor key.page.value z) (sym same) fit)
+
+-- a value of a row's tints is that of its plate and sample
+pub plate_value : (page : PageParts) (w plate x y : ℕ) → w ≡ width page → x < width page → row_value page 3 y (plate * w + x) ≡ new page (record { x = x; y = y }) plate
+unfolding row_value
+plate_value page w plate x y ew l =
+    ap (λ (n : ℕ). row_value page 3 y (plate * n + x)) ew
+    ∙ ap (λ (n : ℕ). new page (record { x = n; y = y }) ((plate * width page + x) / width page)) (mod-mul-add plate (width page) x l)
+    ∙ ap (new page (record { x = x; y = y })) (div-mul-add plate (width page) x l)

@@ -2,9 +2,10 @@
 use Rattle.std.proofs.Common.{◌≡◌, ℕ, ◌+◌, ◌-◌, ◌*◌, ◌/◌, ◌%◌, ◌<◌, ◌≤◌, sym, subst, inl, inr, ne_eqb, arith}
 use Rattle.std.proofs.Math.Nat.{mul-le-mul_right}
 use Rattle.std.proofs.lemmas.Bool.{cases_eq}
+use Rattle.std.proofs.lemmas.Nat.{mul-add-lt}
 use Rattle.page_model.specs.Bands.{band_of_row, piece_of}
 use Rattle.page_model.proofs.BandLemmas.{row_in_band}
-use Rattle.row_cells.specs.Layouts.{Layout}
+use Rattle.row_cells.specs.Layouts.{IsLayout, Layout}
 use Rattle.row_cells.specs.Places.{per_row, value_total}
 use Rattle.band_core.specs.Values.{row_value, value}
 use Rattle.band_core.proofs.Bridges.{rows_of_pieces}
@@ -50,3 +51,17 @@ some_per_row layout phase wide deep = elim (cases_eq phase 2) [
     | inr n3 ↦ rw (ne_eqb phase 2 n2, ne_eqb phase 3 n3) wide
   ]
 ]
+
+-- sample x of a plate has its place in the row
+pub plate_inside : (layout : Layout) (plate x : ℕ) → plate < layout.plates → x < layout.width → plate * layout.width + x < layout.plates * layout.width
+plate_inside layout plate x lp lx = omega (arith, mul-add-lt plate layout.width x layout.plates lp lx)
+
+-- and a plate's values of the row end within those of the piece
+pub plate_ends : (key : Sheet) (layout : Layout) (y plate : ℕ) → Row key layout 3 y → plate < layout.plates
+    → y % layout.bands.height * (layout.plates * layout.width) + plate * layout.width + layout.width ≤ value_total layout (piece_of layout.bands 3 (band_of_row layout.bands y))
+plate_ends key layout y plate r l =
+    let made = subst (λ (z : Layout). IsLayout z) (sym r.same) r.fit.made in
+    let t = row_ends key layout 3 y r (some_per_row layout 3 made.some_width made.some_plates) in
+    let p : (plate + 1) * layout.width ≤ layout.plates * layout.width = mul-le-mul_right layout.width (omega (arith, l)) in
+    let one : (plate + 1) * layout.width ≡ plate * layout.width + layout.width = omega arith in
+    omega (arith, t, p, one)

@@ -2,3 +2,4 @@ pub mod Fills
 pub mod Finished
 pub mod Room
 pub mod Spans
+pub mod Undone

@@ -15,7 +15,7 @@ mod sources;
 mod spans;
 
 pub use alone::finish_alone;
-pub use looks::{read_marks, read_tints, read_zones};
-pub use pages::{fill_table, finish_table};
+pub use looks::{read_marks, read_plate, read_tints, read_zones};
+pub use pages::{all_done, finish_table};
 pub use scratch::Scratch;
 pub use sources::CellSource;

@@ -1,16 +1,36 @@
 // The whole of a page's work at a table.
-ghost use Rattle.std.specs.Prelude.{◌≡◌, ℕ, ◌<◌, ◌≤◌, All, None, length};
+ghost use Rattle.std.specs.Prelude.{◌≡◌, ℕ, ◌<◌, IsTrue, false};
 ghost use Rattle.band_claims.specs.Seating.{Seats};
+ghost use Rattle.band_claims.specs.Views.{Knows, Looks};
 ghost use Rattle.band_pieces.specs.Finished.{IsFinished};
+ghost use Rattle.band_pieces.specs.Undone.{FindsUndone};
 ghost use Rattle.band_workers.specs.Accounts.{IsAccounted};
 ghost use Rattle.page_model.specs.Bands.{pieces_of};
 
 use crate::alone::finish_alone;
 use crate::scratch::Scratch;
 use band_claims::{Closed, Pass, Shared};
-use band_workers::{Gate, work_many};
+use band_graph::needs::pieces;
 use page_model::page::Page;
-use std::thread::Threads;
+
+/// Whether all pieces are done. If so the pass knows each of them afterwards; if not, `looked` ends with one that was found
+/// not done.
+pub fn all_done(shared: &Shared, pass: &mut Pass) -> bool
+    requires pass { Seats shared.now pass.old }
+    ensures pass { Seats shared.now pass.new }
+    ensures looks { Looks pass.old.view pass.new.view }
+    ensures known { IsTrue result → (i : ℕ) → i < pieces_of shared.now.sheet.layout.bands
+        → Knows pass.new.view i }
+    ensures undone { result ≡ false
+        → FindsUndone (pieces_of shared.now.sheet.layout.bands) pass.old.view pass.new.view }
+{
+    for piece in 0..pieces(shared.bands()) {
+        if !shared.is_done(pass, piece) {
+            return false;
+        }
+    }
+    true
+}
 
 /// Closes the table, whose passes have all been joined into this one, and makes alone what the workers left. It takes no
 /// memory and waits for nobody.
@@ -28,28 +48,4 @@ pub fn finish_table(shared: Shared, pass: Pass, page: &Page, scratch: &mut Scrat
     let mut closed = shared.close_all(pass);
     finish_alone(&mut closed, page, scratch);
     closed
-}
-
-/// Makes all pieces of a page: by as many workers as there are scratches, each on a thread of its own, and what they
-/// leave by the caller alone, in one more scratch. It takes no memory, refuses nothing, and waits for its own workers alone.
-pub fn fill_table<R: Threads + Sync, G: Gate + Sync>(
-    rt: &R,
-    shared: Shared,
-    pass: Pass,
-    page: &Page,
-    scratches: &mut [Scratch],
-    spare: &mut Scratch,
-    gate: &G,
-) -> Closed
-    requires page { page.now ≡ shared.sheet.page.value }
-    requires scratches { All (λ scratch. scratch ≡ shared.sheet.layout) scratches.old }
-    requires some { 1 ≤ length scratches.old }
-    requires spare { spare.old ≡ shared.sheet.layout }
-    requires pass { Seats shared pass }
-    requires idle { pass.view.held ≡ None }
-    ensures sheet { result.sheet ≡ shared.sheet }
-    ensures finished { IsFinished page.now result }
-{
-    let pass = work_many(rt, &shared, pass, page, scratches, gate);
-    finish_table(shared, pass, page, spare)
 }

@@ -78,6 +78,39 @@ pub(crate) fn read_rows<S, C: CellSource<S>>(
     }
 }
 
+/// The new tints of one plate in row y, where the piece of its band is known.
+pub(crate) fn read_plate_row<S, C: CellSource<S>>(
+    source: &C,
+    seat: &mut S,
+    layout: &Layout,
+    y: u32,
+    plate: u32,
+    out: &mut [u16],
+)
+    requires layout { layout.now ≡ (C.sheet source.now seat.old).layout }
+    requires fit { IsFit (C.sheet source.now seat.old) }
+    requires row { y < layout.now.bands.rows }
+    requires plate { plate < layout.now.plates }
+    requires known { C.knows source.now seat.old
+        (piece_of layout.now.bands 3 (band_of_row layout.now.bands y)) }
+    requires out { length out.old ≡ layout.now.width }
+    ensures seat { seat.new ≡ seat.old }
+    ensures here { (x : ℕ) → x < layout.now.width → slice_index out.new x
+        ≡ row_value (C.sheet source.now seat.old).page.value 3 y (plate * layout.now.width + x) }
+    ensures len { length out.new ≡ length out.old }
+{
+    let bands = layout.bands();
+    let number = piece(bands, 3, y / bands.height);
+    let wide = layout.row_values(3);
+    let run = Run {
+        piece: number,
+        from: y % bands.height * wide + plate * layout.row_values(0),
+        place: 0,
+        count: out.len(),
+    };
+    read_values(source, seat, layout, run, out);
+}
+
 /// The zones or marks of row k of these rows.
 fn read_byte_row<S, C: CellSource<S>>(
     source: &C,

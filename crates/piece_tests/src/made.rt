@@ -7,8 +7,8 @@ ghost use Rattle.page_model.specs.Reach.{page_reach};
 use crate::expected::is_whole;
 use crate::tables::{bands_of, table, two_tiles};
 use band_claims::Closed;
-use band_pieces::{Scratch, fill_table};
-use band_workers::OpenGate;
+use band_pieces::{Scratch, finish_table};
+use band_workers::{OpenGate, work_many};
 use lists::list::List;
 use page_model::bands::Bands;
 use page_model::page::Page;
@@ -65,15 +65,8 @@ fn made_by<R: Threads + Sync>(
     let mut all = scratches(alloc, page, &bands, workers)?;
     let mut spare = Scratch::new(alloc, page, &bands)?;
     let (shared, pass) = table(alloc, page, &bands)?;
-    Ok(fill_table(
-        rt,
-        shared,
-        pass,
-        page,
-        all.as_mut_slice(),
-        &mut spare,
-        &OpenGate,
-    ))
+    let pass = work_many(rt, &shared, pass, page, all.as_mut_slice(), &OpenGate);
+    Ok(finish_table(shared, pass, page, &mut spare))
 }
 
 /// Whether a closed table of a finished page is that of the two tiles.

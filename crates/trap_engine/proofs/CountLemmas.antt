@@ -17,7 +17,7 @@ use Rattle.lists.specs.Words.{any_below, count_below, list_below}
 use Rattle.lists.proofs.ListBelow.{list_below-from}
 use Rattle.trap_engine.proofs.StandingLemmas.{next_row}
 use Rattle.trap_engine.proofs.ZoneRows.{numbered}
-use Rattle.trap_engine.specs.Standing.{ArePlatesCounted, AreSamplesCounted, AreZonesCounted, KeepsRow}
+use Rattle.trap_engine.specs.Standing.{ArePlatesCounted, AreSamplesCounted, AreZonesCounted, IsPlateRow, IsTintRow, KeepsRow}
 
 pub zone_known : (page : PageParts) (p : At) → IsPage page → zone_of page p < length page.zones
 zone_known page p valid = (zone_of-is page p valid).known
@@ -49,26 +49,26 @@ row_none f y w h = ap (count_below f) (sym (next_row y w)) ∙ count_below-add f
 other : (a z : ℕ) → (z ≡ a → ⊥) → (a == z) ≡ false
 other a z ne = false_from_ne_true (a == z) (λ p. ne (sym (eqb-true _ _ p)))
 
--- one more item is counted at its own number
-tallied : (of : ℕ → ℕ) (test : ℕ → Bool) (counts : List ℕ) (n k a v : ℕ) → a ≡ of k → length counts ≡ n → a < n → test k ≡ true → v ≡ slice_index counts a + 1 → ((z : ℕ) → z < n → slice_index counts z ≡ count_below (λ i. (of i == z) && test i) k) → (z : ℕ) → z < n → slice_index (slice_set counts a v) z ≡ count_below (λ i. (of i == z) && test i) (k + 1)
-tallied of test counts n k a v ea long inside passes ev before z l = rw add-one (elim (cases_eq z a) [
+-- one more item is counted at its own number, beside those that were counted before
+tallied : (of : ℕ → ℕ) (test : ℕ → Bool) (base : ℕ → ℕ) (counts : List ℕ) (n k a v : ℕ) → a ≡ of k → length counts ≡ n → a < n → test k ≡ true → v ≡ slice_index counts a + 1 → ((z : ℕ) → z < n → slice_index counts z + base z ≡ count_below (λ i. (of i == z) && test i) k) → (z : ℕ) → z < n → slice_index (slice_set counts a v) z + base z ≡ count_below (λ i. (of i == z) && test i) (k + 1)
+tallied of test base counts n k a v ea long inside passes ev before z l = rw add-one (elim (cases_eq z a) [
   | inl e ↦ (let same : (of k == z) ≡ true = eq-eqb _ _ (sym ea ∙ sym e) in
       let old = before z l in
       let here : slice_index (slice_set counts a v) z ≡ v = ap (slice_index (slice_set counts a v)) e ∙ get_or-set_same counts a v 0 (omega (arith, inside, long)) in
       let value : v ≡ slice_index counts z + 1 = ev ∙ ap (λ (i : ℕ). slice_index counts i + 1) (sym e) in
       rw (same, passes) (omega (arith, here, value, old)))
-  | inr ne ↦ rw (other (of k) z (λ q. ne (q ∙ sym ea))) (get_or-set_other counts a z v 0 ne ∙ before z l ∙ omega arith)
+  | inr ne ↦ rw (other (of k) z (λ q. ne (q ∙ sym ea))) (omega (arith, get_or-set_other counts a z v 0 ne, before z l))
 ])
 
 -- an item that does not pass is not counted
-passed_over : (of : ℕ → ℕ) (test : ℕ → Bool) (counts : List ℕ) (n k : ℕ) → test k ≡ false → ((z : ℕ) → z < n → slice_index counts z ≡ count_below (λ i. (of i == z) && test i) k) → (z : ℕ) → z < n → slice_index counts z ≡ count_below (λ i. (of i == z) && test i) (k + 1)
-passed_over of test counts n k fails before z l = rw add-one (before z l ∙ skip ((of k == z)) (test k) fails) where
+passed_over : (of : ℕ → ℕ) (test : ℕ → Bool) (base : ℕ → ℕ) (counts : List ℕ) (n k : ℕ) → test k ≡ false → ((z : ℕ) → z < n → slice_index counts z + base z ≡ count_below (λ i. (of i == z) && test i) k) → (z : ℕ) → z < n → slice_index counts z + base z ≡ count_below (λ i. (of i == z) && test i) (k + 1)
+passed_over of test base counts n k fails before z l = rw add-one (before z l ∙ skip ((of k == z)) (test k) fails) where
   skip : (a b : Bool) → b ≡ false → count_below (λ i. (of i == z) && test i) k ≡ count_below (λ i. (of i == z) && test i) k + (if a && b then 1 else 0)
   skip true b e = rw e (omega arith)
   skip false b e = omega arith
 
-pub count_fits : (counts : List ℕ) (a k : ℕ) (test : ℕ → Bool) → k ≤ 2 ^ 28 → slice_index counts a ≡ count_below test k → slice_index counts a + 1 < 2 ^ 64
-count_fits counts a k test few e = omega (arith, count_below-le test k, few, e)
+pub count_fits : (counts : List ℕ) (a k b : ℕ) (test : ℕ → Bool) → k ≤ 2 ^ 28 → slice_index counts a + b ≡ count_below test k → slice_index counts a + 1 < 2 ^ 64
+count_fits counts a k b test few e = omega (arith, count_below-le test k, few, e)
 
 also_true : (b : Bool) → (b && true) ≡ b
 also_true true = refl
@@ -89,6 +89,10 @@ changes_here page before after y c x b a = ap (λ (n : ℕ). not (n == slice_ind
 
 pub row_differences : (page : PageParts) (before after : List ℕ) (y c n : ℕ) → n ≡ width page → ((x : ℕ) → x < width page → slice_index before x ≡ tint page c (record { x = x; y = y })) → ((x : ℕ) → x < width page → slice_index after x ≡ new page (record { x = x; y = y }) c) → count_below (λ k. not (slice_index after k == slice_index before k)) n ≡ count_below (λ x. plate_changes page c (record { x = x; y = y })) (width page)
 row_differences page before after y c n en b a = ap (count_below (λ k. not (slice_index after k == slice_index before k))) en ∙ count_below-ext (λ k. not (slice_index after k == slice_index before k)) (λ x. plate_changes page c (record { x = x; y = y })) (width page) (λ x l. changes_here page before after y c x (b x l) (a x l))
+
+-- and in one that is the same
+pub row_alike : (page : PageParts) (before after : List ℕ) (y c : ℕ) → before ≡ after → IsTintRow page y c before → IsPlateRow page y c after → 0 ≡ count_below (λ x. plate_changes page c (record { x = x; y = y })) (width page)
+row_alike page before after y c e b a = sym (count_none (λ x. plate_changes page c (record { x = x; y = y })) (width page) (λ x l. ap not (eq-eqb _ _ (sym (a.each x l) ∙ (ap (λ (xs : List ℕ). slice_index xs x) (sym e) ∙ b.each x l)))))
 
 -- how many places of two rows differ, one block further
 pub block_counted : (before after one other : List ℕ) (from size more n : ℕ) → length other ≡ size → ((k : ℕ) → k < size → slice_index one k ≡ slice_index before (from + k)) → ((k : ℕ) → k < size → slice_index other k ≡ slice_index after (from + k)) → more ≡ count_below (λ k. not (slice_index other k == slice_index one k)) (length other) → n ≡ count_below (λ k. not (slice_index after k == slice_index before k)) from → n + more ≡ count_below (λ k. not (slice_index after k == slice_index before k)) (from + size)
@@ -142,34 +146,41 @@ counting_fits page y c more counts valid ly lc few h =
 
 -- one more sample of a row
 
-pub zone_passed : (page : PageParts) (y x : ℕ) (counts : List ℕ) → x < width page → sample_changes page (record { x = x; y = y }) ≡ false → AreZonesCounted page (y * width page + x) counts → AreZonesCounted page (y * width page + x + 1) counts
-zone_passed page y x counts lx fails h = record {
+-- what the rows before `first` have
+abbrev changed_before : PageParts → ℕ → ℕ → ℕ
+changed_before page first z = count_below (λ i. (zone_of page (sample_at page i) == z) && sample_changes page (sample_at page i)) (first * width page)
+
+abbrev samples_before : PageParts → ℕ → ℕ → ℕ
+samples_before page first z = count_below (λ i. zone_of page (sample_at page i) == z) (first * width page)
+
+pub zone_passed : (page : PageParts) (first y x : ℕ) (counts : List ℕ) → x < width page → sample_changes page (record { x = x; y = y }) ≡ false → AreZonesCounted page first (y * width page + x) counts → AreZonesCounted page first (y * width page + x + 1) counts
+zone_passed page first y x counts lx fails h = record {
   long = h.long;
-  each = passed_over (λ i. zone_of page (sample_at page i)) (λ i. sample_changes page (sample_at page i)) counts (length page.zones) (y * width page + x) (ap (sample_changes page) (numbered page y x lx) ∙ fails) h.each;
+  each = passed_over (λ i. zone_of page (sample_at page i)) (λ i. sample_changes page (sample_at page i)) (changed_before page first) counts (length page.zones) (y * width page + x) (ap (sample_changes page) (numbered page y x lx) ∙ fails) h.each;
 }
 
-pub zone_tallied : (page : PageParts) (y x a v : ℕ) (counts : List ℕ) → IsPage page → x < width page → a ≡ zone_of page (record { x = x; y = y }) → sample_changes page (record { x = x; y = y }) ≡ true → v ≡ slice_index counts a + 1 → AreZonesCounted page (y * width page + x) counts → AreZonesCounted page (y * width page + x + 1) (slice_set counts a v)
-zone_tallied page y x a v counts valid lx ea passes ev h = record {
+pub zone_tallied : (page : PageParts) (first y x a v : ℕ) (counts : List ℕ) → IsPage page → x < width page → a ≡ zone_of page (record { x = x; y = y }) → sample_changes page (record { x = x; y = y }) ≡ true → v ≡ slice_index counts a + 1 → AreZonesCounted page first (y * width page + x) counts → AreZonesCounted page first (y * width page + x + 1) (slice_set counts a v)
+zone_tallied page first y x a v counts valid lx ea passes ev h = record {
   long = length-set counts a v ∙ h.long;
-  each = tallied (λ i. zone_of page (sample_at page i)) (λ i. sample_changes page (sample_at page i)) counts (length page.zones) (y * width page + x) a v (ea ∙ ap (zone_of page) (sym (numbered page y x lx))) h.long (rw ea (zone_known page (record { x = x; y = y }) valid)) (ap (sample_changes page) (numbered page y x lx) ∙ passes) ev h.each;
+  each = tallied (λ i. zone_of page (sample_at page i)) (λ i. sample_changes page (sample_at page i)) (changed_before page first) counts (length page.zones) (y * width page + x) a v (ea ∙ ap (zone_of page) (sym (numbered page y x lx))) h.long (rw ea (zone_known page (record { x = x; y = y }) valid)) (ap (sample_changes page) (numbered page y x lx) ∙ passes) ev h.each;
 }
 
-pub zone_fits : (page : PageParts) (y x a : ℕ) (counts : List ℕ) → IsPage page → y < height page → x < width page → a < length page.zones → AreZonesCounted page (y * width page + x) counts → slice_index counts a + 1 < 2 ^ 64
-zone_fits page y x a counts valid ly lx la h = count_fits counts a (y * width page + x) _ (few_samples page y x valid ly (omega (arith, lx))) (h.each a la)
+pub zone_fits : (page : PageParts) (first y x a : ℕ) (counts : List ℕ) → IsPage page → y < height page → x < width page → a < length page.zones → AreZonesCounted page first (y * width page + x) counts → slice_index counts a + 1 < 2 ^ 64
+zone_fits page first y x a counts valid ly lx la h = count_fits counts a (y * width page + x) _ _ (few_samples page y x valid ly (omega (arith, lx))) (h.each a la)
 
 -- and of its zone
 
 with_true : (page : PageParts) (z n : ℕ) → count_below (λ i. (zone_of page (sample_at page i) == z) && true) n ≡ count_below (λ i. zone_of page (sample_at page i) == z) n
 with_true page z n = count_below-ext (λ i. (zone_of page (sample_at page i) == z) && true) (λ i. zone_of page (sample_at page i) == z) n (λ k _. also_true (zone_of page (sample_at page k) == z))
 
-pub sample_tallied : (page : PageParts) (y x a v : ℕ) (counts : List ℕ) → IsPage page → x < width page → a ≡ zone_of page (record { x = x; y = y }) → v ≡ slice_index counts a + 1 → AreSamplesCounted page (y * width page + x) counts → AreSamplesCounted page (y * width page + x + 1) (slice_set counts a v)
-sample_tallied page y x a v counts valid lx ea ev h = record {
+pub sample_tallied : (page : PageParts) (first y x a v : ℕ) (counts : List ℕ) → IsPage page → x < width page → a ≡ zone_of page (record { x = x; y = y }) → v ≡ slice_index counts a + 1 → AreSamplesCounted page first (y * width page + x) counts → AreSamplesCounted page first (y * width page + x + 1) (slice_set counts a v)
+sample_tallied page first y x a v counts valid lx ea ev h = record {
   long = length-set counts a v ∙ h.long;
-  each = λ z l. tallied (λ i. zone_of page (sample_at page i)) (λ i. true) counts (length page.zones) (y * width page + x) a v (ea ∙ ap (zone_of page) (sym (numbered page y x lx))) h.long (rw ea (zone_known page (record { x = x; y = y }) valid)) refl ev (λ b lb. h.each b lb ∙ sym (with_true page b (y * width page + x))) z l ∙ with_true page z (y * width page + x + 1);
+  each = λ z l. tallied (λ i. zone_of page (sample_at page i)) (λ i. true) (samples_before page first) counts (length page.zones) (y * width page + x) a v (ea ∙ ap (zone_of page) (sym (numbered page y x lx))) h.long (rw ea (zone_known page (record { x = x; y = y }) valid)) refl ev (λ b lb. h.each b lb ∙ sym (with_true page b (y * width page + x))) z l ∙ with_true page z (y * width page + x + 1);
 }
 
-pub sample_fits : (page : PageParts) (y x a : ℕ) (counts : List ℕ) → IsPage page → y < height page → x < width page → a < length page.zones → AreSamplesCounted page (y * width page + x) counts → slice_index counts a + 1 < 2 ^ 64
-sample_fits page y x a counts valid ly lx la h = count_fits counts a (y * width page + x) _ (few_samples page y x valid ly (omega (arith, lx))) (h.each a la)
+pub sample_fits : (page : PageParts) (first y x a : ℕ) (counts : List ℕ) → IsPage page → y < height page → x < width page → a < length page.zones → AreSamplesCounted page first (y * width page + x) counts → slice_index counts a + 1 < 2 ^ 64
+sample_fits page first y x a counts valid ly lx la h = count_fits counts a (y * width page + x) _ _ (few_samples page y x valid ly (omega (arith, lx))) (h.each a la)
 
 -- a run of samples that lie in one zone
 
@@ -180,8 +191,8 @@ count_all f (suc m) h = rw (h m (omega arith)) (omega (arith, count_all f m (λ 
 in_zone : (page : PageParts) (y x k z : ℕ) → x + k < width page → zone_of page (sample_at page (y * width page + x + k)) ≡ zone_of page (record { x = x + k; y = y })
 in_zone page y x k z l = ap (zone_of page) (ap (sample_at page) (let e : y * width page + x + k ≡ y * width page + (x + k) = omega arith in e) ∙ numbered page y (x + k) l)
 
-pub run_tallied : (page : PageParts) (y x n a v : ℕ) (counts : List ℕ) → IsPage page → 0 < n → x + n ≤ width page → a ≡ zone_of page (record { x = x; y = y }) → ((k : ℕ) → k < n → zone_of page (record { x = x + k; y = y }) ≡ zone_of page (record { x = x; y = y })) → v ≡ slice_index counts a + n → AreSamplesCounted page (y * width page + x) counts → AreSamplesCounted page (y * width page + (x + n)) (slice_set counts a v)
-run_tallied page y x n a v counts valid some inside ea alike ev h = record {
+pub run_tallied : (page : PageParts) (first y x n a v : ℕ) (counts : List ℕ) → IsPage page → 0 < n → x + n ≤ width page → a ≡ zone_of page (record { x = x; y = y }) → ((k : ℕ) → k < n → zone_of page (record { x = x + k; y = y }) ≡ zone_of page (record { x = x; y = y })) → v ≡ slice_index counts a + n → AreSamplesCounted page first (y * width page + x) counts → AreSamplesCounted page first (y * width page + (x + n)) (slice_set counts a v)
+run_tallied page first y x n a v counts valid some inside ea alike ev h = record {
   long = length-set counts a v ∙ h.long;
   each = λ z l. elim (cases_eq z a) [
     | inl e ↦ (let here : slice_index (slice_set counts a v) z ≡ v = ap (slice_index (slice_set counts a v)) e ∙ get_or-set_same counts a v 0 (rw ea (rw h.long (zone_known page (record { x = x; y = y }) valid))) in
@@ -195,17 +206,17 @@ run_tallied page y x n a v counts valid some inside ea alike ev h = record {
   more : (z : ℕ) → count_below (λ i. zone_of page (sample_at page i) == z) (y * width page + (x + n)) ≡ count_below (λ i. zone_of page (sample_at page i) == z) (y * width page + x) + count_below (λ k. zone_of page (sample_at page (y * width page + x + k)) == z) n
   more z = ap (count_below (λ i. zone_of page (sample_at page i) == z)) (let e : y * width page + (x + n) ≡ y * width page + x + n = omega arith in e) ∙ count_below-add (λ i. zone_of page (sample_at page i) == z) (y * width page + x) n
 
-pub run_fits : (page : PageParts) (y x n a : ℕ) (counts : List ℕ) → IsPage page → y < height page → x + n ≤ width page → a < length page.zones → AreSamplesCounted page (y * width page + x) counts → slice_index counts a + n < 2 ^ 64
-run_fits page y x n a counts valid ly inside la h =
+pub run_fits : (page : PageParts) (first y x n a : ℕ) (counts : List ℕ) → IsPage page → y < height page → x + n ≤ width page → a < length page.zones → AreSamplesCounted page first (y * width page + x) counts → slice_index counts a + n < 2 ^ 64
+run_fits page first y x n a counts valid ly inside la h =
     let plane = plane_of page 0 valid valid.parts.some_plates in
     omega (arith, h.each a la, count_below-le (λ i. zone_of page (sample_at page i) == a) (y * width page + x), few_samples page y x valid ly (omega (arith, inside)), inside, plane.narrow)
 
 -- a run of samples that do not change
-pub run_passed : (page : PageParts) (y x n : ℕ) (counts : List ℕ) → x + n ≤ width page → ((k : ℕ) → k < n → sample_changes page (record { x = x + k; y = y }) ≡ false) → AreZonesCounted page (y * width page + x) counts → AreZonesCounted page (y * width page + (x + n)) counts
-run_passed page y x zero counts inside quiet h = subst (λ (i : ℕ). AreZonesCounted page (y * width page + i) counts) (let e : x ≡ x + 0 = omega arith in e) h
-run_passed page y x (suc n) counts inside quiet h =
-    subst (λ (i : ℕ). AreZonesCounted page i counts) (let e : y * width page + (x + n) + 1 ≡ y * width page + (x + suc n) = omega arith in e)
-    (zone_passed page y (x + n) counts (omega (arith, inside)) (quiet n (omega arith)) (run_passed page y x n counts (omega (arith, inside)) (λ k l. quiet k (omega (arith, l))) h))
+pub run_passed : (page : PageParts) (first y x n : ℕ) (counts : List ℕ) → x + n ≤ width page → ((k : ℕ) → k < n → sample_changes page (record { x = x + k; y = y }) ≡ false) → AreZonesCounted page first (y * width page + x) counts → AreZonesCounted page first (y * width page + (x + n)) counts
+run_passed page first y x zero counts inside quiet h = subst (λ (i : ℕ). AreZonesCounted page first (y * width page + i) counts) (let e : x ≡ x + 0 = omega arith in e) h
+run_passed page first y x (suc n) counts inside quiet h =
+    subst (λ (i : ℕ). AreZonesCounted page first i counts) (let e : y * width page + (x + n) + 1 ≡ y * width page + (x + suc n) = omega arith in e)
+    (zone_passed page first y (x + n) counts (omega (arith, inside)) (quiet n (omega arith)) (run_passed page first y x n counts (omega (arith, inside)) (λ k l. quiet k (omega (arith, l))) h))
 
 -- a quiet row
 
@@ -226,26 +237,30 @@ plates_quiet page y counts keep h = record {
   each = λ c l. h.each c l ∙ sym (row_none (λ k. plate_changes page c (sample_at page k)) y (width page) (λ x lx. ap (plate_changes page c) (numbered page y x lx) ∙ unchanged page (record { x = x; y = y }) c (keep c x l lx)));
 }
 
-pub zones_quiet : (page : PageParts) (y : ℕ) (counts : List ℕ) → KeepsRow page y → AreZonesCounted page (y * width page) counts → AreZonesCounted page ((y + 1) * width page) counts
-zones_quiet page y counts keep h = record {
+pub zones_quiet : (page : PageParts) (first y : ℕ) (counts : List ℕ) → KeepsRow page y → AreZonesCounted page first (y * width page) counts → AreZonesCounted page first ((y + 1) * width page) counts
+zones_quiet page first y counts keep h = record {
   long = h.long;
   each = λ z l. h.each z l ∙ sym (row_none (λ i. (zone_of page (sample_at page i) == z) && sample_changes page (sample_at page i)) y (width page) (λ x lx. both_false (zone_of page (sample_at page (y * width page + x)) == z) (sample_changes page (sample_at page (y * width page + x))) (ap (sample_changes page) (numbered page y x lx) ∙ none_below (λ c. plate_changes page c (record { x = x; y = y })) (plates page) (λ c lc. unchanged page (record { x = x; y = y }) c (keep c x lc lx)))));
 }
 
 -- the counts of the whole page
 
+-- before row 0 nothing is counted
+none_before : (f : ℕ → Bool) (w a b : ℕ) → a + count_below f (0 * w) ≡ b → a ≡ b
+none_before f w a b e = (let none : 0 * w ≡ 0 = omega arith in omega (arith, e, ap (count_below f) none))
+
 pub plates_whole : (page : PageParts) (counts : List ℕ) → ArePlatesCounted page (height page * width page) counts → counts ≡ list_below (plate_changed page) (plates page)
 plates_whole page counts h = list_below-from (plate_changed page) (plates page) counts h.long (λ c l. h.each c l ∙ ap (count_below (λ k. plate_changes page c (sample_at page k))) (let all : height page * width page ≡ samples page = omega arith in all))
 
-pub zones_whole : (page : PageParts) (counts : List ℕ) → AreZonesCounted page (height page * width page) counts → counts ≡ list_below (zone_changed page) (length page.zones)
-zones_whole page counts h = list_below-from (zone_changed page) (length page.zones) counts h.long (λ z l. h.each z l ∙ ap (count_below (λ k. (zone_of page (sample_at page k) == z) && sample_changes page (sample_at page k))) (let all : height page * width page ≡ samples page = omega arith in all))
+pub zones_whole : (page : PageParts) (counts : List ℕ) → AreZonesCounted page 0 (height page * width page) counts → counts ≡ list_below (zone_changed page) (length page.zones)
+zones_whole page counts h = list_below-from (zone_changed page) (length page.zones) counts h.long (λ z l. none_before _ (width page) _ _ (h.each z l) ∙ ap (count_below (λ k. (zone_of page (sample_at page k) == z) && sample_changes page (sample_at page k))) (let all : height page * width page ≡ samples page = omega arith in all))
 
-pub samples_whole : (page : PageParts) (counts : List ℕ) → AreSamplesCounted page (height page * width page) counts → counts ≡ list_below (zone_samples page) (length page.zones)
-samples_whole page counts h = list_below-from (zone_samples page) (length page.zones) counts h.long (λ z l. h.each z l ∙ ap (count_below (λ k. zone_of page (sample_at page k) == z)) (let all : height page * width page ≡ samples page = omega arith in all))
+pub samples_whole : (page : PageParts) (counts : List ℕ) → AreSamplesCounted page 0 (height page * width page) counts → counts ≡ list_below (zone_samples page) (length page.zones)
+samples_whole page counts h = list_below-from (zone_samples page) (length page.zones) counts h.long (λ z l. none_before _ (width page) _ _ (h.each z l) ∙ ap (count_below (λ k. zone_of page (sample_at page k) == z)) (let all : height page * width page ≡ samples page = omega arith in all))
 
 -- a row is counted to its end
-pub counted_row : (page : PageParts) (y x : ℕ) (counts : List ℕ) → x ≡ width page → AreZonesCounted page (y * width page + x) counts → AreZonesCounted page ((y + 1) * width page) counts
-counted_row page y x counts e h = subst (λ (n : ℕ). AreZonesCounted page n counts) (let all : y * width page + x ≡ (y + 1) * width page = omega (arith, e) in all) h
+pub counted_row : (page : PageParts) (first y x : ℕ) (counts : List ℕ) → x ≡ width page → AreZonesCounted page first (y * width page + x) counts → AreZonesCounted page first ((y + 1) * width page) counts
+counted_row page first y x counts e h = subst (λ (n : ℕ). AreZonesCounted page first n counts) (let all : y * width page + x ≡ (y + 1) * width page = omega (arith, e) in all) h
 
-pub samples_row : (page : PageParts) (y x : ℕ) (counts : List ℕ) → x ≡ width page → AreSamplesCounted page (y * width page + x) counts → AreSamplesCounted page ((y + 1) * width page) counts
-samples_row page y x counts e h = subst (λ (n : ℕ). AreSamplesCounted page n counts) (let all : y * width page + x ≡ (y + 1) * width page = omega (arith, e) in all) h
+pub samples_row : (page : PageParts) (first y x : ℕ) (counts : List ℕ) → x ≡ width page → AreSamplesCounted page first (y * width page + x) counts → AreSamplesCounted page first ((y + 1) * width page) counts
+samples_row page first y x counts e h = subst (λ (n : ℕ). AreSamplesCounted page first n counts) (let all : y * width page + x ≡ (y + 1) * width page = omega (arith, e) in all) h

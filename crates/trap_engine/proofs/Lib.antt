@@ -4,5 +4,6 @@ pub mod OutcomeLemmas
 pub mod RoomLemmas
 pub mod StandingLemmas
 pub mod TableRows
+pub mod TakeLemmas
 pub mod WholeLemmas
 pub mod ZoneRows

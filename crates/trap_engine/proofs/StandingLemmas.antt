@@ -8,12 +8,12 @@ use Rattle.page_model.specs.declared.parts.PageParts.{PageParts}
 use Rattle.page_model.specs.declared.parts.Plane.{Plane}
 use Rattle.page_model.specs.Conditions.{IsPage}
 use Rattle.page_model.specs.Page.{place, plates, sample_at, samples, tint, width, height, maxval}
-use Rattle.page_model.specs.Planes.{PutTint, no_plane, plane_at}
+use Rattle.page_model.specs.Planes.{no_plane, plane_at}
 use Rattle.page_model.specs.Tints.{new, new_tints, trapped_plane, trapped_planes}
 use Rattle.page_model.proofs.PageLemmas.{plane_of}
 use Rattle.lists.proofs.ListBelow.{list_below-of}
 use Rattle.trap_engine.proofs.ZoneRows.{numbered}
-use Rattle.trap_engine.specs.Standing.{AreTrappedTo, AreTrapping, ArePutting, IsTrappedTo, KeepsRow}
+use Rattle.trap_engine.specs.Standing.{AreTrappedTo, AreTrapping, IsPlateRow, IsTintRow, IsTrappedTo, KeepsRow}
 
 -- samples that keep their tints
 
@@ -47,12 +47,27 @@ planes_quiet page planes y ly keep h = subst (λ (n : ℕ). AreTrappedTo page pl
   each = λ c l. plate_kept page c (y * width page) (width page) (plane_at planes c) (row_inside page y ly) (λ x lx. subst (λ (p : At). new page p c ≡ tint page c p) (sym (numbered page y x lx)) (keep c x l lx)) (h.each c l);
 })
 
+-- samples of a row that stay as they are
+pub row_kept : (page : PageParts) (y c x count : ℕ) (plane : Plane) → y < height page → x + count ≤ width page → ((k : ℕ) → k < count → new page (record { x = x + k; y = y }) c ≡ tint page c (record { x = x + k; y = y })) → IsTrappedTo page c (y * width page + x) plane → IsTrappedTo page c (y * width page + (x + count)) plane
+row_kept page y c x count plane ly inside keep h = subst (λ (n : ℕ). IsTrappedTo page c n plane) (let e : y * width page + x + count ≡ y * width page + (x + count) = omega arith in e) (plate_kept page c (y * width page + x) count plane (omega (arith, row_inside page y ly, inside)) (λ k l. subst (λ (p : At). new page p c ≡ tint page c p) (sym (ap (sample_at page) (let e : y * width page + x + k ≡ y * width page + (x + k) = omega arith in e) ∙ numbered page y (x + k) (omega (arith, l, inside)))) (keep k l)) h)
+
+-- a row goes on to its end
+pub row_all : (page : PageParts) (y c x : ℕ) (plane : Plane) → x ≡ width page → IsTrappedTo page c (y * width page + x) plane → IsTrappedTo page c ((y + 1) * width page) plane
+row_all page y c x plane e h = subst (λ (n : ℕ). IsTrappedTo page c n plane) (let all : y * width page + x ≡ (y + 1) * width page = omega (arith, e) in all) h
+
+-- and begins
+pub row_none : (page : PageParts) (y c : ℕ) (plane : Plane) → IsTrappedTo page c (y * width page) plane → IsTrappedTo page c (y * width page + 0) plane
+row_none page y c plane h = subst (λ (n : ℕ). IsTrappedTo page c n plane) (let e : y * width page ≡ y * width page + 0 = omega arith in e) h
+
 -- a plate's row that is the same
-pub plate_same : (page : PageParts) (planes : List Plane) (y c : ℕ) (before after : List ℕ) → y < height page → before ≡ after → ((x : ℕ) → x < width page → slice_index before x ≡ tint page c (record { x = x; y = y })) → ((x : ℕ) → x < width page → slice_index after x ≡ new page (record { x = x; y = y }) c) → AreTrapping page planes (y * width page) (width page) c → AreTrapping page planes (y * width page) (width page) (c + 1)
+pub row_same : (page : PageParts) (y c : ℕ) (plane : Plane) (before after : List ℕ) → y < height page → before ≡ after → IsTintRow page y c before → IsPlateRow page y c after → IsTrappedTo page c (y * width page) plane → IsTrappedTo page c ((y + 1) * width page) plane
+row_same page y c plane before after ly e b a h = row_all page y c (0 + width page) plane (omega arith) (row_kept page y c 0 (width page) plane ly (omega arith) (λ k l. (let zero_more : 0 + k ≡ k = omega arith in rw zero_more (sym (a.each k l) ∙ (ap (λ (xs : List ℕ). slice_index xs k) (sym e) ∙ b.each k l)))) (row_none page y c plane h))
+
+pub plate_same : (page : PageParts) (planes : List Plane) (y c : ℕ) (before after : List ℕ) → y < height page → before ≡ after → IsTintRow page y c before → IsPlateRow page y c after → AreTrapping page planes (y * width page) (width page) c → AreTrapping page planes (y * width page) (width page) (c + 1)
 plate_same page planes y c before after ly e b a h = record {
   count = h.count;
   done = λ j l lj. elim (cases_eq j c) [
-    | inl q ↦ plate_kept page j (y * width page) (width page) (plane_at planes j) (row_inside page y ly) (λ x lx. subst (λ (p : At). new page p j ≡ tint page j p) (sym (numbered page y x lx)) (rw q (sym (a x lx) ∙ ap (λ (xs : List ℕ). slice_index xs x) (sym e) ∙ b x lx))) (h.rest j (omega (arith, q)) lj)
+    | inl q ↦ rw q (subst (λ (n : ℕ). IsTrappedTo page c n (plane_at planes c)) (sym (next_row y (width page))) (row_same page y c (plane_at planes c) before after ly e b a (h.rest c (omega arith) (omega (arith, q, lj)))))
     | inr ne ↦ h.done j (omega (arith, l, ne)) lj
   ];
   rest = λ j a lj. h.rest j (omega (arith, a)) lj;
@@ -73,54 +88,25 @@ plate_put page c n t plane inside et h = record {
   rest = λ k a l. get_or-set_other plane.tints n k t 0 (λ e. omega (arith, e, a)) ∙ h.rest k (omega (arith, a)) l;
 }
 
-pub putting_none : (page : PageParts) (planes : List Plane) (n w c : ℕ) → c < plates page → AreTrapping page planes n w c → ArePutting page planes n w c 0
-putting_none page planes n w c lc h = record {
-  count = h.count;
-  done = h.done;
-  here = subst (λ (k : ℕ). IsTrappedTo page c k (plane_at planes c)) (let e : n ≡ n + 0 = omega arith in e) (h.rest c (omega arith) lc);
-  rest = λ j l lj. h.rest j (omega (arith, l)) lj;
-}
+pub row_put : (page : PageParts) (y c x t w : ℕ) (plane : Plane) → w ≡ width page → y < height page → x < width page → t ≡ new page (record { x = x; y = y }) c → IsTrappedTo page c (y * width page + x) plane → IsTrappedTo page c (y * width page + (x + 1)) (record plane { tints = slice_set plane.tints (y * w + x) t })
+row_put page y c x t w plane ew ly lx et h =
+    subst (λ (n : ℕ). IsTrappedTo page c (y * width page + (x + 1)) (record plane { tints = slice_set plane.tints (y * n + x) t })) (sym ew)
+    (subst (λ (k : ℕ). IsTrappedTo page c k (record plane { tints = slice_set plane.tints (y * width page + x) t })) (let e : y * width page + x + 1 ≡ y * width page + (x + 1) = omega arith in e)
+    (plate_put page c (y * width page + x) t plane (omega (arith, mul-add-lt y (width page) x (height page) ly lx)) (et ∙ ap (λ (p : At). new page p c) (sym (numbered page y x lx))) h))
 
-pub putting_all : (page : PageParts) (planes : List Plane) (n w c x : ℕ) → x ≡ w → ArePutting page planes n w c x → AreTrapping page planes n w (c + 1)
-putting_all page planes n w c x e h = record {
-  count = h.count;
+pub row_long : (page : PageParts) (y c x w : ℕ) (plane : Plane) → w ≡ width page → y < height page → x < width page → IsTrappedTo page c (y * width page + x) plane → y * w + x < length plane.tints
+row_long page y c x w plane ew ly lx h = rw ew (omega (arith, h.long, mul-add-lt y (width page) x (height page) ly lx))
+
+-- one more plate
+pub trapping_put : (page : PageParts) (planes : List Plane) (y c : ℕ) (placed : Plane) → c < plates page → IsTrappedTo page c ((y + 1) * width page) placed → AreTrapping page planes (y * width page) (width page) c → AreTrapping page (slice_set planes c placed) (y * width page) (width page) (c + 1)
+trapping_put page planes y c placed lc put h = record {
+  count = length-set planes c placed ∙ h.count;
   done = λ j l lj. elim (cases_eq j c) [
-    | inl q ↦ rw q (subst (λ (k : ℕ). IsTrappedTo page c (n + k) (plane_at planes c)) e h.here)
-    | inr ne ↦ h.done j (omega (arith, l, ne)) lj
+    | inl q ↦ rw (q, get_or-set_same planes c placed no_plane (omega (arith, h.count, lc))) (subst (λ (n : ℕ). IsTrappedTo page c n placed) (sym (next_row y (width page))) put)
+    | inr ne ↦ rw (get_or-set_other planes c j placed no_plane ne) (h.done j (omega (arith, l, ne)) lj)
   ];
-  rest = λ j a lj. h.rest j (omega (arith, a)) lj;
+  rest = λ j a lj. rw (get_or-set_other planes c j placed no_plane (λ e. omega (arith, e, a))) (h.rest j (omega (arith, a)) lj);
 }
-
--- samples that stay as they are
-pub putting_kept : (page : PageParts) (planes : List Plane) (y c x count : ℕ) → y < height page → c < plates page → x + count ≤ width page → ((k : ℕ) → k < count → new page (record { x = x + k; y = y }) c ≡ tint page c (record { x = x + k; y = y })) → ArePutting page planes (y * width page) (width page) c x → ArePutting page planes (y * width page) (width page) c (x + count)
-putting_kept page planes y c x count ly lc inside keep h = record {
-  count = h.count;
-  done = h.done;
-  here = subst (λ (n : ℕ). IsTrappedTo page c n (plane_at planes c)) (let e : y * width page + x + count ≡ y * width page + (x + count) = omega arith in e) (plate_kept page c (y * width page + x) count (plane_at planes c) (omega (arith, row_inside page y ly, inside)) (λ k l. subst (λ (p : At). new page p c ≡ tint page c p) (sym (ap (sample_at page) (let e : y * width page + x + k ≡ y * width page + (x + k) = omega arith in e) ∙ numbered page y (x + k) (omega (arith, l, inside)))) (keep k l)) h.here);
-  rest = h.rest;
-}
-
-pub putting_next : (page : PageParts) (old new_planes : List Plane) (y c x t w : ℕ) → w ≡ width page → y < height page → x < width page → c < plates page → t ≡ new page (record { x = x; y = y }) c → PutTint old new_planes c (y * w + x) t → ArePutting page old (y * width page) (width page) c x → ArePutting page new_planes (y * width page) (width page) c (x + 1)
-putting_next page old new_planes y c x t w ew ly lx lc et put h = rw put (record {
-  count = length-set old c placed ∙ h.count;
-  done = λ j l lj. rw (there j (λ e. omega (arith, e, l))) (h.done j l lj);
-  here = rw here (subst (λ (k : ℕ). IsTrappedTo page c k placed) (let e : y * width page + x + 1 ≡ y * width page + (x + 1) = omega arith in e) (subst (λ (i : ℕ). IsTrappedTo page c (y * width page + x + 1) (record (plane_at old c) { tints = slice_set (plane_at old c).tints i t })) (ap (λ (n : ℕ). y * n + x) (sym ew)) (plate_put page c (y * width page + x) t (plane_at old c) inside (et ∙ ap (λ (p : At). new page p c) (sym (numbered page y x lx))) h.here)));
-  rest = λ j l lj. rw (there j (λ e. omega (arith, e, l))) (h.rest j l lj);
-}) where
-  placed : Plane
-  placed = record (plane_at old c) { tints = slice_set (plane_at old c).tints (y * w + x) t }
-
-  inside : y * width page + x < samples page
-  inside = omega (arith, mul-add-lt y (width page) x (height page) ly lx)
-
-  here : plane_at (slice_set old c placed) c ≡ placed
-  here = get_or-set_same old c placed no_plane (omega (arith, h.count, lc))
-
-  there : (j : ℕ) → (j ≡ c → ⊥) → plane_at (slice_set old c placed) j ≡ plane_at old j
-  there j ne = get_or-set_other old c j placed no_plane ne
-
-pub putting_long : (page : PageParts) (planes : List Plane) (y c x w : ℕ) → w ≡ width page → y < height page → x < width page → ArePutting page planes (y * width page) (width page) c x → y * w + x < length (plane_at planes c).tints
-putting_long page planes y c x w ew ly lx h = rw ew (omega (arith, h.here.long, mul-add-lt y (width page) x (height page) ly lx))
 
 pub trapping_none : (page : PageParts) (planes : List Plane) (n w : ℕ) → AreTrappedTo page planes n → AreTrapping page planes n w 0
 trapping_none page planes n w h = record { count = h.count; done = λ j l _. absurd (omega (arith, l)); rest = λ j a l. h.each j l }

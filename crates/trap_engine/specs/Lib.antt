@@ -3,4 +3,5 @@ pub mod Receipts
 pub mod Room
 pub mod Rows
 pub mod Standing
+pub mod Taking
 pub mod Whole

@@ -30,17 +30,15 @@ pub record AreTrapping (page : PageParts) (planes : List Plane) (n w c : ℕ) : 
   pub done : (j : ℕ) → j < c → j < plates page → IsTrappedTo page j (n + w) (plane_at planes j)
   pub rest : (j : ℕ) → c ≤ j → j < plates page → IsTrappedTo page j n (plane_at planes j)
 
--- and plate c is trapped x samples further
-pub record ArePutting (page : PageParts) (planes : List Plane) (n w c x : ℕ) : Type 0 where
-  pub count : length planes ≡ plates page
-  pub done : (j : ℕ) → j < c → j < plates page → IsTrappedTo page j (n + w) (plane_at planes j)
-  pub here : IsTrappedTo page c (n + x) (plane_at planes c)
-  pub rest : (j : ℕ) → c < j → j < plates page → IsTrappedTo page j n (plane_at planes j)
-
 -- the new tints of row y, plate after plate
 pub record IsNewRow (page : PageParts) (y : ℕ) (row : List ℕ) : Type 0 where
   pub long : length row ≡ plates page * width page
   pub each : (c x : ℕ) → c < plates page → x < width page → slice_index row (c * width page + x) ≡ new page (record { x = x; y = y }) c
+
+-- the new tints of plate c in row y
+pub record IsPlateRow (page : PageParts) (y c : ℕ) (row : List ℕ) : Type 0 where
+  pub long : length row ≡ width page
+  pub each : (x : ℕ) → x < width page → slice_index row x ≡ new page (record { x = x; y = y }) c
 
 -- the page's own tints of plate c in row y
 pub record IsTintRow (page : PageParts) (y c : ℕ) (row : List ℕ) : Type 0 where
@@ -52,15 +50,15 @@ pub record ArePlatesCounted (page : PageParts) (n : ℕ) (counts : List ℕ) : T
   pub long : length counts ≡ plates page
   pub each : (c : ℕ) → c < plates page → slice_index counts c ≡ count_below (λ k. plate_changes page c (sample_at page k)) n
 
--- for each zone how many of the first n samples lie in it and change
-pub record AreZonesCounted (page : PageParts) (n : ℕ) (counts : List ℕ) : Type 0 where
+-- for each zone how many samples lie in it and change, of those from row `first` on and before sample n
+pub record AreZonesCounted (page : PageParts) (first n : ℕ) (counts : List ℕ) : Type 0 where
   pub long : length counts ≡ length page.zones
-  pub each : (z : ℕ) → z < length page.zones → slice_index counts z ≡ count_below (λ i. (zone_of page (sample_at page i) == z) && sample_changes page (sample_at page i)) n
+  pub each : (z : ℕ) → z < length page.zones → slice_index counts z + count_below (λ i. (zone_of page (sample_at page i) == z) && sample_changes page (sample_at page i)) (first * width page) ≡ count_below (λ i. (zone_of page (sample_at page i) == z) && sample_changes page (sample_at page i)) n
 
--- for each zone how many of the first n samples lie in it
-pub record AreSamplesCounted (page : PageParts) (n : ℕ) (counts : List ℕ) : Type 0 where
+-- for each zone how many samples lie in it, of those from row `first` on and before sample n
+pub record AreSamplesCounted (page : PageParts) (first n : ℕ) (counts : List ℕ) : Type 0 where
   pub long : length counts ≡ length page.zones
-  pub each : (z : ℕ) → z < length page.zones → slice_index counts z ≡ count_below (λ i. zone_of page (sample_at page i) == z) n
+  pub each : (z : ℕ) → z < length page.zones → slice_index counts z + count_below (λ i. zone_of page (sample_at page i) == z) (first * width page) ≡ count_below (λ i. zone_of page (sample_at page i) == z) n
 
 -- how many edges of sample k decide: those to its right and below it
 abbrev pub edges_of : PageParts → ℕ → ℕ
@@ -78,8 +76,8 @@ KeepsRow page y = (c x : ℕ) → c < plates page → x < width page → new pag
 -- the first rows of the page are taken in: their new tints, and all that is counted in them
 pub record HasRows (page : PageParts) (rows : ℕ) (outcome : Outcome) : Type 0 where
   pub planes : AreTrappedTo page outcome.planes (rows * width page)
-  pub zone_samples : AreSamplesCounted page (rows * width page) outcome.zone_samples.items
-  pub zone_changed : AreZonesCounted page (rows * width page) outcome.zone_changed.items
+  pub zone_samples : AreSamplesCounted page 0 (rows * width page) outcome.zone_samples.items
+  pub zone_changed : AreZonesCounted page 0 (rows * width page) outcome.zone_changed.items
   pub plate_changed : ArePlatesCounted page (rows * width page) outcome.plate_changed.items
   pub edges : outcome.edges ≡ sum_below (edges_of page) (rows * width page)
   pub few_edges : outcome.edges ≤ 128 * (rows * width page)

@@ -5,12 +5,15 @@ ghost use Rattle.page_model.specs.Counts.{plate_changes, sample_changes};
 ghost use Rattle.page_model.specs.Page.{height, plates, width};
 ghost use Rattle.page_model.specs.Zones.{AreZones};
 ghost use Rattle.lists.specs.Words.{count_below};
-ghost use Rattle.trap_engine.specs.Standing.{ArePlatesCounted, AreZonesCounted, IsNewRow, KeepsRow};
+ghost use Rattle.trap_engine.specs.Standing.{ArePlatesCounted, AreZonesCounted, IsNewRow, IsTrappedTo};
+ghost use Rattle.trap_engine.specs.Taking.{AreTakenPlates};
 
 use crate::blocks::{BLOCK, are_clear, are_same, part_of};
 use crate::counting::one_if;
+use crate::plates::PlateWork;
 use band_values::{row_of, tints_of_row};
 use page_model::page::Page;
+use page_model::parts::Plane;
 
 /// The new tints of plate c, out of those of a row.
 pub fn plate_row<'a>(page: &Page, row: &'a [u16], y: u32, c: u32) -> &'a [u16]
@@ -21,20 +24,6 @@ pub fn plate_row<'a>(page: &Page, row: &'a [u16], y: u32, c: u32) -> &'a [u16]
 {
     let _valid = page.plates();
     row_of(row, page.width() as usize, c as usize)
-}
-
-/// Whether the new tints of row y are those of the page in all plates.
-pub fn is_kept(page: &Page, y: u32, row: &[u16]) -> bool
-    requires row { IsNewRow page.now y row.now }
-    requires line { y < height page.now }
-    ensures { result ≡ true → KeepsRow page.now y }
-{
-    for c in 0..page.plates() {
-        if !are_same(tints_of_row(page, c, y), plate_row(page, row, y, c)) {
-            return false;
-        }
-    }
-    true
 }
 
 /// How many tints of a block differ.
@@ -51,7 +40,7 @@ fn differences_here(before: &[u16], after: &[u16]) -> u64
 }
 
 /// How many tints differ. Blocks that are the same are not gone over.
-fn differences(before: &[u16], after: &[u16]) -> u64
+pub fn differences(before: &[u16], after: &[u16]) -> u64
     requires { length before.now ≡ length after.now }
     ensures count { result ≡ count_below (λ k. not (slice_index after.now k == slice_index before.now k)) (length after.now) }
     ensures few { result ≤ length after.now }
@@ -125,6 +114,36 @@ fn note_plate(page: &Page, row: &[u16], y: u32, c: u32, changes: &mut [bool])
     );
 }
 
+/// Notes the samples of row y at which plate c, whose plane has all its new tints, changes.
+fn note_plane(page: &Page, plane: &Plane, y: u32, c: u32, changes: &mut [bool])
+    requires plane { IsTrappedTo page.now c (height page.now * width page.now) plane.now }
+    requires line { y < height page.now }
+    requires plate { c < plates page.now }
+    requires changes { length changes.old ≡ width page.now }
+    ensures len { length changes.new ≡ width page.now }
+    ensures each { (x : ℕ) → x < width page.now → slice_index_or changes.new x false ≡ (slice_index_or changes.old x false || plate_changes page.now c (record { x = x; y = y })) }
+{
+    let before = tints_of_row(page, c, y);
+    let after = row_of(plane.tints.as_slice(), page.width() as usize, y as usize);
+    if !are_same(before, after) {
+        note_differences(before, after, changes);
+    }
+}
+
+/// Notes the samples of row y at which some plate changes. All plates are taken.
+pub fn note_taken(page: &Page, works: &[PlateWork], y: u32, changes: &mut [bool])
+    requires works { AreTakenPlates page.now works.now }
+    requires line { y < height page.now }
+    requires changes { length changes.old ≡ width page.now }
+    ensures len { length changes.new ≡ width page.now }
+    ensures each { (x : ℕ) → x < width page.now → slice_index_or changes.new x false ≡ sample_changes page.now (record { x = x; y = y }) }
+{
+    changes.fill(false);
+    for c in 0..page.plates() {
+        note_plane(page, &works[c as usize].plane, y, c, changes);
+    }
+}
+
 /// Notes the samples of row y at which some plate changes.
 pub fn note_changes(page: &Page, row: &[u16], y: u32, changes: &mut [bool])
     requires row { IsNewRow page.now y row.now }
@@ -141,14 +160,22 @@ pub fn note_changes(page: &Page, row: &[u16], y: u32, changes: &mut [bool])
 
 /// Counts sample x of row y in its zone, where it changes.
 #[tactic(auto, using(crate::proofs::CountLemmas::zone_known))]
-fn count_sample(page: &Page, zones: &[u8], y: u32, x: usize, changes: &[bool], counts: &mut [u64])
+fn count_sample(
+    page: &Page,
+    zones: &[u8],
+    first: u32,
+    y: u32,
+    x: usize,
+    changes: &[bool],
+    counts: &mut [u64],
+)
     requires zones { AreZones page.now y zones.now }
     requires line { y < height page.now }
     requires column { x < width page.now }
     requires changes { length changes.now ≡ width page.now }
     requires each { (x : ℕ) → x < width page.now → slice_index_or changes.now x false ≡ sample_changes page.now (record { x = x; y = y }) }
-    requires counts { AreZonesCounted page.now (y * width page.now + x) counts.old }
-    ensures { AreZonesCounted page.now (y * width page.now + x + 1) counts.new }
+    requires counts { AreZonesCounted page.now first (y * width page.now + x) counts.old }
+    ensures { AreZonesCounted page.now first (y * width page.now + x + 1) counts.new }
 {
     let _valid = page.plates();
     if !changes[x] {
@@ -162,6 +189,7 @@ fn count_sample(page: &Page, zones: &[u8], y: u32, x: usize, changes: &[bool], c
 fn count_block(
     page: &Page,
     zones: &[u8],
+    first: u32,
     y: u32,
     from: usize,
     to: usize,
@@ -174,28 +202,36 @@ fn count_block(
     requires inside { to ≤ width page.now }
     requires changes { length changes.now ≡ width page.now }
     requires each { (x : ℕ) → x < width page.now → slice_index_or changes.now x false ≡ sample_changes page.now (record { x = x; y = y }) }
-    requires counts { AreZonesCounted page.now (y * width page.now + from) counts.old }
-    ensures { AreZonesCounted page.now (y * width page.now + to) counts.new }
+    requires counts { AreZonesCounted page.now first (y * width page.now + from) counts.old }
+    ensures { AreZonesCounted page.now first (y * width page.now + to) counts.new }
 {
     for x in from..to {
-        count_sample(page, zones, y, x, changes, counts);
+        count_sample(page, zones, first, y, x, changes, counts);
     }
 }
 
-/// Counts for each zone the samples of row y that change. Blocks in which none does are not gone over.
-pub fn count_changed(page: &Page, zones: &[u8], y: u32, changes: &[bool], counts: &mut [u64])
+/// Counts for each zone the samples of row y that change. Blocks in which none does are not gone over. The counts are those
+/// of the rows from `first` on.
+pub fn count_changed(
+    page: &Page,
+    zones: &[u8],
+    first: u32,
+    y: u32,
+    changes: &[bool],
+    counts: &mut [u64],
+)
     requires zones { AreZones page.now y zones.now }
     requires line { y < height page.now }
     requires changes { length changes.now ≡ width page.now }
     requires each { (x : ℕ) → x < width page.now → slice_index_or changes.now x false ≡ sample_changes page.now (record { x = x; y = y }) }
-    requires counts { AreZonesCounted page.now (y * width page.now) counts.old }
-    ensures { AreZonesCounted page.now ((y + 1) * width page.now) counts.new }
+    requires counts { AreZonesCounted page.now first (y * width page.now) counts.old }
+    ensures { AreZonesCounted page.now first ((y + 1) * width page.now) counts.new }
 {
     let mut x = 0;
     while x < changes.len() {
         let count = (changes.len() - x).min(BLOCK);
         if !are_clear(changes, x, count) {
-            count_block(page, zones, y, x, x + count, changes, counts);
+            count_block(page, zones, first, y, x, x + count, changes, counts);
         }
         x += count;
     }

@@ -30,20 +30,20 @@ pub fn edges_in(marks: &[u8]) -> u64
     count
 }
 
-/// Counts the samples of row y in their zones, block by block.
-pub fn count_zones(page: &Page, zones: &[u8], y: u32, counts: &mut [u64])
+/// Counts the samples of row y in their zones, block by block. The counts are those of the rows from `first` on.
+pub fn count_zones(page: &Page, zones: &[u8], first: u32, y: u32, counts: &mut [u64])
     requires zones { AreZones page.now y zones.now }
     requires line { y < height page.now }
-    requires counts { AreSamplesCounted page.now (y * width page.now) counts.old }
-    ensures { AreSamplesCounted page.now ((y + 1) * width page.now) counts.new }
+    requires counts { AreSamplesCounted page.now first (y * width page.now) counts.old }
+    ensures { AreSamplesCounted page.now first ((y + 1) * width page.now) counts.new }
 {
     let mut x = 0;
     while x < zones.len() {
         let count = (zones.len() - x).min(BLOCK);
         if are_alike(zones, x, count) {
-            count_run(page, zones, y, x, count, counts);
+            count_run(page, zones, first, y, x, count, counts);
         } else {
-            count_each(page, zones, y, x, x + count, counts);
+            count_each(page, zones, first, y, x, x + count, counts);
         }
         x += count;
     }
@@ -51,14 +51,22 @@ pub fn count_zones(page: &Page, zones: &[u8], y: u32, counts: &mut [u64])
 
 /// Counts so many samples of row y, from sample x on, in the zone that they all lie in.
 #[tactic(auto, using(crate::proofs::CountLemmas::zone_known))]
-fn count_run(page: &Page, zones: &[u8], y: u32, x: usize, count: usize, counts: &mut [u64])
+fn count_run(
+    page: &Page,
+    zones: &[u8],
+    first: u32,
+    y: u32,
+    x: usize,
+    count: usize,
+    counts: &mut [u64],
+)
     requires zones { AreZones page.now y zones.now }
     requires line { y < height page.now }
     requires some { 1 ≤ count }
     requires inside { x + count ≤ width page.now }
     requires alike { (k : ℕ) → k < count → slice_index zones.now (x + k) ≡ slice_index zones.now x }
-    requires counts { AreSamplesCounted page.now (y * width page.now + x) counts.old }
-    ensures { AreSamplesCounted page.now (y * width page.now + (x + count)) counts.new }
+    requires counts { AreSamplesCounted page.now first (y * width page.now + x) counts.old }
+    ensures { AreSamplesCounted page.now first (y * width page.now + (x + count)) counts.new }
 {
     let _valid = page.plates();
     let zone = usize::from(zones[x]);
@@ -66,27 +74,35 @@ fn count_run(page: &Page, zones: &[u8], y: u32, x: usize, count: usize, counts: 
 }
 
 /// Counts the samples of row y from one on and before another, each in its zone.
-fn count_each(page: &Page, zones: &[u8], y: u32, from: usize, to: usize, counts: &mut [u64])
+fn count_each(
+    page: &Page,
+    zones: &[u8],
+    first: u32,
+    y: u32,
+    from: usize,
+    to: usize,
+    counts: &mut [u64],
+)
     requires zones { AreZones page.now y zones.now }
     requires line { y < height page.now }
     requires order { from ≤ to }
     requires inside { to ≤ width page.now }
-    requires counts { AreSamplesCounted page.now (y * width page.now + from) counts.old }
-    ensures { AreSamplesCounted page.now (y * width page.now + to) counts.new }
+    requires counts { AreSamplesCounted page.now first (y * width page.now + from) counts.old }
+    ensures { AreSamplesCounted page.now first (y * width page.now + to) counts.new }
 {
     for x in from..to {
-        count_zone(page, zones, y, x, counts);
+        count_zone(page, zones, first, y, x, counts);
     }
 }
 
 /// Counts sample x of row y in its zone.
 #[tactic(auto, using(crate::proofs::CountLemmas::zone_known))]
-fn count_zone(page: &Page, zones: &[u8], y: u32, x: usize, counts: &mut [u64])
+fn count_zone(page: &Page, zones: &[u8], first: u32, y: u32, x: usize, counts: &mut [u64])
     requires zones { AreZones page.now y zones.now }
     requires line { y < height page.now }
     requires column { x < width page.now }
-    requires counts { AreSamplesCounted page.now (y * width page.now + x) counts.old }
-    ensures { AreSamplesCounted page.now (y * width page.now + x + 1) counts.new }
+    requires counts { AreSamplesCounted page.now first (y * width page.now + x) counts.old }
+    ensures { AreSamplesCounted page.now first (y * width page.now + x + 1) counts.new }
 {
     let _valid = page.plates();
     let zone = usize::from(zones[x]);

@@ -10,9 +10,12 @@ mod marks;
 mod memory;
 mod outcome;
 mod planes;
+mod plates;
 mod room;
 mod strips;
+mod sums;
 mod table;
+mod tally;
 mod zones;
 
 pub use alone::{Trapped, trap_alone};

@@ -1,17 +1,21 @@
 // What comes of a page, taken in row by row from the top: its planes after trapping, and what is counted.
 
-ghost use Rattle.std.specs.Prelude.{◌≡◌, ◌<◌, ◌+◌, ◌*◌, IfOk, MatchOption, length};
+ghost use Rattle.std.specs.Prelude.{◌≡◌, ◌<◌, ◌+◌, ◌*◌, IfOk, MatchOption, length, slice_set};
 ghost use Rattle.page_model.specs.Counts.{page_counts};
 ghost use Rattle.page_model.specs.Page.{height, plates, width};
 ghost use Rattle.page_model.specs.Tints.{trapped_planes};
 ghost use Rattle.page_model.specs.Zones.{AreZones};
 ghost use Rattle.trap_engine.specs.Standing.{AreMarks, ArePlatesCounted, AreTrappedTo, AreZonesCounted, HasRows, IsNewRow, KeepsRow};
+ghost use Rattle.trap_engine.specs.Taking.{AreTakenPlates, HasCounted, HasTallies};
 
 use crate::alone::Trapped;
 use crate::changes::{count_changed, count_plates, note_changes};
 use crate::counting::{count_zones, edges_in};
 use crate::memory::{filled, no_counts};
 use crate::planes::{copies_of, put_row};
+use crate::plates::PlateWork;
+use crate::sums::add_counts;
+use crate::tally::Tally;
 use lists::list::List;
 use page_model::page::Page;
 use page_model::parts::{Counts, OutOfMemory, PlaneList};
@@ -21,7 +25,7 @@ use std::alloc::Global;
 /// rows of the planes are as they were.
 #[derive(Drop)]
 pub struct Outcome {
-    planes: PlaneList,
+    pub(crate) planes: PlaneList,
     zone_samples: Vec<u64>,
     zone_changed: Vec<u64>,
     plate_changed: Vec<u64>,
@@ -65,7 +69,7 @@ impl Outcome {
     {
         let _valid = page.plates();
         self.edges += edges_in(marks);
-        count_zones(page, zones, y, &mut self.zone_samples);
+        count_zones(page, zones, 0, y, &mut self.zone_samples);
         if let Some(row) = tints {
             self.take_tints(page, y, zones, row);
         }
@@ -77,11 +81,11 @@ impl Outcome {
         requires zones { AreZones page.now y zones.now }
         requires row { IsNewRow page.now y row.now }
         requires planes { AreTrappedTo page.now self.old.planes (y * width page.now) }
-        requires zone_changed { AreZonesCounted page.now (y * width page.now) self.old.zone_changed.items }
+        requires zone_changed { AreZonesCounted page.now 0 (y * width page.now) self.old.zone_changed.items }
         requires plate_changed { ArePlatesCounted page.now (y * width page.now) self.old.plate_changed.items }
         requires changes { length self.old.changes.items ≡ width page.now }
         ensures planes { AreTrappedTo page.now self.new.planes ((y + 1) * width page.now) }
-        ensures zone_changed { AreZonesCounted page.now ((y + 1) * width page.now) self.new.zone_changed.items }
+        ensures zone_changed { AreZonesCounted page.now 0 ((y + 1) * width page.now) self.new.zone_changed.items }
         ensures plate_changed { ArePlatesCounted page.now ((y + 1) * width page.now) self.new.plate_changed.items }
         ensures changes { length self.new.changes.items ≡ width page.now }
         ensures zone_samples { self.new.zone_samples ≡ self.old.zone_samples }
@@ -90,7 +94,46 @@ impl Outcome {
         put_row(page, row, y, &mut self.planes);
         count_plates(page, row, y, &mut self.plate_changed);
         note_changes(page, row, y, &mut self.changes);
-        count_changed(page, zones, y, &self.changes, &mut self.zone_changed);
+        count_changed(page, zones, 0, y, &self.changes, &mut self.zone_changed);
+    }
+
+    /// Adds what is counted in all rows of the page.
+    pub fn add(&mut self, page: &Page, tally: &Tally)
+        requires none { HasTallies page.now 0 self.old }
+        requires counted { HasCounted page.now 0 (height page.now) tally.now }
+        ensures { HasTallies page.now (height page.now) self.new }
+    {
+        let _valid = page.plates();
+        self.edges += tally.edges;
+        add_counts(&mut self.zone_samples, &tally.zone_samples);
+        add_counts(&mut self.zone_changed, &tally.zone_changed);
+    }
+
+    /// Puts in plate c, and how many of its samples change. All else stays.
+    fn put_in(&mut self, c: usize, work: PlateWork)
+        requires plane { c < length self.old.planes }
+        requires count { c < length self.old.plate_changed.items }
+        ensures planes { self.new.planes ≡ slice_set self.old.planes c work.plane }
+        ensures plate_changed { self.new.plate_changed.items ≡ slice_set self.old.plate_changed.items c work.changed }
+        ensures zone_samples { self.new.zone_samples ≡ self.old.zone_samples }
+        ensures zone_changed { self.new.zone_changed ≡ self.old.zone_changed }
+        ensures edges { self.new.edges ≡ self.old.edges }
+        ensures changes { self.new.changes ≡ self.old.changes }
+    {
+        self.plate_changed[c] = work.changed;
+        let _empty = self.planes.set(c, work.plane);
+    }
+
+    /// Puts in the plates, which are all taken, and how many samples of each change.
+    pub fn put_all_in(&mut self, page: &Page, works: Vec<PlateWork>)
+        requires counted { HasTallies page.now (height page.now) self.old }
+        requires works { AreTakenPlates page.now works.items }
+        ensures { HasRows page.now (height page.now) self.new }
+    {
+        let mut works = works;
+        while let Some(work) = works.pop() {
+            self.put_in(works.len(), work);
+        }
     }
 
     /// The page after trapping, when all its rows are taken in.

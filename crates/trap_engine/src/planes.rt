@@ -1,18 +1,18 @@
 // The planes of the page: copies of them, into which the new tints of its rows are put.
 
-ghost use Rattle.std.specs.Prelude.{◌≡◌, ◌<◌, ◌≤◌, ◌+◌, ◌*◌, ℕ, IfOk, length, slice_index};
+ghost use Rattle.std.specs.Prelude.{◌≡◌, ◌<◌, ◌≤◌, ◌+◌, ◌*◌, ℕ, IfOk};
+ghost use Rattle.lists.specs.Words.{count_below};
+ghost use Rattle.page_model.specs.Counts.{plate_changes};
 ghost use Rattle.page_model.specs.Page.{height, plates, width};
-ghost use Rattle.page_model.specs.Tints.{new};
-ghost use Rattle.trap_engine.specs.Standing.{ArePutting, AreTrappedTo, AreTrapping, IsNewRow, IsTintRow, IsTrappedTo};
+ghost use Rattle.trap_engine.specs.Standing.{AreTrappedTo, AreTrapping, IsNewRow, IsPlateRow, IsTintRow, IsTrappedTo};
 
 use crate::blocks::{BLOCK, are_same, part_of};
-use crate::changes::plate_row;
+use crate::changes::{differences, plate_row};
 use crate::memory::push;
 use band_values::tints_of_row;
 use lists::list::List;
 use page_model::page::Page;
 use page_model::parts::{OutOfMemory, Plane, PlaneList};
-use page_model::planes::set_tint;
 use std::alloc::Global;
 
 /// A copy of plate c.
@@ -43,7 +43,7 @@ pub fn copies_of(alloc: Global, page: &Page) -> Result<PlaneList, OutOfMemory>
     Ok(planes)
 }
 
-/// Puts the new tints of plate c into row y, sample by sample from one on and before another.
+/// Puts the new tints of plate c into row y of its plane, sample by sample from one on and before another.
 fn put_samples(
     page: &Page,
     y: u32,
@@ -51,26 +51,24 @@ fn put_samples(
     after: &[u16],
     from: usize,
     to: usize,
-    planes: &mut PlaneList,
+    plane: &mut Plane,
 )
     requires line { y < height page.now }
-    requires plate { c < plates page.now }
-    requires len { length after.now ≡ width page.now }
-    requires tints { (x : ℕ) → x < width page.now → slice_index after.now x ≡ new page.now (record { x = x; y = y }) c }
+    requires after { IsPlateRow page.now y c after.now }
     requires order { from ≤ to }
     requires inside { to ≤ width page.now }
-    requires planes { ArePutting page.now planes.old (y * width page.now) (width page.now) c from }
-    ensures { ArePutting page.now planes.new (y * width page.now) (width page.now) c to }
+    requires plane { IsTrappedTo page.now c (y * width page.now + from) plane.old }
+    ensures { IsTrappedTo page.now c (y * width page.now + to) plane.new }
 {
     let _valid = page.plates();
     let start = y as usize * page.width() as usize;
     for x in from..to {
-        set_tint(planes, c as usize, start + x, after[x]);
+        let _old = plane.tints.set(start + x, after[x]);
     }
 }
 
-/// Puts the new tints of some samples of plate c into row y, from sample x on, where they are not those of the page. It gives
-/// the sample that comes next.
+/// Puts the new tints of some samples of plate c into row y of its plane, from sample x on, where they are not those of the
+/// page. It gives the sample that comes next.
 fn put_block(
     page: &Page,
     y: u32,
@@ -78,40 +76,54 @@ fn put_block(
     before: &[u16],
     after: &[u16],
     x: usize,
-    planes: &mut PlaneList,
+    plane: &mut Plane,
 ) -> usize
     requires line { y < height page.now }
-    requires plate { c < plates page.now }
     requires column { x < width page.now }
     requires before { IsTintRow page.now y c before.now }
-    requires len { length after.now ≡ width page.now }
-    requires tints { (x : ℕ) → x < width page.now → slice_index after.now x ≡ new page.now (record { x = x; y = y }) c }
-    requires planes { ArePutting page.now planes.old (y * width page.now) (width page.now) c x }
+    requires after { IsPlateRow page.now y c after.now }
+    requires plane { IsTrappedTo page.now c (y * width page.now + x) plane.old }
     ensures more { x < result }
     ensures inside { result ≤ width page.now }
-    ensures planes { ArePutting page.now planes.new (y * width page.now) (width page.now) c result }
+    ensures plane { IsTrappedTo page.now c (y * width page.now + result) plane.new }
 {
     let count = (after.len() - x).min(BLOCK);
     if !are_same(part_of(before, x, count), part_of(after, x, count)) {
-        put_samples(page, y, c, after, x, x + count, planes);
+        put_samples(page, y, c, after, x, x + count, plane);
     }
     x + count
 }
 
-/// Puts the new tints of plate c into its row y, block by block.
-fn put_each(page: &Page, y: u32, c: u32, before: &[u16], after: &[u16], planes: &mut PlaneList)
+/// Puts the new tints of plate c into row y of its plane, block by block.
+fn put_each(page: &Page, y: u32, c: u32, before: &[u16], after: &[u16], plane: &mut Plane)
     requires line { y < height page.now }
-    requires plate { c < plates page.now }
     requires before { IsTintRow page.now y c before.now }
-    requires len { length after.now ≡ width page.now }
-    requires tints { (x : ℕ) → x < width page.now → slice_index after.now x ≡ new page.now (record { x = x; y = y }) c }
-    requires planes { AreTrapping page.now planes.old (y * width page.now) (width page.now) c }
-    ensures { AreTrapping page.now planes.new (y * width page.now) (width page.now) (c + 1) }
+    requires after { IsPlateRow page.now y c after.now }
+    requires plane { IsTrappedTo page.now c (y * width page.now) plane.old }
+    ensures { IsTrappedTo page.now c ((y + 1) * width page.now) plane.new }
 {
     let mut x = 0;
     while x < after.len() {
-        x = put_block(page, y, c, before, after, x, planes);
+        x = put_block(page, y, c, before, after, x, plane);
     }
+}
+
+/// Puts the new tints of plate c into row y of its plane, where they are not those of the page, and tells how many are not.
+pub fn put_plate_row(page: &Page, y: u32, c: u32, after: &[u16], plane: &mut Plane) -> u64
+    requires line { y < height page.now }
+    requires plate { c < plates page.now }
+    requires after { IsPlateRow page.now y c after.now }
+    requires plane { IsTrappedTo page.now c (y * width page.now) plane.old }
+    ensures plane { IsTrappedTo page.now c ((y + 1) * width page.now) plane.new }
+    ensures count { result ≡ count_below (λ x. plate_changes page.now c (record { x = x; y = y })) (width page.now) }
+    ensures few { result ≤ width page.now }
+{
+    let before = tints_of_row(page, c, y);
+    if are_same(before, after) {
+        return 0;
+    }
+    put_each(page, y, c, before, after, plane);
+    differences(before, after)
 }
 
 /// Puts the new tints of plate c into its row y, where they are not those of the page.
@@ -127,7 +139,7 @@ fn put_plate(page: &Page, row: &[u16], y: u32, c: u32, planes: &mut PlaneList)
     if are_same(before, after) {
         return;
     }
-    put_each(page, y, c, before, after, planes);
+    put_each(page, y, c, before, after, planes.item_mut(c as usize));
 }
 
 /// Puts the new tints of row y into the planes.

@@ -1,23 +1,26 @@
 // All the memory of a page's work at the shared table.
-ghost use Rattle.std.specs.Prelude.{◌≡◌, ◌≤◌, ◌*◌, All, IfOk, min, vec_len};
+ghost use Rattle.std.specs.Prelude.{◌≡◌, ◌+◌, ◌<◌, ◌≤◌, All, IfOk, None, false, length, min, vec_len};
 ghost use Rattle.band_claims.specs.Seating.{Seats};
 ghost use Rattle.band_claims.specs.Views.{newcomer};
 ghost use Rattle.band_core.specs.Values.{IsFor};
 ghost use Rattle.page_model.specs.Bands.{AreBands};
 ghost use Rattle.page_model.specs.Limits.{most_band_height, most_workers};
 ghost use Rattle.page_model.specs.Page.{height, plates, width};
+ghost use Rattle.page_model.specs.Planes.{no_plane as none};
 ghost use Rattle.page_model.specs.Reach.{page_reach};
-ghost use Rattle.trap_engine.specs.Room.{IsRowRoom};
-ghost use Rattle.trap_engine.specs.Standing.{HasRows};
+ghost use Rattle.trap_engine.specs.Standing.{AreTrappedTo, HasRows};
+ghost use Rattle.trap_engine.specs.Taking.{ArePlateWorks, AreSeatedWorks, HasCounted};
 
-use crate::memory::filled;
+use crate::memory::{filled, no_counts, push};
 use crate::outcome::Outcome;
-use crate::table::RowRoom;
+use crate::plates::PlateWork;
+use crate::tally::Tally;
 use band_claims::{Pass, Shared};
 use band_pieces::Scratch;
+use lists::list::List;
 use page_model::bands::Bands;
 use page_model::page::Page;
-use page_model::parts::OutOfMemory;
+use page_model::parts::{OutOfMemory, Plane, PlaneList};
 use row_cells::layout::Layout;
 use std::alloc::Global;
 use std::marker::Model;
@@ -25,7 +28,8 @@ use std::thread;
 use std::thread::Threads;
 
 /// All the memory that trapping a page by workers takes: the shared table, the memory of each worker, the planes of
-/// the result and the counts. Contracts see the page that it was made for and the layout of its cells.
+/// the result and the counts. Contracts see the page that it was made for, the layout of its cells, and how many workers
+/// it has memory for.
 #[derive(Drop)]
 pub struct TrapRoom {
     pub(crate) shared: Shared,
@@ -33,29 +37,35 @@ pub struct TrapRoom {
     pub(crate) scratches: Vec<Scratch>,
     // of the caller, for what the workers leave
     pub(crate) spare: Scratch,
+    // one for each plate
+    pub(crate) works: Vec<PlateWork>,
+    pub(crate) tally: Tally,
     pub(crate) outcome: Outcome,
-    pub(crate) row: RowRoom,
 }
 
 impl Model for TrapRoom {
-    ghost use Rattle.band_claims.specs.declared.sheet.Sheet.{Sheet};
-    ghost use Rattle.trap_engine.specs.Room.{IsRoom};
+    ghost use Rattle.std.specs.Prelude.{length};
+    ghost use Rattle.trap_engine.specs.Room.{IsRoom, RoomView};
 
-    ghost Value = { Sheet };
+    ghost Value = { RoomView };
 
-    ghost view = { λ r. r.shared.sheet };
+    ghost view = { λ r. record {
+      page = record { value = r.shared.sheet.page.value };
+      layout = r.shared.sheet.layout;
+      workers = length r.scratches.items;
+    } };
 
-    ghost invariant = { λ r. IsRoom r.shared r.pass r.scratches.items r.spare r.outcome r.row };
+    ghost invariant = { λ r. IsRoom r.shared r.pass r.scratches.items r.spare r.works.items r.tally r.outcome };
 }
 
 /// As many workers as are asked for, or as there are bands, if these are fewer.
-fn workers_for(bands: &Bands, workers: u32) -> usize
+fn workers_for(bands: &Bands, workers: u32) -> u32
     requires bands { AreBands bands.now }
     requires some { 1 ≤ workers }
     ensures value { result ≡ min workers bands.now.count }
     ensures some { 1 ≤ result }
 {
-    workers.min(bands.count) as usize
+    workers.min(bands.count)
 }
 
 /// The memory of so many workers.
@@ -82,15 +92,75 @@ fn scratches_of(
     Ok(scratches)
 }
 
-/// Room for the values of a row.
-fn row_room(alloc: Global, page: &Page) -> Result<RowRoom, OutOfMemory>
-    ensures { IfOk result (λ row. IsRowRoom page.now row) }
+/// An empty plane, to stand where one was taken out.
+fn no_plane(alloc: Global) -> Plane
+    ensures { result ≡ none }
+{
+    Plane {
+        width: 0,
+        height: 0,
+        maxval: 0,
+        tints: List::new(alloc),
+    }
+}
+
+/// What a plate is taken with, where this is a copy of the page's.
+fn work_of(alloc: Global, page: &Page, pass: Pass, plane: Plane) -> Result<PlateWork, OutOfMemory>
+    ensures row { IfOk result (λ work. length work.row.items ≡ width page.now) }
+    ensures pass { IfOk result (λ work. work.pass ≡ pass) }
+    ensures plane { IfOk result (λ work. work.plane ≡ plane) }
+    ensures done { IfOk result (λ work. work.done ≡ false) }
+{
+    Ok(PlateWork {
+        pass,
+        row: filled(alloc, 0u16, page.width() as usize)?,
+        plane,
+        changed: 0,
+        done: false,
+    })
+}
+
+/// What each plate is taken with. The copies of the planes are taken out of the list, and a pass for each is split off.
+fn works_of(
+    alloc: Global,
+    page: &Page,
+    shared: &Shared,
+    pass: Pass,
+    planes: &mut PlaneList,
+) -> Result<(Pass, Vec<PlateWork>), OutOfMemory>
+    requires pass { Seats shared.now pass }
+    requires idle { pass.view.held ≡ None }
+    requires planes { AreTrappedTo page.now planes.old 0 }
+    ensures pass { IfOk result (λ t. Seats shared.now t.0) }
+    ensures idle { IfOk result (λ t. t.0.view.held ≡ None) }
+    ensures works { IfOk result (λ t. ArePlateWorks page.now t.1.items) }
+    ensures seats { IfOk result (λ t. AreSeatedWorks shared.now t.1.items) }
+    ensures planes { length planes.new ≡ length planes.old }
+{
+    let mut pass = pass;
+    let mut works = List::new(alloc);
+    for c in 0..page.plates() {
+        let (kept, other) = shared.split(pass);
+        pass = kept;
+        let plane = planes.set(c as usize, no_plane(alloc));
+        push(&mut works, work_of(alloc, page, other, plane)?)?;
+    }
+    Ok((pass, works.into_vec()))
+}
+
+/// The room to count in rows, with nothing counted.
+fn tally_of(alloc: Global, page: &Page) -> Result<Tally, OutOfMemory>
+    ensures { IfOk result (λ tally. HasCounted page.now 0 0 tally) }
 {
     let width = page.width() as usize;
-    Ok(RowRoom {
+    let zones = page.zones() as usize;
+    Ok(Tally {
         zones: filled(alloc, 0u8, width)?,
         marks: filled(alloc, 0u8, width)?,
-        tints: filled(alloc, 0u16, page.plates() as usize * width)?,
+        changes: filled(alloc, false, width)?,
+        zone_samples: no_counts(alloc, zones)?,
+        zone_changed: no_counts(alloc, zones)?,
+        edges: 0,
     })
 }
 
@@ -148,17 +218,21 @@ impl TrapRoom {
         requires few_rows { band ≤ most_band_height }
         ensures page { IfOk result (λ room. room.page.value ≡ page.now) }
         ensures band { IfOk result (λ room. room.layout.bands.height ≡ band) }
+        ensures workers { IfOk result (λ room. room.workers ≡ min workers room.layout.bands.count) }
     {
         let bands = Bands::new(page.height(), band, page.reach2());
         let layout = Layout::new(page.width(), page.plates(), &bands);
-        let (shared, pass, outcome) = table_and_outcome(rt, alloc, page, &layout, workers)?;
+        let (shared, pass, mut outcome) = table_and_outcome(rt, alloc, page, &layout, workers)?;
+        let count = workers_for(&bands, workers);
+        let (pass, works) = works_of(alloc, page, &shared, pass, &mut outcome.planes)?;
         Ok(TrapRoom {
             shared,
             pass,
-            scratches: scratches_of(alloc, page, &bands, workers_for(&bands, workers))?,
+            scratches: scratches_of(alloc, page, &bands, count as usize)?,
             spare: Scratch::new(alloc, page, &bands)?,
+            works,
+            tally: tally_of(alloc, page)?,
             outcome,
-            row: row_room(alloc, page)?,
         })
     }
 }

@@ -1,76 +1,46 @@
 // The page by workers at the shared table: they make its pieces, and what comes of it is read out of the table's cells.
-ghost use Rattle.std.specs.Prelude.{◌≡◌, ◌≤◌, ◌<◌, ◌+◌, IfOk, MatchOption};
+ghost use Rattle.std.specs.Prelude.{◌≡◌, ◌≤◌, IfOk};
 ghost use Rattle.band_pieces.specs.Finished.{IsFinished};
 ghost use Rattle.page_model.specs.Counts.{page_counts};
 ghost use Rattle.page_model.specs.Limits.{most_band_height, most_workers};
 ghost use Rattle.page_model.specs.Page.{height};
 ghost use Rattle.page_model.specs.Tints.{trapped_planes};
 ghost use Rattle.trap_engine.specs.Receipts.{IsWholeReceipt};
-ghost use Rattle.trap_engine.specs.Room.{IsRowRoom};
-ghost use Rattle.trap_engine.specs.Standing.{HasRows, IsNewRow, KeepsRow};
+ghost use Rattle.trap_engine.specs.Standing.{HasRows};
+ghost use Rattle.trap_engine.specs.Taking.{ArePlateWorks, HasCounted, HasTallies};
 
 use crate::alone::Trapped;
-use crate::changes::is_kept;
 use crate::outcome::Outcome;
+use crate::plates::{PlateWork, take_by_passes, take_those_left};
 use crate::room::TrapRoom;
+use crate::tally::{Tally, count_all};
 use band_claims::Closed;
-use band_pieces::{fill_table, read_marks, read_tints, read_zones};
-use band_values::Rows;
-use band_workers::Gate;
+use band_pieces::finish_table;
+use band_workers::{Gate, work_many};
 use page_model::page::Page;
 use page_model::parts::OutOfMemory;
 use std::alloc::Global;
 use std::thread::Threads;
 
-/// Room for a row that is read out of the table: its zones, its marks and its new tints, plate after plate.
-#[derive(Drop)]
-pub struct RowRoom {
-    pub zones: Vec<u8>,
-    pub marks: Vec<u8>,
-    pub tints: Vec<u16>,
-}
-
-/// The new tints of row y, if they are not those of the page.
-fn changed_row<'a>(page: &Page, y: u32, tints: &'a [u16]) -> Option<&'a [u16]>
-    requires tints { IsNewRow page.now y tints.now }
-    requires line { y < height page.now }
-    ensures { MatchOption result (KeepsRow page.now y) (λ row. IsNewRow page.now y row.now) }
-{
-    if is_kept(page, y, tints) {
-        None
-    } else {
-        Some(tints)
-    }
-}
-
-/// Takes in row y out of the cells of the closed table.
-fn take_row(closed: &Closed, page: &Page, y: u32, row: &mut RowRoom, outcome: &mut Outcome)
+/// Takes out of the closed table what is left, and gives the outcome of the whole page.
+fn take_rest(
+    closed: &Closed,
+    page: &Page,
+    works: Vec<PlateWork>,
+    tally: &mut Tally,
+    outcome: &mut Outcome,
+)
     requires finished { IsFinished page.now closed.now }
-    requires line { y < height page.now }
-    requires row { IsRowRoom page.now row.old }
-    requires outcome { HasRows page.now y outcome.old }
-    ensures row { IsRowRoom page.now row.new }
-    ensures outcome { HasRows page.now (y + 1) outcome.new }
-{
-    let layout = closed.layout();
-    let rows = Rows { first: y, count: 1 };
-    read_zones(closed, &mut (), page, layout, rows, &mut row.zones);
-    read_marks(closed, &mut (), page, layout, rows, &mut row.marks);
-    read_tints(closed, &mut (), page, layout, rows, &mut row.tints);
-    let tints = changed_row(page, y, &row.tints);
-    outcome.take_in(page, y, &row.zones, &row.marks, tints);
-}
-
-/// Takes in all rows out of the cells of the closed table.
-fn take_rows(closed: &Closed, page: &Page, row: &mut RowRoom, outcome: &mut Outcome)
-    requires finished { IsFinished page.now closed.now }
-    requires row { IsRowRoom page.now row.old }
-    requires outcome { HasRows page.now 0 outcome.old }
+    requires works { ArePlateWorks page.now works.items }
+    requires tally { HasCounted page.now 0 0 tally.old }
+    requires outcome { HasTallies page.now 0 outcome.old }
     ensures { HasRows page.now (height page.now) outcome.new }
 {
-    for y in 0..page.height() {
-        take_row(closed, page, y, row, outcome);
-    }
+    let mut works = works;
+    take_those_left(closed, page, &mut works);
+    count_all(closed, page, &works, tally);
+    outcome.add(page, tally);
+    outcome.put_all_in(page, works);
 }
 
 /// Traps the page that the room was made for, by the workers that it has memory for. It takes no memory, refuses
@@ -92,11 +62,17 @@ pub fn trap_in<R: Threads + Sync, G: Gate + Sync>(
         pass,
         mut scratches,
         mut spare,
+        mut works,
+        mut tally,
         mut outcome,
-        mut row,
     } = room;
-    let closed = fill_table(rt, shared, pass, page, &mut scratches, &mut spare, gate);
-    take_rows(&closed, page, &mut row, &mut outcome);
+    let pass = work_many(rt, &shared, pass, page, &mut scratches, gate);
+    let threads = scratches.len();
+    if threads > 1 {
+        take_by_passes(rt, &shared, page, threads, &mut works);
+    }
+    let closed = finish_table(shared, pass, page, &mut spare);
+    take_rest(&closed, page, works, &mut tally, &mut outcome);
     (outcome.into_trapped(page), closed)
 }
 

@@ -4,7 +4,7 @@ use Rattle.trap_engine.specs.Standing.{AreZonesCounted}
 use Rattle.trap_engine.proofs.changes.count_changed.Given as goal
 
 abbrev pub invariant-loop-x : goal.invariant-loop-x
-invariant-loop-x l = record { inside : l.x ≤ length l.changes; counts : AreZonesCounted l.page (l.y * width l.page + l.x) l.counts }
+invariant-loop-x l = record { inside : l.x ≤ length l.changes; counts : AreZonesCounted l.page l.first (l.y * width l.page + l.x) l.counts }
 
 abbrev pub decreases-loop-x : goal.decreases-loop-x
 decreases-loop-x l = length l.changes - l.x

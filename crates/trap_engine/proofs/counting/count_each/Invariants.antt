@@ -4,4 +4,4 @@ use Rattle.trap_engine.specs.Standing.{AreSamplesCounted}
 use Rattle.trap_engine.proofs.counting.count_each.Given as goal
 
 abbrev pub invariant-loop-x : goal.invariant-loop-x
-invariant-loop-x l = AreSamplesCounted l.page (l.y * width l.page + l.x) l.counts
+invariant-loop-x l = AreSamplesCounted l.page l.first (l.y * width l.page + l.x) l.counts

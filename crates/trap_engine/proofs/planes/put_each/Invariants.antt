@@ -1,10 +1,10 @@
-use Rattle.std.proofs.Common.{◌≤◌, ◌-◌, ◌*◌}
+use Rattle.std.proofs.Common.{◌≤◌, ◌+◌, ◌-◌, ◌*◌}
 use Rattle.page_model.specs.Page.{width}
-use Rattle.trap_engine.specs.Standing.{ArePutting}
+use Rattle.trap_engine.specs.Standing.{IsTrappedTo}
 use Rattle.trap_engine.proofs.planes.put_each.Given as goal
 
 abbrev pub invariant-loop-x : goal.invariant-loop-x
-invariant-loop-x l = record { inside : l.x ≤ width l.page; planes : ArePutting l.page l.planes (l.y * width l.page) (width l.page) l.c l.x }
+invariant-loop-x l = record { inside : l.x ≤ width l.page; plane : IsTrappedTo l.page l.c (l.y * width l.page + l.x) l.plane }
 
 abbrev pub decreases-loop-x : goal.decreases-loop-x
 decreases-loop-x l = width l.page - l.x

@@ -1,7 +1,7 @@
-use Rattle.std.proofs.Common.{◌*◌}
+use Rattle.std.proofs.Common.{◌+◌, ◌*◌}
 use Rattle.page_model.specs.Page.{width}
-use Rattle.trap_engine.specs.Standing.{ArePutting}
+use Rattle.trap_engine.specs.Standing.{IsTrappedTo}
 use Rattle.trap_engine.proofs.planes.put_samples.Given as goal
 
 abbrev pub invariant-loop-x : goal.invariant-loop-x
-invariant-loop-x l = ArePutting l.page l.planes (l.y * width l.page) (width l.page) l.c l.x
+invariant-loop-x l = IsTrappedTo l.page l.c (l.y * width l.page + l.x) l.plane

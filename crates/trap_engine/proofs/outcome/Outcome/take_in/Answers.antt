@@ -24,7 +24,7 @@ returns-in_default c =
     record {
       planes = planes_quiet c.args.page.now c.args.self.now.planes c.args.y c.requires.line keeps c.requires.rows.planes;
       zone_samples = rw (with_items_is c.args.self.now.zone_samples c.count_zones.new.counts (omega (arith, c.count_zones.ensures.long, c.requires.rows.zone_samples.long, c.args.self.now.zone_samples.ok))) c.count_zones.ensures;
-      zone_changed = zones_quiet c.args.page.now c.args.y c.args.self.now.zone_changed.items keeps c.requires.rows.zone_changed;
+      zone_changed = zones_quiet c.args.page.now 0 c.args.y c.args.self.now.zone_changed.items keeps c.requires.rows.zone_changed;
       plate_changed = plates_quiet c.args.page.now c.args.y c.args.self.now.plate_changed.items keeps c.requires.rows.plate_changed;
       edges = edges_next c.args.page.now c.args.y c.args.self.now.edges c.edges_in.result c.args.marks.now c.requires.marks c.requires.rows.edges c.edges_in.ensures.count;
       few_edges = few_next c.args.y (width c.args.page.now) c.args.self.now.edges c.edges_in.result (length c.args.marks.now) c.requires.marks.wide c.requires.rows.few_edges c.edges_in.ensures.few;

@@ -1,0 +1,13 @@
+use Rattle.band_claims.proofs.Looking.{looks_more}
+use Rattle.band_pieces.proofs.Looked.{known_before}
+use Rattle.band_pieces.proofs.pages.all_done.Goals as goal
+
+pub loop-piece-preserved : goal.loop-piece-preserved
+loop-piece-preserved c =
+    let v = c.loop-piece.invariant in let d = c.is_done.ensures.answer in
+    record {
+      end = v.end;
+      pass = c.is_done.ensures.pass;
+      looks = rw d.1 (looks_more c.args.pass.now.view c.loop-piece.pass.view c.loop-piece.piece d.0 v.looks);
+      known = rw d.1 (known_before c.loop-piece.pass.view c.loop-piece.piece d.0 v.known (d.2.0 c.if-not-is_done.false));
+    }

@@ -1,0 +1,13 @@
+use Rattle.std.proofs.Common.{◌≡◌, ℕ, ◌<◌}
+use Rattle.page_model.specs.Bands.{pieces_of}
+use Rattle.band_claims.specs.Seating.{Seats}
+use Rattle.band_claims.specs.Views.{Knows, Looks}
+use Rattle.band_pieces.proofs.pages.all_done.Given as goal
+
+abbrev pub invariant-loop-piece : goal.invariant-loop-piece
+invariant-loop-piece l = record {
+  end : l.piece-end ≡ pieces_of l.shared.sheet.layout.bands;
+  pass : Seats l.shared l.pass;
+  looks : Looks l.initial.pass.view l.pass.view;
+  known : (i : ℕ) → i < l.piece → Knows l.pass.view i;
+}

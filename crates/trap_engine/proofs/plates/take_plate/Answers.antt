@@ -1,0 +1,43 @@
+use Rattle.std.proofs.Common.{◌∙◌, arith, refl}
+use Rattle.trap_engine.proofs.CountLemmas.{row_counted}
+use Rattle.trap_engine.proofs.TakeLemmas.{changed_fits, none_changed, plane_begun, plate_all}
+use Rattle.trap_engine.proofs.plates.take_plate.Goals as goal
+
+pub loop-y-init : goal.loop-y-init
+loop-y-init g c = record {
+  end = c.height-y-end.ensures.value;
+  seat = refl;
+  row = c.requires.row;
+  plane = plane_begun c.args.page.now c.args.c c.args.plane.now c.requires.plane;
+  changed = none_changed _ _;
+}
+
+pub read_plate-requires-clause-page : goal.read_plate-requires-clause-page
+read_plate-requires-clause-page g c = rw c.loop-y.invariant.seat c.requires.page
+
+pub read_plate-requires-clause-layout : goal.read_plate-requires-clause-layout
+read_plate-requires-clause-layout g c = rw c.loop-y.invariant.seat c.requires.layout
+
+pub read_plate-requires-clause-fit : goal.read_plate-requires-clause-fit
+read_plate-requires-clause-fit g c = rw c.loop-y.invariant.seat c.requires.fit
+
+pub read_plate-requires-clause-known : goal.read_plate-requires-clause-known
+read_plate-requires-clause-known g c = rw c.loop-y.invariant.seat c.requires.known
+
+pub put_plate_row-changed-requires-clause-after : goal.put_plate_row-changed-requires-clause-after
+put_plate_row-changed-requires-clause-after g c = record { long = c.read_plate.ensures.len ∙ c.loop-y.invariant.row; each = c.read_plate.ensures.tints }
+
+pub overflow_add-changed : goal.overflow_add-changed
+overflow_add-changed g c = omega (arith, changed_fits c.args.page.now c.loop-y.y c.args.c c.loop-y.changed c.put_plate_row-changed.result c.plates-valid.ensures.valid (omega arith) c.put_plate_row-changed.ensures.few c.loop-y.invariant.changed)
+
+pub loop-y-preserved : goal.loop-y-preserved
+loop-y-preserved g c = record {
+  end = c.loop-y.invariant.end;
+  seat = c.read_plate.ensures.seat ∙ c.loop-y.invariant.seat;
+  row = c.read_plate.ensures.len ∙ c.loop-y.invariant.row;
+  plane = c.put_plate_row-changed.ensures.plane;
+  changed = row_counted c.args.page.now c.loop-y.y c.args.c c.loop-y.changed c.put_plate_row-changed.result c.loop-y.invariant.changed c.put_plate_row-changed.ensures.count;
+}
+
+pub returns-clause-taken : goal.returns-clause-taken
+returns-clause-taken g c = plate_all c.args.page.now c.args.c c.loop-y.y c.loop-y.plane c.loop-y.changed (omega (arith, c.loop-y.invariant.end, c.loop-y-test.false, c.loop-y.auto.y-end)) c.loop-y.invariant.plane c.loop-y.invariant.changed

@@ -1,0 +1,15 @@
+use Rattle.std.proofs.Common.{◌≡◌, ◌*◌, length}
+use Rattle.lists.specs.Words.{count_below}
+use Rattle.page_model.specs.Counts.{plate_changes}
+use Rattle.page_model.specs.Page.{height, sample_at, width}
+use Rattle.trap_engine.specs.Standing.{IsTrappedTo}
+use Rattle.trap_engine.proofs.plates.take_plate.Given as goal
+
+abbrev pub invariant-loop-y : goal.invariant-loop-y
+invariant-loop-y g l = record {
+  end : l.y-end ≡ height l.page;
+  seat : l.seat ≡ l.initial.seat;
+  row : length l.row ≡ width l.page;
+  plane : IsTrappedTo l.page l.c (l.y * width l.page) l.plane;
+  changed : l.changed ≡ count_below (λ k. plate_changes l.page l.c (sample_at l.page k)) (l.y * width l.page);
+}

@@ -1,0 +1,57 @@
+-- The result as it is taken out of a table: plate by plate, and then counted.
+use Rattle.std.specs.Prelude.{◌≡◌, ℕ, ◌+◌, ◌*◌, ◌<◌, ◌≤◌, false, true, All, List, length, slice_index_or}
+use Rattle.band_claims.specs.Seating.{OpenTable, Seats}
+use Rattle.page_model.specs.declared.parts.PageParts.{PageParts}
+use Rattle.page_model.specs.declared.parts.Plane.{Plane}
+use Rattle.page_model.specs.Counts.{plate_changes}
+use Rattle.page_model.specs.Page.{height, plates, sample_at, width}
+use Rattle.lists.specs.Words.{count_below, sum_below}
+use Rattle.trap_engine.specs.declared.outcome.Outcome.{Outcome}
+use Rattle.trap_engine.specs.declared.plates.PlateWork.{PlateWork}
+use Rattle.trap_engine.specs.declared.tally.Tally.{Tally}
+use Rattle.trap_engine.specs.Standing.{AreSamplesCounted, AreZonesCounted, IsTrappedTo, edges_of}
+
+-- the plane has all new tints of plate c, and so many of its samples change
+pub record IsTakenPlate (page : PageParts) (c : ℕ) (plane : Plane) (changed : ℕ) : Type 0 where
+  pub trapped : IsTrappedTo page c (height page * width page) plane
+  pub counted : changed ≡ count_below (λ k. plate_changes page c (sample_at page k)) (height page * width page)
+
+-- plate c is taken where the work is done, and is a copy of the page's where it is not
+pub record IsPlateWork (page : PageParts) (c : ℕ) (work : PlateWork) : Type 0 where
+  pub row : length work.row.items ≡ width page
+  pub begun : work.done ≡ false → IsTrappedTo page c 0 work.plane
+  pub ended : work.done ≡ true → IsTakenPlate page c work.plane work.changed
+
+-- the works of all plates
+pub record ArePlateWorks (page : PageParts) (works : List PlateWork) : Type 0 where
+  pub count : length works ≡ plates page
+  pub each : (c : ℕ) (d : PlateWork) → c < plates page → IsPlateWork page c (slice_index_or works c d)
+
+-- and all plates are taken
+pub record AreTakenPlates (page : PageParts) (works : List PlateWork) : Type 0 where
+  pub count : length works ≡ plates page
+  pub each : (c : ℕ) (d : PlateWork) → c < plates page → IsTakenPlate page c (slice_index_or works c d).plane (slice_index_or works c d).changed
+
+-- each has a pass of this table
+abbrev pub AreSeatedWorks : OpenTable → List PlateWork → Type 0
+AreSeatedWorks shared works = All (λ (work : PlateWork). Seats shared work.pass) works
+
+-- the tally has what is counted in the rows from `first` on and before another
+pub record HasCounted (page : PageParts) (first to : ℕ) (tally : Tally) : Type 0 where
+  pub zones : length tally.zones.items ≡ width page
+  pub marks : length tally.marks.items ≡ width page
+  pub changes : length tally.changes.items ≡ width page
+  pub zone_samples : AreSamplesCounted page first (to * width page) tally.zone_samples.items
+  pub zone_changed : AreZonesCounted page first (to * width page) tally.zone_changed.items
+  pub edges : tally.edges + sum_below (edges_of page) (first * width page) ≡ sum_below (edges_of page) (to * width page)
+  pub few_edges : tally.edges + 128 * (first * width page) ≤ 128 * (to * width page)
+
+-- the counts by zones and of edges are those of the first rows; planes and the counts of plates are still to be put in
+pub record HasTallies (page : PageParts) (rows : ℕ) (outcome : Outcome) : Type 0 where
+  pub planes : length outcome.planes ≡ plates page
+  pub plate_changed : length outcome.plate_changed.items ≡ plates page
+  pub zone_samples : AreSamplesCounted page 0 (rows * width page) outcome.zone_samples.items
+  pub zone_changed : AreZonesCounted page 0 (rows * width page) outcome.zone_changed.items
+  pub edges : outcome.edges ≡ sum_below (edges_of page) (rows * width page)
+  pub few_edges : outcome.edges ≤ 128 * (rows * width page)
+  pub changes : length outcome.changes.items ≡ width page

@@ -1,0 +1,151 @@
+// The plates of the result, each read out of a table's cells: by the pass of each, side by side with the others, or from the
+// closed table.
+ghost use Rattle.std.specs.Prelude.{◌≡◌, ℕ, ◌+◌, ◌*◌, ◌<◌, ◌≤◌, length};
+ghost use Rattle.band_claims.specs.Seating.{Seats};
+ghost use Rattle.band_claims.specs.Sheets.{IsFit};
+ghost use Rattle.band_pieces.specs.Finished.{IsFinished};
+ghost use Rattle.page_model.specs.Bands.{pieces_of};
+ghost use Rattle.page_model.specs.Page.{height, plates, width};
+ghost use Rattle.trap_engine.specs.Standing.{IsTrappedTo};
+ghost use Rattle.trap_engine.specs.Taking.{ArePlateWorks, AreSeatedWorks, AreTakenPlates, IsPlateWork, IsTakenPlate};
+
+use crate::planes::put_plate_row;
+use band_claims::{Closed, Pass, Shared};
+use band_pieces::{CellSource, all_done, read_plate};
+use page_model::page::Page;
+use page_model::parts::Plane;
+use row_cells::layout::Layout;
+use std::thread;
+use std::thread::Threads;
+
+/// What a plate of the result is taken with: a pass of its own to read by, room for a row, and the plane. Until it is `done`
+/// the plane is a copy of the page's; then it has its new tints, and `changed` tells how many they are.
+#[derive(Drop)]
+pub struct PlateWork {
+    pub pass: Pass,
+    pub row: Vec<u16>,
+    pub plane: Plane,
+    pub changed: u64,
+    pub done: bool,
+}
+
+/// Takes plate c out of the cells of a table whose pieces are done, row by row, and tells how many of its samples change.
+fn take_plate<S, C: CellSource<S>>(
+    source: &C,
+    seat: &mut S,
+    page: &Page,
+    layout: &Layout,
+    c: u32,
+    row: &mut [u16],
+    plane: &mut Plane,
+) -> u64
+    requires page { page.now ≡ (C.sheet source.now seat.old).page.value }
+    requires layout { layout.now ≡ (C.sheet source.now seat.old).layout }
+    requires fit { IsFit (C.sheet source.now seat.old) }
+    requires known { (i : ℕ) → i < pieces_of layout.now.bands → C.knows source.now seat.old i }
+    requires plate { c < plates page.now }
+    requires row { length row.old ≡ width page.now }
+    requires plane { IsTrappedTo page.now c 0 plane.old }
+    ensures seat { seat.new ≡ seat.old }
+    ensures row { length row.new ≡ width page.now }
+    ensures taken { IsTakenPlate page.now c plane.new result }
+{
+    let _valid = page.plates();
+    let mut changed = 0;
+    for y in 0..page.height() {
+        read_plate(source, seat, page, layout, y, c, row);
+        changed += put_plate_row(page, y, c, row, plane);
+    }
+    changed
+}
+
+/// Takes plate c by the work's own pass, if it finds all pieces done; else the work stays as it is.
+fn take_by_pass(shared: &Shared, page: &Page, c: u32, work: &mut PlateWork)
+    requires page { page.now ≡ shared.now.sheet.page.value }
+    requires plate { c < plates page.now }
+    requires seat { Seats shared.now work.old.pass }
+    requires work { IsPlateWork page.now c work.old }
+    ensures { IsPlateWork page.now c work.new }
+{
+    if work.done {
+        return;
+    }
+    if !all_done(shared, &mut work.pass) {
+        return;
+    }
+    let _fits = shared.bands();
+    work.changed = take_plate(
+        shared,
+        &mut work.pass,
+        page,
+        shared.layout(),
+        c,
+        &mut work.row,
+        &mut work.plane,
+    );
+    work.done = true;
+}
+
+/// Takes all plates by their own passes, in so many threads. A plate whose pass found a piece not done is left.
+pub fn take_by_passes<R: Threads + Sync>(
+    rt: &R,
+    shared: &Shared,
+    page: &Page,
+    threads: usize,
+    works: &mut [PlateWork],
+)
+    requires page { page.now ≡ shared.now.sheet.page.value }
+    requires some { 1 ≤ threads }
+    requires seats { AreSeatedWorks shared.now works.old }
+    requires works { ArePlateWorks page.now works.old }
+    ensures { ArePlateWorks page.now works.new }
+{
+    let _few = page.plates();
+    thread::for_each_mut(
+        rt,
+        works,
+        threads,
+        &|c: usize, work: &mut PlateWork|
+            requires page { page.now ≡ shared.now.sheet.page.value }
+            requires plate { c < plates page.now }
+            requires few { plates page.now ≤ 16 }
+            requires seat { Seats shared.now work.now.pass }
+            requires work { IsPlateWork page.now c work.now }
+            ensures { IsPlateWork page.entry.now c work.exit.now }
+        { take_by_pass(shared, page, c as u32, work) },
+    );
+}
+
+/// Takes plate c out of the closed table, if it is not taken yet.
+fn take_left(closed: &Closed, page: &Page, c: u32, work: &mut PlateWork)
+    requires finished { IsFinished page.now closed.now }
+    requires plate { c < plates page.now }
+    requires work { IsPlateWork page.now c work.old }
+    ensures { IsTakenPlate page.now c work.new.plane work.new.changed }
+{
+    if work.done {
+        return;
+    }
+    let layout = closed.layout();
+    work.changed = take_plate(
+        closed,
+        &mut (),
+        page,
+        layout,
+        c,
+        &mut work.row,
+        &mut work.plane,
+    );
+    work.done = true;
+}
+
+/// Takes out of the closed table the plates that are not taken yet.
+pub fn take_those_left(closed: &Closed, page: &Page, works: &mut [PlateWork])
+    requires finished { IsFinished page.now closed.now }
+    requires works { ArePlateWorks page.now works.old }
+    ensures { AreTakenPlates page.now works.new }
+{
+    for c in 0..page.plates() {
+        take_left(closed, page, c, &mut works[c as usize]);
+    }
+}

@@ -1,0 +1,133 @@
+// What is counted in rows that are read out of a table's cells, beside the planes that were taken out of it.
+ghost use Rattle.std.specs.Prelude.{◌≡◌, ℕ, ◌+◌, ◌*◌, ◌<◌, ◌≤◌, length};
+ghost use Rattle.band_claims.specs.Sheets.{IsFit};
+ghost use Rattle.band_pieces.specs.Finished.{IsFinished};
+ghost use Rattle.page_model.specs.Bands.{pieces_of};
+ghost use Rattle.page_model.specs.Page.{height, width};
+ghost use Rattle.page_model.specs.Zones.{AreZones};
+ghost use Rattle.trap_engine.specs.Standing.{AreMarks};
+ghost use Rattle.trap_engine.specs.Taking.{AreTakenPlates, HasCounted};
+
+use crate::changes::{count_changed, note_taken};
+use crate::counting::{count_zones, edges_in};
+use crate::plates::PlateWork;
+use band_claims::Closed;
+use band_pieces::{CellSource, read_marks, read_zones};
+use band_values::Rows;
+use page_model::page::Page;
+use row_cells::layout::Layout;
+
+/// What is counted in rows, and room for the zones and marks of a row and for where it changes.
+#[derive(Drop)]
+pub struct Tally {
+    pub zones: Vec<u8>,
+    pub marks: Vec<u8>,
+    pub changes: Vec<bool>,
+    pub zone_samples: Vec<u64>,
+    pub zone_changed: Vec<u64>,
+    pub edges: u64,
+}
+
+/// Counts in row y, whose zones and marks are at hand, beside what is counted of the rows from `first` on.
+fn count_row(page: &Page, works: &[PlateWork], first: u32, y: u32, tally: &mut Tally)
+    requires works { AreTakenPlates page.now works.now }
+    requires line { y < height page.now }
+    requires zones { AreZones page.now y tally.old.zones.items }
+    requires marks { AreMarks page.now y tally.old.marks.items }
+    requires tally { HasCounted page.now first y tally.old }
+    ensures { HasCounted page.now first (y + 1) tally.new }
+{
+    let _valid = page.plates();
+    tally.edges += edges_in(&tally.marks);
+    count_zones(page, &tally.zones, first, y, &mut tally.zone_samples);
+    note_taken(page, works, y, &mut tally.changes);
+    count_changed(
+        page,
+        &tally.zones,
+        first,
+        y,
+        &tally.changes,
+        &mut tally.zone_changed,
+    );
+}
+
+/// Counts in row y, out of the cells of a table whose pieces are done.
+fn take_row<S, C: CellSource<S>>(
+    source: &C,
+    seat: &mut S,
+    page: &Page,
+    layout: &Layout,
+    works: &[PlateWork],
+    first: u32,
+    y: u32,
+    tally: &mut Tally,
+)
+    requires page { page.now ≡ (C.sheet source.now seat.old).page.value }
+    requires layout { layout.now ≡ (C.sheet source.now seat.old).layout }
+    requires fit { IsFit (C.sheet source.now seat.old) }
+    requires known { (i : ℕ) → i < pieces_of layout.now.bands → C.knows source.now seat.old i }
+    requires works { AreTakenPlates page.now works.now }
+    requires line { y < height page.now }
+    requires tally { HasCounted page.now first y tally.old }
+    ensures seat { seat.new ≡ seat.old }
+    ensures tally { HasCounted page.now first (y + 1) tally.new }
+{
+    let rows = Rows { first: y, count: 1 };
+    read_zones(source, seat, page, layout, rows, &mut tally.zones);
+    read_marks(source, seat, page, layout, rows, &mut tally.marks);
+    count_row(page, works, first, y, tally);
+}
+
+/// Counts in these rows, out of the cells of a table whose pieces are done.
+fn take_rows<S, C: CellSource<S>>(
+    source: &C,
+    seat: &mut S,
+    page: &Page,
+    layout: &Layout,
+    works: &[PlateWork],
+    rows: Rows,
+    tally: &mut Tally,
+)
+    requires page { page.now ≡ (C.sheet source.now seat.old).page.value }
+    requires layout { layout.now ≡ (C.sheet source.now seat.old).layout }
+    requires fit { IsFit (C.sheet source.now seat.old) }
+    requires known { (i : ℕ) → i < pieces_of layout.now.bands → C.knows source.now seat.old i }
+    requires works { AreTakenPlates page.now works.now }
+    requires inside { rows.first + rows.count ≤ height page.now }
+    requires tally { HasCounted page.now rows.first rows.first tally.old }
+    ensures seat { seat.new ≡ seat.old }
+    ensures tally { HasCounted page.now rows.first (rows.first + rows.count) tally.new }
+{
+    for k in 0..rows.count {
+        take_row(
+            source,
+            seat,
+            page,
+            layout,
+            works,
+            rows.first,
+            rows.first + k,
+            tally,
+        );
+    }
+}
+
+/// Counts in all rows of the page, out of the closed table.
+pub fn count_all(closed: &Closed, page: &Page, works: &[PlateWork], tally: &mut Tally)
+    requires finished { IsFinished page.now closed.now }
+    requires works { AreTakenPlates page.now works.now }
+    requires tally { HasCounted page.now 0 0 tally.old }
+    ensures { HasCounted page.now 0 (height page.now) tally.new }
+{
+    let layout = closed.layout();
+    let count = page.height();
+    take_rows(
+        closed,
+        &mut (),
+        page,
+        layout,
+        works,
+        Rows { first: 0, count },
+        tally,
+    );
+}
