@@ -18,9 +18,9 @@ Timed = namedtuple("Timed", "seconds worked peak_megabytes")
 
 
 def timed(command):
-    """Runs the command once. A text goes to the shell, a list is a program and its words."""
+    """Runs the command once, and lets go of what it prints. A text goes to the shell, a list is a program and its words."""
     start = time.perf_counter()
-    child = subprocess.Popen(command, shell=isinstance(command, str))
+    child = subprocess.Popen(command, shell=isinstance(command, str), stdout=subprocess.DEVNULL)
     _, status, used = os.wait4(child.pid, 0)
     seconds = time.perf_counter() - start
     child.returncode = os.waitstatus_to_exitcode(status)
