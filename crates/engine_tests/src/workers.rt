@@ -62,34 +62,52 @@ fn is_alike_by_each<R: Threads + Sync>(
     Ok(true)
 }
 
-/// Whether the page comes out by any workers as it does on one thread.
+/// Whether trapping changes samples of each plate.
+fn changes_each(trapped: &Trapped) -> bool {
+    trapped
+        .counts
+        .plate_changed
+        .as_slice()
+        .iter()
+        .all(|n| *n > 0)
+}
+
+/// Whether the page comes out by any workers as it does on one thread, and whether each of its plates changes.
 fn is_alike_by_workers<R: Threads + Sync>(
     rt: &R,
     alloc: Global,
     page: &Page,
-) -> Result<bool, Fail> {
+) -> Result<(bool, bool), Fail> {
     let alone = trap_alone(alloc, page)?;
-    is_alike_by_each(rt, alloc, page, &alone)
+    let alike = is_alike_by_each(rt, alloc, page, &alone)?;
+    Ok((alike, changes_each(&alone)))
 }
 
 /// A page by chance of these sides.
-fn page_of(alloc: Global, width: u32, height: u32, reach2: u32) -> Result<Page, Fail>
+fn page_of(alloc: Global, seed: u64, width: u32, height: u32, reach2: u32) -> Result<Page, Fail>
     requires some_width { 1 ≤ width }
     requires narrow { width ≤ 2000 }
     requires some_height { 1 ≤ height }
     requires low { height ≤ 2000 }
     requires near { reach2 ≤ 256 }
 {
-    let mut dice = 2026;
+    let mut dice = seed;
     let shape = some_shape(&mut dice, width, height, reach2);
     Ok(some_page(alloc, &mut dice, shape)?.ok_or("a fault")?)
 }
 
 #[test]
 fn traps_by_any_workers_as_alone(rt: HostRuntime) -> Result<(), Fail> {
-    for (width, height, reach2) in [(9, 23, 5), (1, 40, 0), (70, 7, 40), (30, 130, 256)] {
-        let page = page_of(rt.alloc(), width, height, reach2)?;
-        assert!(rt; is_alike_by_workers(&rt, rt.alloc(), &page)?);
+    for (seed, width, height, reach2, changes) in [
+        (4, 9, 23, 5, true),
+        (2, 3, 40, 7, true),
+        (5, 70, 7, 40, true),
+        (2, 30, 130, 256, true),
+        (2026, 1, 40, 0, false),
+    ] {
+        let page = page_of(rt.alloc(), seed, width, height, reach2)?;
+        let alike = is_alike_by_workers(&rt, rt.alloc(), &page)?;
+        assert!(rt; alike == (true, changes), "{seed}");
     }
     Ok(())
 }

@@ -5,7 +5,7 @@ ghost use Rattle.page_model.specs.Bands.{pieces_of};
 use crate::expected::is_whole;
 use crate::tables::{bands_of, table, two_tiles};
 use band_claims::{Pass, Shared};
-use band_pieces::{Scratch, finish_alone};
+use band_pieces::{Scratch, all_done, finish_alone};
 use band_workers::Maker;
 use page_model::page::Page;
 use page_model::parts::OutOfMemory;
@@ -78,8 +78,9 @@ fn left_at(
     let mut pass = pass;
     let made = make_first(&shared, &mut pass, page, scratch, done);
     let _fits = shared.bands();
+    let all = all_done(&shared, &mut pass);
     let mut closed = shared.close_all(pass);
-    let was_left = made && closed.state(done) == 1;
+    let was_left = made && !all && closed.state(done) == 1;
     finish_alone(&mut closed, page, scratch);
     (was_left, is_whole(&closed, page))
 }
