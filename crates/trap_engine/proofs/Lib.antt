@@ -1,6 +1,7 @@
 pub mod CountLemmas
 pub mod EdgeCount
 pub mod OutcomeLemmas
+pub mod PartLemmas
 pub mod RoomLemmas
 pub mod StandingLemmas
 pub mod TableRows

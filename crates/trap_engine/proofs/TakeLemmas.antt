@@ -19,7 +19,7 @@ use Rattle.trap_engine.proofs.CountLemmas.{count_below-le, few_samples}
 use Rattle.trap_engine.proofs.EdgeCount.{edges_next, few_next}
 use Rattle.trap_engine.proofs.ZoneRows.{numbered}
 use Rattle.trap_engine.specs.Standing.{AreMarks, AreSamplesCounted, AreTrappedTo, AreZonesCounted, HasRows, IsTrappedTo, edges_of}
-use Rattle.trap_engine.specs.Taking.{HasTallies, IsTakenPlate}
+use Rattle.trap_engine.specs.Taking.{HasPlates, HasTallies, IsTakenPlate}
 use Rattle.trap_engine.specs.declared.outcome.Outcome.{Outcome}
 use Rattle.trap_engine.specs.declared.plates.PlateWork.{PlateWork}
 
@@ -108,6 +108,18 @@ tallies_begun page planes o e h = record {
   edges = h.edges;
   few_edges = h.few_edges;
   changes = h.changes;
+}
+
+-- and one to which all was added
+pub all_added : (page : PageParts) (o : Outcome) → HasPlates page (height page) o → HasRows page (height page) o
+all_added page o h = record {
+  planes = h.planes;
+  zone_samples = h.counted.zone_samples;
+  zone_changed = h.counted.zone_changed;
+  plate_changed = h.plate_changed;
+  edges = h.counted.edges;
+  few_edges = h.counted.few_edges;
+  changes = h.counted.changes;
 }
 
 pub planes_begun : (page : PageParts) (planes : List Plane) → AreTrappedTo page planes (0 * width page) → AreTrappedTo page planes 0

@@ -1,5 +1,6 @@
 pub mod Bench
 pub mod Receipts
+pub mod Parts
 pub mod Room
 pub mod Rows
 pub mod Standing

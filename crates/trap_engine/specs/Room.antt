@@ -4,9 +4,10 @@ use Rattle.band_claims.specs.Seating.{OpenTable, Seating, Seats}
 use Rattle.page_model.specs.declared.parts.PageParts.{PageParts}
 use Rattle.row_cells.specs.Layouts.{Layout}
 use Rattle.trap_engine.specs.declared.outcome.Outcome.{Outcome}
+use Rattle.trap_engine.specs.declared.parts.Part.{Part}
 use Rattle.trap_engine.specs.declared.plates.PlateWork.{PlateWork}
-use Rattle.trap_engine.specs.declared.tally.Tally.{Tally}
-use Rattle.trap_engine.specs.Taking.{ArePlateWorks, AreSeatedWorks, HasCounted, HasTallies}
+use Rattle.trap_engine.specs.Parts.{AreParts, AreSeatedParts}
+use Rattle.trap_engine.specs.Taking.{ArePlateWorks, AreSeatedWorks, HasTallies}
 
 pub record PageOf : Type 0 where
   pub value : PageParts
@@ -18,8 +19,8 @@ pub record RoomView : Type 0 where
   pub workers : ℕ
 
 -- a table with its first pass, which holds nothing; the memory of some workers and of the caller, made for the table; and for the
--- table's page the works of its plates, each with a pass of the table, and a tally and an outcome with nothing in them
-pub record IsRoom (shared : OpenTable) (pass : Seating) (scratches : List Layout) (spare : Layout) (works : List PlateWork) (tally : Tally) (outcome : Outcome) : Type 0 where
+-- table's page the works of its plates and the parts of its rows, each with a pass of the table, and an outcome with nothing in it
+pub record IsRoom (shared : OpenTable) (pass : Seating) (scratches : List Layout) (spare : Layout) (works : List PlateWork) (parts : List Part) (outcome : Outcome) : Type 0 where
   pub seat : Seats shared pass
   pub idle : pass.view.held ≡ None
   pub served : All (λ (scratch : Layout). scratch ≡ shared.sheet.layout) scratches
@@ -27,5 +28,6 @@ pub record IsRoom (shared : OpenTable) (pass : Seating) (scratches : List Layout
   pub spare_served : spare ≡ shared.sheet.layout
   pub work_seats : AreSeatedWorks shared works
   pub plate_works : ArePlateWorks shared.sheet.page.value works
-  pub none_counted : HasCounted shared.sheet.page.value 0 0 tally
+  pub part_seats : AreSeatedParts shared parts
+  pub row_parts : AreParts shared.sheet.page.value parts
   pub begun : HasTallies shared.sheet.page.value 0 outcome

@@ -9,7 +9,7 @@ use Rattle.lists.specs.Words.{count_below, sum_below}
 use Rattle.trap_engine.specs.declared.outcome.Outcome.{Outcome}
 use Rattle.trap_engine.specs.declared.plates.PlateWork.{PlateWork}
 use Rattle.trap_engine.specs.declared.tally.Tally.{Tally}
-use Rattle.trap_engine.specs.Standing.{AreSamplesCounted, AreZonesCounted, IsTrappedTo, edges_of}
+use Rattle.trap_engine.specs.Standing.{ArePlatesCounted, AreSamplesCounted, AreTrappedTo, AreZonesCounted, IsTrappedTo, edges_of}
 
 -- the plane has all new tints of plate c, and so many of its samples change
 pub record IsTakenPlate (page : PageParts) (c : ℕ) (plane : Plane) (changed : ℕ) : Type 0 where
@@ -55,3 +55,9 @@ pub record HasTallies (page : PageParts) (rows : ℕ) (outcome : Outcome) : Type
   pub edges : outcome.edges ≡ sum_below (edges_of page) (rows * width page)
   pub few_edges : outcome.edges ≤ 128 * (rows * width page)
   pub changes : length outcome.changes.items ≡ width page
+
+-- all plates are put in with the counts of what changes in each; the counts by zones and of edges are those of the first rows
+pub record HasPlates (page : PageParts) (rows : ℕ) (outcome : Outcome) : Type 0 where
+  pub planes : AreTrappedTo page outcome.planes (height page * width page)
+  pub plate_changed : ArePlatesCounted page (height page * width page) outcome.plate_changed.items
+  pub counted : HasTallies page rows outcome

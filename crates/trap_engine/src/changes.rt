@@ -5,12 +5,10 @@ ghost use Rattle.page_model.specs.Counts.{plate_changes, sample_changes};
 ghost use Rattle.page_model.specs.Page.{height, plates, width};
 ghost use Rattle.page_model.specs.Zones.{AreZones};
 ghost use Rattle.lists.specs.Words.{count_below};
-ghost use Rattle.trap_engine.specs.Standing.{ArePlatesCounted, AreZonesCounted, IsNewRow, IsTrappedTo};
-ghost use Rattle.trap_engine.specs.Taking.{AreTakenPlates};
+ghost use Rattle.trap_engine.specs.Standing.{ArePlatesCounted, AreTrappedTo, AreZonesCounted, IsNewRow, IsTrappedTo};
 
 use crate::blocks::{BLOCK, are_clear, are_same, part_of};
 use crate::counting::one_if;
-use crate::plates::PlateWork;
 use band_values::{row_of, tints_of_row};
 use page_model::page::Page;
 use page_model::parts::Plane;
@@ -130,9 +128,9 @@ fn note_plane(page: &Page, plane: &Plane, y: u32, c: u32, changes: &mut [bool])
     }
 }
 
-/// Notes the samples of row y at which some plate changes. All plates are taken.
-pub fn note_taken(page: &Page, works: &[PlateWork], y: u32, changes: &mut [bool])
-    requires works { AreTakenPlates page.now works.now }
+/// Notes the samples of row y at which some plate changes. These planes have all their new tints.
+pub fn note_taken(page: &Page, planes: &[Plane], y: u32, changes: &mut [bool])
+    requires planes { AreTrappedTo page.now planes.now (height page.now * width page.now) }
     requires line { y < height page.now }
     requires changes { length changes.old ≡ width page.now }
     ensures len { length changes.new ≡ width page.now }
@@ -140,7 +138,7 @@ pub fn note_taken(page: &Page, works: &[PlateWork], y: u32, changes: &mut [bool]
 {
     changes.fill(false);
     for c in 0..page.plates() {
-        note_plane(page, &works[c as usize].plane, y, c, changes);
+        note_plane(page, &planes[c as usize], y, c, changes);
     }
 }
 

@@ -9,6 +9,7 @@ mod grid;
 mod marks;
 mod memory;
 mod outcome;
+mod parts;
 mod planes;
 mod plates;
 mod room;

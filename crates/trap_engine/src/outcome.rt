@@ -5,17 +5,18 @@ ghost use Rattle.page_model.specs.Counts.{page_counts};
 ghost use Rattle.page_model.specs.Page.{height, plates, width};
 ghost use Rattle.page_model.specs.Tints.{trapped_planes};
 ghost use Rattle.page_model.specs.Zones.{AreZones};
+ghost use Rattle.trap_engine.specs.Parts.{AreCountedParts, IsCounted};
 ghost use Rattle.trap_engine.specs.Standing.{AreMarks, ArePlatesCounted, AreTrappedTo, AreZonesCounted, HasRows, IsNewRow, KeepsRow};
-ghost use Rattle.trap_engine.specs.Taking.{AreTakenPlates, HasCounted, HasTallies};
+ghost use Rattle.trap_engine.specs.Taking.{AreTakenPlates, HasPlates, HasTallies};
 
 use crate::alone::Trapped;
 use crate::changes::{count_changed, count_plates, note_changes};
 use crate::counting::{count_zones, edges_in};
 use crate::memory::{filled, no_counts};
+use crate::parts::Part;
 use crate::planes::{copies_of, put_row};
 use crate::plates::PlateWork;
 use crate::sums::add_counts;
-use crate::tally::Tally;
 use lists::list::List;
 use page_model::page::Page;
 use page_model::parts::{Counts, OutOfMemory, PlaneList};
@@ -97,18 +98,6 @@ impl Outcome {
         count_changed(page, zones, 0, y, &self.changes, &mut self.zone_changed);
     }
 
-    /// Adds what is counted in all rows of the page.
-    pub fn add(&mut self, page: &Page, tally: &Tally)
-        requires none { HasTallies page.now 0 self.old }
-        requires counted { HasCounted page.now 0 (height page.now) tally.now }
-        ensures { HasTallies page.now (height page.now) self.new }
-    {
-        let _valid = page.plates();
-        self.edges += tally.edges;
-        add_counts(&mut self.zone_samples, &tally.zone_samples);
-        add_counts(&mut self.zone_changed, &tally.zone_changed);
-    }
-
     /// Puts in plate c, and how many of its samples change. All else stays.
     fn put_in(&mut self, c: usize, work: PlateWork)
         requires plane { c < length self.old.planes }
@@ -126,13 +115,36 @@ impl Outcome {
 
     /// Puts in the plates, which are all taken, and how many samples of each change.
     pub fn put_all_in(&mut self, page: &Page, works: Vec<PlateWork>)
-        requires counted { HasTallies page.now (height page.now) self.old }
+        requires counted { HasTallies page.now 0 self.old }
         requires works { AreTakenPlates page.now works.items }
-        ensures { HasRows page.now (height page.now) self.new }
+        ensures { HasPlates page.now 0 self.new }
     {
         let mut works = works;
         while let Some(work) = works.pop() {
             self.put_in(works.len(), work);
+        }
+    }
+
+    // Adds what is counted in the next part.
+    fn add(&mut self, page: &Page, part: &Part)
+        requires plates { HasPlates page.now part.now.rows.first self.old }
+        requires part { IsCounted page.now part.now }
+        ensures { HasPlates page.now (part.now.rows.first + part.now.rows.count) self.new }
+    {
+        let _valid = page.plates();
+        self.edges += part.tally.edges;
+        add_counts(&mut self.zone_samples, &part.tally.zone_samples);
+        add_counts(&mut self.zone_changed, &part.tally.zone_changed);
+    }
+
+    /// Adds what is counted in all parts of the page.
+    pub fn add_all(&mut self, page: &Page, parts: &[Part])
+        requires plates { HasPlates page.now 0 self.old }
+        requires parts { AreCountedParts page.now parts.now }
+        ensures { HasRows page.now (height page.now) self.new }
+    {
+        for i in 0..parts.len() {
+            self.add(page, &parts[i]);
         }
     }
 

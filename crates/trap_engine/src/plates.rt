@@ -1,6 +1,6 @@
 // The plates of the result, each read out of a table's cells: by the pass of each, side by side with the others, or from the
 // closed table.
-ghost use Rattle.std.specs.Prelude.{◌≡◌, ℕ, ◌+◌, ◌*◌, ◌<◌, ◌≤◌, length};
+ghost use Rattle.std.specs.Prelude.{◌≡◌, ℕ, ◌+◌, ◌*◌, ◌<◌, ◌≤◌, length, slice_index_or, true};
 ghost use Rattle.band_claims.specs.Seating.{Seats};
 ghost use Rattle.band_claims.specs.Sheets.{IsFit};
 ghost use Rattle.band_pieces.specs.Finished.{IsFinished};
@@ -114,6 +114,13 @@ pub fn take_by_passes<R: Threads + Sync>(
             ensures { IsPlateWork page.entry.now c work.exit.now }
         { take_by_pass(shared, page, c as u32, work) },
     );
+}
+
+/// Whether all plates are taken.
+pub fn are_taken(works: &[PlateWork]) -> bool
+    ensures { result ≡ true → (c : ℕ) (d : PlateWork) → c < length works.now → (slice_index_or works.now c d).done ≡ true }
+{
+    works.iter().all(|work| work.done)
 }
 
 /// Takes plate c out of the closed table, if it is not taken yet.

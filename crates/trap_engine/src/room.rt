@@ -9,12 +9,12 @@ ghost use Rattle.page_model.specs.Page.{height, plates, width};
 ghost use Rattle.page_model.specs.Planes.{no_plane as none};
 ghost use Rattle.page_model.specs.Reach.{page_reach};
 ghost use Rattle.trap_engine.specs.Standing.{AreTrappedTo, HasRows};
-ghost use Rattle.trap_engine.specs.Taking.{ArePlateWorks, AreSeatedWorks, HasCounted};
+ghost use Rattle.trap_engine.specs.Taking.{ArePlateWorks, AreSeatedWorks};
 
-use crate::memory::{filled, no_counts, push};
+use crate::memory::{filled, push};
 use crate::outcome::Outcome;
+use crate::parts::{Part, parts_of};
 use crate::plates::PlateWork;
-use crate::tally::Tally;
 use band_claims::{Pass, Shared};
 use band_pieces::Scratch;
 use lists::list::List;
@@ -39,7 +39,8 @@ pub struct TrapRoom {
     pub(crate) spare: Scratch,
     // one for each plate
     pub(crate) works: Vec<PlateWork>,
-    pub(crate) tally: Tally,
+    // the page's rows, one for each worker
+    pub(crate) parts: Vec<Part>,
     pub(crate) outcome: Outcome,
 }
 
@@ -55,7 +56,7 @@ impl Model for TrapRoom {
       workers = length r.scratches.items;
     } };
 
-    ghost invariant = { λ r. IsRoom r.shared r.pass r.scratches.items r.spare r.works.items r.tally r.outcome };
+    ghost invariant = { λ r. IsRoom r.shared r.pass r.scratches.items r.spare r.works.items r.parts.items r.outcome };
 }
 
 /// As many workers as are asked for, or as there are bands, if these are fewer.
@@ -148,22 +149,6 @@ fn works_of(
     Ok((pass, works.into_vec()))
 }
 
-/// The room to count in rows, with nothing counted.
-fn tally_of(alloc: Global, page: &Page) -> Result<Tally, OutOfMemory>
-    ensures { IfOk result (λ tally. HasCounted page.now 0 0 tally) }
-{
-    let width = page.width() as usize;
-    let zones = page.zones() as usize;
-    Ok(Tally {
-        zones: filled(alloc, 0u8, width)?,
-        marks: filled(alloc, 0u8, width)?,
-        changes: filled(alloc, false, width)?,
-        zone_samples: no_counts(alloc, zones)?,
-        zone_changed: no_counts(alloc, zones)?,
-        edges: 0,
-    })
-}
-
 /// The table of a page with its first pass, and an outcome with no row of the page taken in. For more than one worker they
 /// are made side by side: most of that time the system is at work on fresh memory.
 fn table_and_outcome<R: Threads + Sync>(
@@ -225,13 +210,14 @@ impl TrapRoom {
         let (shared, pass, mut outcome) = table_and_outcome(rt, alloc, page, &layout, workers)?;
         let count = workers_for(&bands, workers);
         let (pass, works) = works_of(alloc, page, &shared, pass, &mut outcome.planes)?;
+        let (pass, parts) = parts_of(alloc, page, &shared, pass, page.height() / count + 1)?;
         Ok(TrapRoom {
             shared,
             pass,
             scratches: scratches_of(alloc, page, &bands, count as usize)?,
             spare: Scratch::new(alloc, page, &bands)?,
             works,
-            tally: tally_of(alloc, page)?,
+            parts,
             outcome,
         })
     }

@@ -1,20 +1,21 @@
 // The page by workers at the shared table: they make its pieces, and what comes of it is read out of the table's cells.
-ghost use Rattle.std.specs.Prelude.{◌≡◌, ◌≤◌, IfOk};
+ghost use Rattle.std.specs.Prelude.{◌≡◌, ◌≤◌, IfNone, IfOk, IfSome};
 ghost use Rattle.band_pieces.specs.Finished.{IsFinished};
 ghost use Rattle.page_model.specs.Counts.{page_counts};
 ghost use Rattle.page_model.specs.Limits.{most_band_height, most_workers};
 ghost use Rattle.page_model.specs.Page.{height};
 ghost use Rattle.page_model.specs.Tints.{trapped_planes};
+ghost use Rattle.trap_engine.specs.Parts.{AreParts, AreSeatedParts};
 ghost use Rattle.trap_engine.specs.Receipts.{IsWholeReceipt};
 ghost use Rattle.trap_engine.specs.Standing.{HasRows};
-ghost use Rattle.trap_engine.specs.Taking.{ArePlateWorks, HasCounted, HasTallies};
+ghost use Rattle.trap_engine.specs.Taking.{ArePlateWorks, AreSeatedWorks, HasPlates, HasTallies};
 
 use crate::alone::Trapped;
 use crate::outcome::Outcome;
-use crate::plates::{PlateWork, take_by_passes, take_those_left};
+use crate::parts::{Part, count_by_passes, count_those_left};
+use crate::plates::{PlateWork, are_taken, take_by_passes, take_those_left};
 use crate::room::TrapRoom;
-use crate::tally::{Tally, count_all};
-use band_claims::Closed;
+use band_claims::{Closed, Shared};
 use band_pieces::finish_table;
 use band_workers::{Gate, work_many};
 use page_model::page::Page;
@@ -22,25 +23,56 @@ use page_model::parts::OutOfMemory;
 use std::alloc::Global;
 use std::thread::Threads;
 
+/// Takes the plates by their own passes, in so many threads, and where that took all of them, puts them into the outcome and
+/// counts in the parts by theirs. It gives the works where some plate is left.
+fn take_side_by_side<R: Threads + Sync>(
+    rt: &R,
+    shared: &Shared,
+    page: &Page,
+    works: Vec<PlateWork>,
+    parts: &mut [Part],
+    outcome: &mut Outcome,
+) -> Option<Vec<PlateWork>>
+    requires page { page.now ≡ shared.now.sheet.page.value }
+    requires seats { AreSeatedWorks shared.now works.items }
+    requires works { ArePlateWorks page.now works.items }
+    requires part_seats { AreSeatedParts shared.now parts.old }
+    requires parts { AreParts page.now parts.old }
+    requires outcome { HasTallies page.now 0 outcome.old }
+    ensures left { IfSome result (λ works. ArePlateWorks page.now works.items × HasTallies page.now 0 outcome.new) }
+    ensures none { IfNone result (HasPlates page.now 0 outcome.new) }
+    ensures parts { AreParts page.now parts.new }
+{
+    let mut works = works;
+    take_by_passes(rt, shared, page, parts.len(), &mut works);
+    if !are_taken(&works) {
+        return Some(works);
+    }
+    outcome.put_all_in(page, works);
+    count_by_passes(rt, shared, page, outcome.planes.as_slice(), parts);
+    None
+}
+
 /// Takes out of the closed table what is left, and gives the outcome of the whole page.
 fn take_rest(
     closed: &Closed,
     page: &Page,
-    works: Vec<PlateWork>,
-    tally: &mut Tally,
+    left: Option<Vec<PlateWork>>,
+    parts: &mut [Part],
     outcome: &mut Outcome,
 )
     requires finished { IsFinished page.now closed.now }
-    requires works { ArePlateWorks page.now works.items }
-    requires tally { HasCounted page.now 0 0 tally.old }
-    requires outcome { HasTallies page.now 0 outcome.old }
+    requires left { IfSome left (λ works. ArePlateWorks page.now works.items × HasTallies page.now 0 outcome.old) }
+    requires none { IfNone left (HasPlates page.now 0 outcome.old) }
+    requires parts { AreParts page.now parts.old }
     ensures { HasRows page.now (height page.now) outcome.new }
 {
-    let mut works = works;
-    take_those_left(closed, page, &mut works);
-    count_all(closed, page, &works, tally);
-    outcome.add(page, tally);
-    outcome.put_all_in(page, works);
+    if let Some(mut works) = left {
+        take_those_left(closed, page, &mut works);
+        outcome.put_all_in(page, works);
+    }
+    count_those_left(closed, page, outcome.planes.as_slice(), parts);
+    outcome.add_all(page, parts);
 }
 
 /// Traps the page that the room was made for, by the workers that it has memory for. It takes no memory, refuses
@@ -62,17 +94,18 @@ pub fn trap_in<R: Threads + Sync, G: Gate + Sync>(
         pass,
         mut scratches,
         mut spare,
-        mut works,
-        mut tally,
+        works,
+        mut parts,
         mut outcome,
     } = room;
     let pass = work_many(rt, &shared, pass, page, &mut scratches, gate);
-    let threads = scratches.len();
-    if threads > 1 {
-        take_by_passes(rt, &shared, page, threads, &mut works);
-    }
+    let left = if parts.len() > 1 {
+        take_side_by_side(rt, &shared, page, works, &mut parts, &mut outcome)
+    } else {
+        Some(works)
+    };
     let closed = finish_table(shared, pass, page, &mut spare);
-    take_rest(&closed, page, works, &mut tally, &mut outcome);
+    take_rest(&closed, page, left, &mut parts, &mut outcome);
     (outcome.into_trapped(page), closed)
 }
 

@@ -1,21 +1,21 @@
 // What is counted in rows that are read out of a table's cells, beside the planes that were taken out of it.
-ghost use Rattle.std.specs.Prelude.{◌≡◌, ℕ, ◌+◌, ◌*◌, ◌<◌, ◌≤◌, length};
+ghost use Rattle.std.specs.Prelude.{◌≡◌, ℕ, ◌+◌, ◌*◌, ◌<◌, ◌≤◌, IfOk};
 ghost use Rattle.band_claims.specs.Sheets.{IsFit};
-ghost use Rattle.band_pieces.specs.Finished.{IsFinished};
 ghost use Rattle.page_model.specs.Bands.{pieces_of};
 ghost use Rattle.page_model.specs.Page.{height, width};
 ghost use Rattle.page_model.specs.Zones.{AreZones};
-ghost use Rattle.trap_engine.specs.Standing.{AreMarks};
-ghost use Rattle.trap_engine.specs.Taking.{AreTakenPlates, HasCounted};
+ghost use Rattle.trap_engine.specs.Standing.{AreMarks, AreTrappedTo};
+ghost use Rattle.trap_engine.specs.Taking.{HasCounted};
 
 use crate::changes::{count_changed, note_taken};
 use crate::counting::{count_zones, edges_in};
-use crate::plates::PlateWork;
-use band_claims::Closed;
+use crate::memory::{filled, no_counts};
 use band_pieces::{CellSource, read_marks, read_zones};
 use band_values::Rows;
 use page_model::page::Page;
+use page_model::parts::{OutOfMemory, Plane};
 use row_cells::layout::Layout;
+use std::alloc::Global;
 
 /// What is counted in rows, and room for the zones and marks of a row and for where it changes.
 #[derive(Drop)]
@@ -28,9 +28,25 @@ pub struct Tally {
     pub edges: u64,
 }
 
+/// The room to count in rows from `first` on, with nothing counted.
+pub fn tally_of(alloc: Global, page: &Page, first: u32) -> Result<Tally, OutOfMemory>
+    ensures { IfOk result (λ tally. HasCounted page.now first first tally) }
+{
+    let width = page.width() as usize;
+    let zones = page.zones() as usize;
+    Ok(Tally {
+        zones: filled(alloc, 0u8, width)?,
+        marks: filled(alloc, 0u8, width)?,
+        changes: filled(alloc, false, width)?,
+        zone_samples: no_counts(alloc, zones)?,
+        zone_changed: no_counts(alloc, zones)?,
+        edges: 0,
+    })
+}
+
 /// Counts in row y, whose zones and marks are at hand, beside what is counted of the rows from `first` on.
-fn count_row(page: &Page, works: &[PlateWork], first: u32, y: u32, tally: &mut Tally)
-    requires works { AreTakenPlates page.now works.now }
+fn count_row(page: &Page, planes: &[Plane], first: u32, y: u32, tally: &mut Tally)
+    requires planes { AreTrappedTo page.now planes.now (height page.now * width page.now) }
     requires line { y < height page.now }
     requires zones { AreZones page.now y tally.old.zones.items }
     requires marks { AreMarks page.now y tally.old.marks.items }
@@ -40,7 +56,7 @@ fn count_row(page: &Page, works: &[PlateWork], first: u32, y: u32, tally: &mut T
     let _valid = page.plates();
     tally.edges += edges_in(&tally.marks);
     count_zones(page, &tally.zones, first, y, &mut tally.zone_samples);
-    note_taken(page, works, y, &mut tally.changes);
+    note_taken(page, planes, y, &mut tally.changes);
     count_changed(
         page,
         &tally.zones,
@@ -57,7 +73,7 @@ fn take_row<S, C: CellSource<S>>(
     seat: &mut S,
     page: &Page,
     layout: &Layout,
-    works: &[PlateWork],
+    planes: &[Plane],
     first: u32,
     y: u32,
     tally: &mut Tally,
@@ -66,7 +82,7 @@ fn take_row<S, C: CellSource<S>>(
     requires layout { layout.now ≡ (C.sheet source.now seat.old).layout }
     requires fit { IsFit (C.sheet source.now seat.old) }
     requires known { (i : ℕ) → i < pieces_of layout.now.bands → C.knows source.now seat.old i }
-    requires works { AreTakenPlates page.now works.now }
+    requires planes { AreTrappedTo page.now planes.now (height page.now * width page.now) }
     requires line { y < height page.now }
     requires tally { HasCounted page.now first y tally.old }
     ensures seat { seat.new ≡ seat.old }
@@ -75,16 +91,16 @@ fn take_row<S, C: CellSource<S>>(
     let rows = Rows { first: y, count: 1 };
     read_zones(source, seat, page, layout, rows, &mut tally.zones);
     read_marks(source, seat, page, layout, rows, &mut tally.marks);
-    count_row(page, works, first, y, tally);
+    count_row(page, planes, first, y, tally);
 }
 
 /// Counts in these rows, out of the cells of a table whose pieces are done.
-fn take_rows<S, C: CellSource<S>>(
+pub fn take_rows<S, C: CellSource<S>>(
     source: &C,
     seat: &mut S,
     page: &Page,
     layout: &Layout,
-    works: &[PlateWork],
+    planes: &[Plane],
     rows: Rows,
     tally: &mut Tally,
 )
@@ -92,7 +108,7 @@ fn take_rows<S, C: CellSource<S>>(
     requires layout { layout.now ≡ (C.sheet source.now seat.old).layout }
     requires fit { IsFit (C.sheet source.now seat.old) }
     requires known { (i : ℕ) → i < pieces_of layout.now.bands → C.knows source.now seat.old i }
-    requires works { AreTakenPlates page.now works.now }
+    requires planes { AreTrappedTo page.now planes.now (height page.now * width page.now) }
     requires inside { rows.first + rows.count ≤ height page.now }
     requires tally { HasCounted page.now rows.first rows.first tally.old }
     ensures seat { seat.new ≡ seat.old }
@@ -104,30 +120,10 @@ fn take_rows<S, C: CellSource<S>>(
             seat,
             page,
             layout,
-            works,
+            planes,
             rows.first,
             rows.first + k,
             tally,
         );
     }
-}
-
-/// Counts in all rows of the page, out of the closed table.
-pub fn count_all(closed: &Closed, page: &Page, works: &[PlateWork], tally: &mut Tally)
-    requires finished { IsFinished page.now closed.now }
-    requires works { AreTakenPlates page.now works.now }
-    requires tally { HasCounted page.now 0 0 tally.old }
-    ensures { HasCounted page.now 0 (height page.now) tally.new }
-{
-    let layout = closed.layout();
-    let count = page.height();
-    take_rows(
-        closed,
-        &mut (),
-        page,
-        layout,
-        works,
-        Rows { first: 0, count },
-        tally,
-    );
 }

@@ -1,19 +1,19 @@
 use Rattle.std.proofs.Common.{◌≡◌, ◌∙◌, ap, arith, sym}
 use Rattle.std.proofs.lemmas.List.{with_items_is}
 use Rattle.band_claims.specs.declared.sheet.Sheet.{Sheet}
+use Rattle.trap_engine.specs.Parts.{AreParts}
 use Rattle.trap_engine.specs.Room.{RoomView}
-use Rattle.trap_engine.specs.Taking.{ArePlateWorks}
-use Rattle.trap_engine.proofs.table.trap_in.Goals.{then-threads-gt1, else-threads-gt1}
+use Rattle.trap_engine.proofs.table.trap_in.Goals.{then-len-gt1, else-len-gt1}
 use Rattle.trap_engine.proofs.table.trap_in.Goals as goal
 
-pub take_rest-requires-clause-works : goal.take_rest-requires-clause-works
-take_rest-requires-clause-works g c =
+pub take_rest-requires-clause-parts : goal.take_rest-requires-clause-parts
+take_rest-requires-clause-parts g c =
     let page : c.args.page.now ≡ c.room.inside.shared.sheet.page.value = c.requires.page ∙ sym (ap (λ (r : RoomView). r.page.value) c.room.view_is) in
-    let works : ArePlateWorks c.args.page.now c.room.inside.works.items = rw page c.room.invariant.plate_works in
-    elim c.if-threads-gt1.branch [
-      | then-threads-gt1 w ↦ rw (w.works-is, with_items_is c.room.inside.works w.take_by_passes.new.works (omega (arith, w.take_by_passes.ensures.count, works.count, c.room.inside.works.ok))) w.take_by_passes.ensures
-      | else-threads-gt1 w ↦ rw w.works-is works
-    ]
+    let parts : AreParts c.args.page.now c.room.inside.parts.items = rw page c.room.invariant.row_parts in
+    rw c.deref_mut-2.ensures.value (elim c.if-len-gt1.branch [
+      | then-len-gt1 w ↦ rw (w.parts-is, with_items_is c.room.inside.parts w.take_side_by_side-left.new.parts (omega (arith, w.take_side_by_side-left.auto.parts, c.room.inside.parts.ok))) w.take_side_by_side-left.ensures.parts
+      | else-len-gt1 w ↦ rw w.parts-is parts
+    ])
 
 pub returns-clause-receipt : goal.returns-clause-receipt
 returns-clause-receipt g c = record {

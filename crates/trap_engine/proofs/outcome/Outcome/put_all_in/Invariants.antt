@@ -11,7 +11,7 @@ use Rattle.trap_engine.proofs.outcome.Outcome.put_all_in.Given as goal
 
 abbrev pub invariant-loop-work : goal.invariant-loop-work
 invariant-loop-work l = record {
-  counted : HasTallies l.page (height l.page) l.self;
+  counted : HasTallies l.page 0 l.self;
   few : vec_len l.works ≤ plates l.page;
   works : (j : ℕ) (d : PlateWork) → j < vec_len l.works → IsTakenPlate l.page j (slice_index_or l.works.items j d).plane (slice_index_or l.works.items j d).changed;
   planes : (j : ℕ) → vec_len l.works ≤ j → j < plates l.page → IsTrappedTo l.page j (height l.page * width l.page) (plane_at l.self.planes j);

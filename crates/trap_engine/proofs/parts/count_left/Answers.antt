@@ -1,0 +1,5 @@
+use Rattle.trap_engine.proofs.TableRows.{cells_held}
+use Rattle.trap_engine.proofs.parts.count_left.Goals as goal
+
+pub take_rows-requires-clause-known : goal.take_rows-requires-clause-known
+take_rows-requires-clause-known c = λ i _. cells_held c.args.page.now c.args.closed.now i c.requires.finished

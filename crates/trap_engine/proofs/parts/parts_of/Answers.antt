@@ -1,0 +1,29 @@
+use Rattle.std.proofs.Common.{◌≡◌, ◌∙◌, ◌+◌, ◌≤◌, ◌∷◌, ◌++◌, [], ap, arith, false, refl, sym, true}
+use Rattle.std.proofs.lemmas.Bool.{false≢true}
+use Rattle.std.proofs.lemmas.List.Elements.{All-append, All-cons}
+use Rattle.band_claims.specs.Seating.{Seats}
+use Rattle.band_claims.specs.declared.view.View.{View}
+use Rattle.trap_engine.proofs.PartLemmas.{all_laid, none_laid, one_laid}
+use Rattle.trap_engine.specs.Parts.{IsPart}
+use Rattle.trap_engine.specs.declared.parts.Part.{Part}
+use Rattle.trap_engine.proofs.parts.parts_of.Goals as goal
+
+pub loop-first-preserved : goal.loop-first-preserved
+loop-first-preserved c =
+    let page = c.args.page.now in let v = c.loop-first.invariant in let parts = c.loop-first.parts in
+    let one : Part = record { rows = record { first = c.loop-first.first; count = c.min-count.result }; pass = c.split-kept.result.1; tally = c.in_ok-tally_of.field-0; done = false } in
+    let grown : c.push.new.list ≡ parts ++ one ∷ [] = c.in_ok-push.ensures in
+    let inside : c.loop-first.first + c.min-count.result ≤ c.height-height.result = omega (arith, c.min-count.ensures, c.loop-first-test.true) in
+    let here : IsPart page one = record {
+      inside = omega (arith, inside, v.tall);
+      begun = λ _. c.in_ok-tally_of.ensures;
+      ended = λ t. absurd (false≢true t);
+    } in
+    record {
+      tall = v.tall;
+      inside = inside;
+      seat = c.split-kept.ensures.first;
+      idle = ap (λ (w : View). w.held) c.split-kept.ensures.kept ∙ v.idle;
+      laid = rw grown (one_laid page c.loop-first.first parts one refl here v.laid);
+      seats = rw grown (All-append (λ (p : Part). Seats c.args.shared.now p.pass) parts (one ∷ []) v.seats (All-cons (λ (p : Part). Seats c.args.shared.now p.pass) one [] c.split-kept.ensures.second (λ j d none. absurd (omega arith))));
+    }

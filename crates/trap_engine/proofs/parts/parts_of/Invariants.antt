@@ -1,0 +1,19 @@
+use Rattle.std.proofs.Common.{◌≡◌, ◌-◌, ◌≤◌, None}
+use Rattle.band_claims.specs.Seating.{Seats}
+use Rattle.page_model.specs.Page.{height}
+use Rattle.trap_engine.specs.Parts.{AreSeatedParts}
+use Rattle.trap_engine.proofs.PartLemmas.{AreLaid}
+use Rattle.trap_engine.proofs.parts.parts_of.Given as goal
+
+abbrev pub invariant-loop-first : goal.invariant-loop-first
+invariant-loop-first l = record {
+  tall : l.height ≡ height l.page;
+  inside : l.first ≤ l.height;
+  seat : Seats l.shared l.pass;
+  idle : l.pass.view.held ≡ None;
+  laid : AreLaid l.page l.first l.parts;
+  seats : AreSeatedParts l.shared l.parts;
+}
+
+abbrev pub decreases-loop-first : goal.decreases-loop-first
+decreases-loop-first l = l.height - l.first

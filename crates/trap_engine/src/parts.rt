@@ -1,0 +1,164 @@
+// The page's rows in parts, and what is counted in each out of a table's cells: by the pass of each, side by side with the others,
+// or from the closed table.
+ghost use Rattle.std.specs.Prelude.{◌≡◌, ℕ, ◌+◌, ◌*◌, ◌<◌, ◌≤◌, IfOk, None};
+ghost use Rattle.band_claims.specs.Seating.{Seats};
+ghost use Rattle.band_claims.specs.Sheets.{IsFit};
+ghost use Rattle.band_pieces.specs.Finished.{IsFinished};
+ghost use Rattle.page_model.specs.Bands.{pieces_of};
+ghost use Rattle.page_model.specs.Page.{height, width};
+ghost use Rattle.trap_engine.specs.Parts.{AreCountedParts, AreParts, AreSeatedParts, IsCounted, IsPart};
+ghost use Rattle.trap_engine.specs.Standing.{AreTrappedTo};
+
+use crate::memory::push;
+use crate::tally::{Tally, take_rows, tally_of};
+use band_claims::{Closed, Pass, Shared};
+use band_pieces::all_done;
+use band_values::Rows;
+use lists::list::List;
+use page_model::page::Page;
+use page_model::parts::{OutOfMemory, Plane};
+use std::alloc::Global;
+use std::thread;
+use std::thread::Threads;
+
+/// Some rows of the page, with a pass of their own to read by. Until it is `done` nothing is counted in them; then the tally has
+/// all that there is.
+#[derive(Drop)]
+pub struct Part {
+    pub rows: Rows,
+    pub pass: Pass,
+    pub tally: Tally,
+    pub done: bool,
+}
+
+/// The page's rows in parts of so many rows, one after the other; the last has what is left. A pass for each is split off.
+pub fn parts_of(
+    alloc: Global,
+    page: &Page,
+    shared: &Shared,
+    pass: Pass,
+    size: u32,
+) -> Result<(Pass, Vec<Part>), OutOfMemory>
+    requires pass { Seats shared.now pass }
+    requires idle { pass.view.held ≡ None }
+    requires some { 1 ≤ size }
+    ensures pass { IfOk result (λ t. Seats shared.now t.0) }
+    ensures idle { IfOk result (λ t. t.0.view.held ≡ None) }
+    ensures parts { IfOk result (λ t. AreParts page.now t.1.items) }
+    ensures seats { IfOk result (λ t. AreSeatedParts shared.now t.1.items) }
+{
+    let height = page.height();
+    let mut pass = pass;
+    let mut parts = List::new(alloc);
+    let mut first = 0;
+    while first < height {
+        let (kept, other) = shared.split(pass);
+        pass = kept;
+        let count = (height - first).min(size);
+        let part = Part {
+            rows: Rows { first, count },
+            pass: other,
+            tally: tally_of(alloc, page, first)?,
+            done: false,
+        };
+        push(&mut parts, part)?;
+        first += count;
+    }
+    Ok((pass, parts.into_vec()))
+}
+
+/// Counts in the rows of a part by its own pass, if it finds all pieces done; else the part stays as it is. These planes have
+/// all their new tints.
+fn count_by_pass(shared: &Shared, page: &Page, planes: &[Plane], part: &mut Part)
+    requires page { page.now ≡ shared.now.sheet.page.value }
+    requires planes { AreTrappedTo page.now planes.now (height page.now * width page.now) }
+    requires seat { Seats shared.now part.old.pass }
+    requires part { IsPart page.now part.old }
+    ensures rows { part.new.rows ≡ part.old.rows }
+    ensures part { IsPart page.now part.new }
+{
+    if part.done {
+        return;
+    }
+    if !all_done(shared, &mut part.pass) {
+        return;
+    }
+    let _fits = shared.bands();
+    take_rows(
+        shared,
+        &mut part.pass,
+        page,
+        shared.layout(),
+        planes,
+        part.rows,
+        &mut part.tally,
+    );
+    part.done = true;
+}
+
+/// Counts in all parts by their own passes, in a thread for each. A part whose pass found a piece not done is left. These planes
+/// have all their new tints.
+pub fn count_by_passes<R: Threads + Sync>(
+    rt: &R,
+    shared: &Shared,
+    page: &Page,
+    planes: &[Plane],
+    parts: &mut [Part],
+)
+    requires page { page.now ≡ shared.now.sheet.page.value }
+    requires planes { AreTrappedTo page.now planes.now (height page.now * width page.now) }
+    requires seats { AreSeatedParts shared.now parts.old }
+    requires parts { AreParts page.now parts.old }
+    ensures { AreParts page.now parts.new }
+{
+    let threads = parts.len();
+    thread::for_each_mut(
+        rt,
+        parts,
+        threads,
+        &|_i: usize, part: &mut Part|
+            requires page { page.now ≡ shared.now.sheet.page.value }
+            requires planes { AreTrappedTo page.now planes.now (height page.now * width page.now) }
+            requires seat { Seats shared.now part.now.pass }
+            requires part { IsPart page.now part.now }
+            ensures rows { part.exit.now.rows ≡ part.entry.now.rows }
+            ensures part { IsPart page.entry.now part.exit.now }
+        { count_by_pass(shared, page, planes, part) },
+    );
+}
+
+/// Counts in the rows of a part out of the closed table, if it is not done yet.
+fn count_left(closed: &Closed, page: &Page, planes: &[Plane], part: &mut Part)
+    requires finished { IsFinished page.now closed.now }
+    requires planes { AreTrappedTo page.now planes.now (height page.now * width page.now) }
+    requires part { IsPart page.now part.old }
+    ensures rows { part.new.rows ≡ part.old.rows }
+    ensures part { IsCounted page.now part.new }
+{
+    if part.done {
+        return;
+    }
+    let layout = closed.layout();
+    take_rows(
+        closed,
+        &mut (),
+        page,
+        layout,
+        planes,
+        part.rows,
+        &mut part.tally,
+    );
+    part.done = true;
+}
+
+/// Counts out of the closed table in the parts that are not done yet. These planes have all their new tints.
+pub fn count_those_left(closed: &Closed, page: &Page, planes: &[Plane], parts: &mut [Part])
+    requires finished { IsFinished page.now closed.now }
+    requires planes { AreTrappedTo page.now planes.now (height page.now * width page.now) }
+    requires parts { AreParts page.now parts.old }
+    ensures { AreCountedParts page.now parts.new }
+{
+    for i in 0..parts.len() {
+        count_left(closed, page, planes, &mut parts[i]);
+    }
+}
