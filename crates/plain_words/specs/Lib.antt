@@ -3,3 +3,5 @@ pub mod Names
 pub mod Parts
 pub mod Held
 pub mod Distinct
+pub mod Inputs
+pub mod Plates

@@ -2,6 +2,7 @@
 #![tactic(auto)]
 
 pub mod distinct;
+pub mod inputs;
 pub mod names;
 pub mod numbers;
 pub mod parts;

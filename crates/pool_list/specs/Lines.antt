@@ -4,6 +4,7 @@ use Rattle.std.specs.List.{list_all, list_any, slice_split}
 use Rattle.std.specs.Str.{is_utf8}
 use Rattle.plain_words.specs.Distinct.{are_distinct}
 use Rattle.plain_words.specs.Parts.{PlateNames, is_plate, is_some_text, parts_of}
+use Rattle.plain_words.specs.Plates.{inputs_of, names_of, outputs_of}
 
 -- a job: its file, the file of its report, and for each plate the colorant's name, the file that is read and the one that is written
 pub record LineParts : Type 0 where
@@ -29,17 +30,13 @@ is_lf b = eqb b 10
 abbrev pub is_space : ℕ → Bool
 is_space b = eqb b 32
 
--- the names of the plates' colorants
-abbrev pub names_of : List PlateNames → List (List ℕ)
-names_of = map (λ p. p.name)
-
 -- one to sixteen words NAME:IN:OUT, and no name twice
 abbrev pub are_plates : List (List ℕ) → Bool
 are_plates words = nat_le 1 (length words) && nat_le (length words) 16 && list_all (λ w. is_plate (parts_of w)) words && are_distinct (names_of (map parts_of words))
 
 -- the job of these words
 abbrev pub line_with : List ℕ → List ℕ → List PlateNames → LineParts
-line_with job report plates = line_parts job report (names_of plates) (map (λ p. p.input) plates) (map (λ p. p.output) plates)
+line_with job report plates = line_parts job report (names_of plates) (inputs_of plates) (outputs_of plates)
 
 -- JOB REPORT NAME:IN:OUT ..., no word being empty
 abbrev pub line_of_words : List (List ℕ) → Option LineParts

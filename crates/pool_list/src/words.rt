@@ -5,7 +5,8 @@ ghost use Rattle.std.specs.List.{list_all, list_any, slice_split};
 ghost use Rattle.std.specs.Str.{bytes_eq};
 ghost use Rattle.plain_words.specs.Distinct.{are_distinct};
 ghost use Rattle.plain_words.specs.Parts.{is_plate as plate_test, parts_of};
-ghost use Rattle.pool_list.specs.Lines.{are_plates as plates_test, is_lf, is_space, line_of, line_of_words as words_meant, line_with, names_of as names_meant};
+ghost use Rattle.plain_words.specs.Plates.{names_of as names_meant};
+ghost use Rattle.pool_list.specs.Lines.{are_plates as plates_test, is_lf, is_space, line_of, line_of_words as words_meant, line_with};
 
 use crate::line::ListLine;
 use lists::list::List;

@@ -2,7 +2,7 @@
 
 ghost use Rattle.std.specs.Prelude.{◌≡◌, IfOk, map, string_bytes};
 ghost use Rattle.plain_words.specs.Parts.{input_of};
-ghost use Rattle.press_check.specs.Words.{inputs_of as inputs_meant, names_of as names_meant};
+ghost use Rattle.plain_words.specs.Inputs.{inputs_of as inputs_meant, names_of as names_meant};
 
 use lists::list::List;
 use lists::names::{NameList, OutOfMemory, copied};

@@ -7,7 +7,7 @@ use Rattle.run_reading.specs.Gathering.{HoldsRun}
 use Rattle.run_reading.specs.Held.{IsHeld, order_in}
 use Rattle.run_reading.specs.Reading.{AnswersRunJob, ReadsRunJob}
 use Rattle.run_reading.specs.Reading.{AnswersRunJob as answers}
-use Rattle.run_reading.specs.Words.{inputs_of}
+use Rattle.plain_words.specs.Plates.{inputs_of}
 use Rattle.run_reading.specs.declared.gather.Held.{Held}
 use Rattle.run_verdicts.specs.declared.stop.RunStop.{RunStop}
 use Rattle.run_verdicts.specs.declared.stop.RunStop.TheVariants.{Whole, TooManyPages}

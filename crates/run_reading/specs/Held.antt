@@ -1,7 +1,8 @@
 -- What the program holds of a run, as the words that it stands for.
 use Rattle.std.specs.Prelude.{◌≡◌, ◌≤◌, length, map, string_bytes}
 use Rattle.plain_words.specs.Parts.{parts_of}
-use Rattle.run_reading.specs.Words.{RunWords, inputs_of, names_of}
+use Rattle.plain_words.specs.Plates.{inputs_of, names_of}
+use Rattle.run_reading.specs.Words.{RunWords}
 use Rattle.run_reading.specs.declared.gather.Held.{Held}
 use Rattle.run_reading.specs.declared.words.RunOrder.{RunOrder}
 

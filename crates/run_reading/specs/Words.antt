@@ -4,9 +4,9 @@ use Rattle.std.specs.Char.{is_ascii_digit}
 use Rattle.std.specs.List.{list_all, list_any}
 use Rattle.std.specs.Str.{bytes_eq}
 use Rattle.page_gather.specs.Inputs.{Sources}
-use Rattle.plain_words.specs.Distinct.{are_distinct}
 use Rattle.plain_words.specs.Numbers.{number_of}
-use Rattle.plain_words.specs.Parts.{PlateNames, is_plate, parts_of}
+use Rattle.plain_words.specs.Parts.{PlateNames, parts_of}
+use Rattle.plain_words.specs.Plates.{are_plates, inputs_of, names_of, outputs_of, stand_together}
 use Rattle.verdicts.specs.Verdicts.{Targets}
 
 -- a run over many pages: its workers, the rows of its bands, the files that are read and written
@@ -17,18 +17,6 @@ pub record RunWords : Type 0 where
   pub report : List ℕ
   pub plates : List PlateNames
 
--- the names of the plates' colorants
-abbrev pub names_of : List PlateNames → List (List ℕ)
-names_of = map (λ p. p.name)
-
--- the files that the plates are read from
-abbrev pub inputs_of : List PlateNames → List (List ℕ)
-inputs_of = map (λ p. p.input)
-
--- the names of the plates' files that are written, before a page's number is put behind them
-abbrev pub outputs_of : List PlateNames → List (List ℕ)
-outputs_of = map (λ p. p.output)
-
 -- the files that are read, with the plates' names
 abbrev pub sources_of : RunWords → Sources
 sources_of order = record { job = order.job; names = names_of order.plates; inputs = inputs_of order.plates }
@@ -36,14 +24,6 @@ sources_of order = record { job = order.job; names = names_of order.plates; inpu
 -- the files that are written, before a page's number is put behind them
 abbrev pub targets_of : RunWords → Targets
 targets_of order = record { outputs = outputs_of order.plates; report = order.report }
-
--- one to sixteen words, each of them NAME:IN:OUT
-abbrev pub are_plates : List (List ℕ) → Bool
-are_plates words = nat_le 1 (length words) && nat_le (length words) 16 && list_all (λ w. is_plate (parts_of w)) words
-
--- the plates have different names, and the files that are written are different ones, the report among them
-abbrev pub stand_together : List ℕ → List PlateNames → Bool
-stand_together report plates = are_distinct (names_of plates) && are_distinct (report ∷ outputs_of plates)
 
 -- `.` and at least one digit
 abbrev pub is_number_end : List ℕ → Bool

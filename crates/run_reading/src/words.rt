@@ -5,7 +5,8 @@ ghost use Rattle.std.specs.Str.{bytes_eq};
 ghost use Rattle.plain_words.specs.Distinct.{are_distinct};
 ghost use Rattle.plain_words.specs.Parts.{is_plate as plate_test, parts_of};
 ghost use Rattle.run_reading.specs.Held.{order_in, IsWithin};
-ghost use Rattle.run_reading.specs.Words.{are_plates as plates_test, inputs_of, is_number_end as number_end_test, is_page_file as page_file_test, is_written as written_test, names_of, order_of, order_with as order_meant, outputs_of, plates_of, reads_page_file as reads_test, stand_together as together_test};
+ghost use Rattle.plain_words.specs.Plates.{are_plates as plates_test, inputs_of, names_of, outputs_of, stand_together as together_test};
+ghost use Rattle.run_reading.specs.Words.{is_number_end as number_end_test, is_page_file as page_file_test, is_written as written_test, order_of, order_with as order_meant, plates_of, reads_page_file as reads_test};
 
 use plain_words::numbers::read_number;
 use plain_words::parts::{is_plate, plate_parts};

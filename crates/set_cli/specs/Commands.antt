@@ -2,7 +2,8 @@
 use Rattle.std.specs.Prelude.{ℕ, List, [], ◌∷◌, ◌++◌, map}
 use Rattle.page_gather.specs.Inputs.{Sources, read_files}
 use Rattle.plain_words.specs.Parts.{InputNames, CopyNames}
-use Rattle.set_words.specs.Words.{TrapsWords, ApplyWords, Command, Traps, Apply, names_of, outputs_of}
+use Rattle.plain_words.specs.Inputs.{names_of}
+use Rattle.set_words.specs.Words.{TrapsWords, ApplyWords, Command, Traps, Apply, outputs_of}
 
 -- the job and the plates of `traps`, with the plates' names
 abbrev pub sources_of : TrapsWords → Sources

@@ -1,7 +1,8 @@
 ghost use Rattle.std.specs.Prelude.{◌≤◌, length, map};
 ghost use Rattle.set_cli.specs.Endings.{CarriesOut};
 ghost use Rattle.set_cli.specs.Putting.{AreInRange, PutsPlates};
-ghost use Rattle.set_words.specs.Held.{AreFew, apply_in};
+ghost use Rattle.plain_words.specs.Inputs.{AreFew};
+ghost use Rattle.set_words.specs.Held.{apply_in};
 ghost use Rattle.set_words.specs.Words.{Apply as apply};
 
 use crate::cause::Cause;

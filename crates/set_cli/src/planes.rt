@@ -4,7 +4,8 @@ ghost use Rattle.std.specs.Prelude.{◌≡◌, ◌≤◌, All, IfOk, MatchResult
 ghost use Rattle.pgm_plates.specs.Planes.{plane_of};
 ghost use Rattle.pgm_plates.specs.Plates.{IsPlate};
 ghost use Rattle.set_cli.specs.Putting.{Patches, PatchesPlanes, ReadsPlanes};
-ghost use Rattle.set_words.specs.Held.{AreFew, apply_in};
+ghost use Rattle.plain_words.specs.Inputs.{AreFew};
+ghost use Rattle.set_words.specs.Held.{apply_in};
 ghost use Rattle.trap_set.specs.Applying.{IsFull};
 
 use crate::cause::Cause;

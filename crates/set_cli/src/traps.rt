@@ -3,7 +3,8 @@ ghost use Rattle.page_gather.specs.Gathering.{ReadsPage};
 ghost use Rattle.set_cli.specs.Commands.{sources_of};
 ghost use Rattle.set_cli.specs.Endings.{CarriesOut};
 ghost use Rattle.set_cli.specs.Putting.{PutsSet};
-ghost use Rattle.set_words.specs.Held.{AreFew, traps_in};
+ghost use Rattle.plain_words.specs.Inputs.{AreFew};
+ghost use Rattle.set_words.specs.Held.{traps_in};
 ghost use Rattle.set_words.specs.Words.{Traps as traps};
 
 use crate::cause::Cause;

@@ -1,5 +1,6 @@
 -- What the program holds of a command, as the words that it stands for.
-use Rattle.std.specs.Prelude.{◌≤◌, ℕ, length, map, string_bytes}
+use Rattle.std.specs.Prelude.{length, map, string_bytes}
+use Rattle.plain_words.specs.Inputs.{AreFew}
 use Rattle.plain_words.specs.Parts.{input_of, copy_of}
 use Rattle.set_words.specs.Words.{TrapsWords, ApplyWords, Command as Meaning, Traps as traps, Apply as apply}
 use Rattle.set_words.specs.declared.command.TrapsCommand.{TrapsCommand}
@@ -19,11 +20,6 @@ apply_in c = record { set = c.set.now; plates = map copy_of (map string_bytes c.
 abbrev pub command_in : Command → Meaning
 command_in (Traps c) = traps (traps_in c)
 command_in (Apply c) = apply (apply_in c)
-
--- as many plates as a page may have
-pub record AreFew (count : ℕ) : Type 0 where
-  pub some : 1 ≤ count
-  pub few : count ≤ 16
 
 -- the limits of what the words may ask for
 abbrev pub IsWithin : Command → Type 0

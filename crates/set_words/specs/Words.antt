@@ -1,10 +1,11 @@
 -- What the words of `trapset` mean.
-use Rattle.std.specs.Prelude.{ℕ, Bool, ◌&&◌, nat_le, if◌then◌else◌, List, ◌∷◌, length, map, Option, Some, None, codes}
+use Rattle.std.specs.Prelude.{ℕ, Bool, ◌&&◌, if◌then◌else◌, List, ◌∷◌, map, Option, Some, None, codes}
 use Rattle.std.specs.List.{list_all}
 use Rattle.std.specs.Option.{option_map}
 use Rattle.std.specs.Str.{bytes_eq}
 use Rattle.plain_words.specs.Distinct.{are_distinct}
-use Rattle.plain_words.specs.Parts.{InputNames, CopyNames, input_of, is_input, copy_of, is_copy}
+use Rattle.plain_words.specs.Inputs.{are_few, named_plates}
+use Rattle.plain_words.specs.Parts.{InputNames, CopyNames, copy_of, is_copy}
 
 -- the traps of a page into a set: the job, the file of the set, and the plates
 pub record TrapsWords : Type 0 where
@@ -22,29 +23,13 @@ pub data Command : Type 0 where
   Traps : TrapsWords → Command
   Apply : ApplyWords → Command
 
--- the names of the plates' colorants
-abbrev pub names_of : List InputNames → List (List ℕ)
-names_of = map (λ p. p.name)
-
 -- the files that the plates are written into
 abbrev pub outputs_of : List CopyNames → List (List ℕ)
 outputs_of = map (λ p. p.output)
 
--- as many words as there may be plates
-abbrev pub are_few : List (List ℕ) → Bool
-are_few words = nat_le 1 (length words) && nat_le (length words) 16
-
--- one to sixteen words, each of them NAME:IN
-abbrev pub are_inputs : List (List ℕ) → Bool
-are_inputs words = are_few words && list_all (λ w. is_input (input_of w)) words
-
 -- one to sixteen words, each of them IN:OUT
 abbrev pub are_copies : List (List ℕ) → Bool
 are_copies words = are_few words && list_all (λ w. is_copy (copy_of w)) words
-
--- the plates of these words, where each has its form and no name stands there twice
-abbrev pub named_plates : List (List ℕ) → Option (List InputNames)
-named_plates words = if are_inputs words && are_distinct (names_of (map input_of words)) then Some (map input_of words) else None
 
 -- the plates of these words, where each has its form and no file is written twice
 abbrev pub copied_plates : List (List ℕ) → Option (List CopyNames)

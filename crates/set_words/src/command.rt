@@ -1,8 +1,10 @@
 ghost use Rattle.std.specs.Prelude.{◌≡◌, IfSome, length, map, option_map, string_bytes};
-ghost use Rattle.set_words.specs.Held.{AreFew, IsWithin, apply_in, command_in, traps_in};
+ghost use Rattle.plain_words.specs.Inputs.{AreFew};
+ghost use Rattle.set_words.specs.Held.{IsWithin, apply_in, command_in, traps_in};
 ghost use Rattle.set_words.specs.Words.{apply_of, command_of, traps_of};
 
-use crate::plates::{are_copied, are_named};
+use crate::plates::are_copied;
+use plain_words::inputs::are_named;
 
 /// A command `traps`: the job, the file of the set that is written, and the words NAME:IN of the plates.
 #[derive(Clone, Copy)]

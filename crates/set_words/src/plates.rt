@@ -1,23 +1,15 @@
-// The words of plates.
+// The words IN:OUT of plates.
 
 ghost use Rattle.std.specs.Prelude.{◌≡◌, ◌&&◌, IsTrue, length, map, string_bytes};
 ghost use Rattle.std.specs.List.{list_all, list_any};
 ghost use Rattle.std.specs.Str.{bytes_eq};
 ghost use Rattle.plain_words.specs.Distinct.{are_distinct};
-ghost use Rattle.plain_words.specs.Parts.{copy_of, input_of, is_copy, is_input};
-ghost use Rattle.set_words.specs.Held.{AreFew};
-ghost use Rattle.set_words.specs.Words.{are_copies, are_few as few_test, are_inputs, names_of, outputs_of};
+ghost use Rattle.plain_words.specs.Inputs.{AreFew};
+ghost use Rattle.plain_words.specs.Parts.{copy_of, is_copy};
+ghost use Rattle.set_words.specs.Words.{are_copies, outputs_of};
 
-use plain_words::parts::{copy_parts, input_parts, is_copy_word, is_input_word};
-
-/// Whether each of the words is NAME:IN, and no name stands there twice.
-pub(crate) fn are_named(words: &[String]) -> bool
-    ensures value { let texts = map string_bytes words.now in
-        result ≡ (are_inputs texts && are_distinct (names_of (map input_of texts))) }
-    ensures count { IsTrue result → AreFew (length words.now) }
-{
-    are_few(words) && are_all_inputs(words) && have_distinct_names(words)
-}
+use plain_words::inputs::are_few;
+use plain_words::parts::{copy_parts, is_copy_word};
 
 /// Whether each of the words is IN:OUT, and no file is written twice.
 pub(crate) fn are_copied(words: &[String]) -> bool
@@ -28,50 +20,12 @@ pub(crate) fn are_copied(words: &[String]) -> bool
     are_few(words) && are_all_copies(words) && have_distinct_outputs(words)
 }
 
-fn are_few(words: &[String]) -> bool
-    ensures value { result ≡ few_test (map string_bytes words.now) }
-    ensures count { IsTrue result → AreFew (length words.now) }
-{
-    1 <= words.len() && words.len() <= 16
-}
-
-fn are_all_inputs(words: &[String]) -> bool
-    ensures { result ≡ list_all (λ w. is_input (input_of w)) (map string_bytes words.now) }
-{
-    match words {
-        [first, rest @ ..] => is_input_word(input_parts(first.as_str())) && are_all_inputs(rest),
-        [] => true,
-    }
-}
-
 fn are_all_copies(words: &[String]) -> bool
     ensures { result ≡ list_all (λ w. is_copy (copy_of w)) (map string_bytes words.now) }
 {
     match words {
         [first, rest @ ..] => is_copy_word(copy_parts(first.as_str())) && are_all_copies(rest),
         [] => true,
-    }
-}
-
-// Whether no plate's name stands there twice.
-fn have_distinct_names(words: &[String]) -> bool
-    ensures { result ≡ are_distinct (names_of (map input_of (map string_bytes words.now))) }
-{
-    match words {
-        [first, rest @ ..] => {
-            !has_name(rest, input_parts(first.as_str()).name) && have_distinct_names(rest)
-        }
-        [] => true,
-    }
-}
-
-fn has_name(words: &[String], name: &str) -> bool
-    ensures { let names = names_of (map input_of (map string_bytes words.now)) in
-        result ≡ list_any (bytes_eq name.now) names }
-{
-    match words {
-        [first, rest @ ..] => { name == input_parts(first.as_str()).name || has_name(rest, name) }
-        [] => false,
     }
 }
 

@@ -4,7 +4,7 @@ use Rattle.std.proofs.lemmas.List.{length-map}
 use Rattle.plain_words.specs.Parts.{PlateNames}
 use Rattle.plain_words.specs.declared.parts.PlateWord.{PlateWord}
 use Rattle.trap_words.specs.Held.{names_in, plates_in}
-use Rattle.trap_words.specs.Plates.{outputs_of}
+use Rattle.plain_words.specs.Plates.{outputs_of}
 
 -- There are as many files as words that name them.
 pub as_many_files : (words : List PlateWord) (files : List (Bor (List ℕ))) → map (λ (f : Bor (List ℕ)). f.now) files ≡ outputs_of (plates_in words) → length files ≡ length words

@@ -2,7 +2,7 @@
 use Rattle.std.specs.Prelude.{List, ℕ, map}
 use Rattle.page_gather.specs.Inputs.{Sources}
 use Rattle.plain_words.specs.Parts.{PlateNames}
-use Rattle.trap_words.specs.Plates.{names_of, outputs_of}
+use Rattle.plain_words.specs.Plates.{names_of, outputs_of}
 use Rattle.trap_words.specs.Words.{PageWords}
 use Rattle.verdicts.specs.Verdicts.{Targets}
 

@@ -3,7 +3,7 @@
 ghost use Rattle.std.specs.Prelude.{◌≡◌, IfOk, map};
 ghost use Rattle.trap_cli.specs.Commands.{inputs_of as inputs_meant};
 ghost use Rattle.trap_words.specs.Held.{plates_in};
-ghost use Rattle.trap_words.specs.Plates.{names_of as names_meant, outputs_of as outputs_meant};
+ghost use Rattle.plain_words.specs.Plates.{names_of as names_meant, outputs_of as outputs_meant};
 
 use lists::list::List;
 use lists::names::{NameList, OutOfMemory, copied};

@@ -4,7 +4,7 @@ use Rattle.std.proofs.lemmas.List.{map-append, take_more}
 use Rattle.std.specs.List.{list_all, list_any}
 use Rattle.std.specs.Str.{bytes_eq}
 use Rattle.plain_words.specs.Parts.{PlateNames, is_plate, parts_of}
-use Rattle.trap_words.specs.Plates.{names_of, outputs_of}
+use Rattle.plain_words.specs.Plates.{names_of, outputs_of}
 use Rattle.trap_words.specs.Held.{names_in, plates_in}
 use Rattle.plain_words.specs.declared.parts.PlateWord.{PlateWord}
 

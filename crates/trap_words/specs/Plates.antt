@@ -1,24 +1,7 @@
 -- Which plates may stand together.
-use Rattle.std.specs.Prelude.{ℕ, Bool, ◌&&◌, nat_le, if◌then◌else◌, List, ◌∷◌, length, map, Option, Some, None}
-use Rattle.std.specs.List.{list_all}
-use Rattle.plain_words.specs.Distinct.{are_distinct}
-use Rattle.plain_words.specs.Parts.{PlateNames, is_plate, parts_of}
-
--- the names of the plates' colorants
-abbrev pub names_of : List PlateNames → List (List ℕ)
-names_of = map (λ p. p.name)
-
--- the files that the plates are written into
-abbrev pub outputs_of : List PlateNames → List (List ℕ)
-outputs_of = map (λ p. p.output)
-
--- the plates have different names, and the files that are written are different ones, the report among them
-abbrev pub stand_together : List ℕ → List PlateNames → Bool
-stand_together report plates = are_distinct (names_of plates) && are_distinct (report ∷ outputs_of plates)
-
--- one to sixteen words, each of them a plate's
-abbrev pub are_plates : List (List ℕ) → Bool
-are_plates words = nat_le 1 (length words) && nat_le (length words) 16 && list_all (λ w. is_plate (parts_of w)) words
+use Rattle.std.specs.Prelude.{ℕ, ◌&&◌, if◌then◌else◌, List, map, Option, Some, None}
+use Rattle.plain_words.specs.Parts.{PlateNames, parts_of}
+use Rattle.plain_words.specs.Plates.{are_plates, stand_together}
 
 -- the plates of the words that stand behind the report's name
 abbrev pub plates_of : List ℕ → List (List ℕ) → Option (List PlateNames)

@@ -3,7 +3,8 @@ ghost use Rattle.std.specs.List.{list_all, list_any};
 ghost use Rattle.std.specs.Str.{bytes_eq};
 ghost use Rattle.plain_words.specs.Distinct.{are_distinct};
 ghost use Rattle.plain_words.specs.Parts.{is_plate as plate_test, parts_of as parts_meant};
-ghost use Rattle.trap_words.specs.Plates.{are_plates as plates_test, names_of, outputs_of, plates_of, stand_together as together_test};
+ghost use Rattle.plain_words.specs.Plates.{are_plates as plates_test, names_of, outputs_of, stand_together as together_test};
+ghost use Rattle.trap_words.specs.Plates.{plates_of};
 ghost use Rattle.trap_words.specs.Held.{plates_in};
 
 use lists::names::OutOfMemory;

@@ -1,6 +1,6 @@
 use Rattle.std.proofs.Common.{◌≡◌, map, take}
 use Rattle.plain_words.specs.Parts.{parts_of}
-use Rattle.pool_list.specs.Lines.{names_of}
+use Rattle.plain_words.specs.Plates.{names_of}
 use Rattle.pool_list.proofs.words.names_of.Given as goal
 
 abbrev pub invariant-loop-word : goal.invariant-loop-word

@@ -1,6 +1,6 @@
 use Rattle.std.proofs.Common.{◌≡◌, map, string_bytes, take}
 use Rattle.plain_words.specs.Parts.{parts_of}
-use Rattle.run_reading.specs.Words.{inputs_of}
+use Rattle.plain_words.specs.Plates.{inputs_of}
 use Rattle.run_reading.proofs.files.inputs_of.Given as goal
 
 abbrev pub invariant-loop-word : goal.invariant-loop-word

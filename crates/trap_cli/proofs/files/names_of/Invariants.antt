@@ -1,6 +1,6 @@
 use Rattle.std.proofs.Common.{◌≡◌, take}
 use Rattle.trap_words.specs.Held.{plates_in}
-use Rattle.trap_words.specs.Plates.{names_of}
+use Rattle.plain_words.specs.Plates.{names_of}
 use Rattle.trap_cli.proofs.files.names_of.Given as goal
 
 abbrev pub invariant-loop-plate : goal.invariant-loop-plate

@@ -1,7 +1,7 @@
 use Rattle.std.proofs.Common.{ℕ, List, Bor, length, map, ap, sym, ◌∙◌, subst}
 use Rattle.plain_words.specs.declared.parts.PlateWord.{PlateWord}
 use Rattle.trap_words.specs.Held.{page_in, plates_in}
-use Rattle.trap_words.specs.Plates.{outputs_of}
+use Rattle.plain_words.specs.Plates.{outputs_of}
 use Rattle.trap_cli.specs.Commands.{targets_of}
 use Rattle.page_output.specs.Output.{PutsOut, targets}
 use Rattle.page_output.proofs.OutcomeLemmas.{not_put_out}

@@ -1,5 +1,5 @@
 use Rattle.std.proofs.Common.{length}
-use Rattle.press_check.proofs.words.+are_all_inputs.Given as goal
+use Rattle.plain_words.proofs.inputs.+are_all_inputs.Given as goal
 
 abbrev pub decreases-are_all_inputs : goal.decreases-are_all_inputs
 decreases-are_all_inputs l = length l.words.now

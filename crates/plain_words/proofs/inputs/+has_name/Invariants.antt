@@ -1,5 +1,5 @@
 use Rattle.std.proofs.Common.{length}
-use Rattle.set_words.proofs.plates.+has_name.Given as goal
+use Rattle.plain_words.proofs.inputs.+has_name.Given as goal
 
 abbrev pub decreases-has_name : goal.decreases-has_name
 decreases-has_name l = length l.words.now

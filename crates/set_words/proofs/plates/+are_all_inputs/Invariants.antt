@@ -1,5 +1,0 @@
-use Rattle.std.proofs.Common.{length}
-use Rattle.set_words.proofs.plates.+are_all_inputs.Given as goal
-
-abbrev pub decreases-are_all_inputs : goal.decreases-are_all_inputs
-decreases-are_all_inputs l = length l.words.now
