@@ -1,6 +1,7 @@
 // Rows, compared block by block: most of them stay as they are in most places.
 
-ghost use Rattle.std.specs.Prelude.{◌≡◌, ◌<◌, ◌≤◌, ◌+◌, ℕ, true, false, length, slice_index, slice_index_or};
+ghost use Rattle.std.specs.Prelude.{◌≡◌, ◌≢◌, ◌<◌, ◌≤◌, ◌+◌, ◌==◌, ℕ, not, true, false, length, slice_index, slice_index_or};
+ghost use Rattle.lists.specs.Words.{any_below};
 
 /// How many samples of a row are looked at at once.
 pub const BLOCK: usize = 64;
@@ -16,7 +17,8 @@ pub fn part_of(row: &[u16], from: usize, count: usize) -> &[u16]
 
 /// Whether two rows of tints are the same.
 pub fn are_same(one: &[u16], other: &[u16]) -> bool
-    ensures { result ≡ true → one.now ≡ other.now }
+    ensures same { result ≡ true → one.now ≡ other.now }
+    ensures other { result ≡ false → one.now ≢ other.now }
 {
     one == other
 }
@@ -26,7 +28,8 @@ pub fn are_same(one: &[u16], other: &[u16]) -> bool
 pub fn are_alike(zones: &[u8], from: usize, count: usize) -> bool
     requires some { 1 ≤ count }
     requires inside { from + count ≤ length zones.now }
-    ensures { result ≡ true → (k : ℕ) → k < count → slice_index zones.now (from + k) ≡ slice_index zones.now from }
+    ensures alike { result ≡ true → (k : ℕ) → k < count → slice_index zones.now (from + k) ≡ slice_index zones.now from }
+    ensures other { result ≡ false → any_below (λ k. not (slice_index zones.now (from + k) == slice_index zones.now from)) count ≡ true }
 {
     let zone = zones[from];
     let mut all = true;
@@ -39,7 +42,8 @@ pub fn are_alike(zones: &[u8], from: usize, count: usize) -> bool
 /// Whether none of so many samples, from one on, is noted.
 pub fn are_clear(changes: &[bool], from: usize, count: usize) -> bool
     requires { from + count ≤ length changes.now }
-    ensures { result ≡ true → (k : ℕ) → k < count → slice_index_or changes.now (from + k) false ≡ false }
+    ensures clear { result ≡ true → (k : ℕ) → k < count → slice_index_or changes.now (from + k) false ≡ false }
+    ensures other { result ≡ false → any_below (λ k. slice_index_or changes.now (from + k) false) count ≡ true }
 {
     let mut none = true;
     for k in 0..count {

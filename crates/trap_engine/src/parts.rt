@@ -58,7 +58,7 @@ pub fn parts_of(
         let part = Part {
             rows: Rows { first, count },
             pass: other,
-            tally: tally_of(alloc, page, first)?,
+            tally: tally_of(alloc, page)?,
             done: false,
         };
         push(&mut parts, part)?;

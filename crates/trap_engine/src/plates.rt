@@ -1,6 +1,6 @@
 // The plates of the result, each read out of a table's cells: by the pass of each, side by side with the others, or from the
 // closed table.
-ghost use Rattle.std.specs.Prelude.{◌≡◌, ℕ, ◌+◌, ◌*◌, ◌<◌, ◌≤◌, length, slice_index_or, true};
+ghost use Rattle.std.specs.Prelude.{◌≡◌, ℕ, ◌+◌, ◌*◌, ◌<◌, ◌≤◌, length, slice_index_or, false, true};
 ghost use Rattle.band_claims.specs.Seating.{Seats};
 ghost use Rattle.band_claims.specs.Sheets.{IsFit};
 ghost use Rattle.band_pieces.specs.Finished.{IsFinished};
@@ -118,7 +118,8 @@ pub fn take_by_passes<R: Threads + Sync>(
 
 /// Whether all plates are taken.
 pub fn are_taken(works: &[PlateWork]) -> bool
-    ensures { result ≡ true → (c : ℕ) (d : PlateWork) → c < length works.now → (slice_index_or works.now c d).done ≡ true }
+    ensures all { result ≡ true → (c : ℕ) (d : PlateWork) → c < length works.now → (slice_index_or works.now c d).done ≡ true }
+    ensures left { result ≡ false → (c : ℕ) × (c < length works.now) × ((d : PlateWork) → (slice_index_or works.now c d).done ≡ false) }
 {
     works.iter().all(|work| work.done)
 }

@@ -28,9 +28,9 @@ pub struct Tally {
     pub edges: u64,
 }
 
-/// The room to count in rows from `first` on, with nothing counted.
-pub fn tally_of(alloc: Global, page: &Page, first: u32) -> Result<Tally, OutOfMemory>
-    ensures { IfOk result (λ tally. HasCounted page.now first first tally) }
+/// The room to count in rows, with nothing counted, from whichever row on.
+pub fn tally_of(alloc: Global, page: &Page) -> Result<Tally, OutOfMemory>
+    ensures { IfOk result (λ tally. (first : ℕ) → HasCounted page.now first first tally) }
 {
     let width = page.width() as usize;
     let zones = page.zones() as usize;

@@ -11,7 +11,7 @@ loop-x-preserved c = record {
     | else-not-are_clear w ↦ rw w.counts-is (
         let clear : c.are_clear.result ≡ true = search rules in
         run_passed c.args.page.now c.args.first c.args.y c.loop-x.x c.min-count.result c.loop-x.counts (omega (arith, c.min-count.ensures, c.loop-x.invariant.inside, c.requires.changes))
-        (λ k l. sym (c.requires.each _ (omega (arith, l, c.min-count.ensures, c.loop-x.invariant.inside, c.requires.changes))) ∙ c.are_clear.ensures clear k l) c.loop-x.invariant.counts)
+        (λ k l. sym (c.requires.each _ (omega (arith, l, c.min-count.ensures, c.loop-x.invariant.inside, c.requires.changes))) ∙ c.are_clear.ensures.clear clear k l) c.loop-x.invariant.counts)
   ];
 }
 

@@ -14,4 +14,4 @@ pub returns-else-not-are_same-clause-each : goal.returns-else-not-are_same-claus
 returns-else-not-are_same-clause-each c x l =
     let after = taken_row c.args.page.now c.args.y c.args.c c.width.result c.args.plane.now c.as_slice.result.now c.row_of-after.result.now c.width.ensures.value c.as_slice.ensures c.requires.plane c.requires.line c.row_of-after.ensures.each in
     let same : c.are_same.result ≡ true = search rules in
-    or_none _ _ (alike_here c.args.page.now c.tints_of_row-before.result.now c.row_of-after.result.now c.args.y c.args.c x (c.are_same.ensures same) (c.tints_of_row-before.ensures.each x l) (after x l))
+    or_none _ _ (alike_here c.args.page.now c.tints_of_row-before.result.now c.row_of-after.result.now c.args.y c.args.c x (c.are_same.ensures.same same) (c.tints_of_row-before.ensures.each x l) (after x l))

@@ -16,7 +16,7 @@ loop-first-preserved c =
     let inside : c.loop-first.first + c.min-count.result ≤ c.height-height.result = omega (arith, c.min-count.ensures, c.loop-first-test.true) in
     let here : IsPart page one = record {
       inside = omega (arith, inside, v.tall);
-      begun = λ _. c.in_ok-tally_of.ensures;
+      begun = λ _. c.in_ok-tally_of.ensures c.loop-first.first;
       ended = λ t. absurd (false≢true t);
     } in
     record {
