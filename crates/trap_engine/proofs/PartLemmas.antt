@@ -1,13 +1,13 @@
 -- The rows of the parts stay as they are while it is counted in them, and one part more follows the others.
 use Rattle.std.proofs.Common.{◌≡◌, ℕ, ◌+◌, ◌<◌, ◌≤◌, ◌∙◌, ◌∷◌, ◌++◌, [], refl, sym, ap, arith, subst, List, length, inl, inr}
-use Rattle.std.specs.Prelude.{slice_index_or}
+use Rattle.std.specs.Prelude.{◌-◌, min, slice_index_or}
 use Rattle.std.proofs.lemmas.Bool.{cases_eq}
 use Rattle.std.proofs.lemmas.List.{get_or_append_left, get_or_push, length-append}
 use Rattle.band_values.specs.declared.rows.Rows.{Rows}
 use Rattle.page_model.specs.declared.parts.PageParts.{PageParts}
 use Rattle.page_model.specs.Page.{height}
 use Rattle.trap_engine.specs.declared.parts.Part.{Part}
-use Rattle.trap_engine.specs.Parts.{AreParts, CoverPage, IsPart}
+use Rattle.trap_engine.specs.Parts.{AreOfSize, AreParts, CoverPage, IsPart}
 
 -- the parts' rows are those of before
 abbrev pub SameRows : List Part → List Part → Type 0
@@ -20,6 +20,15 @@ cover_kept page parts after e same h = record {
   next = λ i d l. ap (λ (r : Rows). r.first) (same (i + 1) d (omega (arith, e, l))) ∙ (h.next i d (omega (arith, e, l)) ∙ sym (ap (λ (r : Rows). r.first + r.count) (same i d (omega (arith, e, l)))));
   last = λ i d l. ap (λ (r : Rows). r.first + r.count) (same i d (omega (arith, e, l))) ∙ h.last i d (l ∙ e);
 }
+
+-- one part more of that size
+pub one_of_size : (page : PageParts) (size : ℕ) (parts : List Part) (one : Part) → one.rows.count ≡ min (height page - one.rows.first) size → AreOfSize page size parts → AreOfSize page size (parts ++ one ∷ [])
+one_of_size page size parts one e h i d l =
+    let long : length (parts ++ one ∷ []) ≡ length parts + 1 = length-append parts (one ∷ []) in
+    elim (cases_eq i (length parts)) [
+      | inl n ↦ (let at = get_or_push parts one d i (sym n) in rw at e)
+      | inr ne ↦ (let at = get_or_append_left parts (one ∷ []) d i (omega (arith, l, long, ne)) in rw at (h i d (omega (arith, l, long, ne))))
+    ]
 
 -- some parts that follow one another, from the page's first row to one before another
 pub record AreLaid (page : PageParts) (to : ℕ) (parts : List Part) : Type 0 where

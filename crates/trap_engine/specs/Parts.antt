@@ -1,5 +1,5 @@
 -- The page's rows in parts, each of which is counted by itself.
-use Rattle.std.specs.Prelude.{◌≡◌, ℕ, ◌+◌, ◌<◌, ◌≤◌, false, true, All, List, length, slice_index_or}
+use Rattle.std.specs.Prelude.{◌≡◌, ℕ, ◌+◌, ◌-◌, ◌<◌, ◌≤◌, false, true, All, List, length, min, slice_index_or}
 use Rattle.band_claims.specs.Seating.{OpenTable, Seats}
 use Rattle.page_model.specs.declared.parts.PageParts.{PageParts}
 use Rattle.page_model.specs.Page.{height}
@@ -23,6 +23,10 @@ pub record CoverPage (page : PageParts) (parts : List Part) : Type 0 where
   pub first : (d : Part) → (slice_index_or parts 0 d).rows.first ≡ 0
   pub next : (i : ℕ) (d : Part) → i + 1 < length parts → (slice_index_or parts (i + 1) d).rows.first ≡ (slice_index_or parts i d).rows.first + (slice_index_or parts i d).rows.count
   pub last : (i : ℕ) (d : Part) → i + 1 ≡ length parts → (slice_index_or parts i d).rows.first + (slice_index_or parts i d).rows.count ≡ height page
+
+-- each part has so many rows, or those that are left, where they are fewer
+abbrev pub AreOfSize : PageParts → ℕ → List Part → Type 0
+AreOfSize page size parts = (i : ℕ) (d : Part) → i < length parts → (slice_index_or parts i d).rows.count ≡ min (height page - (slice_index_or parts i d).rows.first) size
 
 -- the parts of a page
 pub record AreParts (page : PageParts) (parts : List Part) : Type 0 where

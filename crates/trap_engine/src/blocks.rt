@@ -28,8 +28,11 @@ pub fn are_same(one: &[u16], other: &[u16]) -> bool
 pub fn are_alike(zones: &[u8], from: usize, count: usize) -> bool
     requires some { 1 ≤ count }
     requires inside { from + count ≤ length zones.now }
-    ensures alike { result ≡ true → (k : ℕ) → k < count → slice_index zones.now (from + k) ≡ slice_index zones.now from }
-    ensures other { result ≡ false → any_below (λ k. not (slice_index zones.now (from + k) == slice_index zones.now from)) count ≡ true }
+    ensures alike { result ≡ true → (k : ℕ) → k < count → slice_index zones.now (from + k)
+        ≡ slice_index zones.now from }
+    ensures other { result ≡ false
+        → any_below (λ k. not (slice_index zones.now (from + k) == slice_index zones.now from))
+        count ≡ true }
 {
     let zone = zones[from];
     let mut all = true;
@@ -42,8 +45,10 @@ pub fn are_alike(zones: &[u8], from: usize, count: usize) -> bool
 /// Whether none of so many samples, from one on, is noted.
 pub fn are_clear(changes: &[bool], from: usize, count: usize) -> bool
     requires { from + count ≤ length changes.now }
-    ensures clear { result ≡ true → (k : ℕ) → k < count → slice_index_or changes.now (from + k) false ≡ false }
-    ensures other { result ≡ false → any_below (λ k. slice_index_or changes.now (from + k) false) count ≡ true }
+    ensures clear { result ≡ true → (k : ℕ) → k < count
+        → slice_index_or changes.now (from + k) false ≡ false }
+    ensures other { result ≡ false
+        → any_below (λ k. slice_index_or changes.now (from + k) false) count ≡ true }
 {
     let mut none = true;
     for k in 0..count {

@@ -18,7 +18,8 @@ pub fn plate_row<'a>(page: &Page, row: &'a [u16], y: u32, c: u32) -> &'a [u16]
     requires row { IsNewRow page.now y row.now }
     requires plate { c < plates page.now }
     ensures len { length result.now ≡ width page.now }
-    ensures each { (x : ℕ) → x < width page.now → slice_index result.now x ≡ slice_index row.now (c * width page.now + x) }
+    ensures each { (x : ℕ) → x < width page.now → slice_index result.now x
+        ≡ slice_index row.now (c * width page.now + x) }
 {
     let _valid = page.plates();
     row_of(row, page.width() as usize, c as usize)
@@ -27,7 +28,9 @@ pub fn plate_row<'a>(page: &Page, row: &'a [u16], y: u32, c: u32) -> &'a [u16]
 /// How many tints of a block differ.
 fn differences_here(before: &[u16], after: &[u16]) -> u64
     requires { length before.now ≡ length after.now }
-    ensures count { result ≡ count_below (λ k. not (slice_index after.now k == slice_index before.now k)) (length after.now) }
+    ensures count { result
+        ≡ count_below (λ k. not (slice_index after.now k == slice_index before.now k))
+        (length after.now) }
     ensures few { result ≤ length after.now }
 {
     let mut count = 0;
@@ -40,7 +43,9 @@ fn differences_here(before: &[u16], after: &[u16]) -> u64
 /// How many tints differ. Blocks that are the same are not gone over.
 pub fn differences(before: &[u16], after: &[u16]) -> u64
     requires { length before.now ≡ length after.now }
-    ensures count { result ≡ count_below (λ k. not (slice_index after.now k == slice_index before.now k)) (length after.now) }
+    ensures count { result
+        ≡ count_below (λ k. not (slice_index after.now k == slice_index before.now k))
+        (length after.now) }
     ensures few { result ≤ length after.now }
 {
     let mut count = 0;
@@ -62,7 +67,8 @@ fn changed_in(page: &Page, row: &[u16], y: u32, c: u32) -> u64
     requires row { IsNewRow page.now y row.now }
     requires line { y < height page.now }
     requires plate { c < plates page.now }
-    ensures count { result ≡ count_below (λ x. plate_changes page.now c (record { x = x; y = y })) (width page.now) }
+    ensures count { result ≡ count_below (λ x. plate_changes page.now c (record { x = x; y = y }))
+        (width page.now) }
     ensures few { result ≤ width page.now }
 {
     differences(tints_of_row(page, c, y), plate_row(page, row, y, c))
@@ -86,7 +92,9 @@ fn note_differences(before: &[u16], after: &[u16], changes: &mut [bool])
     requires before { length before.now ≡ length after.now }
     requires changes { length changes.old ≡ length after.now }
     ensures len { length changes.new ≡ length changes.old }
-    ensures each { (k : ℕ) → k < length after.now → slice_index_or changes.new k false ≡ (slice_index_or changes.old k false || not (slice_index after.now k == slice_index before.now k)) }
+    ensures each { (k : ℕ) → k < length after.now → slice_index_or changes.new k false
+        ≡ (slice_index_or changes.old k false
+        || not (slice_index after.now k == slice_index before.now k)) }
 {
     for k in 0..after.len() {
         // both are worked out first, without a branch, so that many samples go at once
@@ -103,7 +111,9 @@ fn note_plate(page: &Page, row: &[u16], y: u32, c: u32, changes: &mut [bool])
     requires plate { c < plates page.now }
     requires changes { length changes.old ≡ width page.now }
     ensures len { length changes.new ≡ width page.now }
-    ensures each { (x : ℕ) → x < width page.now → slice_index_or changes.new x false ≡ (slice_index_or changes.old x false || plate_changes page.now c (record { x = x; y = y })) }
+    ensures each { (x : ℕ) → x < width page.now → slice_index_or changes.new x false
+        ≡ (slice_index_or changes.old x false
+        || plate_changes page.now c (record { x = x; y = y })) }
 {
     note_differences(
         tints_of_row(page, c, y),
@@ -119,7 +129,9 @@ fn note_plane(page: &Page, plane: &Plane, y: u32, c: u32, changes: &mut [bool])
     requires plate { c < plates page.now }
     requires changes { length changes.old ≡ width page.now }
     ensures len { length changes.new ≡ width page.now }
-    ensures each { (x : ℕ) → x < width page.now → slice_index_or changes.new x false ≡ (slice_index_or changes.old x false || plate_changes page.now c (record { x = x; y = y })) }
+    ensures each { (x : ℕ) → x < width page.now → slice_index_or changes.new x false
+        ≡ (slice_index_or changes.old x false
+        || plate_changes page.now c (record { x = x; y = y })) }
 {
     let before = tints_of_row(page, c, y);
     let after = row_of(plane.tints.as_slice(), page.width() as usize, y as usize);
@@ -134,7 +146,8 @@ pub fn note_taken(page: &Page, planes: &[Plane], y: u32, changes: &mut [bool])
     requires line { y < height page.now }
     requires changes { length changes.old ≡ width page.now }
     ensures len { length changes.new ≡ width page.now }
-    ensures each { (x : ℕ) → x < width page.now → slice_index_or changes.new x false ≡ sample_changes page.now (record { x = x; y = y }) }
+    ensures each { (x : ℕ) → x < width page.now → slice_index_or changes.new x false
+        ≡ sample_changes page.now (record { x = x; y = y }) }
 {
     changes.fill(false);
     for c in 0..page.plates() {
@@ -148,7 +161,8 @@ pub fn note_changes(page: &Page, row: &[u16], y: u32, changes: &mut [bool])
     requires line { y < height page.now }
     requires changes { length changes.old ≡ width page.now }
     ensures len { length changes.new ≡ width page.now }
-    ensures each { (x : ℕ) → x < width page.now → slice_index_or changes.new x false ≡ sample_changes page.now (record { x = x; y = y }) }
+    ensures each { (x : ℕ) → x < width page.now → slice_index_or changes.new x false
+        ≡ sample_changes page.now (record { x = x; y = y }) }
 {
     changes.fill(false);
     for c in 0..page.plates() {
@@ -171,7 +185,8 @@ fn count_sample(
     requires line { y < height page.now }
     requires column { x < width page.now }
     requires changes { length changes.now ≡ width page.now }
-    requires each { (x : ℕ) → x < width page.now → slice_index_or changes.now x false ≡ sample_changes page.now (record { x = x; y = y }) }
+    requires each { (x : ℕ) → x < width page.now → slice_index_or changes.now x false
+        ≡ sample_changes page.now (record { x = x; y = y }) }
     requires counts { AreZonesCounted page.now first (y * width page.now + x) counts.old }
     ensures { AreZonesCounted page.now first (y * width page.now + x + 1) counts.new }
 {
@@ -199,7 +214,8 @@ fn count_block(
     requires order { from ≤ to }
     requires inside { to ≤ width page.now }
     requires changes { length changes.now ≡ width page.now }
-    requires each { (x : ℕ) → x < width page.now → slice_index_or changes.now x false ≡ sample_changes page.now (record { x = x; y = y }) }
+    requires each { (x : ℕ) → x < width page.now → slice_index_or changes.now x false
+        ≡ sample_changes page.now (record { x = x; y = y }) }
     requires counts { AreZonesCounted page.now first (y * width page.now + from) counts.old }
     ensures { AreZonesCounted page.now first (y * width page.now + to) counts.new }
 {
@@ -221,7 +237,8 @@ pub fn count_changed(
     requires zones { AreZones page.now y zones.now }
     requires line { y < height page.now }
     requires changes { length changes.now ≡ width page.now }
-    requires each { (x : ℕ) → x < width page.now → slice_index_or changes.now x false ≡ sample_changes page.now (record { x = x; y = y }) }
+    requires each { (x : ℕ) → x < width page.now → slice_index_or changes.now x false
+        ≡ sample_changes page.now (record { x = x; y = y }) }
     requires counts { AreZonesCounted page.now first (y * width page.now) counts.old }
     ensures { AreZonesCounted page.now first ((y + 1) * width page.now) counts.new }
 {

@@ -19,7 +19,9 @@ pub fn one_if(test: bool) -> u64
 /// How many edges these marks tell of: a mark of 1 or 2 of one edge, and one of 3 of two.
 pub fn edges_in(marks: &[u8]) -> u64
     requires { length marks.now ≤ 16384 }
-    ensures count { result ≡ sum_below (λ x. slice_index marks.now x % 2 + slice_index marks.now x / 2) (length marks.now) }
+    ensures count { result
+        ≡ sum_below (λ x. slice_index marks.now x % 2 + slice_index marks.now x / 2)
+        (length marks.now) }
     ensures few { result ≤ 128 * length marks.now }
 {
     let mut count = 0;

@@ -65,7 +65,8 @@ impl Outcome {
         requires line { y < height page.now }
         requires zones { AreZones page.now y zones.now }
         requires marks { AreMarks page.now y marks.now }
-        requires tints { MatchOption tints (KeepsRow page.now y) (λ row. IsNewRow page.now y row.now) }
+        requires tints { MatchOption tints (KeepsRow page.now y)
+            (λ row. IsNewRow page.now y row.now) }
         ensures { HasRows page.now (y + 1) self.new }
     {
         let _valid = page.plates();
@@ -82,12 +83,16 @@ impl Outcome {
         requires zones { AreZones page.now y zones.now }
         requires row { IsNewRow page.now y row.now }
         requires planes { AreTrappedTo page.now self.old.planes (y * width page.now) }
-        requires zone_changed { AreZonesCounted page.now 0 (y * width page.now) self.old.zone_changed.items }
-        requires plate_changed { ArePlatesCounted page.now (y * width page.now) self.old.plate_changed.items }
+        requires zone_changed { AreZonesCounted page.now 0 (y * width page.now)
+            self.old.zone_changed.items }
+        requires plate_changed { ArePlatesCounted page.now (y * width page.now)
+            self.old.plate_changed.items }
         requires changes { length self.old.changes.items ≡ width page.now }
         ensures planes { AreTrappedTo page.now self.new.planes ((y + 1) * width page.now) }
-        ensures zone_changed { AreZonesCounted page.now 0 ((y + 1) * width page.now) self.new.zone_changed.items }
-        ensures plate_changed { ArePlatesCounted page.now ((y + 1) * width page.now) self.new.plate_changed.items }
+        ensures zone_changed { AreZonesCounted page.now 0 ((y + 1) * width page.now)
+            self.new.zone_changed.items }
+        ensures plate_changed { ArePlatesCounted page.now ((y + 1) * width page.now)
+            self.new.plate_changed.items }
         ensures changes { length self.new.changes.items ≡ width page.now }
         ensures zone_samples { self.new.zone_samples ≡ self.old.zone_samples }
         ensures edges { self.new.edges ≡ self.old.edges }
@@ -103,7 +108,8 @@ impl Outcome {
         requires plane { c < length self.old.planes }
         requires count { c < length self.old.plate_changed.items }
         ensures planes { self.new.planes ≡ slice_set self.old.planes c work.plane }
-        ensures plate_changed { self.new.plate_changed.items ≡ slice_set self.old.plate_changed.items c work.changed }
+        ensures plate_changed { self.new.plate_changed.items
+            ≡ slice_set self.old.plate_changed.items c work.changed }
         ensures zone_samples { self.new.zone_samples ≡ self.old.zone_samples }
         ensures zone_changed { self.new.zone_changed ≡ self.old.zone_changed }
         ensures edges { self.new.edges ≡ self.old.edges }

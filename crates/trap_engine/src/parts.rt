@@ -6,7 +6,7 @@ ghost use Rattle.band_claims.specs.Sheets.{IsFit};
 ghost use Rattle.band_pieces.specs.Finished.{IsFinished};
 ghost use Rattle.page_model.specs.Bands.{pieces_of};
 ghost use Rattle.page_model.specs.Page.{height, width};
-ghost use Rattle.trap_engine.specs.Parts.{AreCountedParts, AreParts, AreSeatedParts, IsCounted, IsPart};
+ghost use Rattle.trap_engine.specs.Parts.{AreCountedParts, AreOfSize, AreParts, AreSeatedParts, IsCounted, IsPart};
 ghost use Rattle.trap_engine.specs.Standing.{AreTrappedTo};
 
 use crate::memory::push;
@@ -45,6 +45,7 @@ pub fn parts_of(
     ensures pass { IfOk result (λ t. Seats shared.now t.0) }
     ensures idle { IfOk result (λ t. t.0.view.held ≡ None) }
     ensures parts { IfOk result (λ t. AreParts page.now t.1.items) }
+    ensures size { IfOk result (λ t. AreOfSize page.now size t.1.items) }
     ensures seats { IfOk result (λ t. AreSeatedParts shared.now t.1.items) }
 {
     let height = page.height();

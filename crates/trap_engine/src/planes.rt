@@ -115,7 +115,8 @@ pub fn put_plate_row(page: &Page, y: u32, c: u32, after: &[u16], plane: &mut Pla
     requires after { IsPlateRow page.now y c after.now }
     requires plane { IsTrappedTo page.now c (y * width page.now) plane.old }
     ensures plane { IsTrappedTo page.now c ((y + 1) * width page.now) plane.new }
-    ensures count { result ≡ count_below (λ x. plate_changes page.now c (record { x = x; y = y })) (width page.now) }
+    ensures count { result ≡ count_below (λ x. plate_changes page.now c (record { x = x; y = y }))
+        (width page.now) }
     ensures few { result ≤ width page.now }
 {
     let before = tints_of_row(page, c, y);

@@ -118,8 +118,10 @@ pub fn take_by_passes<R: Threads + Sync>(
 
 /// Whether all plates are taken.
 pub fn are_taken(works: &[PlateWork]) -> bool
-    ensures all { result ≡ true → (c : ℕ) (d : PlateWork) → c < length works.now → (slice_index_or works.now c d).done ≡ true }
-    ensures left { result ≡ false → (c : ℕ) × (c < length works.now) × ((d : PlateWork) → (slice_index_or works.now c d).done ≡ false) }
+    ensures all { result ≡ true → (c : ℕ) (d : PlateWork) → c < length works.now
+        → (slice_index_or works.now c d).done ≡ true }
+    ensures left { result ≡ false → (c : ℕ) × (c < length works.now)
+        × ((d : PlateWork) → (slice_index_or works.now c d).done ≡ false) }
 {
     works.iter().all(|work| work.done)
 }

@@ -39,7 +39,8 @@ fn take_side_by_side<R: Threads + Sync>(
     requires part_seats { AreSeatedParts shared.now parts.old }
     requires parts { AreParts page.now parts.old }
     requires outcome { HasTallies page.now 0 outcome.old }
-    ensures left { IfSome result (λ works. ArePlateWorks page.now works.items × HasTallies page.now 0 outcome.new) }
+    ensures left { IfSome result (λ works. ArePlateWorks page.now works.items
+        × HasTallies page.now 0 outcome.new) }
     ensures none { IfNone result (HasPlates page.now 0 outcome.new) }
     ensures parts { AreParts page.now parts.new }
 {
@@ -62,7 +63,8 @@ fn take_rest(
     outcome: &mut Outcome,
 )
     requires finished { IsFinished page.now closed.now }
-    requires left { IfSome left (λ works. ArePlateWorks page.now works.items × HasTallies page.now 0 outcome.old) }
+    requires left { IfSome left (λ works. ArePlateWorks page.now works.items
+        × HasTallies page.now 0 outcome.old) }
     requires none { IfNone left (HasPlates page.now 0 outcome.old) }
     requires parts { AreParts page.now parts.old }
     ensures { HasRows page.now (height page.now) outcome.new }

@@ -1,9 +1,10 @@
+use Rattle.std.specs.Prelude.{◌-◌, ℕ, min}
 use Rattle.std.proofs.Common.{◌≡◌, ◌∙◌, ◌+◌, ◌≤◌, ◌∷◌, ◌++◌, [], ap, arith, false, refl, sym, true}
 use Rattle.std.proofs.lemmas.Bool.{false≢true}
 use Rattle.std.proofs.lemmas.List.Elements.{All-append, All-cons}
 use Rattle.band_claims.specs.Seating.{Seats}
 use Rattle.band_claims.specs.declared.view.View.{View}
-use Rattle.trap_engine.proofs.PartLemmas.{all_laid, none_laid, one_laid}
+use Rattle.trap_engine.proofs.PartLemmas.{all_laid, none_laid, one_laid, one_of_size}
 use Rattle.trap_engine.specs.Parts.{IsPart}
 use Rattle.trap_engine.specs.declared.parts.Part.{Part}
 use Rattle.trap_engine.proofs.parts.parts_of.Goals as goal
@@ -26,4 +27,5 @@ loop-first-preserved c =
       idle = ap (λ (w : View). w.held) c.split-kept.ensures.kept ∙ v.idle;
       laid = rw grown (one_laid page c.loop-first.first parts one refl here v.laid);
       seats = rw grown (All-append (λ (p : Part). Seats c.args.shared.now p.pass) parts (one ∷ []) v.seats (All-cons (λ (p : Part). Seats c.args.shared.now p.pass) one [] c.split-kept.ensures.second (λ j d none. absurd (omega arith))));
+      size = rw grown (one_of_size page c.args.size parts one (c.min-count.ensures ∙ ap (λ (n : ℕ). min (n - c.loop-first.first) c.args.size) v.tall) v.size);
     }

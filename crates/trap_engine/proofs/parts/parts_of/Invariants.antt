@@ -1,7 +1,7 @@
 use Rattle.std.proofs.Common.{◌≡◌, ◌-◌, ◌≤◌, None}
 use Rattle.band_claims.specs.Seating.{Seats}
 use Rattle.page_model.specs.Page.{height}
-use Rattle.trap_engine.specs.Parts.{AreSeatedParts}
+use Rattle.trap_engine.specs.Parts.{AreOfSize, AreSeatedParts}
 use Rattle.trap_engine.proofs.PartLemmas.{AreLaid}
 use Rattle.trap_engine.proofs.parts.parts_of.Given as goal
 
@@ -13,6 +13,7 @@ invariant-loop-first l = record {
   idle : l.pass.view.held ≡ None;
   laid : AreLaid l.page l.first l.parts;
   seats : AreSeatedParts l.shared l.parts;
+  size : AreOfSize l.page l.size l.parts;
 }
 
 abbrev pub decreases-loop-first : goal.decreases-loop-first
