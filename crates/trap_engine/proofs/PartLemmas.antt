@@ -1,5 +1,5 @@
 -- The rows of the parts stay as they are while it is counted in them, and one part more follows the others.
-use Rattle.std.proofs.Common.{◌≡◌, ℕ, ◌+◌, ◌<◌, ◌≤◌, ◌∙◌, ◌∷◌, ◌++◌, [], refl, sym, ap, arith, subst, List, length, inl, inr}
+use Rattle.std.proofs.Common.{◌≡◌, ℕ, ◌+◌, ◌<◌, ◌≤◌, ◌∙◌, ◌∷◌, ◌++◌, [], refl, sym, ap, arith, List, length, inl, inr}
 use Rattle.std.specs.Prelude.{◌-◌, min, slice_index_or}
 use Rattle.std.proofs.lemmas.Bool.{cases_eq}
 use Rattle.std.proofs.lemmas.List.{get_or_append_left, get_or_push, length-append}

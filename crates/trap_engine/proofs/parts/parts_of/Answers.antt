@@ -1,10 +1,10 @@
 use Rattle.std.specs.Prelude.{◌-◌, ℕ, min}
-use Rattle.std.proofs.Common.{◌≡◌, ◌∙◌, ◌+◌, ◌≤◌, ◌∷◌, ◌++◌, [], ap, arith, false, refl, sym, true}
+use Rattle.std.proofs.Common.{◌≡◌, ◌∙◌, ◌+◌, ◌≤◌, ◌∷◌, ◌++◌, [], ap, arith, false, refl}
 use Rattle.std.proofs.lemmas.Bool.{false≢true}
 use Rattle.std.proofs.lemmas.List.Elements.{All-append, All-cons}
 use Rattle.band_claims.specs.Seating.{Seats}
 use Rattle.band_claims.specs.declared.view.View.{View}
-use Rattle.trap_engine.proofs.PartLemmas.{all_laid, none_laid, one_laid, one_of_size}
+use Rattle.trap_engine.proofs.PartLemmas.{one_laid, one_of_size}
 use Rattle.trap_engine.specs.Parts.{IsPart}
 use Rattle.trap_engine.specs.declared.parts.Part.{Part}
 use Rattle.trap_engine.proofs.parts.parts_of.Goals as goal
