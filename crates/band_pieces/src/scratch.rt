@@ -38,7 +38,8 @@ impl Model for Scratch {
 
     ghost view = { λ s. s.layout };
 
-    ghost invariant = { λ s. IsRoom s.layout s.room (vec_len s.zones) (vec_len s.marks) (vec_len s.answers) (vec_len s.tints) };
+    ghost invariant = { λ s. IsRoom s.layout s.room (vec_len s.zones) (vec_len s.marks)
+        (vec_len s.answers) (vec_len s.tints) };
 }
 
 /// So many zeros.

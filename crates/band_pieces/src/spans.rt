@@ -46,11 +46,13 @@ pub(crate) fn rows_near(bands: &Bands, rows: Rows) -> Rows
     ensures above { result.first ≤ rows.first }
     ensures under { rows.first + rows.count ≤ result.first + result.count }
     ensures near_above { rows.first ≤ result.first + halo bands.now.reach2 }
-    ensures near_under { result.first + result.count ≤ rows.first + rows.count + halo bands.now.reach2 }
+    ensures near_under { result.first + result.count
+        ≤ rows.first + rows.count + halo bands.now.reach2 }
     ensures inside { result.first + result.count ≤ bands.now.rows }
     ensures far_above { (row : ℕ) → rows.first ≤ row + halo bands.now.reach2 → result.first ≤ row }
     ensures far_under { (row : ℕ) → row < bands.now.rows
-        → row < rows.first + rows.count + halo bands.now.reach2 → row < result.first + result.count }
+        → row < rows.first + rows.count + halo bands.now.reach2
+        → row < result.first + result.count }
 {
     let halo = (bands.reach2 + 1) / 2;
     let first = rows.first.saturating_sub(halo);

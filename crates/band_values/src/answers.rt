@@ -50,8 +50,11 @@ fn scan<L: Ledger>(
     requires held { held.first + held.count ≤ height page.now }
     requires above { held.first ≤ rows.first }
     requires under { rows.first + rows.count ≤ held.first + held.count }
-    requires far_above { (row : ℕ) → rows.first ≤ row + halo (page_reach page.now) → held.first ≤ row }
-    requires far_under { (row : ℕ) → row < height page.now → row < rows.first + rows.count + halo (page_reach page.now) → row < held.first + held.count }
+    requires far_above { (row : ℕ) → rows.first ≤ row + halo (page_reach page.now)
+        → held.first ≤ row }
+    requires far_under { (row : ℕ) → row < height page.now
+        → row < rows.first + rows.count + halo (page_reach page.now)
+        → row < held.first + held.count }
     requires out { length out.old ≡ rows.count * doubled page.now }
     ensures answers { HoldsAnswers page.now rows out.new }
     ensures len { length out.new ≡ length out.old }
@@ -86,8 +89,11 @@ fn scan_counted<L: Ledger>(
     requires held { held.first + held.count ≤ height page.now }
     requires above { held.first ≤ rows.first }
     requires under { rows.first + rows.count ≤ held.first + held.count }
-    requires far_above { (row : ℕ) → rows.first ≤ row + halo (page_reach page.now) → held.first ≤ row }
-    requires far_under { (row : ℕ) → row < height page.now → row < rows.first + rows.count + halo (page_reach page.now) → row < held.first + held.count }
+    requires far_above { (row : ℕ) → rows.first ≤ row + halo (page_reach page.now)
+        → held.first ≤ row }
+    requires far_under { (row : ℕ) → row < height page.now
+        → row < rows.first + rows.count + halo (page_reach page.now)
+        → row < held.first + held.count }
     requires out { length out.old ≡ rows.count * doubled page.now }
     ensures answers { HoldsAnswers page.now rows out.new }
     ensures len { length out.new ≡ length out.old }
@@ -114,8 +120,11 @@ pub fn make_answers(page: &Page, rows: Rows, held: Rows, marks: &[u8], out: &mut
     requires held { held.first + held.count ≤ height page.now }
     requires above { held.first ≤ rows.first }
     requires under { rows.first + rows.count ≤ held.first + held.count }
-    requires far_above { (row : ℕ) → rows.first ≤ row + halo (page_reach page.now) → held.first ≤ row }
-    requires far_under { (row : ℕ) → row < height page.now → row < rows.first + rows.count + halo (page_reach page.now) → row < held.first + held.count }
+    requires far_above { (row : ℕ) → rows.first ≤ row + halo (page_reach page.now)
+        → held.first ≤ row }
+    requires far_under { (row : ℕ) → row < height page.now
+        → row < rows.first + rows.count + halo (page_reach page.now)
+        → row < held.first + held.count }
     requires out { length out.old ≡ rows.count * doubled page.now }
     ensures answers { HoldsAnswers page.now rows out.new }
     ensures len { length out.new ≡ length out.old }

@@ -95,7 +95,9 @@ pub fn raise_arms(codes: &[u16], arms: &mut [Arm], columns: &mut [u32]) -> usize
 /// The edge whose arm stands at a place.
 pub fn edge_at(codes: &[u16], y: u32, columns: &[u32], place: Option<u32>) -> Option<EdgeAt>
     requires row { y ≤ most_side }
-    requires place { MatchOption place (0 ≤ y) (λ k. (k < length columns.now) × (slice_index columns.now k < length codes.now) × (257 ≤ slice_index codes.now (slice_index columns.now k) + 2 * y)) }
+    requires place { MatchOption place (0 ≤ y)
+        (λ k. (k < length columns.now) × (slice_index columns.now k < length codes.now)
+        × (257 ≤ slice_index codes.now (slice_index columns.now k) + 2 * y)) }
     ensures { result ≡ edge_at_place codes.now y columns.now place }
 {
     match place {

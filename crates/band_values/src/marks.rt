@@ -36,8 +36,10 @@ fn write_marks(page: &Page, rows: Rows, k: u32, held: Rows, zones: &[u8], out: &
     requires row { k < rows.count }
     requires inside { rows.first + rows.count ≤ height page.now }
     requires out { length out.old ≡ rows.count * width page.now }
-    ensures here { (x : ℕ) → x < width page.now → slice_index out.new (k * width page.now + x) ≡ mark page.now (rows.first + k) x }
-    ensures kept { (i : ℕ) → i < k * width page.now → slice_index out.new i ≡ slice_index out.old i }
+    ensures here { (x : ℕ) → x < width page.now
+        → slice_index out.new (k * width page.now + x) ≡ mark page.now (rows.first + k) x }
+    ensures kept { (i : ℕ) → i < k * width page.now
+        → slice_index out.new i ≡ slice_index out.old i }
     ensures len { length out.new ≡ length out.old }
 {
     let width = page.width() as usize;

@@ -41,8 +41,13 @@ fn nearest_by<L: Ledger>(
     ensures columns { length columns.new ≡ length columns.old }
     ensures places { length places.new ≡ length places.old }
     ensures hull { hull.new ≡ hull.old }
-    ensures known { (x : ℕ) → x < width page.now → MatchOption (slice_index_or places.new x None) (0 ≤ y) (λ k. (k < length columns.new) × (slice_index columns.new k < length codes.now) × (257 ≤ slice_index codes.now (slice_index columns.new k) + 2 * y)) }
-    ensures deciders { (x : ℕ) → x < width page.now → edge_at_place codes.now y columns.new (slice_index_or places.new x None) ≡ column_decider page.now reach2 (record { x = x; y = y }) }
+    ensures known { (x : ℕ) → x < width page.now
+        → MatchOption (slice_index_or places.new x None) (0 ≤ y)
+        (λ k. (k < length columns.new) × (slice_index columns.new k < length codes.now)
+        × (257 ≤ slice_index codes.now (slice_index columns.new k) + 2 * y)) }
+    ensures deciders { (x : ℕ) → x < width page.now
+        → edge_at_place codes.now y columns.new (slice_index_or places.new x None)
+        ≡ column_decider page.now reach2 (record { x = x; y = y }) }
 {
     let width = page.width();
     let count = raise_arms(codes, arms, columns);
@@ -72,8 +77,13 @@ pub fn nearest_arms(
     ensures columns { length columns.new ≡ length columns.old }
     ensures places { length places.new ≡ length places.old }
     ensures hull { hull.new ≡ hull.old }
-    ensures known { (x : ℕ) → x < width page.now → MatchOption (slice_index_or places.new x None) (0 ≤ y) (λ k. (k < length columns.new) × (slice_index columns.new k < length codes.now) × (257 ≤ slice_index codes.now (slice_index columns.new k) + 2 * y)) }
-    ensures deciders { (x : ℕ) → x < width page.now → edge_at_place codes.now y columns.new (slice_index_or places.new x None) ≡ column_decider page.now reach2 (record { x = x; y = y }) }
+    ensures known { (x : ℕ) → x < width page.now
+        → MatchOption (slice_index_or places.new x None) (0 ≤ y)
+        (λ k. (k < length columns.new) × (slice_index columns.new k < length codes.now)
+        × (257 ≤ slice_index codes.now (slice_index columns.new k) + 2 * y)) }
+    ensures deciders { (x : ℕ) → x < width page.now
+        → edge_at_place codes.now y columns.new (slice_index_or places.new x None)
+        ≡ column_decider page.now reach2 (record { x = x; y = y }) }
 {
     let blank = Blank::new(1);
     nearest_by::<Brand>(page, codes, y, reach2, arms, columns, places, hull, blank);

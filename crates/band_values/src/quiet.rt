@@ -27,8 +27,10 @@ pub fn are_zero(codes: &[u16], from: usize, to: usize) -> bool
 /// Whether no column of row y has an answer. No edge decides then within reach of the row, and it keeps its tints.
 pub fn is_quiet(page: &Page, y: u32, codes: &[u16]) -> bool
     requires codes { AreAnswers page.now (page_reach page.now) y (doubled page.now) codes.now }
-    ensures only { result ≡ true → (x : ℕ) → x < width page.now → KeepsTints page.now (record { x = x; y = y }) }
-    ensures always { ((k : ℕ) → k < length codes.now → slice_index codes.now k ≡ 0) → result ≡ true }
+    ensures only { result ≡ true → (x : ℕ) → x < width page.now
+        → KeepsTints page.now (record { x = x; y = y }) }
+    ensures always { ((k : ℕ) → k < length codes.now → slice_index codes.now k ≡ 0)
+        → result ≡ true }
 {
     let _valid = page.plates();
     are_zero(codes, 0, codes.len())
@@ -41,8 +43,10 @@ pub fn are_quiet(page: &Page, y: u32, codes: &[u16], reach2: u32, x: u32, count:
     requires reach { reach2 ≡ page_reach page.now }
     requires some { 1 ≤ count }
     requires inside { x + count ≤ width page.now }
-    ensures only { result ≡ true → (k : ℕ) → x ≤ k → k < x + count → KeepsTints page.now (record { x = k; y = y }) }
-    ensures always { ((k : ℕ) → k < length codes.now → slice_index codes.now k ≡ 0) → result ≡ true }
+    ensures only { result ≡ true → (k : ℕ) → x ≤ k → k < x + count
+        → KeepsTints page.now (record { x = k; y = y }) }
+    ensures always { ((k : ℕ) → k < length codes.now → slice_index codes.now k ≡ 0)
+        → result ≡ true }
 {
     let _valid = page.plates();
     let from = (2 * x as usize).saturating_sub(reach2 as usize);

@@ -16,7 +16,8 @@ pub(crate) fn row_of_bytes<'a>(items: &'a [u8], width: usize, k: usize) -> &'a [
     requires row { k ≤ most_side }
     requires inside { (k + 1) * width ≤ length items.now }
     ensures len { length result.now ≡ width }
-    ensures each { (x : ℕ) → x < width → slice_index result.now x ≡ slice_index items.now (k * width + x) }
+    ensures each { (x : ℕ) → x < width
+        → slice_index result.now x ≡ slice_index items.now (k * width + x) }
 {
     let start = k * width;
     &items[start..start + width]
@@ -28,7 +29,8 @@ pub fn row_of<'a>(items: &'a [u16], wide: usize, k: usize) -> &'a [u16]
     requires row { k ≤ most_side }
     requires inside { (k + 1) * wide ≤ length items.now }
     ensures len { length result.now ≡ wide }
-    ensures each { (x : ℕ) → x < wide → slice_index result.now x ≡ slice_index items.now (k * wide + x) }
+    ensures each { (x : ℕ) → x < wide
+        → slice_index result.now x ≡ slice_index items.now (k * wide + x) }
 {
     let start = k * wide;
     &items[start..start + wide]

@@ -12,7 +12,9 @@ use page_model::page::Page;
 fn tints_of<'a>(page: &'a Page, c: u32) -> &'a [u16]
     requires plate { c < plates page.now }
     ensures len { length result.now ≡ width page.now * height page.now }
-    ensures each { (x y : ℕ) → slice_index result.now (y * width page.now + x) ≡ tint page.now c (record { x = x; y = y }) }
+    ensures each { (x y : ℕ)
+        → slice_index result.now (y * width page.now + x)
+        ≡ tint page.now c (record { x = x; y = y }) }
 {
     let planes = page.planes().as_slice();
     planes[c as usize].tints.as_slice()
@@ -23,7 +25,8 @@ pub fn tints_of_row<'a>(page: &'a Page, c: u32, y: u32) -> &'a [u16]
     requires plate { c < plates page.now }
     requires row { y < height page.now }
     ensures len { length result.now ≡ width page.now }
-    ensures each { (x : ℕ) → x < width page.now → slice_index result.now x ≡ tint page.now c (record { x = x; y = y }) }
+    ensures each { (x : ℕ) → x < width page.now
+        → slice_index result.now x ≡ tint page.now c (record { x = x; y = y }) }
 {
     let width = page.width() as usize;
     let start = y as usize * width;
@@ -36,8 +39,10 @@ fn copy_tints(page: &Page, c: u32, y: u32, out: &mut [u16])
     requires plate { c < plates page.now }
     requires row { y < height page.now }
     requires out { length out.old ≡ plates page.now * width page.now }
-    ensures here { (x : ℕ) → x < width page.now → slice_index out.new (c * width page.now + x) ≡ tint page.now c (record { x = x; y = y }) }
-    ensures kept { (i : ℕ) → i < c * width page.now → slice_index out.new i ≡ slice_index out.old i }
+    ensures here { (x : ℕ) → x < width page.now
+        → slice_index out.new (c * width page.now + x) ≡ tint page.now c (record { x = x; y = y }) }
+    ensures kept { (i : ℕ) → i < c * width page.now
+        → slice_index out.new i ≡ slice_index out.old i }
     ensures len { length out.new ≡ length out.old }
 {
     let tints = tints_of_row(page, c, y);
@@ -62,7 +67,8 @@ pub fn put_tints(page: &Page, y: u32, x: u32, tints: &[u16], out: &mut [u16])
     requires row { y < height page.now }
     requires column { x < width page.now }
     requires plates { length tints.now ≡ plates page.now }
-    requires tints { (c : ℕ) → c < plates page.now → slice_index tints.now c ≡ new page.now (record { x = x; y = y }) c }
+    requires tints { (c : ℕ) → c < plates page.now
+        → slice_index tints.now c ≡ new page.now (record { x = x; y = y }) c }
     requires out { IsRowTo page.now y x out.old }
     ensures { IsRowTo page.now y (x + 1) out.new }
 {

@@ -91,8 +91,13 @@ fn trap_some(
     requires reach { reach2 ≡ page_reach page.now }
     requires few { reach2 ≤ most_reach }
     requires places { length places.now ≡ width page.now }
-    requires known { (x : ℕ) → x < width page.now → MatchOption (slice_index_or places.now x None) (0 ≤ y) (λ k. (k < length columns.now) × (slice_index columns.now k < length codes.now) × (257 ≤ slice_index codes.now (slice_index columns.now k) + 2 * y)) }
-    requires deciders { (x : ℕ) → x < width page.now → edge_at_place codes.now y columns.now (slice_index_or places.now x None) ≡ column_decider page.now reach2 (record { x = x; y = y }) }
+    requires known { (x : ℕ) → x < width page.now
+        → MatchOption (slice_index_or places.now x None) (0 ≤ y)
+        (λ k. (k < length columns.now) × (slice_index columns.now k < length codes.now)
+        × (257 ≤ slice_index codes.now (slice_index columns.now k) + 2 * y)) }
+    requires deciders { (x : ℕ) → x < width page.now
+        → edge_at_place codes.now y columns.now (slice_index_or places.now x None)
+        ≡ column_decider page.now reach2 (record { x = x; y = y }) }
     requires answers { AreAnswers page.now (page_reach page.now) y (doubled page.now) codes.now }
     requires some { 1 ≤ count }
     requires inside { x + count ≤ width page.now }
@@ -128,8 +133,13 @@ fn trap_samples(
     requires reach { reach2 ≡ page_reach page.now }
     requires few { reach2 ≤ most_reach }
     requires places { length places.now ≡ width page.now }
-    requires known { (x : ℕ) → x < width page.now → MatchOption (slice_index_or places.now x None) (0 ≤ y) (λ k. (k < length columns.now) × (slice_index columns.now k < length codes.now) × (257 ≤ slice_index codes.now (slice_index columns.now k) + 2 * y)) }
-    requires deciders { (x : ℕ) → x < width page.now → edge_at_place codes.now y columns.now (slice_index_or places.now x None) ≡ column_decider page.now reach2 (record { x = x; y = y }) }
+    requires known { (x : ℕ) → x < width page.now
+        → MatchOption (slice_index_or places.now x None) (0 ≤ y)
+        (λ k. (k < length columns.now) × (slice_index columns.now k < length codes.now)
+        × (257 ≤ slice_index codes.now (slice_index columns.now k) + 2 * y)) }
+    requires deciders { (x : ℕ) → x < width page.now
+        → edge_at_place codes.now y columns.now (slice_index_or places.now x None)
+        ≡ column_decider page.now reach2 (record { x = x; y = y }) }
     requires answers { AreAnswers page.now (page_reach page.now) y (doubled page.now) codes.now }
     requires tints { length tints.old ≡ plates page.now }
     requires out { IsRowTo page.now y 0 out.old }
@@ -206,8 +216,10 @@ pub fn make_row(
     requires codes { AreAnswers page.now (page_reach page.now) y (doubled page.now) codes.now }
     requires room { Serves room.old page.now }
     requires out { length out.old ≡ plates page.now * width page.now }
-    ensures tints { (c x : ℕ) → c < plates page.now → x < width page.now → slice_index out.new (c * width page.now + x) ≡ new page.now (record { x = x; y = y }) c }
-    ensures values { (o : ℕ) → o < plates page.now * width page.now → slice_index out.new o ≡ tint_value page.now y o }
+    ensures tints { (c x : ℕ) → c < plates page.now → x < width page.now
+        → slice_index out.new (c * width page.now + x) ≡ new page.now (record { x = x; y = y }) c }
+    ensures values { (o : ℕ) → o < plates page.now * width page.now
+        → slice_index out.new o ≡ tint_value page.now y o }
     ensures len { length out.new ≡ length out.old }
     ensures room { room.new ≡ room.old }
 {
@@ -231,8 +243,11 @@ fn write_tints(
     requires inside { rows.first + rows.count ≤ height page.now }
     requires out { length out.old ≡ rows.count * (plates page.now * width page.now) }
     requires room { Serves room.old page.now }
-    ensures here { (o : ℕ) → o < plates page.now * width page.now → slice_index out.new (k * (plates page.now * width page.now) + o) ≡ tint_value page.now (rows.first + k) o }
-    ensures kept { (i : ℕ) → i < k * (plates page.now * width page.now) → slice_index out.new i ≡ slice_index out.old i }
+    ensures here { (o : ℕ) → o < plates page.now * width page.now
+        → slice_index out.new (k * (plates page.now * width page.now) + o)
+        ≡ tint_value page.now (rows.first + k) o }
+    ensures kept { (i : ℕ) → i < k * (plates page.now * width page.now)
+        → slice_index out.new i ≡ slice_index out.old i }
     ensures len { length out.new ≡ length out.old }
     ensures room { room.new ≡ room.old }
 {

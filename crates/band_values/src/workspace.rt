@@ -33,7 +33,9 @@ impl Model for Workspace {
 
     ghost view = { λ w. record { wide = w.width; deep = w.plates } };
 
-    ghost invariant = { λ w. (w.spans ≡ w.width) × (vec_len w.arms ≡ 2 * w.width - 1) × (vec_len w.columns ≡ 2 * w.width - 1) × (vec_len w.places ≡ w.width) × (w.hull ≡ 2 * w.width - 1) × (vec_len w.tints ≡ w.plates) };
+    ghost invariant = { λ w. (w.spans ≡ w.width) × (vec_len w.arms ≡ 2 * w.width - 1)
+        × (vec_len w.columns ≡ 2 * w.width - 1) × (vec_len w.places ≡ w.width)
+        × (w.hull ≡ 2 * w.width - 1) × (vec_len w.tints ≡ w.plates) };
 }
 
 /// So many copies of an item.

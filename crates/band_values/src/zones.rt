@@ -14,8 +14,10 @@ fn write_zones(page: &Page, rows: Rows, k: u32, out: &mut [u8], spans: &mut Span
     requires inside { rows.first + rows.count ≤ height page.now }
     requires out { length out.old ≡ rows.count * width page.now }
     requires spans { spans.old ≡ width page.now }
-    ensures here { (x : ℕ) → x < width page.now → slice_index out.new (k * width page.now + x) ≡ zone_value page.now (rows.first + k) x }
-    ensures kept { (i : ℕ) → i < k * width page.now → slice_index out.new i ≡ slice_index out.old i }
+    ensures here { (x : ℕ) → x < width page.now
+        → slice_index out.new (k * width page.now + x) ≡ zone_value page.now (rows.first + k) x }
+    ensures kept { (i : ℕ) → i < k * width page.now
+        → slice_index out.new i ≡ slice_index out.old i }
     ensures len { length out.new ≡ length out.old }
     ensures spans { spans.new ≡ spans.old }
 {

@@ -72,7 +72,8 @@ pub(crate) fn first_after<L: Ledger>(
 ) -> Option<u32>
     requires column { x2 + 2 ≤ 2 * marks.now.wide }
     requires end { end ≤ held_rows marks.now }
-    ensures next { result ≡ first_before (passes marks.now x2) (held_rows marks.now) (held_rows marks.now - end) }
+    ensures next { result
+        ≡ first_before (passes marks.now x2) (held_rows marks.now) (held_rows marks.now - end) }
     ensures steps { steps.new + end ≡ steps.old + held_rows marks.now }
 {
     let mut next = None;

@@ -65,7 +65,8 @@ pub(crate) fn first_row_of<L: Ledger>(
     requires row { r < held_rows marks.now }
     requires reach { reach2 ≤ most_reach }
     requires out { columns ≤ length out.old }
-    ensures written { IsRowWritten out.old out.new columns 0 (λ x2. above_of marks.now x2 reach2 r) columns }
+    ensures written { IsRowWritten out.old out.new columns 0
+        (λ x2. above_of marks.now x2 reach2 r) columns }
     ensures steps { steps.new ≡ steps.old + columns * (r + 1) }
 {
     let _valid = marks.rows();
@@ -94,8 +95,10 @@ pub(crate) fn row_down<L: Ledger>(
     requires k { k + 1 < rows }
     requires rows { rows ≤ most_side }
     requires out { length out.old ≡ rows * columns }
-    requires above { (x2 : ℕ) → x2 < columns → slot out.old columns k x2 ≡ above_of marks.now x2 reach2 r }
-    ensures written { IsRowWritten out.old out.new columns (k + 1) (λ x2. above_of marks.now x2 reach2 (r + 1)) columns }
+    requires above { (x2 : ℕ) → x2 < columns
+        → slot out.old columns k x2 ≡ above_of marks.now x2 reach2 r }
+    ensures written { IsRowWritten out.old out.new columns (k + 1)
+        (λ x2. above_of marks.now x2 reach2 (r + 1)) columns }
     ensures steps { steps.new ≡ steps.old + columns }
 {
     let _valid = marks.rows();
@@ -134,8 +137,10 @@ pub(crate) fn last_row_of<L: Ledger>(
     requires k { k < rows }
     requires rows { rows ≤ most_side }
     requires out { length out.old ≡ rows * columns }
-    requires above { (x2 : ℕ) → x2 < columns → slot out.old columns k x2 ≡ above_of marks.now x2 reach2 r }
-    ensures written { IsRowWritten out.old out.new columns k (λ x2. column_of marks.now x2 reach2 r) columns }
+    requires above { (x2 : ℕ) → x2 < columns
+        → slot out.old columns k x2 ≡ above_of marks.now x2 reach2 r }
+    ensures written { IsRowWritten out.old out.new columns k
+        (λ x2. column_of marks.now x2 reach2 r) columns }
     ensures steps { steps.new ≡ steps.old + columns * (held_rows marks.now - r) }
 {
     let _valid = marks.rows();
@@ -154,7 +159,9 @@ pub(crate) fn row_up(columns: u32, rows: u32, k: u32, reach2: u32, out: &mut [u1
     requires k { k + 1 < rows }
     requires rows { rows ≤ most_side }
     requires out { length out.old ≡ rows * columns }
-    ensures written { IsRowWritten out.old out.new columns k (λ x2. raised reach2 (slot out.old columns k x2) (slot out.old columns (k + 1) x2)) columns }
+    ensures written { IsRowWritten out.old out.new columns k
+        (λ x2. raised reach2 (slot out.old columns k x2)
+        (slot out.old columns (k + 1) x2)) columns }
 {
     for x2 in 0..columns {
         let code = lifted(

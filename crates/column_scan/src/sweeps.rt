@@ -26,7 +26,8 @@ fn rows_down<L: Ledger>(
     requires reach { reach2 ≤ most_reach }
     requires out { length out.old ≡ rows * columns }
     ensures len { length out.new ≡ length out.old }
-    ensures above { (k x2 : ℕ) → k < rows → x2 < columns → slot out.new columns k x2 ≡ above_of marks.now x2 reach2 (first + k) }
+    ensures above { (k x2 : ℕ) → k < rows → x2 < columns
+        → slot out.new columns k x2 ≡ above_of marks.now x2 reach2 (first + k) }
     ensures steps { steps.new ≡ steps.old + columns * (first + rows) }
 {
     let _valid = marks.rows();
@@ -43,10 +44,13 @@ fn rows_up(marks: &Marks, columns: u32, first: u32, rows: u32, reach2: u32, out:
     requires asked { first + rows ≤ held_rows marks.now }
     requires reach { reach2 ≤ most_reach }
     requires out { length out.old ≡ rows * columns }
-    requires above { (k x2 : ℕ) → k + 1 < rows → x2 < columns → slot out.old columns k x2 ≡ above_of marks.now x2 reach2 (first + k) }
-    requires last { (x2 : ℕ) → x2 < columns → slot out.old columns (rows - 1) x2 ≡ column_of marks.now x2 reach2 (first + (rows - 1)) }
+    requires above { (k x2 : ℕ) → k + 1 < rows → x2 < columns
+        → slot out.old columns k x2 ≡ above_of marks.now x2 reach2 (first + k) }
+    requires last { (x2 : ℕ) → x2 < columns
+        → slot out.old columns (rows - 1) x2 ≡ column_of marks.now x2 reach2 (first + (rows - 1)) }
     ensures len { length out.new ≡ length out.old }
-    ensures columns { (k x2 : ℕ) → k < rows → x2 < columns → slot out.new columns k x2 ≡ column_of marks.now x2 reach2 (first + k) }
+    ensures columns { (k x2 : ℕ) → k < rows → x2 < columns
+        → slot out.new columns k x2 ≡ column_of marks.now x2 reach2 (first + k) }
 {
     let _valid = marks.rows();
     for i in 0..rows - 1 {
@@ -73,7 +77,11 @@ pub fn columns<L: Ledger>(
     requires to { first_row + rows ≤ marks.now.top + held_rows marks.now }
     requires out { length out.old ≡ rows * (2 * width - 1) }
     ensures len { length out.new ≡ length out.old }
-    ensures answers { (page : PageParts) → AreMarks page marks.now → CoverRows page marks.now first_row rows reach2 → (k x2 : ℕ) → k < rows → x2 < 2 * width - 1 → slice_index out.new (k * (2 * width - 1) + x2) ≡ column_answer page reach2 x2 (first_row + k) }
+    ensures answers { (page : PageParts) → AreMarks page marks.now
+        → CoverRows page marks.now first_row rows reach2 → (k x2 : ℕ) → k < rows
+        → x2 < 2 * width - 1
+        → slice_index out.new (k * (2 * width - 1) + x2)
+        ≡ column_answer page reach2 x2 (first_row + k) }
     ensures steps { steps.new ≤ steps.old + 2 * ((2 * width - 1) * held_rows marks.now) }
 {
     let _valid = marks.rows();

@@ -18,7 +18,8 @@ use page_model::parts::{At, InkKind};
 fn least_step(page: &Page, zone: u32, c: u32) -> Option<u16>
     requires zone { zone < length page.now.zones }
     requires plate { c < plates page.now }
-    ensures falls { (p q : Sample) → InPage page.now p → InPage page.now q → falls page.now zone p q c ≡ falls_by result (tint page.now c p) (tint page.now c q) }
+    ensures falls { (p q : Sample) → InPage page.now p → InPage page.now q
+        → falls page.now zone p q c ≡ falls_by result (tint page.now c p) (tint page.now c q) }
     ensures some { IfSome result (λ step. 1 ≤ step) }
 {
     let _valid = page.plates();
@@ -46,7 +47,8 @@ fn plane_tints<'a>(page: &'a Page, c: u32) -> &'a [u16]
 fn part_of<'a>(items: &'a [u16], start: usize, count: usize) -> &'a [u16]
     requires inside { start + count ≤ length items.now }
     ensures len { length result.now ≡ count }
-    ensures each { (k : ℕ) → k < count → slice_index result.now k ≡ slice_index items.now (start + k) }
+    ensures each { (k : ℕ) → k < count
+        → slice_index result.now k ≡ slice_index items.now (start + k) }
 {
     &items[start..start + count]
 }
@@ -68,7 +70,10 @@ fn note_falls(from: &[u16], to: &[u16], step: u16, noted: &mut [bool])
     requires to { length to.now ≡ length from.now }
     requires noted { length noted.old ≡ length from.now }
     ensures len { length noted.new ≡ length noted.old }
-    ensures each { (k : ℕ) → k < length from.now → slice_index_or noted.new k false ≡ (slice_index_or noted.old k false || nat_le step (slice_index from.now k - slice_index to.now k)) }
+    ensures each { (k : ℕ) → k < length from.now
+        → slice_index_or noted.new k false
+        ≡ (slice_index_or noted.old k false
+        || nat_le step (slice_index from.now k - slice_index to.now k)) }
 {
     for k in 0..from.len() {
         // both are worked out first, without a branch, so that many samples go at once
@@ -94,8 +99,14 @@ fn note_both(here: &[u16], there: &[u16], step: u16, fallen: &mut [bool], risen:
     requires risen { length risen.old ≡ length here.now }
     ensures fallen_len { length fallen.new ≡ length fallen.old }
     ensures risen_len { length risen.new ≡ length risen.old }
-    ensures fallen { (k : ℕ) → k < length here.now → slice_index_or fallen.new k false ≡ (slice_index_or fallen.old k false || nat_le step (slice_index here.now k - slice_index there.now k)) }
-    ensures risen { (k : ℕ) → k < length here.now → slice_index_or risen.new k false ≡ (slice_index_or risen.old k false || nat_le step (slice_index there.now k - slice_index here.now k)) }
+    ensures fallen { (k : ℕ) → k < length here.now
+        → slice_index_or fallen.new k false
+        ≡ (slice_index_or fallen.old k false
+        || nat_le step (slice_index here.now k - slice_index there.now k)) }
+    ensures risen { (k : ℕ) → k < length here.now
+        → slice_index_or risen.new k false
+        ≡ (slice_index_or risen.old k false
+        || nat_le step (slice_index there.now k - slice_index here.now k)) }
 {
     if !are_same(here, there) {
         note_falls(here, there, step, fallen);
@@ -112,8 +123,12 @@ fn note_steps(page: &Page, zone: u32, c: u32, p: At, q: At, fallen: &mut [bool],
     requires p_inside { p.x + length fallen.old ≤ width page.now }
     requires q_inside { q.x + length fallen.old ≤ width page.now }
     requires risen { length risen.old ≡ length fallen.old }
-    ensures fallen { (k : ℕ) → k < length fallen.old → slice_index_or fallen.new k false ≡ (slice_index_or fallen.old k false || falls page.now zone (along p k) (along q k) c) }
-    ensures risen { (k : ℕ) → k < length fallen.old → slice_index_or risen.new k false ≡ (slice_index_or risen.old k false || falls page.now zone (along q k) (along p k) c) }
+    ensures fallen { (k : ℕ) → k < length fallen.old
+        → slice_index_or fallen.new k false
+        ≡ (slice_index_or fallen.old k false || falls page.now zone (along p k) (along q k) c) }
+    ensures risen { (k : ℕ) → k < length fallen.old
+        → slice_index_or risen.new k false
+        ≡ (slice_index_or risen.old k false || falls page.now zone (along q k) (along p k) c) }
     ensures fallen_len { length fallen.new ≡ length fallen.old }
     ensures risen_len { length risen.new ≡ length fallen.old }
 {
@@ -135,8 +150,12 @@ fn find_steps(page: &Page, zone: u32, p: At, q: At, fallen: &mut [bool], risen: 
     requires p_inside { p.x + length fallen.old ≤ width page.now }
     requires q_inside { q.x + length fallen.old ≤ width page.now }
     requires risen { length risen.old ≡ length fallen.old }
-    ensures fallen { (k : ℕ) → k < length fallen.old → slice_index_or fallen.new k false ≡ any_below (falls page.now zone (along p k) (along q k)) (plates page.now) }
-    ensures risen { (k : ℕ) → k < length fallen.old → slice_index_or risen.new k false ≡ any_below (falls page.now zone (along q k) (along p k)) (plates page.now) }
+    ensures fallen { (k : ℕ) → k < length fallen.old
+        → slice_index_or fallen.new k false
+        ≡ any_below (falls page.now zone (along p k) (along q k)) (plates page.now) }
+    ensures risen { (k : ℕ) → k < length fallen.old
+        → slice_index_or risen.new k false
+        ≡ any_below (falls page.now zone (along q k) (along p k)) (plates page.now) }
     ensures fallen_len { length fallen.new ≡ length fallen.old }
     ensures risen_len { length risen.new ≡ length fallen.old }
 {
@@ -173,7 +192,9 @@ fn some_ink_shuts(page: &Page) -> bool
 fn keep_risen(fallen: &mut [bool], risen: &[bool])
     requires { length risen.now ≡ length fallen.old }
     ensures len { length fallen.new ≡ length fallen.old }
-    ensures each { (k : ℕ) → k < length fallen.old → slice_index_or fallen.new k false ≡ (slice_index_or fallen.old k false && slice_index_or risen.now k false) }
+    ensures each { (k : ℕ) → k < length fallen.old
+        → slice_index_or fallen.new k false
+        ≡ (slice_index_or fallen.old k false && slice_index_or risen.now k false) }
 {
     for k in 0..fallen.len() {
         let falls = fallen[k];
@@ -189,7 +210,10 @@ fn keep_open(page: &Page, p: At, q: At, kept: &mut [bool])
     requires p_inside { p.x + length kept.old ≤ width page.now }
     requires q_inside { q.x + length kept.old ≤ width page.now }
     ensures len { length kept.new ≡ length kept.old }
-    ensures each { (k : ℕ) → k < length kept.old → slice_index_or kept.new k false ≡ (slice_index_or kept.old k false && (not (shut page.now (along p k)) && not (shut page.now (along q k)))) }
+    ensures each { (k : ℕ) → k < length kept.old
+        → slice_index_or kept.new k false
+        ≡ (slice_index_or kept.old k false
+        && (not (shut page.now (along p k)) && not (shut page.now (along q k)))) }
 {
     let _valid = page.plates();
     for k in 0..kept.len() {
@@ -212,7 +236,10 @@ fn keep_unshut(page: &Page, p: At, q: At, kept: &mut [bool])
     requires p_inside { p.x + length kept.old ≤ width page.now }
     requires q_inside { q.x + length kept.old ≤ width page.now }
     ensures len { length kept.new ≡ length kept.old }
-    ensures each { (k : ℕ) → k < length kept.old → slice_index_or kept.new k false ≡ (slice_index_or kept.old k false && (not (shut page.now (along p k)) && not (shut page.now (along q k)))) }
+    ensures each { (k : ℕ) → k < length kept.old
+        → slice_index_or kept.new k false
+        ≡ (slice_index_or kept.old k false
+        && (not (shut page.now (along p k)) && not (shut page.now (along q k)))) }
 {
     if some_ink_shuts(page) {
         keep_open(page, p, q, kept);
@@ -228,7 +255,8 @@ pub fn decide_pairs(page: &Page, zone: u32, p: At, q: At, decided: &mut [bool], 
     requires p_inside { p.x + length decided.old ≤ width page.now }
     requires q_inside { q.x + length decided.old ≤ width page.now }
     requires risen { length risen.old ≡ length decided.old }
-    ensures each { (k : ℕ) → k < length decided.old → slice_index_or decided.new k false ≡ pair_decides page.now zone (along p k) (along q k) }
+    ensures each { (k : ℕ) → k < length decided.old
+        → slice_index_or decided.new k false ≡ pair_decides page.now zone (along p k) (along q k) }
     ensures len { length decided.new ≡ length decided.old }
     ensures risen_len { length risen.new ≡ length decided.old }
 {

@@ -26,8 +26,10 @@ fn all_in(zones: &[u8], zone: u8) -> bool
 fn all_plain(here: &[u8], below: &[u8], x: usize, count: usize) -> bool
     requires inside { x + count < length here.now }
     requires low { count ≤ length below.now - x }
-    ensures here { result ≡ true → (k : ℕ) → k ≤ count → slice_index here.now (x + k) ≡ slice_index here.now x }
-    ensures below { result ≡ true → (k : ℕ) → k < count → slice_index below.now (x + k) ≡ slice_index here.now x }
+    ensures here { result ≡ true → (k : ℕ) → k ≤ count
+        → slice_index here.now (x + k) ≡ slice_index here.now x }
+    ensures below { result ≡ true → (k : ℕ) → k < count
+        → slice_index below.now (x + k) ≡ slice_index here.now x }
 {
     if count == 0 {
         return false;
@@ -77,7 +79,10 @@ fn write_marks(right: &[bool], lower: &[bool], out: &mut [u8])
     requires right { length right.now ≡ length out.old }
     requires lower { length lower.now ≡ length out.old }
     ensures len { length out.new ≡ length out.old }
-    ensures each { (k : ℕ) → k < length out.old → slice_index out.new k ≡ (if slice_index_or right.now k false then 1 else 0) + (if slice_index_or lower.now k false then 2 else 0) }
+    ensures each { (k : ℕ) → k < length out.old
+        → slice_index out.new k
+        ≡ (if slice_index_or right.now k false then 1 else 0)
+        + (if slice_index_or lower.now k false then 2 else 0) }
 {
     for k in 0..out.len() {
         let one = if right[k] { 1 } else { 0 };
@@ -90,7 +95,8 @@ fn write_marks(right: &[bool], lower: &[bool], out: &mut [u8])
 fn find_right(page: &Page, y: u32, zone: u32, x: u32, right: &mut [bool], risen: &mut [bool])
     requires lie { LieIn page.now y x (length right.old) zone }
     requires risen { length risen.old ≡ length right.old }
-    ensures each { (k : ℕ) → k < length right.old → slice_index_or right.new k false ≡ right_mark page.now y (x + k) }
+    ensures each { (k : ℕ) → k < length right.old
+        → slice_index_or right.new k false ≡ right_mark page.now y (x + k) }
     ensures len { length right.new ≡ length right.old }
     ensures risen_len { length risen.new ≡ length right.old }
 {
@@ -102,7 +108,8 @@ fn find_right(page: &Page, y: u32, zone: u32, x: u32, right: &mut [bool], risen:
 fn find_lower(page: &Page, y: u32, zone: u32, x: u32, lower: &mut [bool], risen: &mut [bool])
     requires lie { LieIn page.now y x (length lower.old) zone }
     requires risen { length risen.old ≡ length lower.old }
-    ensures each { (k : ℕ) → k < length lower.old → slice_index_or lower.new k false ≡ lower_mark page.now y (x + k) }
+    ensures each { (k : ℕ) → k < length lower.old
+        → slice_index_or lower.new k false ≡ lower_mark page.now y (x + k) }
     ensures len { length lower.new ≡ length lower.old }
     ensures risen_len { length risen.new ≡ length lower.old }
 {

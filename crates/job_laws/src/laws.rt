@@ -70,10 +70,12 @@ pub fn job_is_read_where_statements_end_it()
 /// Statements have a fault exactly where it is the first one by what is in force at its statement, and none stands before
 /// it; or where none has one and none is `showpage`.
 pub fn fault_is_the_first_by_what_is_in_force()
-    ensures stands { (objects : List Object) (len : ℕ) (statements : List Statement) (fault : JobFault)
+    ensures stands { (objects : List Object) (len : ℕ) (statements : List Statement)
+        (fault : JobFault)
         → read_from objects len nothing_read statements ≡ Err fault
         → IsFaultOf objects len statements fault }
-    ensures told { (objects : List Object) (len : ℕ) (statements : List Statement) (fault : JobFault)
+    ensures told { (objects : List Object) (len : ℕ) (statements : List Statement)
+        (fault : JobFault)
         → IsFaultOf objects len statements fault
         → read_from objects len nothing_read statements ≡ Err fault }
 {}

@@ -90,7 +90,8 @@ fn serve_rooms<R: Threads + Wait + Sync, K: Drop + Send, W: LineWork<K> + Sync>(
     requires parts { vec_len rooms < (view pass).parts }
     requires unused { All IsUnused rooms.items }
     ensures queue { IsPassOf queue.now result.0 }
-    ensures rooms { (vec_len result.1 ≡ vec_len rooms) × (vec_capacity rooms ≤ vec_capacity result.1) }
+    ensures rooms { (vec_len result.1 ≡ vec_len rooms)
+        × (vec_capacity rooms ≤ vec_capacity result.1) }
     ensures taken { view result.0 ≡ pass_view (view pass).parts (view pass).mark
         (view pass).pushed ((view pass).taken ++ served_lines result.1.items) }
     ensures made { All (AreMade (W.makes work.now)) result.1.items }

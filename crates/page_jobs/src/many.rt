@@ -29,7 +29,8 @@ impl Model for ManyPages {
 
     ghost view = { λ m. m.bytes };
 
-    ghost invariant = { λ m. (run_of m.bytes ≡ Ok m.run.passages) × (m.run.shown ≡ filter shows m.run.passages) };
+    ghost invariant = { λ m. (run_of m.bytes ≡ Ok m.run.passages)
+        × (m.run.shown ≡ filter shows m.run.passages) };
 }
 
 impl ManyPages {

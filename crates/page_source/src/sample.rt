@@ -41,7 +41,8 @@ pub fn sample_page(
     requires narrow { width ≤ 16384 }
     requires some_height { 1 ≤ height }
     requires low { height ≤ 16384 }
-    ensures too_many { (result ≡ Err SampleRefusal.TooManySamples) ↔ (160000000 < 4 * width * height) }
+    ensures too_many { (result ≡ Err SampleRefusal.TooManySamples)
+        ↔ (160000000 < 4 * width * height) }
     ensures page { IfOk result (λ page. page ≡ sample_parts number width height) }
 {
     if 4 * width as u64 * height as u64 > MOST_SAMPLES {
@@ -99,7 +100,8 @@ fn add_plane(
     requires some_width { 1 ≤ width }
     requires narrow { width ≤ 16384 }
     requires low { height ≤ 16384 }
-    ensures { OnOk result (planes.new ≡ planes.old ++ sample_plane tints.now number width height ∷ []) }
+    ensures { OnOk result
+        (planes.new ≡ planes.old ++ sample_plane tints.now number width height ∷ []) }
 {
     let tints = plane_tints(alloc, tints, number, width, height)?;
     let plane = Plane {

@@ -39,7 +39,8 @@ fn scratches(
     requires reach { bands.now.reach2 ≡ page_reach page.now }
     ensures count { IfOk result (λ all. length all.items ≡ count) }
     ensures layout { IfOk result (λ all. All (λ scratch. scratch
-        ≡ record { bands = bands.now; width = width page.now; plates = plates page.now }) all.items) }
+        ≡ record { bands = bands.now; width = width page.now; plates = plates page.now })
+        all.items) }
 {
     let mut all = List::new(alloc);
     for _k in 0..count {

@@ -32,7 +32,8 @@ impl Model for RiskBuf {
 
     ghost view = { λ b. record { wide = b.width; tall = b.height } };
 
-    ghost invariant = { λ b. (vec_len b.room.row ≡ b.width) × (vec_len b.room.until ≡ b.width) × (vec_len b.room.shades ≡ b.width * b.height) };
+    ghost invariant = { λ b. (vec_len b.room.row ≡ b.width) × (vec_len b.room.until ≡ b.width)
+        × (vec_len b.room.shades ≡ b.width * b.height) };
 }
 
 fn filled<T: Copy + Drop>(alloc: Global, item: T, count: usize) -> Result<Vec<T>, OutOfMemory>

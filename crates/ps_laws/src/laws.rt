@@ -130,7 +130,8 @@ pub fn last_is_of_the_last_entry()
     ensures none_has_it { (objects : List Object) (dict : ℕ) (entries : List Entry) (name : List ℕ)
         → HasEntries objects dict entries
         → last_of objects dict name ≡ None → NoneNamed name entries }
-    ensures none_is_found { (objects : List Object) (dict : ℕ) (entries : List Entry) (name : List ℕ)
+    ensures none_is_found { (objects : List Object) (dict : ℕ) (entries : List Entry)
+        (name : List ℕ)
         → HasEntries objects dict entries → NoneNamed name entries
         → last_of objects dict name ≡ None }
 {}

@@ -20,7 +20,8 @@ pub fn one_after_the_other_law()
 /// Each cell is one of one piece, and of no other.
 pub fn one_piece_each_law()
     ensures owner { (layout : Layout) (j : ℕ) → j < cells_of layout
-        → (piece_of_cell layout j < piece_count layout) × HasCell layout (piece_of_cell layout j) j }
+        → (piece_of_cell layout j < piece_count layout)
+        × HasCell layout (piece_of_cell layout j) j }
     ensures only { (layout : Layout) (i j : ℕ) → i < piece_count layout → HasCell layout i j
         → piece_of_cell layout j ≡ i }
 {}

@@ -24,7 +24,8 @@ impl Model for Layout {
 
     ghost view = { λ a. record { bands = a.bands; width = a.width; plates = a.plates } };
 
-    ghost invariant = { λ a. IsLayout (record { bands = a.bands; width = a.width; plates = a.plates }) };
+    ghost invariant = { λ a. IsLayout
+        (record { bands = a.bands; width = a.width; plates = a.plates }) };
 
     ghost inverse = { λ a. record { bands = a.bands; width = a.width; plates = a.plates } };
 }

@@ -13,7 +13,8 @@ fn give(out: &mut [Option<u32>], x: usize, end: usize, place: u32)
     requires order { x ≤ end }
     requires inside { end ≤ length out.old }
     ensures len { length out.new ≡ length out.old }
-    ensures before { (j : ℕ) → j < x → slice_index_or out.new j None ≡ slice_index_or out.old j None }
+    ensures before { (j : ℕ) → j < x
+        → slice_index_or out.new j None ≡ slice_index_or out.old j None }
     ensures here { (j : ℕ) → x ≤ j → j < end → slice_index_or out.new j None ≡ Some place }
 {
     for j in x..end {
@@ -54,7 +55,8 @@ fn spread(
     requires last { last + 2 ≡ 2 * length out.old }
     requires hull { IsHull arms.now (length arms.now) last places.now starts.now held }
     ensures len { length out.new ≡ length out.old }
-    ensures nearest { (x : ℕ) → x < length out.old → slice_index_or out.new x None ≡ nearest arms.now x }
+    ensures nearest { (x : ℕ) → x < length out.old
+        → slice_index_or out.new x None ≡ nearest arms.now x }
 {
     let mut k = 0;
     let mut x = 0;

@@ -158,7 +158,8 @@ fn is_some_input_written(words: &[String], report: &str, all: &[String]) -> bool
 
 // Whether the report or a plate of some page could be written into that file.
 fn is_written(name: &str, report: &str, words: &[String]) -> bool
-    ensures { result ≡ written_test report.now (map parts_of (map string_bytes words.now)) name.now }
+    ensures { result
+        ≡ written_test report.now (map parts_of (map string_bytes words.now)) name.now }
 {
     is_page_file(report.as_bytes(), name.as_bytes()) || is_plate_file(name, words)
 }

@@ -95,7 +95,8 @@ fn write_out<H: Threads + Sync, R: Rack, G: Gate + Sync>(
     requires within { IsPageWithin command.now }
     requires count { plates page.now ≡ vec_len command.now.plates }
     ensures { let meant = page_in command.now in
-        PutsOut meant.band (targets_of meant) page.now (R.state rack.old) (R.state rack.new) result }
+        PutsOut meant.band (targets_of meant) page.now (R.state rack.old)
+        (R.state rack.new) result }
 {
     let _valid = page.plates();
     let Ok(outputs) = outputs_of(alloc, command.plates.as_slice()) else {

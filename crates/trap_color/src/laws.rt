@@ -17,7 +17,10 @@ use page_model::parts::{At, EdgeAt};
 pub fn density_law(page: &Page, p: At, e: EdgeAt)
     requires inks { HasNoOpaque page.now }
     requires trapped { trapped page.now p e ≡ true }
-    ensures { density_of page.now (new_by page.now p e) * scale ≤ density page.now p * scale + (params_at page.now (zone_of page.now p)).trap_color_scaling * (full_density page.now p e - density page.now p) }
+    ensures { density_of page.now (new_by page.now p e) * scale
+        ≤ density page.now p * scale
+        + (params_at page.now (zone_of page.now p)).trap_color_scaling
+        * (full_density page.now p e - density page.now p) }
 {
     full_density_law(page, p, e);
 }

@@ -23,7 +23,8 @@ fn put_full(page: &Page, zone: u32, p: At, e: EdgeAt, out: &mut [u16])
     requires whole { (params_at page.now zone).trap_color_scaling ≡ scale }
     requires out { length out.old ≡ plates page.now }
     ensures len { length out.new ≡ plates page.now }
-    ensures tints { (c : ℕ) → c < plates page.now → slice_index out.new c ≡ new_in page.now zone p e c }
+    ensures tints { (c : ℕ) → c < plates page.now
+        → slice_index out.new c ≡ new_in page.now zone p e c }
 {
     for c in 0..page.plates() {
         out[c as usize] = full_new(page, zone, p, e, c);
@@ -38,7 +39,8 @@ fn put_scaled(page: &Page, zone: u32, p: At, e: EdgeAt, out: &mut [u16])
     requires trapped { trapped_in page.now zone p e ≡ true }
     requires out { length out.old ≡ plates page.now }
     ensures len { length out.new ≡ plates page.now }
-    ensures tints { (c : ℕ) → c < plates page.now → slice_index out.new c ≡ new_in page.now zone p e c }
+    ensures tints { (c : ℕ) → c < plates page.now
+        → slice_index out.new c ≡ new_in page.now zone p e c }
 {
     let densities = Densities {
         here: density(page, p),
@@ -57,7 +59,8 @@ fn trap_by(page: &Page, zone: u32, p: At, e: EdgeAt, out: &mut [u16]) -> bool
     requires out { length out.old ≡ plates page.now }
     ensures trapped { result ≡ trapped_in page.now zone p e }
     ensures len { length out.new ≡ plates page.now }
-    ensures tints { (c : ℕ) → c < plates page.now → slice_index out.new c ≡ new_in page.now zone p e c }
+    ensures tints { (c : ℕ) → c < plates page.now
+        → slice_index out.new c ≡ new_in page.now zone p e c }
 {
     let trapped = is_trapped(page, zone, p, e);
     if !trapped {
@@ -92,7 +95,8 @@ pub fn trap_sample(page: &Page, p: At, zone: u32, nearest: Option<EdgeAt>, out: 
     requires out { length out.old ≡ plates page.now }
     ensures trapped { result ≡ trapped_by page.now p nearest }
     ensures len { length out.new ≡ plates page.now }
-    ensures tints { (c : ℕ) → c < plates page.now → slice_index out.new c ≡ new_from page.now p c nearest }
+    ensures tints { (c : ℕ) → c < plates page.now
+        → slice_index out.new c ≡ new_from page.now p c nearest }
 {
     zone_law(page, p);
     match nearest {

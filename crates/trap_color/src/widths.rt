@@ -28,7 +28,9 @@ pub fn is_near(d2: u32, slid: bool, width: u32, factor: u32, resolution: u32) ->
     requires width { width ≤ most_trap_width }
     requires factor { factor ≤ most_black_width }
     requires resolution { resolution ≤ most_resolution }
-    ensures { result ≡ nat_le (d2 * square (half_sample * (if slid then 2 else 1))) (square (width * factor * resolution)) }
+    ensures { result
+        ≡ nat_le (d2 * square (half_sample * (if slid then 2 else 1)))
+        (square (width * factor * resolution)) }
 {
     let unit = if slid { 2 * HALF_SAMPLE } else { HALF_SAMPLE };
     let reach = u64::from(width) * u64::from(factor) * u64::from(resolution);

@@ -56,7 +56,8 @@ impl Model for TrapRoom {
       workers = length r.scratches.items;
     } };
 
-    ghost invariant = { λ r. IsRoom r.shared r.pass r.scratches.items r.spare r.works.items r.parts.items r.outcome };
+    ghost invariant = { λ r. IsRoom r.shared r.pass r.scratches.items r.spare r.works.items
+        r.parts.items r.outcome };
 }
 
 /// As many workers as are asked for, or as there are bands, if these are fewer.
@@ -80,7 +81,8 @@ fn scratches_of(
     requires rows { bands.now.rows ≡ height page.now }
     requires reach { bands.now.reach2 ≡ page_reach page.now }
     ensures made { IfOk result (λ scratches. All (λ scratch. scratch
-        ≡ record { bands = bands.now; width = width page.now; plates = plates page.now }) scratches.items) }
+        ≡ record { bands = bands.now; width = width page.now; plates = plates page.now })
+        scratches.items) }
     ensures count { IfOk result (λ scratches. vec_len scratches ≡ count) }
 {
     let mut scratches = Vec::new(alloc);

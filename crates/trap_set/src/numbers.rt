@@ -12,7 +12,8 @@ const MOST_DIGITS: usize = 5;
 /// The number that the text begins with behind a space, and what stands behind it.
 pub(crate) fn take_number(text: &[u8]) -> Option<(u32, &[u8])>
     ensures some { IfSome result (λ r. BeginsNumbers text.now (r.0 ∷ []) r.1.now) }
-    ensures none { IfNone result ((n : ℕ) (rest : List ℕ) → BeginsNumbers text.now (n ∷ []) rest → ⊥) }
+    ensures none { IfNone result
+        ((n : ℕ) (rest : List ℕ) → BeginsNumbers text.now (n ∷ []) rest → ⊥) }
 {
     match text {
         [b' ', digits @ ..] => take_digits(digits),

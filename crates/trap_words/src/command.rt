@@ -40,7 +40,8 @@ pub fn read_words<'a>(
     alloc: Global,
     words: &'a [String],
 ) -> Result<Option<Command<'a>>, OutOfMemory>
-    ensures meaning { IfOk result (λ r. option_map command_in r ≡ command_of (map string_bytes words.now)) }
+    ensures meaning { IfOk result
+        (λ r. option_map command_in r ≡ command_of (map string_bytes words.now)) }
     ensures limits { IfOk result (λ r. IfSome r IsWithin) }
     ensures memory { OnErr result (begins_with_page (map string_bytes words.now) ≡ true) }
 {
@@ -59,7 +60,9 @@ pub fn read_words<'a>(
 }
 
 fn page_command<'a>(alloc: Global, words: &'a [String]) -> Result<Option<Command<'a>>, OutOfMemory>
-    ensures meaning { IfOk result (λ r. option_map command_in r ≡ option_map page (page_of_words (map string_bytes words.now))) }
+    ensures meaning { IfOk result
+        (λ r. option_map command_in r
+        ≡ option_map page (page_of_words (map string_bytes words.now))) }
     ensures limits { IfOk result (λ r. IfSome r IsWithin) }
 {
     match read_page(alloc, words) {
@@ -70,7 +73,8 @@ fn page_command<'a>(alloc: Global, words: &'a [String]) -> Result<Option<Command
 }
 
 fn sample_command<'a>(words: &[String]) -> Option<Command<'a>>
-    ensures meaning { option_map command_in result ≡ option_map sample (sample_of_words (map string_bytes words.now)) }
+    ensures meaning { option_map command_in result
+        ≡ option_map sample (sample_of_words (map string_bytes words.now)) }
     ensures limits { IfSome result IsWithin }
 {
     match read_sample(words) {

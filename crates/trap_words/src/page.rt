@@ -19,7 +19,8 @@ pub(crate) fn read_page<'a>(
     alloc: Global,
     words: &'a [String],
 ) -> Result<Option<PageCommand<'a>>, OutOfMemory>
-    ensures meaning { IfOk result (λ r. option_map page_in r ≡ page_of_words (map string_bytes words.now)) }
+    ensures meaning { IfOk result
+        (λ r. option_map page_in r ≡ page_of_words (map string_bytes words.now)) }
     ensures limits { IfOk result (λ r. IfSome r IsPageWithin) }
 {
     match matches_in(alloc, words) {
@@ -32,7 +33,8 @@ pub(crate) fn read_page<'a>(
 // What `clap` finds in the words; `None` where it refuses them or they ask for help.
 fn matches_in<'a>(alloc: Global, words: &'a [String]) -> Result<Option<ArgMatches<'a>>, OutOfMemory>
     ensures taken { IfOk result (λ r. is_some r ≡ is_taken (map string_bytes words.now)) }
-    ensures rows { IfOk result (λ r. IfSome r (λ m. rows_of (found_of m) ≡ rows_in (map string_bytes words.now))) }
+    ensures rows { IfOk result
+        (λ r. IfSome r (λ m. rows_of (found_of m) ≡ rows_in (map string_bytes words.now))) }
 {
     match page_command(alloc) {
         Ok(command) => matches_by(command, words),
@@ -46,7 +48,8 @@ fn matches_by<'a>(
 ) -> Result<Option<ArgMatches<'a>>, OutOfMemory>
     requires { app_of command ≡ page_app }
     ensures taken { IfOk result (λ r. is_some r ≡ is_taken (map string_bytes words.now)) }
-    ensures rows { IfOk result (λ r. IfSome r (λ m. rows_of (found_of m) ≡ rows_in (map string_bytes words.now))) }
+    ensures rows { IfOk result
+        (λ r. IfSome r (λ m. rows_of (found_of m) ≡ rows_in (map string_bytes words.now))) }
 {
     match command.try_get_matches_from(words) {
         Ok(matches) => Ok(Some(matches)),
@@ -88,7 +91,8 @@ fn page_of_matches<'a>(
     alloc: Global,
     matches: &ArgMatches<'a>,
 ) -> Result<Option<PageCommand<'a>>, OutOfMemory>
-    ensures meaning { IfOk result (λ r. option_map page_in r ≡ page_of_rows (rows_of (found_of matches.now))) }
+    ensures meaning { IfOk result
+        (λ r. option_map page_in r ≡ page_of_rows (rows_of (found_of matches.now))) }
     ensures limits { IfOk result (λ r. IfSome r IsPageWithin) }
 {
     page_of(
@@ -110,8 +114,10 @@ fn page_of<'a>(
     report: Option<&'a str>,
     plates: Option<&[&'a str]>,
 ) -> Result<Option<PageCommand<'a>>, OutOfMemory>
-    ensures meaning { IfOk result (λ r. option_map page_in r ≡ page_meant (option_map (λ w. w.now) workers.entry)
-        (option_map (λ w. w.now) band.entry) (option_map (λ w. w.now) job.entry) (option_map (λ w. w.now) report.entry)
+    ensures meaning { IfOk result
+        (λ r. option_map page_in r ≡ page_meant (option_map (λ w. w.now) workers.entry)
+        (option_map (λ w. w.now) band.entry) (option_map (λ w. w.now) job.entry)
+        (option_map (λ w. w.now) report.entry)
         (option_map (λ s. map (λ w. w.now) s.now) plates.entry)) }
     ensures limits { IfOk result (λ r. IfSome r IsPageWithin) }
 {
@@ -146,7 +152,9 @@ fn page_with<'a>(
     requires workers_range { ForSome workers (λ n. (1 ≤ n) × (n ≤ 64)) }
     requires band_range { ForSome band (λ n. (1 ≤ n) × (n ≤ 4096)) }
     requires plates_count { ForSome plates (λ v. (1 ≤ vec_len v) × (vec_len v ≤ 16)) }
-    ensures meaning { option_map page_in result ≡ page_made workers band job.now report.now (option_map (λ v. plates_in v.items) plates.entry) }
+    ensures meaning { option_map page_in result
+        ≡ page_made workers band job.now report.now
+        (option_map (λ v. plates_in v.items) plates.entry) }
     ensures limits { IfSome result IsPageWithin }
 {
     Some(PageCommand {

@@ -17,7 +17,9 @@ pub(crate) fn read_plates<'a>(
     report: &str,
     words: &[&'a str],
 ) -> Result<Option<Vec<PlateWord<'a>>>, OutOfMemory>
-    ensures meaning { IfOk result (λ r. option_map (λ v. plates_in v.items) r ≡ plates_of report.now (map (λ w. w.now) words.now)) }
+    ensures meaning { IfOk result
+        (λ r. option_map (λ v. plates_in v.items) r
+        ≡ plates_of report.now (map (λ w. w.now) words.now)) }
     ensures count { IfOk result (λ r. IfSome r (λ v. (1 ≤ vec_len v) × (vec_len v ≤ 16))) }
 {
     if !are_plates(words) {
@@ -30,7 +32,9 @@ pub(crate) fn read_plates<'a>(
 }
 
 fn if_together<'a>(report: &str, plates: Vec<PlateWord<'a>>) -> Option<Vec<PlateWord<'a>>>
-    ensures { result ≡ (if together_test report.now (plates_in plates.entry.items) then Some plates.entry else None) }
+    ensures { result
+        ≡ (if together_test report.now (plates_in plates.entry.items) then Some plates.entry
+        else None) }
 {
     if stand_together(report, plates.as_slice()) {
         Some(plates)
@@ -59,7 +63,8 @@ fn is_plate_word(word: &str) -> bool
 }
 
 fn parts_of_all<'a>(alloc: Global, words: &[&'a str]) -> Result<Vec<PlateWord<'a>>, OutOfMemory>
-    ensures parts { IfOk result (λ v. plates_in v.items ≡ map parts_meant (map (λ w. w.now) words.now)) }
+    ensures parts { IfOk result
+        (λ v. plates_in v.items ≡ map parts_meant (map (λ w. w.now) words.now)) }
     ensures count { IfOk result (λ v. vec_len v ≡ length words.now) }
 {
     let mut plates = Vec::new(alloc);

@@ -65,7 +65,8 @@ fn samples_below(across: u128, rise: u64, width: u32) -> u32
     requires rises { 0 < rise }
     requires rise { rise ≤ 2 * furthest }
     ensures bound { result ≤ width }
-    ensures left { (x : ℕ) → x < width → nat_lt x result ≡ nat_lt ((2 * x + 1) * (36 * scale) * rise) across }
+    ensures left { (x : ℕ) → x < width
+        → nat_lt x result ≡ nat_lt ((2 * x + 1) * (36 * scale) * rise) across }
 {
     let half = 360_000 * u128::from(rise);
     let count = (across + half - 1) / (2 * half);
@@ -83,7 +84,8 @@ pub fn samples_left_of(a: Spot, b: Spot, y: i64, width: u32) -> u32
     requires y { nat_abs y ≤ furthest }
     requires rising { int_lt a.y b.y ≡ true }
     ensures bound { result ≤ width }
-    ensures left { (x : ℕ) → x < width → nat_lt x result ≡ int_lt (pos 0) (lean (point a) (point b) (middle x y)) }
+    ensures left { (x : ℕ) → x < width
+        → nat_lt x result ≡ int_lt (pos 0) (lean (point a) (point b) (middle x y)) }
 {
     let across = across_of(a, b, y);
     let rise = way(a.y, b.y).unsigned_abs();

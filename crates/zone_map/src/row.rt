@@ -27,7 +27,9 @@ fn cover(page: &Page, z: u32, y: u32, out: &mut [u8], ups: &mut [u32], downs: &m
     requires downs { length downs.old ≡ width page.now + 1 }
     requires no_ups { sum ups.old ≡ 0 }
     requires no_downs { sum downs.old ≡ 0 }
-    ensures each { (x : ℕ) → x < width page.now → slice_index out.new x ≡ (if covers page.now (record { x = x; y = y }) z then z else slice_index out.old x) }
+    ensures each { (x : ℕ) → x < width page.now
+        → slice_index out.new x
+        ≡ (if covers page.now (record { x = x; y = y }) z then z else slice_index out.old x) }
     ensures out { length out.new ≡ width page.now }
     ensures ups { length ups.new ≡ width page.now + 1 }
     ensures downs { length downs.new ≡ width page.now + 1 }

@@ -23,7 +23,8 @@ impl Model for SpanBuf {
 
     ghost view = { λ s. s.width };
 
-    ghost invariant = { λ s. (length s.ups.items ≡ s.width + 1) × (length s.downs.items ≡ s.width + 1) };
+    ghost invariant = { λ s. (length s.ups.items ≡ s.width + 1)
+        × (length s.downs.items ≡ s.width + 1) };
 }
 
 impl SpanBuf {
@@ -47,7 +48,9 @@ pub(crate) fn write_spans(out: &mut [u8], ups: &[u32], downs: &[u32], zone: u8)
     requires ups { length ups.now ≡ length out.old + 1 }
     requires downs { length downs.now ≡ length out.old + 1 }
     requires few { sum ups.now + sum downs.now ≤ most_vertices }
-    ensures each { (x : ℕ) → x < length out.old → slice_index out.new x ≡ (if int_eq (left ups.now downs.now x) (pos 0) then slice_index out.old x else zone) }
+    ensures each { (x : ℕ) → x < length out.old
+        → slice_index out.new x
+        ≡ (if int_eq (left ups.now downs.now x) (pos 0) then slice_index out.old x else zone) }
     ensures long { length out.new ≡ length out.old }
 {
     let mut up = 0u32;

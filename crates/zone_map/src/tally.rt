@@ -37,7 +37,9 @@ fn note_segment(ups: &mut [u32], downs: &mut [u32], a: Spot, b: Spot, y: i64, wi
     requires ups { length ups.old ≡ width + 1 }
     requires downs { length downs.old ≡ width + 1 }
     requires few { sum ups.old + sum downs.old ≤ most_vertices }
-    ensures turned { (x : ℕ) → x < width → left ups.new downs.new x ≡ left ups.old downs.old x +ℤ turn (middle x y) (point a) (point b) }
+    ensures turned { (x : ℕ) → x < width
+        → left ups.new downs.new x
+        ≡ left ups.old downs.old x +ℤ turn (middle x y) (point a) (point b) }
     ensures count { sum ups.new + sum downs.new ≡ sum ups.old + sum downs.old + result }
     ensures one { result ≤ 1 }
     ensures ups { length ups.new ≡ width + 1 }
@@ -85,7 +87,8 @@ pub fn tally_path(
     requires downs { length downs.old ≡ width + 1 }
     requires no_ups { sum ups.old ≡ 0 }
     requires no_downs { sum downs.old ≡ 0 }
-    ensures turns { (x : ℕ) → x < width → left ups.new downs.new x ≡ winding resolution (middle x y) path.now }
+    ensures turns { (x : ℕ) → x < width
+        → left ups.new downs.new x ≡ winding resolution (middle x y) path.now }
     ensures count { sum ups.new + sum downs.new ≡ result }
     ensures few { result ≤ most_vertices }
     ensures ups { length ups.new ≡ width + 1 }
