@@ -3,7 +3,7 @@ ghost use Rattle.page_model.specs.Counts.{page_counts};
 ghost use Rattle.page_model.specs.Limits.{most_band_height, most_workers};
 ghost use Rattle.page_model.specs.Tints.{trapped_planes};
 ghost use Rattle.trap_engine.specs.Receipts.{IsWholeReceipt};
-ghost use Rattle.trap_report.specs.Report.{report_of};
+ghost use Rattle.trap_report.specs.Report.{AreCounts, report_of};
 
 use band_claims::Closed;
 use band_workers::Gate;
@@ -11,7 +11,7 @@ use page_model::page::Page;
 use page_model::parts::{Name, OutOfMemory, PlaneList};
 use std::alloc::Global;
 use std::thread::Threads;
-use trap_engine::trap_page;
+use trap_engine::{Trapped, trap_page};
 use trap_report::report::report;
 
 /// A page after trapping, the report of what changed, and the table at which it was trapped.
@@ -40,10 +40,28 @@ pub fn outcome_of<H: Threads + Sync, G: Gate + Sync>(
     ensures receipt { IfOk result (λ o. IsWholeReceipt page.now band o.receipt) }
 {
     let (trapped, receipt) = trap_page(rt, alloc, page, workers, band, gate)?;
-    let report = report(alloc, page, &trapped.counts)?;
-    Ok(Outcome {
-        planes: trapped.planes,
-        report,
-        receipt,
-    })
+    reported(alloc, page, trapped, receipt)
+}
+
+// What was trapped, with the report of what changed.
+fn reported(
+    alloc: Global,
+    page: &Page,
+    trapped: Trapped,
+    receipt: Closed,
+) -> Result<Outcome, OutOfMemory>
+    requires counts { AreCounts page.now trapped.counts }
+    ensures planes { IfOk result (λ o. o.planes ≡ trapped.planes) }
+    ensures report { IfOk result (λ o. o.report ≡ report_of page.now trapped.counts) }
+    ensures receipt { IfOk result (λ o. o.receipt ≡ receipt) }
+{
+    let Trapped { planes, counts } = trapped;
+    match report(alloc, page, &counts) {
+        Ok(report) => Ok(Outcome {
+            planes,
+            report,
+            receipt,
+        }),
+        Err(_) => Err(OutOfMemory),
+    }
 }

@@ -4,5 +4,5 @@ use Rattle.trap_report.specs.Report.{AreCounts}
 use Rattle.page_output.proofs.OutcomeLemmas.{counts_fit}
 use Rattle.page_output.proofs.outcome.outcome_of.Goals as goal
 
-pub report-requires : goal.report-requires
-report-requires g c = subst (λ (counts : Counts). AreCounts c.args.page.now counts) (sym c.in_ok-trapped.ensures.counts) (counts_fit c.args.page.now)
+pub reported-requires : goal.reported-requires
+reported-requires g c = record { counts = subst (λ (counts : Counts). AreCounts c.args.page.now counts) (sym c.in_ok-trapped.ensures.counts) (counts_fit c.args.page.now) }

@@ -1,4 +1,4 @@
-use Rattle.std.proofs.Common.{ℕ, List, Result, All, length, map, refl, ap, sym, ◌∙◌, subst}
+use Rattle.std.proofs.Common.{List, Result, All, length, map, refl, ap, sym, ◌∙◌, subst}
 use Rattle.std.proofs.lemmas.List.{length-map}
 use Rattle.page_model.specs.declared.parts.Plane.{Plane}
 use Rattle.page_model.specs.Conditions.{IsPlane}
