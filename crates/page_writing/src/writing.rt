@@ -1,18 +1,14 @@
 ghost use Rattle.std.specs.Prelude.{◌≡◌, ◌≤◌, ◌*◌, ◌^◌, length, map};
 ghost use Rattle.std.specs.List.{All};
-ghost use Rattle.outside.specs.Writing.{WritesFile};
-ghost use Rattle.pgm_plates.specs.Plates.{spelled};
 ghost use Rattle.page_model.specs.Conditions.{IsPlane};
 ghost use Rattle.page_model.specs.Limits.{most_samples};
-ghost use Rattle.pgm_plates.specs.Planes.{plate_of};
 ghost use Rattle.page_writing.specs.Writing.{WritesPage, WritesPlates};
 
 use outside::rack::Rack;
 use outside::tray::Failed;
 use outside::writing::write_file;
-use page_model::parts::{Plane, PlaneList};
-use pgm_plates::plate::Plate;
-use pgm_plates::writing::write_plate;
+use page_model::parts::PlaneList;
+use pgm_plates::writing::write_plane;
 use std::convert::AsStr;
 use trap_report::refusal::Refusal;
 
@@ -62,20 +58,10 @@ pub fn write_plates<R: Rack, S: AsStr>(
     let planes = planes.into_vec();
     let mut place = 0usize;
     for plane in planes {
-        match write_plane(rack, names[place].as_str(), plane) {
+        match write_plane(rack, names[place].as_str(), &plane) {
             Ok(()) => place += 1,
             Err(Failed) => return Err(Refusal::Write(Some(place as u32))),
         }
     }
     Ok(())
-}
-
-fn write_plane<R: Rack>(rack: &mut R, name: &str, plane: Plane) -> Result<(), Failed>
-    requires plane { IsPlane plane }
-    requires samples { plane.width * plane.height ≤ most_samples }
-    ensures { WritesFile name.now (spelled (plate_of plane)) (R.state rack.old)
-        (R.state rack.new) result }
-{
-    let plate = Plate::of_plane(plane);
-    write_plate(rack, name, &plate)
 }

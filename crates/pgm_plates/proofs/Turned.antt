@@ -1,11 +1,13 @@
 -- Samples and tints that are turned into each other stay in range.
-use Rattle.std.proofs.Common.{◌≡◌, ℕ, ◌≤◌, ◌*◌, ◌-◌, List, length, map, ap, sym, ◌∙◌, subst, arith}
-use Rattle.std.proofs.lemmas.List.{length-map}
+use Rattle.std.proofs.Common.{◌≡◌, ℕ, ◌≤◌, ◌*◌, ◌-◌, List, [], ◌∷◌, length, map, take, drop, refl, ap, sym, ◌∙◌, subst, arith}
+use Rattle.std.proofs.lemmas.List.{length-map, take-map, drop-map}
 use Rattle.std.proofs.lemmas.List.Elements.{All-map}
 use Rattle.std.specs.List.{All}
 use Rattle.page_model.specs.Conditions.{IsPlane}
 use Rattle.page_model.specs.declared.parts.Plane.{Plane}
 use Rattle.pgm_plates.specs.declared.plate.Plate.{Plate}
+use Rattle.pgm_plates.specs.declared.writing.Image.{Image}
+use Rattle.pgm_plates.specs.Planes.{sample_in, samples_in}
 use Rattle.pgm_plates.specs.Plates.{IsPlate}
 use Rattle.page_model.specs.Limits.{most_samples}
 
@@ -34,3 +36,12 @@ plate_in_range plane samples ok few is = record {
   count = ap length is ∙ length-map plane.tints (λ (t : ℕ). plane.maxval - t) ∙ ok.full;
   samples = subst (λ (xs : List ℕ). All (λ (s : ℕ). s ≤ plane.maxval) xs) (sym is) (turned_fit plane.maxval plane.tints);
 }
+
+-- The samples of a piece of an image are a piece of its samples.
+pub samples_of_piece : (image : Image) (values : List ℕ) (from count : ℕ) → samples_in image (take count (drop from values)) ≡ take count (drop from (samples_in image values))
+samples_of_piece image values from count = sym (take-map (sample_in image) count (drop from values)) ∙ ap (take count) (sym (drop-map (sample_in image) from values))
+
+-- Samples are written as they are.
+pub samples_stay : (xs : List ℕ) → map (λ (s : ℕ). s) xs ≡ xs
+samples_stay [] = refl
+samples_stay (x ∷ xs) = ap (λ (ys : List ℕ). x ∷ ys) (samples_stay xs)

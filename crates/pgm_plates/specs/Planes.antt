@@ -1,7 +1,8 @@
 -- Planes, whose tints are the samples of plates turned round: 0 is no ink, and a sample of 0 is black.
-use Rattle.std.specs.Prelude.{◌-◌, map}
+use Rattle.std.specs.Prelude.{ℕ, ◌-◌, if◌then◌else◌, List, map}
 use Rattle.page_model.specs.declared.parts.Plane.{Plane}
 use Rattle.pgm_plates.specs.declared.plate.Plate.{Plate}
+use Rattle.pgm_plates.specs.declared.writing.Image.{Image}
 
 -- the tints of a plate
 abbrev pub plane_of : Plate → Plane
@@ -10,3 +11,15 @@ plane_of plate = record { width = plate.width; height = plate.height; maxval = p
 -- the plate that has a plane's tints
 abbrev pub plate_of : Plane → Plate
 plate_of plane = record { width = plane.width; height = plane.height; maxval = plane.maxval; samples = map (λ t. plane.maxval - t) plane.tints }
+
+-- the sample that a value of an image is
+abbrev pub sample_in : Image → ℕ → ℕ
+sample_in image value = if image.are_tints then image.maxval - value else value
+
+-- those that some values of an image are
+abbrev pub samples_in : Image → List ℕ → List ℕ
+samples_in image values = map (sample_in image) values
+
+-- the plate of an image
+abbrev pub plate_in : Image → Plate
+plate_in image = record { width = image.width; height = image.height; maxval = image.maxval; samples = samples_in image image.values.now }
