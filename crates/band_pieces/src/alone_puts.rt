@@ -7,7 +7,8 @@ ghost use Rattle.page_model.specs.Bands.{pieces_of};
 ghost use Rattle.row_cells.specs.Places.{cell_total, first_cell_of};
 
 use band_claims::Closed;
-use band_workers::{word_of_bytes, word_of_values};
+use band_workers::word_of_values;
+use row_cells::values::CellValue;
 
 /// Puts its defined word in cell o of a piece, whose first cells, o of them, have theirs.
 fn put_word(closed: &mut Closed, piece: u32, o: u32, word: u64)
@@ -20,23 +21,10 @@ fn put_word(closed: &mut Closed, piece: u32, o: u32, word: u64)
     closed.set_cell(first + o, word);
 }
 
-/// Packs the values of a piece, which are bytes, into its cells.
-pub(crate) fn put_bytes_alone(closed: &mut Closed, piece: u32, values: &[u8])
-    requires piece { piece < pieces_of closed.old.sheet.layout.bands }
-    requires values { AreValues closed.old.sheet piece values.now }
-    ensures { FillsPiece closed.old closed.new piece }
-{
-    let _whole = closed.sheet();
-    for o in 0..closed.layout().cell_count(piece) {
-        let word = word_of_bytes(closed.sheet(), piece, o, values);
-        put_word(closed, piece, o, word);
-    }
-}
-
 /// Packs the values of a piece into its cells.
-pub(crate) fn put_values_alone(closed: &mut Closed, piece: u32, values: &[u16])
+pub(crate) fn put_values_alone<V: CellValue>(closed: &mut Closed, piece: u32, values: &[V])
     requires piece { piece < pieces_of closed.old.sheet.layout.bands }
-    requires values { AreValues closed.old.sheet piece values.now }
+    requires values { AreValues closed.old.sheet piece (V.numbers values.now) }
     ensures { FillsPiece closed.old closed.new piece }
 {
     let _whole = closed.sheet();

@@ -10,7 +10,7 @@ ghost use Rattle.page_model.specs.Bands.{phase_of, pieces_of};
 ghost use Rattle.page_model.specs.Columns.{halo};
 ghost use Rattle.row_cells.specs.Places.{per_row};
 
-use crate::rows::{read_byte_rows, read_rows};
+use crate::rows::read_rows;
 use crate::sinks::CellSink;
 use crate::spans::{rows_below, rows_near, rows_of};
 use band_values::{Workspace, make_answers, make_marks, make_tints, make_zones};
@@ -44,7 +44,7 @@ pub(crate) fn fill_zones<S, C: CellSink<S>>(
     let count = rows.count as usize * layout.row_values(0) as usize;
     let zones = &mut zones[..count];
     make_zones(page, rows, zones, room);
-    table.put_bytes(seat, piece, zones);
+    table.put_values(seat, piece, zones);
 }
 
 /// The marks of a band, from the zones of its rows and of the row below it.
@@ -76,10 +76,10 @@ pub(crate) fn fill_marks<S, C: CellSink<S>>(
     let held = rows_below(layout.bands(), rows);
     let wide = layout.row_values(0) as usize;
     let zones = &mut zones[..held.count as usize * wide];
-    read_byte_rows(table, seat, layout, 0, held, zones);
+    read_rows(table, seat, layout, 0, held, zones);
     let marks = &mut marks[..rows.count as usize * wide];
     make_marks(page, rows, held, zones, marks);
-    table.put_bytes(seat, piece, marks);
+    table.put_values(seat, piece, marks);
 }
 
 /// The column answers of a band, from the marks of its rows and of those that the reach touches.
@@ -111,7 +111,7 @@ pub(crate) fn fill_answers<S, C: CellSink<S>>(
     let rows = rows_of(layout.bands(), piece);
     let held = rows_near(layout.bands(), rows);
     let marks = &mut marks[..held.count as usize * layout.row_values(1) as usize];
-    read_byte_rows(table, seat, layout, 1, held, marks);
+    read_rows(table, seat, layout, 1, held, marks);
     let answers = &mut answers[..rows.count as usize * layout.row_values(2) as usize];
     make_answers(page, rows, held, marks, answers);
     table.put_values(seat, piece, answers);
@@ -151,7 +151,7 @@ pub(crate) fn fill_tints<S, C: CellSink<S>>(
     let rows = rows_of(layout.bands(), piece);
     let count = rows.count as usize;
     let zones = &mut zones[..count * layout.row_values(0) as usize];
-    read_byte_rows(table, seat, layout, 0, rows, zones);
+    read_rows(table, seat, layout, 0, rows, zones);
     let answers = &mut answers[..count * layout.row_values(2) as usize];
     read_rows(table, seat, layout, 2, rows, answers);
     let tints = &mut tints[..count * layout.row_values(3) as usize];

@@ -6,7 +6,7 @@ ghost use Rattle.page_model.specs.Bands.{pieces_of};
 ghost use Rattle.page_model.specs.Page.{height, plates, width};
 ghost use Rattle.page_model.specs.Tints.{new};
 
-use crate::rows::{read_byte_rows, read_plate_row, read_rows};
+use crate::rows::{read_plate_row, read_rows};
 use crate::sources::CellSource;
 use band_values::Rows;
 use page_model::page::Page;
@@ -31,7 +31,7 @@ pub fn read_zones<S, C: CellSource<S>>(
     ensures zones { HoldsZones page.now rows out.new }
     ensures len { length out.new ≡ length out.old }
 {
-    read_byte_rows(source, seat, layout, 0, rows, out);
+    read_rows(source, seat, layout, 0, rows, out);
 }
 
 /// The marks of these rows, from the cells of their bands.
@@ -53,7 +53,7 @@ pub fn read_marks<S, C: CellSource<S>>(
     ensures marks { HoldsMarks page.now rows out.new }
     ensures len { length out.new ≡ length out.old }
 {
-    read_byte_rows(source, seat, layout, 1, rows, out);
+    read_rows(source, seat, layout, 1, rows, out);
 }
 
 /// The new tints of these rows, in each row plate after plate, from the cells of their bands.

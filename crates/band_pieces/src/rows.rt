@@ -4,27 +4,29 @@ ghost use Rattle.band_claims.specs.Sheets.{IsFit};
 ghost use Rattle.band_core.specs.Values.{row_value};
 ghost use Rattle.band_values.specs.Rows.{HoldsRows};
 ghost use Rattle.page_model.specs.Bands.{band_of_row, piece_of};
-ghost use Rattle.row_cells.specs.Places.{per_row};
+ghost use Rattle.row_cells.specs.Places.{bits_of, per_row};
 
-use crate::reading::{Run, read_bytes, read_values};
+use crate::reading::{Run, read_values};
 use crate::sources::CellSource;
 use band_graph::needs::piece;
 use band_values::Rows;
 use row_cells::layout::Layout;
+use row_cells::values::CellValue;
 
 /// The values of a phase of row k of these rows.
-fn read_row<S, C: CellSource<S>>(
+fn read_row<S, C: CellSource<S>, V: CellValue>(
     source: &C,
     seat: &mut S,
     layout: &Layout,
     phase: u32,
     rows: Rows,
     k: u32,
-    out: &mut [u16],
+    out: &mut [V],
 )
     requires layout { layout.now ≡ (C.sheet source.now seat.old).layout }
     requires fit { IsFit (C.sheet source.now seat.old) }
     requires phase { phase < 4 }
+    requires fits { bits_of phase ≤ V.width }
     requires row { k < rows.count }
     requires inside { rows.first + rows.count ≤ layout.now.bands.rows }
     requires known { C.knows source.now seat.old
@@ -32,10 +34,10 @@ fn read_row<S, C: CellSource<S>>(
     requires out { length out.old ≡ rows.count * per_row layout.now phase }
     ensures seat { seat.new ≡ seat.old }
     ensures here { (o : ℕ) → o < per_row layout.now phase
-        → slice_index out.new (k * per_row layout.now phase + o)
+        → slice_index (V.numbers out.new) (k * per_row layout.now phase + o)
         ≡ row_value (C.sheet source.now seat.old).page.value phase (rows.first + k) o }
     ensures kept { (i : ℕ) → i < k * per_row layout.now phase
-        → slice_index out.new i ≡ slice_index out.old i }
+        → slice_index (V.numbers out.new) i ≡ slice_index (V.numbers out.old) i }
     ensures len { length out.new ≡ length out.old }
 {
     let bands = layout.bands();
@@ -52,17 +54,18 @@ fn read_row<S, C: CellSource<S>>(
 }
 
 /// The values of a phase of these rows, row by row, where the pieces of their bands are known.
-pub(crate) fn read_rows<S, C: CellSource<S>>(
+pub(crate) fn read_rows<S, C: CellSource<S>, V: CellValue>(
     source: &C,
     seat: &mut S,
     layout: &Layout,
     phase: u32,
     rows: Rows,
-    out: &mut [u16],
+    out: &mut [V],
 )
     requires layout { layout.now ≡ (C.sheet source.now seat.old).layout }
     requires fit { IsFit (C.sheet source.now seat.old) }
     requires phase { phase < 4 }
+    requires fits { bits_of phase ≤ V.width }
     requires inside { rows.first + rows.count ≤ layout.now.bands.rows }
     requires known { (y : ℕ) → rows.first ≤ y → y < rows.first + rows.count
         → C.knows source.now seat.old
@@ -70,7 +73,7 @@ pub(crate) fn read_rows<S, C: CellSource<S>>(
     requires out { length out.old ≡ rows.count * per_row layout.now phase }
     ensures seat { seat.new ≡ seat.old }
     ensures rows { HoldsRows (per_row layout.now phase)
-        (row_value (C.sheet source.now seat.old).page.value phase) rows out.new }
+        (row_value (C.sheet source.now seat.old).page.value phase) rows (V.numbers out.new) }
     ensures len { length out.new ≡ length out.old }
 {
     for k in 0..rows.count {
@@ -109,70 +112,4 @@ pub(crate) fn read_plate_row<S, C: CellSource<S>>(
         count: out.len(),
     };
     read_values(source, seat, layout, run, out);
-}
-
-/// The zones or marks of row k of these rows.
-fn read_byte_row<S, C: CellSource<S>>(
-    source: &C,
-    seat: &mut S,
-    layout: &Layout,
-    phase: u32,
-    rows: Rows,
-    k: u32,
-    out: &mut [u8],
-)
-    requires layout { layout.now ≡ (C.sheet source.now seat.old).layout }
-    requires fit { IsFit (C.sheet source.now seat.old) }
-    requires phase { phase < 2 }
-    requires row { k < rows.count }
-    requires inside { rows.first + rows.count ≤ layout.now.bands.rows }
-    requires known { C.knows source.now seat.old
-        (piece_of layout.now.bands phase (band_of_row layout.now.bands (rows.first + k))) }
-    requires out { length out.old ≡ rows.count * per_row layout.now phase }
-    ensures seat { seat.new ≡ seat.old }
-    ensures here { (o : ℕ) → o < per_row layout.now phase
-        → slice_index out.new (k * per_row layout.now phase + o)
-        ≡ row_value (C.sheet source.now seat.old).page.value phase (rows.first + k) o }
-    ensures kept { (i : ℕ) → i < k * per_row layout.now phase
-        → slice_index out.new i ≡ slice_index out.old i }
-    ensures len { length out.new ≡ length out.old }
-{
-    let bands = layout.bands();
-    let y = rows.first + k;
-    let number = piece(bands, phase, y / bands.height);
-    let wide = layout.row_values(phase);
-    let run = Run {
-        piece: number,
-        from: y % bands.height * wide,
-        place: k as usize * wide as usize,
-        count: wide as usize,
-    };
-    read_bytes(source, seat, layout, run, out);
-}
-
-/// The zones or marks of these rows, row by row, where the pieces of their bands are known.
-pub(crate) fn read_byte_rows<S, C: CellSource<S>>(
-    source: &C,
-    seat: &mut S,
-    layout: &Layout,
-    phase: u32,
-    rows: Rows,
-    out: &mut [u8],
-)
-    requires layout { layout.now ≡ (C.sheet source.now seat.old).layout }
-    requires fit { IsFit (C.sheet source.now seat.old) }
-    requires phase { phase < 2 }
-    requires inside { rows.first + rows.count ≤ layout.now.bands.rows }
-    requires known { (y : ℕ) → rows.first ≤ y → y < rows.first + rows.count
-        → C.knows source.now seat.old
-        (piece_of layout.now.bands phase (band_of_row layout.now.bands y)) }
-    requires out { length out.old ≡ rows.count * per_row layout.now phase }
-    ensures seat { seat.new ≡ seat.old }
-    ensures rows { HoldsRows (per_row layout.now phase)
-        (row_value (C.sheet source.now seat.old).page.value phase) rows out.new }
-    ensures len { length out.new ≡ length out.old }
-{
-    for k in 0..rows.count {
-        read_byte_row(source, seat, layout, phase, rows, k, out);
-    }
 }

@@ -6,10 +6,11 @@ ghost use Rattle.band_workers.specs.Filled.{AreValues, filled_to};
 ghost use Rattle.page_model.specs.Bands.{pieces_of};
 ghost use Rattle.band_pieces.specs.Fills.{FillsPiece, HasCells};
 
-use crate::alone_puts::{put_bytes_alone, put_values_alone};
+use crate::alone_puts::put_values_alone;
 use crate::sources::CellSource;
 use band_claims::{Closed, Pass, Shared};
-use band_workers::{put_bytes, put_values};
+use band_workers::put_values;
+use row_cells::values::CellValue;
 
 /// A table whose pieces are filled, by a seat at it.
 pub(crate) trait CellSink<S>: CellSource<S> {
@@ -19,20 +20,12 @@ pub(crate) trait CellSink<S>: CellSource<S> {
     /// What the seat is after it has filled the piece.
     ghost filled: { Self → S → S → ℕ → Type 0 };
 
-    /// Packs the values of a piece, which are bytes, into its cells.
-    fn put_bytes(&self, seat: &mut S, piece: u32, values: &[u8])
-        requires fit { IsFit (Self.sheet self.now seat.old) }
-        requires piece { piece < pieces_of (Self.sheet self.now seat.old).layout.bands }
-        requires may { may_fill self.now seat.old piece }
-        requires values { AreValues (Self.sheet self.now seat.old) piece values.now }
-        ensures { filled self.now seat.old seat.new piece };
-
     /// Packs the values of a piece into its cells.
-    fn put_values(&self, seat: &mut S, piece: u32, values: &[u16])
+    fn put_values<V: CellValue>(&self, seat: &mut S, piece: u32, values: &[V])
         requires fit { IsFit (Self.sheet self.now seat.old) }
         requires piece { piece < pieces_of (Self.sheet self.now seat.old).layout.bands }
         requires may { may_fill self.now seat.old piece }
-        requires values { AreValues (Self.sheet self.now seat.old) piece values.now }
+        requires values { AreValues (Self.sheet self.now seat.old) piece (V.numbers values.now) }
         ensures { filled self.now seat.old seat.new piece };
 }
 
@@ -43,11 +36,7 @@ impl CellSink<Pass> for Shared {
     ghost filled = { λ shared before after piece. Seats shared after
         × (after.view ≡ filled_to ((shape_of shared.sheet).size piece) before.view) };
 
-    fn put_bytes(&self, seat: &mut Pass, piece: u32, values: &[u8]) {
-        put_bytes(self, seat, piece, values);
-    }
-
-    fn put_values(&self, seat: &mut Pass, piece: u32, values: &[u16]) {
+    fn put_values<V: CellValue>(&self, seat: &mut Pass, piece: u32, values: &[V]) {
         put_values(self, seat, piece, values);
     }
 }
@@ -71,11 +60,7 @@ impl CellSink<Closed> for Alone {
 
     ghost filled = { λ alone before after piece. FillsPiece before after piece };
 
-    fn put_bytes(&self, seat: &mut Closed, piece: u32, values: &[u8]) {
-        put_bytes_alone(seat, piece, values);
-    }
-
-    fn put_values(&self, seat: &mut Closed, piece: u32, values: &[u16]) {
+    fn put_values<V: CellValue>(&self, seat: &mut Closed, piece: u32, values: &[V]) {
         put_values_alone(seat, piece, values);
     }
 }

@@ -52,13 +52,16 @@ fn the_largest_page_has_fewer_than_2_to_the_31_cells(rt: HostRuntime) -> Result<
 
 #[test]
 fn values_are_packed_from_the_lowest_lane(rt: HostRuntime) -> Result<(), Fail> {
-    assert_eq!(rt; pack(8, &[1, 0, 2]), 131_074);
-    assert_eq!(rt; pack(2, &[1, 2, 3]), 58);
-    assert_eq!(rt; pack(10, &[0, 258]), 264_193);
-    assert_eq!(rt; pack(16, &[255, 0, 128]), 549_755_814_144);
-    assert_eq!(rt; pack(2, &[0; 31]), 1);
-    let mut values = [9; 3];
-    unpack(16, 549_755_814_144, &mut values);
-    assert_eq!(rt; values, [255, 0, 128]);
+    assert_eq!(rt; pack(8, &[1u8, 0, 2]), 131_074);
+    assert_eq!(rt; pack(2, &[1u8, 2, 3]), 58);
+    assert_eq!(rt; pack(10, &[0u16, 258]), 264_193);
+    assert_eq!(rt; pack(16, &[255u16, 0, 128]), 549_755_814_144);
+    assert_eq!(rt; pack(2, &[0u8; 31]), 1);
+    let mut tints = [9u16; 3];
+    unpack(16, 549_755_814_144, &mut tints);
+    assert_eq!(rt; tints, [255, 0, 128]);
+    let mut zones = [9u8; 3];
+    unpack(8, 131_074, &mut zones);
+    assert_eq!(rt; zones, [1, 0, 2]);
     Ok(())
 }

@@ -9,5 +9,5 @@ mod walks;
 
 pub use gate::{Gate, OpenGate};
 pub use maker::Maker;
-pub use putting::{put_bytes, put_values, word_of_bytes, word_of_values};
+pub use putting::{put_values, word_of_values};
 pub use walks::{work, work_many};

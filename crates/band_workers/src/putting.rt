@@ -7,15 +7,16 @@ ghost use Rattle.band_workers.specs.Filled.{AreValues, IsCut, filled_to};
 
 use band_claims::{Pass, Shared, Sheet};
 use row_cells::layout::{bits, lanes};
-use row_cells::packing::{pack, pack_bytes};
+use row_cells::packing::pack;
+use row_cells::values::CellValue;
 
 /// Packs the values of the piece that the pass holds into its cells, and stores these.
-pub fn put_values(shared: &Shared, pass: &mut Pass, piece: u32, values: &[u16])
+pub fn put_values<V: CellValue>(shared: &Shared, pass: &mut Pass, piece: u32, values: &[V])
     requires pass { Seats shared.now pass.old }
     requires piece { piece < pieces_of shared.now.sheet.layout.bands }
     requires held { pass.old.view.held ≡ Some piece }
     requires none_filled { pass.old.view.filled ≡ 0 }
-    requires values { AreValues shared.now.sheet piece values.now }
+    requires values { AreValues shared.now.sheet piece (V.numbers values.now) }
     ensures pass { Seats shared.now pass.new }
     ensures filled { pass.new.view
         ≡ filled_to ((shape_of shared.now.sheet).size piece) pass.old.view }
@@ -23,23 +24,6 @@ pub fn put_values(shared: &Shared, pass: &mut Pass, piece: u32, values: &[u16])
     let phase = piece / shared.bands().count;
     for o in 0..shared.layout().cell_count(piece) {
         shared.put_cell(pass, values_word(shared.sheet(), phase, piece, o, values));
-    }
-}
-
-/// The same for values that are bytes, as zones and marks are.
-pub fn put_bytes(shared: &Shared, pass: &mut Pass, piece: u32, values: &[u8])
-    requires pass { Seats shared.now pass.old }
-    requires piece { piece < pieces_of shared.now.sheet.layout.bands }
-    requires held { pass.old.view.held ≡ Some piece }
-    requires none_filled { pass.old.view.filled ≡ 0 }
-    requires values { AreValues shared.now.sheet piece values.now }
-    ensures pass { Seats shared.now pass.new }
-    ensures filled { pass.new.view
-        ≡ filled_to ((shape_of shared.now.sheet).size piece) pass.old.view }
-{
-    let phase = piece / shared.bands().count;
-    for o in 0..shared.layout().cell_count(piece) {
-        shared.put_cell(pass, bytes_word(shared.sheet(), phase, piece, o, values));
     }
 }
 
@@ -68,11 +52,11 @@ fn cut_of(sheet: &Sheet, phase: u32, piece: u32, o: u32, total: usize) -> Cut
 }
 
 /// The word of cell o of a piece, which has these values.
-pub fn word_of_values(sheet: &Sheet, piece: u32, o: u32, values: &[u16]) -> u64
+pub fn word_of_values<V: CellValue>(sheet: &Sheet, piece: u32, o: u32, values: &[V]) -> u64
     requires fit { IsFit sheet.now }
     requires piece { piece < pieces_of sheet.now.layout.bands }
     requires cell { o < cell_total sheet.now.layout piece }
-    requires values { AreValues sheet.now piece values.now }
+    requires values { AreValues sheet.now piece (V.numbers values.now) }
     ensures { result ≡ cell sheet.now (first_cell_of sheet.now.layout piece + o) }
 {
     let phase = piece / sheet.layout.bands().count;
@@ -80,56 +64,23 @@ pub fn word_of_values(sheet: &Sheet, piece: u32, o: u32, values: &[u16]) -> u64
 }
 
 // The same where the piece's phase is known: it is asked once a piece, and not once a cell.
-fn values_word(sheet: &Sheet, phase: u32, piece: u32, o: u32, values: &[u16]) -> u64
+fn values_word<V: CellValue>(sheet: &Sheet, phase: u32, piece: u32, o: u32, values: &[V]) -> u64
     requires fit { IsFit sheet.now }
     requires phase { phase ≡ phase_of sheet.now.layout.bands piece }
     requires piece { piece < pieces_of sheet.now.layout.bands }
     requires cell { o < cell_total sheet.now.layout piece }
-    requires values { AreValues sheet.now piece values.now }
+    requires values { AreValues sheet.now piece (V.numbers values.now) }
     ensures { result ≡ cell sheet.now (first_cell_of sheet.now.layout piece + o) }
 {
     let cut = cut_of(sheet, phase, piece, o, values.len());
     pack(bits(phase), part_of(values, cut.first, cut.count))
 }
 
-fn part_of(values: &[u16], first: usize, count: usize) -> &[u16]
+fn part_of<V: CellValue>(values: &[V], first: usize, count: usize) -> &[V]
     requires { first + count ≤ length values.now }
     ensures len { length result.now ≡ count }
     ensures each { (l : ℕ) → l < count
-        → slice_index result.now l ≡ slice_index values.now (first + l) }
-{
-    &values[first..first + count]
-}
-
-/// The same for values that are bytes, as zones and marks are.
-pub fn word_of_bytes(sheet: &Sheet, piece: u32, o: u32, values: &[u8]) -> u64
-    requires fit { IsFit sheet.now }
-    requires piece { piece < pieces_of sheet.now.layout.bands }
-    requires cell { o < cell_total sheet.now.layout piece }
-    requires values { AreValues sheet.now piece values.now }
-    ensures { result ≡ cell sheet.now (first_cell_of sheet.now.layout piece + o) }
-{
-    let phase = piece / sheet.layout.bands().count;
-    bytes_word(sheet, phase, piece, o, values)
-}
-
-fn bytes_word(sheet: &Sheet, phase: u32, piece: u32, o: u32, values: &[u8]) -> u64
-    requires fit { IsFit sheet.now }
-    requires phase { phase ≡ phase_of sheet.now.layout.bands piece }
-    requires piece { piece < pieces_of sheet.now.layout.bands }
-    requires cell { o < cell_total sheet.now.layout piece }
-    requires values { AreValues sheet.now piece values.now }
-    ensures { result ≡ cell sheet.now (first_cell_of sheet.now.layout piece + o) }
-{
-    let cut = cut_of(sheet, phase, piece, o, values.len());
-    pack_bytes(bits(phase), part_of_bytes(values, cut.first, cut.count))
-}
-
-fn part_of_bytes(values: &[u8], first: usize, count: usize) -> &[u8]
-    requires { first + count ≤ length values.now }
-    ensures len { length result.now ≡ count }
-    ensures each { (l : ℕ) → l < count
-        → slice_index result.now l ≡ slice_index values.now (first + l) }
+        → slice_index (V.numbers result.now) l ≡ slice_index (V.numbers values.now) (first + l) }
 {
     &values[first..first + count]
 }

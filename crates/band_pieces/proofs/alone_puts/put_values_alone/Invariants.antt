@@ -2,4 +2,4 @@ use Rattle.band_pieces.proofs.Filling.{FillsUpTo}
 use Rattle.band_pieces.proofs.alone_puts.put_values_alone.Given as goal
 
 abbrev pub invariant-loop-o : goal.invariant-loop-o
-invariant-loop-o l = FillsUpTo l.initial.closed l.closed l.piece l.o
+invariant-loop-o g l = FillsUpTo l.initial.closed l.closed l.piece l.o

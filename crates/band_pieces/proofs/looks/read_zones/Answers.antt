@@ -7,15 +7,15 @@ use Rattle.band_values.specs.Rows.{HoldsRows}
 use Rattle.band_pieces.proofs.Held.{lies_for, zones_from}
 use Rattle.band_pieces.proofs.looks.read_zones.Goals as goal
 
-pub read_byte_rows-requires-clause-known : goal.read_byte_rows-requires-clause-known
-read_byte_rows-requires-clause-known g c y from below =
+pub read_rows-requires-clause-known : goal.read_rows-requires-clause-known
+read_rows-requires-clause-known g c y from below =
     let layout = c.args.layout.now in let lies = lies_for _ c.args.page.now layout c.requires.page c.requires.layout c.requires.fit in let tall = lies.tall in
     c.requires.known _ (piece_inside 0 (y / layout.bands.height) layout.bands.count (omega arith) (row_in_band layout.bands y lies.made.bands (omega (arith, below, c.requires.inside, tall))))
 
-pub read_byte_rows-requires-clause-inside : goal.read_byte_rows-requires-clause-inside
-read_byte_rows-requires-clause-inside g c = let tall = (lies_for _ c.args.page.now c.args.layout.now c.requires.page c.requires.layout c.requires.fit).tall in omega (arith, c.requires.inside, tall)
+pub read_rows-requires-clause-inside : goal.read_rows-requires-clause-inside
+read_rows-requires-clause-inside g c = let tall = (lies_for _ c.args.page.now c.args.layout.now c.requires.page c.requires.layout c.requires.fit).tall in omega (arith, c.requires.inside, tall)
 
 pub returns-clause-zones : goal.returns-clause-zones
 returns-clause-zones g c =
     let lies = lies_for _ c.args.page.now c.args.layout.now c.requires.page c.requires.layout c.requires.fit in
-    zones_from c.args.page.now c.args.layout.now c.args.rows c.read_byte_rows.new.out lies.wide (subst (λ (p : PageParts). HoldsRows (per_row c.args.layout.now 0) (row_value p 0) c.args.rows c.read_byte_rows.new.out) (sym c.requires.page) c.read_byte_rows.ensures.rows)
+    zones_from c.args.page.now c.args.layout.now c.args.rows c.read_rows.new.out lies.wide (subst (λ (p : PageParts). HoldsRows (per_row c.args.layout.now 0) (row_value p 0) c.args.rows c.read_rows.new.out) (sym c.requires.page) c.read_rows.ensures.rows)

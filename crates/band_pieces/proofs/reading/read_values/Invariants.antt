@@ -9,8 +9,8 @@ invariant-loop-done g l = record {
   within : l.done ≤ l.run.count;
   lane : l.lane < l.lanes;
   place : l.done < l.run.count → l.run.from + l.done ≡ l.cell * l.lanes + l.lane;
-  here : (j : ℕ) → j < l.done → slice_index l.out (l.run.place + j) ≡ value (g.C.CellSource.sheet l.source l.initial.seat).page.value l.layout l.run.piece (l.run.from + j);
-  kept : (k : ℕ) → k < l.run.place → slice_index l.out k ≡ slice_index l.initial.out k;
+  here : (j : ℕ) → j < l.done → slice_index (g.V.CellValue.numbers l.out) (l.run.place + j) ≡ value (g.C.CellSource.sheet l.source l.initial.seat).page.value l.layout l.run.piece (l.run.from + j);
+  kept : (k : ℕ) → k < l.run.place → slice_index (g.V.CellValue.numbers l.out) k ≡ slice_index (g.V.CellValue.numbers l.initial.out) k;
 }
 
 abbrev pub decreases-loop-done : goal.decreases-loop-done

@@ -1,6 +1,8 @@
-use Rattle.std.proofs.Common.{◌≡◌, ℕ, ◌+◌, ◌*◌, ◌/◌, ◌%◌, sym, ap, ◌∙◌, arith}
+use Rattle.std.proofs.Common.{◌≡◌, ℕ, ◌+◌, ◌*◌, ◌/◌, ◌%◌, ◌≤◌, sym, ap, ◌∙◌, subst, arith}
 use Rattle.std.specs.Prelude.{slice_index}
-use Rattle.page_model.specs.Bands.{band_of_row, piece_of}
+use Rattle.page_model.specs.Bands.{band_of_row, phase_of, piece_of}
+use Rattle.page_model.proofs.BandLemmas.{phase_of_piece}
+use Rattle.row_cells.specs.Places.{bits_of}
 use Rattle.band_core.specs.Values.{value}
 use Rattle.band_claims.specs.declared.sheet.Sheet.{Sheet}
 use Rattle.band_pieces.proofs.RowPieces.{Row, row_band, row_ends, row_values_are, some_per_row}
@@ -14,6 +16,15 @@ piece-number-requires-clause-band g c =
 
 pub read_values-requires-clause-piece : goal.read_values-requires-clause-piece
 read_values-requires-clause-piece g c = rw (sym c.bands-bands.ensures.value) c.piece-number.ensures.inside
+
+pub read_values-requires-clause-fits : goal.read_values-requires-clause-fits
+read_values-requires-clause-fits g c =
+    let layout = c.args.layout.now in let phase : ℕ = c.args.phase in let y : ℕ = c.args.rows.first + c.args.k in let key : Sheet = g.C.CellSource.sheet c.args.source.now c.args.seat.now in
+    let r : Row key layout phase y = record { same = c.requires.layout; fit = c.requires.fit; inside = omega (arith, c.requires.row, c.requires.inside) } in
+    let b = c.bands-bands.ensures.value in
+    let n : c.piece-number.result ≡ piece_of layout.bands phase (band_of_row layout.bands y) = c.piece-number.ensures.value ∙ (λ i. piece_of (b i) phase (y / (b i).height)) in
+    let p : phase_of layout.bands c.piece-number.result ≡ phase = ap (phase_of layout.bands) n ∙ phase_of_piece layout.bands phase (band_of_row layout.bands y) (row_band key layout phase y r) in
+    subst (λ (q : ℕ). bits_of q ≤ g.V.CellValue.width) (sym p) c.requires.fits
 
 pub read_values-requires-clause-known : goal.read_values-requires-clause-known
 read_values-requires-clause-known g c =
@@ -41,7 +52,7 @@ returns-clause-here g c o l =
     let b = c.bands-bands.ensures.value in
     let n : c.piece-number.result ≡ piece_of layout.bands phase (band_of_row layout.bands y) = c.piece-number.ensures.value ∙ (λ i. piece_of (b i) phase (y / (b i).height)) in
     let w = c.row_values-wide.ensures.value in
-    ap (λ (z : ℕ). slice_index c.read_values.new.out (c.args.k * z + o)) (sym w)
+    ap (λ (z : ℕ). slice_index (g.V.CellValue.numbers c.read_values.new.out) (c.args.k * z + o)) (sym w)
     ∙ (c.read_values.ensures.here o (rw w l) ∙ ((λ i. value key.page.value layout (n i) (y % (b i).height * w i + o)) ∙ row_values_are key layout phase y o r l))
 
 pub returns-clause-kept : goal.returns-clause-kept

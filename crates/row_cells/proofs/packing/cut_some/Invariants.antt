@@ -3,8 +3,8 @@ use Rattle.row_cells.specs.Packing.{lane}
 use Rattle.row_cells.proofs.packing.cut_some.Given as goal
 
 abbrev pub invariant-loop-j : goal.invariant-loop-j
-invariant-loop-j l = record {
+invariant-loop-j g l = record {
   base : l.base ≡ 2 ^ l.bits;
   left : l.rest ≡ l.packed / 2 ^ (l.bits * l.j);
-  written : (j : ℕ) → j < l.j → slice_index l.out j ≡ lane l.bits l.packed j;
+  written : (j : ℕ) → j < l.j → slice_index (g.V.CellValue.numbers l.out) j ≡ lane l.bits l.packed j;
 }

@@ -6,5 +6,5 @@ abbrev pub invariant-loop-j : goal.invariant-loop-j
 invariant-loop-j g l = record {
   base : l.base ≡ 2 ^ g.row.BITS;
   left : l.rest ≡ l.packed / 2 ^ (g.row.BITS * l.j);
-  written : (j : ℕ) → j < l.j → slice_index l.out j ≡ lane g.row.BITS l.packed j;
+  written : (j : ℕ) → j < l.j → slice_index (g.V.CellValue.numbers l.out) j ≡ lane g.row.BITS l.packed j;
 }

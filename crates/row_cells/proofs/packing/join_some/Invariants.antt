@@ -3,11 +3,11 @@ use Rattle.row_cells.specs.Packing.{packed}
 use Rattle.row_cells.proofs.packing.join_some.Given as goal
 
 abbrev pub invariant-loop-j : goal.invariant-loop-j
-invariant-loop-j l = record {
+invariant-loop-j g l = record {
   within : l.j ≤ length l.values;
   base : l.base ≡ 2 ^ l.bits;
-  so_far : l.sum ≡ packed l.bits (drop l.j l.values);
+  so_far : l.sum ≡ packed l.bits (drop l.j (g.V.CellValue.numbers l.values));
 }
 
 abbrev pub decreases-loop-j : goal.decreases-loop-j
-decreases-loop-j l = l.j
+decreases-loop-j g l = l.j

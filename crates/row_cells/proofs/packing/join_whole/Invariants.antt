@@ -6,7 +6,7 @@ abbrev pub invariant-loop-j : goal.invariant-loop-j
 invariant-loop-j g l = record {
   within : l.j ≤ length l.values;
   base : l.base ≡ 2 ^ g.row.BITS;
-  so_far : l.sum ≡ packed g.row.BITS (drop l.j l.values);
+  so_far : l.sum ≡ packed g.row.BITS (drop l.j (g.V.CellValue.numbers l.values));
 }
 
 abbrev pub decreases-loop-j : goal.decreases-loop-j

@@ -6,7 +6,7 @@ use Rattle.band_claims.specs.declared.sheet.Sheet.{Sheet}
 use Rattle.band_claims.specs.Sheets.{cell, shape_of}
 use Rattle.band_claims.proofs.Steps.{cell_some, small_word}
 use Rattle.band_pieces.proofs.Cells.{Reads, reads_has, reads_small, reads_value}
-use Rattle.band_pieces.proofs.reading.read_values_part.Goals as goal
+use Rattle.band_pieces.proofs.reading.read_part.Goals as goal
 
 pub overflow_add-part : goal.overflow_add-part
 overflow_add-part g c =

@@ -1,5 +1,0 @@
-use Rattle.band_pieces.proofs.Filling.{FillsUpTo}
-use Rattle.band_pieces.proofs.alone_puts.put_bytes_alone.Given as goal
-
-abbrev pub invariant-loop-o : goal.invariant-loop-o
-invariant-loop-o l = FillsUpTo l.initial.closed l.closed l.piece l.o
