@@ -1,6 +1,6 @@
 ghost use Rattle.std.specs.Prelude.{◌≡◌, ◌≤◌, ◌∷◌, [], All, IfOk, length};
 ghost use Rattle.page_model.specs.Conditions.{IsInk, IsParts, IsPlane, IsZone};
-ghost use Rattle.trap_engine.specs.Whole.{sample_zones};
+ghost use Rattle.strip_engine.specs.Whole.{sample_zones};
 
 use crate::memory::{both, push};
 use crate::random_pages::{Shape, some_page, some_shape};
@@ -14,7 +14,7 @@ use page_model::parts::{
 };
 use std::alloc::Global;
 use std::test::Fail;
-use trap_engine::{Trapped, trap_alone};
+use strip_engine::{Trapped, trap_alone};
 use zone_map::{SpanBuf, zone_row};
 
 /// Six samples in a row.

@@ -5,7 +5,7 @@ ghost use Rattle.page_model.specs.Deciding.{decides, decides_in, lower_mark, mar
 ghost use Rattle.page_model.specs.Edges.{IsEdge};
 ghost use Rattle.page_model.specs.Page.{InPage};
 ghost use Rattle.page_model.specs.Zones.{zone_of};
-ghost use Rattle.trap_engine.specs.Whole.{sample_zones};
+ghost use Rattle.strip_engine.specs.Whole.{sample_zones};
 
 use crate::grid::{sample_of, samples_of};
 use crate::memory::push;
@@ -19,7 +19,7 @@ use page_model::parts::{At, EdgeAt, OutOfMemory};
 use std::alloc::Global;
 
 /// The zone of a sample, from the zones of all.
-#[tactic(auto, using(trap_engine::proofs::WholeLemmas::places))]
+#[tactic(auto, using(strip_engine::proofs::WholeLemmas::places))]
 pub fn zone_among(page: &Page, zones: &[u8], p: At) -> u32
     requires sample { InPage page.now p }
     requires zones { zones.now ≡ sample_zones page.now }

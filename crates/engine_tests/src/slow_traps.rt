@@ -4,7 +4,7 @@ ghost use Rattle.std.specs.Prelude.{◌≡◌, ◌<◌, ◌+◌, ◌*◌, All, I
 ghost use Rattle.std.specs.Option.{ForSome};
 ghost use Rattle.page_model.specs.Edges.{IsEdge};
 ghost use Rattle.page_model.specs.Page.{InPage, plates, samples, width};
-ghost use Rattle.trap_engine.specs.Whole.{sample_zones};
+ghost use Rattle.strip_engine.specs.Whole.{sample_zones};
 
 use crate::grid::{sample_of, samples_of};
 use crate::memory::{filled, push};
@@ -15,8 +15,8 @@ use page_model::edges::squared_distance;
 use page_model::page::Page;
 use page_model::parts::{At, CountList, Counts, EdgeAt, OutOfMemory, Plane, PlaneList};
 use std::alloc::Global;
+use strip_engine::Trapped;
 use trap_color::trap_sample;
-use trap_engine::Trapped;
 
 /// Adds the deciding edges of a column of the doubled grid.
 fn add_column(

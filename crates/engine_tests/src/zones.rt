@@ -3,7 +3,7 @@
 ghost use Rattle.std.specs.Prelude.{◌≡◌, IfOk, length};
 ghost use Rattle.band_values.specs.Room.{Serves};
 ghost use Rattle.page_model.specs.Page.{samples};
-ghost use Rattle.trap_engine.specs.Whole.{sample_zones};
+ghost use Rattle.strip_engine.specs.Whole.{sample_zones};
 
 use crate::grid::samples_of;
 use crate::memory::filled;

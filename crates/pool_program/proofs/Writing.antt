@@ -10,7 +10,7 @@ use Rattle.page_model.specs.Tints.{trapped_plane, trapped_planes}
 use Rattle.page_model.specs.Page.{plates}
 use Rattle.page_writing.specs.Writing.{WritesPage}
 use Rattle.pool_list.specs.Lines.{LineParts}
-use Rattle.trap_engine.specs.declared.alone.Trapped.{Trapped}
+use Rattle.strip_engine.specs.declared.alone.Trapped.{Trapped}
 use Rattle.trap_pool.specs.declared.outcome.Outcome.TheVariants as outcomes
 use Rattle.trap_pool.specs.Pools.{target_of}
 use Rattle.trap_pool.specs.Replies.{reply_parts}

@@ -11,7 +11,7 @@ use page_model::page::Page;
 use page_writing::writing::write_page;
 use pool_list::line::{LineList, ListLine};
 use std::alloc::Global;
-use trap_engine::Trapped;
+use strip_engine::Trapped;
 use trap_pool::outcome::Outcome;
 use trap_pool::reply::{Reply, ReplyList};
 use trap_report::refusal::Refusal;

@@ -14,7 +14,7 @@ use press_risk::{RiskBuf, risk_count};
 use std::alloc::Global;
 use std::marker::Brand;
 use std::sync::ledger::{Blank, Ledger};
-use trap_engine::trap_alone;
+use strip_engine::trap_alone;
 
 /// Counts the samples at risk before a page is trapped and after, and gives the text that tells of them.
 pub(crate) fn page_text(alloc: Global, page: &Page, radius: u32) -> Result<Name, OutOfMemory>

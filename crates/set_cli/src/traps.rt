@@ -16,7 +16,7 @@ use page_model::page::Page;
 use plane_shapes::laws::page_planes_law;
 use set_words::command::TrapsCommand;
 use std::alloc::Global;
-use trap_engine::trap_alone;
+use strip_engine::trap_alone;
 use trap_report::refusal::Refusal;
 use trap_set::write_set;
 

@@ -1,10 +1,4 @@
-pub mod CountLemmas
-pub mod EdgeCount
-pub mod OutcomeLemmas
 pub mod PartLemmas
 pub mod RoomLemmas
-pub mod StandingLemmas
 pub mod TableRows
 pub mod TakeLemmas
-pub mod WholeLemmas
-pub mod ZoneRows

@@ -3,11 +3,12 @@ use Rattle.std.specs.Prelude.{◌≡◌, ℕ, ◌≤◌, All, List, None, length
 use Rattle.band_claims.specs.Seating.{OpenTable, Seating, Seats}
 use Rattle.page_model.specs.declared.parts.PageParts.{PageParts}
 use Rattle.row_cells.specs.Layouts.{Layout}
-use Rattle.trap_engine.specs.declared.outcome.Outcome.{Outcome}
+use Rattle.strip_engine.specs.declared.outcome.Outcome.{Outcome}
+use Rattle.strip_engine.specs.Tallies.{HasTallies}
 use Rattle.trap_engine.specs.declared.parts.Part.{Part}
 use Rattle.trap_engine.specs.declared.plates.PlateWork.{PlateWork}
 use Rattle.trap_engine.specs.Parts.{AreParts, AreSeatedParts}
-use Rattle.trap_engine.specs.Taking.{ArePlateWorks, AreSeatedWorks, HasTallies}
+use Rattle.trap_engine.specs.Taking.{ArePlateWorks, AreSeatedWorks}
 
 pub record PageOf : Type 0 where
   pub value : PageParts

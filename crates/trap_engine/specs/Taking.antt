@@ -1,15 +1,15 @@
 -- The result as it is taken out of a table: plate by plate, and then counted.
-use Rattle.std.specs.Prelude.{◌≡◌, ℕ, ◌+◌, ◌*◌, ◌<◌, ◌≤◌, false, true, All, List, length, slice_index_or}
+use Rattle.std.specs.Prelude.{◌≡◌, ℕ, ◌*◌, ◌<◌, false, true, All, List, length, slice_index_or}
 use Rattle.band_claims.specs.Seating.{OpenTable, Seats}
 use Rattle.page_model.specs.declared.parts.PageParts.{PageParts}
 use Rattle.page_model.specs.declared.parts.Plane.{Plane}
 use Rattle.page_model.specs.Counts.{plate_changes}
 use Rattle.page_model.specs.Page.{height, plates, sample_at, width}
-use Rattle.lists.specs.Words.{count_below, sum_below}
-use Rattle.trap_engine.specs.declared.outcome.Outcome.{Outcome}
+use Rattle.lists.specs.Words.{count_below}
+use Rattle.strip_engine.specs.Standing.{IsTrappedTo}
+use Rattle.strip_engine.specs.Tallies.{AreRowsCounted}
 use Rattle.trap_engine.specs.declared.plates.PlateWork.{PlateWork}
 use Rattle.trap_engine.specs.declared.tally.Tally.{Tally}
-use Rattle.trap_engine.specs.Standing.{ArePlatesCounted, AreSamplesCounted, AreTrappedTo, AreZonesCounted, IsTrappedTo, edges_of}
 
 -- the plane has all new tints of plate c, and so many of its samples change
 pub record IsTakenPlate (page : PageParts) (c : ℕ) (plane : Plane) (changed : ℕ) : Type 0 where
@@ -41,23 +41,4 @@ pub record HasCounted (page : PageParts) (first to : ℕ) (tally : Tally) : Type
   pub zones : length tally.zones.items ≡ width page
   pub marks : length tally.marks.items ≡ width page
   pub changes : length tally.changes.items ≡ width page
-  pub zone_samples : AreSamplesCounted page first (to * width page) tally.zone_samples.items
-  pub zone_changed : AreZonesCounted page first (to * width page) tally.zone_changed.items
-  pub edges : tally.edges + sum_below (edges_of page) (first * width page) ≡ sum_below (edges_of page) (to * width page)
-  pub few_edges : tally.edges + 128 * (first * width page) ≤ 128 * (to * width page)
-
--- the counts by zones and of edges are those of the first rows; planes and the counts of plates are still to be put in
-pub record HasTallies (page : PageParts) (rows : ℕ) (outcome : Outcome) : Type 0 where
-  pub planes : length outcome.planes ≡ plates page
-  pub plate_changed : length outcome.plate_changed.items ≡ plates page
-  pub zone_samples : AreSamplesCounted page 0 (rows * width page) outcome.zone_samples.items
-  pub zone_changed : AreZonesCounted page 0 (rows * width page) outcome.zone_changed.items
-  pub edges : outcome.edges ≡ sum_below (edges_of page) (rows * width page)
-  pub few_edges : outcome.edges ≤ 128 * (rows * width page)
-  pub changes : length outcome.changes.items ≡ width page
-
--- all plates are put in with the counts of what changes in each; the counts by zones and of edges are those of the first rows
-pub record HasPlates (page : PageParts) (rows : ℕ) (outcome : Outcome) : Type 0 where
-  pub planes : AreTrappedTo page outcome.planes (height page * width page)
-  pub plate_changed : ArePlatesCounted page (height page * width page) outcome.plate_changed.items
-  pub counted : HasTallies page rows outcome
+  pub counted : AreRowsCounted page first to tally.zone_samples.items tally.zone_changed.items tally.edges

@@ -1,24 +1,12 @@
-//! The traps of a whole page, by one thread or by workers at a shared table.
+//! The traps of a whole page, by workers at a shared table; and by one thread, as strip_engine has it.
 #![tactic(auto)]
 
-mod alone;
-mod blocks;
-mod changes;
-mod counting;
-mod grid;
-mod marks;
-mod memory;
-mod outcome;
 mod parts;
-mod planes;
 mod plates;
 mod room;
-mod strips;
-mod sums;
 mod table;
 mod tally;
-mod zones;
 
-pub use alone::{Trapped, trap_alone};
 pub use room::TrapRoom;
+pub use strip_engine::{Trapped, trap_alone};
 pub use table::{trap_in, trap_page};

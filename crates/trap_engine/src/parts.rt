@@ -6,10 +6,10 @@ ghost use Rattle.band_claims.specs.Sheets.{IsFit};
 ghost use Rattle.band_pieces.specs.Finished.{IsFinished};
 ghost use Rattle.page_model.specs.Bands.{pieces_of};
 ghost use Rattle.page_model.specs.Page.{height, width};
+ghost use Rattle.strip_engine.specs.Standing.{AreTrappedTo, HasRows};
+ghost use Rattle.strip_engine.specs.Tallies.{HasPlates};
 ghost use Rattle.trap_engine.specs.Parts.{AreCountedParts, AreOfSize, AreParts, AreSeatedParts, IsCounted, IsPart};
-ghost use Rattle.trap_engine.specs.Standing.{AreTrappedTo};
 
-use crate::memory::push;
 use crate::tally::{Tally, take_rows, tally_of};
 use band_claims::{Closed, Pass, Shared};
 use band_pieces::all_done;
@@ -20,6 +20,8 @@ use page_model::parts::{OutOfMemory, Plane};
 use std::alloc::Global;
 use std::thread;
 use std::thread::Threads;
+use strip_engine::Outcome;
+use strip_engine::memory::push;
 
 /// Some rows of the page, with a pass of their own to read by. Until it is `done` nothing is counted in them; then the tally has
 /// all that there is.
@@ -161,5 +163,32 @@ pub fn count_those_left(closed: &Closed, page: &Page, planes: &[Plane], parts: &
 {
     for i in 0..parts.len() {
         count_left(closed, page, planes, &mut parts[i]);
+    }
+}
+
+/// Adds what is counted in the next part to the outcome.
+fn add_part(outcome: &mut Outcome, page: &Page, part: &Part)
+    requires plates { HasPlates page.now part.now.rows.first outcome.old }
+    requires part { IsCounted page.now part.now }
+    ensures { HasPlates page.now (part.now.rows.first + part.now.rows.count) outcome.new }
+{
+    let tally = &part.tally;
+    outcome.add(
+        page,
+        part.rows,
+        &tally.zone_samples,
+        &tally.zone_changed,
+        tally.edges,
+    );
+}
+
+/// Adds what is counted in all parts of the page to the outcome.
+pub fn add_parts(outcome: &mut Outcome, page: &Page, parts: &[Part])
+    requires plates { HasPlates page.now 0 outcome.old }
+    requires parts { AreCountedParts page.now parts.now }
+    ensures { HasRows page.now (height page.now) outcome.new }
+{
+    for i in 0..parts.len() {
+        add_part(outcome, page, &parts[i]);
     }
 }

@@ -6,10 +6,10 @@ ghost use Rattle.band_claims.specs.Sheets.{IsFit};
 ghost use Rattle.band_pieces.specs.Finished.{IsFinished};
 ghost use Rattle.page_model.specs.Bands.{pieces_of};
 ghost use Rattle.page_model.specs.Page.{height, plates, width};
-ghost use Rattle.trap_engine.specs.Standing.{IsTrappedTo};
+ghost use Rattle.strip_engine.specs.Standing.{IsTrappedTo};
+ghost use Rattle.strip_engine.specs.Tallies.{HasPlates, HasTallies};
 ghost use Rattle.trap_engine.specs.Taking.{ArePlateWorks, AreSeatedWorks, AreTakenPlates, IsPlateWork, IsTakenPlate};
 
-use crate::planes::put_plate_row;
 use band_claims::{Closed, Pass, Shared};
 use band_pieces::{CellSource, all_done, read_plate};
 use page_model::page::Page;
@@ -17,6 +17,7 @@ use page_model::parts::Plane;
 use row_cells::layout::Layout;
 use std::thread;
 use std::thread::Threads;
+use strip_engine::{Outcome, put_plate_row};
 
 /// What a plate of the result is taken with: a pass of its own to read by, room for a row, and the plane. Until it is `done`
 /// the plane is a copy of the page's; then it has its new tints, and `changed` tells how many they are.
@@ -157,5 +158,17 @@ pub fn take_those_left(closed: &Closed, page: &Page, works: &mut [PlateWork])
 {
     for c in 0..page.plates() {
         take_left(closed, page, c, &mut works[c as usize]);
+    }
+}
+
+/// Puts the plates, which are all taken, into the outcome, and how many samples of each change.
+pub fn put_works(outcome: &mut Outcome, page: &Page, works: Vec<PlateWork>)
+    requires counted { HasTallies page.now 0 outcome.old }
+    requires works { AreTakenPlates page.now works.items }
+    ensures { HasPlates page.now 0 outcome.new }
+{
+    let mut works = works;
+    while let Some(work) = works.pop() {
+        outcome.put_in(works.len(), work.plane, work.changed);
     }
 }

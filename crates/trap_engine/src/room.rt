@@ -8,11 +8,9 @@ ghost use Rattle.page_model.specs.Limits.{most_band_height, most_workers};
 ghost use Rattle.page_model.specs.Page.{height, plates, width};
 ghost use Rattle.page_model.specs.Planes.{no_plane as none};
 ghost use Rattle.page_model.specs.Reach.{page_reach};
-ghost use Rattle.trap_engine.specs.Standing.{AreTrappedTo, HasRows};
+ghost use Rattle.strip_engine.specs.Standing.{AreTrappedTo, HasRows};
 ghost use Rattle.trap_engine.specs.Taking.{ArePlateWorks, AreSeatedWorks};
 
-use crate::memory::{filled, push};
-use crate::outcome::Outcome;
 use crate::parts::{Part, parts_of};
 use crate::plates::PlateWork;
 use band_claims::{Pass, Shared};
@@ -26,6 +24,8 @@ use std::alloc::Global;
 use std::marker::Model;
 use std::thread;
 use std::thread::Threads;
+use strip_engine::Outcome;
+use strip_engine::memory::{filled, push};
 
 /// All the memory that trapping a page by workers takes: the shared table, the memory of each worker, the planes of
 /// the result and the counts. Contracts see the page that it was made for, the layout of its cells, and how many workers

@@ -5,15 +5,14 @@ ghost use Rattle.page_model.specs.Counts.{page_counts};
 ghost use Rattle.page_model.specs.Limits.{most_band_height, most_workers};
 ghost use Rattle.page_model.specs.Page.{height};
 ghost use Rattle.page_model.specs.Tints.{trapped_planes};
+ghost use Rattle.strip_engine.specs.Standing.{HasRows};
+ghost use Rattle.strip_engine.specs.Tallies.{HasPlates, HasTallies};
 ghost use Rattle.trap_engine.specs.Parts.{AreParts, AreSeatedParts};
 ghost use Rattle.trap_engine.specs.Receipts.{IsWholeReceipt};
-ghost use Rattle.trap_engine.specs.Standing.{HasRows};
-ghost use Rattle.trap_engine.specs.Taking.{ArePlateWorks, AreSeatedWorks, HasPlates, HasTallies};
+ghost use Rattle.trap_engine.specs.Taking.{ArePlateWorks, AreSeatedWorks};
 
-use crate::alone::Trapped;
-use crate::outcome::Outcome;
-use crate::parts::{Part, count_by_passes, count_those_left};
-use crate::plates::{PlateWork, are_taken, take_by_passes, take_those_left};
+use crate::parts::{Part, add_parts, count_by_passes, count_those_left};
+use crate::plates::{PlateWork, are_taken, put_works, take_by_passes, take_those_left};
 use crate::room::TrapRoom;
 use band_claims::{Closed, Shared};
 use band_pieces::finish_table;
@@ -22,6 +21,7 @@ use page_model::page::Page;
 use page_model::parts::OutOfMemory;
 use std::alloc::Global;
 use std::thread::Threads;
+use strip_engine::{Outcome, Trapped};
 
 /// Takes the plates by their own passes, in so many threads, and where that took all of them, puts them into the outcome and
 /// counts in the parts by theirs. It gives the works where some plate is left.
@@ -49,7 +49,7 @@ fn take_side_by_side<R: Threads + Sync>(
     if !are_taken(&works) {
         return Some(works);
     }
-    outcome.put_all_in(page, works);
+    put_works(outcome, page, works);
     count_by_passes(rt, shared, page, outcome.planes.as_slice(), parts);
     None
 }
@@ -71,10 +71,10 @@ fn take_rest(
 {
     if let Some(mut works) = left {
         take_those_left(closed, page, &mut works);
-        outcome.put_all_in(page, works);
+        put_works(outcome, page, works);
     }
     count_those_left(closed, page, outcome.planes.as_slice(), parts);
-    outcome.add_all(page, parts);
+    add_parts(outcome, page, parts);
 }
 
 /// Traps the page that the room was made for, by the workers that it has memory for. It takes no memory, refuses

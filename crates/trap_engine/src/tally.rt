@@ -4,18 +4,17 @@ ghost use Rattle.band_claims.specs.Sheets.{IsFit};
 ghost use Rattle.page_model.specs.Bands.{pieces_of};
 ghost use Rattle.page_model.specs.Page.{height, width};
 ghost use Rattle.page_model.specs.Zones.{AreZones};
-ghost use Rattle.trap_engine.specs.Standing.{AreMarks, AreTrappedTo};
+ghost use Rattle.strip_engine.specs.Standing.{AreMarks, AreTrappedTo};
 ghost use Rattle.trap_engine.specs.Taking.{HasCounted};
 
-use crate::changes::{count_changed, note_taken};
-use crate::counting::{count_zones, edges_in};
-use crate::memory::{filled, no_counts};
 use band_pieces::{CellSource, read_marks, read_zones};
 use band_values::Rows;
 use page_model::page::Page;
 use page_model::parts::{OutOfMemory, Plane};
 use row_cells::layout::Layout;
 use std::alloc::Global;
+use strip_engine::memory::{filled, no_counts};
+use strip_engine::{count_changed, count_zones, edges_in, note_taken};
 
 /// What is counted in rows, and room for the zones and marks of a row and for where it changes.
 #[derive(Drop)]

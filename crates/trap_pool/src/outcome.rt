@@ -1,4 +1,4 @@
-use trap_engine::Trapped;
+use strip_engine::Trapped;
 use trap_report::refusal::Refusal;
 
 /// What became of a line.

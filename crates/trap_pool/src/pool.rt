@@ -18,7 +18,7 @@ use pool_list::line::LineList;
 use std::alloc::{AllocError, Global};
 use std::sync::Wait;
 use std::thread::Threads;
-use trap_engine::Trapped;
+use strip_engine::Trapped;
 
 // How many line numbers the queue has places for.
 const PLACES: usize = 256;

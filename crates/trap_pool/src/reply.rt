@@ -8,7 +8,7 @@ use crate::outcome::Outcome;
 use lists::list::List;
 use page_model::page::Page;
 use std::marker::Model;
-use trap_engine::Trapped;
+use strip_engine::Trapped;
 use trap_report::refusal::Refusal;
 
 /// The reply to a line of a list: the line's number, the page that was gathered for it, if any, and what became of it. What

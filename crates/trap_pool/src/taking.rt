@@ -6,7 +6,7 @@ use crate::reply::Reply;
 use crate::work::trap_waiting;
 use line_queue::{Kept, Room, Rooms};
 use std::alloc::Global;
-use trap_engine::Trapped;
+use strip_engine::Trapped;
 
 // Puts all that the workers made into the replies.
 pub(crate) fn take_in(replies: &mut Vec<Reply>, rooms: Rooms<Option<Trapped>>)

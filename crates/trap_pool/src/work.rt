@@ -3,7 +3,7 @@ ghost use Rattle.trap_pool.specs.Taking.{TrapsReply};
 use crate::reply::Reply;
 use line_queue::LineWork;
 use std::alloc::Global;
-use trap_engine::{Trapped, trap_alone};
+use strip_engine::{Trapped, trap_alone};
 
 /// What is called after each line that a worker took from the queue. It has no meaning, and must return.
 pub trait TakeGate {

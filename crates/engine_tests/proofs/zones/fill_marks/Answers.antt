@@ -1,4 +1,4 @@
-use Rattle.trap_engine.proofs.ZoneRows.{all_zones}
+use Rattle.strip_engine.proofs.ZoneRows.{all_zones}
 use Rattle.engine_tests.proofs.zones.fill_marks.Goals as goal
 
 pub make_marks-requires-clause-zones : goal.make_marks-requires-clause-zones

@@ -1,4 +1,4 @@
-use Rattle.trap_engine.proofs.ZoneRows.{some_width, whole_zones}
+use Rattle.strip_engine.proofs.ZoneRows.{some_width, whole_zones}
 use Rattle.engine_tests.proofs.zones.fill_zones.Goals as goal
 
 pub returns : goal.returns

@@ -10,8 +10,10 @@ returns c =
       zones = old.zones;
       marks = old.marks;
       changes = rw (with_items_is tally.changes c.note_taken.new.changes (omega (arith, c.note_taken.ensures.len, old.changes, tally.changes.ok))) c.note_taken.ensures.len;
-      zone_samples = rw (with_items_is tally.zone_samples c.count_zones.new.counts (omega (arith, c.count_zones.ensures.long, old.zone_samples.long, tally.zone_samples.ok))) c.count_zones.ensures;
-      zone_changed = rw (with_items_is tally.zone_changed c.count_changed.new.counts (omega (arith, c.count_changed.ensures.long, old.zone_changed.long, tally.zone_changed.ok))) c.count_changed.ensures;
-      edges = part_edges c.args.page.now c.args.first c.args.y tally.edges c.edges_in.result tally.marks.items c.requires.marks old.edges (rw c.deref.ensures.value at c.edges_in.ensures.count);
-      few_edges = part_few c.args.page.now c.args.first c.args.y tally.edges c.edges_in.result (length tally.marks.items) old.marks old.few_edges (rw c.deref.ensures.value at c.edges_in.ensures.few);
+      counted = record {
+        zone_samples = rw (with_items_is tally.zone_samples c.count_zones.new.counts (omega (arith, c.count_zones.ensures.long, old.counted.zone_samples.long, tally.zone_samples.ok))) c.count_zones.ensures;
+        zone_changed = rw (with_items_is tally.zone_changed c.count_changed.new.counts (omega (arith, c.count_changed.ensures.long, old.counted.zone_changed.long, tally.zone_changed.ok))) c.count_changed.ensures;
+        edges = part_edges c.args.page.now c.args.first c.args.y tally.edges c.edges_in.result tally.marks.items c.requires.marks old.counted.edges (rw c.deref.ensures.value at c.edges_in.ensures.count);
+        few_edges = part_few c.args.page.now c.args.first c.args.y tally.edges c.edges_in.result (length tally.marks.items) old.marks old.counted.few_edges (rw c.deref.ensures.value at c.edges_in.ensures.few);
+      };
     }

@@ -1,0 +1,7 @@
+pub mod AddedRows
+pub mod CountLemmas
+pub mod EdgeCount
+pub mod OutcomeLemmas
+pub mod StandingLemmas
+pub mod WholeLemmas
+pub mod ZoneRows

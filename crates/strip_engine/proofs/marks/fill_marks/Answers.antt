@@ -1,0 +1,8 @@
+use Rattle.strip_engine.proofs.ZoneRows.{all_zones, some_width, whole_marks}
+use Rattle.strip_engine.proofs.marks.fill_marks.Goals as goal
+
+pub make_marks-requires-clause-zones : goal.make_marks-requires-clause-zones
+make_marks-requires-clause-zones c = all_zones c.args.page.now c.height.result c.args.zones.now c.height.ensures.value c.requires.zones
+
+pub returns : goal.returns
+returns c = whole_marks c.args.page.now c.height.result c.make_marks.new.out (some_width c.args.page.now c.height.ensures.valid) c.height.ensures.value c.make_marks.ensures.marks

@@ -1,0 +1,17 @@
+use Rattle.std.proofs.Common.{◌≡◌, ◌≤◌, ◌-◌, length}
+use Rattle.page_model.specs.Page.{height}
+use Rattle.strip_engine.specs.Bench.{IsBench}
+use Rattle.strip_engine.specs.Standing.{HasRows}
+use Rattle.strip_engine.proofs.strips.trap_strips.Given as goal
+
+abbrev pub invariant-loop-first : goal.invariant-loop-first
+invariant-loop-first l = record {
+  inside : l.first ≤ height l.page;
+  codes : length l.codes ≡ length l.initial.codes;
+  bench : IsBench l.page l.bench;
+  room : l.room ≡ l.initial.room;
+  outcome : HasRows l.page l.first l.outcome;
+}
+
+abbrev pub decreases-loop-first : goal.decreases-loop-first
+decreases-loop-first l = height l.page - l.first

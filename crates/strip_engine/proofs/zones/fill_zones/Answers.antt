@@ -1,0 +1,5 @@
+use Rattle.strip_engine.proofs.ZoneRows.{some_width, whole_zones}
+use Rattle.strip_engine.proofs.zones.fill_zones.Goals as goal
+
+pub returns-clause-zones : goal.returns-clause-zones
+returns-clause-zones c = whole_zones c.args.page.now c.height-count.result c.make_zones.new.out (some_width c.args.page.now c.height-count.ensures.valid) c.height-count.ensures.value c.make_zones.ensures.zones

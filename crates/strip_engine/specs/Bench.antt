@@ -1,0 +1,11 @@
+use Rattle.std.specs.Prelude.{◌≡◌, ◌*◌, length}
+use Rattle.page_model.specs.declared.parts.PageParts.{PageParts}
+use Rattle.page_model.specs.Page.{plates, width}
+use Rattle.strip_engine.specs.declared.strips.Bench.{Bench}
+use Rattle.strip_engine.specs.Whole.{sample_marks, sample_zones}
+
+-- the bench has the zones and marks of all samples of the page, and room for a row of its tints
+pub record IsBench (page : PageParts) (bench : Bench) : Type 0 where
+  pub zones : bench.zones.items ≡ sample_zones page
+  pub marks : bench.marks.items ≡ sample_marks page
+  pub row : length bench.row.items ≡ plates page * width page

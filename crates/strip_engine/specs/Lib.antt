@@ -1,0 +1,5 @@
+pub mod Bench
+pub mod Rows
+pub mod Standing
+pub mod Tallies
+pub mod Whole

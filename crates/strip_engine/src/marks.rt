@@ -1,0 +1,83 @@
+// The marks of the page's samples: whether the edges to their right and below them decide.
+
+ghost use Rattle.std.specs.Prelude.{◌≡◌, ◌<◌, ◌≤◌, ◌+◌, ◌*◌, ◌-◌, IfOk, length};
+ghost use Rattle.band_values.specs.Rows.{HoldsMarks};
+ghost use Rattle.page_model.specs.Page.{height, samples};
+ghost use Rattle.page_model.specs.Zones.{AreZones};
+ghost use Rattle.strip_engine.specs.Rows.{AreRows};
+ghost use Rattle.strip_engine.specs.Standing.{AreMarks};
+ghost use Rattle.strip_engine.specs.Whole.{sample_marks, sample_zones};
+
+use crate::grid::samples_of;
+use crate::memory::filled;
+use band_values::{Rows, make_marks};
+use page_model::page::Page;
+use page_model::parts::OutOfMemory;
+use std::alloc::Global;
+
+/// Of a list with `width` items for each row, the rows from one on and before another.
+fn rows_between<'a>(all: &'a [u8], width: u32, from: u32, to: u32) -> &'a [u8]
+    requires narrow { width ≤ 16384 }
+    requires order { from ≤ to }
+    requires low { to ≤ 16384 }
+    requires inside { from * width + (to - from) * width ≤ length all.now }
+    ensures { AreRows width from to all.now result.now }
+{
+    let start = from as usize * width as usize;
+    let long = (to - from) as usize * width as usize;
+    &all[start..start + long]
+}
+
+/// The zones of row y.
+pub fn zones_of_row<'a>(page: &Page, zones: &'a [u8], y: u32) -> &'a [u8]
+    requires zones { zones.now ≡ sample_zones page.now }
+    requires row { y < height page.now }
+    ensures { AreZones page.now y result.now }
+{
+    let _valid = page.plates();
+    rows_between(zones, page.width(), y, y + 1)
+}
+
+/// The marks of row y.
+pub fn marks_of_row<'a>(page: &Page, marks: &'a [u8], y: u32) -> &'a [u8]
+    requires marks { marks.now ≡ sample_marks page.now }
+    requires row { y < height page.now }
+    ensures { AreMarks page.now y result.now }
+{
+    let _valid = page.plates();
+    rows_between(marks, page.width(), y, y + 1)
+}
+
+/// Writes the marks of all samples, row by row.
+fn fill_marks(page: &Page, zones: &[u8], out: &mut [u8])
+    requires zones { zones.now ≡ sample_zones page.now }
+    requires out { length out.old ≡ samples page.now }
+    ensures { out.new ≡ sample_marks page.now }
+{
+    let rows = Rows {
+        first: 0,
+        count: page.height(),
+    };
+    make_marks(page, rows, rows, zones, out);
+}
+
+/// The marks of all samples, row by row.
+pub fn marks_of(alloc: Global, page: &Page, zones: &[u8]) -> Result<Vec<u8>, OutOfMemory>
+    requires { zones.now ≡ sample_zones page.now }
+    ensures { IfOk result (λ marks. marks.items ≡ sample_marks page.now) }
+{
+    let mut marks = filled(alloc, 0u8, samples_of(page))?;
+    fill_marks(page, zones, &mut marks);
+    Ok(marks)
+}
+
+/// The marks of these rows.
+pub fn marks_between<'a>(page: &Page, marks: &'a [u8], held: Rows) -> &'a [u8]
+    requires marks { marks.now ≡ sample_marks page.now }
+    requires some { 1 ≤ held.count }
+    requires inside { held.first + held.count ≤ height page.now }
+    ensures { HoldsMarks page.now held result.now }
+{
+    let _valid = page.plates();
+    rows_between(marks, page.width(), held.first, held.first + held.count)
+}

@@ -1,0 +1,153 @@
+// The page strip by strip: the column answers of some rows, and then the traps of each row.
+
+ghost use Rattle.std.specs.Prelude.{◌≡◌, ◌<◌, ◌≤◌, ◌+◌, ◌*◌, ◌-◌, IfOk, length};
+ghost use Rattle.band_values.specs.Arms.{AreAnswers};
+ghost use Rattle.band_values.specs.Room.{Serves};
+ghost use Rattle.band_values.specs.Rows.{HoldsAnswers, doubled};
+ghost use Rattle.page_model.specs.Page.{height};
+ghost use Rattle.page_model.specs.Reach.{page_reach};
+ghost use Rattle.strip_engine.specs.Bench.{IsBench};
+ghost use Rattle.strip_engine.specs.Standing.{HasRows};
+
+use crate::marks::{marks_between, marks_of, marks_of_row, zones_of_row};
+use crate::memory::filled;
+use crate::outcome::Outcome;
+use crate::zones::zones_of;
+use band_values::{Rows, Workspace, is_quiet, make_answers, make_row, row_of};
+use page_model::page::Page;
+use page_model::parts::OutOfMemory;
+use std::alloc::Global;
+
+/// How many rows a strip has at most.
+pub const STRIP: u32 = 64;
+
+/// What the strips of a page are trapped with: the zones and marks of all samples, row by row, and room for the new
+/// tints of a row.
+#[derive(Drop)]
+pub struct Bench {
+    pub zones: Vec<u8>,
+    pub marks: Vec<u8>,
+    pub row: Vec<u16>,
+}
+
+/// The bench of a page.
+pub fn bench_of(alloc: Global, page: &Page, room: &mut Workspace) -> Result<Bench, OutOfMemory>
+    requires { Serves room.old page.now }
+    ensures bench { IfOk result (λ bench. IsBench page.now bench) }
+    ensures room { room.new ≡ room.old }
+{
+    let zones = zones_of(alloc, page, room)?;
+    let marks = marks_of(alloc, page, zones.as_slice())?;
+    let row = filled(alloc, 0u16, page.plates() as usize * page.width() as usize)?;
+    Ok(Bench { zones, marks, row })
+}
+
+/// Traps row y, whose column answers these are. The tints of a quiet row are neither made nor compared.
+fn trap_row(
+    page: &Page,
+    y: u32,
+    codes: &[u16],
+    bench: &mut Bench,
+    room: &mut Workspace,
+    outcome: &mut Outcome,
+)
+    requires line { y < height page.now }
+    requires codes { AreAnswers page.now (page_reach page.now) y (doubled page.now) codes.now }
+    requires bench { IsBench page.now bench.old }
+    requires room { Serves room.old page.now }
+    requires outcome { HasRows page.now y outcome.old }
+    ensures bench { IsBench page.now bench.new }
+    ensures room { room.new ≡ room.old }
+    ensures outcome { HasRows page.now (y + 1) outcome.new }
+{
+    let zones = zones_of_row(page, &bench.zones, y);
+    let marks = marks_of_row(page, &bench.marks, y);
+    if is_quiet(page, y, codes) {
+        outcome.take_in(page, y, zones, marks, None);
+        return;
+    }
+    make_row(page, y, zones, codes, &mut bench.row, room);
+    outcome.take_in(page, y, zones, marks, Some(bench.row.as_slice()));
+}
+
+/// Traps these rows, whose column answers these are.
+fn trap_rows(
+    page: &Page,
+    rows: Rows,
+    codes: &[u16],
+    bench: &mut Bench,
+    room: &mut Workspace,
+    outcome: &mut Outcome,
+)
+    requires inside { rows.first + rows.count ≤ height page.now }
+    requires codes { HoldsAnswers page.now rows codes.now }
+    requires bench { IsBench page.now bench.old }
+    requires room { Serves room.old page.now }
+    requires outcome { HasRows page.now rows.first outcome.old }
+    ensures bench { IsBench page.now bench.new }
+    ensures room { room.new ≡ room.old }
+    ensures outcome { HasRows page.now (rows.first + rows.count) outcome.new }
+{
+    let wide = 2 * page.width() as usize - 1;
+    for k in 0..rows.count {
+        let answers = row_of(codes, wide, k as usize);
+        trap_row(page, rows.first + k, answers, bench, room, outcome);
+    }
+}
+
+/// Traps these rows. The codes have a place for each doubled column of each of them.
+fn trap_strip(
+    page: &Page,
+    rows: Rows,
+    codes: &mut [u16],
+    bench: &mut Bench,
+    room: &mut Workspace,
+    outcome: &mut Outcome,
+)
+    requires some { 1 ≤ rows.count }
+    requires inside { rows.first + rows.count ≤ height page.now }
+    requires codes { length codes.old ≡ rows.count * doubled page.now }
+    requires bench { IsBench page.now bench.old }
+    requires room { Serves room.old page.now }
+    requires outcome { HasRows page.now rows.first outcome.old }
+    ensures codes { length codes.new ≡ length codes.old }
+    ensures bench { IsBench page.now bench.new }
+    ensures room { room.new ≡ room.old }
+    ensures outcome { HasRows page.now (rows.first + rows.count) outcome.new }
+{
+    let halo = page.reach2().div_ceil(2);
+    let first = rows.first.saturating_sub(halo);
+    let to = (rows.first + rows.count + halo).min(page.height());
+    let held = Rows {
+        first,
+        count: to - first,
+    };
+    let near = marks_between(page, &bench.marks, held);
+    make_answers(page, rows, held, near, codes);
+    trap_rows(page, rows, codes, bench, room, outcome);
+}
+
+/// Traps the page, strip by strip. The codes have a place for each doubled column of each row of a strip.
+pub fn trap_strips(
+    page: &Page,
+    codes: &mut [u16],
+    bench: &mut Bench,
+    room: &mut Workspace,
+    outcome: &mut Outcome,
+)
+    requires codes { length codes.old ≡ 64 * doubled page.now }
+    requires bench { IsBench page.now bench.old }
+    requires room { Serves room.old page.now }
+    requires outcome { HasRows page.now 0 outcome.old }
+    ensures { HasRows page.now (height page.now) outcome.new }
+{
+    let height = page.height();
+    let wide = 2 * page.width() as usize - 1;
+    let mut first = 0;
+    while first < height {
+        let count = (height - first).min(STRIP);
+        let codes = &mut codes[..count as usize * wide];
+        trap_strip(page, Rows { first, count }, codes, bench, room, outcome);
+        first += count;
+    }
+}
