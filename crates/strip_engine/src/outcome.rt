@@ -34,7 +34,7 @@ pub struct Outcome {
     pub plate_changed: Vec<u64>,
     /// How many edges decide.
     pub edges: u64,
-    /// Of the row that is taken in, which samples change.
+    /// Room to note which samples of a row change. What stands in it between calls has no meaning.
     pub changes: Vec<bool>,
 }
 
