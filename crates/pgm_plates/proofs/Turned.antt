@@ -1,5 +1,5 @@
 -- Samples and tints that are turned into each other stay in range.
-use Rattle.std.proofs.Common.{◌≡◌, ℕ, ◌≤◌, ◌*◌, ◌-◌, List, [], ◌∷◌, length, map, take, drop, refl, ap, sym, ◌∙◌, subst, arith}
+use Rattle.std.proofs.Common.{◌≡◌, ℕ, ◌≤◌, ◌*◌, ◌-◌, List, length, map, take, drop, ap, sym, ◌∙◌, subst, arith}
 use Rattle.std.proofs.lemmas.List.{length-map, take-map, drop-map}
 use Rattle.std.proofs.lemmas.List.Elements.{All-map}
 use Rattle.std.specs.List.{All}
@@ -40,8 +40,3 @@ plate_in_range plane samples ok few is = record {
 -- The samples of a piece of an image are a piece of its samples.
 pub samples_of_piece : (image : Image) (values : List ℕ) (from count : ℕ) → samples_in image (take count (drop from values)) ≡ take count (drop from (samples_in image values))
 samples_of_piece image values from count = sym (take-map (sample_in image) count (drop from values)) ∙ ap (take count) (sym (drop-map (sample_in image) from values))
-
--- Samples are written as they are.
-pub samples_stay : (xs : List ℕ) → map (λ (s : ℕ). s) xs ≡ xs
-samples_stay [] = refl
-samples_stay (x ∷ xs) = ap (λ (ys : List ℕ). x ∷ ys) (samples_stay xs)

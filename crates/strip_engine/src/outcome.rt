@@ -1,7 +1,7 @@
 // What comes of a page: its planes after trapping, and what is counted. It is taken in row by row from the top; or the planes are
 // put in whole, and then what is counted is added, some rows after others.
 
-ghost use Rattle.std.specs.Prelude.{◌≡◌, ◌<◌, ◌≤◌, ◌+◌, ◌*◌, IfOk, MatchOption, length, slice_set};
+ghost use Rattle.std.specs.Prelude.{◌≡◌, ◌<◌, ◌≤◌, ◌+◌, ◌*◌, IfOk, MatchOption, length, slice_set, vec_capacity};
 ghost use Rattle.page_model.specs.Counts.{page_counts};
 ghost use Rattle.page_model.specs.Page.{height, plates, width};
 ghost use Rattle.page_model.specs.Tints.{trapped_planes};
@@ -97,6 +97,9 @@ impl Outcome {
         ensures plate_changed { ArePlatesCounted page.now ((y + 1) * width page.now)
             self.new.plate_changed.items }
         ensures changes { length self.new.changes.items ≡ width page.now }
+        ensures room { (vec_capacity self.new.zone_changed ≡ vec_capacity self.old.zone_changed)
+            × (vec_capacity self.new.plate_changed ≡ vec_capacity self.old.plate_changed)
+            × (vec_capacity self.new.changes ≡ vec_capacity self.old.changes) }
         ensures zone_samples { self.new.zone_samples ≡ self.old.zone_samples }
         ensures edges { self.new.edges ≡ self.old.edges }
     {
@@ -113,6 +116,8 @@ impl Outcome {
         ensures planes { self.new.planes ≡ slice_set self.old.planes c plane }
         ensures plate_changed { self.new.plate_changed.items
             ≡ slice_set self.old.plate_changed.items c changed }
+        ensures room { vec_capacity self.new.plate_changed
+            ≡ vec_capacity self.old.plate_changed }
         ensures zone_samples { self.new.zone_samples ≡ self.old.zone_samples }
         ensures zone_changed { self.new.zone_changed ≡ self.old.zone_changed }
         ensures edges { self.new.edges ≡ self.old.edges }
