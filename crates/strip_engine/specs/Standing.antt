@@ -1,4 +1,4 @@
-use Rattle.std.specs.Prelude.{◌≡◌, ℕ, ◌+◌, ◌*◌, ◌/◌, ◌%◌, ◌<◌, ◌≤◌, ◌&&◌, ◌==◌, List, length, slice_index}
+use Rattle.std.specs.Prelude.{◌≡◌, ℕ, ◌+◌, ◌*◌, ◌/◌, ◌%◌, ◌<◌, ◌≤◌, ◌&&◌, ◌==◌, List, length, slice_index, vec_capacity}
 use Rattle.page_model.specs.declared.parts.PageParts.{PageParts}
 use Rattle.page_model.specs.declared.parts.Plane.{Plane}
 use Rattle.page_model.specs.Counts.{plate_changes, sample_changes}
@@ -82,3 +82,10 @@ pub record HasRows (page : PageParts) (rows : ℕ) (outcome : Outcome) : Type 0 
   pub edges : outcome.edges ≡ sum_below (edges_of page) (rows * width page)
   pub few_edges : outcome.edges ≤ 128 * (rows * width page)
   pub changes : length outcome.changes.items ≡ width page
+
+-- the lists that an outcome counts in have the room that they had
+pub record KeepsRoom (before after : Outcome) : Type 0 where
+  pub zone_samples : vec_capacity after.zone_samples ≡ vec_capacity before.zone_samples
+  pub zone_changed : vec_capacity after.zone_changed ≡ vec_capacity before.zone_changed
+  pub plate_changed : vec_capacity after.plate_changed ≡ vec_capacity before.plate_changed
+  pub changes : vec_capacity after.changes ≡ vec_capacity before.changes

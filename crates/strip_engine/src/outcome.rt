@@ -1,12 +1,12 @@
 // What comes of a page: its planes after trapping, and what is counted. It is taken in row by row from the top; or the planes are
 // put in whole, and then what is counted is added, some rows after others.
 
-ghost use Rattle.std.specs.Prelude.{◌≡◌, ◌<◌, ◌≤◌, ◌+◌, ◌*◌, IfOk, MatchOption, length, slice_set, vec_capacity};
+ghost use Rattle.std.specs.Prelude.{◌≡◌, ◌<◌, ◌≤◌, ◌+◌, ◌*◌, IfOk, MatchOption, length, slice_set};
 ghost use Rattle.page_model.specs.Counts.{page_counts};
 ghost use Rattle.page_model.specs.Page.{height, plates, width};
 ghost use Rattle.page_model.specs.Tints.{trapped_planes};
 ghost use Rattle.page_model.specs.Zones.{AreZones};
-ghost use Rattle.strip_engine.specs.Standing.{AreMarks, ArePlatesCounted, AreTrappedTo, AreZonesCounted, HasRows, IsNewRow, KeepsRow};
+ghost use Rattle.strip_engine.specs.Standing.{AreMarks, ArePlatesCounted, AreTrappedTo, AreZonesCounted, HasRows, IsNewRow, KeepsRoom, KeepsRow};
 ghost use Rattle.strip_engine.specs.Tallies.{AreRowsCounted, HasPlates};
 
 use crate::alone::Trapped;
@@ -70,7 +70,8 @@ impl Outcome {
         requires marks { AreMarks page.now y marks.now }
         requires tints { MatchOption tints (KeepsRow page.now y)
             (λ row. IsNewRow page.now y row.now) }
-        ensures { HasRows page.now (y + 1) self.new }
+        ensures rows { HasRows page.now (y + 1) self.new }
+        ensures room { KeepsRoom self.old self.new }
     {
         let _valid = page.plates();
         self.edges += edges_in(marks);
@@ -97,9 +98,7 @@ impl Outcome {
         ensures plate_changed { ArePlatesCounted page.now ((y + 1) * width page.now)
             self.new.plate_changed.items }
         ensures changes { length self.new.changes.items ≡ width page.now }
-        ensures room { (vec_capacity self.new.zone_changed ≡ vec_capacity self.old.zone_changed)
-            × (vec_capacity self.new.plate_changed ≡ vec_capacity self.old.plate_changed)
-            × (vec_capacity self.new.changes ≡ vec_capacity self.old.changes) }
+        ensures room { KeepsRoom self.old self.new }
         ensures zone_samples { self.new.zone_samples ≡ self.old.zone_samples }
         ensures edges { self.new.edges ≡ self.old.edges }
     {
@@ -116,8 +115,7 @@ impl Outcome {
         ensures planes { self.new.planes ≡ slice_set self.old.planes c plane }
         ensures plate_changed { self.new.plate_changed.items
             ≡ slice_set self.old.plate_changed.items c changed }
-        ensures room { vec_capacity self.new.plate_changed
-            ≡ vec_capacity self.old.plate_changed }
+        ensures room { KeepsRoom self.old self.new }
         ensures zone_samples { self.new.zone_samples ≡ self.old.zone_samples }
         ensures zone_changed { self.new.zone_changed ≡ self.old.zone_changed }
         ensures edges { self.new.edges ≡ self.old.edges }
@@ -140,7 +138,8 @@ impl Outcome {
         requires inside { rows.first + rows.count ≤ height page.now }
         requires counted { AreRowsCounted page.now rows.first (rows.first + rows.count)
             zone_samples.now zone_changed.now edges }
-        ensures { HasPlates page.now (rows.first + rows.count) self.new }
+        ensures plates { HasPlates page.now (rows.first + rows.count) self.new }
+        ensures room { KeepsRoom self.old self.new }
     {
         let _valid = page.plates();
         self.edges += edges;

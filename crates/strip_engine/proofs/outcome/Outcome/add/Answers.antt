@@ -16,8 +16,8 @@ add_counts-requires-2-clause-few c z l =
     let few = rows_few page (rows.first + rows.count) c.plates-valid.ensures.valid c.requires.inside in
     rw c.deref_mut-2.ensures.value (omega (arith, changes_fit page 0 rows.first ((rows.first + rows.count) * width page) z c.args.self.now.zone_changed.items c.args.zone_changed.now few (omega (arith, l, ap (λ (xs : List ℕ). length xs) c.deref_mut-2.ensures.value, before.zone_changed.long)) before.zone_changed counted.zone_changed))
 
-pub returns : goal.returns
-returns c =
+pub returns-clause-plates : goal.returns-clause-plates
+returns-clause-plates c =
     let page = c.args.page.now in let rows = c.args.rows in let self = c.args.self.now in
     let before = c.requires.plates.counted in let counted = c.requires.counted in let n = (rows.first + rows.count) * width page in
     let samples = c.add_counts.ensures.len ∙ ap (λ (xs : List ℕ). length xs) c.deref_mut.ensures.value in

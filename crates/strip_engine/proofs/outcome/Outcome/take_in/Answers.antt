@@ -7,8 +7,8 @@ use Rattle.strip_engine.proofs.EdgeCount.{edges_next, few_next}
 use Rattle.strip_engine.proofs.StandingLemmas.{planes_quiet}
 use Rattle.strip_engine.proofs.outcome.Outcome.take_in.Goals as goal
 
-pub returns-in-Some : goal.returns-in-Some
-returns-in-Some c = record {
+pub returns-in-Some-clause-rows : goal.returns-in-Some-clause-rows
+returns-in-Some-clause-rows c = record {
   planes = c.take_tints.ensures.planes;
   zone_samples = rw c.take_tints.ensures.zone_samples (rw (with_items_is c.args.self.now.zone_samples c.count_zones.new.counts (omega (arith, c.count_zones.ensures.long, c.requires.rows.zone_samples.long, c.args.self.now.zone_samples.ok))) c.count_zones.ensures);
   zone_changed = c.take_tints.ensures.zone_changed;
@@ -18,8 +18,8 @@ returns-in-Some c = record {
   changes = c.take_tints.ensures.changes;
 }
 
-pub returns-in_default : goal.returns-in_default
-returns-in_default c =
+pub returns-in_default-clause-rows : goal.returns-in_default-clause-rows
+returns-in_default-clause-rows c =
     let keeps : KeepsRow c.args.page.now c.args.y = rw c.in_default.is at c.requires.tints in
     record {
       planes = planes_quiet c.args.page.now c.args.self.now.planes c.args.y c.requires.line keeps c.requires.rows.planes;
