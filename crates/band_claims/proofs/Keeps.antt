@@ -1,12 +1,10 @@
 -- Each kind of step keeps the rule.
 use Rattle.std.proofs.Common.{Bool, true, false, ◌≡◌, ◌≢◌, ℕ, zero, suc, ◌+◌, ◌<◌, ◌≤◌, ◌==◌, List, [], ◌∷◌, ◌++◌, length, get_or, set, sym, refl, ap, ◌∙◌, subst, ⊎_elim, inl, inr, arith, Some, None, length-set, eq-eqb, ne_eqb}
 use Rattle.std.specs.Prelude.{if◌then◌else◌}
-use Rattle.std.proofs.lemmas.List.{set-get_or}
 use Rattle.std.proofs.lemmas.Bool.{cases_eq}
 use mathlib.Core.Option.{some, some-injective, some-ne-none}
 use lib.ListN.{get_elem?}
-use prog.Atomic.{either}
-use Rattle.atomic_table.specs.Table.{State, Me, keeps, Allows, Splits, Joins, opening}
+use Rattle.atomic_table.specs.Table.{State, Me, Splits, Joins, opening}
 use Rattle.atomic_table.proofs.Lists.{at_set, at_snoc, set_again, set_else}
 use Rattle.band_claims.specs.declared.sheet.Sheet.{Sheet}
 use Rattle.band_claims.specs.declared.view.View.{View}
@@ -17,7 +15,7 @@ use Rattle.band_board.proofs.TableWords.{is_board, cell_is}
 use Rattle.band_claims.specs.Views.{IsFair, one_if, times, total, is_hand, holds, publishes, Knows, look, newcomer, spent, looked_at, claimed, put, finished, branched, joined}
 use Rattle.band_claims.specs.Rule.{piece_word, cell_word}
 use Rattle.band_claims.proofs.Kept.{Holding, Sits, Kept}
-use Rattle.band_claims.proofs.Totals.{set_there, total_set, total_snoc, one_of, two_of, times_append}
+use Rattle.band_claims.proofs.Totals.{total_set, total_snoc, one_of, two_of, times_append}
 use Rattle.band_claims.proofs.Boards.{same_one, other_zero, sound_claim, sound_finish, sound_put, free_cell, done_cell, some_cell, states_piece, states_cell, word_state, sits_piece, sits_cell, known_piece, piece_here, piece_else, piece_stays, cell_stays, cell_here, cell_else}
 
 module _ (k : Shape) (ok : IsShape k) (defined : ℕ → ℕ) (some_value : (j : ℕ) → j < k.cells → 1 ≤ defined j) (key : Sheet) where
@@ -50,10 +48,6 @@ module _ (k : Shape) (ok : IsShape k) (defined : ℕ → ℕ) (some_value : (j :
     one_holder = λ j l. omega (arith, total_set (holds j) s.views id v w at, hand j, r.one_holder j l);
     once = λ j l. omega (arith, total_set (publishes j) s.views id v w at, list j, r.once j l);
   }
-
-  quiet : (s : St) (r : Rule s) (id i : ℕ) (v w : View) → get_elem? s.views id ≡ some v → Sits k key s.words w → ((j : ℕ) → holds j w ≡ holds j v) → ((j : ℕ) → publishes j w ≡ publishes j v)
-      → Rule record { words = set s.words i (get_or s.words i 0); homes = s.homes; views = set s.views id w }
-  quiet s r id i v w at sits hand list = subst (λ (ws : List ℕ). Rule record { words = ws; homes = s.homes; views = set s.views id w }) (sym (set-get_or s.words i 0)) (calm s r id v w at sits hand list)
 
   seen_more : (words : List ℕ) (i n : ℕ) (v : View) → i < k.pieces → piece_word words i ≡ n → Sits k key words v → (j : ℕ) → Knows (looked_at i n v) j → (j < k.pieces) × (piece_word words j ≡ 2)
   seen_more words i n v l is t j m = elim (cases_eq n 2) [
@@ -93,15 +87,6 @@ module _ (k : Shape) (ok : IsShape k) (defined : ℕ → ℕ) (some_value : (j :
 
   pub after_read : (s : St) (r : Rule s) (id : ℕ) (v : View) → get_elem? s.views id ≡ some v → Rule record { words = s.words; homes = s.homes; views = set s.views id v }
   after_read s r id v at = calm s r id v v at (r.seats id v at) (λ j. refl) (λ j. refl)
-
-  pub looks : (slots id : ℕ) (me : M) (i : ℕ) → i < k.pieces → Allows Rule slots id me i (λ n. n) (λ n m. m ≡ (looked_at i n me.0, me.1))
-  looks slots id me i l s r _ at _ = let n : ℕ = get_or s.words i 0 in let v = me.0 in let t = r.seats id v at in let w : View = looked_at i n v in (
-    w,
-    keeps,
-    tt,
-    quiet s r id i v w at record { page = t.page; hand = t.hand; known = seen_more s.words i n v l refl t } (λ j. refl) (λ j. refl),
-    refl,
-  )
 
   empty_hand : (v : View) (j : ℕ) → v.held ≡ None → holds j v ≡ 0
   empty_hand v j is = ap (is_hand j) is
@@ -147,35 +132,12 @@ module _ (k : Shape) (ok : IsShape k) (defined : ℕ → ℕ) (some_value : (j :
         ];
       }
 
-  pub claims : (slots id : ℕ) (me : M) (i : ℕ) → i < k.pieces → me.0.held ≡ None → ((n : ℕ) → k.needs i n ≡ true → Knows me.0 n)
-      → Allows Rule slots id me i (λ n. either (n == 0) 1 n) (λ n m. m ≡ (claimed i n me.0, me.1))
-  claims slots id me i l idle needs s r _ at _ =
-      let n : ℕ = get_or s.words i 0 in let v = me.0 in let t = r.seats id v at in
-      let won : View = taking v i in
-      let lost : View = record { sheet = v.sheet; held = v.held; filled = v.filled; published = v.published; seen = v.seen; looked = v.looked ++ look i n ∷ [] } in
-      let P : ℕ → Type 0 = λ x. Rule record { words = set s.words i (either (x == 0) 1 x); homes = s.homes; views = set s.views id (claimed i x v) } in
-      let Q : Bool → Type 0 = λ b. Rule record { words = set s.words i (either b 1 n); homes = s.homes; views = set s.views id (if b then won else lost) } in (
-        claimed i n v,
-        keeps,
-        tt,
-        elim (cases_eq n 0) [
-          | inl free ↦ subst P (sym free) (wins s r id i v at l idle free needs)
-          | inr ne ↦ subst Q (sym (ne_eqb n 0 ne)) (quiet s r id i v lost at record { page = t.page; hand = t.hand; known = t.known } (λ j. refl) (λ j. refl))
-        ],
-        refl,
-      )
-
-  pub reads : (slots id : ℕ) (me : M) (p o : ℕ) → p < k.pieces → o < k.size p → Knows me.0 p → Allows Rule slots id me (k.pieces + (k.start p + o)) (λ n. n) (λ n m. (m ≡ me) × (n ≡ defined (k.start p + o)))
-  reads slots id me p o l m knows s r _ at _ =
-      let v = me.0 in let t = r.seats id v at in let c : ℕ = k.start p + o in
-      let some_there = done_cell k ok s.words r.wide defined r.sound p o l m (t.known p knows).1 in
-      let is : get_or s.words (k.pieces + c) 0 ≡ defined c = elim (some_cell k ok s.words r.wide defined r.sound c (omega (arith, ok.inside p l, m))) [ inl e ↦ absurd (some_there e) | inr e ↦ e ] in (
-        v,
-        keeps,
-        tt,
-        quiet s r id (k.pieces + c) v v at t (λ j. refl) (λ j. refl),
-        (refl, is),
-      )
+  -- the word of a cell of a piece that a view knows
+  pub value_read : (p o : ℕ) → p < k.pieces → o < k.size p → (v : View) (s : St) → Rule s → (id : ℕ) → get_elem? s.views id ≡ some v → Knows v p → get_or s.words (k.pieces + (k.start p + o)) 0 ≡ defined (k.start p + o)
+  value_read p o l m v s r id at knows =
+      let c : ℕ = k.start p + o in
+      let some_there = done_cell k ok s.words r.wide defined r.sound p o l m ((r.seats id v at).known p knows).1 in
+      elim (some_cell k ok s.words r.wide defined r.sound c (omega (arith, ok.inside p l, m))) [ inl e ↦ absurd (some_there e) | inr e ↦ e ]
 
   pub held_by : (s : St) (r : Rule s) (id p : ℕ) (v : View) → get_elem? s.views id ≡ some v → v.held ≡ Some p → Holding k s.words v.filled p
   held_by s r id p v at is = let t = r.seats id v at in rw is at t.hand
@@ -213,17 +175,6 @@ module _ (k : Shape) (ok : IsShape k) (defined : ℕ → ℕ) (some_value : (j :
         once = λ j m. omega (arith, total_set (publishes j) s.views id v (put v) at, r.once j m, ap (λ (z : ℕ). one_if (z == 2)) (stays j m));
       }
 
-  pub puts : (slots id : ℕ) (me : M) (p x : ℕ) → me.0.held ≡ Some p → me.0.filled < k.size p → x ≡ defined (k.start p + me.0.filled)
-      → Allows Rule slots id me (k.pieces + (k.start p + me.0.filled)) (λ _. x) (λ _ m. m ≡ (put me.0, me.1))
-  puts slots id me p x is room value s r _ at _ =
-      let v = me.0 in (
-        put v,
-        keeps,
-        tt,
-        subst (λ (z : ℕ). Rule record { words = set s.words (k.pieces + (k.start p + v.filled)) z; homes = s.homes; views = set s.views id (put v) }) (sym value) (stores s r id p v at is room),
-        refl,
-      )
-
   pub ends : (s : St) (r : Rule s) (id p : ℕ) (v : View) → get_elem? s.views id ≡ some v → v.held ≡ Some p → v.filled ≡ k.size p
       → Rule record { words = set s.words p 2; homes = s.homes; views = set s.views id (finished p v) }
   ends s r id p v at is full =
@@ -251,11 +202,6 @@ module _ (k : Shape) (ok : IsShape k) (defined : ℕ → ℕ) (some_value : (j :
           | inr ne ↦ omega (arith, total_set (publishes j) s.views id v w at, times_append j v.published (p ∷ []), other_zero j p ne, r.once j m, ap (λ (x : ℕ). one_if (x == 2)) (piece_else k ok s.words r.wide p j 2 ne))
         ];
       }
-
-  pub finishes : (slots id : ℕ) (me : M) (p : ℕ) → me.0.held ≡ Some p → me.0.filled ≡ k.size p → Allows Rule slots id me p (λ _. 2) (λ _ m. (m ≡ (finished p me.0, me.1)) × IsFair k.pieces m.0)
-  finishes slots id me p is full s r _ at _ =
-      let w : View = finished p me.0 in let r' = ends s r id p me.0 at is full in
-      (w, keeps, tt, r', (refl, fair record { words = set s.words p 2; homes = s.homes; views = set s.views id w } r' id w (set_there s.views id me.0 w at)))
 
   pub splits : (id : ℕ) (v : View) → Splits Rule id v v (branched v)
   splits id v s r at =

@@ -9,3 +9,4 @@ pub mod Looking
 pub mod Carrying
 pub mod Marks
 pub mod Crosses
+pub mod Past

@@ -1,8 +1,11 @@
 -- The eight kinds of step keep the rule of the table of a page.
-use Rattle.std.proofs.Common.{replicate, [], ◌≡◌, ℕ, ◌+◌, ◌-◌, ◌^◌, ◌<◌, ◌≤◌, ◌==◌, true, List, length, refl, sym, ap, ◌∙◌, subst, arith, Option, Some, None, get_or}
+use Rattle.std.proofs.Common.{replicate, [], ◌∷◌, ◌++◌, set, Bool, inl, inr, ne_eqb, ◌≡◌, ℕ, ◌+◌, ◌-◌, ◌^◌, ◌<◌, ◌≤◌, ◌==◌, true, List, length, refl, sym, ap, ◌∙◌, subst, arith, Option, Some, None, get_or}
 use Rattle.std.specs.Prelude.{MatchOption}
 use prog.Atomic.{either}
-use Rattle.atomic_table.specs.Table.{State, Me, Allows, Splits, Joins, opening, Final, Seen}
+use Rattle.std.proofs.lemmas.List.{set-get_or}
+use Rattle.std.proofs.lemmas.Bool.{cases_eq}
+use Rattle.atomic_table.proofs.Lists.{set_else}
+use Rattle.atomic_table.specs.Table.{State, Me, keeps, Allows, Splits, Joins, opening, Final, Seen}
 use Rattle.page_model.specs.Bands.{pieces_of}
 use Rattle.row_cells.proofs.Places.{cells_fit}
 use Rattle.band_board.specs.Shapes.{Shape, IsShape, Has}
@@ -13,8 +16,10 @@ use Rattle.band_core.proofs.Halo.{halo}
 use Rattle.band_core.proofs.Shapes.{is_shape}
 use Rattle.band_board.specs.Boards.{Board}
 use Rattle.band_board.proofs.TableWords.{opening_words}
-use Rattle.band_claims.specs.Kinds.{events_of, first_state}
-use Rattle.band_claims.specs.Laws.{KeepsRule, StepsAreRun}
+use Rattle.band_claims.specs.Kinds.{Kind, looks as kind_looks, wins as kind_wins, loses as kind_loses, reads as kind_reads, puts as kind_puts, finishes as kind_finishes, splits as kind_splits, joins as kind_joins, Happens, Leads, MayClaim, MayRead, MayPut, MayFinish, moved, events_of, first_state}
+use Rattle.band_claims.specs.Remembered.{Remembered, Ends}
+use Rattle.band_claims.proofs.Totals.{set_there}
+use Rattle.band_claims.specs.Laws.{EndsAreRuns, KeepsRule, StepsAreRun}
 use Rattle.band_claims.proofs.Events.{keeps_rule, steps_run}
 use Rattle.band_board.proofs.TableWords.{zero_at}
 use Rattle.std.proofs.lemmas.List.{length-replicate}
@@ -27,7 +32,7 @@ use Rattle.band_claims.specs.Views.{IsFair, Knows, times, newcomer, spent, looke
 use Rattle.band_claims.specs.Tells.{Cell, Fair}
 use Rattle.band_claims.proofs.Kept.{Kept, Sits}
 use Rattle.band_claims.proofs.Readable.{ruled, kept}
-use Rattle.band_claims.proofs.Keeps.{fair, looks as keeps_looks, claims as keeps_claims, reads as keeps_reads, puts as keeps_puts, finishes as keeps_finishes, splits as keeps_splits, joins as keeps_joins, opens as keeps_opens}
+use Rattle.band_claims.proofs.Keeps.{fair, value_read, opens as keeps_opens}
 
 pub cell_some : (key : Sheet) → IsFit key → (j : ℕ) → j < (shape_of key).cells → 1 ≤ cell key j
 unfolding cell
@@ -54,6 +59,17 @@ told key sheet word j n page is e = rw page (e ∙ ap (cell key) (omega (arith, 
 as_fair : (key : Sheet) (w : View) → w.sheet ≡ Some key → IsFair (pieces_of key.layout.bands) w → Fair w
 as_fair key w e h = subst (λ (o : Option Sheet). MatchOption o (Unit {0}) (λ k. IsFair (pieces_of k.layout.bands) w)) (sym e) h
 
+-- one step of any kind
+pub each_keeps : (key : Sheet) → IsFit key → KeepsRule key
+each_keeps key fit s t kind rule happens =
+    let k = shape_of key in let ok = fit_shape key fit in
+    ruled k ok (cell key) key t (keeps_rule k ok (cell key) (cell_some key fit) key s t kind (kept k ok (cell key) key s rule) happens)
+
+-- a step more at the end
+pub one_more : (k : Shape) (defined : ℕ → ℕ) (s m t : State (Unit {0}) View) (kinds : List Kind) (kind : Kind) → Leads k defined s kinds m → Happens k defined m kind t → Leads k defined s (kinds ++ kind ∷ []) t
+one_more k defined s m t [] kind same h = (t, subst (λ (z : State (Unit {0}) View). Happens k defined z kind t) same h, refl)
+one_more k defined s m t (x ∷ xs) kind leads h = (leads.0, leads.1, one_more k defined leads.0 m t xs kind leads.2 h)
+
 module _ (key : Sheet) (fit : IsFit key) where
   abbrev St : Type 0
   St = State (Unit {0}) View
@@ -76,50 +92,85 @@ module _ (key : Sheet) (fit : IsFit key) where
   back : (s : St) → Kept k (cell key) key s → RuleOf key s
   back s r = ruled k ok (cell key) key s r
 
-  lifted : (slots id : ℕ) (me : M) (i : ℕ) (f : ℕ → ℕ) (tells : ℕ → M → Type 0) → Allows (Kept k (cell key) key) slots id me i f tells → Allows (RuleOf key) slots id me i f tells
-  lifted slots id me i f tells a s r same at small = let t = a s (there s r) same at small in (t.0, t.1, t.2, back _ t.3, t.4)
+  -- a step more
+  on : (s t : St) (kind : Kind) → Remembered key s → Happens k (cell key) s kind t → Remembered key t
+  on s t kind r h = record { rule = each_keeps key fit s t kind r.rule h; kinds = r.kinds ++ kind ∷ []; steps = one_more k (cell key) (first_state k key) s t r.kinds kind r.steps h }
 
-  pub looks : (slots id : ℕ) (me : M) (i : ℕ) → i < k.pieces → Allows (RuleOf key) slots id me i (λ n. n) (λ n m. m ≡ (looked_at i n me.0, me.1))
-  looks slots id me i l = lifted slots id me i (λ n. n) (λ n m. m ≡ (looked_at i n me.0, me.1)) (keeps_looks k ok (cell key) values key slots id me i l)
+  -- a load leaves the words
+  left : (s : St) (id i : ℕ) (w : View) → record { words = set s.words i (get_or s.words i 0); homes = s.homes; views = set s.views id w } ≡ moved s id s.words w
+  left s id i w = ap (λ (ws : List ℕ). moved s id ws w) (set-get_or s.words i 0)
+
+  pub looks : (slots id : ℕ) (me : M) (i : ℕ) → i < k.pieces → Allows (Remembered key) slots id me i (λ n. n) (λ n m. m ≡ (looked_at i n me.0, me.1))
+  looks slots id me i l s r _ at _ =
+      let n : ℕ = get_or s.words i 0 in let w : View = looked_at i n me.0 in
+      (w, keeps, tt, on s (moved s id (set s.words i n) w) (kind_looks id i) r (me.0, at, l, left s id i w), refl)
 
   pub claims : (slots id : ℕ) (me : M) (i : ℕ) → i < k.pieces → me.0.held ≡ None → ((n : ℕ) → k.needs i n ≡ true → Knows me.0 n)
-      → Allows (RuleOf key) slots id me i (λ n. either (n == 0) 1 n) (λ n m. m ≡ (claimed i n me.0, me.1))
-  claims slots id me i l idle needs = lifted slots id me i (λ n. either (n == 0) 1 n) (λ n m. m ≡ (claimed i n me.0, me.1)) (keeps_claims k ok (cell key) values key slots id me i l idle needs)
+      → Allows (Remembered key) slots id me i (λ n. either (n == 0) 1 n) (λ n m. m ≡ (claimed i n me.0, me.1))
+  claims slots id me i l idle needs s r _ at _ =
+      let n : ℕ = get_or s.words i 0 in let v = me.0 in
+      let may : MayClaim k s id i v = record { sees = at; piece = l; idle = idle; known = needs } in
+      let after : ℕ → St = λ x. moved s id (set s.words i (either (x == 0) 1 x)) (claimed i x v) in (
+        claimed i n v,
+        keeps,
+        tt,
+        elim (cases_eq n 0) [
+          | inl free ↦ on s (after n) (kind_wins id i) r (v, may, free, ap after free)
+          | inr ne ↦ on s (after n) (kind_loses id i) r (v, may, ne, ap (λ (b : Bool). moved s id (set s.words i (either b 1 n)) (claimed i n v)) (ne_eqb n 0 ne) ∙ left s id i (claimed i n v))
+        ],
+        refl,
+      )
 
   pub puts : (slots id : ℕ) (me : M) (p x : ℕ) → me.0.held ≡ Some p → me.0.filled < k.size p → x ≡ cell key (k.start p + me.0.filled)
-      → Allows (RuleOf key) slots id me (k.pieces + (k.start p + me.0.filled)) (λ _. x) (λ _ m. m ≡ (put me.0, me.1))
-  puts slots id me p x is room value = lifted slots id me (k.pieces + (k.start p + me.0.filled)) (λ _. x) (λ _ m. m ≡ (put me.0, me.1)) (keeps_puts k ok (cell key) values key slots id me p x is room value)
+      → Allows (Remembered key) slots id me (k.pieces + (k.start p + me.0.filled)) (λ _. x) (λ _ m. m ≡ (put me.0, me.1))
+  puts slots id me p x is room value s r _ at _ =
+      let v = me.0 in let j : ℕ = k.start p + v.filled in
+      let may : MayPut k (cell key) s id j x v = record { sees = at; piece = p; holding = is; room = room; next = refl; right = value } in
+      (put v, keeps, tt, on s (moved s id (set s.words (k.pieces + j) x) (put v)) (kind_puts id j x) r (v, may, refl), refl)
 
   pub reads_word : (slots id : ℕ) (me : M) (word j p : ℕ) → me.0.sheet ≡ Some key → word ≡ pieces_of key.layout.bands + j → Has k p j → Knows me.0 p
-      → Allows (RuleOf key) slots id me word (λ n. n) (λ n m. (m ≡ me) × Cell me.0.sheet word n)
-  reads_word slots id me word j p page is here knows =
+      → Allows (Remembered key) slots id me word (λ n. n) (λ n m. (m ≡ me) × Cell me.0.sheet word n)
+  reads_word slots id me word j p page is here knows s r same_slots at small =
+      let v = me.0 in
       let o : ℕ = j - k.start p in
-      let at : k.start p + o ≡ j = omega (arith, here.from) in
-      let word_at : k.pieces + (k.start p + o) ≡ word = omega (arith, at, is) in
+      let spot : k.start p + o ≡ j = omega (arith, here.from) in
+      let word_at : k.pieces + (k.start p + o) ≡ word = omega (arith, spot, is) in
       let room : o < k.size p = omega (arith, here.from, here.below) in
-      subst (λ (w : ℕ). Allows (RuleOf key) slots id me w (λ n. n) (λ n m. (m ≡ me) × Cell me.0.sheet w n)) word_at
-      (λ s r same_slots seat small. let t = keeps_reads k ok (cell key) values key slots id me p o here.piece room knows s (there s r) same_slots seat small in
-      (t.0, t.1, t.2, back _ t.3, (t.4.0, told key me.0.sheet (k.pieces + (k.start p + o)) (k.start p + o) _ page refl t.4.1)))
+      let may : MayRead k s id j v = record { sees = at; piece = p; has = here; known = knows } in
+      let found : Cell v.sheet word (get_or s.words word 0) =
+      subst (λ (w : ℕ). Cell v.sheet w (get_or s.words w 0)) word_at (told key v.sheet (k.pieces + (k.start p + o)) (k.start p + o) (get_or s.words (k.pieces + (k.start p + o)) 0) page refl
+      (value_read k ok (cell key) values key p o here.piece room v s (there s r.rule) id at knows)) in
+      (v, keeps, tt, on s (moved s id (set s.words word (get_or s.words word 0)) v) (kind_reads id j) r (v, may, left s id word v), (refl, found))
 
   pub finishes_word : (slots id : ℕ) (me : M) (p : ℕ) → me.0.sheet ≡ Some key → me.0.held ≡ Some p → me.0.filled ≡ k.size p
-      → Allows (RuleOf key) slots id me p (λ _. 2) (λ _ m. (m ≡ (finished p me.0, me.1)) × Fair m.0)
-  finishes_word slots id me p page is full s r same_slots seat small =
-      let t = keeps_finishes k ok (cell key) values key slots id me p is full s (there s r) same_slots seat small in
-      (t.0, t.1, t.2, back _ t.3, (t.4.0, as_fair key t.0 (ap (λ z. z.0.sheet) t.4.0 ∙ page) t.4.1))
+      → Allows (Remembered key) slots id me p (λ _. 2) (λ _ m. (m ≡ (finished p me.0, me.1)) × Fair m.0)
+  finishes_word slots id me p page is full s r _ at _ =
+      let v = me.0 in let w : View = finished p v in let t : St = moved s id (set s.words p 2) w in
+      let may : MayFinish k s id p v = record { sees = at; holding = is; full = full } in
+      let next = on s t (kind_finishes id p) r (v, may, refl) in
+      (w, keeps, tt, next, (refl, as_fair key w page (fair k ok (cell key) values key t (there t next.rule) id w (set_there s.views id v w at))))
 
-  pub splits : (id : ℕ) (v : View) → Splits (RuleOf key) id v v (branched v)
-  splits id v s r at = back _ (keeps_splits k ok (cell key) values key id v s (there s r) at)
+  pub splits : (id : ℕ) (v : View) → v.held ≡ None → Splits (Remembered key) id v v (branched v)
+  splits id v idle s r at = on s _ (kind_splits id) r (v, at, idle, refl)
 
-  pub joins : (id other : ℕ) (v w : View) → w.held ≡ None → Joins (RuleOf key) id v other w (joined v w) spent
-  joins id other v w idle s r at ne at' = back _ (keeps_joins k ok (cell key) values key id other v w idle s (there s r) at ne at')
+  pub joins : (id other : ℕ) (v w : View) → v.held ≡ None → w.held ≡ None → Joins (Remembered key) id v other w (joined v w) spent
+  joins id other v w idle other_idle s r at ne at' =
+      on s _ (kind_joins id other) r (v, w, record { sees = at; other_sees = sym (set_else s.views id other (joined v w) ne) ∙ at'; two = ne; idle = idle; other_idle = other_idle }, refl)
 
-  pub opens : (words : List ℕ) → length words ≡ k.pieces + k.cells → ((i : ℕ) → get_or words i 0 ≡ 0) → RuleOf key (opening words [] (newcomer key))
-  opens words wide zeros = back _ (keeps_opens k ok (cell key) values key words wide zeros)
+  pub opens : (words : List ℕ) → words ≡ replicate (k.pieces + k.cells) 0 → Remembered key (opening words [] (newcomer key))
+  opens words zeros = record {
+    rule = back _ (keeps_opens k ok (cell key) values key words (ap length zeros ∙ length-replicate (k.pieces + k.cells) 0) (λ i. ap (λ (ws : List ℕ). get_or ws i 0) zeros ∙ zero_at (k.pieces + k.cells) i));
+    kinds = [];
+    steps = ap (λ (ws : List ℕ). opening ws [] (newcomer key)) zeros;
+  }
 
-  pub closes : (id : ℕ) (v : View) (ws : List ℕ) (xs : List (Unit {0})) → Final (Seen (RuleOf key) id v) ws xs
+  pub ends : (id : ℕ) (v : View) (ws : List ℕ) (xs : List (Unit {0})) → Final (Seen (Remembered key) id v) ws xs → Ends key ws v
+  ends id v ws xs f = record { kinds = f.1.0.kinds; last = f.0; steps = f.1.0.steps; same_words = f.2; seat = id; sees = f.1.1 }
+
+  pub closes : (id : ℕ) (v : View) (ws : List ℕ) (xs : List (Unit {0})) → Final (Seen (Remembered key) id v) ws xs
       → Sound k (cell key) (board_of k ws) × Sits k key ws v × ((i : ℕ) → times i v.published ≤ 1) × (length ws ≡ k.pieces + k.cells) × ((i : ℕ) → i < k.pieces → piece_word ws i ≤ 2)
   closes id v ws xs f =
-      let s = f.0 in let r = there s f.1.0 in let at = f.1.1 in let e : s.words ≡ ws = f.2 in
+      let s = f.0 in let r = there s f.1.0.rule in let at = f.1.1 in let e : s.words ≡ ws = f.2 in
       let t = r.seats id v at in
       let once = (fair k ok (cell key) values key s r id v at).once in (
         subst (λ (ws' : List ℕ). Sound k (cell key) (board_of k ws')) e r.sound,
@@ -128,12 +179,6 @@ module _ (key : Sheet) (fit : IsFit key) where
         (ap length (sym e) ∙ r.wide),
         subst (λ (ws' : List ℕ). (i : ℕ) → i < k.pieces → piece_word ws' i ≤ 2) e r.states,
       )
-
--- one step of any kind
-pub each_keeps : (key : Sheet) → IsFit key → KeepsRule key
-each_keeps key fit s t kind rule happens =
-    let k = shape_of key in let ok = fit_shape key fit in
-    ruled k ok (cell key) key t (keeps_rule k ok (cell key) (cell_some key fit) key s t kind (kept k ok (cell key) key s rule) happens)
 
 -- whatever steps are made from the opening on
 pub steps_are_run : (key : Sheet) → IsFit key → StepsAreRun key
@@ -146,3 +191,8 @@ steps_are_run key fit kinds t leads =
       subst (λ (b : Board). IsRun k (recipe key.page.value key.layout) b (events_of kinds)) board all.1.0,
       all.1.1 ∙ ap (λ (b : Board). played b (events_of kinds)) board,
     )
+
+pub ends_are_runs : (key : Sheet) → IsFit key → EndsAreRuns key
+ends_are_runs key fit words v e =
+    let all = steps_are_run key fit e.kinds e.last e.steps in
+    (events_of e.kinds, all.1, ap (board_of (shape_of key)) (sym e.same_words) ∙ all.2)

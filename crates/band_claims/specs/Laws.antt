@@ -1,6 +1,7 @@
 -- The rule in words of single views, and what all steps together are.
-use Rattle.std.specs.Prelude.{◌≡◌, ℕ, ◌<◌, ◌≤◌, List, Some, true}
+use Rattle.std.specs.Prelude.{◌≡◌, ℕ, ◌<◌, ◌≤◌, List, ◌∷◌, ◌++◌, Some, true}
 use Rattle.atomic_table.specs.Table.{State}
+use Rattle.band_board.specs.declared.event.Event.{Event}
 use Rattle.band_board.specs.Shapes.{Shape}
 use Rattle.band_board.specs.Boards.{is_claimed, opening}
 use Rattle.band_board.specs.Runs.{IsRun, played}
@@ -8,9 +9,11 @@ use Rattle.band_core.specs.Recipe.{recipe}
 use Rattle.band_board.specs.TableWords.{board_of}
 use Rattle.band_claims.specs.declared.sheet.Sheet.{Sheet}
 use Rattle.band_claims.specs.declared.view.View.{View}
+use Rattle.band_claims.specs.declared.view.Look.{Look}
 use Rattle.band_claims.specs.Views.{times}
 use Rattle.band_claims.specs.Kinds.{Kind, Happens, Leads, events_of, first_state}
-use Rattle.band_claims.specs.Rule.{Ruled, RuleOf, Sees}
+use Rattle.band_claims.specs.Remembered.{Steps, Ends}
+use Rattle.band_claims.specs.Rule.{Ruled, RuleOf, Sees, piece_word}
 use Rattle.band_claims.specs.Sheets.{shape_of, cell}
 
 -- a claimed piece has a holder; who holds a piece finds it claimed; and two holders of one piece are one view
@@ -35,3 +38,14 @@ StepsAreRun key = (kinds : List Kind) (t : State (Unit {0}) View) → Leads (sha
 -- each kind of step keeps the rule
 abbrev pub KeepsRule : Sheet → Type 0
 KeepsRule key = (s t : State (Unit {0}) View) (kind : Kind) → RuleOf key s → Happens (shape_of key) (cell key) s kind t → RuleOf key t
+
+-- words that steps ended at are the board that a run of the page leads to
+abbrev pub EndsAreRuns : Sheet → Type 0
+EndsAreRuns key = (words : List ℕ) (v : View) → Ends key words v → (events : List Event)
+    × IsRun (shape_of key) (recipe key.page.value key.layout) (opening (shape_of key)) events
+    × (board_of (shape_of key) words ≡ played (opening (shape_of key)) events)
+
+-- what a look found was so then: a piece's word is no less later
+abbrev pub LooksArePast : Sheet → Type 0
+LooksArePast key = (kinds : List Kind) (t : State (Unit {0}) View) → Steps key kinds t → (id : ℕ) (v : View) → Sees t id v
+    → (before after : List Look) (shown : Look) → v.looked ≡ before ++ shown ∷ after → shown.word ≤ piece_word t.words shown.piece

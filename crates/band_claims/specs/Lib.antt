@@ -5,4 +5,5 @@ pub mod Tells
 pub mod Receipt
 pub mod Seating
 pub mod Kinds
+pub mod Remembered
 pub mod Laws

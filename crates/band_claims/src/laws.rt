@@ -2,7 +2,7 @@
 
 ghost use Rattle.band_claims.specs.declared.sheet.Sheet.{Sheet};
 ghost use Rattle.band_claims.specs.declared.view.View.{View};
-ghost use Rattle.band_claims.specs.Laws.{HeldOnce, KeepsRule, PublishedOnce, StepsAreRun};
+ghost use Rattle.band_claims.specs.Laws.{EndsAreRuns, HeldOnce, KeepsRule, LooksArePast, PublishedOnce, StepsAreRun};
 ghost use Rattle.band_claims.specs.Rule.{RuleOf};
 ghost use Rattle.band_claims.specs.Sheets.{IsFit, cell, shape_of};
 ghost use Rattle.atomic_table.specs.Table.{State};
@@ -34,4 +34,15 @@ pub fn sound_table_law()
 /// the board are a run of the page, and the words are the board that this run leads to.
 pub fn steps_are_a_run_law()
     ensures { (key : Sheet) → IsFit key → StepsAreRun key }
+{}
+
+/// The words that a table was closed with are the board that a run of the page leads to.
+pub fn ends_are_runs_law()
+    ensures { (key : Sheet) → IsFit key → EndsAreRuns key }
+{}
+
+/// Whatever steps were made: no look that a seat tells of found more than the piece's word is now. So a piece that was
+/// found not free is not free.
+pub fn looks_are_past_law()
+    ensures { (key : Sheet) → IsFit key → LooksArePast key }
 {}

@@ -10,7 +10,8 @@ ghost use Rattle.band_core.specs.Values.{IsFor};
 ghost use Rattle.band_claims.specs.Sheets.{cell, shape_of, IsFit};
 ghost use Rattle.band_claims.specs.Views.{IsFair, times, Knows, looked_at, claimed, put, finished, branched, joined, Won, Lost};
 ghost use Rattle.band_claims.specs.Seating.{Seats};
-ghost use Rattle.band_claims.specs.Rule.{RuleOf, piece_word};
+ghost use Rattle.band_claims.specs.Rule.{piece_word};
+ghost use Rattle.band_claims.specs.Remembered.{Remembered, Ends};
 ghost use Rattle.band_claims.specs.Views.{newcomer};
 
 use crate::closed::Closed;
@@ -28,11 +29,12 @@ use std::alloc::Global;
 use std::marker::Model;
 use std::snapshot::Snapshot;
 
-/// The rule of the shared table: `specs/Rule.antt` has its clauses.
+/// The rule of the shared table: `specs/Rule.antt` has its clauses, and it remembers the steps that were made, each of
+/// one of the eight kinds of `specs/Kinds.antt`.
 pub struct Claiming;
 
 impl TableRule<(), View, Sheet> for Claiming {
-    ghost holds = { RuleOf };
+    ghost holds = { Remembered };
 
     ghost first = { newcomer };
 }
@@ -295,13 +297,15 @@ impl Shared {
         one
     }
 
-    /// The table that no pass steps on any more, with what the last pass knew. Its words are those of a sound board.
+    /// The table that no pass steps on any more, with what the last pass knew. Its words are those of a sound board, and
+    /// steps of the eight kinds led to them from the opening.
     pub fn close_all(self, pass: Pass) -> Closed
         requires pass { Seats self pass }
         ensures sheet { result.sheet ≡ self.sheet }
         ensures sound { Sound (shape_of result.sheet) (cell result.sheet)
             (board_of (shape_of result.sheet) result.words) }
         ensures words { AreWords (shape_of result.sheet) result.words }
+        ensures run { Ends result.sheet result.words pass.view }
         ensures published { result.published ≡ pass.view.published }
         ensures seen { result.seen ≡ pass.view.seen }
         ensures looked { result.looked ≡ pass.view.looked }

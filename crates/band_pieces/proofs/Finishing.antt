@@ -20,7 +20,9 @@ use Rattle.band_claims.specs.Sheets.{IsFit, cell, shape_of}
 use Rattle.band_claims.specs.Views.{one_if, times}
 use Rattle.band_claims.proofs.Steps.{fit_shape}
 use Rattle.band_pieces.specs.Fills.{DoneHaveCells, FillsPiece, FinishesPiece, FinishesTo, HasCells, KeepsLists}
-use Rattle.band_pieces.specs.Finished.{IsFinished}
+use Rattle.band_claims.specs.declared.view.View.{View}
+use Rattle.band_claims.specs.Remembered.{Ends, Steps}
+use Rattle.band_pieces.specs.Finished.{IsFinished, WasLeft}
 use Rattle.band_pieces.proofs.Filling.{HasCellsOf}
 
 same_lists : (r : Receipt) → KeepsLists r r
@@ -176,3 +178,19 @@ has_cells receipt fit all i j h = let t = (fit_shape receipt.sheet fit).inside i
 
 pub finished_has_cells : (page : PageParts) (receipt : Receipt) → IsFinished page receipt → (i : ℕ) → HasCells receipt i
 finished_has_cells page receipt f i = has_cells receipt f.fit f.cells i
+
+-- what making the rest alone leaves of the run
+pub was_left : (before after : Receipt) (v : View) → Ends before.sheet before.words v → after.sheet ≡ before.sheet → after.published ≡ v.published → after.seen ≡ v.seen → after.looked ≡ v.looked
+    → ((i : ℕ) → times i after.alone ≡ one_if (nat_lt i (pieces_of before.sheet.layout.bands) && not (piece_word before.words i == 2))) → WasLeft after
+was_left before after v e same published seen looked alone = record {
+  kinds = e.kinds;
+  left = e.last;
+  steps = subst (λ (z : Sheet). Steps z e.kinds e.last) (sym same) e.steps;
+  seat = e.seat;
+  view = v;
+  sees = e.sees;
+  published = sym published;
+  seen = sym seen;
+  looked = sym looked;
+  alone = λ i. alone i ∙ (ap (λ (z : Sheet). one_if (nat_lt i (shape_of z).pieces && not (piece_word before.words i == 2))) (sym same) ∙ ap (λ (ws : List ℕ). one_if (nat_lt i (shape_of after.sheet).pieces && not (piece_word ws i == 2))) (sym e.same_words));
+}

@@ -6,3 +6,4 @@ pub mod Looked
 pub mod Needed
 pub mod RowPieces
 pub mod Runs
+pub mod Left

@@ -1,18 +1,34 @@
 -- A closed table of a page on which all work is done.
-use Rattle.std.specs.Prelude.{◌≡◌, ℕ, ◌+◌, ◌<◌, ◌≤◌, Some, None}
+use Rattle.std.specs.Prelude.{◌≡◌, ℕ, ◌+◌, ◌<◌, ◌≤◌, ◌==◌, ◌&&◌, not, nat_lt, List, Some, None}
+use Rattle.atomic_table.specs.Table.{State}
 use Rattle.page_model.specs.declared.parts.PageParts.{PageParts}
 use Rattle.band_claims.specs.declared.view.View.{View}
+use Rattle.band_claims.specs.Kinds.{Kind}
 use Rattle.band_claims.specs.Receipt.{Receipt}
-use Rattle.band_claims.specs.Rule.{cell_word, piece_word}
+use Rattle.band_claims.specs.Remembered.{Steps}
+use Rattle.band_claims.specs.Rule.{Sees, cell_word, piece_word}
 use Rattle.band_claims.specs.Sheets.{cell, shape_of, IsFit}
-use Rattle.band_claims.specs.Views.{times}
+use Rattle.band_claims.specs.Views.{one_if, times}
 use Rattle.band_workers.specs.Accounts.{IsAccounted}
 
 -- what the last pass knew, when it was given to close the table
 abbrev pub last_view : Receipt → View
 last_view receipt = record { sheet = Some receipt.sheet; held = None; filled = 0; published = receipt.published; seen = receipt.seen; looked = receipt.looked }
 
--- Every piece is done and every cell is the defined one, of that page; no piece was made twice, by passes or alone; and each piece is accounted for.
+-- The table as the passes left it: steps of the eight kinds led there from its opening, what the receipt tells of the last pass is what a seat knew then, and made alone were just the pieces that were not done.
+pub record WasLeft (receipt : Receipt) : Type 0 where
+  pub kinds : List Kind
+  pub left : State (Unit {0}) View
+  pub steps : Steps receipt.sheet kinds left
+  pub seat : ℕ
+  pub view : View
+  pub sees : Sees left seat view
+  pub published : view.published ≡ receipt.published
+  pub seen : view.seen ≡ receipt.seen
+  pub looked : view.looked ≡ receipt.looked
+  pub alone : (i : ℕ) → times i receipt.alone ≡ one_if (nat_lt i (shape_of receipt.sheet).pieces && not (piece_word left.words i == 2))
+
+-- Every piece is done and every cell is the defined one, of that page; no piece was made twice, by passes or alone; each piece is accounted for; and the passes' part was a run.
 pub record IsFinished (page : PageParts) (receipt : Receipt) : Type 0 where
   pub fit : IsFit receipt.sheet
   pub same_page : receipt.sheet.page.value ≡ page
@@ -20,3 +36,4 @@ pub record IsFinished (page : PageParts) (receipt : Receipt) : Type 0 where
   pub cells : (j : ℕ) → j < (shape_of receipt.sheet).cells → cell_word (shape_of receipt.sheet) receipt.words j ≡ cell receipt.sheet j
   pub once : (i : ℕ) → times i receipt.published + times i receipt.alone ≤ 1
   pub accounted : (i : ℕ) → i < (shape_of receipt.sheet).pieces → IsAccounted receipt.sheet.layout.bands (last_view receipt) i
+  pub run : WasLeft receipt

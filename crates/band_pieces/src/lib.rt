@@ -5,6 +5,7 @@
 mod alone;
 mod alone_puts;
 mod fills;
+pub mod laws;
 mod looks;
 mod pages;
 mod reading;

@@ -1,0 +1,100 @@
+-- What looks found is not more than the words are later.
+use Rattle.std.proofs.Common.{◌≡◌, ◌≢◌, ℕ, zero, suc, ◌+◌, ◌<◌, ◌≤◌, List, [], ◌∷◌, ◌++◌, set, sym, subst, ⊎_elim, inl, inr, arith, ne_eqb, replicate}
+use Rattle.std.proofs.lemmas.Bool.{cases_eq}
+use Rattle.std.proofs.lemmas.List.{length-replicate}
+use mathlib.Core.Option.{some, some-injective, some-ne-none}
+use lib.ListN.{get_elem?}
+use Rattle.atomic_table.specs.Table.{State}
+use Rattle.atomic_table.proofs.Lists.{at_set, at_snoc}
+use Rattle.band_board.specs.Shapes.{Shape, IsShape}
+use Rattle.band_board.proofs.TableWords.{zero_at}
+use Rattle.band_claims.specs.declared.sheet.Sheet.{Sheet}
+use Rattle.band_claims.specs.declared.view.View.{View}
+use Rattle.band_claims.specs.declared.view.Look.{Look}
+use Rattle.band_claims.specs.Kinds.{Kind, looks, wins, loses, reads, puts, finishes, splits, joins, Happens, Leads, first_state}
+use Rattle.band_claims.specs.Laws.{LooksArePast}
+use Rattle.band_claims.specs.Rule.{piece_word}
+use Rattle.band_claims.specs.Sheets.{shape_of, cell, IsFit}
+use Rattle.band_claims.specs.Views.{look, newcomer, spent, looked_at, claimed, put, finished, branched, joined}
+use Rattle.band_claims.proofs.Boards.{piece_here, piece_else, piece_stays}
+use Rattle.band_claims.proofs.Events.{keeps_rule}
+use Rattle.band_claims.proofs.Keeps.{held_by, opens}
+use Rattle.band_claims.proofs.Kept.{Kept}
+use Rattle.band_claims.proofs.Steps.{cell_some, fit_shape}
+
+abbrev Past : Shape → List ℕ → List Look → Type 0
+Past k words [] = Unit {0}
+Past k words (l ∷ ls) = (l.piece < k.pieces) × (l.word ≤ piece_word words l.piece) × Past k words ls
+
+-- no piece's word is less than it was
+abbrev Grow : Shape → List ℕ → List ℕ → Type 0
+Grow k words next = (i : ℕ) → i < k.pieces → piece_word words i ≤ piece_word next i
+
+past_later : (k : Shape) (words next : List ℕ) (ls : List Look) → Grow k words next → Past k words ls → Past k next ls
+past_later k words next [] grow h = tt
+past_later k words next (l ∷ ls) grow h = (h.0, (let b = h.1 in let g = grow l.piece h.0 in omega (arith, b, g)), past_later k words next ls grow h.2)
+
+past_more : (k : Shape) (words : List ℕ) (ls : List Look) (l : Look) → Past k words ls → l.piece < k.pieces → l.word ≤ piece_word words l.piece → Past k words (ls ++ l ∷ [])
+past_more k words [] l h piece less = (piece, less, tt)
+past_more k words (x ∷ xs) l h piece less = (h.0, h.1, past_more k words xs l h.2 piece less)
+
+past_at : (k : Shape) (words : List ℕ) (before after : List Look) (l : Look) → Past k words (before ++ l ∷ after) → l.word ≤ piece_word words l.piece
+past_at k words [] after l h = h.1
+past_at k words (x ∷ xs) after l h = past_at k words xs after l h.2
+
+module _ (k : Shape) (ok : IsShape k) (defined : ℕ → ℕ) (some_value : (j : ℕ) → j < k.cells → 1 ≤ defined j) (key : Sheet) where
+  abbrev St : Type 0
+  St = State (Unit {0}) View
+
+  abbrev AllPast : List ℕ → List View → Type 0
+  AllPast words views = (id : ℕ) (v : View) → get_elem? views id ≡ some v → Past k words v.looked
+
+  abbrev P : St → Type 0
+  P s = AllPast s.words s.views
+
+  same : (words : List ℕ) → Grow k words words
+  same words i l = omega arith
+
+  set_past : (words next : List ℕ) (views : List View) (id : ℕ) (w : View) → Grow k words next → Past k next w.looked → AllPast words views → AllPast next (set views id w)
+  set_past words next views id w grow mine all j d e = ⊎_elim (λ (t : (j ≡ id) × (w ≡ d)). subst (λ (z : View). Past k next z.looked) t.1 mine)
+      (λ (t : (j ≢ id) × (get_elem? views j ≡ some d)). past_later k words next d.looked grow (all j d t.1)) (at_set views id j w d e)
+
+  grow_piece : (s : St) (r : Kept k defined key s) (i n : ℕ) → i < k.pieces → piece_word s.words i ≤ n → Grow k s.words (set s.words i n)
+  grow_piece s r i n l less j m = elim (cases_eq j i) [
+    | inl e ↦ rw e (let h = piece_here k ok s.words r.wide i n l in omega (arith, h, less))
+    | inr ne ↦ (let h = piece_else k ok s.words r.wide i j n ne in omega (arith, h))
+  ]
+
+  step : (s t : St) (kind : Kind) → Kept k defined key s → P s → Happens k defined s kind t → P t
+  step s t (looks id i) r all h = let v = h.0 in let n : ℕ = piece_word s.words i in
+      subst P (sym h.3) (set_past s.words s.words s.views id (looked_at i n v) (same s.words) (past_more k s.words v.looked (look i n) (all id v h.1) h.2 (omega arith)) all)
+  step s t (wins id i) r all h = let less = h.2 in
+      subst P (sym h.3) (set_past s.words (set s.words i 1) s.views id (claimed i 0 h.0) (grow_piece s r i 1 h.1.piece (omega (arith, less))) tt all)
+  step s t (loses id i) r all h = let v = h.0 in let n : ℕ = piece_word s.words i in
+      let mine : Past k s.words (claimed i n v).looked = rw (ne_eqb n 0 h.2) (past_more k s.words v.looked (look i n) (all id v h.1.sees) h.1.piece (omega arith)) in
+      subst P (sym h.3) (set_past s.words s.words s.views id (claimed i n v) (same s.words) mine all)
+  step s t (reads id j) r all h = subst P (sym h.2) (set_past s.words s.words s.views id h.0 (same s.words) (all id h.0 h.1.sees) all)
+  step s t (puts id j value) r all h = let v = h.0 in
+      let grow : Grow k s.words (set s.words (k.pieces + j) value) = (λ i l. let e = piece_stays k ok s.words r.wide i j value l in omega (arith, e)) in
+      subst P (sym h.2) (set_past s.words (set s.words (k.pieces + j) value) s.views id (put v) grow (past_later k s.words (set s.words (k.pieces + j) value) v.looked grow (all id v h.1.sees)) all)
+  step s t (finishes id i) r all h = let v = h.0 in let held = held_by k ok defined some_value key s r id i v h.1.sees h.1.holding in let one = held.is_claimed in
+      subst P (sym h.2) (set_past s.words (set s.words i 2) s.views id (finished i v) (grow_piece s r i 2 held.piece (omega (arith, one))) tt all)
+  step s t (splits id) r all h = let v = h.0 in let w : View = branched v in
+      subst P (sym h.3) (λ j d e. ⊎_elim (set_past s.words s.words s.views id v (same s.words) (all id v h.1) all j d) (λ (q : w ≡ d). subst (λ (z : View). Past k s.words z.looked) q tt) (at_snoc (set s.views id v) w d j e))
+  step s t (joins id other) r all h = let v = h.0 in let w = h.1 in let both : View = joined v w in
+      subst P (sym h.3) (set_past s.words s.words (set s.views id both) other spent (same s.words) tt (set_past s.words s.words s.views id both (same s.words) (all id v h.2.sees) all))
+
+  all_steps : (s t : St) (kinds : List Kind) → Kept k defined key s → P s → Leads k defined s kinds t → P t
+  all_steps s t [] r all leads = subst P (sym leads) all
+  all_steps s t (kind ∷ kinds) r all leads = all_steps leads.0 t kinds (keeps_rule k ok defined some_value key s leads.0 kind r leads.1) (step s leads.0 kind r all leads.1) leads.2
+
+  first_past : (words : List ℕ) → AllPast words (newcomer key ∷ [])
+  first_past words zero d e = subst (λ (z : View). Past k words z.looked) (some-injective (newcomer key) d e) tt
+  first_past words (suc j) d e = absurd (some-ne-none d (sym e))
+
+pub looks_are_past : (key : Sheet) → IsFit key → LooksArePast key
+looks_are_past key fit kinds t steps id v at before after shown stands =
+    let k = shape_of key in let ok = fit_shape key fit in let words : List ℕ = replicate (k.pieces + k.cells) 0 in
+    let first = opens k ok (cell key) (cell_some key fit) key words (length-replicate (k.pieces + k.cells) 0) (zero_at (k.pieces + k.cells)) in
+    let all = all_steps k ok (cell key) (cell_some key fit) key (first_state k key) t kinds first (first_past k ok (cell key) (cell_some key fit) key words) steps in
+    past_at k t.words before after shown (subst (Past k t.words) stands (all id v at))

@@ -1,0 +1,5 @@
+use Rattle.band_claims.proofs.Steps.{ends_are_runs}
+use Rattle.band_claims.proofs.laws.ends_are_runs_law.Goals as goal
+
+pub returns : goal.returns
+returns c = ends_are_runs

@@ -1,0 +1,5 @@
+use Rattle.band_pieces.proofs.Left.{first_are_claimed}
+use Rattle.band_pieces.proofs.laws.first_are_claimed_law.Goals as goal
+
+pub returns : goal.returns
+returns c = first_are_claimed

@@ -1,0 +1,26 @@
+-- What the receipt's run says of the work that the passes left.
+use Rattle.std.specs.Prelude.{◌≡◌, ◌≢◌, ℕ, ◌<◌, List, ◌∷◌, ◌++◌, true}
+use Rattle.page_model.specs.declared.parts.PageParts.{PageParts}
+use Rattle.band_graph.specs.Needs.{is_need}
+use Rattle.band_claims.specs.declared.view.Look.{Look}
+use Rattle.band_claims.specs.Receipt.{Receipt}
+use Rattle.band_claims.specs.Rule.{piece_word}
+use Rattle.band_claims.specs.Sheets.{shape_of}
+use Rattle.band_pieces.specs.Finished.{IsFinished}
+
+-- the last pass tells of a look that found a need of the piece not done
+pub record FoundUndone (receipt : Receipt) (piece : ℕ) : Type 0 where
+  pub before : List Look
+  pub shown : Look
+  pub after : List Look
+  pub stands : receipt.looked ≡ before ++ shown ∷ after
+  pub need : is_need receipt.sheet.layout.bands piece shown.piece ≡ true
+  pub not_done : shown.word ≢ 2
+
+-- of a piece that no pass had claimed when the table was closed, a need was found not done
+abbrev pub LeftForNeeds : Type 0
+LeftForNeeds = (page : PageParts) (receipt : Receipt) → (f : IsFinished page receipt) → (i : ℕ) → i < (shape_of receipt.sheet).pieces → piece_word f.run.left.words i ≡ 0 → FoundUndone receipt i
+
+-- so each piece that needs no other was claimed by a pass
+abbrev pub FirstAreClaimed : Type 0
+FirstAreClaimed = (page : PageParts) (receipt : Receipt) → (f : IsFinished page receipt) → (i : ℕ) → i < (shape_of receipt.sheet).pieces → ((n : ℕ) → is_need receipt.sheet.layout.bands i n ≢ true) → piece_word f.run.left.words i ≢ 0
