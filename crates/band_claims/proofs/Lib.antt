@@ -10,3 +10,4 @@ pub mod Carrying
 pub mod Marks
 pub mod Crosses
 pub mod Past
+pub mod Refuted

@@ -1,5 +1,5 @@
 -- What looks found is not more than the words are later.
-use Rattle.std.proofs.Common.{◌≡◌, ◌≢◌, ℕ, zero, suc, ◌+◌, ◌<◌, ◌≤◌, List, [], ◌∷◌, ◌++◌, set, sym, subst, ⊎_elim, inl, inr, arith, ne_eqb, replicate}
+use Rattle.std.proofs.Common.{ap, refl, ◌≡◌, ◌≢◌, ℕ, zero, suc, ◌+◌, ◌<◌, ◌≤◌, List, [], ◌∷◌, ◌++◌, set, sym, subst, ⊎_elim, inl, inr, arith, ne_eqb, replicate}
 use Rattle.std.proofs.lemmas.Bool.{cases_eq}
 use Rattle.std.proofs.lemmas.List.{length-replicate}
 use mathlib.Core.Option.{some, some-injective, some-ne-none}
@@ -12,7 +12,7 @@ use Rattle.band_claims.specs.declared.sheet.Sheet.{Sheet}
 use Rattle.band_claims.specs.declared.view.View.{View}
 use Rattle.band_claims.specs.declared.view.Look.{Look}
 use Rattle.band_claims.specs.Kinds.{Kind, looks, wins, loses, reads, puts, finishes, splits, joins, Happens, Leads, first_state}
-use Rattle.band_claims.specs.Laws.{LooksArePast}
+use Rattle.band_claims.specs.Laws.{LooksArePast, LooksRise}
 use Rattle.band_claims.specs.Rule.{piece_word}
 use Rattle.band_claims.specs.Sheets.{shape_of, cell, IsFit}
 use Rattle.band_claims.specs.Views.{look, newcomer, spent, looked_at, claimed, put, finished, branched, joined}
@@ -22,9 +22,13 @@ use Rattle.band_claims.proofs.Keeps.{held_by, opens}
 use Rattle.band_claims.proofs.Kept.{Kept}
 use Rattle.band_claims.proofs.Steps.{cell_some, fit_shape}
 
+abbrev NotLess : Look → List Look → Type 0
+NotLess l [] = Unit {0}
+NotLess l (x ∷ xs) = (x.piece ≡ l.piece → l.word ≤ x.word) × NotLess l xs
+
 abbrev Past : Shape → List ℕ → List Look → Type 0
 Past k words [] = Unit {0}
-Past k words (l ∷ ls) = (l.piece < k.pieces) × (l.word ≤ piece_word words l.piece) × Past k words ls
+Past k words (l ∷ ls) = (l.piece < k.pieces) × (l.word ≤ piece_word words l.piece) × Past k words ls × NotLess l ls
 
 -- no piece's word is less than it was
 abbrev Grow : Shape → List ℕ → List ℕ → Type 0
@@ -32,11 +36,28 @@ Grow k words next = (i : ℕ) → i < k.pieces → piece_word words i ≤ piece_
 
 past_later : (k : Shape) (words next : List ℕ) (ls : List Look) → Grow k words next → Past k words ls → Past k next ls
 past_later k words next [] grow h = tt
-past_later k words next (l ∷ ls) grow h = (h.0, (let b = h.1 in let g = grow l.piece h.0 in omega (arith, b, g)), past_later k words next ls grow h.2)
+past_later k words next (l ∷ ls) grow h = (h.0, (let b = h.1 in let g = grow l.piece h.0 in omega (arith, b, g)), past_later k words next ls grow h.2, h.3)
 
-past_more : (k : Shape) (words : List ℕ) (ls : List Look) (l : Look) → Past k words ls → l.piece < k.pieces → l.word ≤ piece_word words l.piece → Past k words (ls ++ l ∷ [])
-past_more k words [] l h piece less = (piece, less, tt)
-past_more k words (x ∷ xs) l h piece less = (h.0, h.1, past_more k words xs l h.2 piece less)
+not_less : (l x : Look) (ls : List Look) → (x.piece ≡ l.piece → l.word ≤ x.word) → NotLess l ls → NotLess l (ls ++ x ∷ [])
+not_less l x [] less h = (less, tt)
+not_less l x (y ∷ ys) less h = (h.0, not_less l x ys less h.1)
+
+past_more : (k : Shape) (words : List ℕ) (ls : List Look) (l : Look) → Past k words ls → l.piece < k.pieces → l.word ≡ piece_word words l.piece → Past k words (ls ++ l ∷ [])
+past_more k words [] l h piece now = (piece, omega (arith, now), tt, tt)
+past_more k words (x ∷ xs) l h piece now = (
+  h.0,
+  h.1,
+  past_more k words xs l h.2 piece now,
+  not_less x l xs (λ e. let b = h.1 in let q = ap (piece_word words) e in omega (arith, b, now, q)) h.3,
+)
+
+no_less_at : (l x : Look) (mid after : List Look) → NotLess l (mid ++ x ∷ after) → x.piece ≡ l.piece → l.word ≤ x.word
+no_less_at l x [] after h = h.0
+no_less_at l x (y ∷ ys) after h = no_less_at l x ys after h.1
+
+past_rise : (k : Shape) (words : List ℕ) (before mid after : List Look) (l x : Look) → Past k words (before ++ l ∷ (mid ++ x ∷ after)) → x.piece ≡ l.piece → l.word ≤ x.word
+past_rise k words [] mid after l x h = no_less_at l x mid after h.3
+past_rise k words (y ∷ ys) mid after l x h = past_rise k words ys mid after l x h.2
 
 past_at : (k : Shape) (words : List ℕ) (before after : List Look) (l : Look) → Past k words (before ++ l ∷ after) → l.word ≤ piece_word words l.piece
 past_at k words [] after l h = h.1
@@ -67,11 +88,11 @@ module _ (k : Shape) (ok : IsShape k) (defined : ℕ → ℕ) (some_value : (j :
 
   step : (s t : St) (kind : Kind) → Kept k defined key s → P s → Happens k defined s kind t → P t
   step s t (looks id i) r all h = let v = h.0 in let n : ℕ = piece_word s.words i in
-      subst P (sym h.3) (set_past s.words s.words s.views id (looked_at i n v) (same s.words) (past_more k s.words v.looked (look i n) (all id v h.1) h.2 (omega arith)) all)
+      subst P (sym h.3) (set_past s.words s.words s.views id (looked_at i n v) (same s.words) (past_more k s.words v.looked (look i n) (all id v h.1) h.2 refl) all)
   step s t (wins id i) r all h = let less = h.2 in
       subst P (sym h.3) (set_past s.words (set s.words i 1) s.views id (claimed i 0 h.0) (grow_piece s r i 1 h.1.piece (omega (arith, less))) tt all)
   step s t (loses id i) r all h = let v = h.0 in let n : ℕ = piece_word s.words i in
-      let mine : Past k s.words (claimed i n v).looked = rw (ne_eqb n 0 h.2) (past_more k s.words v.looked (look i n) (all id v h.1.sees) h.1.piece (omega arith)) in
+      let mine : Past k s.words (claimed i n v).looked = rw (ne_eqb n 0 h.2) (past_more k s.words v.looked (look i n) (all id v h.1.sees) h.1.piece refl) in
       subst P (sym h.3) (set_past s.words s.words s.views id (claimed i n v) (same s.words) mine all)
   step s t (reads id j) r all h = subst P (sym h.2) (set_past s.words s.words s.views id h.0 (same s.words) (all id h.0 h.1.sees) all)
   step s t (puts id j value) r all h = let v = h.0 in
@@ -98,3 +119,10 @@ looks_are_past key fit kinds t steps id v at before after shown stands =
     let first = opens k ok (cell key) (cell_some key fit) key words (length-replicate (k.pieces + k.cells) 0) (zero_at (k.pieces + k.cells)) in
     let all = all_steps k ok (cell key) (cell_some key fit) key (first_state k key) t kinds first (first_past k ok (cell key) (cell_some key fit) key words) steps in
     past_at k t.words before after shown (subst (Past k t.words) stands (all id v at))
+
+pub looks_rise : (key : Sheet) → IsFit key → LooksRise key
+looks_rise key fit kinds t steps id v at before mid after shown later stands =
+    let k = shape_of key in let ok = fit_shape key fit in let words : List ℕ = replicate (k.pieces + k.cells) 0 in
+    let first = opens k ok (cell key) (cell_some key fit) key words (length-replicate (k.pieces + k.cells) 0) (zero_at (k.pieces + k.cells)) in
+    let all = all_steps k ok (cell key) (cell_some key fit) key (first_state k key) t kinds first (first_past k ok (cell key) (cell_some key fit) key words) steps in
+    past_rise k t.words before mid after shown later (subst (Past k t.words) stands (all id v at))

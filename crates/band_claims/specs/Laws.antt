@@ -49,3 +49,8 @@ EndsAreRuns key = (words : List ℕ) (v : View) → Ends key words v → (events
 abbrev pub LooksArePast : Sheet → Type 0
 LooksArePast key = (kinds : List Kind) (t : State (Unit {0}) View) → Steps key kinds t → (id : ℕ) (v : View) → Sees t id v
     → (before after : List Look) (shown : Look) → v.looked ≡ before ++ shown ∷ after → shown.word ≤ piece_word t.words shown.piece
+
+-- of two looks at one piece the later one found no less
+abbrev pub LooksRise : Sheet → Type 0
+LooksRise key = (kinds : List Kind) (t : State (Unit {0}) View) → Steps key kinds t → (id : ℕ) (v : View) → Sees t id v
+    → (before mid after : List Look) (shown later : Look) → v.looked ≡ before ++ shown ∷ (mid ++ later ∷ after) → later.piece ≡ shown.piece → shown.word ≤ later.word

@@ -7,3 +7,4 @@ pub mod Seating
 pub mod Kinds
 pub mod Remembered
 pub mod Laws
+pub mod Refuted

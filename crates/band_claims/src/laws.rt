@@ -2,8 +2,9 @@
 
 ghost use Rattle.band_claims.specs.declared.sheet.Sheet.{Sheet};
 ghost use Rattle.band_claims.specs.declared.view.View.{View};
-ghost use Rattle.band_claims.specs.Laws.{EndsAreRuns, HeldOnce, KeepsRule, LooksArePast, PublishedOnce, StepsAreRun};
+ghost use Rattle.band_claims.specs.Laws.{EndsAreRuns, HeldOnce, KeepsRule, LooksArePast, LooksRise, PublishedOnce, StepsAreRun};
 ghost use Rattle.band_claims.specs.Rule.{RuleOf};
+ghost use Rattle.band_claims.specs.Refuted.{MayForge};
 ghost use Rattle.band_claims.specs.Sheets.{IsFit, cell, shape_of};
 ghost use Rattle.atomic_table.specs.Table.{State};
 ghost use Rattle.band_board.specs.Runs.{Sound};
@@ -45,4 +46,18 @@ pub fn ends_are_runs_law()
 /// found not free is not free.
 pub fn looks_are_past_law()
     ensures { (key : Sheet) → IsFit key → LooksArePast key }
+{}
+
+/// Of two looks at one piece that a seat tells of, the later one found no less.
+pub fn looks_rise_law()
+    ensures { (key : Sheet) → IsFit key → LooksRise key }
+{}
+
+/// No step can be proved that tells of a piece as claimed, or as free, whatever its word is.
+pub fn no_false_claims_law()
+    ensures { (key : Sheet) → IsFit key → MayForge key 1 → ⊥ }
+{}
+
+pub fn no_false_looks_law()
+    ensures { (key : Sheet) → IsFit key → MayForge key 0 → ⊥ }
 {}

@@ -1,0 +1,5 @@
+use Rattle.band_claims.proofs.Past.{looks_rise}
+use Rattle.band_claims.proofs.laws.looks_rise_law.Goals as goal
+
+pub returns : goal.returns
+returns c = looks_rise

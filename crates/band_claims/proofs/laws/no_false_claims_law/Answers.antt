@@ -1,0 +1,5 @@
+use Rattle.band_claims.proofs.Refuted.{no_false_claims}
+use Rattle.band_claims.proofs.laws.no_false_claims_law.Goals as goal
+
+pub returns : goal.returns
+returns c = no_false_claims
