@@ -80,8 +80,8 @@ module _ (k : Shape) (ok : IsShape k) (defined : ℕ → ℕ) (some_value : (j :
       → Rule record { words = s.words; homes = s.homes; views = set s.views id (claimed i n v) }
   after_loss s r id i n v at ne =
       let t = r.seats id v at in
-      let won : View = record { sheet = v.sheet; held = Some i; filled = 0; published = v.published; seen = v.seen; looked = [] } in
-      let lost : View = record { sheet = v.sheet; held = v.held; filled = v.filled; published = v.published; seen = v.seen; looked = v.looked ++ look i n ∷ [] } in
+      let won : View = record { sheet = v.sheet; held = Some i; filled = 0; published = v.published; seen = v.seen; looked = []; told = v.told ++ look i 1 ∷ [] } in
+      let lost : View = record { sheet = v.sheet; held = v.held; filled = v.filled; published = v.published; seen = v.seen; looked = v.looked ++ look i n ∷ []; told = v.told ++ look i n ∷ [] } in
       let Q : Bool → Type 0 = λ b. Rule record { words = s.words; homes = s.homes; views = set s.views id (if b then won else lost) } in
       subst Q (sym (ne_eqb n 0 ne)) (calm s r id v lost at record { page = t.page; hand = t.hand; known = t.known } (λ j. refl) (λ j. refl))
 
@@ -98,7 +98,7 @@ module _ (k : Shape) (ok : IsShape k) (defined : ℕ → ℕ) (some_value : (j :
   other_hand v i j is ne = ap (is_hand j) is ∙ other_zero j i ne
 
   abbrev taking : View → ℕ → View
-  taking v i = record { sheet = v.sheet; held = Some i; filled = 0; published = v.published; seen = v.seen; looked = [] }
+  taking v i = record { sheet = v.sheet; held = Some i; filled = 0; published = v.published; seen = v.seen; looked = []; told = v.told ++ look i 1 ∷ [] }
 
   -- the winning exchange
   pub wins : (s : St) (r : Rule s) (id i : ℕ) (v : View) → get_elem? s.views id ≡ some v → i < k.pieces → v.held ≡ None → piece_word s.words i ≡ 0 → ((n : ℕ) → k.needs i n ≡ true → Knows v n)

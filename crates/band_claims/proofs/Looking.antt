@@ -22,6 +22,7 @@ looks_same v = record {
   same_published = refl;
   more_seen = ([], sym (append-nil v.seen));
   more_looked = ([], sym (append-nil v.looked));
+  more_told = ([], sym (append-nil v.told));
 }
 
 seen_after : (v w : View) (i n : ℕ) → Looks v w → (more : List ℕ) × ((if n == 2 then w.seen ++ i ∷ [] else w.seen) ≡ v.seen ++ more)
@@ -29,6 +30,9 @@ seen_after v w i n h = elim (cases_eq n 2) [
   | inl e ↦ (h.more_seen.0 ++ i ∷ [], rw (eq-eqb n 2 e) (ap (λ (z : List ℕ). z ++ i ∷ []) h.more_seen.1 ∙ append_assoc v.seen h.more_seen.0 (i ∷ [])))
   | inr ne ↦ (h.more_seen.0, rw (ne_eqb n 2 ne) h.more_seen.1)
 ]
+
+told_more : (v w : View) (x : Look) → Looks v w → (more : List Look) × ((w.told ++ x ∷ []) ≡ v.told ++ more)
+told_more v w x h = (h.more_told.0 ++ x ∷ [], ap (λ (z : List Look). z ++ x ∷ []) h.more_told.1 ∙ append_assoc v.told h.more_told.0 (x ∷ []))
 
 pub looks_more : (v w : View) (i n : ℕ) → Looks v w → Looks v (looked_at i n w)
 looks_more v w i n h = record {
@@ -38,6 +42,7 @@ looks_more v w i n h = record {
   same_published = h.same_published;
   more_seen = seen_after v w i n h;
   more_looked = (h.more_looked.0 ++ look i n ∷ [], ap (λ (z : List Look). z ++ look i n ∷ []) h.more_looked.1 ∙ append_assoc v.looked h.more_looked.0 (look i n ∷ []));
+  more_told = told_more v w (look i n) h;
 }
 
 pub knows_more : (w : View) (i n j : ℕ) → Knows w j → Knows (looked_at i n w) j
@@ -66,6 +71,7 @@ won_by bands piece v w n h known e = rw (eq-eqb n 0 e) record {
   same_published = h.same_published;
   more_seen = h.more_seen;
   no_looks = refl;
+  more_told = told_more v w (look piece 1) h;
   known = known;
 }
 
@@ -79,6 +85,7 @@ lost_exchange bands piece v w n h ne = rw (ne_eqb n 0 ne) record {
     same_published = h.same_published;
     more_seen = h.more_seen;
     more_looked = (h.more_looked.0 ++ look piece n ∷ [], ap (λ (z : List Look). z ++ look piece n ∷ []) h.more_looked.1 ∙ append_assoc v.looked h.more_looked.0 (look piece n ∷ []));
+    more_told = told_more v w (look piece n) h;
   };
   last = look piece n;
   found = (h.more_looked.0, ap (λ (z : List Look). z ++ look piece n ∷ []) h.more_looked.1 ∙ append_assoc v.looked h.more_looked.0 (look piece n ∷ []));

@@ -12,7 +12,7 @@ use Rattle.band_claims.specs.declared.sheet.Sheet.{Sheet}
 use Rattle.band_claims.specs.declared.view.View.{View}
 use Rattle.band_claims.specs.declared.view.Look.{Look}
 use Rattle.band_claims.specs.Kinds.{Kind, looks, wins, loses, reads, puts, finishes, splits, joins, Happens, Leads, first_state}
-use Rattle.band_claims.specs.Laws.{LooksArePast, LooksRise}
+use Rattle.band_claims.specs.Laws.{DoneStaysDone, LooksArePast, LooksRise}
 use Rattle.band_claims.specs.Rule.{piece_word}
 use Rattle.band_claims.specs.Sheets.{shape_of, cell, IsFit}
 use Rattle.band_claims.specs.Views.{look, newcomer, spent, looked_at, claimed, put, finished, branched, joined}
@@ -20,7 +20,7 @@ use Rattle.band_claims.proofs.Boards.{piece_here, piece_else, piece_stays}
 use Rattle.band_claims.proofs.Events.{keeps_rule}
 use Rattle.band_claims.proofs.Keeps.{held_by, opens}
 use Rattle.band_claims.proofs.Kept.{Kept}
-use Rattle.band_claims.proofs.Steps.{cell_some, fit_shape}
+use Rattle.band_claims.proofs.Steps.{cell_some, fit_shape, steps_are_run}
 
 abbrev NotLess : Look → List Look → Type 0
 NotLess l [] = Unit {0}
@@ -67,8 +67,11 @@ module _ (k : Shape) (ok : IsShape k) (defined : ℕ → ℕ) (some_value : (j :
   abbrev St : Type 0
   St = State (Unit {0}) View
 
+  abbrev Of : List ℕ → View → Type 0
+  Of words v = Past k words v.looked × Past k words v.told
+
   abbrev AllPast : List ℕ → List View → Type 0
-  AllPast words views = (id : ℕ) (v : View) → get_elem? views id ≡ some v → Past k words v.looked
+  AllPast words views = (id : ℕ) (v : View) → get_elem? views id ≡ some v → Of words v
 
   abbrev P : St → Type 0
   P s = AllPast s.words s.views
@@ -76,9 +79,12 @@ module _ (k : Shape) (ok : IsShape k) (defined : ℕ → ℕ) (some_value : (j :
   same : (words : List ℕ) → Grow k words words
   same words i l = omega arith
 
-  set_past : (words next : List ℕ) (views : List View) (id : ℕ) (w : View) → Grow k words next → Past k next w.looked → AllPast words views → AllPast next (set views id w)
-  set_past words next views id w grow mine all j d e = ⊎_elim (λ (t : (j ≡ id) × (w ≡ d)). subst (λ (z : View). Past k next z.looked) t.1 mine)
-      (λ (t : (j ≢ id) × (get_elem? views j ≡ some d)). past_later k words next d.looked grow (all j d t.1)) (at_set views id j w d e)
+  later : (words next : List ℕ) (v : View) → Grow k words next → Of words v → Of next v
+  later words next v grow h = (past_later k words next v.looked grow h.0, past_later k words next v.told grow h.1)
+
+  set_past : (words next : List ℕ) (views : List View) (id : ℕ) (w : View) → Grow k words next → Of next w → AllPast words views → AllPast next (set views id w)
+  set_past words next views id w grow mine all j d e = ⊎_elim (λ (t : (j ≡ id) × (w ≡ d)). subst (Of next) t.1 mine)
+      (λ (t : (j ≢ id) × (get_elem? views j ≡ some d)). later words next d grow (all j d t.1)) (at_set views id j w d e)
 
   grow_piece : (s : St) (r : Kept k defined key s) (i n : ℕ) → i < k.pieces → piece_word s.words i ≤ n → Grow k s.words (set s.words i n)
   grow_piece s r i n l less j m = elim (cases_eq j i) [
@@ -87,30 +93,38 @@ module _ (k : Shape) (ok : IsShape k) (defined : ℕ → ℕ) (some_value : (j :
   ]
 
   step : (s t : St) (kind : Kind) → Kept k defined key s → P s → Happens k defined s kind t → P t
-  step s t (looks id i) r all h = let v = h.0 in let n : ℕ = piece_word s.words i in
-      subst P (sym h.3) (set_past s.words s.words s.views id (looked_at i n v) (same s.words) (past_more k s.words v.looked (look i n) (all id v h.1) h.2 refl) all)
-  step s t (wins id i) r all h = let less = h.2 in
-      subst P (sym h.3) (set_past s.words (set s.words i 1) s.views id (claimed i 0 h.0) (grow_piece s r i 1 h.1.piece (omega (arith, less))) tt all)
-  step s t (loses id i) r all h = let v = h.0 in let n : ℕ = piece_word s.words i in
-      let mine : Past k s.words (claimed i n v).looked = rw (ne_eqb n 0 h.2) (past_more k s.words v.looked (look i n) (all id v h.1.sees) h.1.piece refl) in
+  step s t (looks id i) r all h = let v = h.0 in let n : ℕ = piece_word s.words i in let had = all id v h.1 in
+      let mine : Of s.words (looked_at i n v) = (past_more k s.words v.looked (look i n) had.0 h.2 refl, past_more k s.words v.told (look i n) had.1 h.2 refl) in
+      subst P (sym h.3) (set_past s.words s.words s.views id (looked_at i n v) (same s.words) mine all)
+  step s t (wins id i) r all h = let v = h.0 in let less = h.2 in let next : List ℕ = set s.words i 1 in
+      let grow = grow_piece s r i 1 h.1.piece (omega (arith, less)) in
+      let had = later s.words next v grow (all id v h.1.sees) in
+      let mine : Of next (claimed i 0 v) = (tt, past_more k next v.told (look i 1) had.1 h.1.piece (sym (piece_here k ok s.words r.wide i 1 h.1.piece))) in
+      subst P (sym h.3) (set_past s.words next s.views id (claimed i 0 v) grow mine all)
+  step s t (loses id i) r all h = let v = h.0 in let n : ℕ = piece_word s.words i in let had = all id v h.1.sees in
+      let mine : Of s.words (claimed i n v) = rw (ne_eqb n 0 h.2) (past_more k s.words v.looked (look i n) had.0 h.1.piece refl, past_more k s.words v.told (look i n) had.1 h.1.piece refl) in
       subst P (sym h.3) (set_past s.words s.words s.views id (claimed i n v) (same s.words) mine all)
   step s t (reads id j) r all h = subst P (sym h.2) (set_past s.words s.words s.views id h.0 (same s.words) (all id h.0 h.1.sees) all)
-  step s t (puts id j value) r all h = let v = h.0 in
-      let grow : Grow k s.words (set s.words (k.pieces + j) value) = (λ i l. let e = piece_stays k ok s.words r.wide i j value l in omega (arith, e)) in
-      subst P (sym h.2) (set_past s.words (set s.words (k.pieces + j) value) s.views id (put v) grow (past_later k s.words (set s.words (k.pieces + j) value) v.looked grow (all id v h.1.sees)) all)
+  step s t (puts id j value) r all h = let v = h.0 in let next : List ℕ = set s.words (k.pieces + j) value in
+      let grow : Grow k s.words next = (λ i l. let e = piece_stays k ok s.words r.wide i j value l in omega (arith, e)) in
+      subst P (sym h.2) (set_past s.words next s.views id (put v) grow (later s.words next v grow (all id v h.1.sees)) all)
   step s t (finishes id i) r all h = let v = h.0 in let held = held_by k ok defined some_value key s r id i v h.1.sees h.1.holding in let one = held.is_claimed in
-      subst P (sym h.2) (set_past s.words (set s.words i 2) s.views id (finished i v) (grow_piece s r i 2 held.piece (omega (arith, one))) tt all)
-  step s t (splits id) r all h = let v = h.0 in let w : View = branched v in
-      subst P (sym h.3) (λ j d e. ⊎_elim (set_past s.words s.words s.views id v (same s.words) (all id v h.1) all j d) (λ (q : w ≡ d). subst (λ (z : View). Past k s.words z.looked) q tt) (at_snoc (set s.views id v) w d j e))
+      let next : List ℕ = set s.words i 2 in let grow = grow_piece s r i 2 held.piece (omega (arith, one)) in
+      let had = later s.words next v grow (all id v h.1.sees) in
+      let mine : Of next (finished i v) = (tt, past_more k next v.told (look i 2) had.1 held.piece (sym (piece_here k ok s.words r.wide i 2 held.piece))) in
+      subst P (sym h.2) (set_past s.words next s.views id (finished i v) grow mine all)
+  step s t (splits id) r all h = let v = h.0 in let w : View = branched v in let had = all id v h.1 in
+      let mine : Of s.words w = (tt, had.1) in
+      subst P (sym h.3) (λ j d e. ⊎_elim (set_past s.words s.words s.views id v (same s.words) had all j d) (λ (q : w ≡ d). subst (Of s.words) q mine) (at_snoc (set s.views id v) w d j e))
   step s t (joins id other) r all h = let v = h.0 in let w = h.1 in let both : View = joined v w in
-      subst P (sym h.3) (set_past s.words s.words (set s.views id both) other spent (same s.words) tt (set_past s.words s.words s.views id both (same s.words) (all id v h.2.sees) all))
+      subst P (sym h.3) (set_past s.words s.words (set s.views id both) other spent (same s.words) (tt, tt) (set_past s.words s.words s.views id both (same s.words) (all id v h.2.sees) all))
 
   all_steps : (s t : St) (kinds : List Kind) → Kept k defined key s → P s → Leads k defined s kinds t → P t
   all_steps s t [] r all leads = subst P (sym leads) all
   all_steps s t (kind ∷ kinds) r all leads = all_steps leads.0 t kinds (keeps_rule k ok defined some_value key s leads.0 kind r leads.1) (step s leads.0 kind r all leads.1) leads.2
 
   first_past : (words : List ℕ) → AllPast words (newcomer key ∷ [])
-  first_past words zero d e = subst (λ (z : View). Past k words z.looked) (some-injective (newcomer key) d e) tt
+  first_past words zero d e = subst (Of words) (some-injective (newcomer key) d e) (tt, tt)
   first_past words (suc j) d e = absurd (some-ne-none d (sym e))
 
 pub looks_are_past : (key : Sheet) → IsFit key → LooksArePast key
@@ -118,11 +132,38 @@ looks_are_past key fit kinds t steps id v at before after shown stands =
     let k = shape_of key in let ok = fit_shape key fit in let words : List ℕ = replicate (k.pieces + k.cells) 0 in
     let first = opens k ok (cell key) (cell_some key fit) key words (length-replicate (k.pieces + k.cells) 0) (zero_at (k.pieces + k.cells)) in
     let all = all_steps k ok (cell key) (cell_some key fit) key (first_state k key) t kinds first (first_past k ok (cell key) (cell_some key fit) key words) steps in
-    past_at k t.words before after shown (subst (Past k t.words) stands (all id v at))
+    past_at k t.words before after shown (subst (Past k t.words) stands (all id v at).0)
 
 pub looks_rise : (key : Sheet) → IsFit key → LooksRise key
 looks_rise key fit kinds t steps id v at before mid after shown later stands =
     let k = shape_of key in let ok = fit_shape key fit in let words : List ℕ = replicate (k.pieces + k.cells) 0 in
     let first = opens k ok (cell key) (cell_some key fit) key words (length-replicate (k.pieces + k.cells) 0) (zero_at (k.pieces + k.cells)) in
     let all = all_steps k ok (cell key) (cell_some key fit) key (first_state k key) t kinds first (first_past k ok (cell key) (cell_some key fit) key words) steps in
-    past_rise k t.words before mid after shown later (subst (Past k t.words) stands (all id v at))
+    past_rise k t.words before mid after shown later (subst (Past k t.words) stands (all id v at).1)
+
+past_all : (key : Sheet) → IsFit key → (kinds : List Kind) (t : State (Unit {0}) View) → Leads (shape_of key) (cell key) (first_state (shape_of key) key) kinds t → (id : ℕ) (v : View) → get_elem? t.views id ≡ some v
+    → Past (shape_of key) t.words v.told × ((i : ℕ) → i < (shape_of key).pieces → piece_word t.words i ≤ 2)
+past_all key fit kinds t steps id v at =
+    let k = shape_of key in let ok = fit_shape key fit in let words : List ℕ = replicate (k.pieces + k.cells) 0 in
+    let first = opens k ok (cell key) (cell_some key fit) key words (length-replicate (k.pieces + k.cells) 0) (zero_at (k.pieces + k.cells)) in
+    let all = all_steps k ok (cell key) (cell_some key fit) key (first_state k key) t kinds first (first_past k ok (cell key) (cell_some key fit) key words) steps in
+    ((all id v at).1, (steps_are_run key fit kinds t steps).0.words.states)
+
+past_piece : (k : Shape) (words : List ℕ) (before after : List Look) (l : Look) → Past k words (before ++ l ∷ after) → (l.piece < k.pieces) × (l.word ≤ piece_word words l.piece)
+past_piece k words [] after l h = (h.0, h.1)
+past_piece k words (x ∷ xs) after l h = past_piece k words xs after l h.2
+
+past_tail : (k : Shape) (words : List ℕ) (before after : List Look) → Past k words (before ++ after) → Past k words after
+past_tail k words [] after h = h
+past_tail k words (x ∷ xs) after h = past_tail k words xs after h.2
+
+pub done_stays_done : (key : Sheet) → IsFit key → DoneStaysDone key
+done_stays_done key fit words v e before mid after i n stands =
+    let k = shape_of key in
+    let p = past_all key fit e.kinds e.last e.steps e.seat v e.sees in
+    let here : Past k e.last.words (before ++ look i 2 ∷ (mid ++ look i n ∷ after)) = subst (Past k e.last.words) stands p.0 in
+    let rise = past_rise k e.last.words before mid after (look i 2) (look i n) here refl in
+    let rest = past_tail k e.last.words before (look i 2 ∷ (mid ++ look i n ∷ after)) here in
+    let last = past_piece k e.last.words mid after (look i n) rest.2 in
+    let two = p.1 i last.0 in let most = last.1 in
+    omega (arith, rise, two, most)

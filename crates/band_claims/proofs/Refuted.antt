@@ -65,7 +65,7 @@ module _ (key : Sheet) (fit : IsFit key) where
       let s3 : St = moved s2 1 s2.words v in
       let r3 = next s2 s3 (looks 1 0) r2 (b, refl, some_pieces, refl) in
       let t = forge 1 (v, []) 0 some_pieces refl s3 r3 refl refl (omega (arith, one)) in
-      let told = ap (λ (m : Me (Unit {0}) View). m.0.looked) t.4 in
+      let told = ap (λ (m : Me (Unit {0}) View). m.0.told) t.4 in
       let rise = looks_rise key fit t.3.kinds _ t.3.steps 1 t.0 refl [] [] [] (look 0 n) (look 0 0) told refl in
       omega (arith, rise, one)
 

@@ -10,7 +10,7 @@ use Rattle.band_board.specs.TableWords.{board_of}
 use Rattle.band_claims.specs.declared.sheet.Sheet.{Sheet}
 use Rattle.band_claims.specs.declared.view.View.{View}
 use Rattle.band_claims.specs.declared.view.Look.{Look}
-use Rattle.band_claims.specs.Views.{times}
+use Rattle.band_claims.specs.Views.{look, times}
 use Rattle.band_claims.specs.Kinds.{Kind, Happens, Leads, events_of, first_state}
 use Rattle.band_claims.specs.Remembered.{Steps, Ends}
 use Rattle.band_claims.specs.Rule.{Ruled, RuleOf, Sees, piece_word}
@@ -50,7 +50,11 @@ abbrev pub LooksArePast : Sheet → Type 0
 LooksArePast key = (kinds : List Kind) (t : State (Unit {0}) View) → Steps key kinds t → (id : ℕ) (v : View) → Sees t id v
     → (before after : List Look) (shown : Look) → v.looked ≡ before ++ shown ∷ after → shown.word ≤ piece_word t.words shown.piece
 
--- of two looks at one piece the later one found no less
+-- of two words of one piece that a seat was told of the later one is no less
 abbrev pub LooksRise : Sheet → Type 0
 LooksRise key = (kinds : List Kind) (t : State (Unit {0}) View) → Steps key kinds t → (id : ℕ) (v : View) → Sees t id v
-    → (before mid after : List Look) (shown later : Look) → v.looked ≡ before ++ shown ∷ (mid ++ later ∷ after) → later.piece ≡ shown.piece → shown.word ≤ later.word
+    → (before mid after : List Look) (shown later : Look) → v.told ≡ before ++ shown ∷ (mid ++ later ∷ after) → later.piece ≡ shown.piece → shown.word ≤ later.word
+
+-- a piece that the last pass published or saw done is done whenever it looks again
+abbrev pub DoneStaysDone : Sheet → Type 0
+DoneStaysDone key = (words : List ℕ) (v : View) → Ends key words v → (before mid after : List Look) (i n : ℕ) → v.told ≡ before ++ look i 2 ∷ (mid ++ look i n ∷ after) → n ≡ 2

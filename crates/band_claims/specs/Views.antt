@@ -44,34 +44,34 @@ abbrev pub look : ℕ → ℕ → Look
 look i n = record { piece = i; word = n }
 
 abbrev pub newcomer : Sheet → View
-newcomer key = record { sheet = Some key; held = None; filled = 0; published = []; seen = []; looked = [] }
+newcomer key = record { sheet = Some key; held = None; filled = 0; published = []; seen = []; looked = []; told = [] }
 
 abbrev pub spent : View
-spent = record { sheet = None; held = None; filled = 0; published = []; seen = []; looked = [] }
+spent = record { sheet = None; held = None; filled = 0; published = []; seen = []; looked = []; told = [] }
 
 -- a load of the word of piece i that found n
 abbrev pub looked_at : ℕ → ℕ → View → View
-looked_at i n v = record { sheet = v.sheet; held = v.held; filled = v.filled; published = v.published; seen = (if n == 2 then v.seen ++ i ∷ [] else v.seen); looked = v.looked ++ look i n ∷ [] }
+looked_at i n v = record { sheet = v.sheet; held = v.held; filled = v.filled; published = v.published; seen = (if n == 2 then v.seen ++ i ∷ [] else v.seen); looked = v.looked ++ look i n ∷ []; told = v.told ++ look i n ∷ [] }
 
 -- an exchange of the word of piece i, from 0 to 1, that found n
 abbrev pub claimed : ℕ → ℕ → View → View
 claimed i n v =
-    if n == 0 then record { sheet = v.sheet; held = Some i; filled = 0; published = v.published; seen = v.seen; looked = [] }
-    else record { sheet = v.sheet; held = v.held; filled = v.filled; published = v.published; seen = v.seen; looked = v.looked ++ look i n ∷ [] }
+    if n == 0 then record { sheet = v.sheet; held = Some i; filled = 0; published = v.published; seen = v.seen; looked = []; told = v.told ++ look i 1 ∷ [] }
+    else record { sheet = v.sheet; held = v.held; filled = v.filled; published = v.published; seen = v.seen; looked = v.looked ++ look i n ∷ []; told = v.told ++ look i n ∷ [] }
 
 -- a store of the next cell
 abbrev pub put : View → View
-put v = record { sheet = v.sheet; held = v.held; filled = v.filled + 1; published = v.published; seen = v.seen; looked = v.looked }
+put v = record { sheet = v.sheet; held = v.held; filled = v.filled + 1; published = v.published; seen = v.seen; looked = v.looked; told = v.told }
 
 -- a store of 2 in the word of piece i
 abbrev pub finished : ℕ → View → View
-finished i v = record { sheet = v.sheet; held = None; filled = 0; published = v.published ++ i ∷ []; seen = v.seen; looked = [] }
+finished i v = record { sheet = v.sheet; held = None; filled = 0; published = v.published ++ i ∷ []; seen = v.seen; looked = []; told = v.told ++ look i 2 ∷ [] }
 
 abbrev pub branched : View → View
-branched v = record { sheet = v.sheet; held = None; filled = 0; published = []; seen = v.seen ++ v.published; looked = [] }
+branched v = record { sheet = v.sheet; held = None; filled = 0; published = []; seen = v.seen ++ v.published; looked = []; told = v.told }
 
 abbrev pub joined : View → View → View
-joined v w = record { sheet = v.sheet; held = v.held; filled = v.filled; published = v.published ++ w.published; seen = v.seen ++ w.seen; looked = v.looked }
+joined v w = record { sheet = v.sheet; held = v.held; filled = v.filled; published = v.published ++ w.published; seen = v.seen ++ w.seen; looked = v.looked; told = v.told }
 
 -- w is v after some loads of pieces' words
 pub record Looks (v w : View) : Type 0 where
@@ -81,6 +81,7 @@ pub record Looks (v w : View) : Type 0 where
   pub same_published : w.published ≡ v.published
   pub more_seen : (more : List ℕ) × (w.seen ≡ v.seen ++ more)
   pub more_looked : (more : List Look) × (w.looked ≡ v.looked ++ more)
+  pub more_told : (more : List Look) × (w.told ≡ v.told ++ more)
 
 -- the exchange won: w holds the piece, and knows each of its needs
 pub record Won (bands : Bands) (piece : ℕ) (v w : View) : Type 0 where
@@ -90,6 +91,7 @@ pub record Won (bands : Bands) (piece : ℕ) (v w : View) : Type 0 where
   pub same_published : w.published ≡ v.published
   pub more_seen : (more : List ℕ) × (w.seen ≡ v.seen ++ more)
   pub no_looks : w.looked ≡ []
+  pub more_told : (more : List Look) × (w.told ≡ v.told ++ more)
   pub known : (n : ℕ) → is_need bands piece n ≡ true → Knows w n
 
 -- why a claim fails: the last look found a need that is not done, or the piece itself not free

@@ -2,7 +2,7 @@
 
 ghost use Rattle.band_claims.specs.declared.sheet.Sheet.{Sheet};
 ghost use Rattle.band_claims.specs.declared.view.View.{View};
-ghost use Rattle.band_claims.specs.Laws.{EndsAreRuns, HeldOnce, KeepsRule, LooksArePast, LooksRise, PublishedOnce, StepsAreRun};
+ghost use Rattle.band_claims.specs.Laws.{DoneStaysDone, EndsAreRuns, HeldOnce, KeepsRule, LooksArePast, LooksRise, PublishedOnce, StepsAreRun};
 ghost use Rattle.band_claims.specs.Rule.{RuleOf};
 ghost use Rattle.band_claims.specs.Refuted.{MayForge};
 ghost use Rattle.band_claims.specs.Sheets.{IsFit, cell, shape_of};
@@ -60,4 +60,10 @@ pub fn no_false_claims_law()
 
 pub fn no_false_looks_law()
     ensures { (key : Sheet) → IsFit key → MayForge key 0 → ⊥ }
+{}
+
+/// Whatever the closed table's run was: a piece that the last pass published or saw done was never told to it, later, as
+/// not done.
+pub fn done_stays_done_law()
+    ensures { (key : Sheet) → IsFit key → DoneStaysDone key }
 {}

@@ -180,7 +180,7 @@ pub finished_has_cells : (page : PageParts) (receipt : Receipt) → IsFinished p
 finished_has_cells page receipt f i = has_cells receipt f.fit f.cells i
 
 -- what making the rest alone leaves of the run
-pub was_left : (before after : Receipt) (v : View) → Ends before.sheet before.words v → after.sheet ≡ before.sheet → after.published ≡ v.published → after.seen ≡ v.seen → after.looked ≡ v.looked
+abbrev pub was_left : (before after : Receipt) (v : View) → Ends before.sheet before.words v → after.sheet ≡ before.sheet → after.published ≡ v.published → after.seen ≡ v.seen → after.looked ≡ v.looked
     → ((i : ℕ) → times i after.alone ≡ one_if (nat_lt i (pieces_of before.sheet.layout.bands) && not (piece_word before.words i == 2))) → WasLeft after
 was_left before after v e same published seen looked alone = record {
   kinds = e.kinds;

@@ -1,27 +1,25 @@
 -- What the passes left was left for a need.
-use Rattle.std.proofs.Common.{ap, ◌∙◌, ⊎_elim, inl, inr, arith}
+use Rattle.std.proofs.Common.{ap, sym, ◌∙◌, ⊎_elim, inl, inr, arith}
 use Rattle.band_claims.specs.Rule.{piece_word}
 use Rattle.band_claims.specs.Sheets.{cell, shape_of}
-use Rattle.band_claims.specs.Views.{Knows, times}
+use Rattle.band_claims.specs.Views.{Knows}
 use Rattle.band_claims.proofs.Steps.{fit_shape, steps_are_run}
 use Rattle.band_claims.proofs.Readable.{kept}
 use Rattle.band_claims.proofs.Past.{looks_are_past}
 use Rattle.band_workers.specs.Accounts.{Shows}
-use Rattle.band_pieces.specs.Finished.{last_view}
 use Rattle.band_pieces.specs.Left.{LeftForNeeds, FirstAreClaimed}
 
 pub left_for_needs : LeftForNeeds
 left_for_needs page receipt f i l free =
     let key = receipt.sheet in let k = shape_of key in let run = f.run in
-    ⊎_elim (λ (h : Knows (last_view receipt) i).
+    ⊎_elim (λ (h : Knows f.run.view i).
     let rule = (steps_are_run key f.fit run.kinds run.left run.steps).0 in
-    let known : Knows run.view i = (let p = ap (times i) run.published in let s = ap (times i) run.seen in omega (arith, h, p, s)) in
-    let done = (((kept k (fit_shape key f.fit) (cell key) key run.left rule).seats run.seat run.view run.sees).known i known).1 in
+    let done = (((kept k (fit_shape key f.fit) (cell key) key run.left rule).seats run.seat run.view run.sees).known i h).1 in
     absurd (omega (arith, done, free)))
-    (λ (h : Shows key.layout.bands (last_view receipt) i).
-    let past = looks_are_past key f.fit run.kinds run.left run.steps run.seat run.view run.sees h.before h.after h.shown (run.looked ∙ h.stands) in
+    (λ (h : Shows key.layout.bands f.run.view i).
+    let past = looks_are_past key f.fit run.kinds run.left run.steps run.seat run.view run.sees h.before h.after h.shown h.stands in
     elim h.cause [
-      | inl need ↦ record { before = h.before; shown = h.shown; after = h.after; stands = h.stands; need = need.0; not_done = need.1 }
+      | inl need ↦ record { before = h.before; shown = h.shown; after = h.after; stands = sym run.looked ∙ h.stands; need = need.0; not_done = need.1 }
       | inr own ↦ absurd (own.1 (let e = ap (piece_word run.left.words) own.0 in omega (arith, past, e, free)))
     ])
     (f.accounted i l)

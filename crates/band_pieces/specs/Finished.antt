@@ -1,5 +1,5 @@
 -- A closed table of a page on which all work is done.
-use Rattle.std.specs.Prelude.{◌≡◌, ℕ, ◌+◌, ◌<◌, ◌≤◌, ◌==◌, ◌&&◌, not, nat_lt, List, Some, None}
+use Rattle.std.specs.Prelude.{◌≡◌, ℕ, ◌+◌, ◌<◌, ◌≤◌, ◌==◌, ◌&&◌, not, nat_lt, List}
 use Rattle.atomic_table.specs.Table.{State}
 use Rattle.page_model.specs.declared.parts.PageParts.{PageParts}
 use Rattle.band_claims.specs.declared.view.View.{View}
@@ -10,10 +10,6 @@ use Rattle.band_claims.specs.Rule.{Sees, cell_word, piece_word}
 use Rattle.band_claims.specs.Sheets.{cell, shape_of, IsFit}
 use Rattle.band_claims.specs.Views.{one_if, times}
 use Rattle.band_workers.specs.Accounts.{IsAccounted}
-
--- what the last pass knew, when it was given to close the table
-abbrev pub last_view : Receipt → View
-last_view receipt = record { sheet = Some receipt.sheet; held = None; filled = 0; published = receipt.published; seen = receipt.seen; looked = receipt.looked }
 
 -- The table as the passes left it: steps of the eight kinds led there from its opening, what the receipt tells of the last pass is what a seat knew then, and made alone were just the pieces that were not done.
 pub record WasLeft (receipt : Receipt) : Type 0 where
@@ -35,5 +31,5 @@ pub record IsFinished (page : PageParts) (receipt : Receipt) : Type 0 where
   pub done : (i : ℕ) → i < (shape_of receipt.sheet).pieces → piece_word receipt.words i ≡ 2
   pub cells : (j : ℕ) → j < (shape_of receipt.sheet).cells → cell_word (shape_of receipt.sheet) receipt.words j ≡ cell receipt.sheet j
   pub once : (i : ℕ) → times i receipt.published + times i receipt.alone ≤ 1
-  pub accounted : (i : ℕ) → i < (shape_of receipt.sheet).pieces → IsAccounted receipt.sheet.layout.bands (last_view receipt) i
   pub run : WasLeft receipt
+  pub accounted : (i : ℕ) → i < (shape_of receipt.sheet).pieces → IsAccounted receipt.sheet.layout.bands run.view i

@@ -3,9 +3,7 @@ use Rattle.band_claims.specs.declared.sheet.Sheet.{Sheet}
 use Rattle.band_claims.specs.Sheets.{IsFit, shape_of}
 use Rattle.band_claims.specs.Views.{times}
 use Rattle.band_workers.specs.Accounts.{IsAccounted}
-use Rattle.band_pieces.specs.Finished.{last_view}
 use Rattle.band_pieces.proofs.Finishing.{was_left}
-use Rattle.band_pieces.proofs.Looked.{accounted_same}
 use Rattle.band_pieces.proofs.pages.finish_table.Goals as goal
 
 pub finish_alone-requires-clause-page : goal.finish_alone-requires-clause-page
@@ -29,8 +27,6 @@ returns-clause-finished c =
       done = f.done;
       cells = f.cells;
       once = f.once;
-      accounted = λ i l. subst (λ (z : Sheet). IsAccounted z.layout.bands (last_view c.finish_alone.new.closed) i) (sym same)
-          (accounted_same c.args.shared.sheet.layout.bands c.args.pass.view (last_view c.finish_alone.new.closed) i (f.published_stays ∙ k.published) (f.seen_stays ∙ k.seen) (f.looked_stays ∙ k.looked)
-          (c.requires.accounted i (subst (λ (z : Sheet). i < (shape_of z).pieces) same l)));
       run = was_left c.close_all-closed.result c.finish_alone.new.closed c.args.pass.view k.run f.sheet (f.published_stays ∙ k.published) (f.seen_stays ∙ k.seen) (f.looked_stays ∙ k.looked) f.alone;
+      accounted = λ i l. subst (λ (z : Sheet). IsAccounted z.layout.bands c.args.pass.view i) (sym same) (c.requires.accounted i (subst (λ (z : Sheet). i < (shape_of z).pieces) same l));
     }
