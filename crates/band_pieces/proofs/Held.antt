@@ -14,8 +14,8 @@ use Rattle.row_cells.specs.Places.{per_row, value_total}
 use Rattle.band_core.specs.Values.{IsFor, row_value, value}
 use Rattle.band_claims.specs.declared.sheet.Sheet.{Sheet}
 use Rattle.band_claims.specs.Sheets.{IsFit}
-use Rattle.band_values.specs.declared.rows.Rows.{Rows}
-use Rattle.band_values.specs.Rows.{HoldsAnswers, HoldsMarks, HoldsRows, HoldsTints, HoldsZones, answer_value, tint_value, zone_value}
+use Rattle.row_values.specs.declared.rows.Rows.{Rows}
+use Rattle.row_values.specs.Rows.{HoldsAnswers, HoldsMarks, HoldsRows, HoldsTints, HoldsZones, answer_value, tint_value, zone_value}
 use Rattle.band_workers.specs.Filled.{AreValues}
 use Rattle.band_pieces.specs.Spans.{rows_of_piece}
 

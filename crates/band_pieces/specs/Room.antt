@@ -1,6 +1,6 @@
 -- How much memory a worker has.
 use Rattle.std.specs.Prelude.{◌≡◌, ℕ, ◌+◌, ◌*◌, ◌≤◌, min}
-use Rattle.band_values.specs.Room.{Room}
+use Rattle.row_values.specs.Room.{Room}
 use Rattle.page_model.specs.Columns.{halo}
 use Rattle.row_cells.specs.Layouts.{Layout, IsLayout}
 use Rattle.row_cells.specs.Places.{per_row}

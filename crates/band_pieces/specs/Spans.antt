@@ -1,6 +1,6 @@
 -- The rows of a piece's band.
 use Rattle.std.specs.Prelude.{ℕ}
-use Rattle.band_values.specs.declared.rows.Rows.{Rows}
+use Rattle.row_values.specs.declared.rows.Rows.{Rows}
 use Rattle.page_model.specs.declared.bands.Bands.{Bands}
 use Rattle.page_model.specs.Bands.{band_of, first_row, rows_in}
 

@@ -1,16 +1,16 @@
 // The values of a page's rows, read from the cells of a table whose pieces are done.
 ghost use Rattle.std.specs.Prelude.{◌≡◌, ℕ, ◌+◌, ◌*◌, ◌<◌, ◌≤◌, length, slice_index};
 ghost use Rattle.band_claims.specs.Sheets.{IsFit};
-ghost use Rattle.band_values.specs.Rows.{HoldsMarks, HoldsTints, HoldsZones};
+ghost use Rattle.row_values.specs.Rows.{HoldsMarks, HoldsTints, HoldsZones};
 ghost use Rattle.page_model.specs.Bands.{pieces_of};
 ghost use Rattle.page_model.specs.Page.{height, plates, width};
 ghost use Rattle.page_model.specs.Tints.{new};
 
 use crate::rows::{read_plate_row, read_rows};
 use crate::sources::CellSource;
-use band_values::Rows;
 use page_model::page::Page;
 use row_cells::layout::Layout;
+use row_values::Rows;
 
 /// The zones of these rows, from the cells of their bands.
 pub fn read_zones<S, C: CellSource<S>>(

@@ -2,16 +2,16 @@
 ghost use Rattle.std.specs.Prelude.{◌≡◌, ℕ, ◌+◌, ◌*◌, ◌<◌, ◌≤◌, length, slice_index};
 ghost use Rattle.band_claims.specs.Sheets.{IsFit};
 ghost use Rattle.band_core.specs.Values.{row_value};
-ghost use Rattle.band_values.specs.Rows.{HoldsRows};
+ghost use Rattle.row_values.specs.Rows.{HoldsRows};
 ghost use Rattle.page_model.specs.Bands.{band_of_row, piece_of};
 ghost use Rattle.row_cells.specs.Places.{bits_of, per_row};
 
 use crate::reading::{Run, read_values};
 use crate::sources::CellSource;
 use band_graph::needs::piece;
-use band_values::Rows;
 use row_cells::layout::Layout;
 use row_cells::values::CellValue;
+use row_values::Rows;
 
 /// The values of a phase of row k of these rows.
 fn read_row<S, C: CellSource<S>, V: CellValue>(

@@ -8,12 +8,12 @@ ghost use Rattle.page_model.specs.Reach.{page_reach};
 use crate::fills::fill;
 use crate::sinks::CellSink;
 use band_claims::{Pass, Shared};
-use band_values::Workspace;
 use band_workers::Maker;
 use page_model::bands::Bands;
 use page_model::page::Page;
 use page_model::parts::OutOfMemory;
 use row_cells::layout::Layout;
+use row_values::Workspace;
 use std::alloc::Global;
 use std::marker::Model;
 

@@ -4,8 +4,8 @@ ghost use Rattle.page_model.specs.Bands.{AreBands, pieces_of};
 ghost use Rattle.page_model.specs.Columns.{halo};
 ghost use Rattle.band_pieces.specs.Spans.{rows_of_piece};
 
-use band_values::Rows;
 use page_model::bands::Bands;
+use row_values::Rows;
 
 /// The rows of the band of a piece.
 pub(crate) fn rows_of(bands: &Bands, piece: u32) -> Rows

@@ -16,14 +16,14 @@ use Rattle.page_run.specs.Text.{usage_line}
 use Rattle.page_writing.specs.Files.{Written as File, names_of, put_all}
 use Rattle.page_writing.specs.Writing.{Breaks, BreaksAt, WritesAll}
 use Rattle.run_reading.specs.Words.{RunWords, order_of, sources_of, targets_of}
-use Rattle.run_verdicts.specs.declared.stop.RunStop.{RunStop}
-use Rattle.run_verdicts.specs.declared.stop.RunStop.TheVariants as stops
-use Rattle.run_verdicts.specs.Pages.{AreMade, run_files, run_names, run_reads, target_at}
-use Rattle.run_verdicts.specs.RunVerdicts.{RunVerdict, AllEnd, HasPages, IsRunVerdict, status_of_verdict}
-use Rattle.run_verdicts.specs.RunVerdicts.RunVerdict.{Stopped, Out}
-use Rattle.run_verdicts.specs.Stops.{RefusesRun, line_of_stop, status_of_stop}
-use Rattle.run_verdicts.proofs.RunLemmas.{one_run_verdict}
-use Rattle.run_verdicts.proofs.SomeRunLemmas.{some_run_verdict}
+use Rattle.traprun_verdicts.specs.declared.stop.RunStop.{RunStop}
+use Rattle.traprun_verdicts.specs.declared.stop.RunStop.TheVariants as stops
+use Rattle.traprun_verdicts.specs.Pages.{AreMade, run_files, run_names, run_reads, target_at}
+use Rattle.traprun_verdicts.specs.RunVerdicts.{RunVerdict, AllEnd, HasPages, IsRunVerdict, status_of_verdict}
+use Rattle.traprun_verdicts.specs.RunVerdicts.RunVerdict.{Stopped, Out}
+use Rattle.traprun_verdicts.specs.Stops.{RefusesRun, line_of_stop, status_of_stop}
+use Rattle.traprun_verdicts.proofs.RunLemmas.{one_run_verdict}
+use Rattle.traprun_verdicts.proofs.SomeRunLemmas.{some_run_verdict}
 use Rattle.trap_report.specs.declared.refusal.Refusal.TheVariants as refusals
 use Rattle.page_run.proofs.PageLemmas.{some_run_files}
 use Rattle.trap_report.specs.Telling.{KeepsFiles, TellsText, TellsBehindFault}

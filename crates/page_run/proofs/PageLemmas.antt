@@ -22,11 +22,11 @@ use Rattle.page_writing.specs.Writing.{WritesAll}
 use Rattle.page_writing.proofs.Steps.{wrote_none}
 use Rattle.run_reading.specs.Gathering.{IsJobOf, IsPageMade, StopsPage}
 use Rattle.run_reading.proofs.ImageLemmas.{unbroken_before}
-use Rattle.run_verdicts.specs.declared.stop.RunStop.{RunStop}
-use Rattle.run_verdicts.specs.declared.stop.RunStop.TheVariants.{AtPage, Ends}
-use Rattle.run_verdicts.specs.Images.{page_spelling}
-use Rattle.run_verdicts.specs.Pages.{AreMade, pages_of, run_files, run_names, run_reads, target_at}
-use Rattle.run_verdicts.specs.RunVerdicts.{ComesTo, PlateEnds}
+use Rattle.traprun_verdicts.specs.declared.stop.RunStop.{RunStop}
+use Rattle.traprun_verdicts.specs.declared.stop.RunStop.TheVariants.{AtPage, Ends}
+use Rattle.traprun_verdicts.specs.Images.{page_spelling}
+use Rattle.traprun_verdicts.specs.Pages.{AreMade, pages_of, run_files, run_names, run_reads, target_at}
+use Rattle.traprun_verdicts.specs.RunVerdicts.{ComesTo, PlateEnds}
 use Rattle.trap_report.specs.declared.refusal.Refusal.TheVariants.{Read, Write}
 use Rattle.trap_report.specs.Report.{report_of}
 use Rattle.verdicts.specs.Verdicts.{Targets, IsVerdict, Refused, outcome, written_names}

@@ -16,10 +16,10 @@ use Rattle.run_reading.specs.Held.{order_in}
 use Rattle.run_reading.specs.Words.{targets_of}
 use Rattle.run_reading.specs.declared.words.RunOrder.{RunOrder}
 use Rattle.run_reading.specs.Gathering.{GathersPage, IsPageMade, StopsPage}
-use Rattle.run_verdicts.specs.declared.stop.RunStop.{RunStop}
-use Rattle.run_verdicts.specs.declared.stop.RunStop.TheVariants.{Whole}
-use Rattle.run_verdicts.specs.Pages.{numbered, target_at}
-use Rattle.run_verdicts.specs.Stops.{stop_at}
+use Rattle.traprun_verdicts.specs.declared.stop.RunStop.{RunStop}
+use Rattle.traprun_verdicts.specs.declared.stop.RunStop.TheVariants.{Whole}
+use Rattle.traprun_verdicts.specs.Pages.{numbered, target_at}
+use Rattle.traprun_verdicts.specs.Stops.{stop_at}
 use Rattle.trap_report.specs.declared.refusal.Refusal.{Refusal}
 use Rattle.trap_report.specs.declared.refusal.Refusal.TheVariants.{Usage, Job, NoDetails, Plate, Page, Read, Write, Memory}
 use Rattle.verdicts.specs.Verdicts.{Targets, outcome}

@@ -16,8 +16,8 @@ use Rattle.pgm_plates.specs.declared.plate.PlateFault.{PlateFault}
 use Rattle.pgm_plates.specs.declared.plate.PlateFault.TheVariants.{BadMagic, BadHeader, SideRange, TooManySamples, MaxvalRange, SampleAboveMaxval, Truncated, TrailingBytes}
 use Rattle.pgm_plates.specs.declared.plate.PlateRefusal.TheVariants.{Fault}
 use Rattle.pgm_plates.specs.Reading.{KeepsCount}
-use Rattle.page_jobs.specs.declared.run.RunRefusal.{RunRefusal}
-use Rattle.page_jobs.specs.Runs.{count_of}
+use Rattle.job_pages.specs.declared.run.RunRefusal.{RunRefusal}
+use Rattle.job_pages.specs.Runs.{count_of}
 use Rattle.run_reading.specs.Gathering.{HoldsRun, IsJobOf}
 use Rattle.run_reading.specs.Held.{order_in}
 use Rattle.run_reading.specs.Words.{sources_of, targets_of}
@@ -26,11 +26,11 @@ use Rattle.run_reading.specs.declared.words.RunOrder.{RunOrder}
 use Rattle.run_reading.proofs.JobLemmas.{counted}
 use Rattle.run_reading.specs.Reading.{AnswersBehind, AnswersRunJob, LookStops, LooksBehind, ReadsRunJob}
 use Rattle.run_reading.proofs.ImageLemmas.{count_then, unbroken_before}
-use Rattle.run_verdicts.specs.declared.stop.RunStop.{RunStop}
-use Rattle.run_verdicts.specs.declared.stop.RunStop.TheVariants.{Whole, TooManyPages, Extra}
-use Rattle.run_verdicts.specs.Images.{HasImage, HasImageFault, HasNoImage}
-use Rattle.run_verdicts.specs.Pages.{pages_of, run_reads}
-use Rattle.run_verdicts.specs.RunVerdicts.{AllEnd, AllMade, HasPages, LooksLast}
+use Rattle.traprun_verdicts.specs.declared.stop.RunStop.{RunStop}
+use Rattle.traprun_verdicts.specs.declared.stop.RunStop.TheVariants.{Whole, TooManyPages, Extra}
+use Rattle.traprun_verdicts.specs.Images.{HasImage, HasImageFault, HasNoImage}
+use Rattle.traprun_verdicts.specs.Pages.{pages_of, run_reads}
+use Rattle.traprun_verdicts.specs.RunVerdicts.{AllEnd, AllMade, HasPages, LooksLast}
 use Rattle.trap_report.specs.declared.refusal.Refusal.TheVariants.{Job, Plate, Read, Memory}
 use Rattle.verdicts.specs.Verdicts.{Targets}
 

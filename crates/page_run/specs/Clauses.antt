@@ -11,11 +11,11 @@ use Rattle.page_run.specs.Text.{usage_line}
 use Rattle.run_reading.specs.Words.{RunWords, order_of, sources_of, targets_of}
 use Rattle.page_writing.specs.Files.{Written, put_all}
 use Rattle.page_writing.specs.Writing.{Breaks, WritesAll}
-use Rattle.run_verdicts.specs.declared.stop.RunStop.{RunStop}
-use Rattle.run_verdicts.specs.declared.stop.RunStop.TheVariants.{AtPage}
-use Rattle.run_verdicts.specs.Pages.{AreMade, run_files, run_names, run_reads, target_at}
-use Rattle.run_verdicts.specs.RunVerdicts.{RunVerdict, AllEnd, HasPages, IsRunVerdict, Stopped, Out, status_of_verdict}
-use Rattle.run_verdicts.specs.Stops.{line_of_stop, status_of_stop}
+use Rattle.traprun_verdicts.specs.declared.stop.RunStop.{RunStop}
+use Rattle.traprun_verdicts.specs.declared.stop.RunStop.TheVariants.{AtPage}
+use Rattle.traprun_verdicts.specs.Pages.{AreMade, run_files, run_names, run_reads, target_at}
+use Rattle.traprun_verdicts.specs.RunVerdicts.{RunVerdict, AllEnd, HasPages, IsRunVerdict, Stopped, Out, status_of_verdict}
+use Rattle.traprun_verdicts.specs.Stops.{line_of_stop, status_of_stop}
 use Rattle.trap_report.specs.declared.refusal.Refusal.TheVariants.{Write}
 use Rattle.trap_report.specs.Statuses.{done, usage, job_refused, page_refused, not_read, not_written, out_of_memory}
 use Rattle.trap_report.specs.Telling.{TellsText, TellsBehindFault}

@@ -12,11 +12,11 @@ use Rattle.run_reading.specs.Gathering.{IsJobOf, PageBreaks, page_reads}
 use Rattle.run_reading.specs.Reading.{IsUnbroken}
 use Rattle.page_run.specs.Text.{usage_line}
 use Rattle.run_reading.specs.Words.{RunWords, order_of, sources_of, targets_of}
-use Rattle.run_verdicts.specs.declared.stop.RunStop.{RunStop}
-use Rattle.run_verdicts.specs.declared.stop.RunStop.TheVariants.{Whole, AtPage, Ends, Extra}
-use Rattle.run_verdicts.specs.Pages.{AreMade, pages_of, run_files, run_names, run_reads, target_at}
-use Rattle.run_verdicts.specs.RunVerdicts.{AllEnd, HasPages, IsRunVerdict, Stopped}
-use Rattle.run_verdicts.specs.Stops.{RefusesRun, status_of_stop}
+use Rattle.traprun_verdicts.specs.declared.stop.RunStop.{RunStop}
+use Rattle.traprun_verdicts.specs.declared.stop.RunStop.TheVariants.{Whole, AtPage, Ends, Extra}
+use Rattle.traprun_verdicts.specs.Pages.{AreMade, pages_of, run_files, run_names, run_reads, target_at}
+use Rattle.traprun_verdicts.specs.RunVerdicts.{AllEnd, HasPages, IsRunVerdict, Stopped}
+use Rattle.traprun_verdicts.specs.Stops.{RefusesRun, status_of_stop}
 use Rattle.trap_report.specs.declared.refusal.Refusal.TheVariants.{Plate, Read, Write, Memory}
 use Rattle.trap_report.specs.Statuses.{done as is_done, usage, job_refused, page_refused}
 use Rattle.trap_report.specs.Telling.{KeepsFiles, TellsText}

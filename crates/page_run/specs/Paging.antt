@@ -8,9 +8,9 @@ use Rattle.page_model.specs.declared.parts.PageParts.{PageParts}
 use Rattle.page_model.specs.Conditions.{IsPage}
 use Rattle.page_writing.specs.Writing.{WritesAll, Breaks}
 use Rattle.run_reading.specs.Gathering.{IsJobOf, IsPageMade, StopsPage}
-use Rattle.run_verdicts.specs.declared.stop.RunStop.{RunStop}
-use Rattle.run_verdicts.specs.declared.stop.RunStop.TheVariants.{Whole, AtPage}
-use Rattle.run_verdicts.specs.Pages.{target_at}
+use Rattle.traprun_verdicts.specs.declared.stop.RunStop.{RunStop}
+use Rattle.traprun_verdicts.specs.declared.stop.RunStop.TheVariants.{Whole, AtPage}
+use Rattle.traprun_verdicts.specs.Pages.{target_at}
 use Rattle.trap_report.specs.declared.refusal.Refusal.TheVariants.{Write, Memory}
 use Rattle.verdicts.specs.Verdicts.{Targets, outcome, written_names}
 

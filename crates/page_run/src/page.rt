@@ -1,5 +1,5 @@
 ghost use Rattle.std.specs.Prelude.{◌≡◌, length};
-ghost use Rattle.page_jobs.specs.Runs.{HasPage};
+ghost use Rattle.job_pages.specs.Runs.{HasPage};
 ghost use Rattle.page_model.specs.Page.{plates};
 ghost use Rattle.page_run.specs.Paging.{PutsPage, StepsPage};
 ghost use Rattle.run_reading.specs.Held.{IsHeld, IsWithin, order_in};
@@ -13,10 +13,10 @@ use page_output::output::{PageOrder, put_out};
 use run_reading::files::{numbered, outputs_at};
 use run_reading::gather::{Held, gather_page};
 use run_reading::words::RunOrder;
-use run_verdicts::stop::{RunStop, stop_at};
 use std::alloc::Global;
 use std::thread::Threads;
 use trap_report::refusal::Refusal;
+use traprun_verdicts::stop::{RunStop, stop_at};
 
 /// Reads the page of that number, traps it, and writes its files.
 pub(crate) fn trap_one<H: Threads + Sync, T: Tray, R: Rack, G: Gate + Sync>(

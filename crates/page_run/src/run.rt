@@ -10,11 +10,11 @@ use outside::tray::Tray;
 use run_reading::behind::look_behind;
 use run_reading::gather::{Held, hold};
 use run_reading::words::RunOrder;
-use run_verdicts::stop::RunStop;
-use run_verdicts::telling::refuse_run;
 use std::alloc::Global;
 use std::thread::Threads;
 use trap_report::statuses::DONE;
+use traprun_verdicts::stop::RunStop;
+use traprun_verdicts::telling::refuse_run;
 
 // Carries out a run, and gives the status that it ends with.
 pub(crate) fn run_order<H: Threads + Sync, T: Tray, R: Rack, G: Gate + Sync>(

@@ -7,8 +7,8 @@ ghost use Rattle.page_model.specs.Page.{height, plates, width};
 
 use band_claims::Closed;
 use band_pieces::{read_marks, read_tints, read_zones};
-use band_values::Rows;
 use page_model::page::Page;
+use row_values::Rows;
 
 fn tint_at(plate: usize, x: usize) -> u16 {
     match plate {

@@ -2,7 +2,7 @@
 use Rattle.std.specs.Prelude.{ℕ, List, ◌++◌, codes, decimal}
 use Rattle.page_model.specs.declared.parts.PageParts.{PageParts}
 use Rattle.page_model.specs.Tints.{trapped_planes}
-use Rattle.press_risk.specs.Risk.{risk}
+use Rattle.misregister.specs.Risk.{risk}
 use Rattle.trap_report.specs.Report.{line}
 
 -- the radius, and how many samples are at risk before trapping and after

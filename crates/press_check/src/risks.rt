@@ -2,15 +2,15 @@ ghost use Rattle.std.specs.Prelude.{◌≡◌, ◌<◌, ◌≤◌, IfOk};
 ghost use Rattle.page_model.specs.Conditions.{IsPage};
 ghost use Rattle.plane_shapes.specs.Shapes.{AreOneShape};
 ghost use Rattle.press_check.specs.Text.{text_of};
-ghost use Rattle.press_risk.specs.Risk.{risk};
+ghost use Rattle.misregister.specs.Risk.{risk};
 
 use crate::text::check_text;
+use misregister::sheet::Sheet;
+use misregister::{RiskBuf, risk_count};
 use page_model::page::Page;
 use page_model::parts::{Name, OutOfMemory, PlaneList};
 use page_model::steps::Steps;
 use plane_shapes::laws::page_planes_law;
-use press_risk::sheet::Sheet;
-use press_risk::{RiskBuf, risk_count};
 use std::alloc::Global;
 use std::marker::Brand;
 use std::sync::ledger::{Blank, Ledger};

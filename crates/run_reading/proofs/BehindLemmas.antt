@@ -14,9 +14,9 @@ use Rattle.pgm_plates.specs.Sequences.{ReadsPage}
 use Rattle.run_reading.specs.Reading.{AnswersBehind, AnswersLook, LookStops, LooksAtOne, LooksBehind}
 use Rattle.run_reading.specs.Reading.{AnswersBehind as all, AnswersLook as one}
 use Rattle.run_reading.proofs.ImageLemmas.{asked_more, count_then, fault_count, has_fault, has_image, has_none, unbroken, unbroken_before}
-use Rattle.run_verdicts.specs.declared.stop.RunStop.{RunStop}
-use Rattle.run_verdicts.specs.declared.stop.RunStop.TheVariants.{Whole, Extra}
-use Rattle.run_verdicts.specs.Images.{HasImage, HasImageFault, HasNoImage}
+use Rattle.traprun_verdicts.specs.declared.stop.RunStop.{RunStop}
+use Rattle.traprun_verdicts.specs.declared.stop.RunStop.TheVariants.{Whole, Extra}
+use Rattle.traprun_verdicts.specs.Images.{HasImage, HasImageFault, HasNoImage}
 use Rattle.trap_report.specs.declared.refusal.Refusal.TheVariants.{Plate, Read, Memory}
 
 pub look_ended : (k plate : ℕ) (name : List ℕ) (a b : TrayState) → ReadsPage name k a b (Ok None) → LooksAtOne k plate name a b (Ok tt)

@@ -9,9 +9,9 @@ use Rattle.run_reading.specs.Reading.{AnswersRunJob, ReadsRunJob}
 use Rattle.run_reading.specs.Reading.{AnswersRunJob as answers}
 use Rattle.plain_words.specs.Plates.{inputs_of}
 use Rattle.run_reading.specs.declared.gather.Held.{Held}
-use Rattle.run_verdicts.specs.declared.stop.RunStop.{RunStop}
-use Rattle.run_verdicts.specs.declared.stop.RunStop.TheVariants.{Whole, TooManyPages}
-use Rattle.run_verdicts.specs.Pages.{pages_of}
+use Rattle.traprun_verdicts.specs.declared.stop.RunStop.{RunStop}
+use Rattle.traprun_verdicts.specs.declared.stop.RunStop.TheVariants.{Whole, TooManyPages}
+use Rattle.traprun_verdicts.specs.Pages.{pages_of}
 use Rattle.trap_report.specs.declared.refusal.Refusal.TheVariants.{Job, Read, Memory}
 
 -- there are as many files as plates, and as many names

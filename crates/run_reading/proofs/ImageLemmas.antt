@@ -18,10 +18,10 @@ use Rattle.pgm_plates.specs.Sequences.{IsSequence, ReadsPage, StandsBehind}
 use Rattle.pgm_plates.proofs.Facts.{fault_stays}
 use Rattle.run_reading.specs.Reading.{AnswersImages, AnswersOneImage, IsUnbroken, ReadsImages, ReadsOneImage, StopsAt}
 use Rattle.run_reading.specs.Reading.{AnswersImages as all, AnswersOneImage as one}
-use Rattle.run_verdicts.specs.declared.stop.RunStop.{RunStop}
-use Rattle.run_verdicts.specs.declared.stop.RunStop.TheVariants.{Whole, AtPage, Ends}
-use Rattle.run_verdicts.specs.Images.{HasImage, HasImageFault, HasNoImage, page_spelling}
-use Rattle.run_verdicts.proofs.FrontLemmas.{cut_or_not}
+use Rattle.traprun_verdicts.specs.declared.stop.RunStop.{RunStop}
+use Rattle.traprun_verdicts.specs.declared.stop.RunStop.TheVariants.{Whole, AtPage, Ends}
+use Rattle.traprun_verdicts.specs.Images.{HasImage, HasImageFault, HasNoImage, page_spelling}
+use Rattle.traprun_verdicts.proofs.FrontLemmas.{cut_or_not}
 use Rattle.trap_report.specs.declared.refusal.Refusal.TheVariants.{Plate, Read, Memory}
 
 -- what stands behind plate files, where more is left of the file

@@ -5,14 +5,14 @@ use Rattle.std.proofs.lemmas.List.{take_all, length-take}
 use Rattle.outside.specs.Causes.{Asks}
 use Rattle.outside.specs.Tray.{TrayState, KeepsTray}
 use Rattle.outside.specs.Reading.{TakesFront}
-use Rattle.page_jobs.specs.declared.run.RunRefusal.{RunRefusal}
-use Rattle.page_jobs.specs.declared.run.RunRefusal.TheVariants.{Fault, TooManyPages as HasTooMany}
-use Rattle.page_jobs.specs.Runs.{count_of}
+use Rattle.job_pages.specs.declared.run.RunRefusal.{RunRefusal}
+use Rattle.job_pages.specs.declared.run.RunRefusal.TheVariants.{Fault, TooManyPages as HasTooMany}
+use Rattle.job_pages.specs.Runs.{count_of}
 use Rattle.ps_tokens.specs.declared.faults.FaultKind.TheVariants.{JobTooLong}
 use Rattle.run_reading.specs.Reading.{AnswersRunJob, JudgesRun, ReadsRunJob}
 use Rattle.run_reading.specs.Reading.{JudgesRun as judges, AnswersRunJob as answers}
-use Rattle.run_verdicts.specs.declared.stop.RunStop.{RunStop}
-use Rattle.run_verdicts.specs.Pages.{pages_of}
+use Rattle.traprun_verdicts.specs.declared.stop.RunStop.{RunStop}
+use Rattle.traprun_verdicts.specs.Pages.{pages_of}
 
 -- as many bytes as a job may have, and one
 abbrev most : ℕ

@@ -9,7 +9,7 @@ use Rattle.page_gather.specs.Assembly.{CanAssemble, assembly, assembled, detaile
 use Rattle.page_gather.specs.Inputs.{Sources, Holds, AreRead, Makes}
 use Rattle.page_gather.specs.Steps.{PassesNoFault}
 use Rattle.page_gather.proofs.GatherLemmas.{NoneOther, none_other}
-use Rattle.page_jobs.specs.Runs.{page_job_of}
+use Rattle.job_pages.specs.Runs.{page_job_of}
 use Rattle.page_model.specs.declared.page.PageFault.{PageFault}
 use Rattle.page_model.specs.declared.parts.PageParts.{PageParts}
 use Rattle.page_model.specs.Faults.{page_fault}
@@ -28,10 +28,10 @@ use Rattle.run_reading.specs.Gathering.{GathersPage, IsJobOf, StopsPage, job_sto
 use Rattle.run_reading.specs.Gathering.{StopsPage as stops}
 use Rattle.run_reading.specs.Reading.{AnswersImages, ReadsImages}
 use Rattle.run_reading.specs.Reading.{AnswersImages as all}
-use Rattle.run_verdicts.specs.declared.stop.RunStop.{RunStop}
-use Rattle.run_verdicts.specs.declared.stop.RunStop.TheVariants.{Whole, AtPage, Ends}
-use Rattle.run_verdicts.specs.Images.{page_spelling}
-use Rattle.run_verdicts.specs.Stops.{stop_at}
+use Rattle.traprun_verdicts.specs.declared.stop.RunStop.{RunStop}
+use Rattle.traprun_verdicts.specs.declared.stop.RunStop.TheVariants.{Whole, AtPage, Ends}
+use Rattle.traprun_verdicts.specs.Images.{page_spelling}
+use Rattle.traprun_verdicts.specs.Stops.{stop_at}
 use Rattle.trap_report.specs.declared.refusal.Refusal.{Refusal}
 use Rattle.trap_report.specs.declared.refusal.Refusal.TheVariants.{Usage, Job, NoDetails, Plate, Page, Read, Write, Memory}
 

@@ -14,11 +14,11 @@ use Rattle.run_reading.specs.Held.{IsHeld}
 use Rattle.run_reading.specs.Reading.{IsUnbroken, ReadsRunJob}
 use Rattle.run_reading.specs.declared.gather.Held.{Held}
 use Rattle.run_reading.specs.declared.words.RunOrder.{RunOrder}
-use Rattle.run_verdicts.specs.declared.stop.RunStop.{RunStop}
-use Rattle.run_verdicts.specs.declared.stop.RunStop.TheVariants.{Whole, AtPage, Ends}
-use Rattle.run_verdicts.specs.Images.{page_spelling}
-use Rattle.run_verdicts.specs.Pages.{pages_of}
-use Rattle.run_verdicts.specs.RunVerdicts.{PlateEnds}
+use Rattle.traprun_verdicts.specs.declared.stop.RunStop.{RunStop}
+use Rattle.traprun_verdicts.specs.declared.stop.RunStop.TheVariants.{Whole, AtPage, Ends}
+use Rattle.traprun_verdicts.specs.Images.{page_spelling}
+use Rattle.traprun_verdicts.specs.Pages.{pages_of}
+use Rattle.traprun_verdicts.specs.RunVerdicts.{PlateEnds}
 use Rattle.trap_report.specs.declared.refusal.Refusal.{Refusal}
 use Rattle.trap_report.specs.declared.refusal.Refusal.TheVariants.{Job, Plate, Read, Memory}
 use Rattle.trap_report.specs.Refusals.{status_of}

@@ -3,7 +3,7 @@ use Rattle.std.specs.Prelude.{◌≡◌, ℕ, ◌<◌, ◌+◌, IsTrue, List, []
 use Rattle.outside.specs.Causes.{Rose, Asks, AsksFront}
 use Rattle.outside.specs.Tray.{TrayState, KeepsTray}
 use Rattle.page_gather.specs.Inputs.{Holds, AreRead, name_at}
-use Rattle.page_jobs.specs.declared.run.RunRefusal.TheVariants.{Fault as JobFails, TooManyPages as HasTooMany}
+use Rattle.job_pages.specs.declared.run.RunRefusal.TheVariants.{Fault as JobFails, TooManyPages as HasTooMany}
 use Rattle.pgm_plates.specs.declared.plate.Plate.{Plate as PlateRead}
 use Rattle.pgm_plates.specs.declared.plate.PlateFault.{PlateFault}
 use Rattle.pgm_plates.specs.declared.plate.PlateRefusal.TheVariants.{Fault}
@@ -12,10 +12,10 @@ use Rattle.pgm_plates.specs.Plates.{IsPlate}
 use Rattle.pgm_plates.specs.Reading.{IsTruncated, KeepsCount}
 use Rattle.pgm_plates.specs.Sequences.{StandsBehind}
 use Rattle.ps_tokens.specs.declared.faults.JobFault.{JobFault}
-use Rattle.run_verdicts.specs.declared.stop.RunStop.{RunStop}
-use Rattle.run_verdicts.specs.declared.stop.RunStop.TheVariants.{Whole, TooManyPages, AtPage, Ends, Extra}
-use Rattle.run_verdicts.specs.Images.{HasImage, HasImageFault, HasNoImage, page_spelling}
-use Rattle.run_verdicts.specs.Pages.{pages_of}
+use Rattle.traprun_verdicts.specs.declared.stop.RunStop.{RunStop}
+use Rattle.traprun_verdicts.specs.declared.stop.RunStop.TheVariants.{Whole, TooManyPages, AtPage, Ends, Extra}
+use Rattle.traprun_verdicts.specs.Images.{HasImage, HasImageFault, HasNoImage, page_spelling}
+use Rattle.traprun_verdicts.specs.Pages.{pages_of}
 use Rattle.trap_report.specs.declared.refusal.Refusal.TheVariants.{Job, Plate, Read, Memory}
 
 -- The pages of a job of these bytes, or why there are none. A job that is read has its pages.

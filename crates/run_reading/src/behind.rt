@@ -4,9 +4,9 @@ ghost use Rattle.run_reading.specs.Reading.{LooksAtOne, LooksBehind};
 use outside::tray::Tray;
 use pgm_plates::pages::read_page;
 use pgm_plates::plate::PlateRefusal;
-use run_verdicts::stop::RunStop;
 use std::alloc::Global;
 use trap_report::refusal::Refusal;
+use traprun_verdicts::stop::RunStop;
 
 /// Looks behind the last of so many pages in each of these files in order, up to the first that does not end there.
 pub fn look_behind<T: Tray>(

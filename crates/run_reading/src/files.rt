@@ -3,7 +3,7 @@
 ghost use Rattle.std.specs.Prelude.{◌≡◌, IfOk, map, string_bytes};
 ghost use Rattle.plain_words.specs.Parts.{parts_of};
 ghost use Rattle.plain_words.specs.Plates.{inputs_of as inputs_meant, names_of as names_meant, outputs_of as outputs_meant};
-ghost use Rattle.run_verdicts.specs.Pages.{numbered as numbered_meant};
+ghost use Rattle.traprun_verdicts.specs.Pages.{numbered as numbered_meant};
 
 use lists::list::List;
 use lists::names::{NameList, OutOfMemory, copied};

@@ -1,6 +1,6 @@
 ghost use Rattle.std.specs.Prelude.{◌≡◌, Ok};
 ghost use Rattle.job_reader.specs.InRange.{IsJob};
-ghost use Rattle.page_jobs.specs.Runs.{HasPage, page_job_of};
+ghost use Rattle.job_pages.specs.Runs.{HasPage, page_job_of};
 ghost use Rattle.run_reading.specs.Gathering.{GathersPage, HoldsRun, job_stop as job_stop_meant};
 ghost use Rattle.run_reading.specs.Held.{IsHeld, IsWithin, order_in};
 ghost use Rattle.run_reading.specs.Words.{sources_of};
@@ -9,16 +9,16 @@ use crate::files::{inputs_of, names_of};
 use crate::images::read_images;
 use crate::job::read_run_job;
 use crate::words::RunOrder;
+use job_pages::many::ManyPages;
 use job_reader::job::Job;
 use lists::names::NameList;
 use outside::tray::Tray;
 use page_gather::assemble::assemble;
-use page_jobs::many::ManyPages;
 use page_model::page::Page;
 use ps_tokens::faults::JobRefusal;
-use run_verdicts::stop::{RunStop, stop_at};
 use std::alloc::Global;
 use trap_report::refusal::Refusal;
+use traprun_verdicts::stop::{RunStop, stop_at};
 
 /// A run in hand: its order, the names of its plates' colorants and their files, and its job.
 #[derive(Drop)]

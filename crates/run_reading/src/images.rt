@@ -6,9 +6,9 @@ use outside::tray::Tray;
 use page_gather::assemble::PlateList;
 use pgm_plates::pages::read_page;
 use pgm_plates::plate::{Plate, PlateRefusal};
-use run_verdicts::stop::RunStop;
 use std::alloc::Global;
 use trap_report::refusal::Refusal;
+use traprun_verdicts::stop::RunStop;
 
 /// Reads the image of that page from each of these files in order, up to the first that is refused. No file is begun behind
 /// it.

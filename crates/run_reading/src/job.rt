@@ -1,15 +1,15 @@
 ghost use Rattle.run_reading.specs.Reading.{JudgesRun, ReadsRunJob};
 
+use job_pages::many::ManyPages;
+use job_pages::run::RunRefusal;
 use lists::names::Name;
 use outside::reading::{ReadRefusal, read_file};
 use outside::tray::Tray;
-use page_jobs::many::ManyPages;
-use page_jobs::run::RunRefusal;
 use ps_tokens::LONGEST_JOB;
 use ps_tokens::faults::{FaultKind, JobFault};
-use run_verdicts::stop::RunStop;
 use std::alloc::Global;
 use trap_report::refusal::Refusal;
+use traprun_verdicts::stop::RunStop;
 
 // One byte more than a job may have.
 const MOST_JOB: u32 = 1_048_577;

@@ -10,7 +10,7 @@ use Rattle.page_model.specs.Zones.{AreZones, zone_of}
 use Rattle.page_model.proofs.PageLemmas.{plane_of}
 use Rattle.lists.specs.Words.{list_below}
 use Rattle.lists.proofs.ListBelow.{list_below-from}
-use Rattle.band_values.specs.Rows.{HoldsMarks, HoldsRows, HoldsZones, zone_value}
+use Rattle.row_values.specs.Rows.{HoldsMarks, HoldsRows, HoldsZones, zone_value}
 use Rattle.strip_engine.specs.Rows.{AreRows}
 use Rattle.strip_engine.specs.Standing.{AreMarks}
 use Rattle.strip_engine.specs.Whole.{sample_marks, sample_zones}

@@ -5,9 +5,9 @@ ghost use Rattle.page_model.specs.Tints.{trapped_planes};
 use crate::memory::filled;
 use crate::outcome::Outcome;
 use crate::strips::{STRIP, bench_of, trap_strips};
-use band_values::Workspace;
 use page_model::page::Page;
 use page_model::parts::{Counts, OutOfMemory, PlaneList};
+use row_values::Workspace;
 use std::alloc::Global;
 
 /// A page after trapping: its planes, and what changed.

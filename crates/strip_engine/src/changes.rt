@@ -9,9 +9,9 @@ ghost use Rattle.strip_engine.specs.Standing.{ArePlatesCounted, AreTrappedTo, Ar
 
 use crate::blocks::{BLOCK, are_clear, are_same, part_of};
 use crate::counting::one_if;
-use band_values::{row_of, tints_of_row};
 use page_model::page::Page;
 use page_model::parts::Plane;
+use row_values::{row_of, tints_of_row};
 
 /// The new tints of plate c, out of those of a row.
 pub fn plate_row<'a>(page: &Page, row: &'a [u16], y: u32, c: u32) -> &'a [u16]

@@ -1,7 +1,7 @@
 // The marks of the page's samples: whether the edges to their right and below them decide.
 
 ghost use Rattle.std.specs.Prelude.{◌≡◌, ◌<◌, ◌≤◌, ◌+◌, ◌*◌, ◌-◌, IfOk, length};
-ghost use Rattle.band_values.specs.Rows.{HoldsMarks};
+ghost use Rattle.row_values.specs.Rows.{HoldsMarks};
 ghost use Rattle.page_model.specs.Page.{height, samples};
 ghost use Rattle.page_model.specs.Zones.{AreZones};
 ghost use Rattle.strip_engine.specs.Rows.{AreRows};
@@ -10,9 +10,9 @@ ghost use Rattle.strip_engine.specs.Whole.{sample_marks, sample_zones};
 
 use crate::grid::samples_of;
 use crate::memory::filled;
-use band_values::{Rows, make_marks};
 use page_model::page::Page;
 use page_model::parts::OutOfMemory;
+use row_values::{Rows, make_marks};
 use std::alloc::Global;
 
 /// Of a list with `width` items for each row, the rows from one on and before another.

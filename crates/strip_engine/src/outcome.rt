@@ -15,10 +15,10 @@ use crate::counting::{count_zones, edges_in};
 use crate::memory::{filled, no_counts};
 use crate::planes::{copies_of, put_row};
 use crate::sums::add_counts;
-use band_values::Rows;
 use lists::list::List;
 use page_model::page::Page;
 use page_model::parts::{Counts, OutOfMemory, Plane, PlaneList};
+use row_values::Rows;
 use std::alloc::Global;
 
 /// The planes of a page after trapping and what is counted in it, for the rows that were taken in so far. The other

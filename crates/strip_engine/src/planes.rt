@@ -9,10 +9,10 @@ ghost use Rattle.strip_engine.specs.Standing.{AreTrappedTo, AreTrapping, IsNewRo
 use crate::blocks::{BLOCK, are_same, part_of};
 use crate::changes::{differences, plate_row};
 use crate::memory::push;
-use band_values::tints_of_row;
 use lists::list::List;
 use page_model::page::Page;
 use page_model::parts::{OutOfMemory, Plane, PlaneList};
+use row_values::tints_of_row;
 use std::alloc::Global;
 
 /// A copy of plate c.

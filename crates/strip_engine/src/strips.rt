@@ -1,9 +1,9 @@
 // The page strip by strip: the column answers of some rows, and then the traps of each row.
 
 ghost use Rattle.std.specs.Prelude.{◌≡◌, ◌<◌, ◌≤◌, ◌+◌, ◌*◌, ◌-◌, IfOk, length};
-ghost use Rattle.band_values.specs.Arms.{AreAnswers};
-ghost use Rattle.band_values.specs.Room.{Serves};
-ghost use Rattle.band_values.specs.Rows.{HoldsAnswers, doubled};
+ghost use Rattle.row_values.specs.Arms.{AreAnswers};
+ghost use Rattle.row_values.specs.Room.{Serves};
+ghost use Rattle.row_values.specs.Rows.{HoldsAnswers, doubled};
 ghost use Rattle.page_model.specs.Page.{height};
 ghost use Rattle.page_model.specs.Reach.{page_reach};
 ghost use Rattle.strip_engine.specs.Bench.{IsBench};
@@ -13,9 +13,9 @@ use crate::marks::{marks_between, marks_of, marks_of_row, zones_of_row};
 use crate::memory::filled;
 use crate::outcome::Outcome;
 use crate::zones::zones_of;
-use band_values::{Rows, Workspace, is_quiet, make_answers, make_row, row_of};
 use page_model::page::Page;
 use page_model::parts::OutOfMemory;
+use row_values::{Rows, Workspace, is_quiet, make_answers, make_row, row_of};
 use std::alloc::Global;
 
 /// How many rows a strip has at most.

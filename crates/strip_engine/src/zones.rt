@@ -1,13 +1,13 @@
 ghost use Rattle.std.specs.Prelude.{◌≡◌, IfOk, length};
-ghost use Rattle.band_values.specs.Room.{Serves};
+ghost use Rattle.row_values.specs.Room.{Serves};
 ghost use Rattle.page_model.specs.Page.{samples};
 ghost use Rattle.strip_engine.specs.Whole.{sample_zones};
 
 use crate::grid::samples_of;
 use crate::memory::filled;
-use band_values::{Rows, Workspace, make_zones};
 use page_model::page::Page;
 use page_model::parts::OutOfMemory;
+use row_values::{Rows, Workspace, make_zones};
 use std::alloc::Global;
 
 /// Writes the zone of each sample, row by row.

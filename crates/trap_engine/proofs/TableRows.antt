@@ -6,7 +6,7 @@ use Rattle.page_model.specs.Deciding.{mark}
 use Rattle.page_model.specs.Page.{plates, width}
 use Rattle.page_model.specs.Tints.{new}
 use Rattle.page_model.specs.Zones.{AreZones}
-use Rattle.band_values.specs.Rows.{HoldsMarks, HoldsRows, HoldsTints, HoldsZones, tint_value, zone_value}
+use Rattle.row_values.specs.Rows.{HoldsMarks, HoldsRows, HoldsTints, HoldsZones, tint_value, zone_value}
 use Rattle.band_claims.specs.Receipt.{Receipt}
 use Rattle.band_claims.proofs.Steps.{fit_shape}
 use Rattle.band_pieces.specs.Fills.{HasCells}

@@ -13,10 +13,10 @@ ghost use Rattle.trap_engine.specs.Parts.{AreCountedParts, AreOfSize, AreParts, 
 use crate::tally::{Tally, take_rows, tally_of};
 use band_claims::{Closed, Pass, Shared};
 use band_pieces::all_done;
-use band_values::Rows;
 use lists::list::List;
 use page_model::page::Page;
 use page_model::parts::{OutOfMemory, Plane};
+use row_values::Rows;
 use std::alloc::Global;
 use std::thread;
 use std::thread::Threads;

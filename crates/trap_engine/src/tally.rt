@@ -8,10 +8,10 @@ ghost use Rattle.strip_engine.specs.Standing.{AreMarks, AreTrappedTo};
 ghost use Rattle.trap_engine.specs.Taking.{HasCounted};
 
 use band_pieces::{CellSource, read_marks, read_zones};
-use band_values::Rows;
 use page_model::page::Page;
 use page_model::parts::{OutOfMemory, Plane};
 use row_cells::layout::Layout;
+use row_values::Rows;
 use std::alloc::Global;
 use strip_engine::memory::{filled, no_counts};
 use strip_engine::{count_changed, count_zones, edges_in, note_taken};

@@ -7,7 +7,7 @@ use Rattle.outside.specs.Tray.{TrayState}
 use Rattle.line_queue.specs.declared.serving.Kept.{Kept}
 use Rattle.page_gather.specs.Gathering.{Gathers}
 use Rattle.page_model.specs.declared.parts.PageParts.{PageParts}
-use Rattle.pool_list.specs.Lines.{LineParts}
+use Rattle.job_list.specs.Lines.{LineParts}
 use Rattle.strip_engine.specs.declared.alone.Trapped.{Trapped}
 use Rattle.trap_pool.specs.declared.outcome.Outcome.{Outcome}
 use Rattle.trap_pool.specs.declared.outcome.Outcome.TheVariants.{Done, Refused, TooLarge}

@@ -6,7 +6,7 @@ use Rattle.outside.proofs.Steps.{kept_tray}
 use Rattle.page_gather.specs.Gathering.{AnswersPage, Gathers}
 use Rattle.page_gather.specs.Inputs.{Makes, Sources, one_page, sources}
 use Rattle.page_model.specs.declared.parts.PageParts.{PageParts}
-use Rattle.pool_list.specs.Lines.{LineParts}
+use Rattle.job_list.specs.Lines.{LineParts}
 use Rattle.trap_report.specs.declared.refusal.Refusal.{Refusal}
 use Rattle.trap_report.specs.declared.refusal.Refusal.TheVariants as refusals
 use Rattle.trap_pool.specs.declared.outcome.Outcome.{Outcome}

@@ -4,7 +4,7 @@ use Rattle.outside.specs.Tray.{TrayState, KeepsTray}
 use Rattle.page_gather.specs.Gathering.{Gathers}
 use Rattle.page_gather.specs.Inputs.{Makes, Sources, one_page, sources}
 use Rattle.page_model.specs.declared.parts.PageParts.{PageParts}
-use Rattle.pool_list.specs.Lines.{LineParts}
+use Rattle.job_list.specs.Lines.{LineParts}
 use Rattle.trap_report.specs.declared.refusal.Refusal.{Refusal}
 use Rattle.trap_report.specs.declared.refusal.Refusal.TheVariants.{Read, Memory}
 use Rattle.verdicts.specs.Verdicts.{IsVerdict, Refused as refused_verdict, Targets}

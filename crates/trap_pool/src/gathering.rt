@@ -4,9 +4,9 @@ ghost use Rattle.trap_pool.specs.Pools.{AnswersLine, InTurn, source_of};
 ghost use Rattle.trap_pool.specs.Replies.{accepted_of, most_in_all};
 
 use crate::reply::Reply;
+use job_list::line::{LineList, ListLine};
 use outside::tray::Tray;
 use page_gather::gather::gather;
-use pool_list::line::{LineList, ListLine};
 use std::alloc::Global;
 
 // Gathers the page of each line in order, and puts the replies into the room, which has a place for each. The pages of lines

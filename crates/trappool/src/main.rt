@@ -3,11 +3,11 @@
 
 use outside::disk_rack::DiskRack;
 use outside::disk_tray::DiskTray;
-use pool_program::top::trappool_main;
 use std::env;
 use std::io::ErrorKind;
 use std::process::ExitCode;
 use trap_pool::OpenTakes;
+use trappool_cli::top::trappool_main;
 
 // No call of `trappool_main` gives this status: a word is not UTF-8.
 const NOT_UTF8: u8 = 1;

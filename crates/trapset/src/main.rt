@@ -3,10 +3,10 @@
 
 use outside::disk_rack::DiskRack;
 use outside::disk_tray::DiskTray;
-use set_cli::top::trapset_main;
 use std::env;
 use std::io::ErrorKind;
 use std::process::ExitCode;
+use trapset_cli::top::trapset_main;
 
 // No call of `trapset_main` gives this status: a word is not UTF-8.
 const NOT_UTF8: u8 = 1;

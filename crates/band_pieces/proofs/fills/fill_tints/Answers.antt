@@ -1,10 +1,10 @@
 use Rattle.std.proofs.Common.{◌≡◌, ℕ, ◌<◌, sym, ap, ◌∙◌, subst, arith}
 use Rattle.page_model.specs.declared.bands.Bands.{Bands}
 use Rattle.page_model.specs.declared.parts.PageParts.{PageParts}
-use Rattle.band_values.specs.declared.rows.Rows.{Rows}
+use Rattle.row_values.specs.declared.rows.Rows.{Rows}
 use Rattle.row_cells.specs.Places.{per_row}
 use Rattle.band_core.specs.Values.{row_value}
-use Rattle.band_values.specs.Rows.{HoldsRows}
+use Rattle.row_values.specs.Rows.{HoldsRows}
 use Rattle.band_claims.specs.declared.sheet.Sheet.{Sheet}
 use Rattle.band_pieces.specs.Spans.{rows_of_piece}
 use Rattle.std.proofs.Common.{refl}

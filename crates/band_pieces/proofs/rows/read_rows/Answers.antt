@@ -1,7 +1,7 @@
 use Rattle.std.proofs.Common.{ℕ, ◌+◌, ◌∙◌, arith}
 use Rattle.row_cells.specs.Places.{per_row}
 use Rattle.band_core.specs.Values.{row_value}
-use Rattle.band_values.proofs.RowLemmas.{rows_more}
+use Rattle.row_values.proofs.RowLemmas.{rows_more}
 use Rattle.band_pieces.proofs.rows.read_rows.Goals as goal
 
 pub read_row-requires-clause-layout : goal.read_row-requires-clause-layout

@@ -6,7 +6,7 @@ use Rattle.page_run.specs.Endings.{PagesDone}
 use Rattle.run_reading.specs.Gathering.{IsJobOf}
 use Rattle.run_reading.specs.Held.{order_in}
 use Rattle.run_reading.specs.Words.{sources_of, targets_of}
-use Rattle.run_verdicts.specs.Pages.{pages_of, run_reads}
+use Rattle.traprun_verdicts.specs.Pages.{pages_of, run_reads}
 use Rattle.page_run.proofs.run.trap_pages.Given as goal
 
 abbrev pub invariant-loop-page : goal.invariant-loop-page

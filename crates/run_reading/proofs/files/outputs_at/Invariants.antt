@@ -1,7 +1,7 @@
 use Rattle.std.proofs.Common.{◌≡◌, map, string_bytes, take}
 use Rattle.plain_words.specs.Parts.{parts_of}
 use Rattle.plain_words.specs.Plates.{outputs_of}
-use Rattle.run_verdicts.specs.Pages.{numbered}
+use Rattle.traprun_verdicts.specs.Pages.{numbered}
 use Rattle.run_reading.proofs.files.outputs_at.Given as goal
 
 abbrev pub invariant-loop-word : goal.invariant-loop-word

@@ -3,7 +3,7 @@ use Rattle.run_reading.specs.Gathering.{GathersPage}
 use Rattle.run_reading.specs.Held.{order_in}
 use Rattle.run_reading.specs.Words.{sources_of}
 use Rattle.run_reading.proofs.PageLemmas.{job_stopped}
-use Rattle.run_verdicts.specs.declared.stop.RunStop.{RunStop}
+use Rattle.traprun_verdicts.specs.declared.stop.RunStop.{RunStop}
 use Rattle.run_reading.proofs.gather.gather_page.Goals as goal
 
 pub returns-in-Err : goal.returns-in-Err

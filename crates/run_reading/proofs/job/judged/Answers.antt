@@ -1,8 +1,8 @@
 use Rattle.std.proofs.Common.{ℕ, ◌≤◌, length, Result, Ok, Err, List, refl, ap, ◌∙◌, arith}
-use Rattle.page_jobs.specs.declared.passages.Passage.{Passage}
-use Rattle.page_jobs.specs.declared.run.RunRefusal.{RunRefusal}
-use Rattle.page_jobs.specs.declared.run.RunRefusal.TheVariants.{Fault, TooManyPages}
-use Rattle.page_jobs.specs.Runs.{IsManyPages, count_from}
+use Rattle.job_pages.specs.declared.passages.Passage.{Passage}
+use Rattle.job_pages.specs.declared.run.RunRefusal.{RunRefusal}
+use Rattle.job_pages.specs.declared.run.RunRefusal.TheVariants.{Fault, TooManyPages}
+use Rattle.job_pages.specs.Runs.{IsManyPages, count_from}
 use Rattle.run_reading.specs.Reading.{JudgesRun as judges}
 use Rattle.run_reading.proofs.JobLemmas.{not_long, too_long}
 use Rattle.run_reading.proofs.job.judged.Goals as goal

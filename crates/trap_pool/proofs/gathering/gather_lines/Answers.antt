@@ -1,5 +1,5 @@
 use Rattle.std.proofs.Common.{◌≡◌, ◌∙◌, ◌+◌, ℕ, List, [], ◌∷◌, ◌++◌, get_or, length, take, sym, ap, subst, arith, length-append}
-use Rattle.pool_list.specs.Lines.{LineParts}
+use Rattle.job_list.specs.Lines.{LineParts}
 use Rattle.trap_pool.specs.Pools.{InTurn}
 use Rattle.trap_pool.specs.Replies.{ReplyParts, accepted, accepted_of}
 use Rattle.trap_pool.proofs.Turns.{accepted_more, next_turn}

@@ -1,6 +1,0 @@
-use Rattle.std.proofs.Common.{◌∙◌}
-use Rattle.band_values.proofs.AnswerLemmas.{answers_held, covered}
-use Rattle.band_values.proofs.answers.scan.Goals as goal
-
-pub returns-clause-answers : goal.returns-clause-answers
-returns-clause-answers g c = answers_held c.args.page.now c.args.rows c.width.result c.reach2.result c.columns.new.out c.width.ensures.value c.reach2.ensures.value (c.columns.ensures.len ∙ c.requires.out) (c.columns.ensures.answers c.args.page.now c.marks_of-marks.ensures.marks (covered c.args.page.now c.args.rows c.args.held c.marks_of-marks.result c.reach2.result c.reach2.ensures.value c.marks_of-marks.ensures.top c.marks_of-marks.ensures.rows c.requires.some c.requires.inside c.requires.far_above c.requires.far_under))

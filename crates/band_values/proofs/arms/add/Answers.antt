@@ -1,6 +1,0 @@
-use Rattle.std.proofs.Common.{arith}
-use Rattle.band_values.proofs.ArmsLemmas.{added}
-use Rattle.band_values.proofs.arms.add.Goals as goal
-
-pub returns-clause-so_far : goal.returns-clause-so_far
-returns-clause-so_far c = added c.args.codes.now c.args.x2 _ _ _ _ (omega arith) c.arm_at.ensures (omega (arith, c.requires.so_far.few)) (omega (arith, c.requires.so_far.few)) c.requires.so_far

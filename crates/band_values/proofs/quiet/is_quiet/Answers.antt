@@ -1,6 +1,0 @@
-use Rattle.std.proofs.Common.{arith}
-use Rattle.band_values.proofs.QuietLemmas.{quiet_row}
-use Rattle.band_values.proofs.quiet.is_quiet.Goals as goal
-
-pub returns-clause-only : goal.returns-clause-only
-returns-clause-only c = λ t x l. quiet_row c.args.page.now c.args.y c.args.codes.now c.plates-valid.ensures.valid c.requires.codes (λ k below. c.are_zero.ensures.only t k (omega arith) below) x

@@ -1,6 +1,0 @@
-use Rattle.std.proofs.Common.{◌≡◌, length}
-use Rattle.band_values.specs.Quiet.{IsRowPut}
-use Rattle.band_values.proofs.tint_rows.put_tints.Given as goal
-
-abbrev pub invariant-loop-c : goal.invariant-loop-c
-invariant-loop-c l = record { end : l.c-end ≡ length l.tints; out : IsRowPut l.page l.y l.x l.c l.out }

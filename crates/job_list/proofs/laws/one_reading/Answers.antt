@@ -1,0 +1,5 @@
+use Rattle.job_list.proofs.Readings.{one_reading}
+use Rattle.job_list.proofs.laws.one_reading.Goals as goal
+
+pub returns : goal.returns
+returns c = one_reading

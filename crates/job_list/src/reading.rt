@@ -1,0 +1,113 @@
+ghost use Rattle.std.specs.Prelude.{◌≡◌, ◌≢◌, [], ◌+◌, ◌<◌, ◌^◌, false, if◌then◌else◌, IfOk, IfSome, MatchOption, Some, None, length};
+ghost use Rattle.std.specs.Bool.{MatchBool};
+ghost use Rattle.std.specs.List.{list_any, position};
+ghost use Rattle.job_list.specs.Apart.{IsCut, NextLine, is_new, next_in};
+ghost use Rattle.job_list.specs.Lines.{is_lf};
+ghost use Rattle.job_list.specs.Lists.{ReadsList};
+
+use crate::line::{LineList, ListLine};
+use crate::outputs::writes_only_new;
+use crate::words::read_line;
+use lists::list::List;
+use lists::names::OutOfMemory;
+use std::alloc::Global;
+
+/// Why bytes are not read as a list.
+#[derive(Clone, Copy, Debug, Drop, PartialEq, Eq)]
+pub enum ListRefusal {
+    /// This line, counted from 0, is the first that breaks the form.
+    BadLine(u32),
+    OutOfMemory,
+}
+
+const MOST_BYTES: usize = 1_048_576;
+
+const MOST_LINES: usize = 256;
+
+/// The jobs of a list: 1 to 256 lines, of 1,048,576 bytes in all at most, each ended by LF. A line is UTF-8 and has the words
+/// `JOB REPORT NAME:IN:OUT ...` with single spaces between them, none of them empty, for one to sixteen plates of different
+/// names. No file that is written stands in the list twice. The form is this project's own.
+///
+/// Else the first line that breaks the form is refused: a text without its LF is one, and so are the 257th line, the line that
+/// holds byte 1,048,576, counted from 0, and line 0 where there is no byte. Want of memory may come at any place.
+pub fn read_list(alloc: Global, bytes: &[u8]) -> Result<LineList, ListRefusal>
+    ensures { ReadsList bytes.now result }
+{
+    let mut lines = List::new(alloc);
+    let mut rest = bytes;
+    for number in 0..257u32 {
+        if is_end(number, rest) {
+            return Ok(lines);
+        }
+        match next_line(alloc, &lines, bytes.len() - rest.len(), rest) {
+            Ok(Some((line, behind))) => match lines.push(line) {
+                Ok(()) => rest = behind,
+                Err(_) => return Err(ListRefusal::OutOfMemory),
+            },
+            Ok(None) => return Err(ListRefusal::BadLine(number)),
+            Err(OutOfMemory) => return Err(ListRefusal::OutOfMemory),
+        }
+    }
+    unreachable!()
+}
+
+// Whether the list ends here: a line stands before it, and nothing behind.
+fn is_end(number: u32, rest: &[u8]) -> bool
+    ensures { MatchBool result ((0 < number) × (rest.now ≡ [])) (0 < number → rest.now ≢ []) }
+{
+    number > 0 && rest.is_empty()
+}
+
+// The line that comes next behind so many bytes and these lines, and what is behind it; `None` where it is a bad one.
+fn next_line<'a>(
+    alloc: Global,
+    lines: &LineList,
+    seen: usize,
+    rest: &'a [u8],
+) -> Result<Option<(ListLine, &'a [u8])>, OutOfMemory>
+    requires { seen + length rest.now < 2 ^ 64 }
+    ensures { IfOk result (λ next. NextLine seen lines.now rest.now
+        (next_in next)) }
+{
+    let Some((text, behind)) = cut(rest) else {
+        return Ok(None);
+    };
+    if lines.len() >= MOST_LINES {
+        return Ok(None);
+    }
+    if seen + text.len() >= MOST_BYTES {
+        return Ok(None);
+    }
+    match read_line(alloc, text)? {
+        Some(line) => Ok(if_new(lines, line, behind)),
+        None => Ok(None),
+    }
+}
+
+fn if_new<'a>(lines: &LineList, line: ListLine, behind: &'a [u8]) -> Option<(ListLine, &'a [u8])>
+    ensures { next_in result ≡ (if is_new line lines.now then Some (line, behind.now) else None) }
+{
+    if writes_only_new(lines.as_slice(), &line) {
+        Some((line, behind))
+    } else {
+        None
+    }
+}
+
+// What stands before the first LF, and what stands behind it; `None` where there is none.
+fn cut(bytes: &[u8]) -> Option<(&[u8], &[u8])>
+    ensures { MatchOption result (list_any is_lf bytes.now ≡ false)
+        (λ parts. IsCut bytes.now parts.0.now parts.1.now) }
+{
+    match first_lf(bytes) {
+        Some(place) => Some((&bytes[..place], &bytes[place + 1..])),
+        None => None,
+    }
+}
+
+fn first_lf(bytes: &[u8]) -> Option<usize>
+    ensures value { result ≡ position is_lf bytes.now }
+    ensures range { IfSome result (λ place. place < length bytes.now) }
+{
+    bytes.iter().position(|byte| *byte == b'\n')
+}

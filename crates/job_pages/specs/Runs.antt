@@ -1,0 +1,112 @@
+-- The pages of a job, or the first refusal.
+use Rattle.std.specs.Prelude.{◌≡◌, ℕ, List, [], length, filter, Option, Some, None, Result, Ok, Err, slice_get, option_map, ◌+◌, ◌-◌, ◌<◌}
+use Rattle.lists.specs.Words.{or_else}
+use Rattle.ps_tokens.specs.declared.faults.FaultKind.TheVariants.{NoShowpage}
+use Rattle.ps_tokens.specs.declared.faults.JobFault.{JobFault}
+use Rattle.ps_tokens.specs.declared.object.Object.{Object}
+use Rattle.ps_tokens.specs.declared.token.Token.{Token}
+use Rattle.ps_tokens.specs.Objects.{objects_of}
+use Rattle.ps_tokens.specs.Tokens.{tokens_of}
+use Rattle.job_reader.specs.declared.job.Job.{Job}
+use Rattle.job_reader.specs.Jobs.{job_of}
+use Rattle.job_reader.specs.Statements.{behind_fault}
+use Rattle.job_pages.specs.declared.passages.Passage.{Passage}
+use Rattle.job_pages.specs.declared.run.Run.{Run}
+use Rattle.job_pages.specs.declared.run.RunRefusal.{RunRefusal}
+use Rattle.job_pages.specs.declared.run.RunRefusal.TheVariants.{Fault, TooManyPages, OutOfMemory}
+use Rattle.job_pages.specs.PageText.{text_in}
+use Rattle.job_pages.specs.Passages.{passages_of, shows}
+
+-- how many pages a job may have
+abbrev pub most_pages : ℕ
+most_pages = 256
+
+-- the objects of tokens
+abbrev pub objects_by : List ℕ → Result (List Token) JobFault → Result (List Object) JobFault
+objects_by bytes (Ok tokens) = objects_of bytes tokens
+objects_by bytes (Err fault) = Err fault
+
+-- the objects that bytes spell; of several faults first those of tokens, then those of objects
+abbrev pub objects_in : List ℕ → Result (List Object) JobFault
+objects_in bytes = objects_by bytes (tokens_of bytes)
+
+-- the fault at the end of a job of so many bytes: it has no page, or an object stands behind the last `showpage`
+abbrev pub end_fault : ℕ → List Object → Option Passage → Option JobFault
+end_fault len objects None = Some (record { kind = NoShowpage; at = len })
+end_fault len objects (Some p) = behind_fault (slice_get objects (p.place + 1))
+
+-- the last of these statements, if there is one
+abbrev pub last_of : List Passage → Option Passage
+last_of shown = slice_get shown (length shown - 1)
+
+-- the 257th `showpage`, if there is one
+abbrev pub excess : Option Passage → Option RunRefusal
+excess None = None
+excess (Some p) = Some (TooManyPages p.at)
+
+-- the first refusal of a job of so many bytes, where its objects have no fault, and its pages are shown by these statements
+abbrev pub run_refusal : ℕ → List Object → List Passage → Option RunRefusal
+run_refusal len objects shown = or_else (option_map Fault (end_fault len objects (last_of shown))) (excess (slice_get shown most_pages))
+
+-- statements, unless there is a refusal
+abbrev pub run_unless : Option RunRefusal → List Passage → Result (List Passage) RunRefusal
+run_unless None passages = Ok passages
+run_unless (Some refusal) passages = Err refusal
+
+abbrev pub run_from : ℕ → Result (List Object) JobFault → Result (List Passage) RunRefusal
+run_from len (Err fault) = Err (Fault fault)
+run_from len (Ok objects) = run_unless (run_refusal len objects (filter shows (passages_of objects))) (passages_of objects)
+
+-- The statements of a job of many pages. First of all the whole job's tokens and then its objects are judged; then it has to have a `showpage`, no object may stand behind the last one, and there may be 256.
+unfoldable pub run_of : List ℕ → Result (List Passage) RunRefusal
+run_of bytes = run_from (length bytes) (objects_in bytes)
+
+-- how many pages statements show
+abbrev pub pages_in : List Passage → ℕ
+pages_in passages = length (filter shows passages)
+
+abbrev pub count_from : Result (List Passage) RunRefusal → Result ℕ RunRefusal
+count_from (Ok passages) = Ok (pages_in passages)
+count_from (Err refusal) = Err refusal
+
+-- how many pages a job has
+abbrev pub count_of : List ℕ → Result ℕ RunRefusal
+count_of bytes = count_from (run_of bytes)
+
+-- the statements of a run, none where it is refused
+abbrev pub statements_in : Result (List Passage) RunRefusal → List Passage
+statements_in (Ok passages) = passages
+statements_in (Err refusal) = []
+
+-- the text of page k
+abbrev pub page_text : List ℕ → ℕ → List ℕ
+page_text bytes k = text_in (statements_in (run_of bytes)) bytes k
+
+-- the job of page k: that of its text
+abbrev pub page_job_of : List ℕ → ℕ → Result Job JobFault
+page_job_of bytes k = job_of (page_text bytes k)
+
+-- A call gives what a definition does, unless memory is wanting.
+abbrev pub GivesRun : {X : Type 0} → Result X RunRefusal → Result X RunRefusal → Type 0
+GivesRun (Ok x) meant = meant ≡ Ok x
+GivesRun (Err OutOfMemory) meant = Unit {0}
+GivesRun (Err (Fault fault)) meant = meant ≡ Err (Fault fault)
+GivesRun (Err (TooManyPages at)) meant = meant ≡ Err (TooManyPages at)
+
+-- A run is read, with the statements that end its pages beside the others.
+abbrev pub IsRun : Result Run RunRefusal → Result (List Passage) RunRefusal → Type 0
+IsRun (Ok run) meant = (meant ≡ Ok run.passages) × (run.shown ≡ filter shows run.passages)
+IsRun (Err OutOfMemory) meant = Unit {0}
+IsRun (Err (Fault fault)) meant = meant ≡ Err (Fault fault)
+IsRun (Err (TooManyPages at)) meant = meant ≡ Err (TooManyPages at)
+
+-- The bytes are a job of many pages, with a page k.
+abbrev pub HasPage : List ℕ → ℕ → Type 0
+HasPage bytes k = (count : ℕ) × (count_of bytes ≡ Ok count) × (k < count)
+
+-- A job of many pages is read, or its refusal is given.
+abbrev pub IsManyPages : List ℕ → Result (List ℕ) RunRefusal → Type 0
+IsManyPages bytes (Ok read) = (read ≡ bytes) × ((count : ℕ) × (count_of bytes ≡ Ok count))
+IsManyPages bytes (Err OutOfMemory) = Unit {0}
+IsManyPages bytes (Err (Fault fault)) = run_of bytes ≡ Err (Fault fault)
+IsManyPages bytes (Err (TooManyPages at)) = run_of bytes ≡ Err (TooManyPages at)

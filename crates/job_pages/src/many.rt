@@ -1,0 +1,63 @@
+ghost use Rattle.std.specs.Prelude.{◌≡◌, ◌≤◌, length, IfOk, Ok};
+ghost use Rattle.ps_tokens.specs.Limits.{longest_job};
+ghost use Rattle.ps_tokens.specs.Tokens.{Gives};
+ghost use Rattle.job_reader.specs.InRange.{IsJob};
+ghost use Rattle.job_pages.specs.Runs.{HasPage, IsManyPages, count_of, page_job_of};
+
+use crate::page::job_in;
+use crate::run::{Run, RunRefusal, read_run};
+use job_reader::job::Job;
+use lists::names::Name;
+use ps_tokens::faults::JobRefusal;
+use std::alloc::Global;
+use std::marker::Model;
+
+/// A job of many pages that was read: its bytes and its statements, so that the pages' jobs are read without finding these
+/// again. Contracts see it as its bytes.
+#[derive(Drop)]
+pub struct ManyPages {
+    bytes: Name,
+    run: Run,
+}
+
+impl Model for ManyPages {
+    ghost use Rattle.std.specs.Prelude.{List, ℕ, Ok, filter, ◌≡◌};
+    ghost use Rattle.job_pages.specs.Passages.{shows};
+    ghost use Rattle.job_pages.specs.Runs.{run_of};
+
+    ghost Value = { List ℕ };
+
+    ghost view = { λ m. m.bytes };
+
+    ghost invariant = { λ m. (run_of m.bytes ≡ Ok m.run.passages)
+        × (m.run.shown ≡ filter shows m.run.passages) };
+}
+
+impl ManyPages {
+    /// Reads the statements of a job of at most `ps_tokens::LONGEST_JOB` bytes, with the refusals of `page_count`.
+    pub fn new(alloc: Global, bytes: Name) -> Result<ManyPages, RunRefusal>
+        requires { length bytes ≤ longest_job }
+        ensures { IsManyPages bytes result }
+    {
+        match read_run(alloc, bytes.as_slice()) {
+            Ok(run) => Ok(ManyPages { bytes, run }),
+            Err(refusal) => Err(refusal),
+        }
+    }
+
+    /// How many pages there are.
+    pub fn count(&self) -> u32
+        ensures { count_of self.now ≡ Ok result }
+    {
+        self.run.shown.len() as u32
+    }
+
+    /// The job of page k, counted from 0, or its fault, as `page_job` gives it.
+    pub fn job(&self, alloc: Global, k: u32) -> Result<Job, JobRefusal>
+        requires { HasPage self.now k }
+        ensures given { Gives result (page_job_of self.now k) }
+        ensures in_range { IfOk result (λ job. IsJob job) }
+    {
+        job_in(alloc, &self.run, self.bytes.as_slice(), k)
+    }
+}

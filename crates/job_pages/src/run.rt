@@ -1,0 +1,135 @@
+ghost use Rattle.std.specs.Prelude.{◌≡◌, ◌≤◌, filter, length, option_copied, IfOk, Ok};
+ghost use Rattle.ps_tokens.specs.Dictionaries.{AreObjects};
+ghost use Rattle.ps_tokens.specs.Limits.{longest_job};
+ghost use Rattle.ps_tokens.specs.Objects.{objects_of};
+ghost use Rattle.ps_tokens.specs.Tokens.{tokens_of};
+ghost use Rattle.job_pages.specs.Passages.{shows};
+ghost use Rattle.job_pages.specs.Runs.{GivesRun, IsRun, count_of, end_fault, run_from, run_of, run_refusal};
+
+use crate::passages::{Passage, PassageList, passages};
+use lists::list::List;
+use lists::names::OutOfMemory;
+use ps_tokens::faults::{FaultKind, JobFault, JobRefusal};
+use ps_tokens::object::ObjectList;
+use ps_tokens::token::TokenList;
+use ps_tokens::{objects, tokens};
+use std::alloc::Global;
+
+/// How many pages a job may have.
+pub const MOST_PAGES: usize = 256;
+
+/// Why a job of many pages was not read.
+#[derive(Clone, Copy, Debug, Drop, PartialEq, Eq)]
+pub enum RunRefusal {
+    /// The job as a whole has a fault.
+    Fault(JobFault),
+    /// The 257th `showpage` stands at this offset.
+    TooManyPages(u32),
+    OutOfMemory,
+}
+
+/// A job of many pages: its statements, and those of them that end its pages.
+#[derive(Drop)]
+pub struct Run {
+    pub passages: PassageList,
+    pub shown: PassageList,
+}
+
+/// How many pages a job has: one for each `showpage`, at most `MOST_PAGES`. It has at most `ps_tokens::LONGEST_JOB` bytes.
+///
+/// The faults of the whole job's tokens come first, then those of its objects; then `NoShowpage` where there is no page,
+/// `AfterShowpage` at the first object behind the last page, and `TooManyPages`.
+pub fn page_count(alloc: Global, bytes: &[u8]) -> Result<u32, RunRefusal>
+    requires { length bytes.now ≤ longest_job }
+    ensures { GivesRun result (count_of bytes.now) }
+{
+    match read_run(alloc, bytes) {
+        Ok(run) => Ok(run.shown.len() as u32),
+        Err(refusal) => Err(refusal),
+    }
+}
+
+/// The statements of a job of many pages, with the refusals of `page_count`.
+#[tactic(auto, unfolding(crate::specs::Runs::run_of))]
+pub fn read_run(alloc: Global, bytes: &[u8]) -> Result<Run, RunRefusal>
+    requires { length bytes.now ≤ longest_job }
+    ensures { IsRun result (run_of bytes.now) }
+{
+    match tokens(alloc, bytes) {
+        Ok(found) => run_of_tokens(alloc, bytes, &found),
+        Err(JobRefusal::Fault(fault)) => Err(RunRefusal::Fault(fault)),
+        Err(JobRefusal::OutOfMemory) => Err(RunRefusal::OutOfMemory),
+    }
+}
+
+fn run_of_tokens(alloc: Global, bytes: &[u8], tokens: &TokenList) -> Result<Run, RunRefusal>
+    requires size { length bytes.now ≤ longest_job }
+    requires of_bytes { tokens_of bytes.now ≡ Ok tokens.now }
+    ensures { IsRun result (run_from (length bytes.now) (objects_of bytes.now tokens.now)) }
+{
+    match objects(alloc, bytes, tokens) {
+        Ok(found) => run_of_objects(alloc, bytes.len() as u32, &found),
+        Err(JobRefusal::Fault(fault)) => Err(RunRefusal::Fault(fault)),
+        Err(JobRefusal::OutOfMemory) => Err(RunRefusal::OutOfMemory),
+    }
+}
+
+fn run_of_objects(alloc: Global, len: u32, objects: &ObjectList) -> Result<Run, RunRefusal>
+    requires { AreObjects objects.now }
+    ensures { IsRun result (run_from len (Ok objects.now)) }
+{
+    let Ok(passages) = passages(alloc, objects) else {
+        return Err(RunRefusal::OutOfMemory);
+    };
+    let Ok(shown) = shown_among(alloc, passages.as_slice()) else {
+        return Err(RunRefusal::OutOfMemory);
+    };
+    match run_refusal(len, objects, shown.as_slice()) {
+        Some(refusal) => Err(refusal),
+        None => Ok(Run { passages, shown }),
+    }
+}
+
+// The statements that end pages.
+fn shown_among(alloc: Global, passages: &[Passage]) -> Result<PassageList, OutOfMemory>
+    ensures { IfOk result (λ found. found ≡ filter shows passages.now) }
+{
+    let mut found = List::new(alloc);
+    for passage in passages {
+        if passage.shows() && found.push(*passage).is_err() {
+            return Err(OutOfMemory);
+        }
+    }
+    Ok(found)
+}
+
+fn run_refusal(len: u32, objects: &ObjectList, shown: &[Passage]) -> Option<RunRefusal>
+    ensures { result ≡ run_refusal len objects.now shown.now }
+{
+    match end_fault(len, objects, shown.last()) {
+        Some(fault) => Some(RunRefusal::Fault(fault)),
+        None => match shown.get(MOST_PAGES) {
+            Some(passage) => Some(RunRefusal::TooManyPages(passage.at)),
+            None => None,
+        },
+    }
+}
+
+// What is wrong at the job's end, behind its last page.
+fn end_fault(len: u32, objects: &ObjectList, last: Option<&Passage>) -> Option<JobFault>
+    ensures { result ≡ end_fault len objects.now (option_copied last.entry) }
+{
+    match last {
+        None => Some(JobFault {
+            kind: FaultKind::NoShowpage,
+            at: len,
+        }),
+        Some(passage) => match objects.get(passage.place as usize + 1) {
+            Some(object) => Some(JobFault {
+                kind: FaultKind::AfterShowpage,
+                at: object.at,
+            }),
+            None => None,
+        },
+    }
+}

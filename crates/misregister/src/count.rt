@@ -1,0 +1,55 @@
+ghost use Rattle.std.specs.Prelude.{◌≡◌, ◌+◌, ◌<◌, ◌≤◌, ◌*◌, ◌==◌, ℕ, count_by, length, slice_index};
+ghost use Rattle.plane_shapes.specs.Shapes.{wide, tall};
+ghost use Rattle.misregister.specs.Risk.{risk};
+
+use crate::plate::shade_plate;
+use crate::room::RiskBuf;
+use crate::sheet::Sheet;
+use page_model::steps::Steps;
+use std::sync::ledger::Ledger;
+
+/// No plate has ink yet.
+fn whiten(shades: &mut [u8])
+    ensures { (k : ℕ) → k < length shades.old → slice_index shades.new k ≡ 2 }
+{
+    for shade in shades.iter_mut() {
+        *shade = 2;
+    }
+}
+
+/// How many samples some plate has ink on, and all plates can leave bare.
+fn at_risk(shades: &[u8]) -> u64
+    ensures { result ≡ count_by (λ shade. shade == 1) shades.now }
+{
+    shades.iter().filter(|shade| **shade == 1).count() as u64
+}
+
+/// How many samples of the sheet are at risk where each plate shifts by at most `radius` samples to each side. It asks for
+/// each sample of a plate once, whatever the radius is.
+pub fn risk_count<L: Ledger>(
+    sheet: &Sheet,
+    width: u32,
+    height: u32,
+    plates: u32,
+    radius: u32,
+    buf: &mut RiskBuf,
+    steps: &mut Steps<L>,
+) -> u64
+    requires width { width ≡ wide sheet.now }
+    requires height { height ≡ tall sheet.now }
+    requires plates { plates ≡ length sheet.now }
+    requires radius { radius ≤ 16 }
+    requires buffer_width { buf.old.wide ≡ width }
+    requires buffer_height { buf.old.tall ≡ height }
+    ensures risk { result ≡ risk sheet.now radius }
+    ensures steps { steps.new ≤ steps.old + plates * (width * height) }
+    ensures buffer { buf.new ≡ buf.old }
+{
+    let _size = (width, sheet.height());
+    let room = &mut buf.room;
+    whiten(room.shades.as_mut_slice());
+    for c in 0..plates {
+        shade_plate(sheet, c, height, radius, room, steps);
+    }
+    at_risk(room.shades.as_slice())
+}

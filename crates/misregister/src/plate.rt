@@ -1,0 +1,180 @@
+// One plate of a sheet, row by row.
+
+ghost use Rattle.std.specs.Prelude.{◌≡◌, ◌+◌, ◌-◌, ◌<◌, ◌≤◌, ◌*◌, ℕ, List, min, nat_lt, length, slice_index, if◌then◌else◌};
+ghost use Rattle.plane_shapes.specs.Shapes.{wide, tall};
+ghost use Rattle.misregister.specs.Sweep.{HasRoom, IsRowPut, IsUnderWay, at, shade};
+
+use crate::room::Room;
+use crate::row::{ask_row, put_near};
+use crate::sheet::Sheet;
+use page_model::steps::Steps;
+use std::sync::ledger::Ledger;
+
+/// No sample of row y is lighter than the plate's row.
+fn darken_row(shades: &mut [u8], y: usize, row: &[u8])
+    requires place { (y + 1) * length row.now ≤ length shades.old }
+    ensures { IsRowPut shades.old shades.new (length row.now) y
+        (λ x. min (at shades.old (length row.now) y x) (slice_index row.now x)) }
+{
+    let first = y * row.len();
+    for x in 0..row.len() {
+        shades[first + x] = shades[first + x].min(row[x]);
+    }
+}
+
+/// The samples of row y that no row bares are not at risk.
+fn close_row(shades: &mut [u8], y: u32, until: &[u32])
+    requires place { (y + 1) * length until.now ≤ length shades.old }
+    ensures { IsRowPut shades.old shades.new (length until.now) y
+        (λ x. if nat_lt y (slice_index until.now x)
+        then at shades.old (length until.now) y x else 0) }
+{
+    let first = y as usize * until.len();
+    for x in 0..until.len() {
+        shades[first + x] = if y < until[x] { shades[first + x] } else { 0 };
+    }
+}
+
+/// Asks plate c for row y, and notes where it has no ink and which columns the row bares.
+fn enter_row<L: Ledger>(
+    sheet: &Sheet,
+    c: u32,
+    y: u32,
+    radius: u32,
+    room: &mut Room,
+    steps: &mut Steps<L>,
+)
+    requires plate { c < length sheet.now }
+    requires row { y < tall sheet.now }
+    requires radius { radius ≤ 16 }
+    requires room { HasRoom sheet.now room.old }
+    ensures room { HasRoom sheet.now room.new }
+    ensures entered { (older : List ℕ) (left : ℕ) → left ≤ y
+        → IsUnderWay sheet.now radius c older room.old y left
+        → IsUnderWay sheet.now radius c older room.new (y + 1) left }
+    ensures steps { steps.new ≡ steps.old + wide sheet.now }
+{
+    let _height = sheet.height();
+    ask_row(sheet, c, y, room.row.as_mut_slice(), steps);
+    let row = room.row.as_slice();
+    darken_row(room.shades.as_mut_slice(), y as usize, row);
+    put_near(
+        row,
+        radius as usize,
+        y + radius + 1,
+        room.until.as_mut_slice(),
+    );
+}
+
+/// Closes row y, all rows near it having been asked.
+fn leave_row(sheet: &Sheet, y: u32, room: &mut Room)
+    requires row { y < tall sheet.now }
+    requires room { HasRoom sheet.now room.old }
+    ensures room { HasRoom sheet.now room.new }
+    ensures left { (radius c : ℕ) (older : List ℕ) (entered : ℕ) → entered
+        ≡ min (y + radius + 1) (tall sheet.now)
+        → IsUnderWay sheet.now radius c older room.old entered y
+        → IsUnderWay sheet.now radius c older room.new entered (y + 1) }
+{
+    let until = room.until.as_slice();
+    close_row(room.shades.as_mut_slice(), y, until);
+}
+
+/// Asks plate c for the first rows.
+fn enter_rows<L: Ledger>(
+    sheet: &Sheet,
+    c: u32,
+    rows: u32,
+    radius: u32,
+    room: &mut Room,
+    steps: &mut Steps<L>,
+)
+    requires plate { c < length sheet.now }
+    requires rows { rows ≤ tall sheet.now }
+    requires radius { radius ≤ 16 }
+    requires room { HasRoom sheet.now room.old }
+    ensures room { HasRoom sheet.now room.new }
+    ensures entered { (older : List ℕ) → IsUnderWay sheet.now radius c older room.old 0 0
+        → IsUnderWay sheet.now radius c older room.new rows 0 }
+    ensures steps { steps.new ≡ steps.old + wide sheet.now * rows }
+{
+    for y in 0..rows {
+        enter_row(sheet, c, y, radius, room, steps);
+    }
+}
+
+/// Asks plate c for each row that is left, and closes the row that lies `radius` above it.
+fn pass_rows<L: Ledger>(
+    sheet: &Sheet,
+    c: u32,
+    rows: u32,
+    radius: u32,
+    room: &mut Room,
+    steps: &mut Steps<L>,
+)
+    requires plate { c < length sheet.now }
+    requires rows { rows ≡ tall sheet.now - radius }
+    requires radius { radius ≤ 16 }
+    requires room { HasRoom sheet.now room.old }
+    ensures room { HasRoom sheet.now room.new }
+    ensures passed { (older : List ℕ)
+        → IsUnderWay sheet.now radius c older room.old (min radius (tall sheet.now)) 0
+        → IsUnderWay sheet.now radius c older room.new (tall sheet.now) rows }
+    ensures steps { steps.new ≡ steps.old + wide sheet.now * rows }
+{
+    let _height = sheet.height();
+    for y in 0..rows {
+        enter_row(sheet, c, y + radius, radius, room, steps);
+        leave_row(sheet, y, room);
+    }
+}
+
+/// Closes the last rows, all rows having been asked.
+fn leave_rows(sheet: &Sheet, first: u32, height: u32, room: &mut Room)
+    requires height { height ≡ tall sheet.now }
+    requires room { HasRoom sheet.now room.old }
+    ensures room { HasRoom sheet.now room.new }
+    ensures left { (radius c : ℕ) (older : List ℕ) → tall sheet.now ≤ first + radius
+        → first ≤ height
+        → IsUnderWay sheet.now radius c older room.old (tall sheet.now) first
+        → IsUnderWay sheet.now radius c older room.new (tall sheet.now) (tall sheet.now) }
+{
+    for y in first..height {
+        leave_row(sheet, y, room);
+    }
+}
+
+/// No column is bared yet.
+fn begin(until: &mut [u32])
+    ensures { (x : ℕ) → x < length until.old → slice_index until.new x ≡ 0 }
+{
+    for cell in until.iter_mut() {
+        *cell = 0;
+    }
+}
+
+/// Darkens the samples by plate c, each of which is asked for once.
+pub(crate) fn shade_plate<L: Ledger>(
+    sheet: &Sheet,
+    c: u32,
+    height: u32,
+    radius: u32,
+    room: &mut Room,
+    steps: &mut Steps<L>,
+)
+    requires plate { c < length sheet.now }
+    requires height { height ≡ tall sheet.now }
+    requires radius { radius ≤ 16 }
+    requires room { HasRoom sheet.now room.old }
+    ensures room { HasRoom sheet.now room.new }
+    ensures shades { (x y : ℕ) → x < wide sheet.now → y < tall sheet.now
+        → at room.new.shades.items (wide sheet.now) y x
+        ≡ min (at room.old.shades.items (wide sheet.now) y x) (shade sheet.now radius c x y) }
+    ensures steps { steps.new ≡ steps.old + wide sheet.now * tall sheet.now }
+{
+    begin(room.until.as_mut_slice());
+    let lead = radius.min(height);
+    enter_rows(sheet, c, lead, radius, room, steps);
+    pass_rows(sheet, c, height - lead, radius, room, steps);
+    leave_rows(sheet, height - lead, height, room);
+}

@@ -1,0 +1,62 @@
+ghost use Rattle.std.specs.Prelude.{◌≡◌, ◌*◌, IfOk, vec_len};
+ghost use Rattle.misregister.specs.Sides.{Sides};
+
+use page_model::parts::OutOfMemory;
+use std::alloc::Global;
+use std::marker::Model;
+
+/// What the count is worked out in: one row of a plate, how far down each column is bared, and the page's samples.
+#[derive(Drop)]
+pub(crate) struct Room {
+    /// For each sample of a row 2 where the plate has no ink, else 1.
+    pub(crate) row: Vec<u8>,
+    /// For each column the first row that none of the rows so far bares.
+    pub(crate) until: Vec<u32>,
+    /// For each sample of the page 2 where no plate so far has ink, 1 where one has and all can leave it bare, else 0.
+    pub(crate) shades: Vec<u8>,
+}
+
+/// The room in which the risk of pages of some size is counted.
+#[derive(Drop)]
+pub struct RiskBuf {
+    width: u32,
+    height: u32,
+    pub(crate) room: Room,
+}
+
+impl Model for RiskBuf {
+    ghost use Rattle.std.specs.Prelude.{◌≡◌, ◌*◌, vec_len};
+    ghost use Rattle.misregister.specs.Sides.{Sides};
+
+    ghost Value = { Sides };
+
+    ghost view = { λ b. record { wide = b.width; tall = b.height } };
+
+    ghost invariant = { λ b. (vec_len b.room.row ≡ b.width) × (vec_len b.room.until ≡ b.width)
+        × (vec_len b.room.shades ≡ b.width * b.height) };
+}
+
+fn filled<T: Copy + Drop>(alloc: Global, item: T, count: usize) -> Result<Vec<T>, OutOfMemory>
+    ensures { IfOk result (λ items. vec_len items ≡ count) }
+{
+    match vec![in alloc; item; count] {
+        Ok(items) => Ok(items),
+        Err(_) => Err(OutOfMemory),
+    }
+}
+
+impl RiskBuf {
+    /// Room for pages of that many columns and rows: a byte for each sample, and five more for each column.
+    pub fn new(alloc: Global, width: u32, height: u32) -> Result<RiskBuf, OutOfMemory>
+        ensures { IfOk result (λ buf. buf ≡ record { wide = width; tall = height }) }
+    {
+        let row = filled(alloc, 0u8, width as usize)?;
+        let until = filled(alloc, 0u32, width as usize)?;
+        let shades = filled(alloc, 0u8, width as usize * height as usize)?;
+        Ok(RiskBuf {
+            width,
+            height,
+            room: Room { row, until, shades },
+        })
+    }
+}

@@ -1,7 +1,0 @@
-use Rattle.std.proofs.Common.{◌≡◌, take}
-use Rattle.std.specs.Prelude.{filter}
-use Rattle.page_jobs.specs.Passages.{shows}
-use Rattle.page_jobs.proofs.run.shown_among.Given as goal
-
-abbrev pub invariant-loop-passage : goal.invariant-loop-passage
-invariant-loop-passage l = l.found ≡ filter shows (take l.passage-index l.passages)

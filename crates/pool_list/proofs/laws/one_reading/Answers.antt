@@ -1,5 +1,0 @@
-use Rattle.pool_list.proofs.Readings.{one_reading}
-use Rattle.pool_list.proofs.laws.one_reading.Goals as goal
-
-pub returns : goal.returns
-returns c = one_reading

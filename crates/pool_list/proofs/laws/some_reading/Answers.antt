@@ -1,5 +1,0 @@
-use Rattle.pool_list.proofs.Readings.{some_reading}
-use Rattle.pool_list.proofs.laws.some_reading.Goals as goal
-
-pub returns : goal.returns
-returns c = some_reading

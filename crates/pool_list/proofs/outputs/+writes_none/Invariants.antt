@@ -1,5 +1,0 @@
-use Rattle.std.proofs.Common.{length}
-use Rattle.pool_list.proofs.outputs.+writes_none.Given as goal
-
-abbrev pub decreases-writes_none : goal.decreases-writes_none
-decreases-writes_none l = length l.names.now

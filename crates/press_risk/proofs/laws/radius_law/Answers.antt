@@ -1,8 +1,0 @@
-use Rattle.press_risk.proofs.RiskLaws.{risk_grows, risk_at_rest}
-use Rattle.press_risk.proofs.laws.radius_law.Goals as goal
-
-pub returns-clause-grows : goal.returns-clause-grows
-returns-clause-grows c = risk_grows c.args.sheet.now
-
-pub returns-clause-at_rest : goal.returns-clause-at_rest
-returns-clause-at_rest c = risk_at_rest c.args.sheet.now

@@ -1,6 +1,0 @@
-use Rattle.std.proofs.Common.{ℕ, min, length, slice_index}
-use Rattle.press_risk.specs.Sweep.{IsRowSoFar, at}
-use Rattle.press_risk.proofs.plate.darken_row.Given as goal
-
-abbrev pub invariant-loop-x : goal.invariant-loop-x
-invariant-loop-x l = IsRowSoFar l.initial.shades l.shades (length l.row) l.y (λ (k : ℕ). min (at l.initial.shades (length l.row) l.y k) (slice_index l.row k)) l.x

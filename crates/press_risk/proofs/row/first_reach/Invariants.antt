@@ -1,6 +1,0 @@
-use Rattle.std.proofs.Common.{◌≡◌}
-use Rattle.press_risk.specs.Sweep.{bared_until, is_clear}
-use Rattle.press_risk.proofs.row.first_reach.Given as goal
-
-abbrev pub invariant-loop-x : goal.invariant-loop-x
-invariant-loop-x l = l.reach ≡ bared_until (is_clear l.row) l.radius l.x

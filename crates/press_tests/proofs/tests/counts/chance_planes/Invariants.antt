@@ -1,7 +1,0 @@
-use Rattle.std.proofs.Common.{◌≡◌, vec_len}
-use Rattle.std.specs.List.{All}
-use Rattle.press_risk.proofs.SmallSheets.{IsSmall}
-use Rattle.press_tests.proofs.tests.counts.chance_planes.Given as goal
-
-abbrev pub invariant-loop-c : goal.invariant-loop-c
-invariant-loop-c l = record { count : vec_len l.planes ≡ l.c; small : All (IsSmall l.width l.height) l.planes.items }

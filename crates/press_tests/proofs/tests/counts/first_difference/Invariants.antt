@@ -1,4 +1,0 @@
-use Rattle.press_tests.proofs.tests.counts.first_difference.Given as goal
-
-abbrev pub ghosts-counted : goal.ghosts-counted
-ghosts-counted a = record { name = a.blank.name; parts = a.blank.parts }

@@ -1,0 +1,4 @@
+use Rattle.presscheck_tests.proofs.tests.counts.first_difference.Given as goal
+
+abbrev pub ghosts-counted : goal.ghosts-counted
+ghosts-counted a = record { name = a.blank.name; parts = a.blank.parts }

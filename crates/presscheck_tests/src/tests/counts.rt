@@ -1,0 +1,220 @@
+ghost use Rattle.std.specs.Prelude.{◌≡◌, ◌+◌, ◌*◌, ◌<◌, ◌≤◌, ℕ, List, length, IfOk, All};
+ghost use Rattle.page_model.specs.declared.parts.Plane.{Plane};
+ghost use Rattle.page_model.specs.Conditions.{IsPlane};
+ghost use Rattle.plane_shapes.specs.Shapes.{AreOneShape, wide, tall};
+
+use lists::list::List;
+use misregister::sheet::Sheet;
+use misregister::{RiskBuf, risk_count};
+use page_model::parts::{Plane, PlaneList};
+use page_model::steps::Steps;
+use std::alloc::Global;
+use std::marker::Brand;
+use std::sync::ledger::{Blank, Ledger};
+use std::test::Fail;
+
+/// Samples by chance, of eight so many without ink.
+fn chance_tints(alloc: Global, count: usize, seed: u32, bare: u32) -> Result<List<u16>, Fail>
+    ensures count { IfOk result (λ tints. length tints ≡ count) }
+    ensures below { IfOk result (λ tints. All (λ tint. tint ≤ 255) tints) }
+{
+    let mut state = seed;
+    let mut tints = Vec::new(alloc);
+    for _ in 0..count {
+        state = state.wrapping_mul(1_664_525).wrapping_add(1_013_904_223);
+        let inked = (state >> 16) % 8 >= bare;
+        tints.push(if inked { 255 } else { 0 })?;
+    }
+    Ok(List::from_vec(tints))
+}
+
+fn chance_plane(alloc: Global, width: u32, height: u32, seed: u32, bare: u32) -> Result<Plane, Fail>
+    requires some_width { 1 ≤ width }
+    requires narrow { width ≤ 40 }
+    requires some_height { 1 ≤ height }
+    requires low { height ≤ 40 }
+    ensures plane { IfOk result IsPlane }
+    ensures wide { IfOk result (λ plane. plane.width ≡ width) }
+    ensures tall { IfOk result (λ plane. plane.height ≡ height) }
+    ensures deep { IfOk result (λ plane. plane.maxval ≡ 255) }
+{
+    let tints = chance_tints(alloc, (width * height) as usize, seed, bare)?;
+    Ok(Plane {
+        width,
+        height,
+        maxval: 255,
+        tints,
+    })
+}
+
+/// Planes of one shape, each with other samples.
+fn chance_planes(
+    alloc: Global,
+    width: u32,
+    height: u32,
+    plates: u32,
+    bare: u32,
+) -> Result<PlaneList, Fail>
+    requires some_width { 1 ≤ width }
+    requires narrow { width ≤ 40 }
+    requires some_height { 1 ≤ height }
+    requires low { height ≤ 40 }
+    requires some { 1 ≤ plates }
+    requires few { plates ≤ 16 }
+    ensures shape { IfOk result AreOneShape }
+    ensures wide { IfOk result (λ planes. wide planes ≡ width) }
+    ensures tall { IfOk result (λ planes. tall planes ≡ height) }
+    ensures plates { IfOk result (λ planes. length planes ≡ plates) }
+{
+    let mut planes = Vec::new(alloc);
+    for c in 0..plates {
+        planes.push(chance_plane(alloc, width, height, 977 * c + width, bare)?)?;
+    }
+    Ok(List::from_vec(planes))
+}
+
+/// Whether the plane has a sample without ink in the window of a sample.
+fn bares(plane: &Plane, x: u32, y: u32, radius: u32) -> bool
+    requires column { x < 40 }
+    requires row { y < 40 }
+    requires narrow { plane.now.width ≤ 40 }
+    requires low { plane.now.height ≤ 40 }
+    requires radius { radius ≤ 16 }
+{
+    for k in y.saturating_sub(radius)..plane.height.min(y + radius + 1) {
+        for j in x.saturating_sub(radius)..plane.width.min(x + radius + 1) {
+            let place = (k * plane.width + j) as usize;
+            if plane.tints.as_slice().get(place) == Some(&0) {
+                return true;
+            }
+        }
+    }
+    false
+}
+
+/// Whether the sample has ink in some plane and a sample without ink in its window in each.
+fn endangered(planes: &PlaneList, x: u32, y: u32, radius: u32) -> bool
+    requires column { x < 40 }
+    requires row { y < 40 }
+    requires narrow { All (λ plane. plane.width ≤ 40) planes.now }
+    requires low { All (λ plane. plane.height ≤ 40) planes.now }
+    requires radius { radius ≤ 16 }
+{
+    let mut inked = false;
+    for plane in planes.as_slice() {
+        inked = inked || !bares(plane, x, y, 0);
+        if !bares(plane, x, y, radius) {
+            return false;
+        }
+    }
+    inked
+}
+
+fn slow_count(planes: &PlaneList, width: u32, height: u32, radius: u32) -> u64
+    requires width { width ≤ 40 }
+    requires height { height ≤ 40 }
+    requires narrow { All (λ plane. plane.width ≤ 40) planes.now }
+    requires low { All (λ plane. plane.height ≤ 40) planes.now }
+    requires radius { radius ≤ 16 }
+{
+    let mut count = 0u64;
+    for y in 0..height {
+        for x in 0..width {
+            if endangered(planes, x, y, radius) {
+                count = count.wrapping_add(1);
+            }
+        }
+    }
+    count
+}
+
+fn counted<L: Ledger>(
+    alloc: Global,
+    planes: &PlaneList,
+    width: u32,
+    height: u32,
+    plates: u32,
+    radius: u32,
+    blank: Blank,
+) -> Option<u64>
+    requires shape { AreOneShape planes.now }
+    requires width { width ≡ wide planes.now }
+    requires height { height ≡ tall planes.now }
+    requires plates { plates ≡ length planes.now }
+    requires radius { radius ≤ 16 }
+    requires name { blank.name ≡ L.name }
+    requires parts { blank.parts ≡ L.parts }
+    requires some_parts { 0 < L.parts }
+{
+    match RiskBuf::new(alloc, width, height) {
+        Ok(buf) => {
+            let mut buf = buf;
+            let mut steps = Steps::<L>::new(blank);
+            let sheet = Sheet::new(planes);
+            Some(risk_count(&sheet, width, height, plates, radius, &mut buf, &mut steps))
+        }
+        Err(_) => None,
+    }
+}
+
+/// The first radius at which the two counts differ.
+fn first_difference(
+    alloc: Global,
+    planes: &PlaneList,
+    width: u32,
+    height: u32,
+    plates: u32,
+) -> Option<u32>
+    requires shape { AreOneShape planes.now }
+    requires width { width ≡ wide planes.now }
+    requires height { height ≡ tall planes.now }
+    requires plates { plates ≡ length planes.now }
+    requires narrow { width ≤ 40 }
+    requires low { height ≤ 40 }
+{
+    for radius in 0..17 {
+        let slow = slow_count(planes, width, height, radius);
+        let fast = counted::<Brand>(alloc, planes, width, height, plates, radius, Blank::new(1));
+        if fast != Some(slow) {
+            return Some(radius);
+        }
+    }
+    None
+}
+
+/// The first radius at which the counts of a page by chance differ, 99 where the page is none.
+fn case(
+    alloc: Global,
+    width: u32,
+    height: u32,
+    plates: u32,
+    bare: u32,
+) -> Result<Option<u32>, Fail> {
+    if width < 1 || width > 40 || height < 1 || height > 40 || plates < 1 || plates > 16 {
+        return Ok(Some(99));
+    }
+    let planes = chance_planes(alloc, width, height, plates, bare)?;
+    Ok(first_difference(alloc, &planes, width, height, plates))
+}
+
+#[test]
+fn pages_by_chance_are_counted_as_the_definition_says(rt: HostRuntime) -> Result<(), Fail> {
+    for (width, height, plates, bare) in [
+        (1, 1, 1, 0),
+        (1, 1, 2, 8),
+        (40, 1, 2, 1),
+        (1, 40, 2, 1),
+        (2, 3, 3, 4),
+        (7, 5, 1, 1),
+        (5, 7, 1, 2),
+        (17, 16, 3, 1),
+        (16, 18, 2, 1),
+        (33, 34, 2, 1),
+        (9, 9, 16, 2),
+        (40, 40, 4, 1),
+    ] {
+        let found = case(rt.alloc(), width, height, plates, bare)?;
+        assert!(rt; found == None, "{width} by {height}, {plates} plates");
+    }
+    Ok(())
+}

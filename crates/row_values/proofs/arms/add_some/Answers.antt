@@ -1,0 +1,5 @@
+use Rattle.row_values.proofs.ArmsLemmas.{added_blank}
+use Rattle.row_values.proofs.arms.add_some.Goals as goal
+
+pub returns-then-are_zero-clause-so_far : goal.returns-then-are_zero-clause-so_far
+returns-then-are_zero-clause-so_far c = added_blank c.args.codes.now c.args.x2 c.args.count _ _ c.args.before (c.are_zero.ensures.only c.if-are_zero.true) c.requires.so_far

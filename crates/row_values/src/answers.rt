@@ -1,0 +1,138 @@
+ghost use Rattle.std.specs.Prelude.{◌≡◌, ◌<◌, ◌≤◌, ◌+◌, ◌*◌, ◌-◌, true, ℕ, length, slice_index};
+ghost use Rattle.row_values.specs.Rows.{HoldsAnswers, HoldsMarks, doubled};
+ghost use Rattle.page_model.specs.Columns.{AreMarks, halo};
+ghost use Rattle.page_model.specs.Marks.{held_rows};
+ghost use Rattle.page_model.specs.Page.{height};
+ghost use Rattle.page_model.specs.Reach.{page_reach};
+
+use crate::rows::Rows;
+use column_scan::columns;
+use page_model::marks::Marks;
+use page_model::page::Page;
+use page_model::steps::Steps;
+use std::marker::Brand;
+use std::sync::ledger::{Blank, Ledger};
+
+/// Whether no sample of these has a mark. It goes over all of them, without a branch, so that many go at once.
+fn are_blank(marks: &[u8]) -> bool
+    ensures { result ≡ true → (k : ℕ) → k < length marks.now → slice_index marks.now k ≡ 0 }
+{
+    let mut all = true;
+    for k in 0..marks.len() {
+        all = all & (marks[k] == 0);
+    }
+    all
+}
+
+/// The marks of some rows, as the columns read them.
+fn marks_of<'a>(page: &Page, held: Rows, marks: &'a [u8]) -> Marks<'a>
+    requires marks { HoldsMarks page.now held marks.now }
+    requires some { 1 ≤ held.count }
+    requires inside { held.first + held.count ≤ height page.now }
+    ensures marks { AreMarks page.now result }
+    ensures top { result.top ≡ held.first }
+    ensures rows { held_rows result ≡ held.count }
+{
+    Marks::new(page.width(), held.first, marks)
+}
+
+fn scan<L: Ledger>(
+    page: &Page,
+    rows: Rows,
+    held: Rows,
+    marks: &[u8],
+    out: &mut [u16],
+    steps: &mut Steps<L>,
+)
+    requires marks { HoldsMarks page.now held marks.now }
+    requires some { 1 ≤ rows.count }
+    requires inside { rows.first + rows.count ≤ height page.now }
+    requires held { held.first + held.count ≤ height page.now }
+    requires above { held.first ≤ rows.first }
+    requires under { rows.first + rows.count ≤ held.first + held.count }
+    requires far_above { (row : ℕ) → rows.first ≤ row + halo (page_reach page.now)
+        → held.first ≤ row }
+    requires far_under { (row : ℕ) → row < height page.now
+        → row < rows.first + rows.count + halo (page_reach page.now)
+        → row < held.first + held.count }
+    requires out { length out.old ≡ rows.count * doubled page.now }
+    ensures answers { HoldsAnswers page.now rows out.new }
+    ensures len { length out.new ≡ length out.old }
+{
+    let marks = marks_of(page, held, marks);
+    columns(
+        &marks,
+        page.width(),
+        rows.first,
+        rows.count,
+        page.reach2(),
+        out,
+        steps,
+    );
+}
+
+/// The same with a counter of its own.
+fn scan_counted<L: Ledger>(
+    page: &Page,
+    rows: Rows,
+    held: Rows,
+    marks: &[u8],
+    out: &mut [u16],
+    blank: Blank,
+)
+    requires name { blank.name ≡ L.name }
+    requires parts { blank.parts ≡ L.parts }
+    requires counting { 0 < L.parts }
+    requires marks { HoldsMarks page.now held marks.now }
+    requires some { 1 ≤ rows.count }
+    requires inside { rows.first + rows.count ≤ height page.now }
+    requires held { held.first + held.count ≤ height page.now }
+    requires above { held.first ≤ rows.first }
+    requires under { rows.first + rows.count ≤ held.first + held.count }
+    requires far_above { (row : ℕ) → rows.first ≤ row + halo (page_reach page.now)
+        → held.first ≤ row }
+    requires far_under { (row : ℕ) → row < height page.now
+        → row < rows.first + rows.count + halo (page_reach page.now)
+        → row < held.first + held.count }
+    requires out { length out.old ≡ rows.count * doubled page.now }
+    ensures answers { HoldsAnswers page.now rows out.new }
+    ensures len { length out.new ≡ length out.old }
+{
+    let mut steps = Steps::<L>::new(blank);
+    scan(page, rows, held, marks, out, &mut steps);
+}
+
+/// No column has an answer.
+fn clear(out: &mut [u16])
+    ensures len { length out.new ≡ length out.old }
+    ensures each { (k : ℕ) → k < length out.old → slice_index out.new k ≡ 0 }
+{
+    out.fill(0);
+}
+
+/// Writes the column answers of these rows, row by row from doubled column 0 on. The marks are those of the rows `held`:
+/// these rows, and all rows of the page that are as near as its reach goes. Where none of them has a mark no column is
+/// gone over.
+pub fn make_answers(page: &Page, rows: Rows, held: Rows, marks: &[u8], out: &mut [u16])
+    requires marks { HoldsMarks page.now held marks.now }
+    requires some { 1 ≤ rows.count }
+    requires inside { rows.first + rows.count ≤ height page.now }
+    requires held { held.first + held.count ≤ height page.now }
+    requires above { held.first ≤ rows.first }
+    requires under { rows.first + rows.count ≤ held.first + held.count }
+    requires far_above { (row : ℕ) → rows.first ≤ row + halo (page_reach page.now)
+        → held.first ≤ row }
+    requires far_under { (row : ℕ) → row < height page.now
+        → row < rows.first + rows.count + halo (page_reach page.now)
+        → row < held.first + held.count }
+    requires out { length out.old ≡ rows.count * doubled page.now }
+    ensures answers { HoldsAnswers page.now rows out.new }
+    ensures len { length out.new ≡ length out.old }
+{
+    if are_blank(marks) {
+        clear(out);
+    } else {
+        let blank = Blank::new(1);
+        scan_counted::<Brand>(page, rows, held, marks, out, blank);
+    }
+}

@@ -1,0 +1,90 @@
+// The edge that decides each sample of a row, from the row's column answers.
+
+ghost use Rattle.std.specs.Prelude.{◌≡◌, ◌≤◌, ◌<◌, ◌+◌, ◌*◌, ◌-◌, ℕ, length, slice_index, slice_index_or, None};
+ghost use Rattle.std.specs.Option.{MatchOption};
+ghost use Rattle.page_model.specs.Columns.{column_decider};
+ghost use Rattle.page_model.specs.Page.{width};
+ghost use Rattle.page_model.specs.Limits.{most_reach, most_side};
+ghost use Rattle.row_values.specs.Arms.{AreAnswers, edge_at_place};
+
+use crate::arms::raise_arms;
+use page_model::arms::Arm;
+use page_model::page::Page;
+use page_model::steps::Steps;
+use row_envelope::{HullBuf, nearest_row};
+use std::marker::Brand;
+use std::sync::ledger::{Blank, Ledger};
+
+/// With a counter of the ledger's own.
+fn nearest_by<L: Ledger>(
+    page: &Page,
+    codes: &[u16],
+    y: u32,
+    reach2: u32,
+    arms: &mut [Arm],
+    columns: &mut [u32],
+    places: &mut [Option<u32>],
+    hull: &mut HullBuf,
+    blank: Blank,
+)
+    requires name { blank.name ≡ L.name }
+    requires parts { blank.parts ≡ L.parts }
+    requires counting { 0 < L.parts }
+    requires row { y ≤ most_side }
+    requires reach { reach2 ≤ most_reach }
+    requires codes { AreAnswers page.now reach2 y (2 * width page.now - 1) codes.now }
+    requires arms { length arms.old ≡ 2 * width page.now - 1 }
+    requires columns { length columns.old ≡ 2 * width page.now - 1 }
+    requires places { length places.old ≡ width page.now }
+    requires hull { hull.old ≡ 2 * width page.now - 1 }
+    ensures arms { length arms.new ≡ length arms.old }
+    ensures columns { length columns.new ≡ length columns.old }
+    ensures places { length places.new ≡ length places.old }
+    ensures hull { hull.new ≡ hull.old }
+    ensures known { (x : ℕ) → x < width page.now
+        → MatchOption (slice_index_or places.new x None) (0 ≤ y)
+        (λ k. (k < length columns.new) × (slice_index columns.new k < length codes.now)
+        × (257 ≤ slice_index codes.now (slice_index columns.new k) + 2 * y)) }
+    ensures deciders { (x : ℕ) → x < width page.now
+        → edge_at_place codes.now y columns.new (slice_index_or places.new x None)
+        ≡ column_decider page.now reach2 (record { x = x; y = y }) }
+{
+    let width = page.width();
+    let count = raise_arms(codes, arms, columns);
+    let mut steps = Steps::<L>::new(blank);
+    nearest_row(&arms[..count], width, places, hull, &mut steps);
+}
+
+/// Writes for each sample of row y the place of its nearest arm, and for each place the arm's column.
+pub fn nearest_arms(
+    page: &Page,
+    codes: &[u16],
+    y: u32,
+    reach2: u32,
+    arms: &mut [Arm],
+    columns: &mut [u32],
+    places: &mut [Option<u32>],
+    hull: &mut HullBuf,
+)
+    requires row { y ≤ most_side }
+    requires reach { reach2 ≤ most_reach }
+    requires codes { AreAnswers page.now reach2 y (2 * width page.now - 1) codes.now }
+    requires arms { length arms.old ≡ 2 * width page.now - 1 }
+    requires columns { length columns.old ≡ 2 * width page.now - 1 }
+    requires places { length places.old ≡ width page.now }
+    requires hull { hull.old ≡ 2 * width page.now - 1 }
+    ensures arms { length arms.new ≡ length arms.old }
+    ensures columns { length columns.new ≡ length columns.old }
+    ensures places { length places.new ≡ length places.old }
+    ensures hull { hull.new ≡ hull.old }
+    ensures known { (x : ℕ) → x < width page.now
+        → MatchOption (slice_index_or places.new x None) (0 ≤ y)
+        (λ k. (k < length columns.new) × (slice_index columns.new k < length codes.now)
+        × (257 ≤ slice_index codes.now (slice_index columns.new k) + 2 * y)) }
+    ensures deciders { (x : ℕ) → x < width page.now
+        → edge_at_place codes.now y columns.new (slice_index_or places.new x None)
+        ≡ column_decider page.now reach2 (record { x = x; y = y }) }
+{
+    let blank = Blank::new(1);
+    nearest_by::<Brand>(page, codes, y, reach2, arms, columns, places, hull, blank);
+}

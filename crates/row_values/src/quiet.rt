@@ -1,0 +1,57 @@
+// Rows in which no sample is near enough to an edge to be trapped.
+
+ghost use Rattle.std.specs.Prelude.{◌≡◌, ◌<◌, ◌≤◌, ◌+◌, true, ℕ, length, slice_index};
+ghost use Rattle.row_values.specs.Arms.{AreAnswers};
+ghost use Rattle.row_values.specs.Quiet.{KeepsTints};
+ghost use Rattle.row_values.specs.Rows.{doubled};
+ghost use Rattle.page_model.specs.Page.{width};
+ghost use Rattle.page_model.specs.Reach.{page_reach};
+
+use page_model::page::Page;
+
+/// Whether all from one place on and before another are 0. It goes over all of them, without a branch, so that many go at
+/// once.
+pub fn are_zero(codes: &[u16], from: usize, to: usize) -> bool
+    requires order { from ≤ to }
+    requires inside { to ≤ length codes.now }
+    ensures only { result ≡ true → (k : ℕ) → from ≤ k → k < to → slice_index codes.now k ≡ 0 }
+    ensures always { ((k : ℕ) → from ≤ k → k < to → slice_index codes.now k ≡ 0) → result ≡ true }
+{
+    let mut all = true;
+    for k in from..to {
+        all = all & (codes[k] == 0);
+    }
+    all
+}
+
+/// Whether no column of row y has an answer. No edge decides then within reach of the row, and it keeps its tints.
+pub fn is_quiet(page: &Page, y: u32, codes: &[u16]) -> bool
+    requires codes { AreAnswers page.now (page_reach page.now) y (doubled page.now) codes.now }
+    ensures only { result ≡ true → (x : ℕ) → x < width page.now
+        → KeepsTints page.now (record { x = x; y = y }) }
+    ensures always { ((k : ℕ) → k < length codes.now → slice_index codes.now k ≡ 0)
+        → result ≡ true }
+{
+    let _valid = page.plates();
+    are_zero(codes, 0, codes.len())
+}
+
+/// Whether no column has an answer that is within reach of some of so many samples of row y from x on. No edge decides then
+/// within reach of them, and they keep their tints.
+pub fn are_quiet(page: &Page, y: u32, codes: &[u16], reach2: u32, x: u32, count: u32) -> bool
+    requires codes { AreAnswers page.now (page_reach page.now) y (doubled page.now) codes.now }
+    requires reach { reach2 ≡ page_reach page.now }
+    requires some { 1 ≤ count }
+    requires inside { x + count ≤ width page.now }
+    ensures only { result ≡ true → (k : ℕ) → x ≤ k → k < x + count
+        → KeepsTints page.now (record { x = k; y = y }) }
+    ensures always { ((k : ℕ) → k < length codes.now → slice_index codes.now k ≡ 0)
+        → result ≡ true }
+{
+    let _valid = page.plates();
+    let from = (2 * x as usize).saturating_sub(reach2 as usize);
+    let to = codes
+        .len()
+        .min(2 * (x as usize + count as usize) + reach2 as usize);
+    are_zero(codes, from, to)
+}

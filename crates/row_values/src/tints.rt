@@ -1,0 +1,291 @@
+// The new tints of rows, each sample with the edge that decides it.
+
+ghost use Rattle.std.specs.Prelude.{◌≡◌, ◌<◌, ◌≤◌, ◌+◌, ◌*◌, ◌-◌, ℕ, length, slice_index, slice_index_or, None};
+ghost use Rattle.std.specs.Option.{ForSome, MatchOption};
+ghost use Rattle.row_values.specs.Arms.{AreAnswers, edge_at_place};
+ghost use Rattle.row_values.specs.Quiet.{IsRowTo, is_far_off};
+ghost use Rattle.row_values.specs.Room.{Serves};
+ghost use Rattle.row_values.specs.Rows.{HoldsAnswers, HoldsTints, HoldsZones, doubled, tint_value};
+ghost use Rattle.page_model.specs.Columns.{column_decider};
+ghost use Rattle.page_model.specs.Page.{InPage, height, plates, width};
+ghost use Rattle.page_model.specs.Reach.{page_reach};
+ghost use Rattle.page_model.specs.Tints.{new};
+ghost use Rattle.page_model.specs.Zones.{AreZones};
+ghost use Rattle.page_model.specs.Limits.{most_reach, most_side};
+
+use crate::arms::edge_at;
+use crate::nearest::nearest_arms;
+use crate::quiet::{are_quiet, is_quiet};
+use crate::rows::{Rows, row_of, row_of_bytes};
+use crate::tint_rows::{copy_row, put_tints};
+use crate::workspace::Workspace;
+use page_model::edges::squared_distance;
+use page_model::page::Page;
+use page_model::parts::{At, EdgeAt};
+use trap_color::trap_sample;
+
+/// How many samples are asked for at once at most.
+const SPAN: u32 = 32;
+
+/// Whether there is no edge, or it is farther from p than any trap of the page is wide.
+fn is_far(p: At, nearest: Option<EdgeAt>, reach2: u32) -> bool
+    requires px { p.x < most_side }
+    requires py { p.y < most_side }
+    requires edge { ForSome nearest (λ e. (e.x2 < 2 * most_side) × (e.y2 < 2 * most_side)) }
+    requires reach { reach2 ≤ most_reach }
+    ensures { result ≡ is_far_off p reach2 nearest }
+{
+    match nearest {
+        Some(e) => (reach2 + 1) * (reach2 + 1) <= squared_distance(p, e),
+        None => true,
+    }
+}
+
+/// Puts the new tints of p, whose deciding edge the row's columns give, into the row. The buffer has a place for each plate.
+fn trap_at(
+    page: &Page,
+    zones: &[u8],
+    p: At,
+    nearest: Option<EdgeAt>,
+    reach2: u32,
+    tints: &mut [u16],
+    out: &mut [u16],
+)
+    requires sample { InPage page.now p }
+    requires zones { AreZones page.now p.y zones.now }
+    requires reach { reach2 ≡ page_reach page.now }
+    requires few { reach2 ≤ most_reach }
+    requires edge { nearest ≡ column_decider page.now (page_reach page.now) p }
+    requires tints { length tints.old ≡ plates page.now }
+    requires out { IsRowTo page.now p.y p.x out.old }
+    ensures tints { length tints.new ≡ plates page.now }
+    ensures out { IsRowTo page.now p.y (p.x + 1) out.new }
+{
+    let _valid = page.plates();
+    if is_far(p, nearest, reach2) {
+        return;
+    }
+    let zone = u32::from(zones[p.x as usize]);
+    if trap_sample(page, p, zone, nearest, tints) {
+        put_tints(page, p.y, p.x, tints, out);
+    }
+}
+
+/// Traps so many samples of row y from x on, whose nearest arms stand at these places. Where no arm is within reach of one
+/// of them, none is asked.
+fn trap_some(
+    page: &Page,
+    zones: &[u8],
+    y: u32,
+    x: u32,
+    count: u32,
+    reach2: u32,
+    codes: &[u16],
+    columns: &[u32],
+    places: &[Option<u32>],
+    tints: &mut [u16],
+    out: &mut [u16],
+)
+    requires zones { AreZones page.now y zones.now }
+    requires row { y < height page.now }
+    requires reach { reach2 ≡ page_reach page.now }
+    requires few { reach2 ≤ most_reach }
+    requires places { length places.now ≡ width page.now }
+    requires known { (x : ℕ) → x < width page.now
+        → MatchOption (slice_index_or places.now x None) (0 ≤ y)
+        (λ k. (k < length columns.now) × (slice_index columns.now k < length codes.now)
+        × (257 ≤ slice_index codes.now (slice_index columns.now k) + 2 * y)) }
+    requires deciders { (x : ℕ) → x < width page.now
+        → edge_at_place codes.now y columns.now (slice_index_or places.now x None)
+        ≡ column_decider page.now reach2 (record { x = x; y = y }) }
+    requires answers { AreAnswers page.now (page_reach page.now) y (doubled page.now) codes.now }
+    requires some { 1 ≤ count }
+    requires inside { x + count ≤ width page.now }
+    requires tints { length tints.old ≡ plates page.now }
+    requires out { IsRowTo page.now y x out.old }
+    ensures tints { length tints.new ≡ plates page.now }
+    ensures out { IsRowTo page.now y (x + count) out.new }
+{
+    let _valid = page.plates();
+    if are_quiet(page, y, codes, reach2, x, count) {
+        return;
+    }
+    for k in x..x + count {
+        let nearest = edge_at(codes, y, columns, places[k as usize]);
+        trap_at(page, zones, At { x: k, y }, nearest, reach2, tints, out);
+    }
+}
+
+/// Traps the samples of row y, whose nearest arms stand at these places.
+fn trap_samples(
+    page: &Page,
+    zones: &[u8],
+    y: u32,
+    reach2: u32,
+    codes: &[u16],
+    columns: &[u32],
+    places: &[Option<u32>],
+    tints: &mut [u16],
+    out: &mut [u16],
+)
+    requires zones { AreZones page.now y zones.now }
+    requires row { y < height page.now }
+    requires reach { reach2 ≡ page_reach page.now }
+    requires few { reach2 ≤ most_reach }
+    requires places { length places.now ≡ width page.now }
+    requires known { (x : ℕ) → x < width page.now
+        → MatchOption (slice_index_or places.now x None) (0 ≤ y)
+        (λ k. (k < length columns.now) × (slice_index columns.now k < length codes.now)
+        × (257 ≤ slice_index codes.now (slice_index columns.now k) + 2 * y)) }
+    requires deciders { (x : ℕ) → x < width page.now
+        → edge_at_place codes.now y columns.now (slice_index_or places.now x None)
+        ≡ column_decider page.now reach2 (record { x = x; y = y }) }
+    requires answers { AreAnswers page.now (page_reach page.now) y (doubled page.now) codes.now }
+    requires tints { length tints.old ≡ plates page.now }
+    requires out { IsRowTo page.now y 0 out.old }
+    ensures tints { length tints.new ≡ plates page.now }
+    ensures out { IsRowTo page.now y (width page.now) out.new }
+{
+    let width = page.width();
+    let mut x = 0;
+    while x < width {
+        let count = (width - x).min(SPAN);
+        trap_some(
+            page, zones, y, x, count, reach2, codes, columns, places, tints, out,
+        );
+        x += count;
+    }
+}
+
+/// Traps the samples of a row.
+fn trap_row(page: &Page, y: u32, zones: &[u8], codes: &[u16], out: &mut [u16], room: &mut Workspace)
+    requires row { y < height page.now }
+    requires zones { AreZones page.now y zones.now }
+    requires codes { AreAnswers page.now (page_reach page.now) y (doubled page.now) codes.now }
+    requires room { Serves room.old page.now }
+    requires out { IsRowTo page.now y 0 out.old }
+    ensures out { IsRowTo page.now y (width page.now) out.new }
+    ensures room { room.new ≡ room.old }
+{
+    let reach2 = page.reach2();
+    let arms = room.arms.as_mut_slice();
+    let columns = room.columns.as_mut_slice();
+    let places = room.places.as_mut_slice();
+    nearest_arms(
+        page,
+        codes,
+        y,
+        reach2,
+        arms,
+        columns,
+        places,
+        &mut room.hull,
+    );
+    let tints = room.tints.as_mut_slice();
+    trap_samples(page, zones, y, reach2, codes, columns, places, tints, out);
+}
+
+/// Writes the new tints of a row, or its own where it is quiet.
+fn fill_row(page: &Page, y: u32, zones: &[u8], codes: &[u16], out: &mut [u16], room: &mut Workspace)
+    requires row { y < height page.now }
+    requires zones { AreZones page.now y zones.now }
+    requires codes { AreAnswers page.now (page_reach page.now) y (doubled page.now) codes.now }
+    requires room { Serves room.old page.now }
+    requires out { length out.old ≡ plates page.now * width page.now }
+    ensures out { IsRowTo page.now y (width page.now) out.new }
+    ensures room { room.new ≡ room.old }
+{
+    copy_row(page, y, out);
+    if !is_quiet(page, y, codes) {
+        trap_row(page, y, zones, codes, out, room);
+    }
+}
+
+/// Writes the new tints of row y, plate after plate, from the zones of its samples and its column answers. A row that is
+/// quiet costs no more than the copy of its tints.
+pub fn make_row(
+    page: &Page,
+    y: u32,
+    zones: &[u8],
+    codes: &[u16],
+    out: &mut [u16],
+    room: &mut Workspace,
+)
+    requires row { y < height page.now }
+    requires zones { AreZones page.now y zones.now }
+    requires codes { AreAnswers page.now (page_reach page.now) y (doubled page.now) codes.now }
+    requires room { Serves room.old page.now }
+    requires out { length out.old ≡ plates page.now * width page.now }
+    ensures tints { (c x : ℕ) → c < plates page.now → x < width page.now
+        → slice_index out.new (c * width page.now + x) ≡ new page.now (record { x = x; y = y }) c }
+    ensures values { (o : ℕ) → o < plates page.now * width page.now
+        → slice_index out.new o ≡ tint_value page.now y o }
+    ensures len { length out.new ≡ length out.old }
+    ensures room { room.new ≡ room.old }
+{
+    let _valid = page.plates();
+    fill_row(page, y, zones, codes, out, room);
+}
+
+/// Writes the new tints of row k of these rows.
+fn write_tints(
+    page: &Page,
+    rows: Rows,
+    k: u32,
+    zones: &[u8],
+    codes: &[u16],
+    out: &mut [u16],
+    room: &mut Workspace,
+)
+    requires zones { HoldsZones page.now rows zones.now }
+    requires answers { HoldsAnswers page.now rows codes.now }
+    requires row { k < rows.count }
+    requires inside { rows.first + rows.count ≤ height page.now }
+    requires out { length out.old ≡ rows.count * (plates page.now * width page.now) }
+    requires room { Serves room.old page.now }
+    ensures here { (o : ℕ) → o < plates page.now * width page.now
+        → slice_index out.new (k * (plates page.now * width page.now) + o)
+        ≡ tint_value page.now (rows.first + k) o }
+    ensures kept { (i : ℕ) → i < k * (plates page.now * width page.now)
+        → slice_index out.new i ≡ slice_index out.old i }
+    ensures len { length out.new ≡ length out.old }
+    ensures room { room.new ≡ room.old }
+{
+    let width = page.width() as usize;
+    let wide = page.plates() as usize * width;
+    let start = k as usize * wide;
+    let here = row_of_bytes(zones, width, k as usize);
+    let row = row_of(codes, 2 * width - 1, k as usize);
+    make_row(
+        page,
+        rows.first + k,
+        here,
+        row,
+        &mut out[start..start + wide],
+        room,
+    );
+}
+
+/// Writes the new tints of these rows, in each row plate after plate, from the zones of their samples and their column
+/// answers.
+pub fn make_tints(
+    page: &Page,
+    rows: Rows,
+    zones: &[u8],
+    codes: &[u16],
+    out: &mut [u16],
+    room: &mut Workspace,
+)
+    requires zones { HoldsZones page.now rows zones.now }
+    requires answers { HoldsAnswers page.now rows codes.now }
+    requires inside { rows.first + rows.count ≤ height page.now }
+    requires out { length out.old ≡ rows.count * (plates page.now * width page.now) }
+    requires room { Serves room.old page.now }
+    ensures tints { HoldsTints page.now rows out.new }
+    ensures len { length out.new ≡ length out.old }
+    ensures room { room.new ≡ room.old }
+{
+    for k in 0..rows.count {
+        write_tints(page, rows, k, zones, codes, out, room);
+    }
+}

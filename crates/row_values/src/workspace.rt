@@ -1,0 +1,70 @@
+ghost use Rattle.std.specs.Prelude.{◌≡◌, ◌<◌, ◌-◌, ◌*◌, IfOk, vec_len};
+ghost use Rattle.page_model.specs.Page.{plates, width};
+ghost use Rattle.row_values.specs.Room.{Serves};
+
+use page_model::arms::Arm;
+use page_model::page::Page;
+use page_model::parts::OutOfMemory;
+use row_envelope::HullBuf;
+use std::alloc::Global;
+use std::marker::Model;
+use zone_map::SpanBuf;
+
+/// The room that the makers work in, for pages of one width and number of plates: the crossings of a row, its arms with
+/// their columns, the place of each sample's nearest arm, the hull of the arms, and a tint for each plate. It is made once,
+/// and nothing is allocated afterwards.
+#[derive(Drop)]
+pub struct Workspace {
+    pub(crate) width: u32,
+    pub(crate) plates: u32,
+    pub(crate) spans: SpanBuf,
+    pub(crate) arms: Vec<Arm>,
+    pub(crate) columns: Vec<u32>,
+    pub(crate) places: Vec<Option<u32>>,
+    pub(crate) hull: HullBuf,
+    pub(crate) tints: Vec<u16>,
+}
+
+impl Model for Workspace {
+    ghost use Rattle.std.specs.Prelude.{◌≡◌, ◌-◌, ◌*◌, vec_len};
+    ghost use Rattle.row_values.specs.Room.{Room};
+
+    ghost Value = { Room };
+
+    ghost view = { λ w. record { wide = w.width; deep = w.plates } };
+
+    ghost invariant = { λ w. (w.spans ≡ w.width) × (vec_len w.arms ≡ 2 * w.width - 1)
+        × (vec_len w.columns ≡ 2 * w.width - 1) × (vec_len w.places ≡ w.width)
+        × (w.hull ≡ 2 * w.width - 1) × (vec_len w.tints ≡ w.plates) };
+}
+
+/// So many copies of an item.
+fn filled<T: Copy + Drop>(alloc: Global, item: T, count: usize) -> Result<Vec<T>, OutOfMemory>
+    ensures { IfOk result (λ items. vec_len items ≡ count) }
+{
+    match vec![in alloc; item; count] {
+        Ok(items) => Ok(items),
+        Err(_) => Err(OutOfMemory),
+    }
+}
+
+impl Workspace {
+    /// Room for the work on pages of this page's width and number of plates.
+    pub fn new(alloc: Global, page: &Page) -> Result<Workspace, OutOfMemory>
+        ensures { IfOk result (λ room. Serves room page.now) }
+    {
+        let width = page.width();
+        let plates = page.plates();
+        let doubled = 2 * width as usize - 1;
+        Ok(Workspace {
+            width,
+            plates,
+            spans: SpanBuf::new(alloc, width)?,
+            arms: filled(alloc, Arm::new(0, 0), doubled)?,
+            columns: filled(alloc, 0u32, doubled)?,
+            places: filled(alloc, None, width as usize)?,
+            hull: HullBuf::new(alloc, width)?,
+            tints: filled(alloc, 0u16, plates as usize)?,
+        })
+    }
+}

@@ -1,5 +1,0 @@
-use Rattle.run_verdicts.proofs.RunLemmas.{one_run_verdict}
-use Rattle.run_verdicts.proofs.laws.one_run_verdict.Goals as goal
-
-pub returns : goal.returns
-returns c = one_run_verdict

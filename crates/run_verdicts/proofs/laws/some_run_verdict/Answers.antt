@@ -1,5 +1,0 @@
-use Rattle.run_verdicts.proofs.SomeRunLemmas.{some_run_verdict}
-use Rattle.run_verdicts.proofs.laws.some_run_verdict.Goals as goal
-
-pub returns : goal.returns
-returns c = some_run_verdict

@@ -1,0 +1,103 @@
+-- The files of one line are written.
+use Rattle.std.proofs.Common.{◌≡◌, ℕ, List, length, Option, Some, None, Result, Ok, Err, refl, subst, arith}
+use Rattle.lists.proofs.ListBelow.{length-list_below}
+use Rattle.outside.specs.Rack.{RackState, KeepsRack}
+use Rattle.outside.proofs.Names.{asks_none_of}
+use Rattle.page_model.specs.declared.parts.PageParts.{PageParts}
+use Rattle.page_model.specs.declared.parts.Plane.{Plane}
+use Rattle.page_model.specs.Counts.{page_counts, plate_changed, zone_changed, zone_samples}
+use Rattle.page_model.specs.Tints.{trapped_plane, trapped_planes}
+use Rattle.page_model.specs.Page.{plates}
+use Rattle.page_writing.specs.Writing.{WritesPage}
+use Rattle.job_list.specs.Lines.{LineParts}
+use Rattle.strip_engine.specs.declared.alone.Trapped.{Trapped}
+use Rattle.trap_pool.specs.declared.outcome.Outcome.TheVariants as outcomes
+use Rattle.trap_pool.specs.Pools.{target_of}
+use Rattle.trap_pool.specs.Replies.{reply_parts}
+use Rattle.trap_report.specs.declared.refusal.Refusal.{Refusal}
+use Rattle.trap_report.specs.declared.refusal.Refusal.TheVariants as refusals
+use Rattle.trap_report.specs.Report.{AreCounts, report_of}
+use Rattle.verdicts.specs.Verdicts.{written_names}
+use Rattle.trappool_cli.specs.Answers.{AnswersDone, AnswersSaid, WritesDone, WritesReply}
+use Rattle.trappool_cli.specs.declared.answering.Said.{Said}
+use Rattle.trappool_cli.specs.declared.answering.Said.TheVariants as said
+
+kept_same : (r : RackState) → KeepsRack r r
+kept_same r = record { tells = refl; faults = omega arith }
+
+refused_as : (line : LineParts) (page : Option PageParts) (refusal : Refusal) (r : RackState) → AnswersSaid (target_of line) page (outcomes.Refused refusal) r r (said.Refused refusal)
+refused_as line None refusal r = (refl, refl)
+refused_as line (Some page) refusal r = (refl, refl)
+
+-- A refusal touches no file.
+pub refused_kept : (line : LineParts) (k : ℕ) (page : Option PageParts) (refusal : Refusal) (r : RackState) → WritesReply line (reply_parts k page (outcomes.Refused refusal)) r r (said.Refused refusal)
+refused_kept line k page refusal r = record {
+  keeps = kept_same r;
+  told = λ tells. refl;
+  asked = asks_none_of r.asked (written_names (target_of line));
+  answer = refused_as line page refusal r;
+}
+
+large_as : (line : LineParts) (page : Option PageParts) (r : RackState) → AnswersSaid (target_of line) page outcomes.TooLarge r r said.TooLarge
+large_as line None r = refl
+large_as line (Some page) r = refl
+
+pub large_kept : (line : LineParts) (k : ℕ) (page : Option PageParts) (r : RackState) → WritesReply line (reply_parts k page outcomes.TooLarge) r r said.TooLarge
+large_kept line k page r = record {
+  keeps = kept_same r;
+  told = λ tells. refl;
+  asked = asks_none_of r.asked (written_names (target_of line));
+  answer = large_as line page r;
+}
+
+pub done_written : (line : LineParts) (k : ℕ) (page : PageParts) (trapped : Trapped) (a b : RackState) (what : Said) → WritesDone line page a b what → WritesReply line (reply_parts k (Some page) (outcomes.Done trapped)) a b what
+done_written line k page trapped a b what done = record { keeps = done.keeps; told = done.told; asked = done.asked; answer = done.answer }
+
+-- There was no memory for the report.
+pub no_report : (line : LineParts) (page : PageParts) (r : RackState) → WritesDone line page r r (said.Refused refusals.Memory)
+no_report line page r = record {
+  keeps = kept_same r;
+  told = λ tells. refl;
+  asked = asks_none_of r.asked (written_names (target_of line));
+  answer = refl;
+}
+
+-- what is said of the writing's answer
+abbrev pub said_of : {T : Type 0} → Result T Refusal → Said
+said_of (Ok x) = said.Done
+said_of (Err refusal) = said.Refused refusal
+
+module _ {T : Type 0} (line : LineParts) (page : PageParts) (a b : RackState) where
+  written_as : (result : Result T Refusal) → WritesPage line.outs (trapped_planes page) line.report (report_of page (page_counts page)) a b result → AnswersDone (target_of line) page a b (said_of result)
+  written_as (Ok x) wrote = wrote.answer
+  written_as (Err (refusals.Write file)) wrote = wrote.answer
+  written_as (Err refusals.Usage) wrote = absurd wrote.answer
+  written_as (Err (refusals.Job fault)) wrote = absurd wrote.answer
+  written_as (Err (refusals.NoDetails k)) wrote = absurd wrote.answer
+  written_as (Err (refusals.Plate k fault)) wrote = absurd wrote.answer
+  written_as (Err (refusals.Page fault)) wrote = absurd wrote.answer
+  written_as (Err (refusals.Read file)) wrote = absurd wrote.answer
+  written_as (Err refusals.Memory) wrote = absurd wrote.answer
+
+  pub page_written : (outs : List (List ℕ)) (planes : List Plane) (report text : List ℕ) (result : Result T Refusal) → outs ≡ line.outs → planes ≡ trapped_planes page → report ≡ line.report → text ≡ report_of page (page_counts page) → WritesPage outs planes report text a b result → WritesDone line page a b (said_of result)
+  page_written outs planes report text result names tints name bytes wrote =
+      let whole : WritesPage line.outs (trapped_planes page) line.report (report_of page (page_counts page)) a b result =
+      subst (λ (t : List ℕ). WritesPage line.outs (trapped_planes page) line.report t a b result) bytes
+      (subst (λ (r : List ℕ). WritesPage line.outs (trapped_planes page) r text a b result) name
+      (subst (λ (p : List Plane). WritesPage line.outs p report text a b result) tints
+      (subst (λ (o : List (List ℕ)). WritesPage o planes report text a b result) names wrote))) in
+      record { keeps = whole.keeps; told = whole.told; asked = whole.asked; answer = written_as result whole }
+
+-- The counts of a page are as many as a report asks for.
+pub counts_fit : (page : PageParts) → AreCounts page (page_counts page)
+unfolding page_counts
+counts_fit page = record {
+  zone_samples = length-list_below (zone_samples page) (length page.zones);
+  zone_changed = length-list_below (zone_changed page) (length page.zones);
+  plate_changed = length-list_below (plate_changed page) (plates page);
+}
+
+-- A page has as many plates after trapping as before.
+pub as_many_planes : (page : PageParts) → length (trapped_planes page) ≡ plates page
+unfolding trapped_planes
+as_many_planes page = length-list_below (trapped_plane page) (plates page)

@@ -1,0 +1,32 @@
+-- What a pool tells.
+use Rattle.std.specs.Prelude.{ℕ, List, ◌++◌, codes, decimal}
+use Rattle.trap_report.specs.Refusals.{line_of}
+use Rattle.trap_report.specs.Report.{line}
+use Rattle.trappool_cli.specs.declared.answering.Said.{Said}
+use Rattle.trappool_cli.specs.declared.answering.Said.TheVariants.{Done, Refused, TooLarge}
+
+-- what is said of a line
+abbrev pub said_text : Said → List ℕ
+said_text Done = line (codes "done")
+said_text TooLarge = line (codes "TooLarge")
+said_text (Refused refusal) = line_of refusal
+
+-- the front of the line that is told of a job of the list
+abbrev pub job_name : ℕ → List ℕ
+job_name number = codes "job " ++ decimal number ++ codes ": "
+
+-- all of that line
+abbrev pub job_line : ℕ → Said → List ℕ
+job_line number said = job_name number ++ said_text said
+
+-- the line of the first bad line of a list
+abbrev pub bad_line : ℕ → List ℕ
+bad_line number = line (codes "list: BadLine " ++ decimal number)
+
+-- the line of a list that could not be read
+abbrev pub unread_line : List ℕ
+unread_line = line (codes "read fault: list")
+
+-- what is told of words that mean nothing
+abbrev pub usage_line : List ℕ
+usage_line = line (codes "usage: trappool WORKERS LIST")

@@ -1,0 +1,86 @@
+ghost use Rattle.std.specs.Prelude.{◌≡◌, ◌≤◌, length};
+ghost use Rattle.trappool_cli.specs.Endings.{Refuses, fault_line, fault_status};
+ghost use Rattle.trappool_cli.specs.Reading.{MakesReplies};
+ghost use Rattle.trappool_cli.specs.Text.{bad_line as bad_line_meant, usage_line};
+ghost use Rattle.trap_report.specs.Statuses.{usage};
+
+use crate::lines::{ListFault, read_lines};
+use crate::words::Asked;
+use job_list::line::LineList;
+use lists::names::OutOfMemory;
+use outside::rack::Rack;
+use outside::tray::Tray;
+use std::alloc::Global;
+use std::sync::Wait;
+use std::thread::Threads;
+use trap_pool::TakeGate;
+use trap_pool::pool::pool_run;
+use trap_pool::reply::ReplyList;
+use trap_report::line::Line;
+use trap_report::refusal::Refusal;
+use trap_report::statuses::{JOB_REFUSED, NOT_READ, USAGE};
+use trap_report::telling::{refuse, tell_line};
+
+// Reads the list and all pages of its lines, and traps them. Nothing is written.
+pub(crate) fn make_replies<H: Threads + Wait + Sync, T: Tray, G: TakeGate + Sync>(
+    rt: &H,
+    alloc: Global,
+    asked: Asked<'_>,
+    tray: &mut T,
+    gate: &G,
+) -> Result<(LineList, ReplyList), ListFault>
+    requires some { 1 ≤ asked.workers }
+    requires few { asked.workers ≤ 64 }
+    ensures { MakesReplies asked.entry.list.now (T.state tray.old) (T.state tray.new) result }
+{
+    let lines = read_lines(alloc, tray, asked.list)?;
+    match pool_run(rt, alloc, tray, &lines, asked.workers, gate) {
+        Ok(replies) => Ok((lines, replies)),
+        Err(OutOfMemory) => Err(ListFault::Memory),
+    }
+}
+
+// Tells why nothing was written, and gives the status of it.
+pub(crate) fn refuse_list<R: Rack>(rack: &mut R, fault: ListFault) -> u8
+    ensures { Refuses (fault_line fault) (fault_status fault) (R.state rack.old)
+        (R.state rack.new) result }
+{
+    match fault {
+        ListFault::BadLine(number) => {
+            tell_line(rack, &bad_line(number));
+            JOB_REFUSED
+        }
+        ListFault::NotRead => {
+            tell_line(rack, &text_line(b"read fault: list\n"));
+            NOT_READ
+        }
+        ListFault::Memory => refuse(rack, &Refusal::Memory),
+    }
+}
+
+// Words that mean nothing are refused by this program's own usage line.
+pub(crate) fn refuse_words<R: Rack>(rack: &mut R) -> u8
+    ensures { Refuses usage_line usage (R.state rack.old) (R.state rack.new) result }
+{
+    tell_line(rack, &text_line(b"usage: trappool WORKERS LIST\n"));
+    USAGE
+}
+
+fn text_line(text: &[u8]) -> Line
+    requires { length text.now ≤ 160 }
+    ensures { result ≡ text.now }
+{
+    let mut line = Line::new();
+    line.push(text);
+    line
+}
+
+fn bad_line(number: u32) -> Line
+    ensures { result ≡ bad_line_meant number }
+{
+    let mut line = Line::new();
+    line.push(b"list: BadLine ");
+    line.push_number(number as u64);
+    line.push(b"\n");
+    line
+}

@@ -1,0 +1,45 @@
+ghost use Rattle.trappool_cli.specs.Reading.{Judges, ReadsLines};
+
+use job_list::line::LineList;
+use job_list::reading::{ListRefusal, read_list};
+use outside::reading::{ReadRefusal, read_file};
+use outside::tray::Tray;
+use std::alloc::Global;
+
+// One byte more than a list may have.
+const MOST_LIST: u32 = 1_048_577;
+
+// Why nothing is written.
+#[derive(Clone, Copy, Debug, Drop, PartialEq, Eq)]
+pub(crate) enum ListFault {
+    // This line of the list is the first bad one.
+    BadLine(u32),
+    // The list could not be read.
+    NotRead,
+    Memory,
+}
+
+// Reads the list of that name: all of its bytes, or one more than a list may have, and never more.
+pub(crate) fn read_lines<T: Tray>(
+    alloc: Global,
+    tray: &mut T,
+    name: &str,
+) -> Result<LineList, ListFault>
+    ensures { ReadsLines name.now (T.state tray.old) (T.state tray.new) result }
+{
+    match read_file(alloc, tray, name, MOST_LIST) {
+        Ok(bytes) => judged(read_list(alloc, bytes.as_slice())),
+        Err(ReadRefusal::ReadFault) => Err(ListFault::NotRead),
+        Err(ReadRefusal::OutOfMemory) => Err(ListFault::Memory),
+    }
+}
+
+fn judged(read: Result<LineList, ListRefusal>) -> Result<LineList, ListFault>
+    ensures { Judges read result }
+{
+    match read {
+        Ok(lines) => Ok(lines),
+        Err(ListRefusal::BadLine(line)) => Err(ListFault::BadLine(line)),
+        Err(ListRefusal::OutOfMemory) => Err(ListFault::Memory),
+    }
+}

@@ -1,0 +1,45 @@
+// What is told of a line.
+
+ghost use Rattle.std.specs.Prelude.{◌≡◌, ◌++◌, codes, decimal, MatchResult};
+ghost use Rattle.outside.specs.Rack.{Tells};
+ghost use Rattle.trappool_cli.specs.Answers.{TellsPart, TellsWhole};
+ghost use Rattle.trappool_cli.specs.Text.{job_line, job_name as name_meant, said_text};
+
+use crate::answering::Said;
+use outside::rack::Rack;
+use outside::tray::Failed;
+use trap_report::fault_line::fault_line;
+use trap_report::line::Line;
+
+// Tells what is said of a job of the list, or a front of it where the rack has a fault.
+pub(crate) fn tell_job<R: Rack>(rack: &mut R, number: u32, said: &Said) -> Result<(), Failed>
+    ensures { MatchResult result
+        (λ _. TellsWhole (job_line number said.now) (R.state rack.old) (R.state rack.new))
+        (λ _. TellsPart (job_line number said.now) (R.state rack.old) (R.state rack.new)) }
+{
+    match rack.tell(job_name(number).as_slice()) {
+        Ok(()) => tell_said(rack, said),
+        Err(Failed) => Err(Failed),
+    }
+}
+
+fn tell_said<R: Rack>(rack: &mut R, said: &Said) -> Result<(), Failed>
+    ensures { Tells (said_text said.now) (R.state rack.old) (R.state rack.new) result }
+{
+    match said {
+        Said::Done => rack.tell(b"done\n"),
+        Said::TooLarge => rack.tell(b"TooLarge\n"),
+        Said::Refused(refusal) => rack.tell(fault_line(refusal).as_slice()),
+    }
+}
+
+// The front of the line, which names the job.
+fn job_name(number: u32) -> Line
+    ensures { result ≡ name_meant number }
+{
+    let mut line = Line::new();
+    line.push(b"job ");
+    line.push_number(number as u64);
+    line.push(b": ");
+    line
+}

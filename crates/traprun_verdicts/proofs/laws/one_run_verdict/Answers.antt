@@ -1,0 +1,5 @@
+use Rattle.traprun_verdicts.proofs.RunLemmas.{one_run_verdict}
+use Rattle.traprun_verdicts.proofs.laws.one_run_verdict.Goals as goal
+
+pub returns : goal.returns
+returns c = one_run_verdict

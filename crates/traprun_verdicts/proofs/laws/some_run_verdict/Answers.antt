@@ -1,0 +1,5 @@
+use Rattle.traprun_verdicts.proofs.SomeRunLemmas.{some_run_verdict}
+use Rattle.traprun_verdicts.proofs.laws.some_run_verdict.Goals as goal
+
+pub returns : goal.returns
+returns c = some_run_verdict

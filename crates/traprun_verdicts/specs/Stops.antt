@@ -1,0 +1,44 @@
+-- What is told where a run stops.
+use Rattle.std.specs.Prelude.{◌≡◌, ℕ, List, ◌++◌, codes, decimal}
+use Rattle.outside.specs.Rack.{RackState}
+use Rattle.traprun_verdicts.specs.declared.stop.RunStop.{RunStop}
+use Rattle.traprun_verdicts.specs.declared.stop.RunStop.TheVariants.{Whole, TooManyPages, AtPage, Ends, Extra}
+use Rattle.trap_report.specs.declared.refusal.Refusal.{Refusal}
+use Rattle.trap_report.specs.declared.refusal.Refusal.TheVariants.{Usage, Job, NoDetails, Plate, Page, Read, Write, Memory}
+use Rattle.trap_report.specs.Refusals.{line_of, numbered_line, status_of}
+use Rattle.trap_report.specs.Report.{line}
+use Rattle.trap_report.specs.Statuses.{job_refused, page_refused}
+use Rattle.trap_report.specs.Telling.{KeepsFiles, TellsText}
+
+-- the line that a stop tells
+abbrev pub line_of_stop : RunStop → List ℕ
+line_of_stop (Whole refusal) = line_of refusal
+line_of_stop (TooManyPages at) = line (codes "run: TooManyPages at " ++ decimal at)
+line_of_stop (AtPage page refusal) = numbered_line page refusal
+line_of_stop (Ends page plate) = line (codes "page " ++ decimal page ++ codes ": plate " ++ decimal plate ++ codes ": Ends")
+line_of_stop (Extra plate) = line (codes "run: plate " ++ decimal plate ++ codes ": Extra")
+
+-- the status that the program ends with
+abbrev pub status_of_stop : RunStop → ℕ
+status_of_stop (Whole refusal) = status_of refusal
+status_of_stop (TooManyPages at) = job_refused
+status_of_stop (AtPage page refusal) = status_of refusal
+status_of_stop (Ends page plate) = page_refused
+status_of_stop (Extra plate) = page_refused
+
+-- the stop that a page's refusal is; want of memory belongs to no page
+abbrev pub stop_at : ℕ → Refusal → RunStop
+stop_at page Memory = Whole Memory
+stop_at page Usage = AtPage page Usage
+stop_at page (Job fault) = AtPage page (Job fault)
+stop_at page (NoDetails plate) = AtPage page (NoDetails plate)
+stop_at page (Plate plate fault) = AtPage page (Plate plate fault)
+stop_at page (Page fault) = AtPage page (Page fault)
+stop_at page (Read file) = AtPage page (Read file)
+stop_at page (Write file) = AtPage page (Write file)
+
+-- A stop tells its line and gives its status.
+pub record RefusesRun (stop : RunStop) (before after : RackState) (status : ℕ) : Type 0 where
+  pub files : KeepsFiles before after
+  pub line : TellsText (line_of_stop stop) before after
+  pub status_is : status ≡ status_of_stop stop

@@ -1,0 +1,57 @@
+ghost use Rattle.std.specs.Prelude.{◌≡◌, ◌++◌, ◌≤◌, length, decimal};
+ghost use Rattle.trap_report.specs.Report.{line};
+ghost use Rattle.traprun_verdicts.specs.Stops.{RefusesRun, line_of_stop};
+
+use crate::stop::{RunStop, stop_status};
+use outside::rack::Rack;
+use trap_report::fault_line::{fault_line, numbered_line};
+use trap_report::line::Line;
+use trap_report::telling::tell_line;
+
+/// Tells the line of a stop, and gives its status, which stays where the line cannot be told.
+pub fn refuse_run<R: Rack>(rack: &mut R, stop: &RunStop) -> u8
+    ensures { RefusesRun stop.now (R.state rack.old) (R.state rack.new) result }
+{
+    tell_line(rack, &stop_line(stop));
+    stop_status(stop)
+}
+
+/// The line that a stop tells, its LF included. The form is this project's own.
+pub fn stop_line(stop: &RunStop) -> Line
+    ensures { result ≡ line_of_stop stop.now }
+{
+    match stop {
+        RunStop::Whole(refusal) => fault_line(refusal),
+        RunStop::TooManyPages(at) => number_line(b"run: TooManyPages at ", *at, b""),
+        RunStop::AtPage(page, refusal) => numbered_line(*page, refusal),
+        RunStop::Ends(page, plate) => ends_line(*page, *plate),
+        RunStop::Extra(plate) => number_line(b"run: plate ", *plate, b": Extra"),
+    }
+}
+
+fn ends_line(page: u32, plate: u32) -> Line
+    ensures { result ≡ line_of_stop (RunStop.Ends page plate) }
+{
+    let mut told = Line::new();
+    told.push(b"page ");
+    told.push_number(page as u64);
+    told.push(b": plate ");
+    told.push_number(plate as u64);
+    told.push(b": Ends");
+    told.push(b"\n");
+    told
+}
+
+// A line of a number between two texts.
+fn number_line(before: &[u8], number: u32, behind: &[u8]) -> Line
+    requires before { length before.now ≤ 50 }
+    requires behind { length behind.now ≤ 50 }
+    ensures { result ≡ line (before.now ++ decimal number ++ behind.now) }
+{
+    let mut told = Line::new();
+    told.push(before);
+    told.push_number(number as u64);
+    told.push(behind);
+    told.push(b"\n");
+    told
+}

@@ -1,0 +1,256 @@
+-- How `apply` ends, from how its plates and its set are read and its plates written.
+use Rattle.std.proofs.Common.{◌≡◌, ◌⊎◌, ℕ, ◌+◌, ◌<◌, ◌≤◌, Bool, true, false, min, List, [], ◌∷◌, ◌++◌, length, map, take, Option, Some, None, Result, Ok, Err, MatchResult, IsTrue, inl, inr, refl, sym, ap, ◌∙◌, subst, arith}
+use Rattle.std.proofs.lemmas.List.{length-map, take-append-le, take_min}
+use Rattle.outside.specs.Causes.{Asks, AsksFront}
+use Rattle.outside.specs.Tray.{TrayState}
+use Rattle.outside.specs.Rack.{RackState, KeepsRack}
+use Rattle.outside.proofs.Names.{asks_all, asks_front, asks_none_of, asks_then}
+use Rattle.outside.proofs.Steps.{rose_before}
+use Rattle.page_gather.specs.Steps.{AnswersPlates, ReadsPlates}
+use Rattle.page_gather.proofs.GatherLemmas.{refused_count}
+use Rattle.page_model.specs.declared.parts.Plane.{Plane}
+use Rattle.page_writing.specs.Files.{plate_files}
+use Rattle.page_writing.proofs.Steps.{plates_length, plates_names}
+use Rattle.pgm_plates.specs.declared.plate.Plate.{Plate as PlateRead}
+use Rattle.pgm_plates.specs.Planes.{plane_of}
+use Rattle.plain_words.specs.Parts.{CopyNames, copy_of}
+use Rattle.trapset_cli.specs.declared.cause.Cause.{Cause}
+use Rattle.trapset_cli.specs.declared.cause.Cause.TheVariants as causes
+use Rattle.trapset_cli.specs.Commands.{inputs_of, read_names}
+use Rattle.trapset_cli.specs.Endings.{Answers, CarriesOut, NotRead}
+use Rattle.trapset_cli.specs.Putting.{AnswersPatch, AreInRange, Patches, PatchesPlanes, PutsPlates, ReadsPlanes}
+use Rattle.trapset_cli.proofs.PlanesInRange.{kept_in_range, read_in_range}
+use Rattle.trapset_cli.proofs.TrapsLemmas.{nothing_written}
+use Rattle.set_words.specs.Words.{ApplyWords, Apply, outputs_of}
+use Rattle.trap_report.specs.declared.refusal.Refusal.{Refusal}
+use Rattle.trap_report.specs.declared.refusal.Refusal.TheVariants as refusals
+use Rattle.trap_set.specs.Applying.{AppliesSet}
+use Rattle.trap_set.specs.declared.apply.SetRefusal.{SetRefusal}
+use Rattle.trap_set.specs.declared.apply.SetRefusal.TheVariants as set_refusals
+
+-- plates, from files to planes
+
+pub planes_unread : (names : List (List ℕ)) (a b : TrayState) (refusal : Refusal) → ReadsPlates names a b (Err refusal) → ReadsPlanes names a b (Err refusal)
+planes_unread names a b refusal reads = record {
+  keeps = reads.keeps;
+  few = reads.few;
+  count = refused_count (List PlateRead) (List Plane) a b refusal reads.count;
+  answer = reads.answer;
+}
+
+pub planes_read : (names : List (List ℕ)) (a b : TrayState) (plates : List PlateRead) (result : Result (List Plane) Refusal) → ReadsPlates names a b (Ok plates) → MatchResult result (λ planes. planes ≡ map plane_of plates) (λ refusal. refusal ≡ refusals.Memory) → ReadsPlanes names a b result
+planes_read names a b plates (Ok planes) reads is = record {
+  keeps = reads.keeps;
+  few = reads.few;
+  count = reads.count;
+  answer = (
+    reads.answer.0,
+    subst (λ (ps : List Plane). AreInRange ps (length names)) (sym is) (subst (λ (n : ℕ). AreInRange (map plane_of plates) n) reads.answer.1 (read_in_range plates reads.answer.2)),
+    λ tells. record { plates = plates; read = reads.answer.3 tells; same = is },
+  );
+}
+planes_read names a b plates (Err refusal) reads is =
+    subst (λ (r : Refusal). ReadsPlanes names a b (Err r)) (sym is) (record {
+      keeps = reads.keeps;
+      few = reads.few;
+      count = reads.count;
+      answer = asks_all a.asked b.asked names reads.answer.0;
+    })
+
+-- the names up to the plate that was refused are a front of all that are read
+front_on : (a b : Option (List (List ℕ))) (names more : List (List ℕ)) → AsksFront a b names → AsksFront a b (names ++ more)
+front_on a None names more f = tt
+front_on a (Some all) names more f =
+    let n = min f.1 (length names) in
+    let same : take f.1 names ≡ take n (names ++ more) = sym (take-append-le n names more (omega arith) ∙ take_min f.1 names) in
+    (f.0, n, f.2, f.3 ∙ ap (λ (l : List (List ℕ)). f.0 ++ l) same)
+
+plates_front : (names : List (List ℕ)) (a b : TrayState) (refusal : Refusal) → AnswersPlates names a b (Err refusal) → AsksFront a.asked b.asked names
+plates_front names a b (refusals.Plate k fault) answer = asks_front a.asked b.asked (k + 1) names answer.0.asked
+plates_front names a b (refusals.Read (Some k)) answer = asks_front a.asked b.asked (k + 1) names answer.0.asked
+plates_front names a b refusals.Memory answer = answer
+plates_front names a b refusals.Usage answer = absurd answer
+plates_front names a b (refusals.Job fault) answer = absurd answer
+plates_front names a b (refusals.NoDetails k) answer = absurd answer
+plates_front names a b (refusals.Page fault) answer = absurd answer
+plates_front names a b (refusals.Read None) answer = absurd answer
+plates_front names a b (refusals.Write file) answer = absurd answer
+
+-- a plate is refused
+module _ (words : ApplyWords) (a b : TrayState) where
+  not_patched : (refusal : Refusal) → ReadsPlanes (inputs_of words) a b (Err refusal) → NotRead (Apply words) a b (causes.Page refusal)
+  not_patched (refusals.Plate k fault) reads = NotRead.refused (inl refl) (refused_count (List Plane) (Unit {0}) a b (refusals.Plate k fault) reads.count) reads.answer.0.asked (λ tells. record {
+    known = reads.answer.0.known;
+    plates = reads.answer.0.plates;
+    before = reads.answer.0.before_it tells;
+    broken = reads.answer.1 tells;
+  })
+  not_patched (refusals.Read (Some k)) reads = NotRead.unread refl reads.answer.1 reads.answer.0.asked (record {
+    known = reads.answer.0.known;
+    plates = reads.answer.0.plates;
+    before_it = reads.answer.0.before_it;
+    in_hand = reads.answer.2;
+  })
+  not_patched refusals.Memory reads = NotRead.no_memory refl reads.count
+  not_patched refusals.Usage reads = absurd reads.answer
+  not_patched (refusals.Job fault) reads = absurd reads.answer
+  not_patched (refusals.NoDetails k) reads = absurd reads.answer
+  not_patched (refusals.Page fault) reads = absurd reads.answer
+  not_patched (refusals.Read None) reads = absurd reads.answer
+  not_patched (refusals.Write file) reads = absurd reads.answer
+
+  plate_refused : (refusal : Refusal) → 0 < length (inputs_of words) → ReadsPlanes (inputs_of words) a b (Err refusal) → PatchesPlanes words a b (Err (causes.Page refusal))
+  plate_refused refusal some reads = record {
+    asked = front_on a.asked b.asked (inputs_of words) (words.set ∷ []) (plates_front (inputs_of words) a b refusal reads.answer);
+    in_hand = inr (inl (reads.few some));
+    answer = not_patched refusal reads;
+  }
+
+-- there are as many words as plates
+pub some_plates : {X : Type 0} (text : X → List ℕ) (words : List X) → 1 ≤ length words → 0 < length (map copy_of (map text words))
+some_plates text words some = omega (arith, some, length-map (map text words) copy_of, length-map words text)
+
+pub plates_unread : (words : ApplyWords) (a b : TrayState) (names : List (List ℕ)) (refusal : Refusal) → names ≡ inputs_of words → 0 < length words.plates → ReadsPlanes names a b (Err refusal) → PatchesPlanes words a b (Err (causes.Page refusal))
+plates_unread words a b names refusal named some reads = plate_refused words a b refusal (omega (arith, some, length-map words.plates (λ (p : CopyNames). p.input))) (subst (λ (ns : List (List ℕ)). ReadsPlanes ns a b (Err refusal)) named reads)
+
+-- there was no memory to begin with
+pub none_read : (words : ApplyWords) (a : TrayState) → PatchesPlanes words a a (Err (causes.Page refusals.Memory))
+none_read words a = record {
+  asked = asks_none_of a.asked (read_names (Apply words));
+  in_hand = inl refl;
+  answer = NotRead.no_memory refl refl;
+}
+
+-- a file was begun, unless a read failed
+begun_or : (b : Bool) → (b ≡ true) ⊎ (b ≡ false)
+begun_or true = inl refl
+begun_or false = inr refl
+
+was_begun : {T : Type 0} (name : List ℕ) (b c : TrayState) (old new : List Plane) (result : Result T SetRefusal) → AppliesSet name b c old new result → (result ≡ Err set_refusals.ReadFault → ⊥) → IsTrue c.begun
+was_begun name b c old new result app other = elim (begun_or c.begun) [ inl begun ↦ begun | inr none ↦ absurd (other (app.not_begun none).1) ]
+
+-- the set behind the plates
+module _ (words : ApplyWords) (a b c : TrayState) (old : List Plane) (reads : ReadsPlanes (inputs_of words) a b (Ok old)) where
+  all_asked : Asks b.asked c.asked (words.set ∷ []) → Asks a.asked c.asked (read_names (Apply words))
+  all_asked set = asks_then a.asked b.asked c.asked (inputs_of words) (words.set ∷ []) reads.answer.0 set
+
+  same_file : (bytes : List ℕ) → b.file words.set ≡ Some bytes → a.file words.set ≡ Some bytes
+  same_file bytes is = ap (λ (files : List ℕ → Option (List ℕ)). files words.set) (sym reads.keeps.file) ∙ is
+
+  patch_answer : (result : Result (List Plane) Cause) → Patches words.set old b c result → AnswersPatch words a c result
+  patch_answer (Ok new) app =
+      let begun = was_begun words.set b c old new (Ok tt) app (λ (e : ◌≡◌ {A = Result (Unit {0}) SetRefusal} (Ok tt) (Err set_refusals.ReadFault)). absurd cc) in (
+        app.count ∙ reads.count,
+        all_asked app.asked,
+        kept_in_range old new (length (inputs_of words)) app.planes reads.answer.1,
+        λ tells.
+            (let says = app.says begun (reads.keeps.tells ∙ tells) in
+            record { planes = old; read = reads.answer.2 tells; set = (says.0, same_file says.0 says.1, record { head = says.2.head; runs = says.2.runs; is_file = says.2.is_file; fits = says.2.fits; planes_are = says.2.planes }) }),
+      )
+  patch_answer (Err (causes.BadLine n)) (new, app) =
+      let begun = was_begun words.set b c old new (Err (set_refusals.BadLine n)) app (λ (e : ◌≡◌ {A = Result (Unit {0}) SetRefusal} (Err (set_refusals.BadLine n)) (Err set_refusals.ReadFault)). absurd cc) in
+      NotRead.refused (inr refl) (app.count ∙ reads.count) (all_asked app.asked) (λ tells.
+      (let says = app.says begun (reads.keeps.tells ∙ tells) in
+      record { planes = old; read = reads.answer.2 tells; set = (says.0, same_file says.0 says.1, record { good = says.2.good; is = says.2.is; bad = says.2.bad; same = says.2.same }) }))
+  patch_answer (Err causes.Differs) (new, app) =
+      let begun = was_begun words.set b c old new (Err set_refusals.Differs) app (λ (e : ◌≡◌ {A = Result (Unit {0}) SetRefusal} (Err set_refusals.Differs) (Err set_refusals.ReadFault)). absurd cc) in
+      NotRead.refused (inr refl) (app.count ∙ reads.count) (all_asked app.asked) (λ tells.
+      (let says = app.says begun (reads.keeps.tells ∙ tells) in
+      record { planes = old; read = reads.answer.2 tells; set = (says.0, same_file says.0 says.1, says.2.0) }))
+  patch_answer (Err causes.SetUnread) (new, app) = NotRead.unread refl (rose_before a.faults b.faults c.faults reads.keeps.faults app.count) (all_asked app.asked) (record {
+    planes = old;
+    before_it = reads.answer.2;
+    in_hand = λ begun tells.
+        (let says = app.says begun (reads.keeps.tells ∙ tells) in
+        (says.0, new, same_file says.0 says.1, says.2));
+  })
+  patch_answer (Err causes.NoCommand) app = absurd app
+  patch_answer (Err (causes.Page refusal)) app = absurd app
+  patch_answer (Err causes.SetUnwritten) app = absurd app
+
+  set_asked : (result : Result (List Plane) Cause) → Patches words.set old b c result → Asks b.asked c.asked (words.set ∷ [])
+  set_asked (Ok new) app = app.asked
+  set_asked (Err (causes.BadLine n)) (new, app) = app.asked
+  set_asked (Err causes.Differs) (new, app) = app.asked
+  set_asked (Err causes.SetUnread) (new, app) = app.asked
+  set_asked (Err causes.NoCommand) app = absurd app
+  set_asked (Err (causes.Page refusal)) app = absurd app
+  set_asked (Err causes.SetUnwritten) app = absurd app
+
+  set_put_on : (result : Result (List Plane) Cause) → Patches words.set old b c result → PatchesPlanes words a c result
+  set_put_on result app =
+      let asked = all_asked (set_asked result app) in
+      record { asked = asks_all a.asked c.asked (read_names (Apply words)) asked; in_hand = inr (inr asked); answer = patch_answer result app }
+
+pub plates_patched : (words : ApplyWords) (a b c : TrayState) (names : List (List ℕ)) (old : List Plane) (result : Result (List Plane) Cause) → names ≡ inputs_of words → ReadsPlanes names a b (Ok old) → Patches words.set old b c result → PatchesPlanes words a c result
+plates_patched words a b c names old result named reads app = set_put_on words a b c old (subst (λ (ns : List (List ℕ)). ReadsPlanes ns a b (Ok old)) named reads) result app
+
+-- the plates that are written
+
+-- as many files are written as plates are read
+pub as_many : (words : ApplyWords) → length (inputs_of words) ≡ length (outputs_of words.plates)
+as_many words = length-map words.plates (λ (p : CopyNames). p.input) ∙ sym (length-map words.plates (λ (p : CopyNames). p.output))
+
+pub not_patched_out : (words : ApplyWords) (a b : TrayState) (r : RackState) (cause : Cause) → PatchesPlanes words a b (Err cause) → CarriesOut (Apply words) a b r r (Err cause)
+not_patched_out words a b r cause patches = nothing_written (Apply words) a b r cause patches.asked patches.in_hand patches.answer
+
+module _ (words : ApplyWords) (planes : List Plane) (a b : TrayState) (r r' : RackState) (patches : PatchesPlanes words a b (Ok planes)) where
+  in_all : length planes ≡ length (outputs_of words.plates)
+  in_all = patches.answer.2.as_many ∙ as_many words
+
+  in_words : length planes ≡ length words.plates
+  in_words = patches.answer.2.as_many ∙ length-map words.plates (λ (p : CopyNames). p.input)
+
+  wrote_answer : (result : Result (Unit {0}) Cause) → 0 < length words.plates → PutsPlates (outputs_of words.plates) planes r r' result → Answers (Apply words) a b r r' result
+  wrote_answer (Ok nothing) some puts = record {
+    calm = patches.answer.0;
+    begun = patches.answer.1;
+    written = plate_files (outputs_of words.plates) planes;
+    to_write = ((planes, patches.answer.2.planes_ok, in_words, refl), λ tells. (planes, patches.answer.3 tells, refl));
+    some = omega (arith, plates_length (outputs_of words.plates) planes (omega (arith, in_all)), in_words, some);
+    wrote = puts.answer;
+    created = subst (λ (names : List (List ℕ)). Asks r.asked r'.asked names) (plates_names (outputs_of words.plates) planes in_all) puts.answer.asked;
+  }
+  wrote_answer (Err (causes.Page (refusals.Write (Some k)))) some puts = inr (record {
+    calm = patches.answer.0;
+    begun = patches.answer.1;
+    written = plate_files (outputs_of words.plates) planes;
+    to_write = ((planes, patches.answer.2.planes_ok, in_words, refl), λ tells. (planes, patches.answer.3 tells, refl));
+    place = k;
+    is = refl;
+    breaks = puts.answer.1;
+  })
+  wrote_answer (Err (causes.Page (refusals.Write None))) some puts = absurd puts.answer
+  wrote_answer (Err (causes.Page refusals.Usage)) some puts = absurd puts.answer
+  wrote_answer (Err (causes.Page (refusals.Job fault))) some puts = absurd puts.answer
+  wrote_answer (Err (causes.Page (refusals.NoDetails k))) some puts = absurd puts.answer
+  wrote_answer (Err (causes.Page (refusals.Plate k fault))) some puts = absurd puts.answer
+  wrote_answer (Err (causes.Page (refusals.Page fault))) some puts = absurd puts.answer
+  wrote_answer (Err (causes.Page (refusals.Read file))) some puts = absurd puts.answer
+  wrote_answer (Err (causes.Page refusals.Memory)) some puts = absurd puts.answer
+  wrote_answer (Err causes.NoCommand) some puts = absurd puts
+  wrote_answer (Err causes.SetUnread) some puts = absurd puts
+  wrote_answer (Err causes.SetUnwritten) some puts = absurd puts
+  wrote_answer (Err (causes.BadLine n)) some puts = absurd puts
+  wrote_answer (Err causes.Differs) some puts = absurd puts
+
+  -- what holds of the writing, whatever its answer
+  abbrev Wrote : Type 0
+  Wrote = KeepsRack r r' × (IsTrue r.tells → r'.told ≡ r.told) × AsksFront r.asked r'.asked (outputs_of words.plates)
+
+  wrote_some : (result : Result (Unit {0}) Cause) → PutsPlates (outputs_of words.plates) planes r r' result → Wrote
+  wrote_some (Ok nothing) puts = (puts.keeps, puts.told, puts.asked)
+  wrote_some (Err (causes.Page refusal)) puts = (puts.keeps, puts.told, puts.asked)
+  wrote_some (Err causes.NoCommand) puts = absurd puts
+  wrote_some (Err causes.SetUnread) puts = absurd puts
+  wrote_some (Err causes.SetUnwritten) puts = absurd puts
+  wrote_some (Err (causes.BadLine n)) puts = absurd puts
+  wrote_some (Err causes.Differs) puts = absurd puts
+
+  wrote_out : (result : Result (Unit {0}) Cause) → 0 < length words.plates → PutsPlates (outputs_of words.plates) planes r r' result → CarriesOut (Apply words) a b r r' result
+  wrote_out result some puts =
+      let wrote = wrote_some result puts in
+      record { asked = patches.asked; in_hand = patches.in_hand; rack_keeps = wrote.0; told = wrote.1; created = wrote.2; answer = wrote_answer result some puts }
+
+pub patched_out : (words : ApplyWords) (planes : List Plane) (a b : TrayState) (r r' : RackState) (outputs : List (List ℕ)) (result : Result (Unit {0}) Cause) → outputs ≡ outputs_of words.plates → 0 < length words.plates → PatchesPlanes words a b (Ok planes) → PutsPlates outputs planes r r' result → CarriesOut (Apply words) a b r r' result
+patched_out words planes a b r r' outputs result named some patches puts = wrote_out words planes a b r r' patches result some (subst (λ (os : List (List ℕ)). PutsPlates os planes r r' result) named puts)

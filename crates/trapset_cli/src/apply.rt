@@ -1,0 +1,50 @@
+ghost use Rattle.std.specs.Prelude.{◌≤◌, length, map};
+ghost use Rattle.trapset_cli.specs.Endings.{CarriesOut};
+ghost use Rattle.trapset_cli.specs.Putting.{AreInRange, PutsPlates};
+ghost use Rattle.plain_words.specs.Inputs.{AreFew};
+ghost use Rattle.set_words.specs.Held.{apply_in};
+ghost use Rattle.set_words.specs.Words.{Apply as apply};
+
+use crate::cause::Cause;
+use crate::files::outputs_of;
+use crate::planes::patched_planes;
+use outside::rack::Rack;
+use outside::tray::Tray;
+use page_model::parts::PlaneList;
+use page_writing::writing::write_plates;
+use set_words::command::ApplyCommand;
+use std::alloc::Global;
+use trap_report::refusal::Refusal;
+
+// Carries out a command `apply`: reads the plates and then the set, and only then writes the plates. All memory that is
+// wanted is taken before the first file is created.
+pub(crate) fn carry_out_apply<T: Tray, R: Rack>(
+    alloc: Global,
+    command: &ApplyCommand<'_>,
+    tray: &mut T,
+    rack: &mut R,
+) -> Result<(), Cause>
+    requires { AreFew (length command.now.plates.now) }
+    ensures { CarriesOut (apply (apply_in command.now)) (T.state tray.old) (T.state tray.new)
+        (R.state rack.old) (R.state rack.new) result }
+{
+    let Ok(outputs) = outputs_of(alloc, command) else {
+        return Err(Cause::Page(Refusal::Memory));
+    };
+    match patched_planes(alloc, command, tray) {
+        Ok(planes) => put_plates(rack, outputs.as_slice(), planes),
+        Err(cause) => Err(cause),
+    }
+}
+
+fn put_plates<R: Rack>(rack: &mut R, outputs: &[&str], planes: PlaneList) -> Result<(), Cause>
+    requires few { length outputs.now ≤ 16 }
+    requires planes { AreInRange planes (length outputs.now) }
+    ensures { PutsPlates (map (λ file. file.now) outputs.now) planes (R.state rack.old)
+        (R.state rack.new) result }
+{
+    match write_plates(rack, outputs, planes) {
+        Ok(()) => Ok(()),
+        Err(refusal) => Err(Cause::Page(refusal)),
+    }
+}

@@ -1,0 +1,44 @@
+ghost use Rattle.trapset_cli.specs.Endings.{CarriesOut, EndsCommand};
+ghost use Rattle.set_words.specs.Held.{IsWithin, command_in};
+
+use crate::apply::carry_out_apply;
+use crate::cause::{Cause, refuse_by};
+use crate::traps::carry_out_traps;
+use outside::rack::Rack;
+use outside::tray::Tray;
+use set_words::command::Command;
+use std::alloc::Global;
+use trap_report::statuses::DONE;
+
+// Carries out a command, and gives the status that the program ends with.
+pub(crate) fn run_command<T: Tray, R: Rack>(
+    alloc: Global,
+    command: &Command<'_>,
+    tray: &mut T,
+    rack: &mut R,
+) -> u8
+    requires { IsWithin command.now }
+    ensures { EndsCommand (command_in command.now) (T.state tray.old) (T.state tray.new)
+        (R.state rack.old) (R.state rack.new) result }
+{
+    match carry_out(alloc, command, tray, rack) {
+        Ok(()) => DONE,
+        Err(cause) => refuse_by(rack, &cause),
+    }
+}
+
+fn carry_out<T: Tray, R: Rack>(
+    alloc: Global,
+    command: &Command<'_>,
+    tray: &mut T,
+    rack: &mut R,
+) -> Result<(), Cause>
+    requires { IsWithin command.now }
+    ensures { CarriesOut (command_in command.now) (T.state tray.old) (T.state tray.new)
+        (R.state rack.old) (R.state rack.new) result }
+{
+    match command {
+        Command::Traps(traps) => carry_out_traps(alloc, traps, tray, rack),
+        Command::Apply(apply) => carry_out_apply(alloc, apply, tray, rack),
+    }
+}

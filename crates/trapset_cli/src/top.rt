@@ -1,0 +1,60 @@
+ghost use Rattle.std.specs.Prelude.{map, string_bytes};
+ghost use Rattle.trapset_cli.specs.Clauses.{Success, Usage, RefusedInput, ReadFault, WriteFault, LeavesFiles, SetFault, FaultLine, Completeness};
+ghost use Rattle.trapset_cli.specs.Endings.{Ends};
+
+use crate::carry::run_command;
+use crate::cause::{Cause, refuse_by};
+use outside::rack::Rack;
+use outside::tray::Tray;
+use pgm_plates::laws::{not_both, one_fault, one_plate};
+use set_words::command::read_words;
+use std::alloc::Global;
+
+/// Carries out the command that the words mean, and answers the status that the program ends with.
+///
+/// `traps JOB SET NAME:IN ...` reads the job, then each plate in the order of the words, traps the page, and writes the set
+/// of what changed. `apply SET IN:OUT ...` reads each plate in the order of the words, then the set, puts its runs onto the
+/// plates, and only then writes each plate in order. There are one to sixteen plates. Nobody is waited for.
+///
+/// The status is 0 where the work is done; 2 where the words mean no command; 3 where the job has a fault or lacks the
+/// details of a plate's colorant; 4 where a plate's file has a fault, or the plates are no page; 5 where a read failed; 6
+/// where a write failed; 7 where memory was wanted; and 8 where the set has a bad line or is for other plates. Each refusal
+/// tells one line that names the cause.
+pub fn trapset_main<T: Tray, R: Rack>(
+    alloc: Global,
+    words: &[String],
+    tray: &mut T,
+    rack: &mut R,
+) -> u8
+    ensures success { Success (map string_bytes words.now) (T.state tray.old) (T.state tray.new)
+        (R.state rack.old) (R.state rack.new) result }
+    ensures usage { Usage (map string_bytes words.now) (T.state tray.old) (T.state tray.new)
+        (R.state rack.old) (R.state rack.new) result }
+    ensures refused_input { RefusedInput (map string_bytes words.now) (T.state tray.old)
+        (T.state tray.new) (R.state rack.old) (R.state rack.new) result }
+    ensures read_fault { ReadFault (map string_bytes words.now) (T.state tray.old)
+        (T.state tray.new) (R.state rack.old) (R.state rack.new) result }
+    ensures write_fault { WriteFault (map string_bytes words.now) (T.state tray.old)
+        (R.state rack.old) (R.state rack.new) result }
+    ensures memory { LeavesFiles (R.state rack.old) (R.state rack.new) result }
+    ensures set_fault { SetFault (map string_bytes words.now) (T.state tray.old)
+        (T.state tray.new) (R.state rack.old) (R.state rack.new) result }
+    ensures fault_line { FaultLine (R.state rack.old) (R.state rack.new) result }
+    ensures completeness { Completeness (map string_bytes words.now) (T.state tray.old)
+        (T.state tray.new) (R.state rack.old) (R.state rack.new) result }
+{
+    not_both();
+    one_plate();
+    one_fault();
+    run(alloc, words, tray, rack)
+}
+
+fn run<T: Tray, R: Rack>(alloc: Global, words: &[String], tray: &mut T, rack: &mut R) -> u8
+    ensures { Ends (map string_bytes words.now) (T.state tray.old) (T.state tray.new)
+        (R.state rack.old) (R.state rack.new) result }
+{
+    match read_words(words) {
+        Some(command) => run_command(alloc, &command, tray, rack),
+        None => refuse_by(rack, &Cause::NoCommand),
+    }
+}

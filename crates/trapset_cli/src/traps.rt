@@ -1,0 +1,69 @@
+ghost use Rattle.std.specs.Prelude.{length};
+ghost use Rattle.page_gather.specs.Gathering.{ReadsPage};
+ghost use Rattle.trapset_cli.specs.Commands.{sources_of};
+ghost use Rattle.trapset_cli.specs.Endings.{CarriesOut};
+ghost use Rattle.trapset_cli.specs.Putting.{PutsSet};
+ghost use Rattle.plain_words.specs.Inputs.{AreFew};
+ghost use Rattle.set_words.specs.Held.{traps_in};
+ghost use Rattle.set_words.specs.Words.{Traps as traps};
+
+use crate::cause::Cause;
+use crate::files::{inputs_of, names_of};
+use outside::rack::Rack;
+use outside::tray::{Failed, Tray};
+use page_gather::gather::gather;
+use page_model::page::Page;
+use plane_shapes::laws::page_planes_law;
+use set_words::command::TrapsCommand;
+use std::alloc::Global;
+use strip_engine::trap_alone;
+use trap_report::refusal::Refusal;
+use trap_set::write_set;
+
+// Carries out a command `traps`: reads the page, traps it, and only then writes the set.
+pub(crate) fn carry_out_traps<T: Tray, R: Rack>(
+    alloc: Global,
+    command: &TrapsCommand<'_>,
+    tray: &mut T,
+    rack: &mut R,
+) -> Result<(), Cause>
+    requires { AreFew (length command.now.plates.now) }
+    ensures { CarriesOut (traps (traps_in command.now)) (T.state tray.old) (T.state tray.new)
+        (R.state rack.old) (R.state rack.new) result }
+{
+    match read_page(alloc, command, tray) {
+        Ok(page) => put_set(alloc, &page, command.set, rack),
+        Err(refusal) => Err(Cause::Page(refusal)),
+    }
+}
+
+// Gathers the page of the command's job and plates.
+fn read_page<T: Tray>(
+    alloc: Global,
+    command: &TrapsCommand<'_>,
+    tray: &mut T,
+) -> Result<Page, Refusal>
+    requires { AreFew (length command.now.plates.now) }
+    ensures { ReadsPage (sources_of (traps_in command.now)) (T.state tray.old)
+        (T.state tray.new) result }
+{
+    match (names_of(alloc, command), inputs_of(alloc, command)) {
+        (Ok(names), Ok(inputs)) => gather(alloc, tray, command.job, &names, inputs.as_slice()),
+        _ => Err(Refusal::Memory),
+    }
+}
+
+// Traps the page, and writes the set of what changed.
+fn put_set<R: Rack>(alloc: Global, page: &Page, name: &str, rack: &mut R) -> Result<(), Cause>
+    ensures { PutsSet name.now page.now (R.state rack.old) (R.state rack.new) result }
+{
+    let _valid = page.plates();
+    page_planes_law(page);
+    let Ok(trapped) = trap_alone(alloc, page) else {
+        return Err(Cause::Page(Refusal::Memory));
+    };
+    match write_set(rack, name, page.planes(), &trapped.planes) {
+        Ok(()) => Ok(()),
+        Err(Failed) => Err(Cause::SetUnwritten),
+    }
+}
