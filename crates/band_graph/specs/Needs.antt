@@ -12,7 +12,9 @@ halo_bands bands = ceiling (halo bands.reach2) bands.height
 abbrev pub near_bands : Bands → ℕ → ℕ → Bool
 near_bands bands a b = nat_le a (b + halo_bands bands) && nat_le b (a + halo_bands bands)
 
--- A piece of that phase of band b needs the piece of phase q of band a. Zones need nothing; edges the zones of b and of the next band; columns the edges of each band within the halo of b; traps the zones and the columns of b.
+-- A piece of that phase of band b needs the piece of phase q of band a. Zones need nothing;
+-- edges the zones of b and of the next band; columns the edges of each band within the halo of
+-- b; traps the zones and the columns of b.
 abbrev pub phase_needs : Bands → ℕ → ℕ → ℕ → ℕ → Bool
 phase_needs bands zero b q a = false
 phase_needs bands (suc zero) b q a = (q == 0) && (a == b || a == b + 1)
@@ -21,4 +23,5 @@ phase_needs bands (suc (suc (suc phase))) b q a = (q == 0 || q == 2) && (a == b)
 
 -- piece i needs piece n
 unfoldable pub is_need : Bands → ℕ → ℕ → Bool
-is_need bands i n = phase_needs bands (phase_of bands i) (band_of bands i) (phase_of bands n) (band_of bands n)
+is_need bands i n =
+    phase_needs bands (phase_of bands i) (band_of bands i) (phase_of bands n) (band_of bands n)

@@ -1,5 +1,6 @@
 -- The inks of a ColorantDetails dictionary.
-use Rattle.std.specs.Prelude.{ℕ, List, [], ◌∷◌, fold, map, Option, Some, None, Result, Ok, Err, slice_get, if◌then◌else◌}
+use Rattle.std.specs.Prelude.{ℕ, List, [], ◌∷◌, fold, map, Option, Some, None, Result, Ok, Err}
+use Rattle.std.specs.Prelude.{slice_get, if◌then◌else◌}
 use Rattle.std.specs.List.{flat_map}
 use Rattle.ps_tokens.specs.declared.faults.FaultKind.TheVariants.{NotDictionary}
 use Rattle.ps_tokens.specs.declared.misfits.Misfit.{Misfit}
@@ -15,11 +16,13 @@ use Rattle.colorant_details.specs.Shades.{shade_of}
 abbrev pub ink_if_given : List ℕ → Result (Option Shade) Misfit → List Ink
 ink_if_given name (Err misfit) = []
 ink_if_given name (Ok None) = []
-ink_if_given name (Ok (Some shade)) = record { name = name; density = shade.density; kind = shade.kind } ∷ []
+ink_if_given name (Ok (Some shade)) =
+    record { name = name; density = shade.density; kind = shade.kind } ∷ []
 
 -- the inks of these keys, in their order
 abbrev pub inks_of : List Object → List ℕ → List Ink
-inks_of objects = flat_map (λ key. ink_if_given (name_of (slice_get objects key)) (shade_of objects key))
+inks_of objects =
+    flat_map (λ key. ink_if_given (name_of (slice_get objects key)) (shade_of objects key))
 
 -- of the faults of these keys the one that stands first
 abbrev pub first_misfit : List Object → List ℕ → Option Misfit

@@ -1,11 +1,14 @@
 -- The inks that a value of TrappingDetails names, in ascending byte order of their names.
-use Rattle.std.specs.Prelude.{ℕ, ℤ, pos, negsuc, Bool, true, false, List, [], Option, Some, None, Result, Ok, Err, slice_get, nat_lt, ◌==◌, codes, if◌then◌else◌}
+use Rattle.std.specs.Prelude.{ℕ, ℤ, pos, negsuc, Bool, true, false, List, [], Option, Some, None}
+use Rattle.std.specs.Prelude.{Result, Ok, Err, slice_get, nat_lt, ◌==◌, codes, if◌then◌else◌}
 use Rattle.ps_tokens.specs.declared.faults.FaultKind.{FaultKind}
-use Rattle.ps_tokens.specs.declared.faults.FaultKind.TheVariants.{NotDictionary, MissingKey, WrongType}
+use Rattle.ps_tokens.specs.declared.faults.FaultKind.TheVariants.{NotDictionary, MissingKey}
+use Rattle.ps_tokens.specs.declared.faults.FaultKind.TheVariants.{WrongType}
 use Rattle.ps_tokens.specs.declared.faults.JobFault.{JobFault}
 use Rattle.ps_tokens.specs.declared.misfits.Misfit.{Misfit}
 use Rattle.ps_tokens.specs.declared.object.Body.{Body}
-use Rattle.ps_tokens.specs.declared.object.Body.TheVariants.{Number, Truth, Null, Text, Literal, Operator, Array, Dict}
+use Rattle.ps_tokens.specs.declared.object.Body.TheVariants.{Number, Truth, Null, Text, Literal}
+use Rattle.ps_tokens.specs.declared.object.Body.TheVariants.{Operator, Array, Dict}
 use Rattle.ps_tokens.specs.declared.object.Object.{Object}
 use Rattle.ps_tokens.specs.Dictionaries.{last_of}
 use Rattle.ps_tokens.specs.Objects.{is_dict}
@@ -31,21 +34,26 @@ type_in Dict = Err WrongType
 
 -- whether a dictionary has that type; false where it has none
 unfoldable pub type_of : List Object → ℕ → Result Bool Misfit
-type_of objects dict = value_at (by_body type_in) objects false (last_of objects dict (codes "Type"))
+type_of objects dict =
+    value_at (by_body type_in) objects false (last_of objects dict (codes "Type"))
 
 -- the inks: of two faults the one that stands first, and a missing type after both
-abbrev pub details_from : ℕ → Result Bool Misfit → Result (List Ink) Misfit → Result (List Ink) JobFault
+abbrev pub details_from : ℕ → Result Bool Misfit → Result (List Ink) Misfit
+    → Result (List Ink) JobFault
 details_from at (Ok true) (Ok inks) = Ok inks
 details_from at (Ok false) (Ok inks) = Err (record { kind = MissingKey; at = at })
 details_from at (Ok typed) (Err misfit) = Err misfit.fault
 details_from at (Err misfit) (Ok inks) = Err misfit.fault
-details_from at (Err first) (Err second) = Err (if nat_lt second.place first.place then second.fault else first.fault)
+details_from at (Err first) (Err second) =
+    Err (if nat_lt second.place first.place then second.fault else first.fault)
 
 -- the inks of an object at a place
 abbrev pub details_in : List Object → ℕ → Option Object → Result (List Ink) JobFault
 details_in objects place None = Ok []
 details_in objects place (Some object) =
-    if is_dict object.body then details_from object.at (type_of objects place) (colorants_at objects (last_of objects place (codes "ColorantDetails")))
+    if is_dict object.body
+    then details_from object.at (type_of objects place)
+    (colorants_at objects (last_of objects place (codes "ColorantDetails")))
     else Err (record { kind = NotDictionary; at = object.at })
 
 -- the inks that the value of TrappingDetails at a place names

@@ -1,16 +1,19 @@
 -- What a colorant's dictionary says of its ink.
-use Rattle.std.specs.Prelude.{ℕ, ℤ, pos, negsuc, List, Option, Some, None, Result, Ok, Err, nat_le, nat_lt, ◌&&◌, codes, if◌then◌else◌}
+use Rattle.std.specs.Prelude.{ℕ, ℤ, pos, negsuc, List, Option, Some, None, Result, Ok, Err, nat_le}
+use Rattle.std.specs.Prelude.{nat_lt, ◌&&◌, codes, if◌then◌else◌}
 use Rattle.std.specs.Str.{bytes_eq}
 use Rattle.ps_tokens.specs.declared.faults.FaultKind.{FaultKind}
 use Rattle.ps_tokens.specs.declared.faults.FaultKind.TheVariants.{MissingKey, BadDensity, BadKind}
 use Rattle.ps_tokens.specs.declared.misfits.Misfit.{Misfit}
 use Rattle.ps_tokens.specs.declared.object.Body.{Body}
-use Rattle.ps_tokens.specs.declared.object.Body.TheVariants.{Number, Truth, Null, Text, Literal, Operator, Array, Dict}
+use Rattle.ps_tokens.specs.declared.object.Body.TheVariants.{Number, Truth, Null, Text, Literal}
+use Rattle.ps_tokens.specs.declared.object.Body.TheVariants.{Operator, Array, Dict}
 use Rattle.ps_tokens.specs.declared.object.Object.{Object}
 use Rattle.ps_tokens.specs.Dictionaries.{last_of}
 use Rattle.ps_tokens.specs.Values.{by_body, value_at, entry_at}
 use Rattle.page_model.specs.declared.parts.InkKind.{InkKind}
-use Rattle.page_model.specs.declared.parts.InkKind.TheVariants.{Normal, Transparent, Opaque, OpaqueIgnore}
+use Rattle.page_model.specs.declared.parts.InkKind.TheVariants.{Normal, Transparent, Opaque}
+use Rattle.page_model.specs.declared.parts.InkKind.TheVariants.{OpaqueIgnore}
 use Rattle.colorant_details.specs.declared.shades.Shade.{Shade}
 
 -- a neutral density from 0.001 to 10
@@ -51,20 +54,27 @@ kind_in Dict = Err BadKind
 
 -- the density that a dictionary gives, if it gives one
 unfoldable pub density_of : List Object → ℕ → Result (Option ℕ) Misfit
-density_of objects dict = value_at (by_body density_in) objects None (last_of objects dict (codes "NeutralDensity"))
+density_of objects dict =
+    value_at (by_body density_in) objects None (last_of objects dict (codes "NeutralDensity"))
 
 -- the kind that a dictionary gives, Normal where it gives none
 unfoldable pub kind_of : List Object → ℕ → Result InkKind Misfit
-kind_of objects dict = value_at (by_body kind_in) objects Normal (last_of objects dict (codes "ColorantType"))
+kind_of objects dict =
+    value_at (by_body kind_in) objects Normal (last_of objects dict (codes "ColorantType"))
 
--- A colorant's ink: of two faults the one that stands first, and a missing density after both. The colorant's dictionary
+-- A colorant's ink: of two faults the one that stands first, and a missing density after both.
+-- The colorant's dictionary
 -- stands at a place, and its `<<` at an offset.
-abbrev pub shade_from : ℕ → ℕ → Result (Option ℕ) Misfit → Result InkKind Misfit → Result (Option Shade) Misfit
-shade_from dict at (Ok (Some density)) (Ok kind) = Ok (Some (record { density = density; kind = kind }))
-shade_from dict at (Ok None) (Ok kind) = Err (record { place = dict; fault = record { kind = MissingKey; at = at } })
+abbrev pub shade_from : ℕ → ℕ → Result (Option ℕ) Misfit → Result InkKind Misfit
+    → Result (Option Shade) Misfit
+shade_from dict at (Ok (Some density)) (Ok kind) =
+    Ok (Some (record { density = density; kind = kind }))
+shade_from dict at (Ok None) (Ok kind) =
+    Err (record { place = dict; fault = record { kind = MissingKey; at = at } })
 shade_from dict at (Ok density) (Err misfit) = Err misfit
 shade_from dict at (Err misfit) (Ok kind) = Err misfit
-shade_from dict at (Err first) (Err second) = Err (if nat_lt second.place first.place then second else first)
+shade_from dict at (Err first) (Err second) =
+    Err (if nat_lt second.place first.place then second else first)
 
 -- the ink that a colorant's dictionary gives
 abbrev pub shade_in : List Object → ℕ → ℕ → Result (Option Shade) Misfit

@@ -1,3 +1,5 @@
+-- The edges of one column in some rows of marks, and the nearest of them: what a sweep finds is
+-- the column's decider.
 use Rattle.std.proofs.Common.{◌≡◌, ℕ, ◌+◌, ◌*◌, ◌-◌, ◌%◌, ◌/◌, ◌<◌, ◌≤◌, Bool, true, ◌&&◌, nat_le, inl, inr, refl, sym, ◌∙◌, ap, arith, Option, Some, None, if◌then◌else◌}
 use Rattle.std.specs.Prelude.{◌==◌}
 use Rattle.std.specs.Option.{MatchOption}

@@ -1,3 +1,5 @@
+-- Of the last number up to a place that passes and the first one after it, the nearer is the
+-- nearest that passes.
 use Rattle.std.proofs.Common.{◌≡◌, ℕ, ◌+◌, ◌-◌, ◌<◌, ◌≤◌, Bool, true, nat_le, inl, inr, arith, Option, Some, None, if◌then◌else◌}
 use Rattle.std.specs.Option.{MatchOption}
 use Rattle.std.proofs.lemmas.Bool.{cases_lt, cases_Bool, leb-true, leb-false, false_from_ne_true}

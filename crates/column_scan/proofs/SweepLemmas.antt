@@ -1,3 +1,4 @@
+-- The last number below another that passes, kept from step to step of a sweep.
 use Rattle.std.proofs.Common.{◌≡◌, ℕ, zero, suc, ◌+◌, ◌*◌, ◌-◌, ◌%◌, ◌<◌, ◌≤◌, Bool, true, false, nat_le, inl, inr, refl, sym, ◌∙◌, ap, arith, List, length, Option, Some, None}
 use Rattle.std.specs.Option.{MatchOption}
 use Rattle.std.proofs.lemmas.Bool.{cases_eq, cases_Bool, false≢true}

@@ -1,3 +1,4 @@
+-- The samples beside the edge to the right of a sample, and beside the one below it.
 use Rattle.std.proofs.Common.{◌≡◌, refl, ℕ, ◌+◌, ◌*◌, ◌/◌, ◌%◌, ◌<◌, arith}
 use Rattle.page_model.specs.declared.parts.PageParts.{PageParts}
 use Rattle.page_model.specs.Edges.{IsEdge, first, second}

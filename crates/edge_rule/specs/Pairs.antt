@@ -1,4 +1,7 @@
-use Rattle.std.specs.Prelude.{◌≡◌, ℕ, ◌+◌, ◌-◌, ◌<◌, ◌≤◌, Bool, false, ◌&&◌, not, nat_le, length, Option, Some, None}
+-- Samples of one zone that are judged together: where a tint falls by a step, and where a trap
+-- may be made.
+use Rattle.std.specs.Prelude.{◌≡◌, ℕ, ◌+◌, ◌-◌, ◌<◌, ◌≤◌, Bool, false, ◌&&◌, not, nat_le, length}
+use Rattle.std.specs.Prelude.{Option, Some, None}
 use Rattle.page_model.specs.declared.parts.At.{At}
 use Rattle.page_model.specs.declared.parts.PageParts.{PageParts}
 use Rattle.page_model.specs.Apart.{apart}
@@ -19,9 +22,11 @@ abbrev pub falls_by : Option ℕ → ℕ → ℕ → Bool
 falls_by None here there = false
 falls_by (Some step) here there = nat_le step (here - there)
 
--- a trap may be made between two samples of one zone: the zone is enabled, they are apart by its limits, and neither is shut
+-- a trap may be made between two samples of one zone: the zone is enabled, they are apart by its
+-- limits, and neither is shut
 abbrev pub pair_decides : PageParts → ℕ → At → At → Bool
-pair_decides page z p q = (params_at page z).enabled && (apart page z p q && (not (shut page p) && not (shut page q)))
+pair_decides page z p q =
+    (params_at page z).enabled && (apart page z p q && (not (shut page p) && not (shut page q)))
 
 -- n samples of row y from x on lie in zone z, with the samples to their right and below them
 pub record LieIn (page : PageParts) (y x n z : ℕ) : Type 0 where

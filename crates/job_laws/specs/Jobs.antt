@@ -1,5 +1,6 @@
 -- The job that ends behind statements, told by what is in force there.
-use Rattle.std.specs.Prelude.{◌≡◌, ◌⊎◌, ◌<◌, ◌≤◌, ℕ, List, [], ◌∷◌, ◌++◌, length, map, ◌==◌, ◌&&◌, Some, None, Ok, Err}
+use Rattle.std.specs.Prelude.{◌≡◌, ◌⊎◌, ◌<◌, ◌≤◌, ℕ, List, [], ◌∷◌, ◌++◌, length, map, ◌==◌, ◌&&◌}
+use Rattle.std.specs.Prelude.{Some, None, Ok, Err}
 use Rattle.page_model.specs.declared.parts.Zone.{Zone}
 use Rattle.ps_tokens.specs.declared.faults.FaultKind.TheVariants.{JobTooLong}
 use Rattle.ps_tokens.specs.declared.faults.JobFault.{JobFault}
@@ -11,29 +12,38 @@ use Rattle.ps_tokens.specs.Tokens.{tokens_of}
 use Rattle.job_reader.specs.declared.job.Job.{Job}
 use Rattle.job_reader.specs.declared.operators.Operator.TheVariants.{ShowPage}
 use Rattle.job_reader.specs.Calls.{Statement, statements_of}
-use Rattle.job_reader.specs.InForce.{resolution_in_force, trapping_in_force, details_in_force, params_in_force, limits_in_force}
+use Rattle.job_reader.specs.InForce.{resolution_in_force, trapping_in_force, details_in_force}
+use Rattle.job_reader.specs.InForce.{params_in_force, limits_in_force}
 use Rattle.job_reader.specs.Statements.{under_trapping}
 use Rattle.job_laws.specs.Faults.{AreFaultless, IsFaultOf, fault_behind}
 use Rattle.job_laws.specs.Zones.{zones_in_force}
 
--- zone 0, which has no path: the parameters and the limits in force, enabled only where Trapping is true and no zone was made
+-- zone 0, which has no path: the parameters and the limits in force, enabled only where Trapping
+-- is true and no zone was made
 abbrev pub zone_0_in_force : List Object → List Statement → Zone
 zone_0_in_force objects earlier =
     let params = params_in_force objects earlier in
     record {
-      params = record params { enabled = params.enabled && trapping_in_force objects earlier && (length (zones_in_force objects earlier) == 0) };
+      params = record params {
+        enabled = params.enabled && trapping_in_force objects earlier
+            && (length (zones_in_force objects earlier) == 0);
+      };
       path = [];
       limits = limits_in_force objects earlier;
     }
 
--- the job that `showpage` ends behind statements: the resolution and the details in force there, and zone 0 before the zones
+-- the job that `showpage` ends behind statements: the resolution and the details in force there,
+-- and zone 0 before the zones
 -- that were made, each of which is enabled only where Trapping is true there
 pub record IsJobOf (objects : List Object) (earlier : List Statement) (job : Job) : Type 0 where
   pub resolution : job.resolution ≡ resolution_in_force objects earlier
-  pub zones : job.zones ≡ zone_0_in_force objects earlier ∷ map (under_trapping (trapping_in_force objects earlier)) (zones_in_force objects earlier)
+  pub zones : job.zones
+      ≡ zone_0_in_force objects earlier
+      ∷ map (under_trapping (trapping_in_force objects earlier)) (zones_in_force objects earlier)
   pub details : job.details ≡ details_in_force objects earlier
 
--- statements end a job: the first `showpage` among them, behind statements without a fault and without one itself
+-- statements end a job: the first `showpage` among them, behind statements without a fault and
+-- without one itself
 pub record EndJob (objects : List Object) (statements : List Statement) (job : Job) : Type 0 where
   pub earlier : List Statement
   pub show : Statement
@@ -79,6 +89,8 @@ pub record IsOfTooMany (bytes : List ℕ) (fault : JobFault) : Type 0 where
   pub many : longest_job < length bytes
   pub is : fault ≡ record { kind = JobTooLong; at = longest_job }
 
--- a fault of a job's bytes: of their number, or else of their tokens, or else of the objects, or else of the statements
+-- a fault of a job's bytes: of their number, or else of their tokens, or else of the objects, or
+-- else of the statements
 abbrev pub IsFaultOfBytes : List ℕ → JobFault → Type 0
-IsFaultOfBytes bytes fault = IsOfTooMany bytes fault ⊎ IsOfTokens bytes fault ⊎ IsOfObjects bytes fault ⊎ IsOfStatements bytes fault
+IsFaultOfBytes bytes fault = IsOfTooMany bytes fault ⊎ IsOfTokens bytes fault
+    ⊎ IsOfObjects bytes fault ⊎ IsOfStatements bytes fault

@@ -5,7 +5,11 @@ use Rattle.ps_tokens.specs.declared.object.Body.TheVariants as bodies
 use Rattle.ps_tokens.specs.declared.object.Object.{Object}
 use Rattle.job_reader.specs.declared.calls.Call.{Call}
 use Rattle.job_reader.specs.declared.operators.Operator.{Operator}
-use Rattle.job_reader.specs.declared.operators.Operator.TheVariants.{SetPageDevice, SetTrapParams, NewPath, ClosePath, MoveTo, LineTo, RelativeMoveTo, RelativeLineTo, SetTrapZone, ShowPage}
+use Rattle.job_reader.specs.declared.operators.Operator.TheVariants.{SetPageDevice, SetTrapParams}
+use Rattle.job_reader.specs.declared.operators.Operator.TheVariants.{NewPath, ClosePath, MoveTo}
+use Rattle.job_reader.specs.declared.operators.Operator.TheVariants.{LineTo, RelativeMoveTo}
+use Rattle.job_reader.specs.declared.operators.Operator.TheVariants.{RelativeLineTo, SetTrapZone}
+use Rattle.job_reader.specs.declared.operators.Operator.TheVariants.{ShowPage}
 use Rattle.job_reader.specs.Operators.{operator_named}
 
 -- the call that an object at an offset is, if it is one
@@ -36,21 +40,25 @@ is_showpage RelativeLineTo = false
 is_showpage SetTrapZone = false
 is_showpage ShowPage = true
 
--- a statement: its operands are the objects from one place up to another, at which its operator stands
+-- a statement: its operands are the objects from one place up to another, at which its operator
+-- stands
 pub record Statement : Type 0 where
   pub from : ℕ
   pub place : ℕ
   pub call : Call
 
--- a statement that ends at a place and those that follow, or these alone where no operator stands there
+-- a statement that ends at a place and those that follow, or these alone where no operator
+-- stands there
 abbrev pub cut_at : ℕ → ℕ → Option Call → (ℕ → List Statement) → List Statement
 cut_at from place None rest = rest from
-cut_at from place (Some call) rest = record { from = from; place = place; call = call } ∷ rest (place + 1)
+cut_at from place (Some call) rest =
+    record { from = from; place = place; call = call } ∷ rest (place + 1)
 
 -- the statements of objects that stand from a place on; the operands of the first begin at another
 unfoldable pub statements_from : ℕ → ℕ → List Object → List Statement
 statements_from from place [] = []
-statements_from from place (object ∷ objects) = cut_at from place (call_of (Some object)) (λ first. statements_from first (place + 1) objects)
+statements_from from place (object ∷ objects) =
+    cut_at from place (call_of (Some object)) (λ first. statements_from first (place + 1) objects)
 
 -- the statements of a job's objects
 abbrev pub statements_of : List Object → List Statement

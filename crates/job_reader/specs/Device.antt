@@ -1,5 +1,7 @@
 -- What a `setpagedevice` dictionary sets.
-use Rattle.std.specs.Prelude.{ℕ, ℤ, pos, negsuc, Bool, List, Option, Some, None, Result, Ok, Err, nat_le, ◌+◌, ◌*◌, ◌/◌, ◌%◌, ◌==◌, ◌&&◌, true, false, codes, if◌then◌else◌}
+use Rattle.std.specs.Prelude.{ℕ, ℤ, pos, negsuc, Bool, List, Option, Some, None, Result, Ok, Err}
+use Rattle.std.specs.Prelude.{nat_le, ◌+◌, ◌*◌, ◌/◌, ◌%◌, ◌==◌, ◌&&◌, true, false, codes}
+use Rattle.std.specs.Prelude.{if◌then◌else◌}
 use Rattle.std.specs.Result.{result_unwrap_or}
 use Rattle.page_model.specs.declared.parts.Ink.{Ink}
 use Rattle.ps_tokens.specs.declared.faults.FaultKind.{FaultKind}
@@ -8,7 +10,8 @@ use Rattle.ps_tokens.specs.declared.faults.JobFault.{JobFault}
 use Rattle.ps_tokens.specs.declared.faults.Key.TheVariants.{Trapping}
 use Rattle.ps_tokens.specs.declared.misfits.Misfit.{Misfit}
 use Rattle.ps_tokens.specs.declared.object.Body.{Body}
-use Rattle.ps_tokens.specs.declared.object.Body.TheVariants.{Number, Truth, Null, Text, Literal, Operator, Array, Dict}
+use Rattle.ps_tokens.specs.declared.object.Body.TheVariants.{Number, Truth, Null, Text, Literal}
+use Rattle.ps_tokens.specs.declared.object.Body.TheVariants.{Operator, Array, Dict}
 use Rattle.ps_tokens.specs.declared.object.Object.{Object}
 use Rattle.ps_tokens.specs.Dictionaries.{last_of}
 use Rattle.ps_tokens.specs.Misfits.{misfit_of, earlier, unless}
@@ -35,7 +38,8 @@ finest_resolution = 10000
 
 -- a whole number of pixels per inch, from 1 to the finest resolution, out of ten-thousandths
 abbrev pub pixels_in : ℤ → Option ℕ
-pixels_in (pos n) = if (n % 10000 == 0) && nat_le 10000 n && nat_le n (10000 * finest_resolution) then Some (n / 10000) else None
+pixels_in (pos n) = if (n % 10000 == 0) && nat_le 10000 n && nat_le n (10000 * finest_resolution)
+    then Some (n / 10000) else None
 pixels_in (negsuc n) = None
 
 -- the same, where there is a number
@@ -58,7 +62,8 @@ resolution_in objects place object =
 
 -- the resolution after a dictionary: that of the last HWResolution entry, or the one now
 unfoldable pub resolution_after : List Object → ℕ → ℕ → Result ℕ Misfit
-resolution_after objects dict now = value_at (resolution_in objects) objects now (last_of objects dict (codes "HWResolution"))
+resolution_after objects dict now =
+    value_at (resolution_in objects) objects now (last_of objects dict (codes "HWResolution"))
 
 -- details that are named at a place
 abbrev pub named_details : ℕ → Result (List Ink) JobFault → Result (Option (List Ink)) Misfit
@@ -80,7 +85,8 @@ details_or (Ok (Some inks)) now = inks
 details_or (Err misfit) now = now
 
 -- `dict setpagedevice`, of what is named; of several faults the one whose key stands first
-abbrev pub device_from : Result ℕ Misfit → Result Bool Misfit → Result (Option (List Ink)) Misfit → State → Result State JobFault
+abbrev pub device_from : Result ℕ Misfit → Result Bool Misfit → Result (Option (List Ink)) Misfit
+    → State → Result State JobFault
 device_from resolution trapping details now =
     unless (earlier (misfit_of resolution) (earlier (misfit_of trapping) (misfit_of details)))
     (record now {

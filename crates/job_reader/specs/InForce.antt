@@ -1,5 +1,6 @@
 -- What is in force at a statement, told by the statements that stand before it.
-use Rattle.std.specs.Prelude.{◌≡◌, ◌++◌, All, map, ℕ, Bool, true, false, List, [], ◌∷◌, Option, Some, None, Result, Ok, Err, codes, if◌then◌else◌}
+use Rattle.std.specs.Prelude.{◌≡◌, ◌++◌, All, map, ℕ, Bool, true, false, List, [], ◌∷◌, Option}
+use Rattle.std.specs.Prelude.{Some, None, Result, Ok, Err, codes, if◌then◌else◌}
 use Rattle.std.specs.List.{filter_map, last_or}
 use Rattle.std.specs.Result.{result_unwrap_or}
 use Rattle.page_model.specs.declared.parts.Ink.{Ink}
@@ -8,7 +9,10 @@ use Rattle.page_model.specs.declared.parts.TrapParams.{TrapParams}
 use Rattle.ps_tokens.specs.declared.faults.FaultKind.TheVariants.{UnknownOperator}
 use Rattle.ps_tokens.specs.declared.faults.JobFault.{JobFault}
 use Rattle.ps_tokens.specs.declared.faults.Key.{Key}
-use Rattle.ps_tokens.specs.declared.faults.Key.TheVariants.{TrapWidth, BlackWidth, BlackColorLimit, BlackDensityLimit, StepLimit, SlidingTrapLimit, TrapColorScaling, Enabled, Trapping}
+use Rattle.ps_tokens.specs.declared.faults.Key.TheVariants.{TrapWidth, BlackWidth, BlackColorLimit}
+use Rattle.ps_tokens.specs.declared.faults.Key.TheVariants.{BlackDensityLimit, StepLimit}
+use Rattle.ps_tokens.specs.declared.faults.Key.TheVariants.{SlidingTrapLimit, TrapColorScaling}
+use Rattle.ps_tokens.specs.declared.faults.Key.TheVariants.{Enabled, Trapping}
 use Rattle.ps_tokens.specs.declared.object.Object.{Object}
 use Rattle.ps_tokens.specs.Dictionaries.{last_of}
 use Rattle.ps_tokens.specs.Values.{by_body, value_at, place_of_value}
@@ -16,7 +20,11 @@ use Rattle.trap_params.specs.Limits.{limits_at}
 use Rattle.trap_params.specs.Parameters.{name_of}
 use Rattle.trap_params.specs.Settings.{number_of, boolean_of}
 use Rattle.job_reader.specs.declared.operators.Operator.{Operator}
-use Rattle.job_reader.specs.declared.operators.Operator.TheVariants.{SetPageDevice, SetTrapParams, NewPath, ClosePath, MoveTo, LineTo, RelativeMoveTo, RelativeLineTo, SetTrapZone, ShowPage}
+use Rattle.job_reader.specs.declared.operators.Operator.TheVariants.{SetPageDevice, SetTrapParams}
+use Rattle.job_reader.specs.declared.operators.Operator.TheVariants.{NewPath, ClosePath, MoveTo}
+use Rattle.job_reader.specs.declared.operators.Operator.TheVariants.{LineTo, RelativeMoveTo}
+use Rattle.job_reader.specs.declared.operators.Operator.TheVariants.{RelativeLineTo, SetTrapZone}
+use Rattle.job_reader.specs.declared.operators.Operator.TheVariants.{ShowPage}
 use Rattle.job_reader.specs.declared.state.State.{State}
 use Rattle.job_reader.specs.Calls.{Statement, is_showpage}
 use Rattle.job_reader.specs.Device.{resolution_in, details_at, details_or}
@@ -31,14 +39,16 @@ after_one objects s None now = fault UnknownOperator s.call.at
 after_one objects s (Some operator) now = state_after objects s.from s.place s.call.at operator now
 
 -- what follows a statement without a fault
-abbrev pub going_on : Result State JobFault → (State → Result State JobFault) → Result State JobFault
+abbrev pub going_on : Result State JobFault → (State → Result State JobFault)
+    → Result State JobFault
 going_on (Ok now) rest = rest now
 going_on (Err first) rest = Err first
 
 -- what statements leave in force, one after the other, or the first fault of these
 unfoldable pub after_all : List Object → State → List Statement → Result State JobFault
 after_all objects now [] = Ok now
-after_all objects now (s ∷ ss) = going_on (after_one objects s s.call.operator now) (λ next. after_all objects next ss)
+after_all objects now (s ∷ ss) =
+    going_on (after_one objects s s.call.operator now) (λ next. after_all objects next ss)
 
 -- whether a statement's operator passes a test
 abbrev pub is_by : (Operator → Bool) → Option Operator → Bool
@@ -77,7 +87,8 @@ is_settrapparams RelativeLineTo = false
 is_settrapparams SetTrapZone = false
 is_settrapparams ShowPage = false
 
--- where the value of a dictionary's last entry of a key stands; an entry without a value names nothing
+-- where the value of a dictionary's last entry of a key stands; an entry without a value names
+-- nothing
 abbrev pub value_of : List ℕ → List Object → ℕ → Option ℕ
 value_of key objects dict = place_of_value objects (last_of objects dict key)
 
@@ -126,11 +137,15 @@ abbrev pub params_in_force : List Object → List Statement → TrapParams
 params_in_force objects earlier = record {
   trap_width = number_in_force objects earlier TrapWidth usual_params.trap_width;
   black_width = number_in_force objects earlier BlackWidth usual_params.black_width;
-  black_color_limit = number_in_force objects earlier BlackColorLimit usual_params.black_color_limit;
-  black_density_limit = number_in_force objects earlier BlackDensityLimit usual_params.black_density_limit;
+  black_color_limit =
+      number_in_force objects earlier BlackColorLimit usual_params.black_color_limit;
+  black_density_limit =
+      number_in_force objects earlier BlackDensityLimit usual_params.black_density_limit;
   step_limit = number_in_force objects earlier StepLimit usual_params.step_limit;
-  sliding_trap_limit = number_in_force objects earlier SlidingTrapLimit usual_params.sliding_trap_limit;
-  trap_color_scaling = number_in_force objects earlier TrapColorScaling usual_params.trap_color_scaling;
+  sliding_trap_limit =
+      number_in_force objects earlier SlidingTrapLimit usual_params.sliding_trap_limit;
+  trap_color_scaling =
+      number_in_force objects earlier TrapColorScaling usual_params.trap_color_scaling;
   enabled = boolean_in_force objects earlier Enabled usual_params.enabled;
 }
 
@@ -148,7 +163,9 @@ device_keys = codes "HWResolution" ∷ codes "Trapping" ∷ codes "TrappingDetai
 
 -- the keys that `settrapparams` knows
 abbrev pub params_keys : List (List ℕ)
-params_keys = map name_of (TrapWidth ∷ BlackWidth ∷ BlackColorLimit ∷ BlackDensityLimit ∷ StepLimit ∷ SlidingTrapLimit ∷ TrapColorScaling ∷ Enabled ∷ []) ++ codes "ColorantZoneDetails" ∷ []
+params_keys = map name_of
+    (TrapWidth ∷ BlackWidth ∷ BlackColorLimit ∷ BlackDensityLimit ∷ StepLimit ∷ SlidingTrapLimit
+    ∷ TrapColorScaling ∷ Enabled ∷ []) ++ codes "ColorantZoneDetails" ∷ []
 
 -- a dictionary has no entry of these keys
 abbrev pub NamesNone : List Object → ℕ → List (List ℕ) → Type 0

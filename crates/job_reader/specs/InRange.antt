@@ -15,5 +15,6 @@ pub record IsJob (job : Job) : Type 0 where
   pub zone_0 : (slice_index_or job.zones 0 no_zone).path ≡ []
   pub few_vertices : sum_by (λ (z : Zone). length z.path) job.zones ≤ most_vertices
   pub fine : job.resolution ≤ finest_resolution
-  pub resolved : job.resolution ≡ 0 → (length job.zones ≡ 1) × ((slice_index_or job.zones 0 no_zone).params.enabled ≡ false)
+  pub resolved : job.resolution ≡ 0
+      → (length job.zones ≡ 1) × ((slice_index_or job.zones 0 no_zone).params.enabled ≡ false)
   pub details : All IsInk job.details

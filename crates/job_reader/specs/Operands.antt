@@ -1,14 +1,17 @@
 -- The operands of an operator: the objects between two places of a job's list.
-use Rattle.std.specs.Prelude.{ℕ, ℤ, Bool, false, List, Option, Some, None, slice_get, ◌+◌, ◌==◌, ◌&&◌, if◌then◌else◌}
+use Rattle.std.specs.Prelude.{ℕ, ℤ, Bool, false, List, Option, Some, None, slice_get, ◌+◌, ◌==◌}
+use Rattle.std.specs.Prelude.{◌&&◌, if◌then◌else◌}
 use Rattle.ps_tokens.specs.declared.object.Body.{Body}
-use Rattle.ps_tokens.specs.declared.object.Body.TheVariants.{Number, Truth, Null, Text, Literal, Operator, Array, Dict}
+use Rattle.ps_tokens.specs.declared.object.Body.TheVariants.{Number, Truth, Null, Text, Literal}
+use Rattle.ps_tokens.specs.declared.object.Body.TheVariants.{Operator, Array, Dict}
 use Rattle.ps_tokens.specs.declared.object.Object.{Object}
 use Rattle.ps_tokens.specs.Objects.{is_dict}
 
 -- whether an object is a dictionary that ends before this place, where it stands at another
 abbrev pub is_dict_between : ℕ → ℕ → Option Object → Bool
 is_dict_between from place None = false
-is_dict_between from place (Some object) = is_dict object.body && (from + 1 + object.inside == place)
+is_dict_between from place (Some object) =
+    is_dict object.body && (from + 1 + object.inside == place)
 
 -- whether the operands are one dictionary
 abbrev pub is_one_dict : List Object → ℕ → ℕ → Bool
@@ -41,4 +44,5 @@ both (Some x) (Some y) = Some (x, y)
 
 -- the two numbers that are the operands, if they are two numbers
 abbrev pub two_numbers : List Object → ℕ → ℕ → Option (ℤ × ℤ)
-two_numbers objects from place = if from + 2 == place then both (number_at objects from) (number_at objects (from + 1)) else None
+two_numbers objects from place =
+    if from + 2 == place then both (number_at objects from) (number_at objects (from + 1)) else None

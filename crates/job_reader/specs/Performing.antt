@@ -16,7 +16,8 @@ Performs (Ok done) new meant = meant ≡ Ok new
 Performs (Err refusal) new meant = Fails refusal meant
 
 -- a call gives limits in place of those now, or none where these stay, or refuses as is meant
-abbrev pub MayReplace : Result (Option (List Limit)) JobRefusal → List Limit → Result (List Limit) JobFault → Type 0
+abbrev pub MayReplace : Result (Option (List Limit)) JobRefusal → List Limit
+    → Result (List Limit) JobFault → Type 0
 MayReplace (Ok None) now meant = meant ≡ Ok now
 MayReplace (Ok (Some limits)) now meant = meant ≡ Ok limits
 MayReplace (Err refusal) now meant = Fails refusal meant

@@ -1,20 +1,29 @@
 -- What each statement of a job does to what is in force.
-use Rattle.std.specs.Prelude.{ℕ, ℤ, Bool, List, [], ◌∷◌, ◌++◌, length, map, Option, Some, None, Result, Ok, Err, slice_get, nat_le, nat_lt, ◌+◌, ◌==◌, ◌&&◌, ◌||◌, if◌then◌else◌}
+use Rattle.std.specs.Prelude.{ℕ, ℤ, Bool, List, [], ◌∷◌, ◌++◌, length, map, Option, Some, None}
+use Rattle.std.specs.Prelude.{Result, Ok, Err, slice_get, nat_le, nat_lt, ◌+◌, ◌==◌, ◌&&◌, ◌||◌}
+use Rattle.std.specs.Prelude.{if◌then◌else◌}
 use Rattle.page_model.specs.declared.parts.Limit.{Limit}
 use Rattle.page_model.specs.declared.parts.TrapParams.{TrapParams}
 use Rattle.page_model.specs.declared.parts.Zone.{Zone}
 use Rattle.ps_tokens.specs.declared.faults.FaultKind.{FaultKind}
-use Rattle.ps_tokens.specs.declared.faults.FaultKind.TheVariants.{WrongOperands, TooManyVertices, TooManyZones, NoPageDevice, AfterShowpage}
+use Rattle.ps_tokens.specs.declared.faults.FaultKind.TheVariants.{WrongOperands, TooManyVertices}
+use Rattle.ps_tokens.specs.declared.faults.FaultKind.TheVariants.{TooManyZones, NoPageDevice}
+use Rattle.ps_tokens.specs.declared.faults.FaultKind.TheVariants.{AfterShowpage}
 use Rattle.ps_tokens.specs.declared.faults.JobFault.{JobFault}
 use Rattle.ps_tokens.specs.declared.object.Object.{Object}
 use Rattle.trap_params.specs.Applied.{params_after}
 use Rattle.trap_params.specs.Limits.{limits_after}
-use Rattle.zone_paths.specs.Paths.{Drawing, nothing_drawn, moveto, lineto, rmoveto, rlineto, closepath}
+use Rattle.zone_paths.specs.Paths.{Drawing, nothing_drawn, moveto, lineto, rmoveto, rlineto}
+use Rattle.zone_paths.specs.Paths.{closepath}
 use Rattle.job_reader.specs.declared.job.Job.{Job}
 use Rattle.job_reader.specs.declared.drawing.Stroke.{Stroke}
 use Rattle.job_reader.specs.declared.drawing.Stroke.TheVariants as strokes
 use Rattle.job_reader.specs.declared.operators.Operator.{Operator}
-use Rattle.job_reader.specs.declared.operators.Operator.TheVariants.{SetPageDevice, SetTrapParams, NewPath, ClosePath, MoveTo, LineTo, RelativeMoveTo, RelativeLineTo, SetTrapZone, ShowPage}
+use Rattle.job_reader.specs.declared.operators.Operator.TheVariants.{SetPageDevice, SetTrapParams}
+use Rattle.job_reader.specs.declared.operators.Operator.TheVariants.{NewPath, ClosePath, MoveTo}
+use Rattle.job_reader.specs.declared.operators.Operator.TheVariants.{LineTo, RelativeMoveTo}
+use Rattle.job_reader.specs.declared.operators.Operator.TheVariants.{RelativeLineTo, SetTrapZone}
+use Rattle.job_reader.specs.declared.operators.Operator.TheVariants.{ShowPage}
 use Rattle.job_reader.specs.declared.state.State.{State}
 use Rattle.job_reader.specs.Device.{device_set}
 use Rattle.job_reader.specs.Operands.{is_one_dict, two_numbers}
@@ -24,7 +33,8 @@ abbrev pub fault : {X : Type 0} → FaultKind → ℕ → Result X JobFault
 fault kind at = Err (record { kind = kind; at = at })
 
 -- parameters and limits, set together; of two faults the one with the lesser offset
-abbrev pub both_set : Result TrapParams JobFault → Result (List Limit) JobFault → State → Result State JobFault
+abbrev pub both_set : Result TrapParams JobFault → Result (List Limit) JobFault → State
+    → Result State JobFault
 both_set (Ok params) (Ok limits) now = Ok (record now { params = params; limits = limits })
 both_set (Ok params) (Err second) now = Err second
 both_set (Err first) (Ok limits) now = Err first
@@ -32,7 +42,8 @@ both_set (Err first) (Err second) now = Err (if nat_lt second.at first.at then s
 
 -- `dict settrapparams`
 abbrev pub params_set : List Object → ℕ → State → Result State JobFault
-params_set objects dict now = both_set (params_after now.params objects dict) (limits_after now.limits objects dict) now
+params_set objects dict now =
+    both_set (params_after now.params objects dict) (limits_after now.limits objects dict) now
 
 -- a path statement at an offset
 abbrev pub path_drawn : ℕ → State → Result Drawing FaultKind → Result State JobFault
@@ -47,7 +58,8 @@ stroke_on strokes.RelativeMoveTo x y path = rmoveto x y path
 stroke_on strokes.RelativeLineTo x y path = rlineto x y path
 
 -- with two numbers as operands
-abbrev pub with_numbers : ℕ → Option (ℤ × ℤ) → (ℤ → ℤ → Result State JobFault) → Result State JobFault
+abbrev pub with_numbers : ℕ → Option (ℤ × ℤ) → (ℤ → ℤ → Result State JobFault)
+    → Result State JobFault
 with_numbers at None draw = fault WrongOperands at
 with_numbers at (Some p) draw = draw p.0 p.1
 
@@ -63,41 +75,64 @@ most_vertices = 16384
 abbrev pub zone_of : State → Zone
 zone_of now = record { params = now.params; path = now.path.vertices; limits = now.limits }
 
--- `settrapzone` at an offset: at most 250 zones, with at most 16,384 vertices together; the path is then empty
+-- `settrapzone` at an offset: at most 250 zones, with at most 16,384 vertices together; the path
+-- is then empty
 abbrev pub zone_made : ℕ → State → Result State JobFault
 zone_made at now =
     if nat_le most_zones (length now.zones) then fault TooManyZones at
-    else (if nat_lt most_vertices (now.vertices + length now.path.vertices) then fault TooManyVertices at
-    else Ok (record now { zones = now.zones ++ zone_of now ∷ []; path = nothing_drawn; vertices = now.vertices + length now.path.vertices }))
+    else (if nat_lt most_vertices (now.vertices + length now.path.vertices)
+    then fault TooManyVertices at
+    else Ok (record now {
+      zones = now.zones ++ zone_of now ∷ [];
+      path = nothing_drawn;
+      vertices = now.vertices + length now.path.vertices;
+    }))
 
--- a statement other than `showpage`: its operands stand from one place to another, and its operator at an offset
+-- a statement other than `showpage`: its operands stand from one place to another, and its
+-- operator at an offset
 unfoldable pub state_after : List Object → ℕ → ℕ → ℕ → Operator → State → Result State JobFault
-state_after objects from place at SetPageDevice now = if is_one_dict objects from place then device_set objects from now else fault WrongOperands at
-state_after objects from place at SetTrapParams now = if is_one_dict objects from place then params_set objects from now else fault WrongOperands at
-state_after objects from place at NewPath now = if from == place then Ok (record now { path = nothing_drawn }) else fault WrongOperands at
-state_after objects from place at ClosePath now = if from == place then Ok (record now { path = closepath now.path }) else fault WrongOperands at
-state_after objects from place at MoveTo now = with_numbers at (two_numbers objects from place) (λ x y. path_drawn at now (moveto x y now.path))
-state_after objects from place at LineTo now = with_numbers at (two_numbers objects from place) (λ x y. path_drawn at now (lineto x y now.path))
-state_after objects from place at RelativeMoveTo now = with_numbers at (two_numbers objects from place) (λ x y. path_drawn at now (rmoveto x y now.path))
-state_after objects from place at RelativeLineTo now = with_numbers at (two_numbers objects from place) (λ x y. path_drawn at now (rlineto x y now.path))
-state_after objects from place at SetTrapZone now = if from == place then zone_made at now else fault WrongOperands at
+state_after objects from place at SetPageDevice now =
+    if is_one_dict objects from place then device_set objects from now else fault WrongOperands at
+state_after objects from place at SetTrapParams now =
+    if is_one_dict objects from place then params_set objects from now else fault WrongOperands at
+state_after objects from place at NewPath now =
+    if from == place then Ok (record now { path = nothing_drawn }) else fault WrongOperands at
+state_after objects from place at ClosePath now =
+    if from == place then Ok (record now { path = closepath now.path }) else fault WrongOperands at
+state_after objects from place at MoveTo now = with_numbers at (two_numbers objects from place)
+    (λ x y. path_drawn at now (moveto x y now.path))
+state_after objects from place at LineTo now = with_numbers at (two_numbers objects from place)
+    (λ x y. path_drawn at now (lineto x y now.path))
+state_after objects from place at RelativeMoveTo now = with_numbers at
+    (two_numbers objects from place) (λ x y. path_drawn at now (rmoveto x y now.path))
+state_after objects from place at RelativeLineTo now = with_numbers at
+    (two_numbers objects from place) (λ x y. path_drawn at now (rlineto x y now.path))
+state_after objects from place at SetTrapZone now =
+    if from == place then zone_made at now else fault WrongOperands at
 state_after objects from place at ShowPage now = Ok now
 
 -- a zone as it is where Trapping is true or false
 abbrev pub under_trapping : Bool → Zone → Zone
-under_trapping trapping zone = record zone { params = record zone.params { enabled = zone.params.enabled && trapping } }
+under_trapping trapping zone =
+    record zone { params = record zone.params { enabled = zone.params.enabled && trapping } }
 
 -- zone 0 covers what no zone does, and is enabled only where there is no other
 abbrev pub zone_0 : State → Zone
 zone_0 now = record {
-  params = record now.params { enabled = now.params.enabled && now.trapping && (length now.zones == 0) };
+  params =
+      record now.params { enabled = now.params.enabled && now.trapping && (length now.zones == 0) };
   path = [];
   limits = now.limits;
 }
 
 -- the job at `showpage`
 abbrev pub job_at : State → Job
-job_at now = record { resolution = now.resolution; zones = zone_0 now ∷ map (under_trapping now.trapping) now.zones; details = now.details }
+job_at now =
+    record {
+      resolution = now.resolution;
+      zones = zone_0 now ∷ map (under_trapping now.trapping) now.zones;
+      details = now.details;
+    }
 
 -- whether a page of this job wants a resolution: a zone was made, or zone 0 is enabled
 abbrev pub wants_device : State → Bool
@@ -108,10 +143,13 @@ abbrev pub behind_fault : Option Object → Option JobFault
 behind_fault None = None
 behind_fault (Some object) = Some (record { kind = AfterShowpage; at = object.at })
 
--- the fault of `showpage`, if it has one: its operands stand from one place to another, and it stands at an offset
+-- the fault of `showpage`, if it has one: its operands stand from one place to another, and it
+-- stands at an offset
 unfoldable pub shown_fault : List Object → ℕ → ℕ → ℕ → State → Option JobFault
 shown_fault objects from place at now =
-    if from == place then (if (now.resolution == 0) && wants_device now then Some (record { kind = NoPageDevice; at = at }) else behind_fault (slice_get objects (place + 1)))
+    if from == place then (if (now.resolution == 0) && wants_device now
+    then Some (record { kind = NoPageDevice; at = at })
+    else behind_fault (slice_get objects (place + 1)))
     else Some (record { kind = WrongOperands; at = at })
 
 -- the job, unless there is a fault
@@ -121,4 +159,5 @@ job_unless (Some first) job = Err first
 
 -- `showpage`
 abbrev pub job_shown : List Object → ℕ → ℕ → ℕ → State → Result Job JobFault
-job_shown objects from place at now = job_unless (shown_fault objects from place at now) (job_at now)
+job_shown objects from place at now =
+    job_unless (shown_fault objects from place at now) (job_at now)

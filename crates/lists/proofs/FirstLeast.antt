@@ -1,3 +1,4 @@
+-- The first of the least rank among numbers that pass a test, kept number by number.
 use Rattle.std.proofs.Common.{◌≡◌, ℕ, zero, suc, ◌<◌, ◌≤◌, Bool, true, false, ◌&&◌, nat_lt, Option, Some, None, if◌then◌else◌, inl, inr, refl, arith, sym, ◌∙◌, ap}
 use Rattle.std.specs.Option.{MatchOption}
 use Rattle.std.proofs.lemmas.Bool.{cases_Bool, ltb-true, ltb-false, cases_eq, cases_order, false≢true}

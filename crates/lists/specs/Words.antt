@@ -1,4 +1,8 @@
-use Rattle.std.specs.Prelude.{◌≡◌, ℕ, zero, suc, ◌+◌, ◌-◌, ◌*◌, ◌<◌, ◌≤◌, Bool, true, false, ◌&&◌, ◌||◌, nat_lt, max, List, [], ◌∷◌, ◌++◌, Option, Some, None, if◌then◌else◌}
+-- The words that definitions are written in: sums, counts, tests and lists over the numbers
+-- below another.
+use Rattle.std.specs.Prelude.{◌≡◌, ℕ, zero, suc, ◌+◌, ◌-◌, ◌*◌, ◌<◌, ◌≤◌, Bool, true, false, ◌&&◌}
+use Rattle.std.specs.Prelude.{◌||◌, nat_lt, max, List, [], ◌∷◌, ◌++◌, Option, Some, None}
+use Rattle.std.specs.Prelude.{if◌then◌else◌}
 
 -- f 0 + f 1 + .. + f (n - 1)
 abbrev pub sum_below : (ℕ → ℕ) → ℕ → ℕ
@@ -41,9 +45,11 @@ beats rank k (Some best) = nat_lt (rank k) (rank best)
 -- of the numbers below n that pass the test the one of the least rank, and of these the first
 abbrev pub first_least : (ℕ → ℕ) → (ℕ → Bool) → ℕ → Option ℕ
 first_least rank test zero = None
-first_least rank test (suc n) = let best = first_least rank test n in if test n && beats rank n best then Some n else best
+first_least rank test (suc n) =
+    let best = first_least rank test n in if test n && beats rank n best then Some n else best
 
--- k is below n and passes the test, none that passes has a lesser rank, and none before k has as low a rank
+-- k is below n and passes the test, none that passes has a lesser rank, and none before k has as
+-- low a rank
 pub record IsFirstLeast (rank : ℕ → ℕ) (test : ℕ → Bool) (n k : ℕ) : Type 0 where
   pub below : k < n
   pub passes : test k ≡ true

@@ -1,3 +1,4 @@
+-- The decider of a sample is the nearest among the nearest edges of the columns.
 use Rattle.std.proofs.Common.{◌≡◌, ℕ, ◌+◌, ◌*◌, ◌-◌, ◌%◌, ◌<◌, ◌≤◌, Bool, true, nat_le, ◌&&◌, inl, inr, sym, ◌∙◌, ap, subst, arith, Option, Some, None}
 use Rattle.std.specs.Prelude.{◌==◌}
 use Rattle.std.specs.Option.{MatchOption, option_map}

@@ -1,3 +1,5 @@
+-- The first least edge of the doubled grid is the decider: it decides, and no deciding edge
+-- comes before it.
 use Rattle.std.specs.Prelude.{⊤}
 use Rattle.std.proofs.Common.{◌≡◌, ◌⊎◌, ℕ, ◌*◌, ◌-◌, ◌<◌, ◌≤◌, Bool, true, false, inl, inr, sym, ◌∙◌, arith, Option, Some, None}
 use Rattle.std.specs.Option.{MatchOption, option_map}

@@ -1,3 +1,4 @@
+-- No sample is darker than its trap with full tints, and what counts weighs something.
 use Rattle.std.proofs.Common.{◌≡◌, ℕ, ◌*◌, ◌<◌, ◌≤◌, Bool, true, ◌&&◌, nat_lt, inl, inr, arith, refl, false}
 use Rattle.std.proofs.lemmas.Bool.{cases_Bool, and_parts, ltb-true}
 use Rattle.std.proofs.Math.Nat.{mul-le-mul}

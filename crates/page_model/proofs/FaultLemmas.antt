@@ -1,3 +1,4 @@
+-- Parts without a fault are a page, and parts with one are none.
 use Rattle.std.proofs.Common.{◌≡◌, ℕ, ◌*◌, ◌≤◌, ◌&&◌, ◌==◌, nat_lt, inl, inr, false, length, refl, arith, None}
 use Rattle.std.proofs.lemmas.Bool.{cases_Bool, and_parts, eqb-true, eq-eqb, ltb-false, le-ltb}
 use Rattle.page_model.specs.declared.parts.PageParts.{PageParts}

@@ -1,3 +1,4 @@
+-- What a page's conditions give of a plate, a zone and a sample.
 use Rattle.std.proofs.Common.{ℕ, ◌+◌, ◌*◌, ◌<◌, ◌≤◌, length, arith}
 use Rattle.std.proofs.lemmas.Nat.{mul-add-lt}
 use Rattle.page_model.specs.declared.parts.At.{At}

@@ -1,3 +1,4 @@
+-- An edge that is farther than the reach of the page is not within, whatever the zone.
 use Rattle.std.proofs.Common.{◌≡◌, ℕ, zero, suc, ◌+◌, ◌*◌, ◌/◌, ◌<◌, ◌≤◌, Bool, true, false, nat_le, max, ◌&&◌, inl, inr, refl, arith, if◌then◌else◌}
 use Rattle.std.proofs.lemmas.Bool.{cases_lt, cases_eq, leb-true, false_from_ne_true}
 use Rattle.std.proofs.Math.Nat.{mul-le-mul_left, lt-div-mul-add}

@@ -1,3 +1,4 @@
+-- The last zone that covers a sample, kept zone by zone.
 use Rattle.std.proofs.Common.{◌≡◌, ℕ, zero, suc, ◌-◌, ◌<◌, ◌≤◌, true, false, length, arith, inl, inr}
 use Rattle.std.proofs.lemmas.Bool.{cases_Bool, cases_eq}
 use Rattle.page_model.specs.declared.parts.At.{At}

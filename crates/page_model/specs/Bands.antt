@@ -1,3 +1,4 @@
+-- Bands of rows: how many there are, where each begins, and how many rows it has.
 use Rattle.std.specs.Prelude.{◌≡◌, ℕ, ◌+◌, ◌-◌, ◌*◌, ◌/◌, ◌%◌, ◌≤◌, min}
 use Rattle.page_model.specs.declared.bands.Bands.{Bands}
 use Rattle.page_model.specs.Limits.{most_band_height, most_reach, most_side}
@@ -6,7 +7,8 @@ use Rattle.page_model.specs.Limits.{most_band_height, most_reach, most_side}
 abbrev pub ceiling : ℕ → ℕ → ℕ
 ceiling a b = (a + b - 1) / b
 
--- as many bands as hold all rows, in the ranges of a page; that there are 1 to most_side of them follows
+-- as many bands as hold all rows, in the ranges of a page; that there are 1 to most_side of them
+-- follows
 pub record AreBands (bands : Bands) : Type 0 where
   pub some_rows : 1 ≤ bands.rows
   pub few_rows : bands.rows ≤ most_side
@@ -29,7 +31,8 @@ rows_in bands band = min bands.height (bands.rows - first_row bands band)
 abbrev pub band_of_row : Bands → ℕ → ℕ
 band_of_row bands y = y / bands.height
 
--- A piece of work is a phase of a band: 0 for its zones, 1 for its edges, 2 for its columns, 3 for its traps. Pieces
+-- A piece of work is a phase of a band: 0 for its zones, 1 for its edges, 2 for its columns, 3
+-- for its traps. Pieces
 -- are numbered phase by phase, and in a phase from the top.
 
 -- how many pieces there are

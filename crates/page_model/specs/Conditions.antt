@@ -1,4 +1,6 @@
-use Rattle.std.specs.Prelude.{◌≡◌, ◌≢◌, ℕ, ◌*◌, ◌<◌, ◌≤◌, Bool, true, false, List, [], ◌∷◌, length, All, AllPairs, sum_by, nat_abs}
+-- The ranges that everything on a page keeps, and what a page is: such parts without a fault.
+use Rattle.std.specs.Prelude.{◌≡◌, ◌≢◌, ℕ, ◌*◌, ◌<◌, ◌≤◌, Bool, true, false, List, [], ◌∷◌, length}
+use Rattle.std.specs.Prelude.{All, AllPairs, sum_by, nat_abs}
 use Rattle.page_model.specs.declared.parts.Ink.{Ink}
 use Rattle.page_model.specs.declared.parts.Limit.{Limit}
 use Rattle.page_model.specs.declared.parts.PageParts.{PageParts}
@@ -9,7 +11,10 @@ use Rattle.page_model.specs.declared.parts.Zone.{Zone}
 use Rattle.page_model.specs.Page.{plates, width, height, maxval, params_at, path_at}
 use Rattle.page_model.specs.Planes.{plane_at}
 use Rattle.page_model.specs.Reach.{zone_reach}
-use Rattle.page_model.specs.Limits.{least_ink_density, most_black_width, most_coordinate, most_ink_density, most_maxval, most_plates, most_reach, most_resolution, most_samples, most_side, most_trap_width, most_vertices, most_vertices_in_all, most_zones, scale}
+use Rattle.page_model.specs.Limits.{least_ink_density, most_black_width, most_coordinate}
+use Rattle.page_model.specs.Limits.{most_ink_density, most_maxval, most_plates, most_reach}
+use Rattle.page_model.specs.Limits.{most_resolution, most_samples, most_side, most_trap_width}
+use Rattle.page_model.specs.Limits.{most_vertices, most_vertices_in_all, most_zones, scale}
 
 -- a plane within the limits, with a tint for each of its samples
 pub record IsPlane (plane : Plane) : Type 0 where
@@ -80,7 +85,8 @@ pub record IsParts (page : PageParts) : Type 0 where
   pub zone_0 : path_at page 0 ≡ []
   pub few_vertices : sum_by (λ (z : Zone). length z.path) page.zones ≤ most_vertices_in_all
   pub fine : page.resolution ≤ most_resolution
-  pub resolved : page.resolution ≡ 0 → (length page.zones ≡ 1) × ((params_at page 0).enabled ≡ false)
+  pub resolved : page.resolution ≡ 0
+      → (length page.zones ≡ 1) × ((params_at page 0).enabled ≡ false)
 
 -- plate c is as wide and high and deep as plate 0
 pub record Agrees (page : PageParts) (c : ℕ) : Type 0 where

@@ -1,3 +1,4 @@
+-- What the report tells of a page.
 use Rattle.std.specs.Prelude.{ℕ, ◌&&◌, not, Bool, ◌==◌, length}
 use Rattle.page_model.specs.declared.parts.At.{At}
 use Rattle.page_model.specs.declared.parts.Counts.{Counts}
@@ -22,7 +23,9 @@ zone_samples page z = count_below (λ k. zone_of page (sample_at page k) == z) (
 
 -- and how many of these change
 abbrev pub zone_changed : PageParts → ℕ → ℕ
-zone_changed page z = count_below (λ k. (zone_of page (sample_at page k) == z) && sample_changes page (sample_at page k)) (samples page)
+zone_changed page z = count_below
+    (λ k. (zone_of page (sample_at page k) == z) && sample_changes page (sample_at page k))
+    (samples page)
 
 -- how many edges of the page decide
 abbrev pub deciding_edges : PageParts → ℕ

@@ -1,4 +1,7 @@
-use Rattle.std.specs.Prelude.{◌≡◌, ℕ, ◌+◌, ◌-◌, ◌*◌, ◌/◌, ◌%◌, ◌<◌, ◌≤◌, ◌⊎◌, Bool, true, ◌&&◌, ◌==◌, Option}
+-- The decider of a sample: the nearest deciding edge; of equally near ones the leftmost, then
+-- the uppermost.
+use Rattle.std.specs.Prelude.{◌≡◌, ℕ, ◌+◌, ◌-◌, ◌*◌, ◌/◌, ◌%◌, ◌<◌, ◌≤◌, ◌⊎◌, Bool, true, ◌&&◌}
+use Rattle.std.specs.Prelude.{◌==◌, Option}
 use Rattle.std.specs.Option.{option_map}
 use Rattle.page_model.specs.declared.parts.At.{At}
 use Rattle.page_model.specs.declared.parts.EdgeAt.{EdgeAt}
@@ -24,13 +27,17 @@ grid_point page k = record { x2 = k / grid_rows page; y2 = k % grid_rows page }
 abbrev pub is_candidate : PageParts → EdgeAt → Bool
 is_candidate page e = ((e.x2 + e.y2) % 2 == 1) && decides page e
 
--- the deciding edge of the whole page with the least (d2, X, Y), which the sample is trapped at if at any
+-- the deciding edge of the whole page with the least (d2, X, Y), which the sample is trapped at
+-- if at any
 unfoldable pub decider : PageParts → At → Option EdgeAt
-decider page p = option_map (grid_point page) (first_least (λ k. d2 p (grid_point page k)) (λ k. is_candidate page (grid_point page k)) (grid_points page))
+decider page p = option_map (grid_point page)
+    (first_least (λ k. d2 p (grid_point page k)) (λ k. is_candidate page (grid_point page k))
+    (grid_points page))
 
 -- (d2, X, Y) of e is at most that of f
 abbrev pub AtMost : At → EdgeAt → EdgeAt → Type 0
-AtMost p e f = (d2 p e < d2 p f) ⊎ ((d2 p e ≡ d2 p f) × ((e.x2 < f.x2) ⊎ ((e.x2 ≡ f.x2) × (e.y2 ≤ f.y2))))
+AtMost p e f =
+    (d2 p e < d2 p f) ⊎ ((d2 p e ≡ d2 p f) × ((e.x2 < f.x2) ⊎ ((e.x2 ≡ f.x2) × (e.y2 ≤ f.y2))))
 
 -- the edge decides, and no deciding edge of the page comes before it
 pub record IsDecider (page : PageParts) (p : At) (e : EdgeAt) : Type 0 where

@@ -1,3 +1,5 @@
+-- Which edges decide: open on both sides, in enabled zones, and apart by the limits of each
+-- side's zone.
 use Rattle.std.specs.Prelude.{ℕ, ◌+◌, Bool, ◌&&◌, not, nat_lt, if◌then◌else◌}
 use Rattle.page_model.specs.declared.parts.EdgeAt.{EdgeAt}
 use Rattle.page_model.specs.declared.parts.PageParts.{PageParts}
@@ -9,9 +11,12 @@ use Rattle.page_model.specs.Zones.{zone_of}
 
 -- the edge decides, its first sample lying in zone a and its second in zone b
 unfoldable pub decides_in : PageParts → ℕ → ℕ → EdgeAt → Bool
-decides_in page a b e = not (shut page (first e)) && not (shut page (second e)) && (params_at page a).enabled && (params_at page b).enabled && apart page a (first e) (second e) && apart page b (first e) (second e)
+decides_in page a b e = not (shut page (first e)) && not (shut page (second e))
+    && (params_at page a).enabled && (params_at page b).enabled && apart page a (first e) (second e)
+    && apart page b (first e) (second e)
 
--- a trap may be made at the edge: neither side is shut, both zones are enabled, and the sides are apart by each zone's limits
+-- a trap may be made at the edge: neither side is shut, both zones are enabled, and the sides
+-- are apart by each zone's limits
 unfoldable pub decides : PageParts → EdgeAt → Bool
 decides page e = decides_in page (zone_of page (first e)) (zone_of page (second e)) e
 

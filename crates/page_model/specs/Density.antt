@@ -1,7 +1,9 @@
+-- How dark a sample is, and which samples are shut.
 use Rattle.std.specs.Prelude.{ℕ, ◌*◌, Bool, true, false, ◌&&◌, nat_lt, if◌then◌else◌}
 use Rattle.page_model.specs.declared.parts.At.{At}
 use Rattle.page_model.specs.declared.parts.InkKind.{InkKind}
-use Rattle.page_model.specs.declared.parts.InkKind.TheVariants.{Normal, Transparent, Opaque, OpaqueIgnore}
+use Rattle.page_model.specs.declared.parts.InkKind.TheVariants.{Normal, Transparent, Opaque}
+use Rattle.page_model.specs.declared.parts.InkKind.TheVariants.{OpaqueIgnore}
 use Rattle.page_model.specs.declared.parts.PageParts.{PageParts}
 use Rattle.page_model.specs.Page.{ink_at, plates, tint}
 use Rattle.lists.specs.Words.{sum_below, any_below}

@@ -1,3 +1,5 @@
+-- Edges between neighbouring samples on the doubled grid: their two sides, and how far a sample
+-- is from them.
 use Rattle.std.specs.Prelude.{◌≡◌, ℕ, ◌+◌, ◌*◌, ◌/◌, ◌%◌, ◌≤◌, Bool, nat_lt, ◌==◌, if◌then◌else◌}
 use Rattle.page_model.specs.declared.parts.At.{At}
 use Rattle.page_model.specs.declared.parts.EdgeAt.{EdgeAt}

@@ -1,3 +1,5 @@
+-- What can be relied on without reading the definitions: the zone is the last that covers; far
+-- from edges nothing changes.
 use Rattle.std.specs.Prelude.{◌≡◌, ℕ, ◌<◌, true, false, length, Some, None}
 use Rattle.page_model.specs.declared.parts.At.{At}
 use Rattle.page_model.specs.declared.parts.EdgeAt.{EdgeAt}

@@ -5,7 +5,8 @@ use Rattle.std.specs.Prelude.{ℕ}
 abbrev pub scale : ℕ
 scale = 10000
 
--- 36 times the square of the scale: a width times a factor times a resolution, each in ten-thousandths, of one half-sample.
+-- 36 times the square of the scale: a width times a factor times a resolution, each in
+-- ten-thousandths, of one half-sample.
 -- A point is a 72nd of an inch, and a half-sample half of an inch cut by the resolution
 abbrev pub half_sample : ℕ
 half_sample = 3600000000

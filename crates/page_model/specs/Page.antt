@@ -1,4 +1,6 @@
-use Rattle.std.specs.Prelude.{ℕ, ◌+◌, ◌*◌, ◌/◌, ◌%◌, ◌<◌, false, List, [], length, slice_index, slice_index_or, find, Option, Some, None}
+-- A page as the rule sees it: plates of one size, their inks, zones, tints and step limits.
+use Rattle.std.specs.Prelude.{ℕ, ◌+◌, ◌*◌, ◌/◌, ◌%◌, ◌<◌, false, List, [], length, slice_index}
+use Rattle.std.specs.Prelude.{slice_index_or, find, Option, Some, None}
 use Rattle.std.specs.Str.{bytes_eq}
 use Rattle.page_model.specs.declared.parts.At.{At}
 use Rattle.page_model.specs.declared.parts.Ink.{Ink}
@@ -16,7 +18,17 @@ no_ink = record { name = []; density = 0; kind = Transparent }
 
 -- the parameters of no zone
 abbrev pub no_params : TrapParams
-no_params = record { trap_width = 0; black_width = 0; black_color_limit = 0; black_density_limit = 0; step_limit = 0; sliding_trap_limit = 0; trap_color_scaling = 0; enabled = false }
+no_params =
+    record {
+      trap_width = 0;
+      black_width = 0;
+      black_color_limit = 0;
+      black_density_limit = 0;
+      step_limit = 0;
+      sliding_trap_limit = 0;
+      trap_color_scaling = 0;
+      enabled = false;
+    }
 
 -- what stands past the last zone
 abbrev pub no_zone : Zone
@@ -86,4 +98,5 @@ named_step limits name usual = step_or (find (λ l. bytes_eq l.name name) limits
 
 -- the step limit of plate c in zone z
 abbrev pub step_limit : PageParts → ℕ → ℕ → ℕ
-step_limit page z c = named_step (zone_at page z).limits (ink_at page c).name (params_at page z).step_limit
+step_limit page z c =
+    named_step (zone_at page z).limits (ink_at page c).name (params_at page z).step_limit

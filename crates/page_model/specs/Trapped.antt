@@ -1,3 +1,5 @@
+-- Which samples change: near enough, apart from the edge's other side, and on its darker side or
+-- on both.
 use Rattle.std.specs.Prelude.{ℕ, Bool, ◌&&◌, ◌||◌, not, nat_lt, false, Option, Some, None}
 use Rattle.page_model.specs.declared.parts.At.{At}
 use Rattle.page_model.specs.declared.parts.EdgeAt.{EdgeAt}
@@ -10,9 +12,13 @@ use Rattle.page_model.specs.Edges.{own, across}
 use Rattle.page_model.specs.Within.{edge_slid, within_in}
 use Rattle.page_model.specs.Zones.{zone_of}
 
--- the edge traps p, which lies in zone z: it is within and apart, and p is on the darker side of it, unless it is slid
+-- the edge traps p, which lies in zone z: it is within and apart, and p is on the darker side of
+-- it, unless it is slid
 unfoldable pub trapped_in : PageParts → ℕ → At → EdgeAt → Bool
-trapped_in page z p e = not (shut page p) && (params_at page z).enabled && within_in page z p e && apart page z p (across p e) && (edge_slid page (params_at page z) e || nat_lt (density page (across p e)) (density page (own p e)))
+trapped_in page z p e = not (shut page p) && (params_at page z).enabled && within_in page z p e
+    && apart page z p (across p e)
+    && (edge_slid page (params_at page z) e
+    || nat_lt (density page (across p e)) (density page (own p e)))
 
 -- whether a sample is trapped at an edge, by the zone of the sample
 abbrev pub trapped : PageParts → At → EdgeAt → Bool

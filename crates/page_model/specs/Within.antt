@@ -1,4 +1,7 @@
-use Rattle.std.specs.Prelude.{ℕ, ◌*◌, Bool, ◌&&◌, ◌||◌, nat_lt, nat_le, ◌==◌, min, max, if◌then◌else◌}
+-- Whether a sample is near enough to its edge: the trap width, more at black, half of it on both
+-- sides of a slid edge.
+use Rattle.std.specs.Prelude.{ℕ, ◌*◌, Bool, ◌&&◌, ◌||◌, nat_lt, nat_le, ◌==◌, min, max}
+use Rattle.std.specs.Prelude.{if◌then◌else◌}
 use Rattle.page_model.specs.declared.parts.At.{At}
 use Rattle.page_model.specs.declared.parts.EdgeAt.{EdgeAt}
 use Rattle.page_model.specs.declared.parts.PageParts.{PageParts}
@@ -28,7 +31,9 @@ edge_slid page params e = slid params (low page e) (high page e)
 
 -- plate c counts as black at the sample: a dark enough ink with tint enough
 abbrev pub black_plate : PageParts → TrapParams → At → ℕ → Bool
-black_plate page params p c = plate_counts page c && nat_le params.black_density_limit (ink_at page c).density && nat_lt 0 (tint page c p) && nat_le (params.black_color_limit * maxval page) (tint page c p * scale)
+black_plate page params p c = plate_counts page c
+    && nat_le params.black_density_limit (ink_at page c).density && nat_lt 0 (tint page c p)
+    && nat_le (params.black_color_limit * maxval page) (tint page c p * scale)
 
 -- whether some plate makes a sample black
 abbrev pub black_sample : PageParts → TrapParams → At → Bool
@@ -36,15 +41,19 @@ black_sample page params p = any_below (black_plate page params p) (plates page)
 
 -- a side of the edge's greater density has a black ink
 abbrev pub black : PageParts → TrapParams → EdgeAt → Bool
-black page params e = ((density page (first e) == high page e) && black_sample page params (first e)) || ((density page (second e) == high page e) && black_sample page params (second e))
+black page params e =
+    ((density page (first e) == high page e) && black_sample page params (first e))
+    || ((density page (second e) == high page e) && black_sample page params (second e))
 
--- the edge is at most a trap width away, by the parameters of zone z: the black width at a black edge, and half the width at a slid one
+-- the edge is at most a trap width away, by the parameters of zone z: the black width at a black
+-- edge, and half the width at a slid one
 unfoldable pub within_in : PageParts → ℕ → At → EdgeAt → Bool
 within_in page z p e =
     let params = params_at page z in
     let factor = (if black page params e then params.black_width else scale) in
     let parts = (if edge_slid page params e then 2 else 1) in
-    nat_le (d2 p e * square (half_sample * parts)) (square (params.trap_width * factor * page.resolution))
+    nat_le (d2 p e * square (half_sample * parts))
+    (square (params.trap_width * factor * page.resolution))
 
 -- whether an edge is near enough to trap a sample, by the zone of the sample
 abbrev pub within : PageParts → At → EdgeAt → Bool

@@ -12,7 +12,8 @@ use Rattle.lists.specs.Words.{list_below}
 abbrev pub colour : ℕ → ℕ → ℕ → ℕ
 colour number x y = (number + 3 * (x / 8) + 5 * (y / 8) + (x / 8) * (y / 8)) % 8
 
--- the tints of cyan in the eight colours, which are cyan, magenta, yellow, black, paper, green, red and grey
+-- the tints of cyan in the eight colours, which are cyan, magenta, yellow, black, paper, green,
+-- red and grey
 abbrev pub cyan_tints : List ℕ
 cyan_tints = 255 ∷ 0 ∷ 0 ∷ 0 ∷ 0 ∷ 128 ∷ 0 ∷ 64 ∷ []
 
@@ -38,7 +39,13 @@ sample_tints tints number width height = list_below (tint_at tints number width)
 
 -- a plane of these tints, of which 255 is full ink
 abbrev pub sample_plane : List ℕ → ℕ → ℕ → ℕ → Plane
-sample_plane tints number width height = record { width = width; height = height; maxval = 255; tints = sample_tints tints number width height }
+sample_plane tints number width
+    height = record {
+      width = width;
+      height = height;
+      maxval = 255;
+      tints = sample_tints tints number width height;
+    }
 
 -- an ink that is neither clear nor opaque
 abbrev pub normal_ink : List ℕ → ℕ → Ink
@@ -46,7 +53,17 @@ normal_ink name density = record { name = name; density = density; kind = Normal
 
 -- the usual parameters, with a trap width of 0.75 points
 abbrev pub sample_params : TrapParams
-sample_params = record { trap_width = 7500; black_width = 10000; black_color_limit = 9500; black_density_limit = 16000; step_limit = 2500; sliding_trap_limit = 7000; trap_color_scaling = 10000; enabled = true }
+sample_params =
+    record {
+      trap_width = 7500;
+      black_width = 10000;
+      black_color_limit = 9500;
+      black_density_limit = 16000;
+      step_limit = 2500;
+      sliding_trap_limit = 7000;
+      trap_color_scaling = 10000;
+      enabled = true;
+    }
 
 -- zone 0, with no path and no limit of its own
 abbrev pub sample_zone : Zone
@@ -56,7 +73,11 @@ sample_zone = record { params = sample_params; path = []; limits = [] }
 abbrev pub sample_parts : ℕ → ℕ → ℕ → PageParts
 sample_parts number width height = record {
   resolution = 600;
-  planes = sample_plane cyan_tints number width height ∷ sample_plane magenta_tints number width height ∷ sample_plane yellow_tints number width height ∷ sample_plane black_tints number width height ∷ [];
-  inks = normal_ink (codes "Cyan") 6100 ∷ normal_ink (codes "Magenta") 7600 ∷ normal_ink (codes "Yellow") 1600 ∷ normal_ink (codes "Black") 17000 ∷ [];
+  planes = sample_plane cyan_tints number width height
+      ∷ sample_plane magenta_tints number width height
+      ∷ sample_plane yellow_tints number width height ∷ sample_plane black_tints number width height
+      ∷ [];
+  inks = normal_ink (codes "Cyan") 6100 ∷ normal_ink (codes "Magenta") 7600
+      ∷ normal_ink (codes "Yellow") 1600 ∷ normal_ink (codes "Black") 17000 ∷ [];
   zones = sample_zone ∷ [];
 }

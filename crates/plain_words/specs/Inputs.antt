@@ -1,5 +1,6 @@
 -- The words NAME:IN of plates.
-use Rattle.std.specs.Prelude.{ℕ, ◌≤◌, Bool, ◌&&◌, nat_le, if◌then◌else◌, List, length, map, Option, Some, None}
+use Rattle.std.specs.Prelude.{ℕ, ◌≤◌, Bool, ◌&&◌, nat_le, if◌then◌else◌, List, length, map, Option}
+use Rattle.std.specs.Prelude.{Some, None}
 use Rattle.std.specs.List.{list_all}
 use Rattle.plain_words.specs.Distinct.{are_distinct}
 use Rattle.plain_words.specs.Parts.{InputNames, input_of, is_input}
@@ -27,4 +28,5 @@ are_inputs words = are_few words && list_all (λ w. is_input (input_of w)) words
 
 -- the plates of these words, where each has its form and no name stands there twice
 abbrev pub named_plates : List (List ℕ) → Option (List InputNames)
-named_plates words = if are_inputs words && are_distinct (names_of (map input_of words)) then Some (map input_of words) else None
+named_plates words = if are_inputs words && are_distinct (names_of (map input_of words))
+    then Some (map input_of words) else None

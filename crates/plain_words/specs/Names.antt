@@ -4,7 +4,8 @@ use Rattle.std.specs.List.{list_all}
 
 -- ( ) < > [ ] { } / and %, the delimiters of a job
 abbrev pub is_delimiter : ℕ → Bool
-is_delimiter b = b == 40 || b == 41 || b == 60 || b == 62 || b == 91 || b == 93 || b == 123 || b == 125 || b == 47 || b == 37
+is_delimiter b = b == 40 || b == 41 || b == 60 || b == 62 || b == 91 || b == 93 || b == 123
+    || b == 125 || b == 47 || b == 37
 
 -- a byte from 33 to 126 that is no delimiter
 abbrev pub is_name_byte : ℕ → Bool

@@ -1,5 +1,6 @@
 -- The numbers among the words.
-use Rattle.std.specs.Prelude.{ℕ, Bool, ◌&&◌, nat_le, if◌then◌else◌, List, length, Option, Some, None}
+use Rattle.std.specs.Prelude.{ℕ, Bool, ◌&&◌, nat_le, if◌then◌else◌, List, length, Option, Some}
+use Rattle.std.specs.Prelude.{None}
 use Rattle.std.specs.List.{list_all}
 use Rattle.std.specs.Char.{is_ascii_digit}
 use Rattle.std.specs.Str.Parse.{digits_value}
@@ -14,4 +15,5 @@ in_range least most n = if nat_le least n && nat_le n most then Some n else None
 
 -- the number that the word writes, from `least` to `most`
 abbrev pub number_of : ℕ → ℕ → List ℕ → Option ℕ
-number_of least most word = if is_number word then in_range least most (digits_value 10 word) else None
+number_of least most word =
+    if is_number word then in_range least most (digits_value 10 word) else None

@@ -41,11 +41,17 @@ is_last_part text = is_some_text text && not (list_any is_colon text)
 
 -- the parts of a word before its first colon, between its first two and behind them
 abbrev pub parts_of : List ℕ → PlateNames
-parts_of word = record { name = before_colon word; input = before_colon (behind_colon word); output = behind_colon (behind_colon word) }
+parts_of word =
+    record {
+      name = before_colon word;
+      input = before_colon (behind_colon word);
+      output = behind_colon (behind_colon word);
+    }
 
 -- a name, a file to read and one to write, none of them empty, and no third colon
 abbrev pub is_plate : PlateNames → Bool
-is_plate plate = is_name plate.name && is_some_text plate.input && is_some_text plate.output && not (list_any is_colon plate.output)
+is_plate plate = is_name plate.name && is_some_text plate.input && is_some_text plate.output
+    && not (list_any is_colon plate.output)
 
 -- the parts of a word before its first colon and behind it
 abbrev pub input_of : List ℕ → InputNames

@@ -16,10 +16,13 @@ inputs_of = map (λ p. p.input)
 abbrev pub outputs_of : List PlateNames → List (List ℕ)
 outputs_of = map (λ p. p.output)
 
--- the plates have different names, and the files that are written are different ones, the report among them
+-- the plates have different names, and the files that are written are different ones, the report
+-- among them
 abbrev pub stand_together : List ℕ → List PlateNames → Bool
-stand_together report plates = are_distinct (names_of plates) && are_distinct (report ∷ outputs_of plates)
+stand_together report plates =
+    are_distinct (names_of plates) && are_distinct (report ∷ outputs_of plates)
 
 -- one to sixteen words, each of them a plate's
 abbrev pub are_plates : List (List ℕ) → Bool
-are_plates words = nat_le 1 (length words) && nat_le (length words) 16 && list_all (λ w. is_plate (parts_of w)) words
+are_plates words = nat_le 1 (length words) && nat_le (length words) 16
+    && list_all (λ w. is_plate (parts_of w)) words

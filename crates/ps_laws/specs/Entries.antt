@@ -10,13 +10,17 @@ pub record Entry : Type 0 where
   pub name : List ℕ
   pub value : ℕ
 
--- Objects, the first of which stands at a place, are these entries in their order: each is a literal of the entry's name and
+-- Objects, the first of which stands at a place, are these entries in their order: each is a
+-- literal of the entry's name and
 -- behind it the value, one object with all that stands within it.
 pub data AreEntries (depth : ℕ) : ℕ → List Object → List Entry → Type 0 where
   none_more : (place : ℕ) → AreEntries depth place [] []
-  one_more : (place : ℕ) (key : Object) (name : List ℕ) (value rest objects : List Object) (others entries : List Entry)
-      → key.body ≡ Literal name → Nests whole depth value → AreEntries depth (place + 1 + length value) rest others
-      → objects ≡ key ∷ (value ++ rest) → entries ≡ record { name = name; value = place + 1 } ∷ others
+  one_more : (place : ℕ) (key : Object) (name : List ℕ) (value rest objects : List Object)
+      (others entries : List Entry)
+      → key.body ≡ Literal name → Nests whole depth value
+      → AreEntries depth (place + 1 + length value) rest others
+      → objects ≡ key ∷ (value ++ rest)
+      → entries ≡ record { name = name; value = place + 1 } ∷ others
       → AreEntries depth place objects entries
 
 -- The dictionary that stands at a place has these entries: they are the objects within it.

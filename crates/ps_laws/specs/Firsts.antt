@@ -1,11 +1,14 @@
 -- Where tokens cannot write objects out.
 use Rattle.std.specs.Prelude.{◌≡◌, ◌⊎◌, ◌<◌, ℕ, suc, true, false, List, [], ◌∷◌, ◌++◌, length}
 use Rattle.ps_tokens.specs.declared.faults.FaultKind.{FaultKind}
-use Rattle.ps_tokens.specs.declared.faults.FaultKind.TheVariants.{Unclosed, Unmatched, OddDictionary, KeyNotName, NameInside, TooDeep}
+use Rattle.ps_tokens.specs.declared.faults.FaultKind.TheVariants.{Unclosed, Unmatched}
+use Rattle.ps_tokens.specs.declared.faults.FaultKind.TheVariants.{OddDictionary, KeyNotName}
+use Rattle.ps_tokens.specs.declared.faults.FaultKind.TheVariants.{NameInside, TooDeep}
 use Rattle.ps_tokens.specs.declared.faults.JobFault.{JobFault}
 use Rattle.ps_tokens.specs.declared.token.Token.{Token}
 use Rattle.ps_tokens.specs.declared.token.TokenKind.{TokenKind}
-use Rattle.ps_tokens.specs.declared.token.TokenKind.TheVariants.{OpenArray, OpenDict, CloseArray, CloseDict, Literal, Word}
+use Rattle.ps_tokens.specs.declared.token.TokenKind.TheVariants.{OpenArray, OpenDict, CloseArray}
+use Rattle.ps_tokens.specs.declared.token.TokenKind.TheVariants.{CloseDict, Literal, Word}
 use Rattle.ps_tokens.specs.declared.brackets.Expects.{Expects}
 use Rattle.ps_tokens.specs.declared.brackets.Expects.TheVariants.{Item, Key, Value}
 use Rattle.ps_tokens.specs.declared.brackets.Bracket.{Bracket}
@@ -16,38 +19,53 @@ use Rattle.ps_tokens.specs.Objects.{is_opening, is_closing}
 use Rattle.ps_tokens.specs.Words.{spelling}
 use Rattle.ps_laws.specs.Writes.{Begins, IsLiteral, IsValueWord, items, entries, Writes, WritesOut}
 
--- What stands behind an opening token, where nothing closes its bracket: items in an array; in a dictionary entries, where
+-- What stands behind an opening token, where nothing closes its bracket: items in an array; in a
+-- dictionary entries, where
 -- a key is due, or entries and a key, where its value is due.
 abbrev pub StandsIn : List ℕ → Expects → ℕ → Token → List Token → Type 0
-StandsIn bytes Item depth opening within = (opening.kind ≡ OpenArray) × (objects : List Object) × Writes bytes items depth objects within
-StandsIn bytes Key depth opening within = (opening.kind ≡ OpenDict) × (objects : List Object) × Writes bytes entries depth objects within
+StandsIn bytes Item depth opening within =
+    (opening.kind ≡ OpenArray) × (objects : List Object) × Writes bytes items depth objects within
+StandsIn bytes Key depth opening within =
+    (opening.kind ≡ OpenDict) × (objects : List Object) × Writes bytes entries depth objects within
 StandsIn bytes Value depth opening within =
-    (opening.kind ≡ OpenDict) × (objects : List Object) × (front : List Token) × (key : Object) × (token : Token)
-    × Writes bytes entries depth objects front × IsLiteral key.body × Begins bytes key token 0 × (within ≡ front ++ token ∷ [])
+    (opening.kind ≡ OpenDict) × (objects : List Object) × (front : List Token) × (key : Object)
+    × (token : Token)
+    × Writes bytes entries depth objects front × IsLiteral key.body × Begins bytes key token 0
+    × (within ≡ front ++ token ∷ [])
 
--- Tokens leave these brackets open, the innermost first: where none is, they write objects out; else the innermost one's
--- opening token stands behind tokens that leave those around it open, which it fills as an object does.
+-- Tokens leave these brackets open, the innermost first: where none is, they write objects out;
+-- else the innermost one's
+-- opening token stands behind tokens that leave those around it open, which it fills as an
+-- object does.
 pub data LeavesOpen (bytes : List ℕ) : List Bracket → List Token → Type 0 where
-  none : (objects : List Object) (tokens : List Token) → WritesOut bytes objects tokens → LeavesOpen bytes [] tokens
-  inside : (outer brackets : List Bracket) (expects : Expects) (opening : Token) (front within tokens : List Token)
-      → LeavesOpen bytes outer front → is_key_due outer ≡ false → length outer < deepest → StandsIn bytes expects (suc (length outer)) opening within
-      → brackets ≡ record { at = opening.at; expects = expects } ∷ after_object outer → tokens ≡ front ++ opening ∷ within → LeavesOpen bytes brackets tokens
+  none : (objects : List Object) (tokens : List Token) → WritesOut bytes objects tokens
+      → LeavesOpen bytes [] tokens
+  inside : (outer brackets : List Bracket) (expects : Expects) (opening : Token)
+      (front within tokens : List Token)
+      → LeavesOpen bytes outer front → is_key_due outer ≡ false → length outer < deepest
+      → StandsIn bytes expects (suc (length outer)) opening within
+      → brackets ≡ record { at = opening.at; expects = expects } ∷ after_object outer
+      → tokens ≡ front ++ opening ∷ within → LeavesOpen bytes brackets tokens
 
 -- with some further tokens these write objects out
 abbrev pub CanWriteOut : List ℕ → List Token → Type 0
-CanWriteOut bytes tokens = (more : List Token) × (objects : List Object) × WritesOut bytes objects (tokens ++ more)
+CanWriteOut bytes tokens =
+    (more : List Token) × (objects : List Object) × WritesOut bytes objects (tokens ++ more)
 
 -- What can be wrong with a token among the brackets that are open before it, the innermost first.
 
 -- a closing token meets no open bracket, or one of the other kind
 pub data Mismatches : TokenKind → List Bracket → Type 0 where
   closes_nothing : (kind : TokenKind) → is_closing kind ≡ true → Mismatches kind []
-  closes_dict : (innermost : Bracket) (outer : List Bracket) → (innermost.expects ≡ Item → ⊥) → Mismatches CloseArray (innermost ∷ outer)
-  closes_array : (innermost : Bracket) (outer : List Bracket) → innermost.expects ≡ Item → Mismatches CloseDict (innermost ∷ outer)
+  closes_dict : (innermost : Bracket) (outer : List Bracket) → (innermost.expects ≡ Item → ⊥)
+      → Mismatches CloseArray (innermost ∷ outer)
+  closes_array : (innermost : Bracket) (outer : List Bracket) → innermost.expects ≡ Item
+      → Mismatches CloseDict (innermost ∷ outer)
 
 -- a `>>` stands where a value is due
 pub data LacksValue : TokenKind → List Bracket → Type 0 where
-  no_value : (innermost : Bracket) (outer : List Bracket) → innermost.expects ≡ Value → LacksValue CloseDict (innermost ∷ outer)
+  no_value : (innermost : Bracket) (outer : List Bracket) → innermost.expects ≡ Value
+      → LacksValue CloseDict (innermost ∷ outer)
 
 -- at a key's place stands neither a literal nor a closing token
 pub record IsNoKey (kind : TokenKind) (brackets : List Bracket) : Type 0 where
@@ -66,18 +84,26 @@ pub record IsTooDeep (kind : TokenKind) (brackets : List Bracket) : Type 0 where
   pub opens : is_opening kind ≡ true
   pub deep : length brackets ≡ deepest
 
--- The fault of a token that is out of place, by its kind and its text: the first that it has, in this order.
-pub data HasFault (kind : TokenKind) (text : List ℕ) (brackets : List Bracket) : FaultKind → Type 0 where
+-- The fault of a token that is out of place, by its kind and its text: the first that it has, in
+-- this order.
+pub data HasFault (kind : TokenKind) (text : List ℕ) (brackets : List Bracket) : FaultKind
+    → Type 0 where
   is_unmatched : Mismatches kind brackets → HasFault kind text brackets Unmatched
-  is_odd : (Mismatches kind brackets → ⊥) → LacksValue kind brackets → HasFault kind text brackets OddDictionary
-  is_no_key : (Mismatches kind brackets → ⊥) → (LacksValue kind brackets → ⊥) → IsNoKey kind brackets
+  is_odd : (Mismatches kind brackets → ⊥) → LacksValue kind brackets
+      → HasFault kind text brackets OddDictionary
+  is_no_key : (Mismatches kind brackets → ⊥) → (LacksValue kind brackets → ⊥)
+      → IsNoKey kind brackets
       → HasFault kind text brackets KeyNotName
-  is_inside : (Mismatches kind brackets → ⊥) → (LacksValue kind brackets → ⊥) → (IsNoKey kind brackets → ⊥)
+  is_inside : (Mismatches kind brackets → ⊥) → (LacksValue kind brackets → ⊥)
+      → (IsNoKey kind brackets → ⊥)
       → IsInside kind text brackets → HasFault kind text brackets NameInside
-  is_too_deep : (Mismatches kind brackets → ⊥) → (LacksValue kind brackets → ⊥) → (IsNoKey kind brackets → ⊥)
-      → (IsInside kind text brackets → ⊥) → IsTooDeep kind brackets → HasFault kind text brackets TooDeep
+  is_too_deep : (Mismatches kind brackets → ⊥) → (LacksValue kind brackets → ⊥)
+      → (IsNoKey kind brackets → ⊥)
+      → (IsInside kind text brackets → ⊥) → IsTooDeep kind brackets
+      → HasFault kind text brackets TooDeep
 
--- The first token after which no further ones could complete the list; its fault is the first that it has among the
+-- The first token after which no further ones could complete the list; its fault is the first
+-- that it has among the
 -- brackets that are left open before it.
 pub record IsFirstMisplaced (bytes : List ℕ) (tokens : List Token) (fault : JobFault) : Type 0 where
   pub front : List Token

@@ -7,9 +7,11 @@ use Rattle.ps_tokens.specs.Bytes.{is_whitespace, is_in_comment}
 pub data IsGap : List ℕ → Type 0 where
   nothing : IsGap []
   blank : (b : ℕ) (rest : List ℕ) → is_whitespace b ≡ true → IsGap rest → IsGap (b ∷ rest)
-  comment : (text : List ℕ) (ending : ℕ) (rest bytes : List ℕ) → list_all is_in_comment text ≡ true → is_in_comment ending ≡ false → IsGap rest
+  comment : (text : List ℕ) (ending : ℕ) (rest bytes : List ℕ) → list_all is_in_comment text ≡ true
+      → is_in_comment ending ≡ false → IsGap rest
       → bytes ≡ 37 ∷ (text ++ ending ∷ rest) → IsGap bytes
 
 -- nothing, or a comment that the end of the job ends
 abbrev pub IsEnd : List ℕ → Type 0
-IsEnd bytes = (bytes ≡ []) ⊎ ((text : List ℕ) × (list_all is_in_comment text ≡ true) × (bytes ≡ 37 ∷ text))
+IsEnd bytes =
+    (bytes ≡ []) ⊎ ((text : List ℕ) × (list_all is_in_comment text ≡ true) × (bytes ≡ 37 ∷ text))

@@ -1,10 +1,12 @@
 -- The kinds of the tokens that objects are written with.
-use Rattle.std.specs.Prelude.{ℕ, zero, suc, List, [], ◌∷◌, ◌++◌, length, take, drop, map, filter, not}
+use Rattle.std.specs.Prelude.{ℕ, zero, suc, List, [], ◌∷◌, ◌++◌, length, take, drop, map, filter}
+use Rattle.std.specs.Prelude.{not}
 use Rattle.ps_tokens.specs.declared.token.Token.{Token}
 use Rattle.ps_tokens.specs.declared.token.TokenKind.{TokenKind}
 use Rattle.ps_tokens.specs.declared.token.TokenKind.TheVariants as kinds
 use Rattle.ps_tokens.specs.declared.object.Body.{Body}
-use Rattle.ps_tokens.specs.declared.object.Body.TheVariants.{Number, Truth, Null, Text, Literal, Operator, Array, Dict}
+use Rattle.ps_tokens.specs.declared.object.Body.TheVariants.{Number, Truth, Null, Text, Literal}
+use Rattle.ps_tokens.specs.declared.object.Body.TheVariants.{Operator, Array, Dict}
 use Rattle.ps_tokens.specs.declared.object.Object.{Object}
 use Rattle.ps_tokens.specs.Objects.{is_closing, body_as}
 use Rattle.ps_tokens.specs.Words.{spelling}
@@ -31,13 +33,16 @@ last_kinds (Operator name) = []
 last_kinds Array = kinds.CloseArray ∷ []
 last_kinds Dict = kinds.CloseDict ∷ []
 
--- the kinds for these objects, of which there are at most so many: the first one's, those for the objects within it, its
+-- the kinds for these objects, of which there are at most so many: the first one's, those for
+-- the objects within it, its
 -- end's, and those for the objects behind it
 abbrev pub kinds_of : ℕ → List Object → List TokenKind
 kinds_of zero objects = []
 kinds_of (suc most) [] = []
 kinds_of (suc most) (object ∷ objects) =
-    first_kind object.body ∷ (kinds_of most (take object.inside objects) ++ (last_kinds object.body ++ kinds_of most (drop object.inside objects)))
+    first_kind object.body
+    ∷ (kinds_of most (take object.inside objects)
+    ++ (last_kinds object.body ++ kinds_of most (drop object.inside objects)))
 
 -- the kinds for these objects
 abbrev pub kinds_written : List Object → List TokenKind
@@ -49,4 +54,5 @@ begun_at tokens = map (λ t. t.at) (filter (λ t. not (is_closing t.kind)) token
 
 -- what the spellings of those tokens give
 abbrev pub begun_as : List ℕ → List Token → List Body
-begun_as bytes tokens = map (λ t. body_as t.kind (spelling bytes t)) (filter (λ t. not (is_closing t.kind)) tokens)
+begun_as bytes tokens =
+    map (λ t. body_as t.kind (spelling bytes t)) (filter (λ t. not (is_closing t.kind)) tokens)

@@ -1,8 +1,11 @@
 -- Which texts are tokens, and of which kind.
-use Rattle.std.specs.Prelude.{◌≡◌, ◌<◌, ◌≤◌, ℕ, ℤ, true, false, List, [], ◌∷◌, ◌++◌, length, ◌+◌, ◌*◌}
+use Rattle.std.specs.Prelude.{◌≡◌, ◌<◌, ◌≤◌, ℕ, ℤ, true, false, List, [], ◌∷◌, ◌++◌, length, ◌+◌}
+use Rattle.std.specs.Prelude.{◌*◌}
 use Rattle.std.specs.List.{list_all}
 use Rattle.ps_tokens.specs.declared.token.TokenKind.{TokenKind}
-use Rattle.ps_tokens.specs.declared.token.TokenKind.TheVariants.{OpenDict, CloseDict, OpenArray, CloseArray, Literal, Word, Number, Text}
+use Rattle.ps_tokens.specs.declared.token.TokenKind.TheVariants.{OpenDict, CloseDict, OpenArray}
+use Rattle.ps_tokens.specs.declared.token.TokenKind.TheVariants.{CloseArray, Literal, Word, Number}
+use Rattle.ps_tokens.specs.declared.token.TokenKind.TheVariants.{Text}
 use Rattle.ps_tokens.specs.Bytes.{is_regular, is_digit, is_hexadecimal, begins_with}
 use Rattle.ps_tokens.specs.Limits.{largest_whole}
 use Rattle.ps_tokens.specs.Numbers.{begins_like_number, decimal, fraction_of, signed}
@@ -14,11 +17,14 @@ pub data IsSign : List ℕ → Type 0 where
   plus : IsSign (43 ∷ [])
   minus : IsSign (45 ∷ [])
 
--- Digits, digits and a point, digits, a point and digits, or a point and digits: the text, the digits before the point
+-- Digits, digits and a point, digits, a point and digits, or a point and digits: the text, the
+-- digits before the point
 -- and those behind it.
 pub data AreDigits : List ℕ → List ℕ → List ℕ → Type 0 where
-  whole_alone : (whole : List ℕ) → list_all is_digit whole ≡ true → 0 < length whole → AreDigits whole whole []
-  with_point : (whole fraction text : List ℕ) → list_all is_digit whole ≡ true → list_all is_digit fraction ≡ true → 0 < length whole + length fraction
+  whole_alone : (whole : List ℕ) → list_all is_digit whole ≡ true → 0 < length whole
+      → AreDigits whole whole []
+  with_point : (whole fraction text : List ℕ) → list_all is_digit whole ≡ true
+      → list_all is_digit fraction ≡ true → 0 < length whole + length fraction
       → text ≡ whole ++ 46 ∷ fraction → AreDigits text whole fraction
 
 -- A text that is written as a number: perhaps a sign, and digits.
@@ -35,7 +41,8 @@ pub record IsNumeral (text : List ℕ) : Type 0 where
 pub record IsNumber (value : ℤ) (text : List ℕ) : Type 0 where
   pub numeral : IsNumeral text
   pub not_too_large : decimal numeral.whole ≤ largest_whole
-  pub valued : value ≡ signed (begins_with 45 numeral.sign) (10000 * decimal numeral.whole + fraction_of numeral.fraction)
+  pub valued : value ≡ signed (begins_with 45 numeral.sign)
+      (10000 * decimal numeral.whole + fraction_of numeral.fraction)
 
 -- What is written as a number, of a whole part that is too large.
 pub record IsTooLarge (text : List ℕ) : Type 0 where
@@ -54,10 +61,13 @@ pub record IsName (text : List ℕ) : Type 0 where
   pub regular : list_all is_regular name ≡ true
   pub written : text ≡ 47 ∷ name
 
--- A string: balanced bytes in parentheses, or hexadecimal digits and whitespace between `<` and `>`.
+-- A string: balanced bytes in parentheses, or hexadecimal digits and whitespace between `<` and
+-- `>`.
 pub data IsString : List ℕ → Type 0 where
-  in_parentheses : (inner text : List ℕ) → IsBalanced inner → text ≡ 40 ∷ (inner ++ 41 ∷ []) → IsString text
-  hexadecimal : (digits text : List ℕ) → list_all is_hexadecimal digits ≡ true → text ≡ 60 ∷ (digits ++ 62 ∷ []) → IsString text
+  in_parentheses : (inner text : List ℕ) → IsBalanced inner → text ≡ 40 ∷ (inner ++ 41 ∷ [])
+      → IsString text
+  hexadecimal : (digits text : List ℕ) → list_all is_hexadecimal digits ≡ true
+      → text ≡ 60 ∷ (digits ++ 62 ∷ []) → IsString text
 
 -- this text is a token of this kind
 abbrev pub IsToken : TokenKind → List ℕ → Type 0

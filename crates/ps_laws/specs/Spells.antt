@@ -5,12 +5,15 @@ use Rattle.ps_tokens.specs.declared.faults.FaultKind.TheVariants.{BadToken, Numb
 use Rattle.ps_tokens.specs.declared.faults.JobFault.{JobFault}
 use Rattle.ps_tokens.specs.declared.token.Token.{Token}
 use Rattle.ps_tokens.specs.declared.token.TokenKind.{TokenKind}
-use Rattle.ps_tokens.specs.declared.token.TokenKind.TheVariants.{OpenDict, CloseDict, OpenArray, CloseArray, Literal, Word, Number, Text}
+use Rattle.ps_tokens.specs.declared.token.TokenKind.TheVariants.{OpenDict, CloseDict, OpenArray}
+use Rattle.ps_tokens.specs.declared.token.TokenKind.TheVariants.{CloseArray, Literal, Word, Number}
+use Rattle.ps_tokens.specs.declared.token.TokenKind.TheVariants.{Text}
 use Rattle.ps_tokens.specs.Bytes.{is_whitespace, is_regular, first_passes, begins_with}
 use Rattle.ps_laws.specs.Gaps.{IsGap, IsEnd}
 use Rattle.ps_laws.specs.Shapes.{IsTooLarge, IsToken}
 
--- What may stand directly behind a token: a number and a word are whole runs of regular bytes, and no `/` stands behind
+-- What may stand directly behind a token: a number and a word are whole runs of regular bytes,
+-- and no `/` stands behind
 -- a `/`.
 abbrev pub MayFollow : TokenKind → List ℕ → List ℕ → Type 0
 MayFollow OpenDict text after = Unit {0}
@@ -24,7 +27,8 @@ MayFollow Text text after = Unit {0}
 
 -- no front of these bytes that is a token is longer
 abbrev pub NoneIsLonger : ℕ → List ℕ → Type 0
-NoneIsLonger n bytes = (kind : TokenKind) (text after : List ℕ) → IsToken kind text → bytes ≡ text ++ after → length text ≤ n
+NoneIsLonger n bytes = (kind : TokenKind) (text after : List ℕ) → IsToken kind text
+    → bytes ≡ text ++ after → length text ≤ n
 
 -- a token of this kind and text stands before these bytes
 pub record Stands (kind : TokenKind) (text after : List ℕ) : Type 0 where
@@ -42,10 +46,13 @@ pub record SpellsFirst (at : ℕ) (bytes : List ℕ) (token : Token) (after : Li
   pub place : token.at ≡ at + length gap
   pub len : token.len ≡ length text
 
--- bytes that begin at this offset spell these tokens, and then a gap, up to what is left at the end's offset
+-- bytes that begin at this offset spell these tokens, and then a gap, up to what is left at the
+-- end's offset
 abbrev pub SpellsUntil : ℕ → List ℕ → List Token → ℕ → List ℕ → Type 0
-SpellsUntil at bytes [] end rest = (gap : List ℕ) × IsGap gap × (bytes ≡ gap ++ rest) × (end ≡ at + length gap)
-SpellsUntil at bytes (token ∷ tokens) end rest = (after : List ℕ) × SpellsFirst at bytes token after × SpellsUntil (token.at + token.len) after tokens end rest
+SpellsUntil at bytes [] end rest =
+    (gap : List ℕ) × IsGap gap × (bytes ≡ gap ++ rest) × (end ≡ at + length gap)
+SpellsUntil at bytes (token ∷ tokens) end rest = (after : List ℕ) × SpellsFirst at bytes token after
+    × SpellsUntil (token.at + token.len) after tokens end rest
 
 -- A job's bytes spell these tokens: nothing is left behind them but the job's end.
 pub record Spells (bytes : List ℕ) (tokens : List Token) : Type 0 where
@@ -56,13 +63,16 @@ pub record Spells (bytes : List ℕ) (tokens : List Token) : Type 0 where
 
 -- a number that is too large stands before these bytes
 abbrev pub BeginsTooLarge : List ℕ → Type 0
-BeginsTooLarge bytes = (text : List ℕ) × (after : List ℕ) × IsTooLarge text × (first_passes is_regular after ≡ false) × (bytes ≡ text ++ after)
+BeginsTooLarge bytes = (text : List ℕ) × (after : List ℕ) × IsTooLarge text
+    × (first_passes is_regular after ≡ false) × (bytes ≡ text ++ after)
 
 -- bytes at which no token stands have this fault
 abbrev pub IsKindOf : FaultKind → List ℕ → Type 0
-IsKindOf kind bytes = ((kind ≡ NumberTooLarge) × BeginsTooLarge bytes) ⊎ ((kind ≡ BadToken) × (BeginsTooLarge bytes → ⊥))
+IsKindOf kind bytes = ((kind ≡ NumberTooLarge) × BeginsTooLarge bytes)
+    ⊎ ((kind ≡ BadToken) × (BeginsTooLarge bytes → ⊥))
 
--- A job's bytes have this fault: those before it spell tokens, and neither whitespace nor a comment nor a token stands
+-- A job's bytes have this fault: those before it spell tokens, and neither whitespace nor a
+-- comment nor a token stands
 -- where it is.
 pub record Breaks (bytes : List ℕ) (fault : JobFault) : Type 0 where
   pub tokens : List Token
@@ -71,5 +81,6 @@ pub record Breaks (bytes : List ℕ) (fault : JobFault) : Type 0 where
   pub some : 0 < length rest
   pub no_whitespace : first_passes is_whitespace rest ≡ false
   pub no_comment : begins_with 37 rest ≡ false
-  pub no_token : (kind : TokenKind) (text after : List ℕ) → Stands kind text after → rest ≡ text ++ after → ⊥
+  pub no_token : (kind : TokenKind) (text after : List ℕ) → Stands kind text after
+      → rest ≡ text ++ after → ⊥
   pub kinded : IsKindOf fault.kind rest

@@ -1,10 +1,12 @@
 -- What it is that tokens write objects out.
-use Rattle.std.specs.Prelude.{◌≡◌, ◌⊎◌, ◌<◌, ℕ, suc, Bool, true, false, List, [], ◌∷◌, ◌++◌, length, drop, codes}
+use Rattle.std.specs.Prelude.{◌≡◌, ◌⊎◌, ◌<◌, ℕ, suc, Bool, true, false, List, [], ◌∷◌, ◌++◌, length}
+use Rattle.std.specs.Prelude.{drop, codes}
 use Rattle.ps_tokens.specs.declared.token.Token.{Token}
 use Rattle.ps_tokens.specs.declared.token.TokenKind.{TokenKind}
 use Rattle.ps_tokens.specs.declared.token.TokenKind.TheVariants as kinds
 use Rattle.ps_tokens.specs.declared.object.Body.{Body}
-use Rattle.ps_tokens.specs.declared.object.Body.TheVariants.{Number, Truth, Null, Text, Literal, Operator, Array, Dict}
+use Rattle.ps_tokens.specs.declared.object.Body.TheVariants.{Number, Truth, Null, Text, Literal}
+use Rattle.ps_tokens.specs.declared.object.Body.TheVariants.{Operator, Array, Dict}
 use Rattle.ps_tokens.specs.declared.object.Object.{Object}
 use Rattle.ps_tokens.specs.Limits.{deepest}
 use Rattle.ps_tokens.specs.Words.{spelling}
@@ -50,30 +52,47 @@ IsPlain depth (Operator name) = depth ≡ 0
 IsPlain depth Array = ⊥
 IsPlain depth Dict = ⊥
 
--- One object with all that stands within it; objects one behind the other; or entries of a dictionary.
+-- One object with all that stands within it; objects one behind the other; or entries of a
+-- dictionary.
 pub data Part : Type 0 where
   whole : Part
   items : Part
   entries : Part
 
--- Tokens write out such a part of a job's objects, which stands within so many brackets: an object is its token; an array
--- `[`, the objects within it and `]`; a dictionary `<<`, its entries and `>>`; an entry is a literal and an object. No
+-- Tokens write out such a part of a job's objects, which stands within so many brackets: an
+-- object is its token; an array
+-- `[`, the objects within it and `]`; a dictionary `<<`, its entries and `>>`; an entry is a
+-- literal and an object. No
 -- bracket stands within 16 others.
 pub data Writes (bytes : List ℕ) : Part → ℕ → List Object → List Token → Type 0 where
-  plain : (depth : ℕ) (object : Object) (token : Token) → IsPlain depth object.body → Begins bytes object token 0 → Writes bytes whole depth (object ∷ []) (token ∷ [])
-  array : (depth : ℕ) (object : Object) (opening closing : Token) (inner : List Object) (between tokens : List Token)
-      → object.body ≡ Array → Begins bytes object opening (length inner) → closing.kind ≡ kinds.CloseArray → depth < deepest → Writes bytes items (suc depth) inner between
-      → tokens ≡ opening ∷ (between ++ closing ∷ []) → Writes bytes whole depth (object ∷ inner) tokens
-  dict : (depth : ℕ) (object : Object) (opening closing : Token) (inner : List Object) (between tokens : List Token)
-      → object.body ≡ Dict → Begins bytes object opening (length inner) → closing.kind ≡ kinds.CloseDict → depth < deepest → Writes bytes entries (suc depth) inner between
-      → tokens ≡ opening ∷ (between ++ closing ∷ []) → Writes bytes whole depth (object ∷ inner) tokens
+  plain : (depth : ℕ) (object : Object) (token : Token) → IsPlain depth object.body
+      → Begins bytes object token 0 → Writes bytes whole depth (object ∷ []) (token ∷ [])
+  array : (depth : ℕ) (object : Object) (opening closing : Token) (inner : List Object)
+      (between tokens : List Token)
+      → object.body ≡ Array → Begins bytes object opening (length inner)
+      → closing.kind ≡ kinds.CloseArray → depth < deepest
+      → Writes bytes items (suc depth) inner between
+      → tokens ≡ opening ∷ (between ++ closing ∷ [])
+      → Writes bytes whole depth (object ∷ inner) tokens
+  dict : (depth : ℕ) (object : Object) (opening closing : Token) (inner : List Object)
+      (between tokens : List Token)
+      → object.body ≡ Dict → Begins bytes object opening (length inner)
+      → closing.kind ≡ kinds.CloseDict → depth < deepest
+      → Writes bytes entries (suc depth) inner between
+      → tokens ≡ opening ∷ (between ++ closing ∷ [])
+      → Writes bytes whole depth (object ∷ inner) tokens
   no_item : (depth : ℕ) → Writes bytes items depth [] []
   next_item : (depth : ℕ) (first rest objects : List Object) (front behind tokens : List Token)
-      → Writes bytes whole depth first front → Writes bytes items depth rest behind → objects ≡ first ++ rest → tokens ≡ front ++ behind → Writes bytes items depth objects tokens
+      → Writes bytes whole depth first front → Writes bytes items depth rest behind
+      → objects ≡ first ++ rest → tokens ≡ front ++ behind
+      → Writes bytes items depth objects tokens
   no_entry : (depth : ℕ) → Writes bytes entries depth [] []
-  next_entry : (depth : ℕ) (key : Object) (token : Token) (value rest objects : List Object) (front behind tokens : List Token)
-      → IsLiteral key.body → Begins bytes key token 0 → Writes bytes whole depth value front → Writes bytes entries depth rest behind
-      → objects ≡ key ∷ (value ++ rest) → tokens ≡ token ∷ (front ++ behind) → Writes bytes entries depth objects tokens
+  next_entry : (depth : ℕ) (key : Object) (token : Token) (value rest objects : List Object)
+      (front behind tokens : List Token)
+      → IsLiteral key.body → Begins bytes key token 0 → Writes bytes whole depth value front
+      → Writes bytes entries depth rest behind
+      → objects ≡ key ∷ (value ++ rest) → tokens ≡ token ∷ (front ++ behind)
+      → Writes bytes entries depth objects tokens
 
 -- a job's tokens write out these objects
 abbrev pub WritesOut : List ℕ → List Object → List Token → Type 0

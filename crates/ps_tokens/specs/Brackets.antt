@@ -1,11 +1,15 @@
 -- Which brackets are open after some tokens, and the first token that no further tokens could mend.
-use Rattle.std.specs.Prelude.{◌≡◌, ℕ, Bool, true, false, List, [], ◌∷◌, length, fold, Result, Ok, Err, ◌==◌, if◌then◌else◌}
+use Rattle.std.specs.Prelude.{◌≡◌, ℕ, Bool, true, false, List, [], ◌∷◌, length, fold, Result, Ok}
+use Rattle.std.specs.Prelude.{Err, ◌==◌, if◌then◌else◌}
 use Rattle.ps_tokens.specs.declared.faults.FaultKind.{FaultKind}
-use Rattle.ps_tokens.specs.declared.faults.FaultKind.TheVariants.{Unmatched, OddDictionary, KeyNotName, NameInside, TooDeep}
+use Rattle.ps_tokens.specs.declared.faults.FaultKind.TheVariants.{Unmatched, OddDictionary}
+use Rattle.ps_tokens.specs.declared.faults.FaultKind.TheVariants.{KeyNotName, NameInside, TooDeep}
 use Rattle.ps_tokens.specs.declared.faults.JobFault.{JobFault}
 use Rattle.ps_tokens.specs.declared.token.Token.{Token}
 use Rattle.ps_tokens.specs.declared.token.TokenKind.{TokenKind}
-use Rattle.ps_tokens.specs.declared.token.TokenKind.TheVariants.{OpenDict, CloseDict, OpenArray, CloseArray, Literal, Word, Number, Text}
+use Rattle.ps_tokens.specs.declared.token.TokenKind.TheVariants.{OpenDict, CloseDict, OpenArray}
+use Rattle.ps_tokens.specs.declared.token.TokenKind.TheVariants.{CloseArray, Literal, Word, Number}
+use Rattle.ps_tokens.specs.declared.token.TokenKind.TheVariants.{Text}
 use Rattle.ps_tokens.specs.declared.brackets.Expects.{Expects}
 use Rattle.ps_tokens.specs.declared.brackets.Expects.TheVariants.{Item, Key, Value}
 use Rattle.ps_tokens.specs.declared.brackets.Bracket.{Bracket}
@@ -21,7 +25,8 @@ next_expected Value = Key
 -- the open brackets, the innermost first, after one more object in the innermost
 abbrev pub after_object : List Bracket → List Bracket
 after_object [] = []
-after_object (innermost ∷ outer) = record innermost { expects = next_expected innermost.expects } ∷ outer
+after_object (innermost ∷ outer) =
+    record innermost { expects = next_expected innermost.expects } ∷ outer
 
 -- whether a bracket is a dictionary where a key is due
 abbrev pub is_key : Expects → Bool
@@ -80,13 +85,15 @@ after_kind CloseDict at is_value brackets = after_dict_end brackets
 after_kind OpenArray at is_value brackets = after_opening at Item brackets
 after_kind CloseArray at is_value brackets = after_array_end brackets
 after_kind Literal at is_value brackets = Ok (after_object brackets)
-after_kind Word at is_value brackets = if is_value then after_value brackets else after_operator brackets
+after_kind Word at is_value brackets =
+    if is_value then after_value brackets else after_operator brackets
 after_kind (Number n) at is_value brackets = after_value brackets
 after_kind Text at is_value brackets = after_value brackets
 
 -- after one more token
 abbrev pub after_token : List ℕ → Token → List Bracket → Result (List Bracket) FaultKind
-after_token bytes token brackets = after_kind token.kind token.at (is_value_word (spelling bytes token)) brackets
+after_token bytes token brackets =
+    after_kind token.kind token.at (is_value_word (spelling bytes token)) brackets
 
 -- a fault at its token
 abbrev pub at_token : ℕ → Result (List Bracket) FaultKind → Result (List Bracket) JobFault
@@ -94,7 +101,8 @@ at_token at (Ok brackets) = Ok brackets
 at_token at (Err kind) = Err (record { kind = kind; at = at })
 
 -- the same after tokens that may have had a fault
-abbrev pub after_next : List ℕ → Result (List Bracket) JobFault → Token → Result (List Bracket) JobFault
+abbrev pub after_next : List ℕ → Result (List Bracket) JobFault → Token
+    → Result (List Bracket) JobFault
 after_next bytes (Ok brackets) token = at_token token.at (after_token bytes token brackets)
 after_next bytes (Err fault) token = Err fault
 
@@ -103,6 +111,7 @@ abbrev pub brackets_after : List ℕ → List Token → Result (List Bracket) Jo
 brackets_after bytes tokens = fold (after_next bytes) (Ok []) tokens
 
 -- a call leaves the brackets that a definition leaves, or gives its fault
-abbrev pub Becomes : Result (Unit {0}) FaultKind → List Bracket → Result (List Bracket) FaultKind → Type 0
+abbrev pub Becomes : Result (Unit {0}) FaultKind → List Bracket → Result (List Bracket) FaultKind
+    → Type 0
 Becomes (Ok done) new meant = meant ≡ Ok new
 Becomes (Err kind) new meant = meant ≡ Err kind

@@ -1,5 +1,7 @@
 -- The entries of a dictionary among a job's objects.
-use Rattle.std.specs.Prelude.{◌≡◌, ◌≤◌, ℕ, zero, suc, Bool, false, List, [], ◌∷◌, length, take, drop, fold, map, Option, Some, None, Ok, slice_get, AllPairs, ◌+◌, if◌then◌else◌}
+use Rattle.std.specs.Prelude.{◌≡◌, ◌≤◌, ℕ, zero, suc, Bool, false, List, [], ◌∷◌, length, take}
+use Rattle.std.specs.Prelude.{drop, fold, map, Option, Some, None, Ok, slice_get, AllPairs, ◌+◌}
+use Rattle.std.specs.Prelude.{if◌then◌else◌}
 use Rattle.std.specs.Borrow.{Bor}
 use Rattle.std.specs.Ordering.{nat_cmp}
 use Rattle.std.specs.declared.cmp.Ordering.TheVariants.{Less}
@@ -8,7 +10,8 @@ use Rattle.std.specs.Cmp.Lexicographic.{slice_cmp}
 use Rattle.std.specs.Str.{bytes_eq}
 use Rattle.ps_tokens.specs.declared.token.Token.{Token}
 use Rattle.ps_tokens.specs.declared.object.Body.{Body}
-use Rattle.ps_tokens.specs.declared.object.Body.TheVariants.{Number, Truth, Null, Text, Literal, Operator, Array, Dict}
+use Rattle.ps_tokens.specs.declared.object.Body.TheVariants.{Number, Truth, Null, Text, Literal}
+use Rattle.ps_tokens.specs.declared.object.Body.TheVariants.{Operator, Array, Dict}
 use Rattle.ps_tokens.specs.declared.object.Object.{Object}
 use Rattle.ps_tokens.specs.Limits.{longest_job}
 use Rattle.ps_tokens.specs.Tokens.{tokens_of}
@@ -31,12 +34,14 @@ inside_of (Some object) = object.inside
 abbrev pub within : List Object → ℕ → List Object
 within objects place = take (inside_of (slice_get objects place)) (drop (place + 1) objects)
 
--- the places of the keys among these objects, the first of which stands at this place, and of which the first few belong
+-- the places of the keys among these objects, the first of which stands at this place, and of
+-- which the first few belong
 -- to the entry before; each key is followed by its value and all that stands within that
 abbrev pub keys_from : ℕ → ℕ → List Object → List ℕ
 keys_from place before [] = []
 keys_from place (suc before) (object ∷ objects) = keys_from (place + 1) before objects
-keys_from place zero (key ∷ objects) = place ∷ keys_from (place + 1) (1 + inside_of (slice_get objects 0)) objects
+keys_from place zero (key ∷ objects) =
+    place ∷ keys_from (place + 1) (1 + inside_of (slice_get objects 0)) objects
 
 -- the places of a dictionary's keys, in order
 unfoldable pub keys_of : List Object → ℕ → List ℕ
@@ -60,7 +65,8 @@ names name (Some object) = is_literal name object.body
 
 -- of these keys the last of this name has its value here; the one found before where none has it
 abbrev pub last_among : List Object → List ℕ → Option ℕ → List ℕ → Option ℕ
-last_among objects name = fold (λ found key. if names name (slice_get objects key) then Some (key + 1) else found)
+last_among objects name =
+    fold (λ found key. if names name (slice_get objects key) then Some (key + 1) else found)
 
 -- the place of the value of the last entry of that key
 unfoldable pub last_of : List Object → ℕ → List ℕ → Option ℕ
@@ -96,7 +102,8 @@ Ascend names = AllPairs IsBefore names
 
 -- names with places, in ascending byte order; a name that is there takes its new place
 abbrev pub put_key : List Object → List (List ℕ × ℕ) → ℕ → List (List ℕ × ℕ)
-put_key objects named key = insert_entry (slice_cmp nat_cmp) named (name_of (slice_get objects key)) key
+put_key objects named key =
+    insert_entry (slice_cmp nat_cmp) named (name_of (slice_get objects key)) key
 
 -- the names of the keys at these places
 abbrev pub key_names : List Object → List ℕ → List (List ℕ)

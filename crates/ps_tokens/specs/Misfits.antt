@@ -7,7 +7,8 @@ use Rattle.ps_tokens.specs.declared.misfits.Misfit.{Misfit}
 -- what is read at a place, or its fault there
 abbrev pub judged_at : {X : Type 0} → ℕ → ℕ → Result X FaultKind → Result X Misfit
 judged_at place at (Ok x) = Ok x
-judged_at place at (Err kind) = Err (record { place = place; fault = record { kind = kind; at = at } })
+judged_at place at (Err kind) =
+    Err (record { place = place; fault = record { kind = kind; at = at } })
 
 -- a fault that stands for a whole entry, whose key stands at this place
 abbrev pub at_key : {X : Type 0} → ℕ → Result X Misfit → Result X Misfit
@@ -23,7 +24,8 @@ misfit_of (Err misfit) = Some misfit
 abbrev pub earlier : Option Misfit → Option Misfit → Option Misfit
 earlier None second = second
 earlier (Some first) None = Some first
-earlier (Some first) (Some second) = if nat_lt second.place first.place then Some second else Some first
+earlier (Some first) (Some second) =
+    if nat_lt second.place first.place then Some second else Some first
 
 -- what is read, unless there is a fault
 abbrev pub unless : {X : Type 0} → Option Misfit → X → Result X JobFault

@@ -1,5 +1,6 @@
 -- Runs of regular bytes: which are numbers, and their values in ten-thousandths.
-use Rattle.std.specs.Prelude.{ℕ, ℤ, pos, Bool, true, false, List, length, drop, fold, ◌||◌, ◌&&◌, ◌==◌, ◌+◌, ◌-◌, ◌*◌, nat_lt, slice_index_or, if◌then◌else◌}
+use Rattle.std.specs.Prelude.{ℕ, ℤ, pos, Bool, true, false, List, length, drop, fold, ◌||◌, ◌&&◌}
+use Rattle.std.specs.Prelude.{◌==◌, ◌+◌, ◌-◌, ◌*◌, nat_lt, slice_index_or, if◌then◌else◌}
 use Rattle.std.specs.List.{prefix_len, take_while, list_all}
 use Rattle.std.proofs.Common.{neg_ℤ}
 use Rattle.ps_tokens.specs.Bytes.{is_digit, first_passes, begins_with}
@@ -20,11 +21,13 @@ behind_whole run = drop (prefix_len is_digit (unsigned run)) (unsigned run)
 abbrev pub fraction_digits : List ℕ → List ℕ
 fraction_digits run = drop 1 (behind_whole run)
 
--- whether these are digits, or digits and a point, or digits, a point and digits, or a point and digits
+-- whether these are digits, or digits and a point, or digits, a point and digits, or a point and
+-- digits
 abbrev pub is_unsigned_number : List ℕ → List ℕ → Bool
 is_unsigned_number whole behind =
     (nat_lt 0 (length whole) && (length behind == 0))
-    || (begins_with 46 behind && list_all is_digit (drop 1 behind) && nat_lt 1 (length whole + length behind))
+    || (begins_with 46 behind && list_all is_digit (drop 1 behind)
+    && nat_lt 1 (length whole + length behind))
 
 -- whether the run is a number: such digits, behind a sign or none
 abbrev pub is_number : List ℕ → Bool
@@ -44,7 +47,8 @@ digit_at digits k = slice_index_or digits k 48 - 48
 
 -- the first four digits behind the point, filled with zeros
 abbrev pub fraction_of : List ℕ → ℕ
-fraction_of digits = 1000 * digit_at digits 0 + 100 * digit_at digits 1 + 10 * digit_at digits 2 + digit_at digits 3
+fraction_of digits =
+    1000 * digit_at digits 0 + 100 * digit_at digits 1 + 10 * digit_at digits 2 + digit_at digits 3
 
 -- a number with its sign
 abbrev pub signed : Bool → ℕ → ℤ
@@ -53,4 +57,5 @@ signed false n = pos n
 
 -- a number's value
 abbrev pub value_of : List ℕ → ℤ
-value_of run = signed (begins_with 45 run) (10000 * decimal (whole_digits run) + fraction_of (fraction_digits run))
+value_of run = signed (begins_with 45 run)
+    (10000 * decimal (whole_digits run) + fraction_of (fraction_digits run))

@@ -1,5 +1,6 @@
 -- What objects the tokens of a job write out, or the first fault.
-use Rattle.std.specs.Prelude.{◌≡◌, ℕ, Bool, true, false, List, [], ◌∷◌, drop, Result, Ok, Err, ◌==◌, ◌+◌, ◌-◌, slice_index, codes, if◌then◌else◌}
+use Rattle.std.specs.Prelude.{◌≡◌, ℕ, Bool, true, false, List, [], ◌∷◌, drop, Result, Ok, Err, ◌==◌}
+use Rattle.std.specs.Prelude.{◌+◌, ◌-◌, slice_index, codes, if◌then◌else◌}
 use Rattle.std.specs.Str.{bytes_eq}
 use Rattle.ps_tokens.specs.declared.faults.FaultKind.TheVariants.{Unclosed}
 use Rattle.ps_tokens.specs.declared.faults.JobFault.{JobFault}
@@ -8,7 +9,8 @@ use Rattle.ps_tokens.specs.declared.token.TokenKind.{TokenKind}
 use Rattle.ps_tokens.specs.declared.token.TokenKind.TheVariants as kinds
 use Rattle.ps_tokens.specs.declared.brackets.Bracket.{Bracket}
 use Rattle.ps_tokens.specs.declared.object.Body.{Body}
-use Rattle.ps_tokens.specs.declared.object.Body.TheVariants.{Number, Truth, Null, Text, Literal, Operator, Array, Dict}
+use Rattle.ps_tokens.specs.declared.object.Body.TheVariants.{Number, Truth, Null, Text, Literal}
+use Rattle.ps_tokens.specs.declared.object.Body.TheVariants.{Operator, Array, Dict}
 use Rattle.ps_tokens.specs.declared.object.Object.{Object}
 use Rattle.ps_tokens.specs.Words.{spelling}
 use Rattle.ps_tokens.specs.Brackets.{brackets_after}
@@ -35,7 +37,8 @@ is_closing kinds.Word = false
 is_closing (kinds.Number n) = false
 is_closing kinds.Text = false
 
--- how many objects these tokens begin before the bracket closes that is so many outside the innermost open one
+-- how many objects these tokens begin before the bracket closes that is so many outside the
+-- innermost open one
 abbrev pub count_inside : ℕ → List Token → ℕ
 count_inside outside [] = 0
 count_inside outside (token ∷ tokens) =
@@ -43,10 +46,12 @@ count_inside outside (token ∷ tokens) =
     else (if is_opening token.kind then 1 + count_inside (outside + 1) tokens
     else 1 + count_inside outside tokens)
 
--- For each bracket that these tokens leave to be closed, the innermost first, how many of their count objects stand
+-- For each bracket that these tokens leave to be closed, the innermost first, how many of their
+-- count objects stand
 -- behind its closing token.
 abbrev pub AreEnds : List ℕ → ℕ → List Token → Type 0
-AreEnds ends count tokens = (outside : ℕ) → count_inside outside tokens + slice_index ends outside ≡ count
+AreEnds ends count tokens =
+    (outside : ℕ) → count_inside outside tokens + slice_index ends outside ≡ count
 
 -- whether an object is a dictionary
 abbrev pub is_dict : Body → Bool
@@ -90,14 +95,18 @@ object_of bytes token tokens = record {
 abbrev pub objects_in : List ℕ → List Token → List Object
 objects_in bytes [] = []
 objects_in bytes (token ∷ tokens) =
-    if is_closing token.kind then objects_in bytes tokens else object_of bytes token tokens ∷ objects_in bytes tokens
+    if is_closing token.kind then objects_in bytes tokens
+    else object_of bytes token tokens ∷ objects_in bytes tokens
 
 -- where no bracket is left open
-abbrev pub unless_open : List ℕ → List Token → Result (List Bracket) JobFault → Result (List Object) JobFault
+abbrev pub unless_open : List ℕ → List Token → Result (List Bracket) JobFault
+    → Result (List Object) JobFault
 unless_open bytes tokens (Ok []) = Ok (objects_in bytes tokens)
-unless_open bytes tokens (Ok (innermost ∷ outer)) = Err (record { kind = Unclosed; at = innermost.at })
+unless_open bytes tokens (Ok (innermost ∷ outer)) =
+    Err (record { kind = Unclosed; at = innermost.at })
 unless_open bytes tokens (Err fault) = Err fault
 
--- the objects that a job's tokens write out, or the fault at the first token that no further ones could mend
+-- the objects that a job's tokens write out, or the fault at the first token that no further
+-- ones could mend
 abbrev pub objects_of : List ℕ → List Token → Result (List Object) JobFault
 objects_of bytes tokens = unless_open bytes tokens (brackets_after bytes tokens)

@@ -14,14 +14,16 @@ piece_len (Blank len) = len
 piece_len (Spelled kind len) = len
 piece_len (Broken kind) = 0
 
--- the token that a piece at this offset is, none where it is blank, and the fault where no token stands
+-- the token that a piece at this offset is, none where it is blank, and the fault where no token
+-- stands
 abbrev pub piece_tokens : ℕ → Piece → Result (List Token) JobFault
 piece_tokens at (Blank len) = Ok []
 piece_tokens at (Spelled kind len) = Ok (record { at = at; len = len; kind = kind } ∷ [])
 piece_tokens at (Broken kind) = Err (record { kind = kind; at = at })
 
 -- tokens and then more tokens; of faults the first
-abbrev pub tokens_then : Result (List Token) JobFault → Result (List Token) JobFault → Result (List Token) JobFault
+abbrev pub tokens_then : Result (List Token) JobFault → Result (List Token) JobFault
+    → Result (List Token) JobFault
 tokens_then (Err fault) more = Err fault
 tokens_then (Ok tokens) (Err fault) = Err fault
 tokens_then (Ok tokens) (Ok more) = Ok (tokens ++ more)
@@ -30,7 +32,8 @@ tokens_then (Ok tokens) (Ok more) = Ok (tokens ++ more)
 unfoldable pub tokens_from : ℕ → ℕ → List ℕ → Result (List Token) JobFault
 tokens_from at within [] = Ok []
 tokens_from at (suc within) (b ∷ bs) = tokens_from (at + 1) within bs
-tokens_from at zero (b ∷ bs) = tokens_then (piece_tokens at (piece_at b bs)) (tokens_from (at + 1) (piece_len (piece_at b bs) - 1) bs)
+tokens_from at zero (b ∷ bs) = tokens_then (piece_tokens at (piece_at b bs))
+    (tokens_from (at + 1) (piece_len (piece_at b bs) - 1) bs)
 
 -- the tokens that a job's bytes spell, or the fault at the first byte where no token stands
 abbrev pub tokens_of : List ℕ → Result (List Token) JobFault

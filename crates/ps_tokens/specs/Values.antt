@@ -1,5 +1,7 @@
--- The value of a dictionary's entry, judged: an object by itself, or with the place where it stands.
-use Rattle.std.specs.Prelude.{ℕ, List, Option, Some, None, Result, Ok, Err, slice_get, ◌+◌, if◌then◌else◌}
+-- The value of a dictionary's entry, judged: an object by itself, or with the place where it
+-- stands.
+use Rattle.std.specs.Prelude.{ℕ, List, Option, Some, None, Result, Ok, Err, slice_get, ◌+◌}
+use Rattle.std.specs.Prelude.{if◌then◌else◌}
 use Rattle.ps_tokens.specs.declared.faults.FaultKind.{FaultKind}
 use Rattle.ps_tokens.specs.declared.faults.FaultKind.TheVariants.{NotDictionary}
 use Rattle.ps_tokens.specs.declared.object.Body.{Body}
@@ -13,12 +15,14 @@ abbrev pub by_body : {X : Type 0} → (Body → Result X FaultKind) → ℕ → 
 by_body judge place object = judge object.body
 
 -- what an object at a place gives; what there is now where none stands there
-abbrev pub value_by : {X : Type 0} → (ℕ → Object → Result X FaultKind) → X → ℕ → Option Object → Result X Misfit
+abbrev pub value_by : {X : Type 0} → (ℕ → Object → Result X FaultKind) → X → ℕ → Option Object
+    → Result X Misfit
 value_by judge now place None = Ok now
 value_by judge now place (Some object) = judged_at place object.at (judge place object)
 
 -- what the value at a place gives; what there is now where no entry has the key
-abbrev pub value_at : {X : Type 0} → (ℕ → Object → Result X FaultKind) → List Object → X → Option ℕ → Result X Misfit
+abbrev pub value_at : {X : Type 0} → (ℕ → Object → Result X FaultKind) → List Object → X → Option ℕ
+    → Result X Misfit
 value_at judge objects now None = Ok now
 value_at judge objects now (Some place) = value_by judge now place (slice_get objects place)
 
@@ -32,13 +36,17 @@ abbrev pub place_of_value : List Object → Option ℕ → Option ℕ
 place_of_value objects None = None
 place_of_value objects (Some place) = place_if_some place (slice_get objects place)
 
--- what the dictionary gives that an entry's value is, at its place and its offset; what there is now where no value stands
+-- what the dictionary gives that an entry's value is, at its place and its offset; what there is
+-- now where no value stands
 -- there
-abbrev pub entry_by : {X : Type 0} → (ℕ → ℕ → Result X Misfit) → X → ℕ → Option Object → Result X Misfit
+abbrev pub entry_by : {X : Type 0} → (ℕ → ℕ → Result X Misfit) → X → ℕ → Option Object
+    → Result X Misfit
 entry_by read now key None = Ok now
 entry_by read now key (Some object) =
-    if is_dict object.body then at_key key (read (key + 1) object.at) else judged_at key object.at (Err NotDictionary)
+    if is_dict object.body then at_key key (read (key + 1) object.at)
+    else judged_at key object.at (Err NotDictionary)
 
 -- what the dictionary gives that is the value of the entry whose key stands at a place
-abbrev pub entry_at : {X : Type 0} → (ℕ → ℕ → Result X Misfit) → List Object → X → ℕ → Result X Misfit
+abbrev pub entry_at : {X : Type 0} → (ℕ → ℕ → Result X Misfit) → List Object → X → ℕ
+    → Result X Misfit
 entry_at read objects now key = entry_by read now key (slice_get objects (key + 1))

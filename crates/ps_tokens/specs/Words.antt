@@ -9,4 +9,5 @@ spelling bytes token = take token.len (drop token.at bytes)
 
 -- true, false or null
 unfoldable pub is_value_word : List ℕ → Bool
-is_value_word word = bytes_eq word (codes "true") || bytes_eq word (codes "false") || bytes_eq word (codes "null")
+is_value_word word =
+    bytes_eq word (codes "true") || bytes_eq word (codes "false") || bytes_eq word (codes "null")

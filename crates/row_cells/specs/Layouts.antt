@@ -1,3 +1,4 @@
+-- Where the cells of all pieces stand, one piece after the other, and how many values a cell holds.
 use Rattle.std.specs.Prelude.{ℕ, ◌≤◌}
 use Rattle.page_model.specs.declared.bands.Bands.{Bands}
 use Rattle.page_model.specs.Bands.{AreBands}

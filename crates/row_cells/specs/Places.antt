@@ -8,9 +8,11 @@ use Rattle.row_cells.specs.Layouts.{Layout}
 abbrev pub piece_count : Layout → ℕ
 piece_count layout = pieces_of layout.bands
 
--- how many values a row has in each phase: a zone for each sample, two marks, an answer for each doubled column, a tint for each plate and sample
+-- how many values a row has in each phase: a zone for each sample, two marks, an answer for each
+-- doubled column, a tint for each plate and sample
 abbrev pub per_row : Layout → ℕ → ℕ
-per_row layout phase = if phase == 2 then 2 * layout.width - 1 else if phase == 3 then layout.plates * layout.width else layout.width
+per_row layout phase = if phase == 2 then 2 * layout.width - 1 else if phase == 3
+    then layout.plates * layout.width else layout.width
 
 -- the bits of a value in each phase
 abbrev pub bits_of : ℕ → ℕ
@@ -26,7 +28,8 @@ cells_in layout phase rows = ceiling (rows * per_row layout phase) (lanes_of pha
 
 -- how many values a piece has, and how many cells
 abbrev pub value_total : Layout → ℕ → ℕ
-value_total layout i = rows_in layout.bands (band_of layout.bands i) * per_row layout (phase_of layout.bands i)
+value_total layout i =
+    rows_in layout.bands (band_of layout.bands i) * per_row layout (phase_of layout.bands i)
 
 unfoldable pub cell_total : Layout → ℕ → ℕ
 cell_total layout i = ceiling (value_total layout i) (lanes_of (phase_of layout.bands i))
@@ -45,4 +48,5 @@ pub record HasCell (layout : Layout) (i j : ℕ) : Type 0 where
 
 -- the piece of a cell: as many pieces stand before it as end before the cell
 unfoldable pub piece_of_cell : Layout → ℕ → ℕ
-piece_of_cell layout j = count_below (λ i. nat_le (first_cell_of layout i + cell_total layout i) j) (piece_count layout)
+piece_of_cell layout j =
+    count_below (λ i. nat_le (first_cell_of layout i + cell_total layout i) j) (piece_count layout)

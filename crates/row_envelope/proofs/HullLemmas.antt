@@ -1,3 +1,4 @@
+-- The lower envelope of a row's arms, pushed arm by arm from the left (the envelope of parabolas).
 use Rattle.std.proofs.Common.{◌≡◌, ℕ, zero, suc, ◌+◌, ◌*◌, ◌-◌, ◌<◌, ◌≤◌, ◌↔◌, inl, inr, refl, sym, ◌∙◌, ap, arith, List, length, slice_index, slice_set, slice_index_or, Some, None, add-one}
 use Rattle.std.proofs.lemmas.Bool.{cases_lt, cases_eq}
 use Rattle.std.proofs.lemmas.List.{get_or-set_same, get_or-set_other, get_or_read}

@@ -1,4 +1,6 @@
-use Rattle.std.specs.Prelude.{ℕ, ◌+◌, ◌*◌, ◌<◌, Bool, true, Option, List, AllPairs, length, slice_index_or}
+-- The nearest edge of each sample of a row among the nearest edges of its columns.
+use Rattle.std.specs.Prelude.{ℕ, ◌+◌, ◌*◌, ◌<◌, Bool, true, Option, List, AllPairs, length}
+use Rattle.std.specs.Prelude.{slice_index_or}
 use Rattle.page_model.specs.Arms.{ArmModel}
 use Rattle.lists.specs.Words.{gap, square, first_least}
 

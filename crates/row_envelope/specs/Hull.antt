@@ -1,3 +1,4 @@
+-- The hull of arms that a row is read from: which arms stand in it, and up to where each holds.
 use Rattle.std.specs.Prelude.{◌≡◌, ℕ, suc, ◌+◌, ◌-◌, ◌<◌, ◌≤◌, ◌↔◌, List, slice_index}
 use Rattle.page_model.specs.Arms.{ArmModel, LeftHolds}
 use Rattle.lists.specs.Words.{IsFirstLeast}
@@ -19,20 +20,25 @@ pub record InEntry (starts : List ℕ) (held last k x2 : ℕ) : Type 0 where
   pub fits : x2 ≤ last
 
 -- the hull of the first n arms
-pub record IsHull (arms : List ArmModel) (n last : ℕ) (places starts : List ℕ) (held : ℕ) : Type 0 where
+pub record IsHull (arms : List ArmModel) (n last : ℕ) (places starts : List ℕ)
+    (held : ℕ) : Type 0 where
   pub few : held ≤ n
   pub some : 0 < n → 0 < held
   pub below : (k : ℕ) → k < held → slice_index places k < n
   pub begin : 0 < held → slice_index starts 0 ≡ 0
   pub ordered : (j k : ℕ) → j ≤ k → k < held → slice_index starts j ≤ slice_index starts k
   pub fits : (k : ℕ) → k < held → slice_index starts k ≤ last + 1
-  pub wins : (k x2 : ℕ) → k < held → InEntry starts held last k x2 → Wins arms n x2 (slice_index places k)
+  pub wins : (k x2 : ℕ) → k < held → InEntry starts held last k x2
+      → Wins arms n x2 (slice_index places k)
 
 -- after the entries from `left` on were dropped, the new arm i begins at `from`
-pub record IsSettled (arms : List ArmModel) (i last : ℕ) (places starts : List ℕ) (left from : ℕ) : Type 0 where
+pub record IsSettled (arms : List ArmModel) (i last : ℕ) (places starts : List ℕ)
+    (left from : ℕ) : Type 0 where
   pub within : from ≤ last + 1
   pub begin : left ≡ 0 → from ≡ 0
   pub later : 0 < left → slice_index starts (left - 1) ≤ from
-  pub kept : (k x2 : ℕ) → k + 1 < left → InEntry starts left last k x2 → Wins arms (suc i) x2 (slice_index places k)
-  pub top : (x2 : ℕ) → 0 < left → slice_index starts (left - 1) ≤ x2 → x2 < from → x2 ≤ last → Wins arms (suc i) x2 (slice_index places (left - 1))
+  pub kept : (k x2 : ℕ) → k + 1 < left → InEntry starts left last k x2
+      → Wins arms (suc i) x2 (slice_index places k)
+  pub top : (x2 : ℕ) → 0 < left → slice_index starts (left - 1) ≤ x2 → x2 < from → x2 ≤ last
+      → Wins arms (suc i) x2 (slice_index places (left - 1))
   pub new : (x2 : ℕ) → from ≤ x2 → x2 ≤ last → Wins arms (suc i) x2 i

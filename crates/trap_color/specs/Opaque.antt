@@ -1,3 +1,4 @@
+-- That no plate has an opaque ink.
 use Rattle.std.specs.Prelude.{◌≢◌, ℕ, ◌<◌}
 use Rattle.page_model.specs.declared.parts.InkKind.TheVariants.{Opaque}
 use Rattle.page_model.specs.declared.parts.PageParts.{PageParts}

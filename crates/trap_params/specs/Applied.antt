@@ -1,7 +1,10 @@
 -- The parameters after a `settrapparams` dictionary.
 use Rattle.std.specs.Prelude.{ℕ, List, Option, Result}
 use Rattle.std.specs.Result.{result_unwrap_or}
-use Rattle.ps_tokens.specs.declared.faults.Key.TheVariants.{TrapWidth, BlackWidth, BlackColorLimit, BlackDensityLimit, StepLimit, SlidingTrapLimit, TrapColorScaling, Enabled}
+use Rattle.ps_tokens.specs.declared.faults.Key.TheVariants.{TrapWidth, BlackWidth, BlackColorLimit}
+use Rattle.ps_tokens.specs.declared.faults.Key.TheVariants.{BlackDensityLimit, StepLimit}
+use Rattle.ps_tokens.specs.declared.faults.Key.TheVariants.{SlidingTrapLimit, TrapColorScaling}
+use Rattle.ps_tokens.specs.declared.faults.Key.TheVariants.{Enabled}
 use Rattle.ps_tokens.specs.declared.faults.JobFault.{JobFault}
 use Rattle.ps_tokens.specs.declared.object.Object.{Object}
 use Rattle.page_model.specs.declared.parts.TrapParams.{TrapParams}
@@ -50,4 +53,5 @@ params_set set now = record {
 
 -- the parameters after a dictionary, or the fault of the faulty entry whose key stands first
 abbrev pub params_after : TrapParams → List Object → ℕ → Result TrapParams JobFault
-params_after now objects dict = unless (first_misfit_of (settings_of now objects dict)) (params_set (settings_of now objects dict) now)
+params_after now objects dict = unless (first_misfit_of (settings_of now objects dict))
+    (params_set (settings_of now objects dict) now)

@@ -1,5 +1,6 @@
 -- The step limits after a `settrapparams` dictionary.
-use Rattle.std.specs.Prelude.{ℕ, List, [], ◌∷◌, length, fold, map, Option, Some, None, Result, Ok, Err, slice_get, nat_le, codes, if◌then◌else◌}
+use Rattle.std.specs.Prelude.{ℕ, List, [], ◌∷◌, length, fold, map, Option, Some, None, Result, Ok}
+use Rattle.std.specs.Prelude.{Err, slice_get, nat_le, codes, if◌then◌else◌}
 use Rattle.std.specs.List.{flat_map}
 use Rattle.ps_tokens.specs.declared.faults.Key.TheVariants.{StepLimit}
 use Rattle.ps_tokens.specs.declared.faults.FaultKind.{FaultKind}
@@ -30,7 +31,8 @@ step_by body = step_given (number_of StepLimit body)
 
 -- the step that a dictionary names, if it names one
 abbrev pub step_in : List Object → ℕ → Result (Option ℕ) Misfit
-step_in objects dict = value_at (by_body step_by) objects None (last_of objects dict (codes "StepLimit"))
+step_in objects dict =
+    value_at (by_body step_by) objects None (last_of objects dict (codes "StepLimit"))
 
 -- the step that the entry of a colorant's key names; its value has to be a dictionary
 unfoldable pub step_of : List Object → ℕ → Result (Option ℕ) Misfit
@@ -40,11 +42,13 @@ step_of objects key = entry_at (λ dict at. step_in objects dict) objects None k
 abbrev pub limit_if_short : List ℕ → Result (Option ℕ) Misfit → List Limit
 limit_if_short name (Err misfit) = []
 limit_if_short name (Ok None) = []
-limit_if_short name (Ok (Some step)) = if nat_le (length name) longest_name then record { name = name; step = step } ∷ [] else []
+limit_if_short name (Ok (Some step)) =
+    if nat_le (length name) longest_name then record { name = name; step = step } ∷ [] else []
 
 -- the limits of these keys, in their order
 abbrev pub limits_of : List Object → List ℕ → List Limit
-limits_of objects = flat_map (λ key. limit_if_short (name_of (slice_get objects key)) (step_of objects key))
+limits_of objects =
+    flat_map (λ key. limit_if_short (name_of (slice_get objects key)) (step_of objects key))
 
 -- of the faults of these keys the one that stands first
 abbrev pub first_misfit : List Object → List ℕ → Option Misfit
@@ -65,7 +69,8 @@ limits_at now objects (Some place) = limits_in objects place (slice_get objects 
 
 -- the limits after a dictionary
 abbrev pub limits_after : List Limit → List Object → ℕ → Result (List Limit) JobFault
-limits_after now objects dict = limits_at now objects (last_of objects dict (codes "ColorantZoneDetails"))
+limits_after now objects dict =
+    limits_at now objects (last_of objects dict (codes "ColorantZoneDetails"))
 
 -- the limits' names stand in ascending byte order, each once
 abbrev pub AscendByName : List Limit → Type 0

@@ -1,10 +1,12 @@
 -- What a dictionary sets: the value of the last entry of each key, judged by its kind and range.
-use Rattle.std.specs.Prelude.{ℕ, ℤ, pos, negsuc, Bool, List, Result, Ok, Err, nat_le, ◌&&◌, if◌then◌else◌}
+use Rattle.std.specs.Prelude.{ℕ, ℤ, pos, negsuc, Bool, List, Result, Ok, Err, nat_le, ◌&&◌}
+use Rattle.std.specs.Prelude.{if◌then◌else◌}
 use Rattle.ps_tokens.specs.declared.faults.Key.{Key}
 use Rattle.ps_tokens.specs.declared.faults.FaultKind.{FaultKind}
 use Rattle.ps_tokens.specs.declared.faults.FaultKind.TheVariants.{WrongKind, OutOfRange}
 use Rattle.ps_tokens.specs.declared.object.Body.{Body}
-use Rattle.ps_tokens.specs.declared.object.Body.TheVariants.{Number, Truth, Null, Text, Literal, Operator, Array, Dict}
+use Rattle.ps_tokens.specs.declared.object.Body.TheVariants.{Number, Truth, Null, Text, Literal}
+use Rattle.ps_tokens.specs.declared.object.Body.TheVariants.{Operator, Array, Dict}
 use Rattle.ps_tokens.specs.declared.object.Object.{Object}
 use Rattle.ps_tokens.specs.Dictionaries.{last_of}
 use Rattle.ps_tokens.specs.declared.misfits.Misfit.{Misfit}
@@ -13,7 +15,8 @@ use Rattle.trap_params.specs.Parameters.{name_of, least_of, most_of}
 
 -- a number in the parameter's range
 abbrev pub in_range : Key → ℤ → Result ℕ FaultKind
-in_range key (pos n) = if nat_le (least_of key) n && nat_le n (most_of key) then Ok n else Err (OutOfRange key)
+in_range key (pos n) =
+    if nat_le (least_of key) n && nat_le n (most_of key) then Ok n else Err (OutOfRange key)
 in_range key (negsuc n) = Err (OutOfRange key)
 
 -- the number that a value sets
@@ -40,8 +43,10 @@ boolean_of key Dict = Err (WrongKind key)
 
 -- a number after a dictionary
 unfoldable pub number_after : List Object → ℕ → Key → ℕ → Result ℕ Misfit
-number_after objects dict key now = value_at (by_body (number_of key)) objects now (last_of objects dict (name_of key))
+number_after objects dict key now =
+    value_at (by_body (number_of key)) objects now (last_of objects dict (name_of key))
 
 -- a boolean after a dictionary
 unfoldable pub boolean_after : List Object → ℕ → Key → Bool → Result Bool Misfit
-boolean_after objects dict key now = value_at (by_body (boolean_of key)) objects now (last_of objects dict (name_of key))
+boolean_after objects dict key now =
+    value_at (by_body (boolean_of key)) objects now (last_of objects dict (name_of key))

@@ -1,6 +1,7 @@
 -- What the program holds of a command, as the words that it stands for.
 use Rattle.std.specs.Prelude.{◌≤◌, List, map, vec_len}
-use Rattle.trap_words.specs.Words.{PlateNames, PageWords, SampleWords, Command as Meaning, Page as page, Sample as sample}
+use Rattle.trap_words.specs.Words.{PlateNames, PageWords, SampleWords, Command as Meaning}
+use Rattle.trap_words.specs.Words.{Page as page, Sample as sample}
 use Rattle.plain_words.specs.declared.parts.PlateWord.{PlateWord}
 pub use Rattle.plain_words.specs.Held.{names_in}
 use Rattle.trap_words.specs.declared.command.PageCommand.{PageCommand}
@@ -14,7 +15,14 @@ plates_in = map names_in
 
 -- a command of a page
 abbrev pub page_in : PageCommand → PageWords
-page_in p = record { workers = p.workers; band = p.band; job = p.job.now; report = p.report.now; plates = plates_in p.plates.items }
+page_in p =
+    record {
+      workers = p.workers;
+      band = p.band;
+      job = p.job.now;
+      report = p.report.now;
+      plates = plates_in p.plates.items;
+    }
 
 -- a command of a sample page
 abbrev pub sample_in : SampleCommand → SampleWords

@@ -16,7 +16,8 @@ word_rule name = record (new_rule name) { required = true }
 
 -- one word or more
 abbrev pub words_rule : Text → Rule
-words_rule name = record (word_rule name) { range = Some (record { start_inclusive = 1; end_inclusive = usize_max }) }
+words_rule name = record (word_rule name)
+    { range = Some (record { start_inclusive = 1; end_inclusive = usize_max }) }
 
 -- page [--workers N] [--band B] JOB REPORT PLATE ..
 abbrev pub page_app : App

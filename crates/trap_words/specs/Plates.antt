@@ -5,4 +5,5 @@ use Rattle.plain_words.specs.Plates.{are_plates, stand_together}
 
 -- the plates of the words that stand behind the report's name
 abbrev pub plates_of : List ℕ → List (List ℕ) → Option (List PlateNames)
-plates_of report words = if are_plates words && stand_together report (map parts_of words) then Some (map parts_of words) else None
+plates_of report words = if are_plates words && stand_together report (map parts_of words)
+    then Some (map parts_of words) else None

@@ -1,5 +1,6 @@
 -- What the words of a command mean.
-use Rattle.std.specs.Prelude.{ℕ, Bool, false, if◌then◌else◌, List, [], ◌∷◌, Option, Some, None, codes}
+use Rattle.std.specs.Prelude.{ℕ, Bool, false, if◌then◌else◌, List, [], ◌∷◌, Option, Some, None}
+use Rattle.std.specs.Prelude.{codes}
 use Rattle.std.specs.Option.{option_map}
 use Rattle.std.specs.Str.{bytes_eq}
 use Rattle.clap.specs.Walk.{Row, all_of, first_of}
@@ -30,18 +31,24 @@ pub data Command : Type 0 where
   Sample : SampleWords → Command
 
 -- the page of these parts, where each of them is there
-abbrev pub page_with : Option ℕ → Option ℕ → List ℕ → List ℕ → Option (List PlateNames) → Option PageWords
-page_with (Some workers) (Some band) job report (Some plates) = Some (record { workers = workers; band = band; job = job; report = report; plates = plates })
+abbrev pub page_with : Option ℕ → Option ℕ → List ℕ → List ℕ → Option (List PlateNames)
+    → Option PageWords
+page_with (Some workers) (Some band) job report (Some plates) =
+    Some (record { workers = workers; band = band; job = job; report = report; plates = plates })
 page_with _ _ _ _ _ = None
 
 -- the page of the texts that were found, where each of them has its form
-abbrev pub page_of : Option (List ℕ) → Option (List ℕ) → Option (List ℕ) → Option (List ℕ) → Option (List (List ℕ)) → Option PageWords
-page_of workers band (Some job) (Some report) (Some plates) = page_with (option_number 1 64 4 workers) (option_number 1 4096 64 band) job report (plates_of report plates)
+abbrev pub page_of : Option (List ℕ) → Option (List ℕ) → Option (List ℕ) → Option (List ℕ)
+    → Option (List (List ℕ)) → Option PageWords
+page_of workers band (Some job) (Some report) (Some plates) = page_with
+    (option_number 1 64 4 workers) (option_number 1 4096 64 band) job report
+    (plates_of report plates)
 page_of _ _ _ _ _ = None
 
 -- the page of what `clap` found
 abbrev pub page_of_rows : List Row → Option PageWords
-page_of_rows rows = page_of (first_of (codes "workers") rows) (first_of (codes "band") rows) (first_of (codes "job") rows) (first_of (codes "report") rows) (all_of (codes "plate") rows)
+page_of_rows rows = page_of (first_of (codes "workers") rows) (first_of (codes "band") rows)
+    (first_of (codes "job") rows) (first_of (codes "report") rows) (all_of (codes "plate") rows)
 
 -- the page that the words mean, `page` being the first of them
 abbrev pub page_of_words : List (List ℕ) → Option PageWords
@@ -49,12 +56,15 @@ page_of_words words = if is_taken words then page_of_rows (rows_in words) else N
 
 -- the sample page of these numbers, where each of them is there
 abbrev pub sample_with : Option ℕ → Option ℕ → Option ℕ → Option ℕ → Option SampleWords
-sample_with (Some number) (Some width) (Some height) (Some workers) = Some (record { number = number; width = width; height = height; workers = workers })
+sample_with (Some number) (Some width) (Some height) (Some workers) =
+    Some (record { number = number; width = width; height = height; workers = workers })
 sample_with _ _ _ _ = None
 
 -- NUMBER WIDTH HEIGHT WORKERS
 abbrev pub sample_of_words : List (List ℕ) → Option SampleWords
-sample_of_words (number ∷ width ∷ height ∷ workers ∷ []) = sample_with (number_of 0 4294967295 number) (number_of 1 16384 width) (number_of 1 16384 height) (number_of 1 64 workers)
+sample_of_words (number ∷ width ∷ height ∷ workers ∷ []) = sample_with
+    (number_of 0 4294967295 number) (number_of 1 16384 width) (number_of 1 16384 height)
+    (number_of 1 64 workers)
 sample_of_words _ = None
 
 -- whether `page` is the first word, so that the words go to `clap`
@@ -67,4 +77,5 @@ abbrev pub command_of : List (List ℕ) → Option Command
 command_of [] = None
 command_of (first ∷ rest) =
     if bytes_eq first (codes "page") then option_map Page (page_of_words (first ∷ rest))
-    else (if bytes_eq first (codes "sample") then option_map Sample (sample_of_words rest) else None)
+    else (if bytes_eq first (codes "sample") then option_map Sample (sample_of_words rest)
+    else None)

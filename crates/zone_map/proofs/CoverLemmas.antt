@@ -1,3 +1,4 @@
+-- Which zone covers a sample, kept zone by zone along the paths' windings.
 use Rattle.std.proofs.Common.{◌≡◌, ◌∙◌, ap, ℕ, if◌then◌else◌, false, pos}
 use Rattle.std.specs.Prelude.{ℤ, not}
 use Rattle.std.specs.Ordering.{int_eq}

@@ -1,3 +1,5 @@
+-- Crossings counted by the samples left of them: one more crossing, one more for each sample
+-- left of it.
 use Rattle.std.proofs.Common.{◌≡◌, ◌∙◌, ap, sym, refl, ℕ, zero, suc, ◌+◌, ◌-◌, ◌<◌, ◌≤◌, ◌⊎◌, inl, inr, List, [], ◌∷◌, length, drop, get_or, set, pos, arith, eq-eqb, Fits, w32, if◌then◌else◌, true, false, add-one}
 use Rattle.std.specs.Prelude.{Bool, not, sum, nat_lt, nat_eq, ℤ, ◌+ℤ◌, ◌-ℤ◌}
 use Rattle.std.specs.Ordering.{int_eq}

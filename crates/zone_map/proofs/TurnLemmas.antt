@@ -1,3 +1,4 @@
+-- The turns of a path round a point, segment by segment, from some vertex on.
 use Rattle.std.proofs.Common.{ap, sym, ◌∙◌, ◌≡◌, ℕ, suc, Bool, if◌then◌else◌, ◌+◌, ◌<◌, ◌≤◌, true, false, inl, inr, refl, List, ◌∷◌, length, drop, add-one, [], pos, arith}
 use Rattle.std.specs.Prelude.{◌+ℤ◌, slice_index_or, ℤ}
 use Rattle.std.proofs.lemmas.Int.{ints}

@@ -1,3 +1,4 @@
+-- When a segment turns round a point: the tests of the code are those of the definition.
 use Rattle.std.proofs.Common.{◌≡◌, refl, Bool, true, false, if◌then◌else◌, pos, arith}
 use Rattle.std.specs.Prelude.{ℤ, ◌-ℤ◌, ◌&&◌, int_lt, int_le}
 use Rattle.std.proofs.lemmas.Int.{ints}

@@ -1,3 +1,4 @@
+-- Points of the code, in exact units, and the points of the definition that they are.
 use Rattle.std.specs.Prelude.{ℕ, ◌+◌, ◌*◌, ◌≤◌, ℤ, nat_abs, pos}
 use Rattle.page_model.specs.Limits.{most_coordinate, most_resolution, scale}
 use Rattle.page_model.specs.Zones.{Point}
@@ -10,7 +11,8 @@ point s = record { px = s.x; py = s.y }
 abbrev pub middle : ℕ → ℤ → Point
 middle x y = record { px = pos ((2 * x + 1) * (36 * scale)); py = y }
 
--- how far a spot may stand from the lower left corner: as far as a vertex, at the most pixels an inch
+-- how far a spot may stand from the lower left corner: as far as a vertex, at the most pixels an
+-- inch
 abbrev pub furthest : ℕ
 furthest = most_coordinate * most_resolution
 

@@ -1,3 +1,5 @@
+-- Crossings of a row, counted from the right: how often a path passes right of a sample, upwards
+-- and downwards.
 use Rattle.std.specs.Prelude.{ℕ, ◌+◌, List, drop, sum, ℤ, ◌-ℤ◌, pos}
 
 -- the crossings right of sample x, of a row's crossings counted by the samples left of them

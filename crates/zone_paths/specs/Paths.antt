@@ -1,9 +1,12 @@
 -- What the path statements of a job draw.
-use Rattle.std.specs.Prelude.{◌≡◌, ℕ, ℤ, ◌+◌, ◌+ℤ◌, ◌<◌, Bool, true, false, List, [], ◌∷◌, ◌++◌, length, Option, Some, None, Result, Ok, Err, nat_abs, nat_le, ◌&&◌, if◌then◌else◌}
+use Rattle.std.specs.Prelude.{◌≡◌, ℕ, ℤ, ◌+◌, ◌+ℤ◌, ◌<◌, Bool, true, false, List, [], ◌∷◌, ◌++◌}
+use Rattle.std.specs.Prelude.{length, Option, Some, None, Result, Ok, Err, nat_abs, nat_le, ◌&&◌}
+use Rattle.std.specs.Prelude.{if◌then◌else◌}
 use Rattle.page_model.specs.declared.parts.Vertex.{Vertex}
 use Rattle.page_model.specs.Conditions.{IsPath}
 use Rattle.ps_tokens.specs.declared.faults.FaultKind.{FaultKind}
-use Rattle.ps_tokens.specs.declared.faults.FaultKind.TheVariants.{NoCurrentPoint, CoordinateRange, TooManyVertices}
+use Rattle.ps_tokens.specs.declared.faults.FaultKind.TheVariants.{NoCurrentPoint, CoordinateRange}
+use Rattle.ps_tokens.specs.declared.faults.FaultKind.TheVariants.{TooManyVertices}
 use Rattle.zone_paths.specs.declared.pen.Point.{Point}
 use Rattle.zone_paths.specs.declared.pen.Pen.{Pen}
 
@@ -39,23 +42,28 @@ offset_point p dx dy = record { x = p.x +ℤ dx; y = p.y +ℤ dy }
 -- these vertices more and the pen behind them, unless these are too many
 abbrev pub with_vertices : List Vertex → List Vertex → Pen → Result Drawing FaultKind
 with_vertices vertices more pen =
-    if nat_le (length vertices + length more) most_path_vertices then Ok (record { vertices = vertices ++ more; pen = Some pen })
+    if nat_le (length vertices + length more) most_path_vertices
+    then Ok (record { vertices = vertices ++ more; pen = Some pen })
     else Err TooManyVertices
 
 -- one more subpath, which begins at a point
 unfoldable pub begun_at : List Vertex → Point → Result Drawing FaultKind
 begun_at vertices p =
-    if is_near p then with_vertices vertices (vertex_at p true ∷ []) (record { first = p; at = p; closed = false })
+    if is_near p then with_vertices vertices (vertex_at p true ∷ [])
+    (record { first = p; at = p; closed = false })
     else Err CoordinateRange
 
--- the vertices of a line to a point: behind a closed subpath it first begins one at the current point
+-- the vertices of a line to a point: behind a closed subpath it first begins one at the current
+-- point
 abbrev pub line_vertices : Pen → Point → List Vertex
-line_vertices pen p = if pen.closed then vertex_at pen.at true ∷ vertex_at p false ∷ [] else vertex_at p false ∷ []
+line_vertices pen p =
+    if pen.closed then vertex_at pen.at true ∷ vertex_at p false ∷ [] else vertex_at p false ∷ []
 
 -- one more line, from the pen to a point
 unfoldable pub lined_to : List Vertex → Pen → Point → Result Drawing FaultKind
 lined_to vertices pen p =
-    if is_near p then with_vertices vertices (line_vertices pen p) (record { first = pen.first; at = p; closed = false })
+    if is_near p then with_vertices vertices (line_vertices pen p)
+    (record { first = pen.first; at = p; closed = false })
     else Err CoordinateRange
 
 -- what is drawn from the pen; without one there is no current point
@@ -91,7 +99,8 @@ closepath d = record { vertices = d.vertices; pen = closed_pen d.pen }
 -- a pen stands within a million points of the origin, behind at least one vertex
 abbrev pub IsPen : List Vertex → Option Pen → Type 0
 IsPen vertices None = Unit {0}
-IsPen vertices (Some pen) = (is_near pen.first ≡ true) × (is_near pen.at ≡ true) × (0 < length vertices)
+IsPen vertices (Some pen) =
+    (is_near pen.first ≡ true) × (is_near pen.at ≡ true) × (0 < length vertices)
 
 -- the path of a zone, and a pen behind it
 pub record IsDrawing (d : Drawing) : Type 0 where

@@ -13,11 +13,13 @@ Refuses (Fault kind) old new meant = (meant ≡ Err kind) × (new ≡ old)
 Refuses OutOfMemory old new meant = new ≡ old
 
 -- a call draws what is meant, or refuses
-abbrev pub Draws : Result (Unit {0}) PathRefusal → Drawing → Drawing → Result Drawing FaultKind → Type 0
+abbrev pub Draws : Result (Unit {0}) PathRefusal → Drawing → Drawing → Result Drawing FaultKind
+    → Type 0
 Draws (Ok done) old new meant = meant ≡ Ok new
 Draws (Err refusal) old new meant = Refuses refusal old new meant
 
 -- a call adds the vertices that are meant and tells where the pen then is, or refuses
-abbrev pub Extends : Result Pen PathRefusal → List Vertex → List Vertex → Result Drawing FaultKind → Type 0
+abbrev pub Extends : Result Pen PathRefusal → List Vertex → List Vertex → Result Drawing FaultKind
+    → Type 0
 Extends (Ok pen) old new meant = meant ≡ Ok (record { vertices = new; pen = Some pen })
 Extends (Err refusal) old new meant = Refuses refusal old new meant
