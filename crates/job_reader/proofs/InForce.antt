@@ -6,17 +6,16 @@ use Rattle.std.specs.Result.{result_unwrap_or}
 use Rattle.std.proofs.lemmas.List.Elements.{All-head, All-tail}
 use Rattle.page_model.specs.declared.parts.Ink.{Ink}
 use Rattle.page_model.specs.declared.parts.Limit.{Limit}
-use Rattle.page_model.specs.declared.parts.TrapParams.{TrapParams}
 use Rattle.ps_tokens.specs.declared.faults.FaultKind.{FaultKind}
 use Rattle.ps_tokens.specs.declared.faults.JobFault.{JobFault}
-use Rattle.ps_tokens.specs.declared.faults.Key.{Key}
-use Rattle.ps_tokens.specs.declared.faults.Key.TheVariants.{TrapWidth, BlackWidth, BlackColorLimit, BlackDensityLimit, StepLimit, SlidingTrapLimit, TrapColorScaling, Enabled, Trapping}
+use Rattle.ps_tokens.specs.declared.parameters.Key.{Key}
+use Rattle.ps_tokens.specs.declared.parameters.Key.TheVariants.{Enabled, Trapping}
 use Rattle.ps_tokens.specs.declared.object.Object.{Object}
 use Rattle.ps_tokens.specs.Dictionaries.{last_of}
 use Rattle.ps_tokens.specs.Misfits.{misfit_of}
 use Rattle.ps_tokens.specs.Values.{by_body, value_by, value_at, place_if_some, place_of_value}
 use Rattle.trap_params.specs.Limits.{limits_at}
-use Rattle.trap_params.specs.Parameters.{name_of}
+use Rattle.ps_tokens.specs.Parameters.{name_of}
 use Rattle.trap_params.specs.Settings.{number_of, boolean_of, number_after, boolean_after}
 use Rattle.colorant_details.specs.Details.{details_of}
 use Rattle.job_reader.specs.declared.job.Job.{Job}
@@ -27,9 +26,12 @@ use Rattle.job_reader.specs.Calls.{Statement, is_showpage}
 use Rattle.job_reader.specs.Device.{resolution_in, resolution_after, details_at, details_in, details_or, named_details}
 use Rattle.job_reader.specs.InForce.{NoneShows, after_one, going_on, after_all, is_setpagedevice, is_settrapparams, is_by, value_of, named_by, resolution_in_force, trapping_in_force, details_in_force, number_in_force, boolean_in_force, params_in_force, limits_in_force}
 use Rattle.job_reader.specs.Jobs.{then_job, statement_then, read_from}
-use Rattle.job_reader.specs.Starts.{nothing_read, usual_params}
+use Rattle.page_model.specs.Parameters.{usual_params}
+use Rattle.trap_params.specs.Fields.{number_at, is_number}
+use Rattle.trap_params.proofs.FieldLemmas.{params_by-same, params_by-own}
+use Rattle.job_reader.specs.Starts.{nothing_read}
 use Rattle.job_reader.specs.Statements.{state_after, job_shown}
-use Rattle.job_reader.proofs.Setting.{SetsDevice, SetsParams, SetsZones, others-left, device-left, params-left}
+use Rattle.job_reader.proofs.Setting.{SetsDevice, SetsZones, others-left, device-left, params-left}
 
 -- One entry, statement after statement.
 
@@ -148,16 +150,6 @@ limits-goes objects now next (Some place) is = sym (ap (λ r. result_unwrap_or r
 
 -- What is in force.
 
-alike : {X : Type 0} (make : ℕ → ℕ → ℕ → ℕ → ℕ → ℕ → ℕ → Bool → X) (a b c d e f g a' b' c' d' e' f' g' : ℕ) (h h' : Bool) → a ≡ a' → b ≡ b' → c ≡ c' → d ≡ d' → e ≡ e' → f ≡ f' → g ≡ g' → h ≡ h' → make a b c d e f g h ≡ make a' b' c' d' e' f' g' h'
-alike make a b c d e f g a' b' c' d' e' f' g' h h' one two three four five six seven eight = cc
-
--- parameters that agree in each part
-same_params : (a b : TrapParams) → a.trap_width ≡ b.trap_width → a.black_width ≡ b.black_width → a.black_color_limit ≡ b.black_color_limit → a.black_density_limit ≡ b.black_density_limit → a.step_limit ≡ b.step_limit → a.sliding_trap_limit ≡ b.sliding_trap_limit → a.trap_color_scaling ≡ b.trap_color_scaling → a.enabled ≡ b.enabled → a ≡ b
-same_params a b width black color density step sliding scaling enabled =
-    alike (λ width black color density step sliding scaling enabled. record { trap_width = width; black_width = black; black_color_limit = color; black_density_limit = density; step_limit = step; sliding_trap_limit = sliding; trap_color_scaling = scaling; enabled = enabled })
-    a.trap_width a.black_width a.black_color_limit a.black_density_limit a.step_limit a.sliding_trap_limit a.trap_color_scaling
-    b.trap_width b.black_width b.black_color_limit b.black_density_limit b.step_limit b.sliding_trap_limit b.trap_color_scaling a.enabled b.enabled width black color density step sliding scaling enabled
-
 -- behind statements without a fault
 module _ (objects : List Object) (earlier : List Statement) (now : State) (done : after_all objects nothing_read earlier ≡ Ok now) where
   pub resolution-in_force : now.resolution ≡ resolution_in_force objects earlier
@@ -192,12 +184,13 @@ module _ (objects : List Object) (earlier : List Statement) (now : State) (done 
       (λ s a b is. params-step objects (λ n. n.limits) look value (λ a b params limits. limits) (λ dict a b set. limits-goes objects a.limits b.limits (last_of objects dict (codes "ColorantZoneDetails")) set.limits) s.call.operator s a b is)
       earlier None nothing_read now refl done
 
-  number-in_force : (key : Key) (part : TrapParams → ℕ) → ((dict : ℕ) (a b : TrapParams) → SetsParams objects dict a b → number_after objects dict key (part a) ≡ Ok (part b)) → part now.params ≡ number_in_force objects earlier key (part usual_params)
-  number-in_force key part sets =
+  number-in_force : (key : Key) → is_number key ≡ true → number_at key now.params ≡ number_in_force objects earlier key (number_at key usual_params)
+  number-in_force key number =
+      let usual : ℕ = number_at key usual_params in
       let look : ℕ → Option ℕ = value_of (name_of key) objects in
-      let value : Option ℕ → ℕ = λ p. result_unwrap_or (value_at (by_body (number_of key)) objects (part usual_params) p) (part usual_params) in
-      entry-after objects (λ s. part s.params) (named_by is_settrapparams look) value
-      (λ s a b is. params-step objects (λ n. part n.params) look value (λ a b params limits. ap part params) (λ dict a b set. number-goes objects dict (part usual_params) key (part a.params) (part b.params) (sets dict a.params b.params set.params)) s.call.operator s a b is)
+      let value : Option ℕ → ℕ = λ p. result_unwrap_or (value_at (by_body (number_of key)) objects usual p) usual in
+      entry-after objects (λ s. number_at key s.params) (named_by is_settrapparams look) value
+      (λ s a b is. params-step objects (λ n. number_at key n.params) look value (λ a b params limits. ap (number_at key) params) (λ dict a b set. number-goes objects dict usual key (number_at key a.params) (number_at key b.params) (set.params.numbers key number)) s.call.operator s a b is)
       earlier None nothing_read now refl done
 
   enabled-in_force : now.params.enabled ≡ boolean_in_force objects earlier Enabled true
@@ -210,15 +203,8 @@ module _ (objects : List Object) (earlier : List Statement) (now : State) (done 
 
   pub params-in_force : now.params ≡ params_in_force objects earlier
   params-in_force =
-      let width = number-in_force TrapWidth (λ p. p.trap_width) (λ dict a b set. set.trap_width) in
-      let black = number-in_force BlackWidth (λ p. p.black_width) (λ dict a b set. set.black_width) in
-      let color = number-in_force BlackColorLimit (λ p. p.black_color_limit) (λ dict a b set. set.black_color_limit) in
-      let density = number-in_force BlackDensityLimit (λ p. p.black_density_limit) (λ dict a b set. set.black_density_limit) in
-      let step = number-in_force StepLimit (λ p. p.step_limit) (λ dict a b set. set.step_limit) in
-      let sliding = number-in_force SlidingTrapLimit (λ p. p.sliding_trap_limit) (λ dict a b set. set.sliding_trap_limit) in
-      let scaling = number-in_force TrapColorScaling (λ p. p.trap_color_scaling) (λ dict a b set. set.trap_color_scaling) in
-      let enabled = enabled-in_force in
-      same_params now.params (params_in_force objects earlier) width black color density step sliding scaling enabled
+      sym (params_by-own now.params)
+      ∙ params_by-same (λ key. number_at key now.params) (λ key. number_in_force objects earlier key (number_at key usual_params)) now.params.enabled (boolean_in_force objects earlier Enabled usual_params.enabled) number-in_force enabled-in_force
 
 -- one statement that is performed
 pub statement-after : (objects : List Object) (s : Statement) (o : Option Operator) (now next : State) (rest : State → Result Job JobFault) → is_by is_showpage o ≡ false → after_one objects s o now ≡ Ok next → statement_then objects s o now rest ≡ rest next

@@ -10,7 +10,7 @@ use Rattle.page_model.specs.declared.parts.Limit.{Limit}
 use Rattle.page_model.specs.Conditions.{AreLimits}
 use Rattle.ps_tokens.specs.declared.faults.FaultKind.{FaultKind}
 use Rattle.ps_tokens.specs.declared.faults.FaultKind.TheVariants.{NotDictionary}
-use Rattle.ps_tokens.specs.declared.faults.Key.TheVariants.{StepLimit}
+use Rattle.ps_tokens.specs.declared.parameters.Key.TheVariants.{StepLimit}
 use Rattle.ps_tokens.specs.declared.misfits.Misfit.{Misfit}
 use Rattle.ps_tokens.specs.declared.object.Body.{Body}
 use Rattle.ps_tokens.specs.declared.object.Object.{Object}

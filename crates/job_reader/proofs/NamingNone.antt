@@ -1,21 +1,24 @@
 -- A dictionary that names nothing sets nothing.
-use Rattle.std.proofs.Common.{◌≡◌, ℕ, ◌+◌, Bool, true, cond, List, [], ◌∷◌, drop, take, get_or, length, ◌<◌, arith, None, Result, Ok, ap, ◌∙◌}
+use Rattle.std.proofs.Common.{◌≡◌, All, map, fold, refl, ◌++◌, ℕ, ◌+◌, Bool, true, cond, List, [], ◌∷◌, drop, take, get_or, None, Result, Ok, ap, ◌∙◌}
 use Rattle.std.specs.Prelude.{slice_get, codes}
-use Rattle.std.proofs.lemmas.List.Elements.{All-head, All-tail}
+use Rattle.std.proofs.lemmas.List.Elements.{All-nil, All-cons, All-head, All-tail, All-weaker}
 use Rattle.page_model.specs.declared.parts.TrapParams.{TrapParams}
 use Rattle.ps_tokens.specs.declared.faults.JobFault.{JobFault}
-use Rattle.ps_tokens.specs.declared.faults.Key.{Key}
-use Rattle.ps_tokens.specs.declared.faults.Key.TheVariants.{TrapWidth, BlackWidth, BlackColorLimit, BlackDensityLimit, StepLimit, SlidingTrapLimit, TrapColorScaling, Enabled, Trapping}
+use Rattle.ps_tokens.specs.declared.parameters.Key.{Key}
+use Rattle.ps_tokens.specs.declared.parameters.Key.TheVariants.{Enabled, Trapping}
 use Rattle.ps_tokens.specs.declared.faults.FaultKind.TheVariants.{WrongOperands}
 use Rattle.ps_tokens.specs.declared.misfits.Misfit.{Misfit}
 use Rattle.ps_tokens.specs.declared.object.Object.{Object}
 use Rattle.ps_tokens.specs.Misfits.{unless}
-use Rattle.ps_tokens.specs.Dictionaries.{inside_of, keys_of, keys_from, last_of, within, last_among}
+use Rattle.ps_tokens.specs.Dictionaries.{inside_of, keys_of, keys_from, last_of, last_among}
 use Rattle.ps_tokens.specs.Values.{by_body, value_at}
-use Rattle.trap_params.specs.declared.applying.Settings.{Settings}
-use Rattle.trap_params.specs.Applied.{params_after, first_misfit_of, params_set as params_given}
+use Rattle.std.specs.Result.{result_unwrap_or}
+use Rattle.ps_tokens.specs.Misfits.{misfit_of, earlier}
+use Rattle.trap_params.specs.Applied.{number_set, enabled_set, params_after, params_set as params_given}
+use Rattle.trap_params.specs.Fields.{number_keys, number_at}
+use Rattle.trap_params.proofs.FieldLemmas.{Agree, each_number, params_by-same, params_by-own}
 use Rattle.trap_params.specs.Limits.{limits_after, limits_at}
-use Rattle.trap_params.specs.Parameters.{name_of}
+use Rattle.ps_tokens.specs.Parameters.{name_of}
 use Rattle.trap_params.specs.Settings.{number_of, boolean_of, number_after, boolean_after}
 use Rattle.job_reader.specs.declared.operators.Operator.TheVariants.{SetPageDevice, SetTrapParams}
 use Rattle.job_reader.specs.declared.state.State.{State}
@@ -51,38 +54,47 @@ device-none objects dict now none =
     ∙ ap (λ t. device_from (Ok now.resolution) t (details_in objects dict) now) (boolean-none objects dict Trapping now.trapping two)
     ∙ ap (λ d. device_from (Ok now.resolution) (Ok now.trapping) d now) (details-none objects dict three)
 
--- a dictionary without an entry of this key
-abbrev Without : List Object → ℕ → List ℕ → Type 0
-Without objects dict key = last_of objects dict key ≡ None
+-- what holds of all of a list that is mapped holds of each that it is mapped from
+All-of_map : {X Y : Type 0} (P : Y → Type 0) (f : X → Y) (xs : List X) → All P (map f xs) → All (λ x. P (f x)) xs
+All-of_map P f [] all = All-nil (λ x. P (f x))
+All-of_map P f (x ∷ xs) all = All-cons (λ x. P (f x)) x xs (All-head P (f x) (map f xs) all) (All-of_map P f xs (All-tail P (f x) (map f xs) all))
 
-alike : {A B X : Type 0} (make : A → A → A → A → A → A → A → B → X) (a b c d e f g a' b' c' d' e' f' g' : A) (h h' : B) → a ≡ a' → b ≡ b' → c ≡ c' → d ≡ d' → e ≡ e' → f ≡ f' → g ≡ g' → h ≡ h' → make a b c d e f g h ≡ make a' b' c' d' e' f' g' h'
-alike make a b c d e f g a' b' c' d' e' f' g' h h' one two three four five six seven eight = cc
+-- and what holds of all of two lists holds of all of each
+All-parts : {X : Type 0} (P : X → Type 0) (xs ys : List X) → All P (xs ++ ys) → All P xs × All P ys
+All-parts P [] ys all = (All-nil P, all)
+All-parts P (x ∷ xs) ys all =
+    let rest = All-parts P xs ys (All-tail P x (xs ++ ys) all) in
+    (All-cons P x xs (All-head P x (xs ++ ys) all) rest.0, rest.1)
 
--- the parameters after these settings
-abbrev settled : TrapParams → Result ℕ Misfit → Result ℕ Misfit → Result ℕ Misfit → Result ℕ Misfit → Result ℕ Misfit → Result ℕ Misfit → Result ℕ Misfit → Result Bool Misfit → Result TrapParams JobFault
-settled now width black color density step sliding scaling enabled =
-    let set : Settings = record { trap_width = width; black_width = black; black_color_limit = color; black_density_limit = density; step_limit = step; sliding_trap_limit = sliding; trap_color_scaling = scaling; enabled = enabled } in
-    unless (first_misfit_of set) (params_given set now)
+-- settings that all are what is now give no misfit
+unset : (set : Key → Result ℕ Misfit) (now : Key → ℕ) (keys : List Key) → All (λ key. set key ≡ Ok (now key)) keys → fold (λ first key. earlier first (misfit_of (set key))) None keys ≡ None
+unset set now [] all = refl
+unset set now (key ∷ keys) all =
+    let Same : Key → Type 0 = λ key. set key ≡ Ok (now key) in
+    let none : misfit_of (set key) ≡ None = ap misfit_of (All-head Same key keys all) in
+    ap (λ first. fold (λ first key. earlier first (misfit_of (set key))) first keys) none ∙ unset set now keys (All-tail Same key keys all)
 
-params_after-none : (objects : List Object) (dict : ℕ) (now : TrapParams) → Without objects dict (name_of TrapWidth) → Without objects dict (name_of BlackWidth) → Without objects dict (name_of BlackColorLimit) → Without objects dict (name_of BlackDensityLimit) → Without objects dict (name_of StepLimit) → Without objects dict (name_of SlidingTrapLimit) → Without objects dict (name_of TrapColorScaling) → Without objects dict (name_of Enabled)
-    → params_after now objects dict ≡ Ok now
-params_after-none objects dict now width black color density step sliding scaling enabled =
-    alike (settled now)
-    (number_after objects dict TrapWidth now.trap_width) (number_after objects dict BlackWidth now.black_width) (number_after objects dict BlackColorLimit now.black_color_limit) (number_after objects dict BlackDensityLimit now.black_density_limit) (number_after objects dict StepLimit now.step_limit) (number_after objects dict SlidingTrapLimit now.sliding_trap_limit) (number_after objects dict TrapColorScaling now.trap_color_scaling)
-    (Ok now.trap_width) (Ok now.black_width) (Ok now.black_color_limit) (Ok now.black_density_limit) (Ok now.step_limit) (Ok now.sliding_trap_limit) (Ok now.trap_color_scaling)
-    (boolean_after objects dict Enabled now.enabled) (Ok now.enabled)
-    (number-none objects dict TrapWidth now.trap_width width) (number-none objects dict BlackWidth now.black_width black) (number-none objects dict BlackColorLimit now.black_color_limit color) (number-none objects dict BlackDensityLimit now.black_density_limit density) (number-none objects dict StepLimit now.step_limit step) (number-none objects dict SlidingTrapLimit now.sliding_trap_limit sliding) (number-none objects dict TrapColorScaling now.trap_color_scaling scaling)
-    (boolean-none objects dict Enabled now.enabled enabled)
-
--- of keys none is named, and so not the one at an index
-at : (objects : List Object) (dict k : ℕ) → NamesNone objects dict params_keys → k < length params_keys → Without objects dict (get_or params_keys k [])
-at objects dict k none within = none k [] within
+params_after-none : (objects : List Object) (dict : ℕ) (now : TrapParams) → NamesNone objects dict (map name_of number_keys) → last_of objects dict (name_of Enabled) ≡ None → params_after now objects dict ≡ Ok now
+params_after-none objects dict now none enabled =
+    let Same : Key → Type 0 = λ key. number_set now objects dict key ≡ Ok (number_at key now) in
+    let same : All Same number_keys = All-weaker (λ key. last_of objects dict (name_of key) ≡ None) Same (λ key absent. number-none objects dict key (number_at key now) absent) number_keys (All-of_map (λ name. last_of objects dict name ≡ None) name_of number_keys none) in
+    let given : Key → ℕ = λ key. result_unwrap_or (number_set now objects dict key) (number_at key now) in
+    let alike : Agree given (λ key. number_at key now) = λ key is. ap (λ r. result_unwrap_or r (number_at key now)) (each_number Same same key is) in
+    let stays : enabled_set now objects dict ≡ Ok now.enabled = boolean-none objects dict Enabled now.enabled enabled in
+    let kept : params_given now objects dict ≡ now = params_by-same given (λ key. number_at key now) (result_unwrap_or (enabled_set now objects dict) now.enabled) now.enabled alike (ap (λ r. result_unwrap_or r now.enabled) stays) ∙ params_by-own now in
+    ap (λ m. unless (earlier m (misfit_of (enabled_set now objects dict))) (params_given now objects dict)) (unset (number_set now objects dict) (λ key. number_at key now) number_keys same)
+    ∙ ap (λ r. unless (misfit_of r) (params_given now objects dict)) stays
+    ∙ ap Ok kept
 
 params-none : (objects : List Object) (dict : ℕ) (now : State) → NamesNone objects dict params_keys → params_set objects dict now ≡ Ok now
 params-none objects dict now none =
+    let Absent : List ℕ → Type 0 = λ key. last_of objects dict key ≡ None in
+    let names = map name_of number_keys in
+    let parts = All-parts Absent names (name_of Enabled ∷ codes "ColorantZoneDetails" ∷ []) none in
+    let limits = All-head Absent (codes "ColorantZoneDetails") [] (All-tail Absent (name_of Enabled) (codes "ColorantZoneDetails" ∷ []) parts.1) in
     ap (λ p. both_set p (limits_after now.limits objects dict) now)
-    (params_after-none objects dict now.params (at objects dict 0 none (omega arith)) (at objects dict 1 none (omega arith)) (at objects dict 2 none (omega arith)) (at objects dict 3 none (omega arith)) (at objects dict 4 none (omega arith)) (at objects dict 5 none (omega arith)) (at objects dict 6 none (omega arith)) (at objects dict 7 none (omega arith)))
-    ∙ ap (λ o. both_set (Ok now.params) (limits_at now.limits objects o) now) (at objects dict 8 none (omega arith))
+    (params_after-none objects dict now.params parts.0 (All-head Absent (name_of Enabled) (codes "ColorantZoneDetails" ∷ []) parts.1))
+    ∙ ap (λ o. both_set (Ok now.params) (limits_at now.limits objects o) now) limits
 
 -- operands of one dictionary
 with_one : (objects : List Object) (from place at : ℕ) (r s : Result State JobFault) → is_one_dict objects from place ≡ true → r ≡ s → cond (is_one_dict objects from place) r (fault WrongOperands at) ≡ s

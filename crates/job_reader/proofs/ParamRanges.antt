@@ -1,5 +1,5 @@
 -- The parameters stay in range, whatever a dictionary names.
-use Rattle.std.proofs.Common.{◌≡◌, ℕ, ℤ, pos, negsuc, ◌≤◌, Bool, true, false, cond, List, Option, Some, None, Ok, Err, refl, subst, arith}
+use Rattle.std.proofs.Common.{◌≡◌, ℕ, ℤ, pos, negsuc, Bool, true, false, cond, List, Option, Some, None, Ok, Err, refl, subst, sym, arith}
 use Rattle.std.specs.Prelude.{nat_le, ◌&&◌}
 use Rattle.std.specs.Result.{result_unwrap_or}
 use Rattle.std.proofs.lemmas.Bool.{and_parts}
@@ -7,29 +7,25 @@ use Rattle.std.proofs.lemmas.Bool.Decides.{nat_tests}
 use Rattle.page_model.specs.declared.parts.TrapParams.{TrapParams}
 use Rattle.page_model.specs.Conditions.{InRange}
 use Rattle.ps_tokens.specs.declared.faults.FaultKind.TheVariants.{OutOfRange}
-use Rattle.ps_tokens.specs.declared.faults.Key.{Key}
-use Rattle.ps_tokens.specs.declared.faults.Key.TheVariants.{TrapWidth, BlackWidth, BlackColorLimit, BlackDensityLimit, StepLimit, SlidingTrapLimit, TrapColorScaling}
+use Rattle.ps_tokens.specs.declared.parameters.Key.{Key}
 use Rattle.ps_tokens.specs.declared.misfits.Misfit.{Misfit}
 use Rattle.ps_tokens.specs.declared.object.Body.{Body}
 use Rattle.ps_tokens.specs.declared.object.Body.TheVariants.{Number, Truth, Null, Text, Literal, Operator, Array, Dict}
 use Rattle.ps_tokens.specs.declared.object.Object.{Object}
 use Rattle.ps_tokens.specs.Dictionaries.{last_of}
 use Rattle.ps_tokens.specs.Misfits.{unless}
-use Rattle.trap_params.specs.Parameters.{name_of, least_of, most_of}
+use Rattle.ps_tokens.specs.Parameters.{name_of, least_of, most_of}
 use Rattle.ps_tokens.specs.Values.{by_body, value_at}
 use Rattle.ps_tokens.proofs.Judged.{value_at-reads, unwrap-reads}
 use Rattle.trap_params.specs.Settings.{in_range, number_of, number_after}
-use Rattle.trap_params.specs.Applied.{params_after, first_misfit_of, params_set, settings_of}
+use Rattle.trap_params.specs.Applied.{number_set, enabled_set, params_after, first_misfit_of, params_set}
+use Rattle.trap_params.specs.Fields.{number_at, params_by}
+use Rattle.trap_params.proofs.FieldLemmas.{IsWithin, number_at-by, number_at-within, in_range-from}
 
 -- what is read unless there is a fault is that
 pub unless-is : {X : Type 0} (m : Option Misfit) (x y : X) → unless m x ≡ Ok y → x ≡ y
 unless-is None x y is = cc
 unless-is (Some misfit) x y is = absurd (cc)
-
--- a number from the least to the greatest that a parameter may be
-pub record IsWithin (key : Key) (n : ℕ) : Type 0 where
-  pub least : least_of key ≤ n
-  pub most : n ≤ most_of key
 
 passed : (b : Bool) (key : Key) (m n : ℕ) → (nat_le (least_of key) m && nat_le m (most_of key)) ≡ b → cond b (Ok m) (Err (OutOfRange key)) ≡ Ok n → IsWithin key n
 passed true key m n tests is =
@@ -62,30 +58,16 @@ number_after-within key objects dict now here =
     unwrap-reads P (value_at (by_body (number_of key)) objects now (last_of objects dict (name_of key))) now
     (value_at-reads P (by_body (number_of key)) objects now (last_of objects dict (name_of key)) (λ place object. number_of-within key object.body) here) here
 
-params_set-in_range : (now : TrapParams) (objects : List Object) (dict : ℕ) → InRange now → InRange (params_set (settings_of now objects dict) now)
+params_set-in_range : (now : TrapParams) (objects : List Object) (dict : ℕ) → InRange now → InRange (params_set now objects dict)
 params_set-in_range now objects dict here =
-    let width = number_after-within TrapWidth objects dict now.trap_width (record { least = here.some_width; most = here.width }) in
-    let factor = number_after-within BlackWidth objects dict now.black_width (record { least = here.some_factor; most = here.factor }) in
-    let color = number_after-within BlackColorLimit objects dict now.black_color_limit (record { least = omega arith; most = here.color }) in
-    let density = number_after-within BlackDensityLimit objects dict now.black_density_limit (record { least = here.some_density; most = here.density }) in
-    let step = number_after-within StepLimit objects dict now.step_limit (record { least = omega arith; most = here.step }) in
-    let sliding = number_after-within SlidingTrapLimit objects dict now.sliding_trap_limit (record { least = omega arith; most = here.sliding }) in
-    let scaling = number_after-within TrapColorScaling objects dict now.trap_color_scaling (record { least = omega arith; most = here.scaling }) in
-    record {
-      some_width = width.least;
-      width = width.most;
-      some_factor = factor.least;
-      factor = factor.most;
-      color = color.most;
-      some_density = density.least;
-      density = density.most;
-      step = step.most;
-      sliding = sliding.most;
-      scaling = scaling.most;
-    }
+    let given : Key → ℕ = λ key. result_unwrap_or (number_set now objects dict key) (number_at key now) in
+    let enabled = result_unwrap_or (enabled_set now objects dict) now.enabled in
+    in_range-from (params_by given enabled) (λ key is.
+    subst (IsWithin key) (sym (number_at-by given enabled key is))
+    (number_after-within key objects dict (number_at key now) (number_at-within now here key is)))
 
 -- the parameters after a dictionary
 pub params_after-in_range : (now after : TrapParams) (objects : List Object) (dict : ℕ) → InRange now → params_after now objects dict ≡ Ok after → InRange after
 params_after-in_range now after objects dict here is =
     let P : TrapParams → Type 0 = λ p. InRange p in
-    subst P (unless-is (first_misfit_of (settings_of now objects dict)) (params_set (settings_of now objects dict) now) after is) (params_set-in_range now objects dict here)
+    subst P (unless-is (first_misfit_of now objects dict) (params_set now objects dict) after is) (params_set-in_range now objects dict here)

@@ -1,5 +1,6 @@
 -- What one statement sets, and what it leaves as it was.
-use Rattle.std.proofs.Common.{◌≡◌, ℕ, ℤ, ◌==◌, ◌+◌, ◌++◌, Bool, true, false, cond, List, [], ◌∷◌, length, Option, Some, None, Result, Ok, Err, refl, subst}
+use Rattle.std.proofs.lemmas.List.Elements.{All-nil, All-cons}
+use Rattle.std.proofs.Common.{◌≡◌, ap, sym, ◌∙◌, fold, All, ℕ, ℤ, ◌==◌, ◌+◌, ◌++◌, Bool, true, false, cond, List, [], ◌∷◌, length, Option, Some, None, Result, Ok, Err, refl, subst}
 use Rattle.std.specs.Prelude.{nat_le, nat_lt}
 use Rattle.std.specs.Result.{result_unwrap_or}
 use Rattle.page_model.specs.declared.parts.Limit.{Limit}
@@ -8,14 +9,16 @@ use Rattle.page_model.specs.declared.parts.Zone.{Zone}
 use Rattle.ps_tokens.specs.declared.faults.FaultKind.{FaultKind}
 use Rattle.ps_tokens.specs.declared.faults.FaultKind.TheVariants.{TooManyVertices, TooManyZones, WrongOperands}
 use Rattle.ps_tokens.specs.declared.faults.JobFault.{JobFault}
-use Rattle.ps_tokens.specs.declared.faults.Key.TheVariants.{TrapWidth, BlackWidth, BlackColorLimit, BlackDensityLimit, StepLimit, SlidingTrapLimit, TrapColorScaling, Enabled, Trapping}
+use Rattle.ps_tokens.specs.declared.parameters.Key.{Key}
+use Rattle.ps_tokens.specs.declared.parameters.Key.TheVariants.{Trapping}
 use Rattle.ps_tokens.specs.declared.misfits.Misfit.{Misfit}
 use Rattle.ps_tokens.specs.declared.object.Object.{Object}
 use Rattle.ps_tokens.specs.Misfits.{misfit_of, earlier, unless}
-use Rattle.trap_params.specs.declared.applying.Settings.{Settings}
-use Rattle.trap_params.specs.Applied.{params_after, first_misfit_of, settings_of, params_set as params_given}
+use Rattle.trap_params.specs.Applied.{number_set, enabled_set, first_misfit, first_misfit_of, params_after, params_set as params_given}
+use Rattle.trap_params.specs.Fields.{number_keys, number_at, is_number}
+use Rattle.trap_params.proofs.FieldLemmas.{each_number, number_at-by}
 use Rattle.trap_params.specs.Limits.{limits_after}
-use Rattle.trap_params.specs.Settings.{number_after, boolean_after}
+use Rattle.trap_params.specs.Settings.{boolean_after}
 use Rattle.zone_paths.specs.Paths.{Drawing, nothing_drawn, moveto, lineto, rmoveto, rlineto, closepath}
 use Rattle.job_reader.specs.declared.operators.Operator.{Operator}
 use Rattle.job_reader.specs.declared.operators.Operator.TheVariants.{SetPageDevice, SetTrapParams, NewPath, ClosePath, MoveTo, LineTo, RelativeMoveTo, RelativeLineTo, SetTrapZone, ShowPage}
@@ -75,35 +78,28 @@ device_set-sets objects dict now next is =
 
 -- what a `settrapparams` dictionary sets of the parameters
 pub record SetsParams (objects : List Object) (dict : ℕ) (now next : TrapParams) : Type 0 where
-  pub trap_width : number_after objects dict TrapWidth now.trap_width ≡ Ok next.trap_width
-  pub black_width : number_after objects dict BlackWidth now.black_width ≡ Ok next.black_width
-  pub black_color_limit : number_after objects dict BlackColorLimit now.black_color_limit ≡ Ok next.black_color_limit
-  pub black_density_limit : number_after objects dict BlackDensityLimit now.black_density_limit ≡ Ok next.black_density_limit
-  pub step_limit : number_after objects dict StepLimit now.step_limit ≡ Ok next.step_limit
-  pub sliding_trap_limit : number_after objects dict SlidingTrapLimit now.sliding_trap_limit ≡ Ok next.sliding_trap_limit
-  pub trap_color_scaling : number_after objects dict TrapColorScaling now.trap_color_scaling ≡ Ok next.trap_color_scaling
-  pub enabled : boolean_after objects dict Enabled now.enabled ≡ Ok next.enabled
+  pub numbers : (key : Key) → is_number key ≡ true → number_set now objects dict key ≡ Ok (number_at key next)
+  pub enabled : enabled_set now objects dict ≡ Ok next.enabled
+
+-- where none of some keys is the first misfit, none of them has one, nor had what came before
+none_missed : (set : Key → Result ℕ Misfit) (keys : List Key) (before : Option Misfit) → fold (λ first key. earlier first (misfit_of (set key))) before keys ≡ None → (before ≡ None) × All (λ key. misfit_of (set key) ≡ None) keys
+none_missed set [] before none = (none, All-nil (λ key. misfit_of (set key) ≡ None))
+none_missed set (key ∷ keys) before none =
+    let rest = none_missed set keys (earlier before (misfit_of (set key))) none in
+    let both = earlier-none before (misfit_of (set key)) rest.0 in
+    (both.0, All-cons (λ key. misfit_of (set key) ≡ None) key keys both.1 rest.1)
 
 params_after-sets : (objects : List Object) (dict : ℕ) (now next : TrapParams) → params_after now objects dict ≡ Ok next → SetsParams objects dict now next
 params_after-sets objects dict now next is =
-    let set : Settings = settings_of now objects dict in
-    let none : first_misfit_of set ≡ None = unless-none (first_misfit_of set) (params_given set now) next is in
-    let one = earlier-none (misfit_of set.trap_width) _ none in
-    let two = earlier-none (misfit_of set.black_width) _ one.1 in
-    let three = earlier-none (misfit_of set.black_color_limit) _ two.1 in
-    let four = earlier-none (misfit_of set.black_density_limit) _ three.1 in
-    let five = earlier-none (misfit_of set.step_limit) _ four.1 in
-    let six = earlier-none (misfit_of set.sliding_trap_limit) _ five.1 in
-    let seven = earlier-none (misfit_of set.trap_color_scaling) _ six.1 in
-    subst (λ (p : TrapParams). SetsParams objects dict now p) (unless-is (first_misfit_of set) (params_given set now) next is) (record {
-      trap_width = read set.trap_width now.trap_width one.0;
-      black_width = read set.black_width now.black_width two.0;
-      black_color_limit = read set.black_color_limit now.black_color_limit three.0;
-      black_density_limit = read set.black_density_limit now.black_density_limit four.0;
-      step_limit = read set.step_limit now.step_limit five.0;
-      sliding_trap_limit = read set.sliding_trap_limit now.sliding_trap_limit six.0;
-      trap_color_scaling = read set.trap_color_scaling now.trap_color_scaling seven.0;
-      enabled = read set.enabled now.enabled seven.1;
+    let set : Key → Result ℕ Misfit = number_set now objects dict in
+    let given : Key → ℕ = λ key. result_unwrap_or (set key) (number_at key now) in
+    let enabled = enabled_set now objects dict in
+    let none : first_misfit_of now objects dict ≡ None = unless-none (first_misfit_of now objects dict) (params_given now objects dict) next is in
+    let parts = earlier-none (first_misfit set number_keys) (misfit_of enabled) none in
+    let each = (none_missed set number_keys None parts.0).1 in
+    subst (λ (p : TrapParams). SetsParams objects dict now p) (unless-is (first_misfit_of now objects dict) (params_given now objects dict) next is) (record {
+      numbers = λ key is. read (set key) (number_at key now) (each_number (λ k. misfit_of (set k) ≡ None) each key is) ∙ ap Ok (sym (number_at-by given (result_unwrap_or enabled now.enabled) key is));
+      enabled = read enabled now.enabled parts.1;
     })
 
 -- what it sets in all

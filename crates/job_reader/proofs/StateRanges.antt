@@ -16,7 +16,7 @@ use Rattle.page_model.specs.Conditions.{InRange, AreLimits, IsInk, IsVertex, IsZ
 use Rattle.ps_tokens.specs.declared.faults.FaultKind.{FaultKind}
 use Rattle.ps_tokens.specs.declared.faults.FaultKind.TheVariants.{BadResolution, TooManyVertices, TooManyZones, WrongOperands}
 use Rattle.ps_tokens.specs.declared.faults.JobFault.{JobFault}
-use Rattle.ps_tokens.specs.declared.faults.Key.TheVariants.{Trapping}
+use Rattle.ps_tokens.specs.declared.parameters.Key.TheVariants.{Trapping}
 use Rattle.ps_tokens.specs.declared.object.Object.{Object}
 use Rattle.ps_tokens.specs.Dictionaries.{last_of}
 use Rattle.ps_tokens.specs.Misfits.{misfit_of, earlier}

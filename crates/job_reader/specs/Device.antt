@@ -7,7 +7,7 @@ use Rattle.page_model.specs.declared.parts.Ink.{Ink}
 use Rattle.ps_tokens.specs.declared.faults.FaultKind.{FaultKind}
 use Rattle.ps_tokens.specs.declared.faults.FaultKind.TheVariants.{BadResolution}
 use Rattle.ps_tokens.specs.declared.faults.JobFault.{JobFault}
-use Rattle.ps_tokens.specs.declared.faults.Key.TheVariants.{Trapping}
+use Rattle.ps_tokens.specs.declared.parameters.Key.TheVariants.{Trapping}
 use Rattle.ps_tokens.specs.declared.misfits.Misfit.{Misfit}
 use Rattle.ps_tokens.specs.declared.object.Body.{Body}
 use Rattle.ps_tokens.specs.declared.object.Body.TheVariants.{Number, Truth, Null, Text, Literal}

@@ -8,16 +8,15 @@ use Rattle.page_model.specs.declared.parts.Limit.{Limit}
 use Rattle.page_model.specs.declared.parts.TrapParams.{TrapParams}
 use Rattle.ps_tokens.specs.declared.faults.FaultKind.TheVariants.{UnknownOperator}
 use Rattle.ps_tokens.specs.declared.faults.JobFault.{JobFault}
-use Rattle.ps_tokens.specs.declared.faults.Key.{Key}
-use Rattle.ps_tokens.specs.declared.faults.Key.TheVariants.{TrapWidth, BlackWidth, BlackColorLimit}
-use Rattle.ps_tokens.specs.declared.faults.Key.TheVariants.{BlackDensityLimit, StepLimit}
-use Rattle.ps_tokens.specs.declared.faults.Key.TheVariants.{SlidingTrapLimit, TrapColorScaling}
-use Rattle.ps_tokens.specs.declared.faults.Key.TheVariants.{Enabled, Trapping}
+use Rattle.ps_tokens.specs.declared.parameters.Key.{Key}
+use Rattle.ps_tokens.specs.declared.parameters.Key.TheVariants.{Enabled, Trapping}
 use Rattle.ps_tokens.specs.declared.object.Object.{Object}
 use Rattle.ps_tokens.specs.Dictionaries.{last_of}
 use Rattle.ps_tokens.specs.Values.{by_body, value_at, place_of_value}
+use Rattle.page_model.specs.Parameters.{usual_params}
+use Rattle.trap_params.specs.Fields.{number_keys, number_at, params_by}
 use Rattle.trap_params.specs.Limits.{limits_at}
-use Rattle.trap_params.specs.Parameters.{name_of}
+use Rattle.ps_tokens.specs.Parameters.{name_of}
 use Rattle.trap_params.specs.Settings.{number_of, boolean_of}
 use Rattle.job_reader.specs.declared.operators.Operator.{Operator}
 use Rattle.job_reader.specs.declared.operators.Operator.TheVariants.{SetPageDevice, SetTrapParams}
@@ -28,7 +27,6 @@ use Rattle.job_reader.specs.declared.operators.Operator.TheVariants.{ShowPage}
 use Rattle.job_reader.specs.declared.state.State.{State}
 use Rattle.job_reader.specs.Calls.{Statement, is_showpage}
 use Rattle.job_reader.specs.Device.{resolution_in, details_at, details_or}
-use Rattle.job_reader.specs.Starts.{usual_params}
 use Rattle.job_reader.specs.Statements.{fault, state_after}
 
 -- Statements that are performed.
@@ -134,20 +132,9 @@ boolean_in_force objects earlier key default =
 
 -- each parameter by itself, else the usual one
 abbrev pub params_in_force : List Object → List Statement → TrapParams
-params_in_force objects earlier = record {
-  trap_width = number_in_force objects earlier TrapWidth usual_params.trap_width;
-  black_width = number_in_force objects earlier BlackWidth usual_params.black_width;
-  black_color_limit =
-      number_in_force objects earlier BlackColorLimit usual_params.black_color_limit;
-  black_density_limit =
-      number_in_force objects earlier BlackDensityLimit usual_params.black_density_limit;
-  step_limit = number_in_force objects earlier StepLimit usual_params.step_limit;
-  sliding_trap_limit =
-      number_in_force objects earlier SlidingTrapLimit usual_params.sliding_trap_limit;
-  trap_color_scaling =
-      number_in_force objects earlier TrapColorScaling usual_params.trap_color_scaling;
-  enabled = boolean_in_force objects earlier Enabled usual_params.enabled;
-}
+params_in_force objects earlier =
+    params_by (λ key. number_in_force objects earlier key (number_at key usual_params))
+    (boolean_in_force objects earlier Enabled usual_params.enabled)
 
 -- the step limits that the last `settrapparams` with ColorantZoneDetails names, else none
 abbrev pub limits_in_force : List Object → List Statement → List Limit
@@ -163,9 +150,8 @@ device_keys = codes "HWResolution" ∷ codes "Trapping" ∷ codes "TrappingDetai
 
 -- the keys that `settrapparams` knows
 abbrev pub params_keys : List (List ℕ)
-params_keys = map name_of
-    (TrapWidth ∷ BlackWidth ∷ BlackColorLimit ∷ BlackDensityLimit ∷ StepLimit ∷ SlidingTrapLimit
-    ∷ TrapColorScaling ∷ Enabled ∷ []) ++ codes "ColorantZoneDetails" ∷ []
+params_keys =
+    map name_of number_keys ++ name_of Enabled ∷ codes "ColorantZoneDetails" ∷ []
 
 -- a dictionary has no entry of these keys
 abbrev pub NamesNone : List Object → ℕ → List (List ℕ) → Type 0

@@ -12,6 +12,7 @@ use Rattle.page_model.specs.declared.parts.TrapParams.{TrapParams}
 use Rattle.page_model.specs.declared.parts.Vertex.{Vertex}
 use Rattle.page_model.specs.declared.parts.Zone.{Zone}
 use Rattle.page_model.specs.Tints.{new_tints}
+use Rattle.page_model.specs.Parameters.{usual_params}
 
 abbrev pub at : ℕ → ℕ → At
 at x y = record { x = x; y = y }
@@ -37,7 +38,7 @@ black_ink = ink 75 17000 Normal
 
 -- the default parameters
 abbrev pub usual : TrapParams
-usual = record { trap_width = 2500; black_width = 10000; black_color_limit = 9500; black_density_limit = 16000; step_limit = 2500; sliding_trap_limit = 7000; trap_color_scaling = 10000; enabled = true }
+usual = usual_params
 
 abbrev pub off : TrapParams
 off = record usual { enabled = false }

@@ -62,19 +62,12 @@ pub struct TrapParams {
 }
 
 impl TrapParams {
-    ghost use Rattle.std.specs.Prelude.{◌≡◌, true};
-    ghost use Rattle.page_model.specs.Limits.{scale};
+    ghost use Rattle.std.specs.Prelude.{◌≡◌};
+    ghost use Rattle.page_model.specs.Parameters.{usual_params};
 
     /// The parameters of a job that sets none: a quarter of a point, this project's defaults throughout.
     pub fn usual() -> TrapParams
-        ensures width { result.trap_width ≡ 2500 }
-        ensures black_width { result.black_width ≡ scale }
-        ensures black_color { result.black_color_limit ≡ 9500 }
-        ensures black_density { result.black_density_limit ≡ 16000 }
-        ensures step { result.step_limit ≡ 2500 }
-        ensures sliding { result.sliding_trap_limit ≡ 7000 }
-        ensures scaling { result.trap_color_scaling ≡ scale }
-        ensures enabled { result.enabled ≡ true }
+        ensures { result ≡ usual_params }
     {
         TrapParams {
             trap_width: 2_500,

@@ -7,6 +7,7 @@ pub mod Limits
 pub mod Misfits
 pub mod Numbers
 pub mod Objects
+pub mod Parameters
 pub mod Pieces
 pub mod Texts
 pub mod Tokens

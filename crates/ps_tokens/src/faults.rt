@@ -1,16 +1,4 @@
-/// A parameter whose value can be of the wrong kind or out of its range.
-#[derive(Clone, Copy, Debug, Drop, PartialEq, Eq)]
-pub enum Key {
-    TrapWidth,
-    BlackWidth,
-    BlackColorLimit,
-    BlackDensityLimit,
-    StepLimit,
-    SlidingTrapLimit,
-    TrapColorScaling,
-    Enabled,
-    Trapping,
-}
+use crate::parameters::Key;
 
 /// What is wrong with a job.
 #[derive(Clone, Copy, Debug, Drop, PartialEq, Eq)]

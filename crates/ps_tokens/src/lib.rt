@@ -11,6 +11,7 @@ pub mod misfits;
 pub mod names;
 mod numbers;
 pub mod object;
+pub mod parameters;
 pub mod pieces;
 mod reader;
 mod scanner;

@@ -1,4 +1,4 @@
 pub mod Applied
+pub mod Fields
 pub mod Limits
-pub mod Parameters
 pub mod Settings

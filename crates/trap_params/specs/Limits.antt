@@ -2,7 +2,7 @@
 use Rattle.std.specs.Prelude.{ℕ, List, [], ◌∷◌, length, fold, map, Option, Some, None, Result, Ok}
 use Rattle.std.specs.Prelude.{Err, slice_get, nat_le, codes, if◌then◌else◌}
 use Rattle.std.specs.List.{flat_map}
-use Rattle.ps_tokens.specs.declared.faults.Key.TheVariants.{StepLimit}
+use Rattle.ps_tokens.specs.declared.parameters.Key.TheVariants.{StepLimit}
 use Rattle.ps_tokens.specs.declared.faults.FaultKind.{FaultKind}
 use Rattle.ps_tokens.specs.declared.faults.FaultKind.TheVariants.{NotDictionary}
 use Rattle.ps_tokens.specs.declared.faults.JobFault.{JobFault}

@@ -1,7 +1,7 @@
 -- What a dictionary sets: the value of the last entry of each key, judged by its kind and range.
 use Rattle.std.specs.Prelude.{ℕ, ℤ, pos, negsuc, Bool, List, Result, Ok, Err, nat_le, ◌&&◌}
 use Rattle.std.specs.Prelude.{if◌then◌else◌}
-use Rattle.ps_tokens.specs.declared.faults.Key.{Key}
+use Rattle.ps_tokens.specs.declared.parameters.Key.{Key}
 use Rattle.ps_tokens.specs.declared.faults.FaultKind.{FaultKind}
 use Rattle.ps_tokens.specs.declared.faults.FaultKind.TheVariants.{WrongKind, OutOfRange}
 use Rattle.ps_tokens.specs.declared.object.Body.{Body}
@@ -11,7 +11,7 @@ use Rattle.ps_tokens.specs.declared.object.Object.{Object}
 use Rattle.ps_tokens.specs.Dictionaries.{last_of}
 use Rattle.ps_tokens.specs.declared.misfits.Misfit.{Misfit}
 use Rattle.ps_tokens.specs.Values.{by_body, value_at}
-use Rattle.trap_params.specs.Parameters.{name_of, least_of, most_of}
+use Rattle.ps_tokens.specs.Parameters.{name_of, least_of, most_of}
 
 -- a number in the parameter's range
 abbrev pub in_range : Key → ℤ → Result ℕ FaultKind

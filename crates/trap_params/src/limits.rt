@@ -9,10 +9,11 @@ use lists::list::List;
 use lists::names::copied;
 use page_model::parts::{Limit, LimitList, OutOfMemory};
 use ps_tokens::dictionary::count;
-use ps_tokens::faults::{FaultKind, JobFault, JobRefusal, Key};
+use ps_tokens::faults::{FaultKind, JobFault, JobRefusal};
 use ps_tokens::misfits::{Misfit, at_key, earlier, judged_at};
 use ps_tokens::names::{last_keys, name_at};
 use ps_tokens::object::{Body, ObjectList};
+use ps_tokens::parameters::Key;
 use ps_tokens::{last, last_value};
 use std::alloc::Global;
 

@@ -7,24 +7,11 @@ use Rattle.pgm_plates.specs.declared.plate.PlateFault.TheVariants.{BadMagic, Bad
 use Rattle.ps_tokens.specs.declared.faults.FaultKind.{FaultKind}
 use Rattle.ps_tokens.specs.declared.faults.FaultKind.TheVariants.{JobTooLong, BadToken, NumberTooLarge, Unclosed, Unmatched, OddDictionary, KeyNotName, NameInside, TooDeep, UnknownOperator, WrongOperands, WrongKind, OutOfRange, NotDictionary, MissingKey, WrongType, BadDensity, BadKind, BadResolution, NoCurrentPoint, CoordinateRange, TooManyVertices, TooManyZones, NoPageDevice, NoShowpage, AfterShowpage}
 use Rattle.ps_tokens.specs.declared.faults.JobFault.{JobFault}
-use Rattle.ps_tokens.specs.declared.faults.Key.{Key}
-use Rattle.ps_tokens.specs.declared.faults.Key.TheVariants.{TrapWidth, BlackWidth, BlackColorLimit, BlackDensityLimit, StepLimit, SlidingTrapLimit, TrapColorScaling, Enabled, Trapping}
+use Rattle.ps_tokens.specs.Parameters.{name_of}
 use Rattle.trap_report.specs.declared.refusal.Refusal.{Refusal}
 use Rattle.trap_report.specs.declared.refusal.Refusal.TheVariants.{Usage, Job, NoDetails, Plate, Page, Read, Write, Memory}
 use Rattle.trap_report.specs.Report.{line}
 use Rattle.trap_report.specs.Statuses.{usage, job_refused, page_refused, not_read, not_written, out_of_memory}
-
--- the name of a parameter
-abbrev pub key_name : Key → List ℕ
-key_name TrapWidth = codes "TrapWidth"
-key_name BlackWidth = codes "BlackWidth"
-key_name BlackColorLimit = codes "BlackColorLimit"
-key_name BlackDensityLimit = codes "BlackDensityLimit"
-key_name StepLimit = codes "StepLimit"
-key_name SlidingTrapLimit = codes "SlidingTrapLimit"
-key_name TrapColorScaling = codes "TrapColorScaling"
-key_name Enabled = codes "Enabled"
-key_name Trapping = codes "Trapping"
 
 -- the name of a kind of fault; where a parameter is named too, a space stands behind it
 abbrev pub kind_name : FaultKind → List ℕ
@@ -57,8 +44,8 @@ kind_name AfterShowpage = codes "AfterShowpage"
 
 -- the parameter that a fault names, if any
 abbrev pub named_key : FaultKind → List ℕ
-named_key (WrongKind key) = key_name key
-named_key (OutOfRange key) = key_name key
+named_key (WrongKind key) = name_of key
+named_key (OutOfRange key) = name_of key
 named_key other = []
 
 -- the line of a job's fault: its kind, the parameter where it names one, and its place

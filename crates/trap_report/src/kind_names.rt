@@ -1,8 +1,8 @@
 ghost use Rattle.std.specs.Prelude.{◌≡◌, ◌≤◌, length};
-ghost use Rattle.trap_report.specs.Refusals.{kind_name as kind_text, key_name as key_text, named_key as named_text, plate_fault_name as plate_text, plate_fault_place as place_of};
+ghost use Rattle.trap_report.specs.Refusals.{kind_name as kind_text, named_key as named_text, plate_fault_name as plate_text, plate_fault_place as place_of};
 
 use pgm_plates::plate::PlateFault;
-use ps_tokens::faults::{FaultKind, Key};
+use ps_tokens::faults::FaultKind;
 
 /// The name of a kind of fault. Where a parameter is named too, a space stands behind it.
 pub(crate) fn kind_name(kind: FaultKind) -> &'static [u8]
@@ -45,25 +45,8 @@ pub(crate) fn named_key(kind: FaultKind) -> &'static [u8]
     ensures short { length result.now ≤ 20 }
 {
     match kind {
-        FaultKind::WrongKind(key) | FaultKind::OutOfRange(key) => key_name(key),
+        FaultKind::WrongKind(key) | FaultKind::OutOfRange(key) => key.name(),
         _ => b"",
-    }
-}
-
-fn key_name(key: Key) -> &'static [u8]
-    ensures name { result.now ≡ key_text key }
-    ensures short { length result.now ≤ 20 }
-{
-    match key {
-        Key::TrapWidth => b"TrapWidth",
-        Key::BlackWidth => b"BlackWidth",
-        Key::BlackColorLimit => b"BlackColorLimit",
-        Key::BlackDensityLimit => b"BlackDensityLimit",
-        Key::StepLimit => b"StepLimit",
-        Key::SlidingTrapLimit => b"SlidingTrapLimit",
-        Key::TrapColorScaling => b"TrapColorScaling",
-        Key::Enabled => b"Enabled",
-        Key::Trapping => b"Trapping",
     }
 }
 

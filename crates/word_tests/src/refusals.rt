@@ -1,6 +1,7 @@
 use page_model::page::PageFault;
 use pgm_plates::plate::PlateFault;
-use ps_tokens::faults::{FaultKind, JobFault, Key};
+use ps_tokens::faults::{FaultKind, JobFault};
+use ps_tokens::parameters::Key;
 use trap_report::fault_line::fault_line;
 use trap_report::refusal::{Refusal, status};
 

@@ -1,10 +1,10 @@
 -- The trapping parameters: their names in a job, and their ranges in ten-thousandths.
 use Rattle.std.specs.Prelude.{ℕ, List, codes}
-use Rattle.ps_tokens.specs.declared.faults.Key.{Key}
-use Rattle.ps_tokens.specs.declared.faults.Key.TheVariants.{TrapWidth, BlackWidth, BlackColorLimit}
-use Rattle.ps_tokens.specs.declared.faults.Key.TheVariants.{BlackDensityLimit, StepLimit}
-use Rattle.ps_tokens.specs.declared.faults.Key.TheVariants.{SlidingTrapLimit, TrapColorScaling}
-use Rattle.ps_tokens.specs.declared.faults.Key.TheVariants.{Enabled, Trapping}
+use Rattle.ps_tokens.specs.declared.parameters.Key.{Key}
+use Rattle.ps_tokens.specs.declared.parameters.Key.TheVariants.{TrapWidth, BlackWidth, BlackColorLimit}
+use Rattle.ps_tokens.specs.declared.parameters.Key.TheVariants.{BlackDensityLimit, StepLimit}
+use Rattle.ps_tokens.specs.declared.parameters.Key.TheVariants.{SlidingTrapLimit, TrapColorScaling}
+use Rattle.ps_tokens.specs.declared.parameters.Key.TheVariants.{Enabled, Trapping}
 
 -- a parameter's name
 abbrev pub name_of : Key → List ℕ
