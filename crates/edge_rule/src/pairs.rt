@@ -10,9 +10,10 @@ ghost use Rattle.page_model.specs.Page.{InPage, height, ink_at, plates, tint, wi
 ghost use Rattle.page_model.specs.Planes.{tints_of};
 ghost use Rattle.lists.specs.Words.{any_below};
 
-use neutral_density::{is_shut, kind_counts};
+use neutral_density::is_shut;
+use page_model::bounds::SCALE;
 use page_model::page::Page;
-use page_model::parts::{At, InkKind};
+use page_model::parts::At;
 
 /// The least fall of plate c, in tints, that is a step in the zone, or `None` where no fall is.
 fn least_step(page: &Page, zone: u32, c: u32) -> Option<u16>
@@ -24,8 +25,8 @@ fn least_step(page: &Page, zone: u32, c: u32) -> Option<u16>
 {
     let _valid = page.plates();
     let limit = u64::from(page.step_limit(zone, c)) * u64::from(page.maxval());
-    let least = limit.div_ceil(10_000).max(1);
-    if kind_counts(page.ink(c).kind) && least <= 65_535 {
+    let least = limit.div_ceil(u64::from(SCALE)).max(1);
+    if page.ink(c).kind.counts() && least <= 65_535 {
         Some(least as u16)
     } else {
         None
@@ -171,10 +172,7 @@ fn ink_shuts(page: &Page, c: u32) -> bool
     requires { c < plates page.now }
     ensures { result ≡ shuts (ink_at page.now c).kind }
 {
-    match page.ink(c).kind {
-        InkKind::OpaqueIgnore => true,
-        InkKind::Normal | InkKind::Transparent | InkKind::Opaque => false,
-    }
+    page.ink(c).kind.shuts()
 }
 
 /// Whether some ink of the page shuts the samples that it covers.

@@ -2,7 +2,7 @@ ghost use Rattle.std.specs.Prelude.{◌≡◌, ◌<◌};
 ghost use Rattle.page_model.specs.Page.{plates, InPage};
 ghost use Rattle.page_model.specs.Within.{black_plate, black_sample};
 
-use crate::inks::kind_counts;
+use page_model::bounds::SCALE;
 use page_model::page::Page;
 use page_model::parts::{At, TrapParams};
 
@@ -13,11 +13,11 @@ fn black_at(page: &Page, params: &TrapParams, p: At, c: u32) -> bool
 {
     let tint = page.tint(c, p.x, p.y);
     let ink = page.ink(c);
-    kind_counts(ink.kind)
+    ink.kind.counts()
         && params.black_density_limit <= ink.density
         && tint > 0
         && u64::from(params.black_color_limit) * u64::from(page.maxval())
-            <= u64::from(tint) * 10_000
+            <= u64::from(tint) * u64::from(SCALE)
 }
 
 /// Whether the sample has an ink that counts as black by these parameters: one as dense as BlackDensityLimit, with a tint

@@ -1,17 +1,10 @@
 ghost use Rattle.std.specs.Prelude.{◌≡◌, ◌<◌, ◌≤◌, ◌^◌};
-ghost use Rattle.page_model.specs.Density.{counts, density, weight};
+ghost use Rattle.page_model.specs.Density.{density, weight};
 ghost use Rattle.page_model.specs.Page.{plates, InPage};
 ghost use Rattle.page_model.specs.Limits.{most_ink_density};
 
 use page_model::page::Page;
-use page_model::parts::{At, InkKind};
-
-/// Whether an ink of this kind counts towards the density.
-pub fn kind_counts(kind: InkKind) -> bool
-    ensures { result ≡ counts kind }
-{
-    matches!(kind, InkKind::Normal | InkKind::Opaque)
-}
+use page_model::parts::At;
 
 /// What a unit of tint of plate c adds to the density: its ink's density in ten-thousandths where it counts, else 0.
 pub fn weight_of(page: &Page, c: u32) -> u32
@@ -20,11 +13,7 @@ pub fn weight_of(page: &Page, c: u32) -> u32
     ensures bound { result ≤ most_ink_density }
 {
     let ink = page.ink(c);
-    if kind_counts(ink.kind) {
-        ink.density
-    } else {
-        0
-    }
+    if ink.kind.counts() { ink.density } else { 0 }
 }
 
 /// The neutral density of a sample: its tints, each by its ink's density in ten-thousandths, over the inks that count.

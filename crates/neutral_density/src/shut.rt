@@ -3,7 +3,7 @@ ghost use Rattle.page_model.specs.Density.{shut, shuts};
 ghost use Rattle.page_model.specs.Page.{plates, InPage, ink_at, tint};
 
 use page_model::page::Page;
-use page_model::parts::{At, InkKind};
+use page_model::parts::At;
 
 /// Whether plate c shuts the sample.
 fn shuts_at(page: &Page, c: u32, p: At) -> bool
@@ -11,12 +11,7 @@ fn shuts_at(page: &Page, c: u32, p: At) -> bool
     requires sample { InPage page.now p }
     ensures { result ≡ (shuts (ink_at page.now c).kind && nat_lt 0 (tint page.now c p)) }
 {
-    let ink = page.ink(c);
-    let tint = page.tint(c, p.x, p.y);
-    match ink.kind {
-        InkKind::OpaqueIgnore => tint > 0,
-        InkKind::Normal | InkKind::Transparent | InkKind::Opaque => false,
-    }
+    page.ink(c).kind.shuts() && page.tint(c, p.x, p.y) > 0
 }
 
 /// Whether an OpaqueIgnore ink has a tint above 0 at the sample, which then takes no part in trapping.

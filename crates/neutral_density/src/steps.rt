@@ -3,7 +3,7 @@ ghost use Rattle.page_model.specs.Apart.{falls, apart};
 ghost use Rattle.page_model.specs.Page.{plates, InPage};
 ghost use Rattle.lists.specs.Words.{any_below};
 
-use crate::inks::kind_counts;
+use page_model::bounds::SCALE;
 use page_model::page::Page;
 use page_model::parts::At;
 
@@ -19,9 +19,9 @@ fn falls_at(page: &Page, zone: u32, p: At, q: At, c: u32) -> bool
     let there = page.tint(c, q.x, q.y);
     // most tints are the same on both sides, and the limit is sought by name
     there < here
-        && kind_counts(page.ink(c).kind)
+        && page.ink(c).kind.counts()
         && u64::from(page.step_limit(zone, c)) * u64::from(page.maxval())
-            <= u64::from(here - there) * 10_000
+            <= u64::from(here - there) * u64::from(SCALE)
 }
 
 fn some_falls(page: &Page, zone: u32, p: At, q: At) -> bool

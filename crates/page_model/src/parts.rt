@@ -34,6 +34,41 @@ pub enum InkKind {
     OpaqueIgnore,
 }
 
+impl InkKind {
+    ghost use Rattle.std.specs.Prelude.{◌≡◌};
+    ghost use Rattle.page_model.specs.Density.{counts, spreads, shuts};
+
+    /// Whether an ink of this kind counts towards the density.
+    pub fn counts(self) -> bool
+        ensures { result ≡ counts self }
+    {
+        match self {
+            InkKind::Normal | InkKind::Opaque => true,
+            InkKind::Transparent | InkKind::OpaqueIgnore => false,
+        }
+    }
+
+    /// Whether traps spread an ink of this kind.
+    pub fn spreads(self) -> bool
+        ensures { result ≡ spreads self }
+    {
+        match self {
+            InkKind::Normal => true,
+            InkKind::Transparent | InkKind::Opaque | InkKind::OpaqueIgnore => false,
+        }
+    }
+
+    /// Whether an ink of this kind shuts the samples that it covers: nothing is trapped there.
+    pub fn shuts(self) -> bool
+        ensures { result ≡ shuts self }
+    {
+        match self {
+            InkKind::OpaqueIgnore => true,
+            InkKind::Normal | InkKind::Transparent | InkKind::Opaque => false,
+        }
+    }
+}
+
 /// The ink of a plate: its colorant's name, its neutral density in ten-thousandths, and its kind.
 #[derive(Drop)]
 pub struct Ink {

@@ -11,14 +11,13 @@ use neutral_density::weight_of;
 use page_model::edges::across_of;
 use page_model::laws::full_density_law;
 use page_model::page::Page;
-use page_model::parts::{At, EdgeAt, InkKind};
+use page_model::parts::{At, EdgeAt};
 
 fn spreads_at(page: &Page, c: u32) -> bool
     requires { c < plates page.now }
     ensures { result ≡ spreads (ink_at page.now c).kind }
 {
-    let ink = page.ink(c);
-    matches!(ink.kind, InkKind::Normal)
+    page.ink(c).kind.spreads()
 }
 
 /// The tint of plate c at p where the inks of both sides of the edge lie one over the other.
