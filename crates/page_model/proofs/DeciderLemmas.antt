@@ -1,7 +1,6 @@
--- The first least edge of the doubled grid is the decider: it decides, and no deciding edge
--- comes before it.
+-- The decider that is computed is the decider of the rule, and the only one.
 use Rattle.std.specs.Prelude.{⊤}
-use Rattle.std.proofs.Common.{◌≡◌, ◌⊎◌, ℕ, ◌*◌, ◌-◌, ◌<◌, ◌≤◌, Bool, true, false, inl, inr, sym, ◌∙◌, arith, Option, Some, None}
+use Rattle.std.proofs.Common.{◌≡◌, ◌⊎◌, ℕ, ◌*◌, ◌-◌, ◌<◌, ◌≤◌, Bool, true, false, inl, inr, sym, ◌∙◌, ap, arith, Option, Some, None}
 use Rattle.std.specs.Option.{MatchOption, option_map}
 use Rattle.std.proofs.lemmas.Bool.{and_parts, and_from, eqb-true, eq-eqb, cases_lt, cases_order, false≢true}
 use Rattle.std.proofs.Math.Nat.{div-lt_iff_lt-mul}
@@ -9,10 +8,10 @@ use Rattle.page_model.specs.declared.parts.At.{At}
 use Rattle.page_model.specs.declared.parts.EdgeAt.{EdgeAt}
 use Rattle.page_model.specs.declared.parts.PageParts.{PageParts}
 use Rattle.page_model.specs.Conditions.{IsPage}
-use Rattle.page_model.specs.Decider.{decider, grid_point, grid_rows, grid_points, is_candidate, IsDecider, NoneDecides}
+use Rattle.page_model.specs.Decider.{AtMost, decider, grid_point, grid_rows, grid_points, is_candidate, IsDecider, NoneDecides}
 use Rattle.page_model.specs.Deciding.{decides}
 use Rattle.page_model.specs.Edges.{IsEdge, d2}
-use Rattle.page_model.specs.Page.{width}
+use Rattle.page_model.specs.Page.{height, width}
 use Rattle.page_model.specs.Planes.{no_plane}
 use Rattle.lists.specs.Words.{IsFirstLeast}
 use Rattle.lists.proofs.FirstLeast.{first_least-is}
@@ -68,23 +67,50 @@ decider_from page p e b =
 abbrev pub Decides : PageParts → At → Option EdgeAt → Type 0
 Decides page p o = MatchOption o (NoneDecides page) (IsDecider page p)
 
-mapped : (page : PageParts) (p : At) → IsPage page → (o : Option ℕ) → MatchOption o ((j : ℕ) → j < grid_points page → candidate page (grid_point page j) ≡ false) (IsFirstLeast (λ k. d2 p (grid_point page k)) (λ k. candidate page (grid_point page k)) (grid_points page)) → Decides page p (option_map (grid_point page) o)
-mapped page p valid None h = λ f edge d. none_from (2 * width page - 1) (grid_rows page) (candidate page) h f (omega (arith, edge.across_page)) (omega (arith, edge.down_page)) (candidate_from page f edge d)
-mapped page p valid (Some k) h = decider_from page p (grid_point page k) (best_from (2 * width page - 1) (grid_rows page) (d2 p) (candidate page) k (omega (arith, (valid.parts.planes_in_range 0 no_plane (omega (arith, valid.parts.some_plates))).some_height)) h)
+mapped : (page : PageParts) (p : At) → 1 ≤ height page → (o : Option ℕ) → MatchOption o ((j : ℕ) → j < grid_points page → candidate page (grid_point page j) ≡ false) (IsFirstLeast (λ k. d2 p (grid_point page k)) (λ k. candidate page (grid_point page k)) (grid_points page)) → Decides page p (option_map (grid_point page) o)
+mapped page p tall None h = λ f edge d. none_from (2 * width page - 1) (grid_rows page) (candidate page) h f (omega (arith, edge.across_page)) (omega (arith, edge.down_page)) (candidate_from page f edge d)
+mapped page p tall (Some k) h = decider_from page p (grid_point page k) (best_from (2 * width page - 1) (grid_rows page) (d2 p) (candidate page) k (omega (arith, tall)) h)
 
--- the computed decider is the decider
-pub decider-is : (page : PageParts) (p : At) → IsPage page → Decides page p (decider page p)
+-- the computed decider is the decider, on pages of any sides
+pub decider-is : (page : PageParts) (p : At) → 1 ≤ height page → Decides page p (decider page p)
 unfolding decider
-decider-is page p valid = mapped page p valid _ (first_least-is (λ k. d2 p (grid_point page k)) (λ k. candidate page (grid_point page k)) (grid_points page))
+decider-is page p tall = mapped page p tall _ (first_least-is (λ k. d2 p (grid_point page k)) (λ k. candidate page (grid_point page k)) (grid_points page))
+
+-- a page has rows
+pub some_rows : (page : PageParts) → IsPage page → 1 ≤ height page
+some_rows page valid = (valid.parts.planes_in_range 0 no_plane (omega (arith, valid.parts.some_plates))).some_height
 
 pub decider_found : (page : PageParts) (p : At) → IsPage page → MatchOption (decider page p) ⊤ (IsDecider page p)
-decider_found page p valid = go (decider page p) (decider-is page p valid) where
+decider_found page p valid = go (decider page p) (decider-is page p (some_rows page valid)) where
   go : (o : Option EdgeAt) → Decides page p o → MatchOption o ⊤ (IsDecider page p)
   go None h = tt
   go (Some e) h = h
 
 pub decider_none : (page : PageParts) (p : At) → IsPage page → decider page p ≡ None → NoneDecides page
-decider_none page p valid at = go (decider page p) (decider-is page p valid) at where
+decider_none page p valid at = go (decider page p) (decider-is page p (some_rows page valid)) at where
   go : (o : Option EdgeAt) → Decides page p o → o ≡ None → NoneDecides page
   go None h q = h
   go (Some e) h q = cc
+
+both_ways : (d d' x x' y y' : ℕ) → (d < d') ⊎ ((d ≡ d') × ((x < x') ⊎ ((x ≡ x') × (y ≤ y')))) → (d' < d) ⊎ ((d' ≡ d) × ((x' < x) ⊎ ((x' ≡ x) × (y' ≤ y)))) → (x ≡ x') × (y ≡ y')
+both_ways d d' x x' y y' (inl a) (inl b) = absurd (omega (arith, a, b))
+both_ways d d' x x' y y' (inl a) (inr b) = absurd (let e = b.0 in omega (arith, a, e))
+both_ways d d' x x' y y' (inr a) (inl b) = absurd (let e = a.0 in omega (arith, b, e))
+both_ways d d' x x' y y' (inr (e, inl a)) (inr (g, inl b)) = absurd (omega (arith, a, b))
+both_ways d d' x x' y y' (inr (e, inl a)) (inr (g, inr b)) = absurd (let c = b.0 in omega (arith, a, c))
+both_ways d d' x x' y y' (inr (e, inr a)) (inr (g, inl b)) = absurd (let c = a.0 in omega (arith, b, c))
+both_ways d d' x x' y y' (inr (e, inr a)) (inr (g, inr b)) = (a.0, (let c = a.1 in let f = b.1 in omega (arith, c, f)))
+
+-- of two edges each of which comes before the other one is the other
+least-unique : (p : At) (e f : EdgeAt) → AtMost p e f → AtMost p f e → e ≡ f
+least-unique p e f a b = (let same = both_ways (d2 p e) (d2 p f) e.x2 f.x2 e.y2 f.y2 a b in λ i. record { x2 = same.0 i; y2 = same.1 i })
+
+decider-unique : (page : PageParts) (p : At) (e f : EdgeAt) → IsDecider page p e → IsDecider page p f → e ≡ f
+decider-unique page p e f a b = least-unique p e f (a.least f b.edge b.deciding) (b.least e a.edge a.deciding)
+
+-- what is the decider is what is computed
+pub decider-from : (page : PageParts) (p : At) (e : EdgeAt) → 1 ≤ height page → IsDecider page p e → decider page p ≡ Some e
+decider-from page p e tall is = go (decider page p) (decider-is page p tall) where
+  go : (o : Option EdgeAt) → Decides page p o → o ≡ Some e
+  go None h = absurd (h e is.edge is.deciding)
+  go (Some f) h = ap Some (decider-unique page p f e h is)

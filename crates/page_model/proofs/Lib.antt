@@ -17,3 +17,5 @@ pub mod SubpathLemmas
 pub mod BandLemmas
 pub mod MarkLemmas
 pub mod TintLemmas
+pub mod NumberSums
+pub mod EdgeSums

@@ -1,5 +1,5 @@
--- Beyond the reach nothing is trapped, so the nearest edges of the columns are enough.
-use Rattle.std.proofs.Common.{◌≡◌, ℕ, ◌+◌, ◌*◌, ◌<◌, ◌≤◌, Bool, true, false, nat_lt, not, ◌&&◌, ◌||◌, inl, inr, refl, sym, ◌∙◌, ap, arith, length, if◌then◌else◌, Option, Some, None}
+-- What lies beyond the reach of a page traps nothing.
+use Rattle.std.proofs.Common.{◌≡◌, ℕ, ◌+◌, ◌*◌, ◌-◌, ◌<◌, ◌≤◌, Bool, true, false, nat_lt, not, ◌&&◌, ◌||◌, inl, inr, refl, sym, ◌∙◌, ap, arith, length, if◌then◌else◌, Option, Some, None}
 use Rattle.std.specs.Option.{MatchOption}
 use Rattle.std.proofs.lemmas.Bool.{cases_lt}
 use Rattle.page_model.specs.declared.parts.At.{At}
@@ -21,13 +21,14 @@ use Rattle.page_model.specs.Trapped.{trapped_in, trapped_by}
 use Rattle.page_model.specs.Within.{black, edge_slid, within_in}
 use Rattle.lists.specs.Words.{gap, square}
 use Rattle.page_model.specs.Zones.{zone_of}
-use Rattle.page_model.proofs.ZoneLemmas.{zone_of-is}
-use Rattle.page_model.proofs.DeciderLemmas.{Decides, decider-is}
+use Rattle.page_model.proofs.ZoneLemmas.{greatest_cover-is}
+use Rattle.page_model.proofs.DeciderLemmas.{Decides, decider-is, some_rows}
 use Rattle.page_model.proofs.ReachLemmas.{at_most_greatest, square_at_most, not_near, five_false}
 use Rattle.page_model.proofs.ColumnDecider.{IsDecidingEdge, decider_by_columns, columns_decide}
 
-zone_known : (page : PageParts) (p : At) → IsPage page → zone_of page p < length page.zones
-zone_known page p valid = (zone_of-is page p valid).known
+zone_known : (page : PageParts) (p : At) → 1 ≤ length page.zones → zone_of page p < length page.zones
+unfolding zone_of
+zone_known page p some = (let most = (greatest_cover-is page p (length page.zones - 1)).most in omega (arith, most, some))
 
 enabled_reach : (page : PageParts) (z : ℕ) → z < length page.zones → (params_at page z).enabled ≡ true → params_reach page.resolution (params_at page z) ≤ page_reach page
 unfolding page_reach
@@ -47,16 +48,16 @@ far_apart p e f reach (inl less) far = omega (arith, less, square_at_most (reach
 far_apart p e f reach (inr same) far = omega (arith, same.0, square_at_most (reach + 1) (gap e.y2 (2 * p.y)) (omega arith))
 
 beyond : (page : PageParts) (p : At) (e : EdgeAt) → IsPage page → IsDecider page p e → page_reach page < gap e.y2 (2 * p.y) → (params_at page (zone_of page p)).enabled ≡ true → NoneWithin page p
-beyond page p e valid is far on = λ f edge d. not_within page (zone_of page p) p f (zone_known page p valid) (far_apart p e f (page_reach page) (is.least f edge d) far) on
+beyond page p e valid is far on = λ f edge d. not_within page (zone_of page p) p f (zone_known page p valid.parts.some_zones) (far_apart p e f (page_reach page) (is.least f edge d) far) on
 
 is_decider : (page : PageParts) (p : At) (e : EdgeAt) → IsPage page → decider page p ≡ Some e → IsDecider page p e
-is_decider page p e valid at = go (decider page p) (decider-is page p valid) at where
+is_decider page p e valid at = go (decider page p) (decider-is page p (some_rows page valid)) at where
   go : (o : Option EdgeAt) → Decides page p o → o ≡ Some e → IsDecider page p e
   go None h q = cc
   go (Some f) h q = (let same : f ≡ e = cc in rw (← same) h)
 
 no_decider : (page : PageParts) (p : At) → IsPage page → decider page p ≡ None → NoneWithin page p
-no_decider page p valid at = λ f edge d. absurd (go (decider page p) (decider-is page p valid) at f edge d) where
+no_decider page p valid at = λ f edge d. absurd (go (decider page p) (decider-is page p (some_rows page valid)) at f edge d) where
   go : (o : Option EdgeAt) → Decides page p o → o ≡ None → (f : EdgeAt) → IsEdge page f → decides page f ≡ true → ⊥
   go None h q f edge d = h f edge d
   go (Some e) h q f edge d = cc
@@ -78,9 +79,9 @@ unfolding new_in
 kept_by page z p f c h = ap (λ (b : Bool). if b && spreads (ink_at page c).kind then scaled_in page z p f c else tint page c p) h
 
 -- the edge of an option traps nothing
-record TrapsNothing (page : PageParts) (p : At) (o : Option EdgeAt) : Type 0 where
-  trapped : trapped_by page p o ≡ false
-  tints : (c : ℕ) → new_from page p c o ≡ tint page c p
+pub record TrapsNothing (page : PageParts) (p : At) (o : Option EdgeAt) : Type 0 where
+  pub trapped : trapped_by page p o ≡ false
+  pub tints : (c : ℕ) → new_from page p c o ≡ tint page c p
 
 traps_nothing : (page : PageParts) (p : At) (o : Option EdgeAt) → MatchOption o (Unit {0}) (IsDecidingEdge page) → ((params_at page (zone_of page p)).enabled ≡ true → NoneWithin page p) → TrapsNothing page p o
 traps_nothing page p None h none = record { trapped = refl; tints = λ c. refl }
@@ -88,8 +89,14 @@ traps_nothing page p (Some f) h none =
     let off = not_trapped page (zone_of page p) p f (λ on. none on f h.edge h.deciding) in
     record { trapped = off; tints = λ c. kept_by page (zone_of page p) p f c off }
 
+-- an edge beyond the reach traps nothing
+pub far_traps_nothing : (page : PageParts) (p : At) (f : EdgeAt) → 1 ≤ length page.zones → square (page_reach page + 1) ≤ d2 p f → TrapsNothing page p (Some f)
+far_traps_nothing page p f some far =
+    let off = not_trapped page (zone_of page p) p f (λ on. not_within page (zone_of page p) p f (zone_known page p some) far on) in
+    record { trapped = off; tints = λ c. kept_by page (zone_of page p) p f c off }
+
 pub traps_by_columns : (page : PageParts) (p : At) → IsPage page → TrapsByColumns page p
-traps_by_columns page p valid = go (decider page p) (decider-is page p valid) refl where
+traps_by_columns page p valid = go (decider page p) (decider-is page p (some_rows page valid)) refl where
   both : (o : Option EdgeAt) → decider page p ≡ o → TrapsNothing page p o → TrapsNothing page p (column_decider page (page_reach page) p) → TrapsByColumns page p
   both o at a b = record {
     trapped_alike = b.trapped ∙ sym a.trapped ∙ ap (trapped_by page p) (sym at);
@@ -114,7 +121,7 @@ keeps_unless_within page p = record {
 }
 
 pub keeps_by_edges : (page : PageParts) (p : At) → IsPage page → NoneWithin page p → Keeps page p
-keeps_by_edges page p valid none = go (decider page p) (decider-is page p valid) refl where
+keeps_by_edges page p valid none = go (decider page p) (decider-is page p (some_rows page valid)) refl where
   go : (o : Option EdgeAt) → Decides page p o → decider page p ≡ o → Keeps page p
   go None h at = (keeps_unless_within page p).none at
   go (Some e) h at = (keeps_unless_within page p).far e at (none e h.edge h.deciding)

@@ -64,7 +64,8 @@ fn difference_at(parts: &PageParts, c: u32) -> Option<PageFault>
     }
 }
 
-fn first_difference(parts: &PageParts) -> Option<PageFault>
+/// The first plate that differs from plate 0.
+pub fn first_difference(parts: &PageParts) -> Option<PageFault>
     requires some { 1 ≤ plates parts.now }
     requires few { plates parts.now ≤ most_plates }
     ensures { result ≡ first_some (difference parts.now) (plates parts.now) }

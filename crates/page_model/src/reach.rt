@@ -7,7 +7,7 @@ use crate::bounds::{HALF_SAMPLE, SCALE};
 use crate::parts::{PageParts, TrapParams};
 
 /// The reach of an enabled zone in half-samples.
-fn reach_of(params: &TrapParams, resolution: u32) -> u32
+pub fn reach_of(params: &TrapParams, resolution: u32) -> u32
     requires params { InRange params.now }
     requires resolution { resolution ≤ most_resolution }
     ensures { result ≡ params_reach resolution params.now }

@@ -1,0 +1,12 @@
+pub mod Parts
+pub mod Turns
+pub mod Zones
+pub mod Rules
+pub mod Windows
+pub mod Areas
+pub mod Tiles
+pub mod Pages
+pub mod Whole
+pub mod SpanLemmas
+pub mod PlanLemmas
+pub mod StripLemmas

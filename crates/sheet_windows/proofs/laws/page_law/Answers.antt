@@ -1,0 +1,5 @@
+use Rattle.sheet_windows.proofs.Pages.{sheet_is_page}
+use Rattle.sheet_windows.proofs.laws.page_law.Goals as goal
+
+pub returns : goal.returns
+returns c = λ sheet is narrow low few. sheet_is_page sheet is narrow low few

@@ -1,0 +1,124 @@
+// How a side of a sheet is cut.
+
+ghost use Rattle.std.specs.Prelude.{◌≡◌, ◌≢◌, ℕ, ◌*◌, ◌%◌, ◌<◌, ◌≤◌, false, true, IfOk};
+ghost use Rattle.page_model.specs.Limits.{most_resolution, scale};
+ghost use Rattle.sheet_windows.specs.Spans.{AreSpans, IsRuler, IsSpan, IsWindow};
+
+use lists::names::OutOfMemory;
+use std::alloc::Global;
+
+/// How a side is cut, all in samples: the side; how far a window goes on beyond its core; of what
+/// the places of windows are multiples, counted from the side's end where `from_end` is true; and
+/// how many a window has at most.
+#[derive(Clone, Copy, Debug, Drop, PartialEq, Eq)]
+pub struct Ruler {
+    pub side: u32,
+    pub halo: u32,
+    pub step: u32,
+    pub most: u32,
+    pub from_end: bool,
+}
+
+/// The samples of a window along a side: where on the side they begin, and how many they are; and
+/// of its core, how many of the window's stand before it, and how many it has.
+#[derive(Clone, Copy, Debug, Drop, PartialEq, Eq)]
+pub struct Span {
+    pub from: u32,
+    pub wide: u32,
+    pub skip: u32,
+    pub core: u32,
+}
+
+/// The least number of samples, at a resolution in samples to an inch, that is a whole number of
+/// ten-thousandths of a point: the resolution over its greatest common divisor with 720,000.
+pub fn step_of(resolution: u32) -> u32
+    requires some { 1 ≤ resolution }
+    requires fine { resolution ≤ most_resolution }
+    ensures some { 1 ≤ result }
+    ensures few { result ≤ resolution }
+    ensures exact { (72 * scale * result) % resolution ≡ 0 }
+    ensures least { (k : ℕ) → 1 ≤ k → k < result → (72 * scale * k) % resolution ≢ 0 }
+{
+    for step in 1..resolution {
+        if 720_000 * u64::from(step) % u64::from(resolution) == 0 {
+            return step;
+        }
+    }
+    resolution
+}
+
+/// The span whose core begins at that sample of the side, as wide as may be.
+pub fn span_at(ruler: &Ruler, at: u32) -> Span
+    requires ruler { IsRuler ruler.now }
+    requires inside { at < ruler.now.side }
+    ensures { IsSpan ruler.now at result }
+{
+    if ruler.from_end {
+        span_from_end(ruler, at)
+    } else {
+        span_from_start(ruler, at)
+    }
+}
+
+// Where steps are counted from the side's first sample, the window begins at one.
+fn span_from_start(ruler: &Ruler, at: u32) -> Span
+    requires ruler { IsRuler ruler.now }
+    requires inside { at < ruler.now.side }
+    requires way { ruler.now.from_end ≡ false }
+    ensures { IsSpan ruler.now at result }
+{
+    let from = at.saturating_sub(ruler.halo) / ruler.step * ruler.step;
+    let wide = ruler.most.min(ruler.side - from);
+    span_of(ruler, at, from, wide)
+}
+
+// Where they are counted from its last one, the window ends before one.
+fn span_from_end(ruler: &Ruler, at: u32) -> Span
+    requires ruler { IsRuler ruler.now }
+    requires inside { at < ruler.now.side }
+    requires way { ruler.now.from_end ≡ true }
+    ensures { IsSpan ruler.now at result }
+{
+    let from = at.saturating_sub(ruler.halo);
+    let rest = ruler.side - from;
+    let after = rest.saturating_sub(ruler.most).div_ceil(ruler.step) * ruler.step;
+    span_of(ruler, at, from, rest - after)
+}
+
+// The span of a window: its core ends with the side, or so far before the end of the window that
+// the halo after it lies in the window.
+fn span_of(ruler: &Ruler, at: u32, from: u32, wide: u32) -> Span
+    requires ruler { IsRuler ruler.now }
+    requires window { IsWindow ruler.now at from wide }
+    ensures { IsSpan ruler.now at result }
+{
+    let skip = at - from;
+    let core = if from + wide < ruler.side {
+        wide - skip - ruler.halo.max(1)
+    } else {
+        wide - skip
+    };
+    Span {
+        from,
+        wide,
+        skip,
+        core,
+    }
+}
+
+/// The spans of a side, from its first sample to its last.
+pub fn spans_of(alloc: Global, ruler: &Ruler) -> Result<Vec<Span>, OutOfMemory>
+    requires { IsRuler ruler.now }
+    ensures { IfOk result (λ spans. AreSpans ruler.now 0 spans.items ruler.now.side) }
+{
+    let mut spans = Vec::new(alloc);
+    let mut done = 0;
+    while done < ruler.side {
+        let span = span_at(ruler, done);
+        if spans.push(span).is_err() {
+            return Err(OutOfMemory);
+        }
+        done += span.core;
+    }
+    Ok(spans)
+}

@@ -1,0 +1,7 @@
+//! A sheet of any sides trapped strip by strip, tile by tile: each window as a page of its own,
+//! and what is counted in its core is added.
+#![tactic(auto)]
+
+pub mod strip;
+pub mod tints;
+pub mod whole;

@@ -1,0 +1,7 @@
+//! The window of a sheet as a page: its columns and rows of each plane, and the sheet's inks and
+//! zones from the window's corner.
+#![tactic(auto)]
+
+mod copies;
+mod planes;
+pub mod sheet;
