@@ -33,6 +33,11 @@ pub once_before : (a b c : ℕ) → b ≡ a → RoseOnce b c → RoseOnce a c
 once_before a b c same once = once ∙ ap one_more same
 
 -- A rise at first is a rise to the end.
+pub rose_after : (a b c : ℕ) → a ≤ b → b ≤ c → Rose a b → Rose a c
+rose_after a b c first then (inl less) = inl (omega arith)
+rose_after a b c first then (inr last) = elim (cases_lt a c) [ inl less ↦ inl less | inr back ↦ inr (omega arith) ]
+
+-- What is told once is told later on.
 pub told_on : (a b : RackState) → KeepsRack a b → IsTrue a.tells → IsTrue b.tells
 told_on a b keeps tells = keeps.tells ∙ tells
 

@@ -120,15 +120,17 @@ plates_written outputs planes a b x same keeps told wrote = record {
   told = told;
   asked = subst (λ (names : List (List ℕ)). AsksFront a.asked b.asked names) (plates_names outputs planes same) (all_front (plate_files outputs planes) a b wrote);
   answer = wrote;
+  once = tt;
 }
 
 -- a plate breaks
-pub plate_broken : {T : Type 0} (outputs : List (List ℕ)) (planes : List Plane) (k : ℕ) (a b : RackState) → length planes ≡ length outputs → KeepsRack a b → (IsTrue a.tells → b.told ≡ a.told) → BreaksAt (plate_files outputs planes) k a b → WritesPlates {T = T} outputs planes a b (Err (Write (Some k)))
-plate_broken outputs planes k a b same keeps told broke = record {
+pub plate_broken : {T : Type 0} (outputs : List (List ℕ)) (planes : List Plane) (k : ℕ) (a b : RackState) → length planes ≡ length outputs → KeepsRack a b → (IsTrue a.tells → b.told ≡ a.told) → RoseOnce a.faults b.faults → BreaksAt (plate_files outputs planes) k a b → WritesPlates {T = T} outputs planes a b (Err (Write (Some k)))
+plate_broken outputs planes k a b same keeps told once broke = record {
   keeps = keeps;
   told = told;
   asked = subst (λ (names : List (List ℕ)). AsksFront a.asked b.asked names) (plates_names outputs planes same) (breaks_front (plate_files outputs planes) k a b broke);
   answer = (omega (arith, breaks_below (plate_files outputs planes) k a b broke, plates_length outputs planes (omega (arith, same)), same), broke);
+  once = once;
 }
 
 pub page_names : (outputs : List (List ℕ)) (planes : List Plane) (report text : List ℕ) → length planes ≡ length outputs → names_of (page_files outputs planes report text) ≡ outputs ++ report ∷ []
@@ -146,6 +148,7 @@ page_written outputs planes report text a b c x y z same plates now =
       told = λ tells. now.told (told_on a b plates.keeps tells) ∙ plates.told tells;
       asked = as_front outputs planes report text a c same (all_front (page_files outputs planes report text) a c all);
       answer = all;
+      once = tt;
     }
 
 -- the plates, and then a fault at the report
@@ -160,6 +163,7 @@ report_broken outputs planes report text a b c x e same plates now =
       told = λ tells. now.told (told_on a b plates.keeps tells) ∙ plates.told tells;
       asked = as_front outputs planes report text a c same (breaks_front (page_files outputs planes report text) (length outputs) a c broke);
       answer = broke;
+      once = once_before a.faults b.faults c.faults plates.answer.well now.once;
     }
 
 -- a fault at a plate
@@ -172,5 +176,6 @@ plates_broken outputs planes report text a b (Write (Some k)) same plates =
       told = plates.told;
       asked = as_front outputs planes report text a b same (breaks_front (page_files outputs planes report text) k a b broke);
       answer = (plates.answer.0, broke);
+      once = plates.once;
     }
 plates_broken outputs planes report text a b other same plates = absurd plates.answer
