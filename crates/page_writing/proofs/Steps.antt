@@ -26,7 +26,7 @@ pub wrote_none : (files : List Written) (a : RackState) → files ≡ [] → Wri
 wrote_none files a none = subst (λ (fs : List Written). WritesAll fs a a) (sym none) (record { asked = asks_none a.asked; whole = λ tells. refl; finished = λ tells. asks_none a.finished; shut = λ some. absurd (omega arith); well = refl })
 
 -- files that are finished, and then others
-finished_then : (names more : List (List ℕ)) (a b c : RackState) → KeepsRack a b → FinishesAll names a b → FinishesAll more b c → FinishesAll (names ++ more) a c
+pub finished_then : (names more : List (List ℕ)) (a b c : RackState) → KeepsRack a b → FinishesAll names a b → FinishesAll more b c → FinishesAll (names ++ more) a c
 finished_then names more a b c keeps one two tells = asks_then a.finished b.finished c.finished names more (one tells) (two (told_on a b keeps tells))
 
 -- one file more
