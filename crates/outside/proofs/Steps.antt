@@ -1,9 +1,11 @@
 -- One call of a rack or a tray after another.
 use Rattle.std.proofs.Common.{◌≡◌, ℕ, ◌≤◌, ◌+◌, min, List, [], ◌++◌, ◌∷◌, take, length, Result, Ok, Err, IsTrue, arith, inl, inr, refl, sym, ap, ◌∙◌, subst}
 use Rattle.std.proofs.Math.Seq.{take-length, take-append-add}
+use Rattle.std.proofs.lemmas.Bool.{cases_lt}
 use Rattle.std.proofs.lemmas.List.{take-append-le, take_min, length-take-le}
-use Rattle.outside.specs.Causes.{Rose, Asks}
-use Rattle.outside.specs.Rack.{RackState, KeepsRack, Creates, Writes, Finishes}
+use Rattle.outside.specs.Counts.{one_more}
+use Rattle.outside.specs.Causes.{Rose, RoseOnce, Asks}
+use Rattle.outside.specs.Rack.{RackState, KeepsRack, Creates, Writes, Finishes, FinishesFile}
 use borrow.Rule.Slice.PartMut.{put_mid, post_of}
 use Rattle.std.proofs.Common.{append_assoc}
 use Rattle.outside.specs.Tray.{TrayState, KeepsTray, Reads}
@@ -22,9 +24,34 @@ pub rose_before : (a b c : ℕ) → a ≤ b → Rose b c → Rose a c
 rose_before a b c le (inl less) = inl (omega arith)
 rose_before a b c le (inr last) = inr last
 
+-- A rise by one is a rise.
+pub rose_once : (a b : ℕ) → RoseOnce a b → Rose a b
+rose_once a b once = elim (cases_lt a b) [ inl less ↦ inl less | inr last ↦ inr (omega arith) ]
+
+-- A rise by one, where the count stayed before.
+pub once_before : (a b c : ℕ) → b ≡ a → RoseOnce b c → RoseOnce a c
+once_before a b c same once = once ∙ ap one_more same
+
 -- A rise at first is a rise to the end.
+pub rose_after : (a b c : ℕ) → a ≤ b → b ≤ c → Rose a b → Rose a c
+rose_after a b c first then (inl less) = inl (omega arith)
+rose_after a b c first then (inr last) = elim (cases_lt a c) [ inl less ↦ inl less | inr back ↦ inr (omega arith) ]
+
+-- What is told once is told later on.
 pub told_on : (a b : RackState) → KeepsRack a b → IsTrue a.tells → IsTrue b.tells
 told_on a b keeps tells = keeps.tells ∙ tells
+
+-- A file that is finished after calls that finish none.
+pub finished_after : (name : List ℕ) (a b c : RackState) → KeepsRack a b → b.finished ≡ a.finished → FinishesFile name b c → FinishesFile name a c
+finished_after name a b c keeps same finished tells = subst (λ o. Asks o c.finished (name ∷ [])) same (finished (told_on a b keeps tells))
+
+-- .. and before calls that finish none
+pub finished_before : (name : List ℕ) (a b c : RackState) → c.finished ≡ b.finished → FinishesFile name a b → FinishesFile name a c
+finished_before name a b c same finished tells = subst (λ o. Asks a.finished o (name ∷ [])) (sym same) (finished tells)
+
+-- The file that was created last is the one that is finished.
+finished_named : (name : List ℕ) (a b c : RackState) → (IsTrue a.tells → b.current ≡ name) → FinishesFile b.current a c → FinishesFile name a c
+finished_named name a b c current finished tells = subst (λ n. Asks a.finished c.finished (n ∷ [])) (current tells) (finished tells)
 
 pub written_then_finished : {T U E D : Type 0} (bytes : List ℕ) (a b c : RackState) (x : T) (r : Result U D) → WritesOn {T = T} {E = E} bytes a b (Ok x) → Finishes b c r → FillsFile bytes a c r
 written_then_finished bytes a b c x (Ok y) wrote finished = record {
@@ -32,22 +59,28 @@ written_then_finished bytes a b c x (Ok y) wrote finished = record {
   asked = finished.asked ∙ wrote.asked;
   told = λ tells. finished.told (told_on a b wrote.keeps tells) ∙ wrote.told tells;
   shut = finished.shut;
+  finished = λ tells. finished_after a.current a b c wrote.keeps wrote.finished (λ told. subst (λ n. Asks b.finished c.finished (n ∷ [])) (wrote.current tells) (finished.finished told)) tells;
+  unfinished = tt;
   kept = tt;
   files = λ tells. grows_kept bytes a b c (finished.files (told_on a b wrote.keeps tells)) (wrote.files tells);
   part = tt;
   well = finished.fails.well ∙ wrote.well;
   cause = tt;
+  once = tt;
 }
 written_then_finished bytes a b c x (Err e) wrote finished = record {
   keeps = kept_then a b c wrote.keeps finished.keeps;
   asked = finished.asked ∙ wrote.asked;
   told = λ tells. finished.told (told_on a b wrote.keeps tells) ∙ wrote.told tells;
   shut = tt;
+  finished = tt;
+  unfinished = finished.unfinished ∙ wrote.finished;
   kept = finished.kept.0 ∙ wrote.is_open;
   files = tt;
   part = λ tells. (length bytes, subst (λ (x : List ℕ). Grows x a c) (sym (take-length bytes)) (grows_kept bytes a b c (finished.files (told_on a b wrote.keeps tells)) (wrote.files tells)));
   well = tt;
   cause = rose_before a.faults b.faults c.faults wrote.keeps.faults finished.fails.cause;
+  once = once_before a.faults b.faults c.faults wrote.well finished.fails.once;
 }
 
 pub created_then_filled : {T U E D : Type 0} (name bytes : List ℕ) (a b c : RackState) (x : T) (r : Result U D) → Creates {T = T} {E = E} name a b (Ok x) → FillsFile bytes b c r → WritesFile name bytes a c r
@@ -56,27 +89,34 @@ created_then_filled name bytes a b c x (Ok y) created filled = record {
   asked = subst (λ o. Asks a.asked o (name ∷ [])) (sym filled.asked) created.asked;
   told = λ tells. filled.told (told_on a b created.keeps tells) ∙ created.told tells;
   shut = filled.shut;
+  finished = finished_named name a b c created.current (finished_after b.current a b c created.keeps created.finished filled.finished);
+  unfinished = tt;
   files = λ tells. grows_put name bytes a b c (created.current tells) (created.files tells) (filled.files (told_on a b created.keeps tells));
   part = tt;
   well = filled.well ∙ created.fails.well;
   cause = tt;
+  once = tt;
 }
 created_then_filled name bytes a b c x (Err e) created filled = record {
   keeps = kept_then a b c created.keeps filled.keeps;
   asked = subst (λ o. Asks a.asked o (name ∷ [])) (sym filled.asked) created.asked;
   told = λ tells. filled.told (told_on a b created.keeps tells) ∙ created.told tells;
   shut = tt;
+  finished = tt;
+  unfinished = filled.unfinished ∙ created.finished;
   files = tt;
   part = λ tells. let p = filled.part (told_on a b created.keeps tells) in inr (filled.kept ∙ created.opened, (p.0, grows_put name (take p.0 bytes) a b c (created.current tells) (created.files tells) p.1));
   well = tt;
   cause = rose_before a.faults b.faults c.faults created.keeps.faults filled.cause;
+  once = once_before a.faults b.faults c.faults created.fails.well filled.once;
 }
 
 -- Where a write fails after some of the piece is written, nothing more is.
-pub write_failed : {U E D : Type 0} (piece rest : List ℕ) (done : ℕ) (a b c : RackState) (e : E) (d : D) → KeepsRack a b → b.asked ≡ a.asked → (IsTrue a.tells → b.told ≡ a.told) → b.is_open ≡ a.is_open → (IsTrue a.tells → b.current ≡ a.current) → (IsTrue a.tells → Grows (take done piece) a b) → Writes rest b c (Err e) → WritesOn {T = U} piece a c (Err d)
-write_failed piece rest done a b c e d keeps asked told is_open current files wrote = record {
+pub write_failed : {U E D : Type 0} (piece rest : List ℕ) (done : ℕ) (a b c : RackState) (e : E) (d : D) → KeepsRack a b → b.asked ≡ a.asked → b.finished ≡ a.finished → b.faults ≡ a.faults → (IsTrue a.tells → b.told ≡ a.told) → b.is_open ≡ a.is_open → (IsTrue a.tells → b.current ≡ a.current) → (IsTrue a.tells → Grows (take done piece) a b) → Writes rest b c (Err e) → WritesOn {T = U} piece a c (Err d)
+write_failed piece rest done a b c e d keeps asked finished well told is_open current files wrote = record {
   keeps = kept_then a b c keeps wrote.keeps;
   asked = wrote.asked ∙ asked;
+  finished = wrote.finished ∙ finished;
   told = λ tells. wrote.told (told_on a b keeps tells) ∙ told tells;
   is_open = wrote.is_open ∙ is_open;
   current = λ tells. wrote.current (told_on a b keeps tells) ∙ current tells;
@@ -84,6 +124,7 @@ write_failed piece rest done a b c e d keeps asked told is_open current files wr
   part = λ tells. (done, grows_kept (take done piece) a b c (wrote.fails.files (told_on a b keeps tells)) (files tells));
   well = tt;
   cause = rose_before a.faults b.faults c.faults keeps.faults wrote.fails.cause;
+  once = once_before a.faults b.faults c.faults well wrote.fails.once;
 }
 
 -- Two pieces, one behind the other.
@@ -91,6 +132,7 @@ pub writes_then : {T U E D : Type 0} (p q : List ℕ) (a b c : RackState) (x : T
 writes_then p q a b c x (Ok y) one two = record {
   keeps = kept_then a b c one.keeps two.keeps;
   asked = two.asked ∙ one.asked;
+  finished = two.finished ∙ one.finished;
   told = λ tells. two.told (told_on a b one.keeps tells) ∙ one.told tells;
   is_open = two.is_open ∙ one.is_open;
   current = λ tells. two.current (told_on a b one.keeps tells) ∙ one.current tells;
@@ -98,10 +140,12 @@ writes_then p q a b c x (Ok y) one two = record {
   part = tt;
   well = two.well ∙ one.well;
   cause = tt;
+  once = tt;
 }
 writes_then p q a b c x (Err e) one two = record {
   keeps = kept_then a b c one.keeps two.keeps;
   asked = two.asked ∙ one.asked;
+  finished = two.finished ∙ one.finished;
   told = λ tells. two.told (told_on a b one.keeps tells) ∙ one.told tells;
   is_open = two.is_open ∙ one.is_open;
   current = λ tells. two.current (told_on a b one.keeps tells) ∙ one.current tells;
@@ -111,6 +155,7 @@ writes_then p q a b c x (Err e) one two = record {
       (length p + k.0, subst (λ (x : List ℕ). Grows x a c) (sym (take-append-add p q k.0)) (grows_then p (take k.0 q) a b c (one.current tells) (one.files tells) k.1));
   well = tt;
   cause = rose_before a.faults b.faults c.faults one.keeps.faults two.cause;
+  once = once_before a.faults b.faults c.faults one.well two.once;
 }
 
 -- Where a piece fails, nothing of what comes behind it is written.
@@ -118,6 +163,7 @@ pub writes_stopped : {T U E D : Type 0} (p q : List ℕ) (a b : RackState) (e : 
 writes_stopped p q a b e d one = record {
   keeps = one.keeps;
   asked = one.asked;
+  finished = one.finished;
   told = one.told;
   is_open = one.is_open;
   current = one.current;
@@ -127,12 +173,14 @@ writes_stopped p q a b e d one = record {
       (min k.0 (length p), subst (λ (x : List ℕ). Grows x a b) (sym (take-append-le (min k.0 (length p)) p q (omega arith) ∙ take_min k.0 p)) k.1);
   well = tt;
   cause = one.cause;
+  once = one.once;
 }
 
 pub writes_none : {E : Type 0} (a : RackState) → WritesOn {T = Unit {0}} {E = E} [] a a (Ok tt)
 writes_none a = record {
   keeps = record { tells = refl; faults = omega arith };
   asked = refl;
+  finished = refl;
   told = λ tells. refl;
   is_open = refl;
   current = λ tells. refl;
@@ -140,6 +188,7 @@ writes_none a = record {
   part = tt;
   well = refl;
   cause = tt;
+  once = tt;
 }
 
 pub writes_as : {T E : Type 0} (p q : List ℕ) → p ≡ q → (a b : RackState) (r : Result T E) → WritesOn p a b r → WritesOn q a b r

@@ -1,10 +1,10 @@
+pub mod Counts
 pub mod Causes
 pub mod Tray
 pub mod Rack
 pub mod Reading
 pub mod Writing
 pub mod MemFiles
-pub mod Counts
 pub mod MemTrays
 pub mod Shelf
 pub mod MemRacks

@@ -19,6 +19,8 @@ pub record MemRackState : Type 0 where
   pub calls : ℕ
   -- the names handed to `create`, while there was memory for them
   pub asked : Option (List (List ℕ))
+  -- the names of the files that were finished, while there was memory for them
+  pub finished : Option (List (List ℕ))
   pub faults : ℕ
 
 -- what it means as a rack: it tells all
@@ -30,12 +32,13 @@ rack_of m = record {
   is_open = m.is_open;
   current = name_of m.current;
   asked = m.asked;
+  finished = m.finished;
   faults = m.faults;
 }
 
 -- no file, no text, and no call yet
 abbrev pub fresh_rack : ℕ → ℕ → List ℕ → MemRackState
-fresh_rack grain room fails = record { done = []; current = None; told = []; is_open = false; grain = grain; room = room; fails = fails; calls = 0; asked = Some []; faults = 0 }
+fresh_rack grain room fails = record { done = []; current = None; told = []; is_open = false; grain = grain; room = room; fails = fails; calls = 0; asked = Some []; finished = Some []; faults = 0 }
 
 -- A call counts, and it counts as a fault exactly where it fails. It fails where its number is listed.
 pub record CountsRack {T E : Type 0} (before after : MemRackState) (result : Result T E) : Type 0 where

@@ -1,23 +1,27 @@
 ghost use Rattle.std.specs.Prelude.{◌≡◌};
 ghost use Rattle.outside.specs.Disk.{fresh_disk};
 
+use crate::disk_file::DiskFile;
 use crate::mem_calls::fault;
 use crate::rack::Rack;
 use crate::tray::Failed;
 use std::io::Write;
 use std::marker::Model;
+use std::io;
 use std::rt::Files;
-use std::{fs, io};
 
 /// The files of a disk, and standard output. It tells nothing of what they hold.
+///
+/// A file takes its name when it is finished, by which it is whole and written through to the disk: until then, and where
+/// a call fails, what stood there stands, and what was begun is removed when the rack goes on or is let go.
 #[derive(Drop)]
-pub struct DiskRack<'a, R: Files + Print> {
+pub struct DiskRack<'a, R: Files + Alloc + Print> {
     files: &'a R,
-    current: Option<R::File>,
+    current: Option<DiskFile<'a, R>>,
     faults: u64,
 }
 
-impl<'a, R: Files + Print> Model for DiskRack<'a, R> {
+impl<'a, R: Files + Alloc + Print> Model for DiskRack<'a, R> {
     ghost use Rattle.outside.specs.Disk.{DiskState};
     ghost use Rattle.std.specs.Prelude.{is_some};
 
@@ -26,7 +30,7 @@ impl<'a, R: Files + Print> Model for DiskRack<'a, R> {
     ghost view = { λ d. record { is_open = is_some d.current; faults = d.faults } };
 }
 
-impl<'a, R: Files + Print> DiskRack<'a, R> {
+impl<'a, R: Files + Alloc + Print> DiskRack<'a, R> {
     /// A rack over the files of the system and its standard output, with no file in hand.
     pub fn new(files: &'a R) -> DiskRack<'a, R>
         ensures { result ≡ fresh_disk }
@@ -39,37 +43,43 @@ impl<'a, R: Files + Print> DiskRack<'a, R> {
     }
 }
 
-impl<R: Files + Print> Rack for DiskRack<'_, R> {
+impl<R: Files + Alloc + Print> Rack for DiskRack<'_, R> {
     ghost use Rattle.outside.specs.Disk.{disk_rack_of};
 
     ghost state = { disk_rack_of };
 
     fn create(&mut self, name: &str) -> Result<(), Failed> {
-        match fs::create(self.files, name) {
+        self.current = None;
+        match DiskFile::create(self.files, name) {
             Ok(file) => {
                 self.current = Some(file);
                 Ok(())
             }
-            Err(_) => {
-                self.current = None;
-                Err(fault(&mut self.faults))
-            }
+            Err(_) => Err(fault(&mut self.faults)),
         }
     }
 
     fn write(&mut self, piece: &[u8]) -> Result<usize, Failed> {
         match &mut self.current {
             Some(file) => match file.write(piece) {
-                Ok(count) if count > 0 || piece.is_empty() => Ok(count),
-                _ => Err(fault(&mut self.faults)),
+                Ok(count) => Ok(count),
+                Err(_) => Err(fault(&mut self.faults)),
             },
             None => Err(fault(&mut self.faults)),
         }
     }
 
     fn finish(&mut self) -> Result<(), Failed> {
-        self.current = None;
-        Ok(())
+        match &mut self.current {
+            Some(file) => match file.finish() {
+                Ok(()) => {
+                    self.current = None;
+                    Ok(())
+                }
+                Err(_) => Err(fault(&mut self.faults)),
+            },
+            None => Err(fault(&mut self.faults)),
+        }
     }
 
     fn tell(&mut self, text: &[u8]) -> Result<(), Failed> {

@@ -1,6 +1,7 @@
 //! Files and text of the world outside, by two traits, and what stands for them in memory and on a disk.
 #![tactic(auto)]
 
+mod disk_file;
 pub mod disk_rack;
 pub mod disk_tray;
 pub mod distinct_names;

@@ -1,22 +1,21 @@
 ghost use Rattle.std.specs.Prelude.{◌≡◌, ◌≤◌, ◌∷◌, [], Some, None, cond};
 ghost use Rattle.outside.specs.Counts.{one_more, is_listed};
-ghost use Rattle.outside.specs.Causes.{Rose, Asks};
+ghost use Rattle.outside.specs.Causes.{Rose, RoseOnce, Asks};
 
 use crate::tray::Failed;
 use lists::list::List;
 use lists::names::Name;
 use std::alloc::Global;
 
-// Adds a name to those that were asked for, and says whether they are still told: for want of memory they no longer
-// are.
-pub(crate) fn note(alloc: Global, asked: &mut List<Name>, is_told: bool, name: &str) -> bool
-    ensures { let before = cond is_told (Some asked.old) None in
-        let after = cond result (Some asked.new) None in
+// Adds a name to earlier ones, and says whether they are still told: for want of memory they no longer are.
+pub(crate) fn note(alloc: Global, names: &mut List<Name>, is_told: bool, name: &[u8]) -> bool
+    ensures { let before = cond is_told (Some names.old) None in
+        let after = cond result (Some names.new) None in
         Asks before after (name.now ∷ []) }
 {
     let mut copy: Vec<u8> = Vec::new(alloc);
-    match copy.extend_from_slice(name.as_bytes()) {
-        Ok(()) => is_told && asked.push(List::from_vec(copy)).is_ok(),
+    match copy.extend_from_slice(name) {
+        Ok(()) => is_told && names.push(List::from_vec(copy)).is_ok(),
         Err(_) => false,
     }
 }
@@ -35,6 +34,7 @@ pub(crate) fn is_failing(calls: &mut u64, fails: &[u64]) -> bool
 pub(crate) fn fault(faults: &mut u64) -> Failed
     ensures counted { faults.new ≡ one_more faults.old }
     ensures rose { Rose faults.old faults.new }
+    ensures once { RoseOnce faults.old faults.new }
     ensures later { faults.old ≤ faults.new }
 {
     *faults = faults.saturating_add(1);

@@ -27,6 +27,8 @@ pub struct MemRack {
     faults: u64,
     asked: List<Name>,
     is_asked_told: bool,
+    finished: List<Name>,
+    is_finished_told: bool,
 }
 
 impl Model for MemRack {
@@ -45,6 +47,7 @@ impl Model for MemRack {
       fails = m.fails;
       calls = m.calls;
       asked = cond m.is_asked_told (Some m.asked) None;
+      finished = cond m.is_finished_told (Some m.finished) None;
       faults = m.faults;
     } };
 
@@ -75,6 +78,8 @@ impl MemRack {
             faults: 0,
             asked: List::new(alloc),
             is_asked_told: true,
+            finished: List::new(alloc),
+            is_finished_told: true,
         }
     }
 
@@ -111,7 +116,7 @@ impl Rack for MemRack {
         ensures rack { Creates name.now (rack_of self.old) (rack_of self.new) result }
         ensures exact { CreatesMem self.old self.new result }
     {
-        self.is_asked_told = note(self.alloc, &mut self.asked, self.is_asked_told, name);
+        self.is_asked_told = note(self.alloc, &mut self.asked, self.is_asked_told, name.as_bytes());
         self.is_open = false;
         if is_failing(&mut self.calls, self.fails.as_slice()) {
             return Err(fault(&mut self.faults));
@@ -149,6 +154,10 @@ impl Rack for MemRack {
             return Err(fault(&mut self.faults));
         }
         self.is_open = false;
+        if let Some(file) = &self.current {
+            let name = file.name.as_slice();
+            self.is_finished_told = note(self.alloc, &mut self.finished, self.is_finished_told, name);
+        }
         Ok(())
     }
 

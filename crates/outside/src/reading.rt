@@ -1,5 +1,5 @@
 ghost use Rattle.std.specs.Prelude.{◌≡◌, IsTrue, ◌∷◌, [], ◌++◌, ◌≤◌, ◌-◌, length, take, drop, IfOk, OnOk, IsErrOf};
-ghost use Rattle.outside.specs.Causes.{Rose, Asks};
+ghost use Rattle.outside.specs.Causes.{Rose, RoseOnce, Asks};
 ghost use Rattle.outside.specs.Tray.{KeepsTray};
 ghost use Rattle.outside.specs.Reading.{TakesFront, TakesAtMost, TakesFew};
 
@@ -39,6 +39,8 @@ pub fn read_file<T: Tray>(
         IsTrue (T.state tray.new).begun × ((T.state tray.new).faults ≡ (T.state tray.old).faults) }
     ensures cause { IsErrOf result ReadRefusal.ReadFault →
         Rose (T.state tray.old).faults (T.state tray.new).faults }
+    ensures once { IsErrOf result ReadRefusal.ReadFault →
+        RoseOnce (T.state tray.old).faults (T.state tray.new).faults }
 {
     match tray.begin(name) {
         Ok(()) => match read_on(alloc, tray, most as usize) {
@@ -66,6 +68,8 @@ fn read_on<T: Tray>(alloc: Global, tray: &mut T, most: usize) -> Result<Vec<u8>,
         (T.state tray.new).faults ≡ (T.state tray.old).faults }
     ensures cause { IsErrOf result ReadRefusal.ReadFault →
         Rose (T.state tray.old).faults (T.state tray.new).faults }
+    ensures once { IsErrOf result ReadRefusal.ReadFault →
+        RoseOnce (T.state tray.old).faults (T.state tray.new).faults }
 {
     let mut bytes: Vec<u8> = Vec::new(alloc);
     let mut piece = [0u8; PIECE];

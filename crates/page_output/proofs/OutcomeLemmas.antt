@@ -11,7 +11,7 @@ use Rattle.page_model.specs.Counts.{page_counts, zone_samples, zone_changed, pla
 use Rattle.page_model.specs.Page.{plates}
 use Rattle.page_model.specs.Tints.{trapped_plane, trapped_planes}
 use Rattle.page_writing.specs.Files.{names_of}
-use Rattle.page_writing.specs.Writing.{WritesPage, AnswersWriting}
+use Rattle.page_writing.specs.Writing.{WritesPage, AnswersWriting, FailsOnce, FinishesAll}
 use Rattle.page_writing.proofs.Steps.{page_names}
 use Rattle.lists.proofs.ListBelow.{length-list_below}
 use Rattle.trap_engine.specs.Receipts.{IsWholeReceipt}
@@ -41,7 +41,7 @@ handed receipt (Ok x) = Ok receipt
 handed receipt (Err refusal) = Err refusal
 
 answer_put : (band : ℕ) (target : Targets) (page : PageParts) (receipt : Receipt) (a b : RackState) (result : Result (Unit {0}) Refusal) → IsWholeReceipt page band receipt → names_of (outcome target page) ≡ written_names target → AnswersWriting (length target.outputs) (outcome target page) a b result → AnswersPut band target page a b (handed receipt result)
-answer_put band target page receipt a b (Ok x) whole named answer = (whole, answer, subst (λ (names : List (List ℕ)). Asks a.asked b.asked names) named answer.asked)
+answer_put band target page receipt a b (Ok x) whole named answer = (whole, answer, subst (λ (names : List (List ℕ)). Asks a.asked b.asked names) named answer.asked, subst (λ (names : List (List ℕ)). FinishesAll names a b) named answer.finished)
 answer_put band target page receipt a b (Err (Write file)) whole named answer = answer
 answer_put band target page receipt a b (Err Usage) whole named answer = absurd answer
 answer_put band target page receipt a b (Err (Job fault)) whole named answer = absurd answer
@@ -51,6 +51,10 @@ answer_put band target page receipt a b (Err (Page fault)) whole named answer = 
 answer_put band target page receipt a b (Err (Read file)) whole named answer = absurd answer
 answer_put band target page receipt a b (Err Memory) whole named answer = absurd answer
 
+handed_once : (a b : RackState) (receipt : Receipt) (result : Result (Unit {0}) Refusal) → FailsOnce a b result → FailsOnce a b (handed receipt result)
+handed_once a b receipt (Ok x) once = tt
+handed_once a b receipt (Err refusal) once = once
+
 -- A page's planes and its report are written into the files of these names, and its receipt is handed out.
 pub puts_out : (band : ℕ) (target : Targets) (page : PageParts) (outputs : List (List ℕ)) (planes : List Plane) (text : List ℕ) (receipt : Receipt) (a b : RackState) (result : Result (Unit {0}) Refusal) → IsPage page → IsWholeReceipt page band receipt → length planes ≡ length outputs → outputs ≡ target.outputs → planes ≡ trapped_planes page → text ≡ report_of page (page_counts page) → WritesPage outputs planes target.report text a b result → PutsOut band target page a b (handed receipt result)
 puts_out band target page outputs planes text receipt a b result valid whole count named trapped told wrote =
@@ -59,7 +63,7 @@ puts_out band target page outputs planes text receipt a b result valid whole cou
     let all = subst (λ (t : List ℕ). WritesPage {T = Unit {0}} target.outputs (trapped_planes page) target.report t a b result) told two in
     let many : length (trapped_planes page) ≡ length target.outputs = sym (ap (λ (p : List Plane). length p) trapped) ∙ count ∙ ap (λ (o : List (List ℕ)). length o) named in
     let names = page_names target.outputs (trapped_planes page) target.report (report_of page (page_counts page)) many in
-    record { valid = valid; keeps = all.keeps; told = all.told; asked = all.asked; answer = answer_put band target page receipt a b result whole names all.answer }
+    record { valid = valid; keeps = all.keeps; told = all.told; asked = all.asked; answer = answer_put band target page receipt a b result whole names all.answer; once = handed_once a b receipt result all.once }
 
 -- Nothing is put out, since there was no memory.
 pub not_put_out : (band : ℕ) (target : Targets) (page : PageParts) (a : RackState) → IsPage page → PutsOut band target page a a (Err Memory)
@@ -69,4 +73,5 @@ not_put_out band target page a valid = record {
   told = λ tells. refl;
   asked = asks_none_of a.asked (written_names target);
   answer = refl;
+  once = tt;
 }

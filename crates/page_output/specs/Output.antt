@@ -5,7 +5,7 @@ use Rattle.outside.specs.Causes.{Asks, AsksFront}
 use Rattle.outside.specs.Rack.{RackState, KeepsRack}
 use Rattle.page_model.specs.declared.parts.PageParts.{PageParts}
 use Rattle.page_model.specs.Conditions.{IsPage}
-use Rattle.page_writing.specs.Writing.{WritesAll, Breaks}
+use Rattle.page_writing.specs.Writing.{WritesAll, Breaks, FailsOnce, FinishesAll}
 use Rattle.trap_engine.specs.Receipts.{IsWholeReceipt}
 use Rattle.trap_report.specs.declared.refusal.Refusal.{Refusal}
 use Rattle.trap_report.specs.declared.refusal.Refusal.TheVariants.{Write, Memory}
@@ -17,7 +17,7 @@ targets outputs report = record { outputs = outputs; report = report }
 
 -- What the answer says where the page is put out.
 abbrev pub AnswersPut : ℕ → Targets → PageParts → RackState → RackState → Result Receipt Refusal → Type 0
-AnswersPut band target page before after (Ok receipt) = IsWholeReceipt page band receipt × WritesAll (outcome target page) before after × Asks before.asked after.asked (written_names target)
+AnswersPut band target page before after (Ok receipt) = IsWholeReceipt page band receipt × WritesAll (outcome target page) before after × Asks before.asked after.asked (written_names target) × FinishesAll (written_names target) before after
 AnswersPut band target page before after (Err (Write file)) = Breaks (length target.outputs) (outcome target page) file before after
 AnswersPut band target page before after (Err Memory) = after ≡ before
 AnswersPut band target page before after (Err other) = ⊥
@@ -29,3 +29,4 @@ pub record PutsOut (band : ℕ) (target : Targets) (page : PageParts) (before af
   pub told : IsTrue before.tells → after.told ≡ before.told
   pub asked : AsksFront before.asked after.asked (written_names target)
   pub answer : AnswersPut band target page before after result
+  pub once : FailsOnce before after result

@@ -18,8 +18,8 @@ use Rattle.page_model.specs.Tints.{trapped_planes}
 use Rattle.page_run.specs.Endings.{AnswersRun, PagesDone, Runs, Written}
 use Rattle.page_run.specs.Paging.{AnswersStep, Steps, StepsPage}
 use Rattle.page_writing.specs.Files.{Written as File, names_of, plate_files, put_all}
-use Rattle.page_writing.specs.Writing.{WritesAll}
-use Rattle.page_writing.proofs.Steps.{wrote_none}
+use Rattle.page_writing.specs.Writing.{FinishesAll, WritesAll}
+use Rattle.page_writing.proofs.Steps.{finished_then, wrote_none}
 use Rattle.run_reading.specs.Gathering.{IsJobOf, IsPageMade, StopsPage}
 use Rattle.run_reading.proofs.ImageLemmas.{unbroken_before}
 use Rattle.traprun_verdicts.specs.declared.stop.RunStop.{RunStop}
@@ -48,6 +48,7 @@ wrote_both : (files more : List File) (a b c : RackState) → KeepsRack a b → 
 wrote_both files more a b c keeps some first then = record {
   asked = subst (λ (names : List (List ℕ)). Asks a.asked c.asked names) (sym (map-append (λ (f : File). f.name) files more)) (asks_then a.asked b.asked c.asked (names_of files) (names_of more) first.asked then.asked);
   whole = λ tells. then.whole (keeps.tells ∙ tells) ∙ ap (put_all more) (first.whole tells) ∙ sym (put_both files more a.file);
+  finished = subst (λ (names : List (List ℕ)). FinishesAll names a c) (sym (map-append (λ (f : File). f.name) files more)) (finished_then (names_of files) (names_of more) a b c keeps first.finished then.finished);
   shut = λ any. then.shut some;
   well = then.well ∙ first.well;
 }

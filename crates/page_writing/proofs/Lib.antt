@@ -1,3 +1,4 @@
 pub mod Plates
 pub mod Steps
+pub mod Told
 mod Worked

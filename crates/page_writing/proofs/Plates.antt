@@ -3,7 +3,7 @@ use Rattle.std.proofs.Common.{◌≡◌, ℕ, ◌<◌, List, [], ◌∷◌, ◌+
 use Rattle.std.proofs.lemmas.List.{length-map, length-append, get_or-map}
 use Rattle.outside.specs.Rack.{RackState, KeepsRack}
 use Rattle.outside.specs.Writing.{WritesFile}
-use Rattle.outside.proofs.Steps.{kept_then, told_on}
+use Rattle.outside.proofs.Steps.{kept_then, once_before, told_on}
 use Rattle.page_model.specs.declared.parts.Plane.{Plane}
 use Rattle.pgm_plates.specs.Plates.{spelled}
 use Rattle.pgm_plates.specs.Planes.{plate_of}
@@ -42,4 +42,4 @@ plate_broke text plates planes done plane rest place d shown a b c e is count wh
     let broke = breaks_next (plate_files outputs done) (record { name = shown; bytes = spelled (plate_of plane) }) split.0 a b c e keeps before now in
     let there = subst (λ (fs : List Written). BreaksAt fs place a c) (sym files) (subst (λ (k : ℕ). BreaksAt (plate_files outputs done ++ record { name = shown; bytes = spelled (plate_of plane) } ∷ split.0) k a c) long broke) in
     let same : length planes ≡ length outputs = count ∙ sym (length-map plates text) in
-    plate_broken outputs planes place a c same (kept_then a b c keeps now.keeps) (λ tells. now.told (told_on a b keeps tells) ∙ told tells) there
+    plate_broken outputs planes place a c same (kept_then a b c keeps now.keeps) (λ tells. now.told (told_on a b keeps tells) ∙ told tells) (once_before a.faults b.faults c.faults before.well now.once) there

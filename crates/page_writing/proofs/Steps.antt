@@ -1,18 +1,18 @@
 -- Files that are written one after another.
 use Rattle.std.proofs.Common.{◌≡◌, ℕ, ◌+◌, ◌<◌, ◌≤◌, List, [], ◌∷◌, ◌++◌, length, get_or, Option, Some, None, Ok, Err, IsTrue, refl, sym, ap, ◌∙◌, subst, arith}
 use Rattle.std.proofs.lemmas.List.{append_assoc, map-append, length-append}
-use Rattle.outside.specs.Causes.{Asks, AsksFront}
+use Rattle.outside.specs.Causes.{RoseOnce, Asks, AsksFront}
 use Rattle.outside.specs.Rack.{RackState, KeepsRack, put}
 use Rattle.outside.specs.Writing.{WritesFile, BreaksFile}
 use Rattle.outside.proofs.Names.{asks_none, asks_then, asks_all, asks_before}
-use Rattle.outside.proofs.Steps.{kept_then, rose_before, told_on}
+use Rattle.outside.proofs.Steps.{kept_then, once_before, rose_before, told_on}
 use Rattle.page_model.specs.declared.parts.Plane.{Plane}
 use Rattle.pgm_plates.specs.Plates.{spelled}
 use Rattle.pgm_plates.specs.Planes.{plate_of}
 use Rattle.trap_report.specs.declared.refusal.Refusal.{Refusal}
 use Rattle.trap_report.specs.declared.refusal.Refusal.TheVariants.{Write}
 use Rattle.page_writing.specs.Files.{Written, plate_files, page_files, names_of, put_all}
-use Rattle.page_writing.specs.Writing.{WritesAll, BreaksAt, WritesPage, WritesPlates}
+use Rattle.page_writing.specs.Writing.{WritesAll, BreaksAt, FailsOnce, FinishesAll, WritesPage, WritesPlates}
 
 put_all_more : (files : List Written) (w : Written) (held : List ℕ → Option (List ℕ)) → put_all (files ++ w ∷ []) held ≡ put w.name w.bytes (put_all files held)
 put_all_more [] w held = refl
@@ -23,13 +23,18 @@ names_append files more = map-append (λ (f : Written). f.name) files more
 
 -- nothing is written
 pub wrote_none : (files : List Written) (a : RackState) → files ≡ [] → WritesAll files a a
-wrote_none files a none = subst (λ (fs : List Written). WritesAll fs a a) (sym none) (record { asked = asks_none a.asked; whole = λ tells. refl; shut = λ some. absurd (omega arith); well = refl })
+wrote_none files a none = subst (λ (fs : List Written). WritesAll fs a a) (sym none) (record { asked = asks_none a.asked; whole = λ tells. refl; finished = λ tells. asks_none a.finished; shut = λ some. absurd (omega arith); well = refl })
+
+-- files that are finished, and then others
+pub finished_then : (names more : List (List ℕ)) (a b c : RackState) → KeepsRack a b → FinishesAll names a b → FinishesAll more b c → FinishesAll (names ++ more) a c
+finished_then names more a b c keeps one two tells = asks_then a.finished b.finished c.finished names more (one tells) (two (told_on a b keeps tells))
 
 -- one file more
 pub wrote_more : {T E : Type 0} (files : List Written) (w : Written) (a b c : RackState) (x : T) → KeepsRack a b → WritesAll files a b → WritesFile {T = T} {E = E} w.name w.bytes b c (Ok x) → WritesAll (files ++ w ∷ []) a c
 wrote_more files w a b c x keeps before now = record {
   asked = subst (λ (names : List (List ℕ)). Asks a.asked c.asked names) (sym (names_append files (w ∷ []))) (asks_then a.asked b.asked c.asked (names_of files) (w.name ∷ []) before.asked now.asked);
   whole = λ tells. now.files (told_on a b keeps tells) ∙ ap (put w.name w.bytes) (before.whole tells) ∙ sym (put_all_more files w a.file);
+  finished = subst (λ (names : List (List ℕ)). FinishesAll names a c) (sym (names_append files (w ∷ []))) (finished_then (names_of files) (w.name ∷ []) a b c keeps before.finished now.finished);
   shut = λ some. now.shut;
   well = now.well ∙ before.well;
 }
@@ -43,6 +48,7 @@ breaks_next files w later a b c e keeps before now = record {
   all = refl;
   place = refl;
   asked = asks_then a.asked b.asked c.asked (names_of files) (w.name ∷ []) before.asked now.asked;
+  finished = λ tells. subst (λ o. Asks a.finished o (names_of files)) (sym now.unfinished) (before.finished tells);
   part = λ tells. subst (λ (held : List ℕ → Option (List ℕ)). BreaksFile w.name w.bytes held c) (before.whole tells) (now.part (told_on a b keeps tells));
   cause = rose_before a.faults b.faults c.faults keeps.faults now.cause;
 }
@@ -56,6 +62,7 @@ breaks_before files more k a b broke = record {
   all = ap (λ (l : List Written). l ++ more) broke.all ∙ append_assoc broke.earlier (broke.file ∷ broke.later) more;
   place = broke.place;
   asked = broke.asked;
+  finished = broke.finished;
   part = broke.part;
   cause = broke.cause;
 }
@@ -113,15 +120,17 @@ plates_written outputs planes a b x same keeps told wrote = record {
   told = told;
   asked = subst (λ (names : List (List ℕ)). AsksFront a.asked b.asked names) (plates_names outputs planes same) (all_front (plate_files outputs planes) a b wrote);
   answer = wrote;
+  once = tt;
 }
 
 -- a plate breaks
-pub plate_broken : {T : Type 0} (outputs : List (List ℕ)) (planes : List Plane) (k : ℕ) (a b : RackState) → length planes ≡ length outputs → KeepsRack a b → (IsTrue a.tells → b.told ≡ a.told) → BreaksAt (plate_files outputs planes) k a b → WritesPlates {T = T} outputs planes a b (Err (Write (Some k)))
-plate_broken outputs planes k a b same keeps told broke = record {
+pub plate_broken : {T : Type 0} (outputs : List (List ℕ)) (planes : List Plane) (k : ℕ) (a b : RackState) → length planes ≡ length outputs → KeepsRack a b → (IsTrue a.tells → b.told ≡ a.told) → RoseOnce a.faults b.faults → BreaksAt (plate_files outputs planes) k a b → WritesPlates {T = T} outputs planes a b (Err (Write (Some k)))
+plate_broken outputs planes k a b same keeps told once broke = record {
   keeps = keeps;
   told = told;
   asked = subst (λ (names : List (List ℕ)). AsksFront a.asked b.asked names) (plates_names outputs planes same) (breaks_front (plate_files outputs planes) k a b broke);
   answer = (omega (arith, breaks_below (plate_files outputs planes) k a b broke, plates_length outputs planes (omega (arith, same)), same), broke);
+  once = once;
 }
 
 pub page_names : (outputs : List (List ℕ)) (planes : List Plane) (report text : List ℕ) → length planes ≡ length outputs → names_of (page_files outputs planes report text) ≡ outputs ++ report ∷ []
@@ -139,6 +148,7 @@ page_written outputs planes report text a b c x y z same plates now =
       told = λ tells. now.told (told_on a b plates.keeps tells) ∙ plates.told tells;
       asked = as_front outputs planes report text a c same (all_front (page_files outputs planes report text) a c all);
       answer = all;
+      once = tt;
     }
 
 -- the plates, and then a fault at the report
@@ -153,6 +163,7 @@ report_broken outputs planes report text a b c x e same plates now =
       told = λ tells. now.told (told_on a b plates.keeps tells) ∙ plates.told tells;
       asked = as_front outputs planes report text a c same (breaks_front (page_files outputs planes report text) (length outputs) a c broke);
       answer = broke;
+      once = once_before a.faults b.faults c.faults plates.answer.well now.once;
     }
 
 -- a fault at a plate
@@ -165,5 +176,6 @@ plates_broken outputs planes report text a b (Write (Some k)) same plates =
       told = plates.told;
       asked = as_front outputs planes report text a b same (breaks_front (page_files outputs planes report text) k a b broke);
       answer = (plates.answer.0, broke);
+      once = plates.once;
     }
 plates_broken outputs planes report text a b other same plates = absurd plates.answer

@@ -1,6 +1,6 @@
 -- What it means to write files one after another, and all files of a page.
 use Rattle.std.specs.Prelude.{◌≡◌, ℕ, ◌<◌, IsTrue, IsFalse, List, [], ◌∷◌, ◌++◌, length, Option, Some, None, Result, Ok, Err}
-use Rattle.outside.specs.Causes.{Rose, Asks, AsksFront}
+use Rattle.outside.specs.Causes.{Rose, RoseOnce, Asks, AsksFront}
 use Rattle.outside.specs.Rack.{RackState, KeepsRack}
 use Rattle.outside.specs.Writing.{BreaksFile}
 use Rattle.page_model.specs.declared.parts.Plane.{Plane}
@@ -8,17 +8,23 @@ use Rattle.trap_report.specs.declared.refusal.Refusal.{Refusal}
 use Rattle.trap_report.specs.declared.refusal.Refusal.TheVariants.{Write}
 use Rattle.page_writing.specs.Files.{Written, plate_files, page_files, names_of, put_all}
 
--- Each of the files stands whole under its name, and all else is as it was.
+-- The files of these names, and no others, are finished, one after another.
+abbrev pub FinishesAll : List (List ℕ) → RackState → RackState → Type 0
+FinishesAll names before after = IsTrue before.tells → Asks before.finished after.finished names
+
+-- Each of the files stands whole under its name and is finished, and all else is as it was.
 pub record WritesAll (files : List Written) (before after : RackState) : Type 0 where
   pub asked : Asks before.asked after.asked (names_of files)
   pub whole : IsTrue before.tells → after.file ≡ put_all files before.file
-  -- the last of them is finished, as each one before it was
+  -- each of them is finished
+  pub finished : FinishesAll (names_of files) before after
+  -- none is open
   pub shut : 0 < length files → IsFalse after.is_open
   -- no fault was passed over
   pub well : after.faults ≡ before.faults
 
--- The rack has a fault at file k: the earlier ones stand whole; of this one a front of its bytes, and it is open still, or
--- nothing is changed, exactly where it could not be created. None of the later ones is begun.
+-- The rack has a fault at file k: the earlier ones stand whole and are finished; of this one a front of its bytes, and it
+-- is open still, or nothing is changed, exactly where it could not be created. None of the later ones is begun.
 pub record BreaksAt (files : List Written) (k : ℕ) (before after : RackState) : Type 0 where
   pub earlier : List Written
   pub file : Written
@@ -26,6 +32,7 @@ pub record BreaksAt (files : List Written) (k : ℕ) (before after : RackState) 
   pub all : files ≡ earlier ++ file ∷ later
   pub place : length earlier ≡ k
   pub asked : Asks before.asked after.asked (names_of earlier ++ file.name ∷ [])
+  pub finished : FinishesAll (names_of earlier) before after
   pub part : IsTrue before.tells → BreaksFile file.name file.bytes (put_all earlier before.file) after
   pub cause : Rose before.faults after.faults
 
@@ -40,12 +47,18 @@ AnswersWriting plates files before after (Ok x) = WritesAll files before after
 AnswersWriting plates files before after (Err (Write file)) = Breaks plates files file before after
 AnswersWriting plates files before after (Err other) = ⊥
 
+-- A failed write is one failed call, and no more: the count of faults rose by one.
+abbrev pub FailsOnce : {T : Type 0} → RackState → RackState → Result T Refusal → Type 0
+FailsOnce before after (Err (Write file)) = RoseOnce before.faults after.faults
+FailsOnce before after other = Unit {0}
+
 -- The plates and then the report are written. No text is told.
 pub record WritesPage {T : Type 0} (outputs : List (List ℕ)) (planes : List Plane) (report text : List ℕ) (before after : RackState) (result : Result T Refusal) : Type 0 where
   pub keeps : KeepsRack before after
   pub told : IsTrue before.tells → after.told ≡ before.told
   pub asked : AsksFront before.asked after.asked (outputs ++ report ∷ [])
   pub answer : AnswersWriting (length outputs) (page_files outputs planes report text) before after result
+  pub once : FailsOnce before after result
 
 -- by the answer, where so many files are all plates
 abbrev pub AnswersPlates : {T : Type 0} → ℕ → List Written → RackState → RackState → Result T Refusal → Type 0
@@ -59,3 +72,4 @@ pub record WritesPlates {T : Type 0} (outputs : List (List ℕ)) (planes : List 
   pub told : IsTrue before.tells → after.told ≡ before.told
   pub asked : AsksFront before.asked after.asked outputs
   pub answer : AnswersPlates (length outputs) (plate_files outputs planes) before after result
+  pub once : FailsOnce before after result

@@ -9,28 +9,29 @@ use Rattle.pgm_plates.specs.Plates.{IsPlateFile, raster}
 use Rattle.pgm_plates.specs.Sequences.{IsSequence}
 use Rattle.pgm_plates.proofs.Facts.{no_front, one_plate}
 
--- the shorter of two fronts of the same bytes is a front of the longer
+-- the shorter of two prefixes of the same bytes is a prefix of the longer
 longer : (i l j k : List ℕ) → i ++ l ≡ j ++ k → length i ≤ length j → j ≡ i ++ drop (length i) j
 longer i l j k same le =
-    let front : i ≡ take (length i) j = sym (take-append_seam i l) ∙ ap (take (length i)) same ∙ take-append-le (length i) j k le in
-    sym (take-append-drop (length i) j) ∙ ap (λ (x : List ℕ). x ++ drop (length i) j) (sym front)
+    let prefix : i ≡ take (length i) j = sym (take-append_seam i l) ∙ ap (take (length i)) same ∙ take-append-le (length i) j k le in
+    sym (take-append-drop (length i) j) ∙ ap (λ (x : List ℕ). x ++ drop (length i) j) (sym prefix)
 
--- two plate files at the front of the same bytes, of which one is no longer, are one
-front_is : (i l j k : List ℕ) (p q : Plate) → i ++ l ≡ j ++ k → length i ≤ length j → IsPlateFile i p → IsPlateFile j q → i ≡ j
-front_is i l j k p q same le first second =
+-- two plate files that are prefixes of the same bytes, of which one is no longer, are one
+prefix_is : (i l j k : List ℕ) (p q : Plate) → i ++ l ≡ j ++ k → length i ≤ length j → IsPlateFile i p → IsPlateFile j q → i ≡ j
+prefix_is i l j k p q same le first second =
     let whole = longer i l j k same le in
     let none : drop (length i) j ≡ [] = no_front i (drop (length i) j) p q first (subst (λ (x : List ℕ). IsPlateFile x q) whole second) in
     sym (whole ∙ ap (λ (x : List ℕ). i ++ x) none ∙ append-nil i)
 
-one_image : (i l j k : List ℕ) (p q : Plate) → i ++ l ≡ j ++ k → IsPlateFile i p → IsPlateFile j q → i ≡ j
+-- two plate files that are prefixes of the same bytes are one
+pub one_image : (i l j k : List ℕ) (p q : Plate) → i ++ l ≡ j ++ k → IsPlateFile i p → IsPlateFile j q → i ≡ j
 one_image i l j k p q same first second =
     elim (cases_lt (length j) (length i)) [
-      | inl less ↦ sym (front_is j k i l q p (sym same) (omega arith) second first)
-      | inr le ↦ front_is i l j k p q same le first second
+      | inl less ↦ sym (prefix_is j k i l q p (sym same) (omega arith) second first)
+      | inr le ↦ prefix_is i l j k p q same le first second
     ]
 
 -- a plate file has some bytes
-some_bytes : (bytes : List ℕ) (plate : Plate) → IsPlateFile bytes plate → 0 < length bytes
+pub some_bytes : (bytes : List ℕ) (plate : Plate) → IsPlateFile bytes plate → 0 < length bytes
 some_bytes bytes plate file =
     let header = file.is_header in
     let long : length bytes ≡ length header.0 + 1 + length (raster plate.maxval plate.samples) =

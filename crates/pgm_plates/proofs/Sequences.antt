@@ -1,5 +1,5 @@
 -- Plate files that are read one behind the other.
-use Rattle.std.proofs.Common.{◌≡◌, ◌≢◌, ℕ, zero, suc, ◌<◌, ◌≤◌, ◌+◌, ◌*◌, ◌^◌, true, false, List, [], ◌∷◌, ◌++◌, length, Option, Some, None, Result, Ok, Err, IsTrue, refl, sym, ap, ◌∙◌, subst, inr, arith}
+use Rattle.std.proofs.Common.{◌≡◌, ◌≢◌, ℕ, zero, suc, ◌<◌, ◌≤◌, ◌+◌, ◌*◌, ◌^◌, true, false, List, [], ◌∷◌, ◌++◌, length, Option, Some, None, Result, Ok, Err, IsTrue, refl, sym, ap, ◌∙◌, subst, inl, inr, arith}
 use Rattle.std.proofs.lemmas.List.{append_assoc, append-nil, length-append, length_push}
 use Rattle.outside.specs.declared.tray.Failed.{Failed}
 use Rattle.outside.specs.Causes.{Asks}
@@ -14,13 +14,13 @@ use Rattle.pgm_plates.specs.declared.plate.PlateRefusal.{PlateRefusal}
 use Rattle.pgm_plates.specs.declared.plate.PlateRefusal.TheVariants.{Fault, ReadFault, OutOfMemory}
 use Rattle.pgm_plates.specs.Plates.{IsPlateFile, raster, sample_size}
 use Rattle.pgm_plates.specs.Images.{IsNear, IsNearRefusal, ReadsImage, Passed, PageAnswers, further_refusal}
-use Rattle.pgm_plates.specs.Reading.{KeepsCount}
+use Rattle.pgm_plates.specs.Reading.{AreFew, KeepsCount}
 use Rattle.pgm_plates.specs.Readers.{Answers, HeaderRead, RasterTaken}
-use Rattle.pgm_plates.specs.Sequences.{IsSequence, StandsBehind, IsOfImage, AnswersPage, ReadsPage, further}
+use Rattle.pgm_plates.specs.Sequences.{IsSequence, StandsBehind, IsOfImage, AreFewOfPage, AnswersPage, ReadsPage, further}
 use Rattle.pgm_plates.proofs.Headers.{takes_none, takes_nil, told_on, scanned_none, fresh}
 use Rattle.pgm_plates.proofs.Moments.{clean_none, clean_all, only_truncated}
 use Rattle.pgm_plates.proofs.Scans.{quiet}
-use Rattle.pgm_plates.proofs.Wholes.{file_of, raster_within, kept_count}
+use Rattle.pgm_plates.proofs.Wholes.{few_behind, file_of, no_shape, raster_within, kept_count}
 
 -- one plate file more
 sequence_push : (front : List ℕ) (plates : List Plate) (image : List ℕ) (plate : Plate) → IsSequence front plates → IsPlateFile image plate → IsSequence (front ++ image) (plates ++ plate ∷ [])
@@ -30,11 +30,13 @@ sequence_push front (first ∷ plates) image plate some file = (some.0, some.1 +
 pub image_read : (a b c : TrayState) (header : Header) (start size : ℕ) (samples : List ℕ) → HeaderRead a b header start → RasterTaken header.maxval (header.width * header.height) b c samples → size ≡ start + header.width * header.height * sample_size header.maxval
     → ReadsImage a c (Ok (Some (record { width = header.width; height = header.height; maxval = header.maxval; samples = samples }, size)))
 image_read a b c header start size samples read taken is =
-    let back = raster header.maxval samples in (
+    let back = raster header.maxval samples in
+    let size_of : length back ≡ header.width * header.height * sample_size header.maxval = raster_within header.maxval (header.width * header.height) samples taken.all in (
       read.bytes ++ back,
       takes_then read.bytes back a b c read.takes taken.takes,
       file_of a b c header start samples read taken,
-      length-append read.bytes back ∙ ap (λ (n : ℕ). n + length back) read.size ∙ ap (λ (n : ℕ). start + n) (raster_within header.maxval (header.width * header.height) samples taken.all) ∙ sym is,
+      length-append read.bytes back ∙ ap (λ (n : ℕ). n + length back) read.size ∙ ap (λ (n : ℕ). start + n) size_of ∙ sym is,
+      few_behind read.bytes back header.width header.height header.maxval read.is_header (omega (arith, read.size, read.short)) (omega (arith, size_of)),
     )
 
 pub passed_none : (a : TrayState) → IsTrue a.begun → Passed a a 0 0
@@ -60,8 +62,13 @@ pub page_found : (a b c : TrayState) (page count start size : ℕ) (plate : Plat
 page_found a b c page count start size plate same passed image = record {
   bytes = passed.bytes ++ image.0;
   takes = takes_then passed.bytes image.0 a b c passed.takes image.1;
+  few = (image.0, behind a b page count start passed image.0 (omega (arith, same)), image.4);
   answer = (image.1.begun, image.0, behind a b page count start passed image.0 (omega (arith, same)), passed.counted ∙ same, image.2);
 }
+
+-- no bytes are few
+few_none : AreFew []
+few_none = inl (omega arith, no_shape)
 
 nothing_of : (bytes : List ℕ) → length bytes ≡ 0 → bytes ≡ []
 nothing_of [] none = refl
@@ -70,12 +77,14 @@ nothing_of (b ∷ bytes) none = absurd (omega arith)
 pub page_none : (a b c : TrayState) (page count start : ℕ) → count ≤ page → Passed a b count start → ReadsImage b c (Ok None) → PageAnswers page a c (Ok None)
 page_none a b c page count start le passed none =
     let takes : Takes passed.bytes a c = takes_nil passed.bytes a b c passed.takes (takes_as none.0 [] b c (nothing_of none.0 none.2) none.1) in
+    let none_left : StandsBehind passed.bytes page [] = subst (λ (x : List ℕ). StandsBehind x page []) (append-nil passed.bytes) (behind a b page count start passed [] le) in
     record {
       bytes = passed.bytes;
       takes = takes;
+      few = ([], none_left, few_none);
       answer = (
         takes.begun,
-        subst (λ (x : List ℕ). StandsBehind x page []) (append-nil passed.bytes) (behind a b page count start passed [] le),
+        none_left,
         λ tells. none.3 (told_on passed.bytes a b passed.takes tells),
       );
     }
@@ -102,6 +111,7 @@ pub page_refused : (a b c : TrayState) (page count start : ℕ) (refusal : Plate
 page_refused a b c page count start (Fault fault) le passed answers near some = record {
   bytes = passed.bytes ++ answers.bytes;
   takes = takes_then passed.bytes answers.bytes a b c passed.takes answers.takes;
+  few = (answers.bytes, behind a b page count start passed answers.bytes le, answers.few);
   answer = (
     answers.takes.begun,
     answers.bytes,
@@ -116,6 +126,7 @@ page_refused a b c page count start (Fault fault) le passed answers near some = 
 page_refused a b c page count start ReadFault le passed answers near some = record {
   bytes = passed.bytes ++ answers.bytes;
   takes = takes_then passed.bytes answers.bytes a b c passed.takes answers.takes;
+  few = (answers.bytes, behind a b page count start passed answers.bytes le, answers.few);
   answer = (
     rose_before a.faults b.faults c.faults passed.takes.keeps.faults answers.answer.0,
     answers.bytes,
@@ -126,6 +137,7 @@ page_refused a b c page count start ReadFault le passed answers near some = reco
 page_refused a b c page count start OutOfMemory le passed answers near some = record {
   bytes = passed.bytes ++ answers.bytes;
   takes = takes_then passed.bytes answers.bytes a b c passed.takes answers.takes;
+  few = (answers.bytes, behind a b page count start passed answers.bytes le, answers.few);
   answer = answers.takes.begun;
 }
 
@@ -142,9 +154,13 @@ page_begun name page a b c x result begun answers count = record {
   asked = subst (λ o. Asks a.asked o (name ∷ [])) (sym answers.takes.asked) begun.asked;
   bytes = answers.bytes;
   taken = λ is tells. begun.left tells ∙ ap (λ (x : List ℕ). Some x) (answers.takes.taken (begun.keeps.tells ∙ tells));
+  few = answers.few;
   answer = answers_from a b c page answers.bytes result begun.keeps answers.answer;
   count = kept_count a b c result begun.well count;
 }
+
+no_images : (page : ℕ) → StandsBehind [] page []
+no_images page = record { front = []; plates = []; sequence = refl; few = omega arith; whole = refl }
 
 pub page_not_begun : {E : Type 0} (name : List ℕ) (page : ℕ) (a b : TrayState) (e : E) → Begins {T = Unit {0}} name a b (Err e) → ReadsPage name page a b (Err ReadFault)
 page_not_begun name page a b e begun = record {
@@ -152,10 +168,11 @@ page_not_begun name page a b e begun = record {
   asked = begun.asked;
   bytes = [];
   taken = λ is tells. absurd (let no : true ≡ false = sym is ∙ begun.begun in cc);
+  few = ([], no_images page, few_none);
   answer = (
     begun.cause,
     [],
-    record { front = []; plates = []; sequence = refl; few = omega arith; whole = refl },
+    no_images page,
     only_truncated [] (clean_all [] clean_none (quiet [] fresh scanned_none (inr (omega arith)))),
   );
   count = tt;

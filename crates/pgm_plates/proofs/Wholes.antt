@@ -29,7 +29,7 @@ use Rattle.pgm_plates.proofs.Scans.{quiet}
 use Rattle.pgm_plates.proofs.Decisions.{Rastered, some_size, raster_size, clean_raster}
 
 -- a header and no more behind it than its raster and a byte
-few_behind : (header back : List ℕ) (w h m : ℕ) → IsHeader header w h m → length header ≤ most_header → length back ≤ w * h * sample_size m + 1 → AreFew (header ++ back)
+pub few_behind : (header back : List ℕ) (w h m : ℕ) → IsHeader header w h m → length header ≤ most_header → length back ≤ w * h * sample_size m + 1 → AreFew (header ++ back)
 few_behind header back w h m is short le = inr (record {
   count = length header;
   short = short;
@@ -291,7 +291,7 @@ answers_from a b c bytes (Err (Fault fault)) keeps answer = (answer.0, answer.1,
 answers_from a b c bytes (Err ReadFault) keeps answer = (rose_before a.faults b.faults c.faults keeps.faults answer.0, answer.1)
 answers_from a b c bytes (Err OutOfMemory) keeps answer = answer
 
-no_shape : HoldsNoHeader []
+pub no_shape : HoldsNoHeader []
 no_shape = unended Start [] [] refl (λ e. let f : Start ≡ Ended = e in cc)
 
 -- The file is begun, and then read.

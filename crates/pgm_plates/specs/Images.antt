@@ -8,9 +8,9 @@ use Rattle.pgm_plates.specs.declared.plate.PlateFault.TheVariants.{BadMagic, Bad
 use Rattle.pgm_plates.specs.declared.plate.PlateRefusal.{PlateRefusal}
 use Rattle.pgm_plates.specs.declared.plate.PlateRefusal.TheVariants.{Fault, ReadFault, OutOfMemory}
 use Rattle.pgm_plates.specs.Plates.{IsPlateFile}
-use Rattle.pgm_plates.specs.Reading.{AtEnd}
+use Rattle.pgm_plates.specs.Reading.{AreFew, AtEnd}
 use Rattle.pgm_plates.specs.Readers.{Answers}
-use Rattle.pgm_plates.specs.Sequences.{IsSequence, AnswersPage, further}
+use Rattle.pgm_plates.specs.Sequences.{IsSequence, AnswersPage, AreFewOfPage, further}
 
 -- a fault of an image, with its place far below the end of the numbers
 abbrev pub IsNear : PlateFault → Type 0
@@ -30,7 +30,7 @@ IsNearRefusal OutOfMemory = Unit {0}
 
 -- One image is taken, of so many bytes, or there is none.
 abbrev pub ReadsImage : TrayState → TrayState → Result (Option (Plate × ℕ)) PlateRefusal → Type 0
-ReadsImage before after (Ok (Some read)) = (image : List ℕ) × Takes image before after × IsPlateFile image read.0 × (length image ≡ read.1)
+ReadsImage before after (Ok (Some read)) = (image : List ℕ) × Takes image before after × IsPlateFile image read.0 × (length image ≡ read.1) × AreFew image
 ReadsImage before after (Ok None) = (nothing : List ℕ) × Takes nothing before after × (length nothing ≡ 0) × AtEnd before after
 ReadsImage before after (Err refusal) = Answers before after (Err refusal)
 
@@ -49,6 +49,7 @@ pub record Passed (before now : TrayState) (count size : ℕ) : Type 0 where
 pub record PageAnswers (page : ℕ) (before after : TrayState) (result : Result (Option Plate) PlateRefusal) : Type 0 where
   pub bytes : List ℕ
   pub takes : Takes bytes before after
+  pub few : AreFewOfPage page bytes
   pub answer : AnswersPage page bytes before after result
 
 abbrev pub further_refusal : ℕ → PlateRefusal → PlateRefusal

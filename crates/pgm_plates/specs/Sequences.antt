@@ -9,7 +9,7 @@ use Rattle.pgm_plates.specs.declared.plate.PlateRefusal.{PlateRefusal}
 use Rattle.pgm_plates.specs.declared.plate.PlateRefusal.TheVariants.{Fault, ReadFault, OutOfMemory}
 use Rattle.pgm_plates.specs.Faults.{IsFault}
 use Rattle.pgm_plates.specs.Plates.{IsPlateFile}
-use Rattle.pgm_plates.specs.Reading.{AtEnd, IsTruncated, KeepsCount}
+use Rattle.pgm_plates.specs.Reading.{AreFew, AtEnd, IsTruncated, KeepsCount}
 
 -- The bytes are plate files of these plates, one directly behind the other.
 abbrev pub IsSequence : List ℕ → List Plate → Type 0
@@ -23,6 +23,11 @@ pub record StandsBehind (bytes : List ℕ) (most : ℕ) (image : List ℕ) : Typ
   pub sequence : IsSequence front plates
   pub few : length plates ≤ most
   pub whole : bytes ≡ front ++ image
+
+-- No more bytes than these are owed where the plate of that number is asked for: at most so many plate files, and of the
+-- one in hand no more than of a file of one plate.
+abbrev pub AreFewOfPage : ℕ → List ℕ → Type 0
+AreFewOfPage page bytes = (image : List ℕ) × StandsBehind bytes page image × AreFew image
 
 -- the same fault, so many bytes further on
 abbrev pub further : ℕ → PlateFault → PlateFault
@@ -55,5 +60,6 @@ pub record ReadsPage (name : List ℕ) (page : ℕ) (before after : TrayState) (
   pub asked : Asks before.asked after.asked (name ∷ [])
   pub bytes : List ℕ
   pub taken : IsTrue after.begun → IsTrue before.tells → before.file name ≡ Some (bytes ++ after.left)
+  pub few : AreFewOfPage page bytes
   pub answer : AnswersPage page bytes before after result
   pub count : KeepsCount before after result

@@ -8,7 +8,6 @@ use Rattle.band_claims.specs.Receipt.{Receipt}
 use Rattle.outside.specs.Causes.{Rose, Asks, AsksFront}
 use Rattle.outside.specs.Tray.{TrayState}
 use Rattle.outside.specs.Rack.{RackState, KeepsRack}
-use Rattle.outside.specs.Writing.{BreaksFile}
 use Rattle.outside.proofs.Names.{asks_none_of}
 use Rattle.outside.proofs.Steps.{rose_before}
 use Rattle.page_model.specs.declared.page.PageFault.TheVariants.{TooManySamples}
@@ -20,12 +19,13 @@ use Rattle.page_gather.specs.Gathering.{BreaksReading, InHand, IsMade, files_to}
 use Rattle.page_gather.specs.Steps.{PassesNoFault}
 use Rattle.page_gather.proofs.GatherLemmas.{refused_count}
 use Rattle.page_writing.specs.Files.{Written, put_all, names_of, plate_files}
-use Rattle.page_writing.specs.Writing.{BreaksAt, Breaks}
+use Rattle.page_writing.specs.Writing.{Breaks, FinishesAll}
+use Rattle.page_writing.proofs.Told.{breaks_cause, file_breaks, line_after}
 use Rattle.trap_report.specs.declared.refusal.Refusal.{Refusal}
 use Rattle.trap_report.specs.declared.refusal.Refusal.TheVariants as refusals
 use Rattle.trap_report.specs.Refusals.{status_of, line_of}
 use Rattle.trap_report.specs.Report.{report_of}
-use Rattle.trap_report.specs.Telling.{TellsText, TellsBehindFault, KeepsFiles, Refuses}
+use Rattle.trap_report.specs.Telling.{TellsText, TellsAfterFault, KeepsFiles, Refuses}
 use Rattle.trap_words.specs.Words.{Command, PageWords, SampleWords, begins_with_page, command_of, page_of_words, sample_of_words}
 use Rattle.trap_words.specs.Words.Command.{Page, Sample}
 use Rattle.trap_cli.specs.Commands.{sample_band, sources_of, targets_of}
@@ -42,55 +42,13 @@ line_from text a b c same tells faults line told = elim (line (tells ∙ told)) 
   | inr part ↦ inr (rose_before a.faults b.faults c.faults faults part.0, (part.1.0, part.1.1 ∙ ap (λ (t : List ℕ). t ++ take part.1.0 text) (same told)))
 ]
 
--- the same behind a failed write: it is cut short by a second fault alone
-line_behind : (text : List ℕ) (a b c : RackState) → (IsTrue a.tells → b.told ≡ a.told) → b.tells ≡ a.tells → Rose a.faults b.faults → TellsText text b c → TellsBehindFault text a c
-line_behind text a b c same tells rose line = (
-  b.faults,
-  rose,
-  λ told. elim (line (tells ∙ told)) [
-    | inl whole ↦ inl (whole ∙ ap (λ (t : List ℕ). t ++ text) (same told))
-    | inr part ↦ inr (part.0, (part.1.0, part.1.1 ∙ ap (λ (t : List ℕ). t ++ take part.1.0 text) (same told)))
-  ],
-)
-
 -- How a page of these files ended, of what was told by its files.
 data Ending (band : ℕ) (source : Sources) (target : Targets) (t t' : TrayState) (r r' : RackState) (status : ℕ) (receipt : Option Receipt) : Type 0 where
-  done : status ≡ 0 → (t'.faults ≡ t.faults) × (r'.faults ≡ r.faults) → (made : PageParts) → IsMade source t made → Asks t.asked t'.asked (read_files source) → (IsTrue r.tells → r'.file ≡ put_all (outcome target made) r.file) → (IsTrue r.tells → r'.told ≡ r.told) → IsFalse r'.is_open → Asks r.asked r'.asked (written_names target) → HasReceipt made band receipt → Ending band source target t t' r r' status receipt
+  done : status ≡ 0 → (t'.faults ≡ t.faults) × (r'.faults ≡ r.faults) → (made : PageParts) → IsMade source t made → Asks t.asked t'.asked (read_files source) → (IsTrue r.tells → r'.file ≡ put_all (outcome target made) r.file) → (IsTrue r.tells → r'.told ≡ r.told) → IsFalse r'.is_open × FinishesAll (written_names target) r r' → Asks r.asked r'.asked (written_names target) → HasReceipt made band receipt → Ending band source target t t' r r' status receipt
   refused : (refusal : Refusal) → status ≡ status_of refusal → (status ≡ 3) ⊎ (status ≡ 4) → (IsTrue t.tells → IsVerdict one_page t.file source target (Refused refusal)) → Asks t.asked t'.asked (files_to source refusal) → PassesNoFault {T = Unit {0}} t t' (Err refusal) → KeepsFiles r r' → TellsText (line_of refusal) r r' → receipt ≡ None → Ending band source target t t' r r' status receipt
   unread : (file : Option ℕ) → status ≡ 5 → Rose t.faults t'.faults → Asks t.asked t'.asked (files_to source (refusals.Read file)) → BreaksReading source file t t' → KeepsFiles r r' → TellsText (line_of (refusals.Read file)) r r' → receipt ≡ None → Ending band source target t t' r r' status receipt
-  unwritten : (file : Option ℕ) → status ≡ 6 → t'.faults ≡ t.faults → (made : PageParts) → IsMade source t made → Breaks (length target.outputs) (outcome target made) file r r' → TellsBehindFault (line_of (refusals.Write file)) r r' → receipt ≡ None → Ending band source target t t' r r' status receipt
+  unwritten : (file : Option ℕ) → status ≡ 6 → t'.faults ≡ t.faults → (made : PageParts) → IsMade source t made → Breaks (length target.outputs) (outcome target made) file r r' → TellsAfterFault (line_of (refusals.Write file)) r r' → receipt ≡ None → Ending band source target t t' r r' status receipt
   no_memory : status ≡ 7 → t'.faults ≡ t.faults → KeepsFiles r r' → TellsText (line_of refusals.Memory) r r' → receipt ≡ None → Ending band source target t t' r r' status receipt
-
--- a count that rose stays above what it was
-rose_after : (a b c : ℕ) → a ≤ b → b ≤ c → Rose a b → Rose a c
-rose_after a b c first then (inl less) = inl (omega arith)
-rose_after a b c first then (inr last) = elim (cases_lt a c) [ inl less ↦ inl less | inr back ↦ inr (omega arith) ]
-
--- a file that broke, after what changes no file
-broken_then : (name bytes : List ℕ) (held : List ℕ → Option (List ℕ)) (b c : RackState) → c.is_open ≡ b.is_open → c.file ≡ b.file → BreaksFile name bytes held b → BreaksFile name bytes held c
-broken_then name bytes held b c opened same (inl none) = inl (opened ∙ none.0, same ∙ none.1)
-broken_then name bytes held b c opened same (inr front) = inr (opened ∙ front.0, (front.1.0, same ∙ front.1.1))
-
--- the write that failed, after its line was told
-breaks_then : (written : List Written) (k : ℕ) (a b c : RackState) → KeepsRack a b → BreaksAt written k a b → KeepsFiles b c → BreaksAt written k a c
-breaks_then written k a b c keeps breaks files = record {
-  earlier = breaks.earlier;
-  file = breaks.file;
-  later = breaks.later;
-  all = breaks.all;
-  place = breaks.place;
-  asked = subst (λ (names : Option (List (List ℕ))). Asks a.asked names (names_of breaks.earlier ++ breaks.file.name ∷ [])) (sym files.asked) breaks.asked;
-  part = λ told. broken_then breaks.file.name breaks.file.bytes (put_all breaks.earlier a.file) b c files.is_open (files.files (keeps.tells ∙ told)) (breaks.part told);
-  cause = rose_after a.faults b.faults c.faults keeps.faults files.keeps.faults breaks.cause;
-}
-
-file_breaks : (plates : ℕ) (written : List Written) (file : Option ℕ) (a b c : RackState) → KeepsRack a b → Breaks plates written file a b → KeepsFiles b c → Breaks plates written file a c
-file_breaks plates written None a b c keeps breaks files = breaks_then written plates a b c keeps breaks files
-file_breaks plates written (Some k) a b c keeps breaks files = (breaks.0, breaks_then written k a b c keeps breaks.1 files)
-
-breaks_cause : (plates : ℕ) (written : List Written) (file : Option ℕ) (a b : RackState) → Breaks plates written file a b → Rose a.faults b.faults
-breaks_cause plates written None a b breaks = breaks.cause
-breaks_cause plates written (Some k) a b breaks = breaks.1.cause
 
 -- files that are left alone, and then are left alone again
 keeps_from : (a b c : RackState) → b ≡ a → KeepsFiles b c → KeepsFiles a c
@@ -108,7 +66,7 @@ module _ (band : ℕ) (source : Sources) (target : Targets) (t t' : TrayState) (
   ended_done x between carried same is given =
       let made = carried.answer.0 in
       let wrote = carried.answer.4 in
-      subst (λ (s : RackState). Ending band source target t t' r s status receipt) (sym same) (done is (carried.count, wrote.well) made carried.answer.1 carried.answer.3 wrote.whole carried.told (wrote.shut (some_files target made)) carried.answer.5 (x, given, carried.answer.2))
+      subst (λ (s : RackState). Ending band source target t t' r s status receipt) (sym same) (done is (carried.count, wrote.well) made carried.answer.1 carried.answer.3 wrote.whole carried.told (wrote.shut (some_files target made), carried.answer.6) carried.answer.5 (x, given, carried.answer.2))
 
   ending_of : (result : Result Receipt Refusal) (between : RackState) → CarriesOut band source target t t' r between result → Closes result between r' status receipt → Ending band source target t t' r r' status receipt
   ending_of (Ok x) between carried closed = ended_done x between carried closed.0 closed.1 closed.2
@@ -127,8 +85,7 @@ module _ (band : ℕ) (source : Sources) (target : Targets) (t t' : TrayState) (
   ending_of (Err (refusals.Write file)) between carried closed =
       let made = carried.answer.0 in
       let broke = carried.answer.2 in
-      let rose = breaks_cause (length target.outputs) (outcome target made) file r between broke in
-      unwritten file closed.0.status_is carried.count made carried.answer.1 (file_breaks (length target.outputs) (outcome target made) file r between r' carried.rack_keeps broke closed.0.files) (line_behind (line_of (refusals.Write file)) r between r' carried.told carried.rack_keeps.tells rose closed.0.line) closed.1
+      unwritten file closed.0.status_is carried.count made carried.answer.1 (file_breaks (length target.outputs) (outcome target made) file r between r' carried.rack_keeps broke closed.0.files) (line_after (line_of (refusals.Write file)) r between r' carried.told carried.rack_keeps.tells carried.once closed.0.line) closed.1
   ending_of (Err refusals.Memory) between carried closed = no_memory closed.0.status_is carried.count (keeps_from r between r' carried.answer.1 closed.0.files) (line_of_end refusals.Memory (Err refusals.Memory) between carried closed.0) closed.1
   ending_of (Err refusals.Usage) between carried closed = absurd carried.answer.0
 
@@ -168,7 +125,7 @@ module _ (band : ℕ) (source : Sources) (target : Targets) (t t' : TrayState) (
   read_by (unwritten file is kept made page breaks line none) s = absurd (omega arith)
   read_by (no_memory is calm keeps line none) s = absurd (omega arith)
 
-  write_by : Ending band source target t t' r r' status receipt → status ≡ 6 → (file : Option ℕ) × ((made : PageParts) × IsMade source t made × Breaks (length target.outputs) (outcome target made) file r r') × TellsBehindFault (line_of (refusals.Write file)) r r'
+  write_by : Ending band source target t t' r r' status receipt → status ≡ 6 → (file : Option ℕ) × ((made : PageParts) × IsMade source t made × Breaks (length target.outputs) (outcome target made) file r r') × TellsAfterFault (line_of (refusals.Write file)) r r'
   write_by (unwritten file is kept made page breaks line none) s = (file, (made, page, breaks), line)
   write_by (done is calm made page begun files told shut asked has) s = absurd (omega arith)
   write_by (refused refusal is (inl which) verdict begun count keeps line none) s = absurd (omega arith)
@@ -294,7 +251,7 @@ module _ (words : List (List ℕ)) (t t' : TrayState) (r r' : RackState) (status
   page_files page (unwritten file is kept made valid breaks line none) s = absurd (omega arith)
   page_files page (no_memory is calm keeps line none) s = absurd (omega arith)
 
-  page_silent : (page : PageWords) → EndingOf page → status ≡ 0 → (IsTrue r.tells → r'.told ≡ r.told) × IsFalse r'.is_open × Asks t.asked t'.asked (read_files (sources_of page)) × Asks r.asked r'.asked (written_names (targets_of page))
+  page_silent : (page : PageWords) → EndingOf page → status ≡ 0 → (IsTrue r.tells → r'.told ≡ r.told) × (IsFalse r'.is_open × FinishesAll (written_names (targets_of page)) r r') × Asks t.asked t'.asked (read_files (sources_of page)) × Asks r.asked r'.asked (written_names (targets_of page))
   page_silent page (done is calm made valid begun files told shut asked has) s = (told, shut, begun, asked)
   page_silent page (refused refusal is (inl which) verdict begun count keeps line none) s = absurd (omega arith)
   page_silent page (refused refusal is (inr which) verdict begun count keeps line none) s = absurd (omega arith)
@@ -354,7 +311,8 @@ module _ (words : List (List ℕ)) (t t' : TrayState) (r r' : RackState) (status
     calm = calm_of ended;
     files = λ page means s. page_files page (page_ending page means ended) s;
     silent = λ page means s. (page_silent page (page_ending page means ended) s).0;
-    finished = λ page means s. (page_silent page (page_ending page means ended) s).1;
+    finished = λ page means s. (page_silent page (page_ending page means ended) s).1.1;
+    shut = λ page means s. (page_silent page (page_ending page means ended) s).1.0;
     begun = λ page means s. (page_silent page (page_ending page means ended) s).2;
     created = λ page means s. (page_silent page (page_ending page means ended) s).3;
     sample = λ sample means s. sample_has sample (sample_ending sample means ended).1.answer s;

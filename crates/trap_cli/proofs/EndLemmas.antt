@@ -10,6 +10,7 @@ use Rattle.page_gather.specs.Gathering.{Gathers, AnswersPage, IsMade, ReadsPage}
 use Rattle.page_gather.specs.Inputs.{Sources, read_files}
 use Rattle.page_gather.specs.Steps.{PassesNoFault}
 use Rattle.page_gather.proofs.GatherLemmas.{refused_count}
+use Rattle.page_writing.specs.Writing.{FailsOnce}
 use Rattle.trap_report.specs.declared.refusal.Refusal.{Refusal}
 use Rattle.trap_report.specs.declared.refusal.Refusal.TheVariants.{Usage, Job, NoDetails, Plate, Page, Read, Write, Memory}
 use Rattle.page_output.specs.Output.{AnswersPut, PutsOut}
@@ -29,6 +30,16 @@ answer_refused band source target a b r Memory answer = (answer, refl)
 answer_refused band source target a b r Usage answer = absurd answer
 answer_refused band source target a b r (Write file) answer = absurd answer
 
+once_refused : (source : Sources) (a b : TrayState) (r : RackState) (refusal : Refusal) → AnswersPage source a b (Err refusal) → FailsOnce {T = Receipt} r r (Err refusal)
+once_refused source a b r (Job fault) answer = tt
+once_refused source a b r (NoDetails plate) answer = tt
+once_refused source a b r (Plate plate fault) answer = tt
+once_refused source a b r (Page fault) answer = tt
+once_refused source a b r (Read file) answer = tt
+once_refused source a b r Memory answer = tt
+once_refused source a b r Usage answer = tt
+once_refused source a b r (Write file) answer = absurd answer
+
 -- The page could not be read.
 not_read : (band : ℕ) (source : Sources) (target : Targets) (a b : TrayState) (r : RackState) (refusal : Refusal) → Gathers source a b (Err refusal) → CarriesOut band source target a b r r (Err refusal)
 not_read band source target a b r refusal reads = record {
@@ -40,6 +51,7 @@ not_read band source target a b r refusal reads = record {
   told = λ tells. refl;
   created = asks_none_of r.asked (written_names target);
   answer = answer_refused band source target a b r refusal reads.answer;
+  once = once_refused source a b r refusal reads.answer;
 }
 
 -- There was no memory to begin with.
@@ -53,6 +65,7 @@ not_begun band source target a r = record {
   told = λ tells. refl;
   created = asks_none_of r.asked (written_names target);
   answer = (tt, refl);
+  once = tt;
 }
 
 -- The page was not read, for one reason or the other.
@@ -67,7 +80,7 @@ module _ (band : ℕ) (source : Sources) (target : Targets) (page : PageParts) (
   made valid = (valid, reads.answer.2)
 
   answer_put : (result : Result Receipt Refusal) → IsPage page → AnswersPut band target page r r' result → AnswersCommand band source target a b r r' result
-  answer_put (Ok receipt) valid answer = (page, made valid, answer.0, reads.answer.1, answer.1, answer.2)
+  answer_put (Ok receipt) valid answer = (page, made valid, answer.0, reads.answer.1, answer.1, answer.2, answer.3)
   answer_put (Err (Write file)) valid answer = (page, made valid, answer)
   answer_put (Err Memory) valid answer = (tt, answer)
   answer_put (Err Usage) valid answer = absurd answer
@@ -99,4 +112,5 @@ module _ (band : ℕ) (source : Sources) (target : Targets) (page : PageParts) (
     told = put.told;
     created = put.asked;
     answer = answer_put result put.valid put.answer;
+    once = put.once;
   }

@@ -28,13 +28,13 @@ report_made words page (Err refusal) small is memory = subst (λ (r : Refusal). 
 -- The report was told in part, since a call failed.
 pub told_a_part : (words : SampleWords) (text : List ℕ) (a b : RackState) (failed : Failed) → IsSmall words → text ≡ sample_report words → Tells {T = Unit {0}} {E = Failed} text a b (Err failed) → EndsSample words a b not_written None
 told_a_part words text a b failed small is tells = record {
-  files = record { keeps = tells.keeps; asked = tells.asked; is_open = tells.is_open; files = tells.files };
+  files = record { keeps = tells.keeps; asked = tells.asked; finished = tells.finished; is_open = tells.is_open; files = tells.files };
   answer = told_in_part small refl tells.cause (λ told. (let front = tells.part told in (front.0, front.1 ∙ ap (λ (t : List ℕ). a.told ++ take front.0 t) is))) refl;
 }
 
 -- The report was told whole, and the table at which the page was trapped is handed on.
 pub told_whole : (words : SampleWords) (text : List ℕ) (a b : RackState) (receipt : Receipt) (x : Unit {0}) → IsSmall words → text ≡ sample_report words → IsWholeReceipt (sample_of words) sample_band receipt → Tells {T = Unit {0}} {E = Failed} text a b (Ok x) → EndsSample words a b done (Some receipt)
 told_whole words text a b receipt x small is whole tells = record {
-  files = record { keeps = tells.keeps; asked = tells.asked; is_open = tells.is_open; files = tells.files };
+  files = record { keeps = tells.keeps; asked = tells.asked; finished = tells.finished; is_open = tells.is_open; files = tells.files };
   answer = told small refl tells.well (λ tell. tells.told tell ∙ ap (λ (t : List ℕ). a.told ++ t) is) (receipt, refl, whole);
 }

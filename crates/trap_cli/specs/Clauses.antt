@@ -13,12 +13,12 @@ use Rattle.page_gather.specs.Gathering.{BreaksReading, InHand, IsMade, files_to}
 use Rattle.page_gather.specs.Steps.{PassesNoFault}
 use Rattle.pgm_plates.specs.declared.plate.Plate.{Plate as PlateRead}
 use Rattle.page_writing.specs.Files.{Written, put_all}
-use Rattle.page_writing.specs.Writing.{Breaks}
+use Rattle.page_writing.specs.Writing.{Breaks, FinishesAll}
 use Rattle.trap_report.specs.declared.refusal.Refusal.{Refusal}
 use Rattle.trap_report.specs.declared.refusal.Refusal.TheVariants as Refusals
 use Rattle.trap_report.specs.Refusals.{line_of, status_of}
 use Rattle.trap_report.specs.Statuses.{done, usage, job_refused, page_refused, not_read, not_written, out_of_memory}
-use Rattle.trap_report.specs.Telling.{TellsText, TellsBehindFault}
+use Rattle.trap_report.specs.Telling.{TellsText, TellsAfterFault}
 use Rattle.trap_words.specs.Words.{PageWords, SampleWords, begins_with_page, command_of, Page, Sample}
 use Rattle.trap_cli.specs.Commands.{sample_band, sources_of, targets_of}
 use Rattle.trap_cli.specs.Endings.{HasReceipt, IsSmall, sample_of, sample_report}
@@ -33,12 +33,13 @@ MeanPage words page = command_of words ≡ Some (Page page)
 abbrev pub MeanSample : List (List ℕ) → SampleWords → Type 0
 MeanSample words sample = command_of words ≡ Some (Sample sample)
 
--- Status 0 comes only where neither count rose. Of a page: a page is made, which is the one of the job and the plates where the tray tells them, so that the verdict is its outcome; the rack's files are the old ones with these put in, in order; and the receipt is the whole one of this page, in bands of as many rows as the words say. Each file is finished, each was asked for in its order, and nothing is told. Of a sample page the receipt is the whole one of the sample page. At no other status there is a receipt.
+-- Status 0 comes only where neither count rose. Of a page: a page is made, which is the one of the job and the plates where the tray tells them, so that the verdict is its outcome; the rack's files are the old ones with these put in, in order; and the receipt is the whole one of this page, in bands of as many rows as the words say. Each file is finished, each was asked for in its order, no other is, and nothing is told. Of a sample page the receipt is the whole one of the sample page. At no other status there is a receipt.
 pub record Success (words : List (List ℕ)) (tray tray' : TrayState) (rack rack' : RackState) (status : ℕ) (receipt : Option Receipt) : Type 0 where
   pub calm : status ≡ done → (tray'.faults ≡ tray.faults) × (rack'.faults ≡ rack.faults)
   pub files : (page : PageWords) → MeanPage words page → status ≡ done → (made : PageParts) × IsMade (sources_of page) tray made × (IsTrue rack.tells → rack'.file ≡ put_all (outcome (targets_of page) made) rack.file) × HasReceipt made page.band receipt
   pub silent : (page : PageWords) → MeanPage words page → status ≡ done → IsTrue rack.tells → rack'.told ≡ rack.told
-  pub finished : (page : PageWords) → MeanPage words page → status ≡ done → IsFalse rack'.is_open
+  pub finished : (page : PageWords) → MeanPage words page → status ≡ done → FinishesAll (written_names (targets_of page)) rack rack'
+  pub shut : (page : PageWords) → MeanPage words page → status ≡ done → IsFalse rack'.is_open
   pub begun : (page : PageWords) → MeanPage words page → status ≡ done → Asks tray.asked tray'.asked (read_files (sources_of page))
   pub created : (page : PageWords) → MeanPage words page → status ≡ done → Asks rack.asked rack'.asked (written_names (targets_of page))
   pub sample : (sample : SampleWords) → MeanSample words sample → status ≡ done → HasReceipt (sample_of sample) sample_band receipt
@@ -72,10 +73,10 @@ pub record ReadFault (words : List (List ℕ)) (tray tray' : TrayState) (rack ra
   pub in_hand : (page : PageWords) → MeanPage words page → (tray' ≡ tray) ⊎ InHand (sources_of page) tray tray'
   pub calm : (status ≡ not_written) ⊎ (status ≡ out_of_memory) → tray'.faults ≡ tray.faults
 
--- Status 6 comes only where the rack's count rose. Of a page the verdict is then a list of files: those before the failed one are whole, it holds a front of its bytes or is as before, and the later ones are as before. The names handed to `create` are a front of those of the plates and the report, and the line names the last of them.
+-- Status 6 comes only where the rack's count rose. Of a page the verdict is then a list of files: those before the failed one are whole and finished, it holds a front of its bytes or is as before, and the later ones are as before. The names handed to `create` are a front of those of the plates and the report, and the line names the last of them, whole unless a further call failed.
 pub record WriteFault (words : List (List ℕ)) (tray : TrayState) (rack rack' : RackState) (status : ℕ) : Type 0 where
   pub cause : status ≡ not_written → Rose rack.faults rack'.faults
-  pub breaks : (page : PageWords) → MeanPage words page → status ≡ not_written → (file : Option ℕ) × ((made : PageParts) × IsMade (sources_of page) tray made × Breaks (length (targets_of page).outputs) (outcome (targets_of page) made) file rack rack') × TellsBehindFault (line_of (Refusals.Write file)) rack rack'
+  pub breaks : (page : PageWords) → MeanPage words page → status ≡ not_written → (file : Option ℕ) × ((made : PageParts) × IsMade (sources_of page) tray made × Breaks (length (targets_of page).outputs) (outcome (targets_of page) made) file rack rack') × TellsAfterFault (line_of (Refusals.Write file)) rack rack'
   pub asked : (page : PageWords) → MeanPage words page → AsksFront rack.asked rack'.asked (written_names (targets_of page))
 
 -- For every status but 0 and 6 no file is created, and the rack's files are as before. Status 7 is want of memory.

@@ -13,7 +13,7 @@ use Rattle.page_gather.specs.Gathering.{AnswersPage, InHand, IsMade}
 use Rattle.page_gather.specs.Inputs.{Sources, read_files}
 use Rattle.page_gather.specs.Steps.{PassesNoFault}
 use Rattle.page_source.specs.Sample.{sample_parts}
-use Rattle.page_writing.specs.Writing.{WritesAll, Breaks}
+use Rattle.page_writing.specs.Writing.{WritesAll, Breaks, FailsOnce, FinishesAll}
 use Rattle.trap_engine.specs.Receipts.{IsWholeReceipt}
 use Rattle.trap_report.specs.declared.refusal.Refusal.{Refusal}
 use Rattle.trap_report.specs.declared.refusal.Refusal.TheVariants.{Usage, Page, Write, Memory}
@@ -27,7 +27,7 @@ use Rattle.verdicts.specs.Verdicts.{Targets, outcome, written_names}
 
 -- What the answer says where the page is read first.
 abbrev pub AnswersCommand : ℕ → Sources → Targets → TrayState → TrayState → RackState → RackState → Result Receipt Refusal → Type 0
-AnswersCommand band source target tray tray' rack rack' (Ok receipt) = (page : PageParts) × IsMade source tray page × IsWholeReceipt page band receipt × Asks tray.asked tray'.asked (read_files source) × WritesAll (outcome target page) rack rack' × Asks rack.asked rack'.asked (written_names target)
+AnswersCommand band source target tray tray' rack rack' (Ok receipt) = (page : PageParts) × IsMade source tray page × IsWholeReceipt page band receipt × Asks tray.asked tray'.asked (read_files source) × WritesAll (outcome target page) rack rack' × Asks rack.asked rack'.asked (written_names target) × FinishesAll (written_names target) rack rack'
 AnswersCommand band source target tray tray' rack rack' (Err (Write file)) = (page : PageParts) × IsMade source tray page × Breaks (length target.outputs) (outcome target page) file rack rack'
 AnswersCommand band source target tray tray' rack rack' (Err refusal) = AnswersPage source tray tray' (Err refusal) × (rack' ≡ rack)
 
@@ -41,6 +41,7 @@ pub record CarriesOut (band : ℕ) (source : Sources) (target : Targets) (tray t
   pub told : IsTrue rack.tells → rack'.told ≡ rack.told
   pub created : AsksFront rack.asked rack'.asked (written_names target)
   pub answer : AnswersCommand band source target tray tray' rack rack' result
+  pub once : FailsOnce rack rack' result
 
 -- the status; the receipt where the work is done, and else the line of the refusal
 abbrev pub Closes : Result Receipt Refusal → RackState → RackState → ℕ → Option Receipt → Type 0

@@ -1,6 +1,7 @@
 -- What it means to tell a text, and to refuse with a line.
 use Rattle.std.specs.Prelude.{◌≡◌, ◌⊎◌, ℕ, IsTrue, List, ◌++◌, take}
 use Rattle.outside.specs.Causes.{Rose}
+use Rattle.outside.specs.Counts.{one_more}
 use Rattle.outside.specs.Rack.{RackState, KeepsRack}
 use Rattle.trap_report.specs.declared.refusal.Refusal.{Refusal}
 use Rattle.trap_report.specs.Refusals.{line_of, status_of}
@@ -17,10 +18,15 @@ TellsText text before after = IsTrue before.tells → IsTold text before.faults 
 abbrev pub TellsBehindFault : List ℕ → RackState → RackState → Type 0
 TellsBehindFault text before after = (since : ℕ) × Rose before.faults since × (IsTrue before.tells → IsTold text since before after)
 
+-- The same after a failed write: whole, unless a further call failed than the one of the write.
+abbrev pub TellsAfterFault : List ℕ → RackState → RackState → Type 0
+TellsAfterFault text before after = IsTrue before.tells → IsTold text (one_more before.faults) before after
+
 -- No file is created, changed, opened or finished.
 pub record KeepsFiles (before after : RackState) : Type 0 where
   pub keeps : KeepsRack before after
   pub asked : after.asked ≡ before.asked
+  pub finished : after.finished ≡ before.finished
   pub is_open : after.is_open ≡ before.is_open
   pub files : IsTrue before.tells → after.file ≡ before.file
 

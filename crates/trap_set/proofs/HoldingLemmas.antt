@@ -1,9 +1,9 @@
 -- How a text that is written piece by piece goes on.
-use Rattle.std.proofs.Common.{◌≡◌, ℕ, ◌+◌, ◌≤◌, List, [], ◌++◌, length, take, min, refl, sym, ap, ◌∙◌, subst, arith, append_assoc, Result, Ok, Err}
+use Rattle.std.proofs.Common.{◌≡◌, ℕ, ◌+◌, ◌≤◌, List, [], ◌∷◌, ◌++◌, length, take, min, refl, sym, ap, ◌∙◌, subst, arith, append_assoc, Result, Ok, Err}
 use Rattle.std.specs.Prelude.{IsTrue}
 use Rattle.std.proofs.lemmas.List.{append-nil, take-append-le, take_min}
 use Rattle.std.proofs.Math.Seq.{take-append-add, take-length}
-use Rattle.outside.specs.Causes.{Rose}
+use Rattle.outside.specs.Causes.{Rose, RoseOnce, Asks}
 use Rattle.outside.specs.Rack.{RackState, put}
 use Rattle.outside.specs.Rack.{Finishes}
 use Rattle.outside.specs.Writing.{Grows, WritesOn, FillsFile}
@@ -23,7 +23,7 @@ grows_as a b s t e g = subst (λ (bs : List ℕ). Grows bs s t) e g
 
 -- nothing is held at the start
 pub holds_nothing : (s : RackState) → Holds [] [] s s
-holds_nothing s = record { tells = refl; faults = refl; asked = refl; told = λ t. refl; is_open = refl; current = λ t. refl; written = []; whole = refl; files = λ t. grows_nothing s }
+holds_nothing s = record { tells = refl; faults = refl; asked = refl; finished = refl; told = λ t. refl; is_open = refl; current = λ t. refl; written = []; whole = refl; files = λ t. grows_nothing s }
 
 -- what is held back is written
 pub holds_written : {T E : Type 0} (v : T) (text held : List ℕ) (start s t : RackState) → WritesOn {T = T} {E = E} held s t (Ok v) → Holds text held start s → Holds text [] start t
@@ -31,6 +31,7 @@ holds_written v text held start s t w h = record {
   tells = w.keeps.tells ∙ h.tells;
   faults = w.well ∙ h.faults;
   asked = w.asked ∙ h.asked;
+  finished = w.finished ∙ h.finished;
   told = λ x. w.told (subst IsTrue (sym h.tells) x) ∙ h.told x;
   is_open = w.is_open ∙ h.is_open;
   current = λ x. w.current (subst IsTrue (sym h.tells) x) ∙ h.current x;
@@ -45,6 +46,7 @@ holds_more text held piece start s h = record {
   tells = h.tells;
   faults = h.faults;
   asked = h.asked;
+  finished = h.finished;
   told = h.told;
   is_open = h.is_open;
   current = h.current;
@@ -65,12 +67,14 @@ pub breaks_written : {T E : Type 0} (v : E) (text held : List ℕ) (start s t : 
 breaks_written v text held start s t w h = record {
   keeps = record { tells = w.keeps.tells ∙ h.tells; faults = subst (λ (n : ℕ). n ≤ t.faults) h.faults w.keeps.faults };
   asked = w.asked ∙ h.asked;
+  finished = w.finished ∙ h.finished;
   told = λ x. w.told (subst IsTrue (sym h.tells) x) ∙ h.told x;
   is_open = w.is_open ∙ h.is_open;
   part = λ x.
       (let part = w.part (subst IsTrue (sym h.tells) x) in
       (length h.written + part.0, grows_as _ _ start t (front_of_part h.written held part.0 ∙ ap (take (length h.written + part.0)) (sym h.whole)) (grows_both h.written (take part.0 held) start s t (h.current x) (h.files x) part.1)));
   cause = subst (λ (n : ℕ). Rose n t.faults) h.faults w.cause;
+  once = subst (λ (n : ℕ). RoseOnce n t.faults) h.faults w.once;
 }
 
 -- what broke off within a text broke off within a longer one
@@ -81,9 +85,11 @@ pub breaks_more : (text more : List ℕ) (start t : RackState) → Breaks text s
 breaks_more text more start t b = record {
   keeps = b.keeps;
   asked = b.asked;
+  finished = b.finished;
   told = b.told;
   is_open = b.is_open;
   cause = b.cause;
+  once = b.once;
   part = λ x. (let part = b.part x in (min part.0 (length text), grows_as _ _ start t (take_front text more part.0) part.1));
 }
 
@@ -174,25 +180,31 @@ fills_whole {T2 = T2} {E2 = E2} v r text held s t u none p f = by r f where
     asked = g.asked ∙ h.asked;
     told = λ x. g.told (told_there x) ∙ h.told x;
     shut = g.shut;
+    finished = λ x. subst (λ o. Asks o u.finished (s.current ∷ [])) h.finished (subst (λ n. Asks t.finished u.finished (n ∷ [])) (h.current x) (g.finished (told_there x)));
+    unfinished = tt;
     kept = tt;
     files = λ x. (λ bytes files e. g.files (told_there x) ∙ grown x bytes files e);
     part = tt;
     well = g.fails.well ∙ h.faults;
     cause = tt;
+    once = tt;
   }
   by (Err e) g = record {
     keeps = record { tells = g.keeps.tells ∙ h.tells; faults = subst (λ (n : ℕ). n ≤ u.faults) h.faults g.keeps.faults };
     asked = g.asked ∙ h.asked;
     told = λ x. g.told (told_there x) ∙ h.told x;
     shut = tt;
+    finished = tt;
+    unfinished = g.unfinished ∙ h.finished;
     kept = g.kept.0 ∙ h.is_open;
     files = tt;
     part = λ x. (length text, grows_as text (take (length text) text) s u (sym (take-length text)) (λ bytes files e2. g.files (told_there x) ∙ grown x bytes files e2));
     well = tt;
     cause = subst (λ (n : ℕ). Rose n u.faults) h.faults g.fails.cause;
+    once = subst (λ (n : ℕ). RoseOnce n u.faults) h.faults g.fails.once;
   }
 
 pub fills_part : {T T2 E E2 : Type 0} (e : E) (e2 : E2) (text held : List ℕ) (s t : RackState) → Puts {T = T} {E = E} text [] held s t (Err e) → FillsFile {T = T2} {E = E2} text s t (Err e2)
 fills_part e e2 text held s t p =
     let b = p.fault s [] (holds_nothing s) in
-    record { keeps = b.keeps; asked = b.asked; told = b.told; shut = tt; kept = b.is_open; files = tt; part = b.part; well = tt; cause = b.cause }
+    record { keeps = b.keeps; asked = b.asked; told = b.told; shut = tt; finished = tt; unfinished = b.finished; kept = b.is_open; files = tt; part = b.part; well = tt; cause = b.cause; once = b.once }

@@ -1,6 +1,6 @@
 -- What it means to write a text piece by piece, of which the last bytes are held back until there are enough for a write.
 use Rattle.std.specs.Prelude.{◌≡◌, ℕ, IsTrue, List, ◌++◌, take, Result, OnOk, OnErr}
-use Rattle.outside.specs.Causes.{Rose}
+use Rattle.outside.specs.Causes.{Rose, RoseOnce}
 use Rattle.outside.specs.Rack.{RackState, KeepsRack}
 use Rattle.outside.specs.Writing.{Grows}
 
@@ -9,6 +9,7 @@ pub record Holds (text held : List ℕ) (start state : RackState) : Type 0 where
   pub tells : state.tells ≡ start.tells
   pub faults : state.faults ≡ start.faults
   pub asked : state.asked ≡ start.asked
+  pub finished : state.finished ≡ start.finished
   pub told : IsTrue start.tells → state.told ≡ start.told
   pub is_open : state.is_open ≡ start.is_open
   pub current : IsTrue start.tells → state.current ≡ start.current
@@ -20,10 +21,12 @@ pub record Holds (text held : List ℕ) (start state : RackState) : Type 0 where
 pub record Breaks (text : List ℕ) (start state : RackState) : Type 0 where
   pub keeps : KeepsRack start state
   pub asked : state.asked ≡ start.asked
+  pub finished : state.finished ≡ start.finished
   pub told : IsTrue start.tells → state.told ≡ start.told
   pub is_open : state.is_open ≡ start.is_open
   pub part : IsTrue start.tells → (k : ℕ) × Grows (take k text) start state
   pub cause : Rose start.faults state.faults
+  pub once : RoseOnce start.faults state.faults
 
 -- the piece is put behind any text that is held, or the rack fails within it
 pub record Puts {T E : Type 0} (piece held held2 : List ℕ) (before after : RackState) (result : Result T E) : Type 0 where

@@ -9,7 +9,7 @@ use Rattle.trappool_cli.specs.Answers.{TellsPart, TellsWhole}
 -- A front of the first piece is told.
 pub told_none : {T E : Type 0} (name text : List ℕ) (a b : RackState) (e : E) → Tells {T = T} {E = E} name a b (Err e) → TellsPart (name ++ text) a b
 told_none name text a b e one = record {
-  files = record { keeps = one.keeps; asked = one.asked; is_open = one.is_open; files = one.files };
+  files = record { keeps = one.keeps; asked = one.asked; finished = one.finished; is_open = one.is_open; files = one.files };
   cause = one.cause;
   told = λ tells.
       let part = one.part tells in
@@ -21,14 +21,14 @@ told_none name text a b e one = record {
 module _ {T E U V : Type 0} (name text : List ℕ) (a b c : RackState) where
   pub told_whole : (x : T) (y : U) → Tells {T = T} {E = E} name a b (Ok x) → Tells {T = U} {E = V} text b c (Ok y) → TellsWhole (name ++ text) a c
   told_whole x y one two = record {
-    files = record { keeps = kept_then a b c one.keeps two.keeps; asked = two.asked ∙ one.asked; is_open = two.is_open ∙ one.is_open; files = λ tells. two.files (told_on a b one.keeps tells) ∙ one.files tells };
+    files = record { keeps = kept_then a b c one.keeps two.keeps; asked = two.asked ∙ one.asked; finished = two.finished ∙ one.finished; is_open = two.is_open ∙ one.is_open; files = λ tells. two.files (told_on a b one.keeps tells) ∙ one.files tells };
     calm = two.well ∙ one.well;
     told = λ tells. two.told (told_on a b one.keeps tells) ∙ ap (λ (l : List ℕ). l ++ text) (one.told tells) ∙ append_assoc a.told name text;
   }
 
   pub told_first : (x : T) (e : V) → Tells {T = T} {E = E} name a b (Ok x) → Tells {T = U} {E = V} text b c (Err e) → TellsPart (name ++ text) a c
   told_first x e one two = record {
-    files = record { keeps = kept_then a b c one.keeps two.keeps; asked = two.asked ∙ one.asked; is_open = two.is_open ∙ one.is_open; files = λ tells. two.files (told_on a b one.keeps tells) ∙ one.files tells };
+    files = record { keeps = kept_then a b c one.keeps two.keeps; asked = two.asked ∙ one.asked; finished = two.finished ∙ one.finished; is_open = two.is_open ∙ one.is_open; files = λ tells. two.files (told_on a b one.keeps tells) ∙ one.files tells };
     cause = rose_before a.faults b.faults c.faults one.keeps.faults two.cause;
     told = λ tells.
         let part = two.part (told_on a b one.keeps tells) in

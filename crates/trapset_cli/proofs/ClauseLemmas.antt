@@ -51,6 +51,7 @@ breaks_then written k a b c keeps breaks files = record {
   all = breaks.all;
   place = breaks.place;
   asked = subst (λ (names : Option (List (List ℕ))). Asks a.asked names (names_of breaks.earlier ++ breaks.file.name ∷ [])) (sym files.asked) breaks.asked;
+  finished = λ told. subst (λ (names : Option (List (List ℕ))). Asks a.finished names (names_of breaks.earlier)) (sym files.finished) (breaks.finished told);
   part = λ told. broken_then breaks.file.name breaks.file.bytes (put_all breaks.earlier a.file) b c files.is_open (files.files (keeps.tells ∙ told)) (breaks.part told);
   cause = rose_after a.faults b.faults c.faults keeps.faults files.keeps.faults breaks.cause;
 }

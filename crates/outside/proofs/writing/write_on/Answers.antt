@@ -7,6 +7,7 @@ pub loop-done-init : goal.loop-done-init
 loop-done-init g c = record {
   keeps = search rules;
   asked = search rules;
+  finished = search rules;
   told = search rules;
   is_open = search rules;
   current = search rules;
@@ -21,6 +22,7 @@ loop-done-preserved g c =
     record {
       keeps = search rules;
       asked = search rules;
+      finished = search rules;
       told = search rules;
       is_open = search rules;
       current = search rules;
@@ -34,7 +36,7 @@ loop-done-preserved g c =
 pub returns-in-Err : goal.returns-in-Err
 returns-in-Err g c =
     let here = c.loop-done.invariant in
-    write_failed c.args.piece.now (take (length c.args.piece.now - c.loop-done.done) (drop c.loop-done.done c.args.piece.now)) c.loop-done.done (g.R.Rack.state c.args.rack.now) (g.R.Rack.state c.loop-done.rack) (g.R.Rack.state c.write.new.self) _ _ here.keeps here.asked here.told here.is_open here.current here.files c.in-Err.ensures
+    write_failed c.args.piece.now (take (length c.args.piece.now - c.loop-done.done) (drop c.loop-done.done c.args.piece.now)) c.loop-done.done (g.R.Rack.state c.args.rack.now) (g.R.Rack.state c.loop-done.rack) (g.R.Rack.state c.write.new.self) _ _ here.keeps here.asked here.finished here.well here.told here.is_open here.current here.files c.in-Err.ensures
 
 pub returns : goal.returns
 returns g c =
@@ -42,6 +44,7 @@ returns g c =
     record {
       keeps = here.keeps;
       asked = here.asked;
+      finished = here.finished;
       told = here.told;
       is_open = here.is_open;
       current = here.current;
@@ -49,4 +52,5 @@ returns g c =
       part = tt;
       well = here.well;
       cause = tt;
+      once = tt;
     }
