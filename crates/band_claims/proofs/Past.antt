@@ -15,7 +15,7 @@ use Rattle.band_claims.specs.Kinds.{Kind, looks, wins, loses, reads, puts, finis
 use Rattle.band_claims.specs.Laws.{DoneStaysDone, LooksArePast, LooksRise}
 use Rattle.band_claims.specs.Rule.{piece_word}
 use Rattle.band_claims.specs.Sheets.{shape_of, cell, IsFit}
-use Rattle.band_claims.specs.Views.{look, newcomer, spent, looked_at, claimed, put, finished, branched, joined}
+use Rattle.band_claims.specs.Views.{look, newcomer, spent, looked_at, claimed, put, finished, parted, branched, joined}
 use Rattle.band_claims.proofs.Boards.{piece_here, piece_else, piece_stays}
 use Rattle.band_claims.proofs.Events.{keeps_rule}
 use Rattle.band_claims.proofs.Keeps.{held_by, opens}
@@ -113,9 +113,9 @@ module _ (k : Shape) (ok : IsShape k) (defined : ℕ → ℕ) (some_value : (j :
       let had = later s.words next v grow (all id v h.1.sees) in
       let mine : Of next (finished i v) = (tt, past_more k next v.told (look i 2) had.1 held.piece (sym (piece_here k ok s.words r.wide i 2 held.piece))) in
       subst P (sym h.2) (set_past s.words next s.views id (finished i v) grow mine all)
-  step s t (splits id) r all h = let v = h.0 in let w : View = branched v in let had = all id v h.1 in
+  step s t (splits id works) r all h = let v = h.0 in let u : View = parted works v in let w : View = branched works v in let had = all id v h.1 in
       let mine : Of s.words w = (tt, had.1) in
-      subst P (sym h.3) (λ j d e. ⊎_elim (set_past s.words s.words s.views id v (same s.words) had all j d) (λ (q : w ≡ d). subst (Of s.words) q mine) (at_snoc (set s.views id v) w d j e))
+      subst P (sym h.3) (λ j d e. ⊎_elim (set_past s.words s.words s.views id u (same s.words) had all j d) (λ (q : w ≡ d). subst (Of s.words) q mine) (at_snoc (set s.views id u) w d j e))
   step s t (joins id other) r all h = let v = h.0 in let w = h.1 in let both : View = joined v w in
       subst P (sym h.3) (set_past s.words s.words (set s.views id both) other spent (same s.words) (tt, tt) (set_past s.words s.words s.views id both (same s.words) (all id v h.2.sees) all))
 
