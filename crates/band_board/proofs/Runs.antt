@@ -1,4 +1,4 @@
--- Over a run each board is sound, cells stay, and no piece is done twice; and no board is stuck.
+-- Over a run each board is sound, cells stay, and no piece is claimed or done twice; and no board is stuck.
 use Rattle.std.proofs.Common.{◌≡◌, ◌≢◌, ◌⊎◌, ℕ, zero, suc, ◌<◌, ◌≤◌, ◌==◌, Bool, true, false, List, [], ◌∷◌, ◌++◌, replicate, refl, sym, ap, ◌∙◌, inl, inr, arith, ne_eqb, eq-eqb}
 use Rattle.std.specs.Prelude.{not, Some, None, if◌then◌else◌, slice_index_or}
 use Rattle.std.specs.Option.{is_some}
@@ -9,7 +9,7 @@ use Rattle.band_board.specs.declared.event.Event.{Event}
 use Rattle.band_board.specs.declared.event.Event.TheVariants.{Claim, Put, Done}
 use Rattle.band_board.specs.Shapes.{Shape, IsShape}
 use Rattle.band_board.specs.Boards.{Board, state_at, cell_at, state_free, state_done, is_free, is_claimed, is_done, lacks, has_empty, in_hand, set_state, IsBoard, allowed, changed, after, opening, InRange}
-use Rattle.band_board.specs.Runs.{Sound, ByRecipe, ByDefinition, Step, IsRun, played, done_by, times_done, RunLaw, Halo}
+use Rattle.band_board.specs.Runs.{Sound, ByRecipe, ByDefinition, Step, IsRun, played, done_by, times_done, claimed_by, times_claimed, RunLaw, Halo}
 use Rattle.band_board.proofs.Boards.{clash, free_not_done, claimed_not_done, claimed_not_free, free_if_neither, here, elsewhere, unfilled, whole_state, whole_cell, hand}
 use Rattle.band_board.proofs.Keeps.{sound_claim, sound_done, sound_put}
 
@@ -135,12 +135,47 @@ done_once k recipe board (event ∷ events) w r i = elim (done_then k board even
   | inr one ↦ (let rest = never_again k recipe (changed board event) events (whole_after k board event w) r.1 i one.1 in let now = one.0 in omega (arith, rest, now))
 ]
 
+-- a piece that is not free stays so, and is not claimed
+taken_stays : (k : Shape) (board : Board) (event : Event) → IsBoard k board → InRange k event → allowed k board event ≡ true → (i : ℕ) → is_free board i ≡ false → (is_free (changed board event) i ≡ false) × (claimed_by i event ≡ 0)
+taken_stays k board (Claim n) w l t i f =
+    let two = and_parts (is_free board n) (not (lacks k board n)) t in
+    let other : i ≢ n = (λ e. clash _ two.0 (sym (ap (is_free board) e) ∙ f)) in
+    (ap state_free (elsewhere k board w n i Claimed other) ∙ f, rw (ne_eqb i n other) refl)
+taken_stays k board (Put j v) w l t i f = (f, refl)
+taken_stays k board (Done n) w l t i f = (elim (cases_eq i n) [
+  | inl e ↦ ap (is_free (set_state board n IsDone)) e ∙ ap state_free (here k board w n IsDone l)
+  | inr ne ↦ ap state_free (elsewhere k board w n i IsDone ne) ∙ f
+], refl)
+
+never_claimed : (k : Shape) (recipe : Board → ℕ → ℕ) (board : Board) (events : List Event) → IsBoard k board → IsRun k recipe board events → (i : ℕ) → is_free board i ≡ false → times_claimed i events ≡ 0
+never_claimed k recipe board [] w r i f = refl
+never_claimed k recipe board (event ∷ events) w r i f =
+    let t = taken_stays k board event w r.0.in_range (is_allowed k board event r.0.has_after) i f in
+    let rest = never_claimed k recipe (changed board event) events (whole_after k board event w) r.1 i t.0 in let now = t.1 in omega (arith, rest, now)
+
+-- one event claims a piece once at most, and it is not free then
+claimed_then : (k : Shape) (board : Board) (event : Event) → IsBoard k board → InRange k event → (i : ℕ) → (claimed_by i event ≡ 0) ⊎ ((claimed_by i event ≡ 1) × (is_free (changed board event) i ≡ false))
+claimed_then k board (Claim n) w l i = elim (cases_eq i n) [
+  | inl e ↦ inr (rw (eq-eqb i n e) refl, ap (is_free (set_state board n Claimed)) e ∙ ap state_free (here k board w n Claimed l))
+  | inr ne ↦ inl (rw (ne_eqb i n ne) refl)
+]
+claimed_then k board (Put j v) w l i = inl refl
+claimed_then k board (Done n) w l i = inl refl
+
+pub claimed_once : (k : Shape) (recipe : Board → ℕ → ℕ) (board : Board) (events : List Event) → IsBoard k board → IsRun k recipe board events → (i : ℕ) → times_claimed i events ≤ 1
+claimed_once k recipe board [] w r i = omega arith
+claimed_once k recipe board (event ∷ events) w r i = elim (claimed_then k board event w r.0.in_range i) [
+  | inl none ↦ (let rest = claimed_once k recipe (changed board event) events (whole_after k board event w) r.1 i in omega (arith, rest, none))
+  | inr one ↦ (let rest = never_claimed k recipe (changed board event) events (whole_after k board event w) r.1 i one.1 in let now = one.0 in omega (arith, rest, now))
+]
+
 pub run_law : (k : Shape) → IsShape k → (defined : ℕ → ℕ) (recipe : Board → ℕ → ℕ) → Halo k defined recipe → RunLaw k defined recipe
 run_law k ok defined recipe halo = record {
   sound = λ early late r. sound_run k ok defined recipe halo (opening k) early (sound_opening k defined) (first_part k recipe (opening k) early late r);
   stays = λ early late r j some.
       let s = sound_run k ok defined recipe halo (opening k) early (sound_opening k defined) (first_part k recipe (opening k) early late r) in
       ap (λ (b : Board). cell_at b j) (played_both (opening k) early late) ∙ cells_stay k recipe (played (opening k) early) late s.whole (second_part k recipe (opening k) early late r) j some;
+  claimed = λ events r i. claimed_once k recipe (opening k) events (sound_opening k defined).whole r i;
   once = λ events r i. done_once k recipe (opening k) events (sound_opening k defined).whole r i;
 }
 

@@ -51,10 +51,21 @@ abbrev pub times_done : ℕ → List Event → ℕ
 times_done i [] = 0
 times_done i (event ∷ events) = done_by i event + times_done i events
 
--- over every run each board is sound, no cell changes once it is not 0, and no piece is done twice
+-- how often piece i is claimed
+abbrev pub claimed_by : ℕ → Event → ℕ
+claimed_by i (Claim n) = if i == n then 1 else 0
+claimed_by i (Put j v) = 0
+claimed_by i (Done n) = 0
+
+abbrev pub times_claimed : ℕ → List Event → ℕ
+times_claimed i [] = 0
+times_claimed i (event ∷ events) = claimed_by i event + times_claimed i events
+
+-- over every run each board is sound, no cell changes once it is not 0, and no piece is claimed twice or done twice
 pub record RunLaw (k : Shape) (defined : ℕ → ℕ) (recipe : Board → ℕ → ℕ) : Type 0 where
   pub sound : (early late : List Event) → IsRun k recipe (opening k) (early ++ late) → Sound k defined (played (opening k) early)
   pub stays : (early late : List Event) → IsRun k recipe (opening k) (early ++ late) → (j : ℕ) → cell_at (played (opening k) early) j ≢ 0 → cell_at (played (opening k) (early ++ late)) j ≡ cell_at (played (opening k) early) j
+  pub claimed : (events : List Event) → IsRun k recipe (opening k) events → (i : ℕ) → times_claimed i events ≤ 1
   pub once : (events : List Event) → IsRun k recipe (opening k) events → (i : ℕ) → times_done i events ≤ 1
 
 -- the recipe gives each cell's defined value, where the needs of its piece are done

@@ -15,7 +15,7 @@ pub fn keeps_sound_law()
 {}
 
 /// Where the recipe gives the defined value of each cell whose piece has its needs done, over every run each board is
-/// sound, no cell changes once it is filled, and no piece is done twice.
+/// sound, no cell changes once it is filled, and no piece is claimed twice or done twice.
 pub fn run_law()
     ensures { (k : Shape) → IsShape k → (defined : ℕ → ℕ) (recipe : Board → ℕ → ℕ)
         → Halo k defined recipe → RunLaw k defined recipe }

@@ -40,7 +40,7 @@ module _ (k : Shape) (ok : IsShape k) (defined : ℕ → ℕ) (some_value : (j :
   -- each kind of step keeps the rule
   pub keeps_rule : (s t : St) (kind : Kind) → Kept k defined key s → Happens k defined s kind t → Kept k defined key t
   keeps_rule s t (looks id i) r h = subst (Kept k defined key) (sym h.3) (after_look k ok defined some_value key s r id i h.0 h.1 h.2)
-  keeps_rule s t (wins id i) r h = subst (Kept k defined key) (sym h.3) (keeps_wins k ok defined some_value key s r id i h.0 h.1.sees h.1.piece h.1.idle h.2 h.1.known)
+  keeps_rule s t (wins id i) r h = subst (Kept k defined key) (sym h.3) (keeps_wins k ok defined some_value key s r id i h.0 h.1.sees h.1.piece h.1.idle h.1.shares h.2 h.1.known)
   keeps_rule s t (loses id i) r h = subst (Kept k defined key) (sym h.3) (after_loss k ok defined some_value key s r id i (piece_word s.words i) h.0 h.1.sees h.2)
   keeps_rule s t (reads id j) r h = subst (Kept k defined key) (sym h.2) (after_read k ok defined some_value key s r id h.0 h.1.sees)
   keeps_rule s t (puts id j value) r h =
@@ -49,7 +49,7 @@ module _ (k : Shape) (ok : IsShape k) (defined : ℕ → ℕ) (some_value : (j :
       let P : ℕ → ℕ → Type 0 = λ c x. Kept k defined key record { words = set s.words (k.pieces + c) x; homes = s.homes; views = set s.views id (put v) } in
       subst (Kept k defined key) (sym h.2) (subst (λ (c : ℕ). P c value) here (subst (λ (x : ℕ). P (k.start m.piece + v.filled) x) right (stores k ok defined some_value key s r id m.piece v m.sees m.holding m.room)))
   keeps_rule s t (finishes id i) r h = subst (Kept k defined key) (sym h.2) (ends k ok defined some_value key s r id i h.0 h.1.sees h.1.holding h.1.full)
-  keeps_rule s t (splits id) r h = subst (Kept k defined key) (sym h.3) (keeps_splits k ok defined some_value key id h.0 s r h.1)
+  keeps_rule s t (splits id works) r h = subst (Kept k defined key) (sym h.3) (keeps_splits k ok defined some_value key id works h.0 s r h.1)
   keeps_rule s t (joins id other) r h =
       let m = h.2 in
       subst (Kept k defined key) (sym h.3) (keeps_joins k ok defined some_value key id other h.0 h.1 m.other_idle s r m.sees m.two (set_else s.views id other _ m.two ∙ m.other_sees))
@@ -96,7 +96,7 @@ module _ (k : Shape) (ok : IsShape k) (defined : ℕ → ℕ) (some_value : (j :
         may = and_from (is_claimed (board_of k s.words) i) (not (has_empty k (board_of k s.words) i)) (claimed_on s i r held.piece held.is_claimed) (ap not (none_left k ok s.words r.wide i held.piece (λ o l. held.front o (let full = m.full in omega (arith, l, full)))));
         change = ap (λ (z : St). z.words) h.2;
       }
-  does s t (splits id) r h = ap (λ (z : St). z.words) h.3
+  does s t (splits id works) r h = ap (λ (z : St). z.words) h.3
   does s t (joins id other) r h = ap (λ (z : St). z.words) h.3
 
   module _ (recipe : Board → ℕ → ℕ) (halo : Halo k defined recipe) where

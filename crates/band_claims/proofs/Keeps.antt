@@ -2,6 +2,7 @@
 use Rattle.std.proofs.Common.{Bool, true, false, ◌≡◌, ◌≢◌, ℕ, zero, suc, ◌+◌, ◌<◌, ◌≤◌, ◌==◌, List, [], ◌∷◌, ◌++◌, length, get_or, set, sym, refl, ap, ◌∙◌, subst, ⊎_elim, inl, inr, arith, Some, None, length-set, eq-eqb, ne_eqb}
 use Rattle.std.specs.Prelude.{if◌then◌else◌}
 use Rattle.std.proofs.lemmas.Bool.{cases_eq}
+use Rattle.std.proofs.lemmas.List.{length-append}
 use mathlib.Core.Option.{some, some-injective, some-ne-none}
 use lib.ListN.{get_elem?}
 use Rattle.atomic_table.specs.Table.{State, Me, Splits, Joins, opening}
@@ -12,10 +13,12 @@ use Rattle.band_board.specs.Shapes.{Shape, IsShape}
 use Rattle.band_board.specs.Boards.{state_free, state_done}
 use Rattle.band_board.proofs.Boards.{clash}
 use Rattle.band_board.proofs.TableWords.{is_board, cell_is}
-use Rattle.band_claims.specs.Views.{IsFair, one_if, times, total, is_hand, holds, publishes, Knows, look, newcomer, spent, looked_at, claimed, put, finished, branched, joined}
+use Rattle.band_claims.specs.Shares.{IsCutBy, halved}
+use Rattle.band_claims.specs.Views.{IsFair, one_if, times, total, is_hand, holds, publishes, Knows, look, newcomer, spent, looked_at, claimed, put, finished, parted, branched, joined}
 use Rattle.band_claims.specs.Rule.{piece_word, cell_word}
 use Rattle.band_claims.proofs.Kept.{Holding, Sits, Kept}
 use Rattle.band_claims.proofs.Totals.{total_set, total_snoc, one_of, two_of, times_append}
+use Rattle.band_claims.proofs.ShareLemmas.{length-halved, whole_kept, whole_split, whole_joined}
 use Rattle.band_claims.proofs.Boards.{same_one, other_zero, sound_claim, sound_finish, sound_put, free_cell, done_cell, some_cell, states_piece, states_cell, word_state, sits_piece, sits_cell, known_piece, piece_here, piece_else, piece_stays, cell_stays, cell_here, cell_else}
 
 module _ (k : Shape) (ok : IsShape k) (defined : ℕ → ℕ) (some_value : (j : ℕ) → j < k.cells → 1 ≤ defined j) (key : Sheet) where
@@ -38,15 +41,16 @@ module _ (k : Shape) (ok : IsShape k) (defined : ℕ → ℕ) (some_value : (j :
       (λ (t : (j ≢ id) × (get_elem? vs j ≡ some d)). others j d t.0 t.1) (at_set vs id j w d e)
 
   -- the words stay
-  calm : (s : St) (r : Rule s) (id : ℕ) (v w : View) → get_elem? s.views id ≡ some v → Sits k key s.words w → ((j : ℕ) → holds j w ≡ holds j v) → ((j : ℕ) → publishes j w ≡ publishes j v)
+  calm : (s : St) (r : Rule s) (id : ℕ) (v w : View) → get_elem? s.views id ≡ some v → Sits k key s.words w → ((j : ℕ) → holds j w ≡ holds j v) → ((j : ℕ) → publishes j w ≡ publishes j v) → w.share ≡ v.share
       → Rule record { words = s.words; homes = s.homes; views = set s.views id w }
-  calm s r id v w at sits hand list = record {
+  calm s r id v w at sits hand list share = record {
     wide = r.wide;
     states = r.states;
     sound = r.sound;
     seats = seats_after s.words s.views id w sits (λ j d other e. r.seats j d e);
     one_holder = λ j l. omega (arith, total_set (holds j) s.views id v w at, hand j, r.one_holder j l);
     once = λ j l. omega (arith, total_set (publishes j) s.views id v w at, list j, r.once j l);
+    shares = whole_kept s.views id v w at share r.shares;
   }
 
   seen_more : (words : List ℕ) (i n : ℕ) (v : View) → i < k.pieces → piece_word words i ≡ n → Sits k key words v → (j : ℕ) → Knows (looked_at i n v) j → (j < k.pieces) × (piece_word words j ≡ 2)
@@ -74,19 +78,19 @@ module _ (k : Shape) (ok : IsShape k) (defined : ℕ → ℕ) (some_value : (j :
   pub after_look : (s : St) (r : Rule s) (id i : ℕ) (v : View) → get_elem? s.views id ≡ some v → i < k.pieces
       → Rule record { words = s.words; homes = s.homes; views = set s.views id (looked_at i (piece_word s.words i) v) }
   after_look s r id i v at l = let t = r.seats id v at in
-      calm s r id v (looked_at i (piece_word s.words i) v) at record { page = t.page; hand = t.hand; known = seen_more s.words i (piece_word s.words i) v l refl t } (λ j. refl) (λ j. refl)
+      calm s r id v (looked_at i (piece_word s.words i) v) at record { page = t.page; hand = t.hand; known = seen_more s.words i (piece_word s.words i) v l refl t; unshared = t.unshared } (λ j. refl) (λ j. refl) refl
 
   pub after_loss : (s : St) (r : Rule s) (id i n : ℕ) (v : View) → get_elem? s.views id ≡ some v → n ≢ 0
       → Rule record { words = s.words; homes = s.homes; views = set s.views id (claimed i n v) }
   after_loss s r id i n v at ne =
       let t = r.seats id v at in
-      let won : View = record { sheet = v.sheet; held = Some i; filled = 0; published = v.published; seen = v.seen; looked = []; told = v.told ++ look i 1 ∷ [] } in
-      let lost : View = record { sheet = v.sheet; held = v.held; filled = v.filled; published = v.published; seen = v.seen; looked = v.looked ++ look i n ∷ []; told = v.told ++ look i n ∷ [] } in
+      let won : View = record { sheet = v.sheet; held = Some i; filled = 0; published = v.published; seen = v.seen; looked = []; told = v.told ++ look i 1 ∷ []; share = v.share } in
+      let lost : View = record { sheet = v.sheet; held = v.held; filled = v.filled; published = v.published; seen = v.seen; looked = v.looked ++ look i n ∷ []; told = v.told ++ look i n ∷ []; share = v.share } in
       let Q : Bool → Type 0 = λ b. Rule record { words = s.words; homes = s.homes; views = set s.views id (if b then won else lost) } in
-      subst Q (sym (ne_eqb n 0 ne)) (calm s r id v lost at record { page = t.page; hand = t.hand; known = t.known } (λ j. refl) (λ j. refl))
+      subst Q (sym (ne_eqb n 0 ne)) (calm s r id v lost at record { page = t.page; hand = t.hand; known = t.known; unshared = t.unshared } (λ j. refl) (λ j. refl) refl)
 
   pub after_read : (s : St) (r : Rule s) (id : ℕ) (v : View) → get_elem? s.views id ≡ some v → Rule record { words = s.words; homes = s.homes; views = set s.views id v }
-  after_read s r id v at = calm s r id v v at (r.seats id v at) (λ j. refl) (λ j. refl)
+  after_read s r id v at = calm s r id v v at (r.seats id v at) (λ j. refl) (λ j. refl) refl
 
   empty_hand : (v : View) (j : ℕ) → v.held ≡ None → holds j v ≡ 0
   empty_hand v j is = ap (is_hand j) is
@@ -98,12 +102,12 @@ module _ (k : Shape) (ok : IsShape k) (defined : ℕ → ℕ) (some_value : (j :
   other_hand v i j is ne = ap (is_hand j) is ∙ other_zero j i ne
 
   abbrev taking : View → ℕ → View
-  taking v i = record { sheet = v.sheet; held = Some i; filled = 0; published = v.published; seen = v.seen; looked = []; told = v.told ++ look i 1 ∷ [] }
+  taking v i = record { sheet = v.sheet; held = Some i; filled = 0; published = v.published; seen = v.seen; looked = []; told = v.told ++ look i 1 ∷ []; share = v.share }
 
   -- the winning exchange
-  pub wins : (s : St) (r : Rule s) (id i : ℕ) (v : View) → get_elem? s.views id ≡ some v → i < k.pieces → v.held ≡ None → piece_word s.words i ≡ 0 → ((n : ℕ) → k.needs i n ≡ true → Knows v n)
+  pub wins : (s : St) (r : Rule s) (id i : ℕ) (v : View) → get_elem? s.views id ≡ some v → i < k.pieces → v.held ≡ None → 1 ≤ length v.share → piece_word s.words i ≡ 0 → ((n : ℕ) → k.needs i n ≡ true → Knows v n)
       → Rule record { words = set s.words i 1; homes = s.homes; views = set s.views id (claimed i 0 v) }
-  wins s r id i v at l idle free needs =
+  wins s r id i v at l idle some_share free needs =
       let w : View = claimed i 0 v in let t = r.seats id v at in
       let nobody : total (holds i) s.views ≡ 0 = r.one_holder i l ∙ other_zero (piece_word s.words i) 1 (λ e. omega (arith, free, e)) in
       let here = piece_here k ok s.words r.wide i 1 l in record {
@@ -120,6 +124,7 @@ module _ (k : Shape) (ok : IsShape k) (defined : ℕ → ℕ) (some_value : (j :
             back = λ o _ m. cell_stays k ok s.words r.wide i (k.start i + o) 1 l ∙ free_cell k ok s.words r.wide defined r.sound i o l m free;
           };
           known = known_piece k ok s.words r.wide key i 1 l (omega (arith, free)) v t;
+          unshared = λ e. absurd (omega (arith, e, some_share));
         } (λ j d ne e. sits_piece k ok s.words r.wide key i 1 l (omega (arith, free)) d (omega (arith, nobody, one_of (holds i) s.views j d e)) (r.seats j d e));
         one_holder = λ j m. elim (cases_eq j i) [
           | inl same ↦ rw same (omega (arith, total_set (holds i) s.views id v w at, empty_hand v i idle, full_hand w i refl, nobody, same_one (piece_word (set s.words i 1) i) 1 here))
@@ -127,9 +132,10 @@ module _ (k : Shape) (ok : IsShape k) (defined : ℕ → ℕ) (some_value : (j :
               omega (arith, total_set (holds j) s.views id v w at, empty_hand v j idle, other_hand w i j refl ne, r.one_holder j m, ap (λ (x : ℕ). one_if (x == 1)) stays))
         ];
         once = λ j m. elim (cases_eq j i) [
-          | inl same ↦ rw same (omega (arith, total_set (publishes i) s.views id v w at, r.once i l, other_zero (piece_word s.words i) 2 (λ e. omega (arith, free, e))))
+          | inl same ↦ rw same (omega (arith, total_set (publishes i) s.views id v w at, r.once i l, other_zero (piece_word s.words i) 2 (λ e. omega (arith, free, e)), other_zero (piece_word (set s.words i 1) i) 2 (λ e. omega (arith, here, e))))
           | inr ne ↦ (let stays = piece_else k ok s.words r.wide i j 1 ne in omega (arith, total_set (publishes j) s.views id v w at, r.once j m, ap (λ (x : ℕ). one_if (x == 2)) stays))
         ];
+        shares = whole_kept s.views id v w at refl r.shares;
       }
 
   -- the word of a cell of a piece that a view knows
@@ -170,9 +176,11 @@ module _ (k : Shape) (ok : IsShape k) (defined : ℕ → ℕ) (some_value : (j :
             back = λ o m q. cell_else k ok s.words r.wide c (k.start p + o) x (λ z. omega (arith, z, m)) ∙ h.back o (omega (arith, m)) q;
           };
           known = λ j m. let d = t.known j m in (d.0, stays j d.0 ∙ d.1);
+          unshared = t.unshared;
         } (λ j d ne e. sits_cell k ok s.words r.wide key p v.filled x h.piece room d (others_hold s r id p j v d at is ne e) (r.seats j d e));
         one_holder = λ j m. omega (arith, total_set (holds j) s.views id v (put v) at, r.one_holder j m, ap (λ (z : ℕ). one_if (z == 1)) (stays j m));
         once = λ j m. omega (arith, total_set (publishes j) s.views id v (put v) at, r.once j m, ap (λ (z : ℕ). one_if (z == 2)) (stays j m));
+        shares = whole_kept s.views id v (put v) at refl r.shares;
       }
 
   pub ends : (s : St) (r : Rule s) (id p : ℕ) (v : View) → get_elem? s.views id ≡ some v → v.held ≡ Some p → v.filled ≡ k.size p
@@ -192,6 +200,7 @@ module _ (k : Shape) (ok : IsShape k) (defined : ℕ → ℕ) (some_value : (j :
             | inl same ↦ (rw same l, rw same here)
             | inr ne ↦ known_piece k ok s.words r.wide key p 2 l unfinished v t j (omega (arith, m, times_append j v.published (p ∷ []), other_zero j p ne))
           ];
+          unshared = λ e. absurd (let none : is_hand p (Some p) ≡ is_hand p None = ap (is_hand p) (sym is ∙ (t.unshared e).0) in omega (arith, none, same_one p p refl));
         } (λ j d ne e. sits_piece k ok s.words r.wide key p 2 l unfinished d (others_hold s r id p j v d at is ne e) (r.seats j d e));
         one_holder = λ j m. elim (cases_eq j p) [
           | inl same ↦ rw same (omega (arith, total_set (holds p) s.views id v w at, full_hand v p is, r.one_holder p l, same_one (piece_word s.words p) 1 h.is_claimed, other_zero (piece_word (set s.words p 2) p) 1 (λ e. omega (arith, here, e))))
@@ -201,20 +210,26 @@ module _ (k : Shape) (ok : IsShape k) (defined : ℕ → ℕ) (some_value : (j :
           | inl same ↦ rw same (omega (arith, total_set (publishes p) s.views id v w at, nobody, times_append p v.published (p ∷ []), same_one p p refl, same_one (piece_word (set s.words p 2) p) 2 here, one_of (publishes p) s.views id v at))
           | inr ne ↦ omega (arith, total_set (publishes j) s.views id v w at, times_append j v.published (p ∷ []), other_zero j p ne, r.once j m, ap (λ (x : ℕ). one_if (x == 2)) (piece_else k ok s.words r.wide p j 2 ne))
         ];
+        shares = whole_kept s.views id v w at refl r.shares;
       }
 
-  pub splits : (id : ℕ) (v : View) → Splits Rule id v v (branched v)
-  splits id v s r at =
-      let w : View = branched v in let t = r.seats id v at in
+  kept_share : (works : Bool) (ds : List ℕ) → length (if works then halved ds else ds) ≡ length ds
+  kept_share true ds = length-halved ds
+  kept_share false ds = refl
+
+  pub splits : (id : ℕ) (works : Bool) (v : View) → Splits Rule id v (parted works v) (branched works v)
+  splits id works v s r at =
+      let u : View = parted works v in let w : View = branched works v in let vs : List View = set s.views id u in let t = r.seats id v at in
       let known : (j : ℕ) → Knows w j → (j < k.pieces) × (piece_word s.words j ≡ 2) = λ j m. t.known j (omega (arith, m, times_append j v.seen v.published)) in
-      let new : Sits k key s.words w = record { page = t.page; hand = tt; known = known } in
-      subst (λ (vs : List View). Rule record { words = s.words; homes = s.homes; views = vs ++ w ∷ [] }) (sym (set_again s.views id v at)) record {
+      let mine : Sits k key s.words u = record { page = t.page; hand = t.hand; known = t.known; unshared = λ e. t.unshared (omega (arith, e, kept_share works v.share)) } in
+      let new : Sits k key s.words w = record { page = t.page; hand = tt; known = known; unshared = λ e. (refl, refl) } in record {
         wide = r.wide;
         states = r.states;
         sound = r.sound;
-        seats = λ j d e. ⊎_elim (r.seats j d) (λ (same : w ≡ d). subst (Sits k key s.words) same new) (at_snoc s.views w d j e);
-        one_holder = λ j m. omega (arith, total_snoc (holds j) s.views w, r.one_holder j m);
-        once = λ j m. omega (arith, total_snoc (publishes j) s.views w, r.once j m);
+        seats = λ j d e. ⊎_elim (seats_after s.words s.views id u mine (λ h f _ q. r.seats h f q) j d) (λ (same : w ≡ d). subst (Sits k key s.words) same new) (at_snoc vs w d j e);
+        one_holder = λ j m. omega (arith, total_snoc (holds j) vs w, total_set (holds j) s.views id v u at, r.one_holder j m);
+        once = λ j m. omega (arith, total_snoc (publishes j) vs w, total_set (publishes j) s.views id v u at, r.once j m);
+        shares = whole_split s.views id works v at r.shares;
       }
 
   pub joins : (id other : ℕ) (v w : View) → w.held ≡ None → Joins Rule id v other w (joined v w) spent
@@ -228,19 +243,27 @@ module _ (k : Shape) (ok : IsShape k) (defined : ℕ → ℕ) (some_value : (j :
           | inl none_here ↦ u.known j (omega (arith, m, none_here, times_append j v.published w.published, times_append j v.seen w.seen))
           | inr here ↦ t.known j (omega (arith, here))
         ];
+        unshared = λ e. let long = length-append v.share w.share in
+            let one = t.unshared (omega (arith, e, long)) in let two = u.unshared (omega (arith, e, long)) in
+            (one.0, rw (one.1, two.1) refl);
       } in
-      let over : Sits k key s.words spent = record { page = tt; hand = tt; known = λ j m. absurd (omega (arith, m)) } in record {
+      let over : Sits k key s.words spent = record { page = tt; hand = tt; known = λ j m. absurd (omega (arith, m)); unshared = λ e. (refl, refl) } in record {
         wide = r.wide;
         states = r.states;
         sound = r.sound;
         seats = seats_after s.words vs other spent over (λ j d _ e. seats_after s.words s.views id both mine (λ h f _ q. r.seats h f q) j d e);
         one_holder = λ j m. omega (arith, total_set (holds j) s.views id v both at, total_set (holds j) vs other w spent at', empty_hand w j idle, r.one_holder j m);
         once = λ j m. omega (arith, total_set (publishes j) s.views id v both at, total_set (publishes j) vs other w spent at', times_append j v.published w.published, r.once j m);
+        shares = whole_joined s.views id other v w at at' ne r.shares;
       }
+
+  first_cut : (j : ℕ) (d : View) → get_elem? (newcomer key ∷ []) j ≡ some d → IsCutBy 0 d.share
+  first_cut zero d e = subst (λ (z : View). IsCutBy 0 z.share) (some-injective (newcomer key) d e) (omega arith, tt)
+  first_cut (suc j) d e = absurd (some-ne-none d (sym e))
 
   pub opens : (words : List ℕ) → length words ≡ k.pieces + k.cells → ((i : ℕ) → get_or words i 0 ≡ 0) → Rule (opening words [] (newcomer key))
   opens words wide zeros =
-      let new : Sits k key words (newcomer key) = record { page = refl; hand = tt; known = λ j m. absurd (omega (arith, m)) } in record {
+      let new : Sits k key words (newcomer key) = record { page = refl; hand = tt; known = λ j m. absurd (omega (arith, m)); unshared = λ e. (refl, refl) } in record {
         wide = wide;
         states = λ j m. omega (arith, zeros j);
         sound = record {
@@ -252,5 +275,6 @@ module _ (k : Shape) (ok : IsShape k) (defined : ℕ → ℕ) (some_value : (j :
         };
         seats = λ j d e. first_seat words j d e new;
         one_holder = λ j m. sym (other_zero (piece_word words j) 1 (λ e. omega (arith, zeros j, e)));
-        once = λ j m. omega arith;
+        once = λ j m. sym (other_zero (piece_word words j) 2 (λ e. omega (arith, zeros j, e)));
+        shares = record { halvings = 0; cut = first_cut; all = refl };
       }

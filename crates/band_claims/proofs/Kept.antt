@@ -1,5 +1,5 @@
 -- The rule in the form in which the steps keep it: in words, and view by view.
-use Rattle.std.proofs.Common.{◌≡◌, ◌≢◌, ℕ, ◌+◌, ◌<◌, ◌≤◌, ◌==◌, List, length}
+use Rattle.std.proofs.Common.{◌≡◌, ◌≢◌, ℕ, ◌+◌, ◌<◌, ◌≤◌, ◌==◌, List, [], None, length}
 use Rattle.std.specs.Prelude.{MatchOption}
 use mathlib.Core.Option.{some}
 use lib.ListN.{get_elem?}
@@ -9,7 +9,7 @@ use Rattle.band_board.specs.TableWords.{board_of}
 use Rattle.band_board.specs.Runs.{Sound}
 use Rattle.band_claims.specs.declared.sheet.Sheet.{Sheet}
 use Rattle.band_claims.specs.declared.view.View.{View}
-use Rattle.band_claims.specs.Rule.{piece_word, cell_word}
+use Rattle.band_claims.specs.Rule.{piece_word, cell_word, AreOneWhole}
 use Rattle.band_claims.specs.Views.{one_if, total, holds, publishes, Knows}
 
 -- of piece i, which is claimed, the first cells are filled and the others are empty
@@ -25,6 +25,7 @@ pub record Sits (k : Shape) (key : Sheet) (words : List ℕ) (v : View) : Type 0
   pub page : MatchOption v.sheet (Unit {0}) (λ x. x ≡ key)
   pub hand : MatchOption v.held (Unit {0}) (Holding k words v.filled)
   pub known : (i : ℕ) → Knows v i → (i < k.pieces) × (piece_word words i ≡ 2)
+  pub unshared : length v.share ≡ 0 → (v.held ≡ None) × (v.published ≡ [])
 
 pub record Kept (k : Shape) (defined : ℕ → ℕ) (key : Sheet) (s : State (Unit {0}) View) : Type 0 where
   pub wide : length s.words ≡ k.pieces + k.cells
@@ -32,4 +33,5 @@ pub record Kept (k : Shape) (defined : ℕ → ℕ) (key : Sheet) (s : State (Un
   pub sound : Sound k defined (board_of k s.words)
   pub seats : (id : ℕ) (v : View) → get_elem? s.views id ≡ some v → Sits k key s.words v
   pub one_holder : (i : ℕ) → i < k.pieces → total (holds i) s.views ≡ one_if (piece_word s.words i == 1)
-  pub once : (i : ℕ) → i < k.pieces → total (publishes i) s.views ≤ one_if (piece_word s.words i == 2)
+  pub once : (i : ℕ) → i < k.pieces → total (publishes i) s.views ≡ one_if (piece_word s.words i == 2)
+  pub shares : AreOneWhole s.views

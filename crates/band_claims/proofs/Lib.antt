@@ -1,5 +1,6 @@
 pub mod Kept
 pub mod Totals
+pub mod ShareLemmas
 pub mod Boards
 pub mod Keeps
 pub mod Readable

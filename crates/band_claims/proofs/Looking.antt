@@ -23,6 +23,7 @@ looks_same v = record {
   more_seen = ([], sym (append-nil v.seen));
   more_looked = ([], sym (append-nil v.looked));
   more_told = ([], sym (append-nil v.told));
+  same_share = refl;
 }
 
 seen_after : (v w : View) (i n : ℕ) → Looks v w → (more : List ℕ) × ((if n == 2 then w.seen ++ i ∷ [] else w.seen) ≡ v.seen ++ more)
@@ -43,6 +44,7 @@ looks_more v w i n h = record {
   more_seen = seen_after v w i n h;
   more_looked = (h.more_looked.0 ++ look i n ∷ [], ap (λ (z : List Look). z ++ look i n ∷ []) h.more_looked.1 ∙ append_assoc v.looked h.more_looked.0 (look i n ∷ []));
   more_told = told_more v w (look i n) h;
+  same_share = h.same_share;
 }
 
 pub knows_more : (w : View) (i n j : ℕ) → Knows w j → Knows (looked_at i n w) j
@@ -72,6 +74,7 @@ won_by bands piece v w n h known e = rw (eq-eqb n 0 e) record {
   more_seen = h.more_seen;
   no_looks = refl;
   more_told = told_more v w (look piece 1) h;
+  same_share = h.same_share;
   known = known;
 }
 
@@ -86,6 +89,7 @@ lost_exchange bands piece v w n h ne = rw (ne_eqb n 0 ne) record {
     more_seen = h.more_seen;
     more_looked = (h.more_looked.0 ++ look piece n ∷ [], ap (λ (z : List Look). z ++ look piece n ∷ []) h.more_looked.1 ∙ append_assoc v.looked h.more_looked.0 (look piece n ∷ []));
     more_told = told_more v w (look piece n) h;
+    same_share = h.same_share;
   };
   last = look piece n;
   found = (h.more_looked.0, ap (λ (z : List Look). z ++ look piece n ∷ []) h.more_looked.1 ∙ append_assoc v.looked h.more_looked.0 (look piece n ∷ []));

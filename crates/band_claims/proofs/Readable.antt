@@ -47,6 +47,12 @@ done_is zero t l = absurd (false≢true t)
 done_is (suc zero) t l = absurd (false≢true t)
 done_is (suc (suc w)) t l = omega (arith, l)
 
+done_test : (w : ℕ) → w ≤ 2 → state_done (state_of w) ≡ (w == 2)
+done_test zero l = refl
+done_test (suc zero) l = refl
+done_test (suc (suc zero)) l = refl
+done_test (suc (suc (suc w))) l = absurd (omega (arith, l))
+
 hand_from : (k : Shape) (words : List ℕ) (n : ℕ) (h : Option ℕ) → ((i : ℕ) → h ≡ Some i → Holding k words n i) → MatchOption h (Unit {0}) (Holding k words n)
 hand_from k words n None each = tt
 hand_from k words n (Some i) each = each i refl
@@ -54,6 +60,9 @@ hand_from k words n (Some i) each = each i refl
 module _ (k : Shape) (ok : IsShape k) (defined : ℕ → ℕ) (key : Sheet) (s : State (Unit {0}) View) where
   claimed_at : (i : ℕ) → i < k.pieces → is_claimed (board_of k s.words) i ≡ (piece_word s.words i == 1)
   claimed_at i l = ap state_claimed (state_is k s.words i l) ∙ claimed_is (piece_word s.words i)
+
+  done_at : (i : ℕ) → i < k.pieces → piece_word s.words i ≤ 2 → is_done (board_of k s.words) i ≡ (piece_word s.words i == 2)
+  done_at i l m = ap state_done (state_is k s.words i l) ∙ done_test (piece_word s.words i) m
 
   two_words : Ruled k defined key s → (i : ℕ) → i < k.pieces → is_done (board_of k s.words) i ≡ true → piece_word s.words i ≡ 2
   two_words r i l t = done_is (piece_word s.words i) (sym (ap state_done (state_is k s.words i l)) ∙ t) (r.words.states i l)
@@ -79,15 +88,11 @@ module _ (k : Shape) (ok : IsShape k) (defined : ℕ → ℕ) (key : Sheet) (s :
       page = r.one_page id v at;
       hand = hand_from k s.words v.filled v.held (λ i is. holding r id i v at is);
       known = λ i m. let t = r.known_done id i v at m in (t.0, two_words r i t.0 t.1);
+      unshared = r.unshared id v at;
     };
     one_holder = λ i l. r.one_holder i l ∙ ap one_if (claimed_at i l);
-    once = λ i l. elim (cases_eq (piece_word s.words i) 2) [
-      | inl e ↦ omega (arith, r.once i, same_one (piece_word s.words i) 2 e)
-      | inr ne ↦ elim (cases_eq (total (publishes i) s.views) 0) [
-        | inl z ↦ omega (arith, z)
-        | inr there ↦ (let t = some_part (publishes i) s.views (omega (arith, there)) in let d = r.known_done t.0 i t.1 t.2 (omega (arith, t.3)) in absurd (ne (two_words r i d.0 d.1)))
-      ]
-    ];
+    once = λ i l. r.once i l ∙ ap one_if (done_at i l (r.words.states i l));
+    shares = r.shares;
   }
 
   first_filled : Kept k defined key s → (id i : ℕ) (v : View) → get_elem? s.views id ≡ some v → v.held ≡ Some i → FirstFilled k (board_of k s.words) i v.filled
@@ -108,11 +113,16 @@ module _ (k : Shape) (ok : IsShape k) (defined : ℕ → ℕ) (key : Sheet) (s :
     one_holder = λ i l. r.one_holder i l ∙ ap one_if (sym (claimed_at i l));
     held_filled = λ id i v at is. first_filled r id i v at is;
     known_done = λ id i v at m. let t = (r.seats id v at).known i m in (t.0, ap state_done (state_is k s.words i t.0 ∙ ap state_of t.1));
-    once = λ i. elim (cases_eq (total (publishes i) s.views) 0) [
-      | inl z ↦ omega (arith, z)
-      | inr there ↦ (let t = some_part (publishes i) s.views (omega (arith, there)) in let d = (r.seats t.0 t.1 t.2).known i (omega (arith, t.3)) in omega (arith, r.once i d.0, at_most_one (piece_word s.words i == 2)))
-    ];
+    once = λ i l. r.once i l ∙ ap one_if (sym (done_at i l (r.states i l)));
+    shares = r.shares;
+    unshared = λ id v at. (r.seats id v at).unshared;
   }
+
+pub most_once : (k : Shape) (defined : ℕ → ℕ) (key : Sheet) (s : State (Unit {0}) View) → Ruled k defined key s → (i : ℕ) → total (publishes i) s.views ≤ 1
+most_once k defined key s r i = elim (cases_eq (total (publishes i) s.views) 0) [
+  | inl z ↦ omega (arith, z)
+  | inr there ↦ (let t = some_part (publishes i) s.views (omega (arith, there)) in let d = r.known_done t.0 i t.1 t.2 (omega (arith, t.3)) in omega (arith, r.once i d.0, at_most_one (is_done (board_of k s.words) i)))
+]
 
 pub held_once : HeldOnce
 held_once k defined key s r i l = (
@@ -129,9 +139,11 @@ held_once k defined key s r i l = (
 
 pub published_once : PublishedOnce
 published_once k defined key s r i = (
-  (λ id v at. omega (arith, one_of (publishes i) s.views id v at, r.once i)),
+  (λ id v at. omega (arith, one_of (publishes i) s.views id v at, most i)),
   (λ id other v w at at' a b. elim (cases_eq other id) [
     | inl same ↦ same
-    | inr ne ↦ absurd (omega (arith, two_of (publishes i) s.views id other v w ne at at', a, b, r.once i))
+    | inr ne ↦ absurd (omega (arith, two_of (publishes i) s.views id other v w ne at at', a, b, most i))
   ]),
-)
+) where
+  most : (i : ℕ) → total (publishes i) s.views ≤ 1
+  most = most_once k defined key s r

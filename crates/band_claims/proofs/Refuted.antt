@@ -1,5 +1,5 @@
 -- No proof can be found of a step that tells of a look that was not.
-use Rattle.std.proofs.Common.{◌≡◌, ℕ, ◌+◌, ◌<◌, List, [], ◌∷◌, ◌++◌, set, get_or, refl, ap, ◌∙◌, arith, replicate, length, get_or-set_same}
+use Rattle.std.proofs.Common.{false, ◌≡◌, ℕ, ◌+◌, ◌<◌, List, [], ◌∷◌, ◌++◌, set, get_or, refl, ap, ◌∙◌, arith, replicate, length, get_or-set_same}
 use Rattle.std.proofs.lemmas.List.{length-replicate}
 use Rattle.atomic_table.specs.Table.{State, Me}
 use Rattle.band_board.specs.Shapes.{Shape}
@@ -50,13 +50,13 @@ module _ (key : Sheet) (fit : IsFit key) where
   -- a claimed piece, told of as free
   pub no_false_look : MayForge key 0 → ⊥
   no_false_look forge =
-      let nc : View = newcomer key in let b : View = branched nc in
+      let nc : View = newcomer key in let b : View = branched false nc in
       let s0 : St = first_state k key in
       let r0 : Remembered key s0 = opens key fit (replicate w 0) refl in
       let s1 : St = record { words = s0.words; homes = s0.homes; views = set s0.views 0 nc ++ b ∷ [] } in
-      let r1 = next s0 s1 (splits 0) r0 (nc, refl, refl, refl) in
+      let r1 = next s0 s1 (splits 0 false) r0 (nc, refl, refl, refl) in
       let zero : get_or (replicate w 0) 0 0 ≡ 0 = zero_at w 0 in
-      let may : MayClaim k s1 0 0 nc = record { sees = refl; piece = some_pieces; idle = refl; known = λ n need. absurd (let l = need_less key.layout.bands 0 n fit.made.bands need in omega (arith, l)) } in
+      let may : MayClaim k s1 0 0 nc = record { sees = refl; piece = some_pieces; idle = refl; shares = omega arith; known = λ n need. absurd (let l = need_less key.layout.bands 0 n fit.made.bands need in omega (arith, l)) } in
       let s2 : St = moved s1 0 (set (replicate w 0) 0 1) (claimed 0 0 nc) in
       let r2 = next s1 s2 (wins 0 0) r1 (nc, may, zero, refl) in
       let n : ℕ = get_or (set (replicate w 0) 0 1) 0 0 in

@@ -1,9 +1,11 @@
 -- The eight kinds of step keep the rule of the table of a page.
-use Rattle.std.proofs.Common.{replicate, [], ◌∷◌, ◌++◌, set, Bool, inl, inr, ne_eqb, ◌≡◌, ℕ, ◌+◌, ◌-◌, ◌^◌, ◌<◌, ◌≤◌, ◌==◌, true, List, length, refl, sym, ap, ◌∙◌, subst, arith, Option, Some, None, get_or}
+use Rattle.std.proofs.Common.{false, ◌&&◌, nat_lt, replicate, [], ◌∷◌, ◌++◌, set, Bool, inl, inr, ne_eqb, ◌≡◌, ℕ, ◌+◌, ◌-◌, ◌^◌, ◌<◌, ◌≤◌, ◌==◌, true, List, length, refl, sym, ap, ◌∙◌, subst, arith, Option, Some, None, get_or}
 use Rattle.std.specs.Prelude.{MatchOption}
 use prog.Atomic.{either}
 use Rattle.std.proofs.lemmas.List.{set-get_or}
-use Rattle.std.proofs.lemmas.Bool.{cases_eq}
+use Rattle.std.proofs.lemmas.Bool.{cases_eq, cases_Bool, lt-ltb, ltb-true, true≢false}
+use mathlib.Core.Option.{some}
+use lib.ListN.{get_elem?}
 use Rattle.atomic_table.proofs.Lists.{set_else}
 use Rattle.atomic_table.specs.Table.{State, Me, keeps, Allows, Splits, Joins, opening, Final, Seen}
 use Rattle.page_model.specs.Bands.{pieces_of}
@@ -28,7 +30,9 @@ use Rattle.band_claims.specs.declared.sheet.Sheet.{Sheet}
 use Rattle.band_claims.specs.declared.view.View.{View}
 use Rattle.band_claims.specs.Sheets.{shape_of, cell, IsFit}
 use Rattle.band_claims.specs.Rule.{RuleOf, piece_word}
-use Rattle.band_claims.specs.Views.{IsFair, Knows, times, newcomer, spent, looked_at, claimed, put, finished, branched, joined}
+use Rattle.band_claims.specs.Shares.{IsWhole}
+use Rattle.band_claims.proofs.ShareLemmas.{one_alone, others_none}
+use Rattle.band_claims.specs.Views.{IsFair, Knows, one_if, publishes, times, newcomer, spent, looked_at, claimed, put, finished, parted, branched, joined}
 use Rattle.band_claims.specs.Tells.{Cell, Fair}
 use Rattle.band_claims.proofs.Kept.{Kept, Sits}
 use Rattle.band_claims.proofs.Readable.{ruled, kept}
@@ -105,11 +109,11 @@ module _ (key : Sheet) (fit : IsFit key) where
       let n : ℕ = get_or s.words i 0 in let w : View = looked_at i n me.0 in
       (w, keeps, tt, on s (moved s id (set s.words i n) w) (kind_looks id i) r (me.0, at, l, left s id i w), refl)
 
-  pub claims : (slots id : ℕ) (me : M) (i : ℕ) → i < k.pieces → me.0.held ≡ None → ((n : ℕ) → k.needs i n ≡ true → Knows me.0 n)
+  pub claims : (slots id : ℕ) (me : M) (i : ℕ) → i < k.pieces → me.0.held ≡ None → 1 ≤ length me.0.share → ((n : ℕ) → k.needs i n ≡ true → Knows me.0 n)
       → Allows (Remembered key) slots id me i (λ n. either (n == 0) 1 n) (λ n m. m ≡ (claimed i n me.0, me.1))
-  claims slots id me i l idle needs s r _ at _ =
+  claims slots id me i l idle some_share needs s r _ at _ =
       let n : ℕ = get_or s.words i 0 in let v = me.0 in
-      let may : MayClaim k s id i v = record { sees = at; piece = l; idle = idle; known = needs } in
+      let may : MayClaim k s id i v = record { sees = at; piece = l; idle = idle; shares = some_share; known = needs } in
       let after : ℕ → St = λ x. moved s id (set s.words i (either (x == 0) 1 x)) (claimed i x v) in (
         claimed i n v,
         keeps,
@@ -150,8 +154,8 @@ module _ (key : Sheet) (fit : IsFit key) where
       let next = on s t (kind_finishes id p) r (v, may, refl) in
       (w, keeps, tt, next, (refl, as_fair key w page (fair k ok (cell key) values key t (there t next.rule) id w (set_there s.views id v w at))))
 
-  pub splits : (id : ℕ) (v : View) → v.held ≡ None → Splits (Remembered key) id v v (branched v)
-  splits id v idle s r at = on s _ (kind_splits id) r (v, at, idle, refl)
+  pub splits : (id : ℕ) (works : Bool) (v : View) → v.held ≡ None → Splits (Remembered key) id v (parted works v) (branched works v)
+  splits id works v idle s r at = on s _ (kind_splits id works) r (v, at, idle, refl)
 
   pub joins : (id other : ℕ) (v w : View) → v.held ≡ None → w.held ≡ None → Joins (Remembered key) id v other w (joined v w) spent
   joins id other v w idle other_idle s r at ne at' =
@@ -167,8 +171,19 @@ module _ (key : Sheet) (fit : IsFit key) where
   pub ends : (id : ℕ) (v : View) (ws : List ℕ) (xs : List (Unit {0})) → Final (Seen (Remembered key) id v) ws xs → Ends key ws v
   ends id v ws xs f = record { kinds = f.1.0.kinds; last = f.0; steps = f.1.0.steps; same_words = f.2; seat = id; sees = f.1.1 }
 
+  -- who has all of the work has published all that is done
+  alone_published : (s : St) → Kept k (cell key) key s → (id : ℕ) (v : View) → get_elem? s.views id ≡ some v → IsWhole v.share → (i : ℕ) → times i v.published ≡ one_if (nat_lt i k.pieces && (piece_word s.words i == 2))
+  alone_published s r id v at whole i = elim (cases_Bool (nat_lt i k.pieces)) [
+    | inl inside ↦ (let l : i < k.pieces = ltb-true i k.pieces inside in rw inside (sym (one_alone (publishes i) s.views id v at (λ j d ne e. ap (times i) ((r.seats j d e).unshared (others_none s.views id v at r.shares whole j d ne e)).1)) ∙ r.once i l))
+    | inr outside ↦ elim (cases_eq (times i v.published) 0) [
+      | inl none ↦ rw outside none
+      | inr some_there ↦ (let l = ((r.seats id v at).known i (omega (arith, some_there))).0 in absurd (true≢false (sym (lt-ltb i k.pieces l) ∙ outside)))
+    ]
+  ]
+
   pub closes : (id : ℕ) (v : View) (ws : List ℕ) (xs : List (Unit {0})) → Final (Seen (Remembered key) id v) ws xs
       → Sound k (cell key) (board_of k ws) × Sits k key ws v × ((i : ℕ) → times i v.published ≤ 1) × (length ws ≡ k.pieces + k.cells) × ((i : ℕ) → i < k.pieces → piece_word ws i ≤ 2)
+      × (IsWhole v.share → (i : ℕ) → times i v.published ≡ one_if (nat_lt i k.pieces && (piece_word ws i == 2)))
   closes id v ws xs f =
       let s = f.0 in let r = there s f.1.0.rule in let at = f.1.1 in let e : s.words ≡ ws = f.2 in
       let t = r.seats id v at in
@@ -178,6 +193,7 @@ module _ (key : Sheet) (fit : IsFit key) where
         once,
         (ap length (sym e) ∙ r.wide),
         subst (λ (ws' : List ℕ). (i : ℕ) → i < k.pieces → piece_word ws' i ≤ 2) e r.states,
+        subst (λ (ws' : List ℕ). IsWhole v.share → (i : ℕ) → times i v.published ≡ one_if (nat_lt i k.pieces && (piece_word ws' i == 2))) e (alone_published s r id v at),
       )
 
 -- whatever steps are made from the opening on

@@ -1,5 +1,5 @@
 -- The eight kinds of step of a table: when each is allowed, what it makes of the words and of the views, and which event of the board it is.
-use Rattle.std.specs.Prelude.{◌≡◌, ◌≢◌, ℕ, ◌+◌, ◌<◌, true, List, [], ◌∷◌, ◌++◌, Option, Some, None, slice_set, replicate}
+use Rattle.std.specs.Prelude.{◌≡◌, ◌≢◌, ℕ, ◌+◌, ◌<◌, ◌≤◌, Bool, true, List, [], ◌∷◌, ◌++◌, Option, Some, None, length, slice_set, replicate}
 use Rattle.atomic_table.specs.Table.{State, opening}
 use Rattle.band_board.specs.declared.event.Event.{Event}
 use Rattle.band_board.specs.declared.event.Event.TheVariants.{Claim, Put, Done}
@@ -7,7 +7,7 @@ use Rattle.band_board.specs.Shapes.{Shape, Has}
 use Rattle.band_claims.specs.declared.sheet.Sheet.{Sheet}
 use Rattle.band_claims.specs.declared.view.View.{View}
 use Rattle.band_claims.specs.Rule.{Sees, piece_word}
-use Rattle.band_claims.specs.Views.{Knows, newcomer, looked_at, claimed, put, finished, branched, joined, spent}
+use Rattle.band_claims.specs.Views.{Knows, newcomer, looked_at, claimed, put, finished, parted, branched, joined, spent}
 
 -- seats, pieces and cells by their numbers; a seat comes first
 pub data Kind : Type 0 where
@@ -22,8 +22,8 @@ pub data Kind : Type 0 where
   puts : ℕ → ℕ → ℕ → Kind
   -- 2 is stored in the word of a piece
   finishes : ℕ → ℕ → Kind
-  -- the seat is split, or takes in another
-  splits : ℕ → Kind
+  -- the seat is split, so that the new one shares in the work or reads alone; or it takes in another
+  splits : ℕ → Bool → Kind
   joins : ℕ → ℕ → Kind
 
 -- the state with other words, and seat id with another view
@@ -35,6 +35,7 @@ pub record MayClaim (k : Shape) (s : State (Unit {0}) View) (id i : ℕ) (v : Vi
   pub sees : Sees s id v
   pub piece : i < k.pieces
   pub idle : v.held ≡ None
+  pub shares : 1 ≤ length v.share
   pub known : (n : ℕ) → k.needs i n ≡ true → Knows v n
 
 -- it reads cells of a piece that it knows
@@ -75,7 +76,7 @@ Happens k defined s (loses id i) t = (v : View) × MayClaim k s id i v × (piece
 Happens k defined s (reads id j) t = (v : View) × MayRead k s id j v × (t ≡ moved s id s.words v)
 Happens k defined s (puts id j value) t = (v : View) × MayPut k defined s id j value v × (t ≡ moved s id (slice_set s.words (k.pieces + j) value) (put v))
 Happens k defined s (finishes id i) t = (v : View) × MayFinish k s id i v × (t ≡ moved s id (slice_set s.words i 2) (finished i v))
-Happens k defined s (splits id) t = (v : View) × Sees s id v × (v.held ≡ None) × (t ≡ record { words = s.words; homes = s.homes; views = slice_set s.views id v ++ branched v ∷ [] })
+Happens k defined s (splits id works) t = (v : View) × Sees s id v × (v.held ≡ None) × (t ≡ record { words = s.words; homes = s.homes; views = slice_set s.views id (parted works v) ++ branched works v ∷ [] })
 Happens k defined s (joins id other) t = (v : View) × (w : View) × MayJoin s id other v w × (t ≡ record { words = s.words; homes = s.homes; views = slice_set (slice_set s.views id (joined v w)) other spent })
 
 -- the event of the board that the step is
@@ -86,7 +87,7 @@ event_of (loses id i) = None
 event_of (reads id j) = None
 event_of (puts id j value) = Some (Put j value)
 event_of (finishes id i) = Some (Done i)
-event_of (splits id) = None
+event_of (splits id works) = None
 event_of (joins id other) = None
 
 -- steps, one after the other, lead from s to t

@@ -50,6 +50,11 @@ abbrev pub LooksArePast : Sheet → Type 0
 LooksArePast key = (kinds : List Kind) (t : State (Unit {0}) View) → Steps key kinds t → (id : ℕ) (v : View) → Sees t id v
     → (before after : List Look) (shown : Look) → v.looked ≡ before ++ shown ∷ after → shown.word ≤ piece_word t.words shown.piece
 
+-- the looks that a seat tells of end what it was told
+abbrev pub LooksAreTold : Sheet → Type 0
+LooksAreTold key = (kinds : List Kind) (t : State (Unit {0}) View) → Steps key kinds t → (id : ℕ) (v : View) → Sees t id v
+    → (earlier : List Look) × (v.told ≡ earlier ++ v.looked)
+
 -- of two words of one piece that a seat was told of the later one is no less
 abbrev pub LooksRise : Sheet → Type 0
 LooksRise key = (kinds : List Kind) (t : State (Unit {0}) View) → Steps key kinds t → (id : ℕ) (v : View) → Sees t id v

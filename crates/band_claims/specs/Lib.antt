@@ -1,4 +1,5 @@
 pub mod Sheets
+pub mod Shares
 pub mod Views
 pub mod Rule
 pub mod Tells

@@ -1,5 +1,5 @@
 -- The rule of the table. Its words are a board: first a word for each piece, 0 free, 1 claimed and 2 done, and then the cells.
-use Rattle.std.specs.Prelude.{◌≡◌, ◌≢◌, ℕ, ◌+◌, ◌<◌, ◌≤◌, true, List, slice_index, Some, MatchOption}
+use Rattle.std.specs.Prelude.{◌≡◌, ◌≢◌, ℕ, ◌+◌, ◌<◌, ◌≤◌, true, List, [], length, slice_index, Some, None, MatchOption}
 use mathlib.Core.Option.{some}
 use lib.ListN.{get_elem?}
 use Rattle.atomic_table.specs.Table.{State}
@@ -10,6 +10,7 @@ use Rattle.band_board.specs.Runs.{Sound}
 use Rattle.band_claims.specs.declared.sheet.Sheet.{Sheet}
 use Rattle.band_claims.specs.declared.view.View.{View}
 use Rattle.band_claims.specs.Sheets.{shape_of, cell}
+use Rattle.band_claims.specs.Shares.{power, parts_of, IsCutBy}
 use Rattle.band_claims.specs.Views.{one_if, total, holds, publishes, Knows}
 
 abbrev pub piece_word : List ℕ → ℕ → ℕ
@@ -29,6 +30,15 @@ pub record FirstFilled (k : Shape) (board : Board) (i n : ℕ) : Type 0 where
   pub front : (o : ℕ) → o < n → cell_at board (k.start i + o) ≢ 0
   pub back : (o : ℕ) → n ≤ o → o < k.size i → cell_at board (k.start i + o) ≡ 0
 
+abbrev pub parts : ℕ → View → ℕ
+parts n v = parts_of n v.share
+
+-- the shares of all views are together one whole
+pub record AreOneWhole (views : List View) : Type 0 where
+  pub halvings : ℕ
+  pub cut : (id : ℕ) (v : View) → get_elem? views id ≡ some v → IsCutBy halvings v.share
+  pub all : total (parts halvings) views ≡ power halvings
+
 -- The rule, over any shape and any value of each cell. A view that is spent has no sheet; the other clauses hold of it too.
 pub record Ruled (k : Shape) (defined : ℕ → ℕ) (key : Sheet) (s : State (Unit {0}) View) : Type 0 where
   -- there is a word for each piece and cell, and a piece's word is 0, 1 or 2: free, claimed or done
@@ -42,8 +52,11 @@ pub record Ruled (k : Shape) (defined : ℕ → ℕ) (key : Sheet) (s : State (U
   pub held_filled : (id i : ℕ) (v : View) → Sees s id v → v.held ≡ Some i → FirstFilled k (board_of k s.words) i v.filled
   -- a piece that is in a list of published or seen pieces is done
   pub known_done : (id i : ℕ) (v : View) → Sees s id v → Knows v i → (i < k.pieces) × (is_done (board_of k s.words) i ≡ true)
-  -- in all lists of published pieces together no piece stands twice
-  pub once : (i : ℕ) → total (publishes i) s.views ≤ 1
+  -- in all lists of published pieces together a piece that is done stands once, and no other one
+  pub once : (i : ℕ) → i < k.pieces → total (publishes i) s.views ≡ one_if (is_done (board_of k s.words) i)
+  -- of the work each view has a share, and one that has none holds nothing and has published nothing
+  pub shares : AreOneWhole s.views
+  pub unshared : (id : ℕ) (v : View) → Sees s id v → length v.share ≡ 0 → (v.held ≡ None) × (v.published ≡ [])
 
 -- the rule of the table of a page
 abbrev pub RuleOf : Sheet → State (Unit {0}) View → Type 0

@@ -23,6 +23,8 @@ Carries v piece next = MatchOption v.held (Unit {0}) (λ i. (piece ≡ i) × Mat
 pub record OpenTable : Type 0 where
   pub table : TableId
   pub sheet : Sheet
+  -- how many marks there is memory for
+  pub room : ℕ
 
 -- the parts of a table fit one another
 pub record IsOpenTable (words slots : ℕ) (key sheet : Sheet) (marks : List ℕ) : Type 0 where

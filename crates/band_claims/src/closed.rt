@@ -37,7 +37,9 @@ impl Model for Closed {
       published = c.last.value.view.published;
       seen = c.last.value.view.seen;
       looked = c.last.value.view.looked;
+      told = c.last.value.view.told;
       alone = marked 0 c.marks.items;
+      room = c.marks.cap;
     } };
 
     ghost invariant = { λ c. IsFull c.table.words
@@ -99,7 +101,7 @@ impl Closed {
     }
 
     /// Makes a piece done that was not, and adds it to the list of the pieces that were made alone, which ascends.
-    /// All else stays.
+    /// All else stays, the memory of the marks too.
     pub fn set_done(&mut self, piece: u32)
         requires piece { piece < pieces_of self.old.sheet.layout.bands }
         requires not_done { slice_index self.old.words piece ≢ 2 }
@@ -111,6 +113,8 @@ impl Closed {
         ensures published { self.new.published ≡ self.old.published }
         ensures seen { self.new.seen ≡ self.old.seen }
         ensures looked { self.new.looked ≡ self.old.looked }
+        ensures told { self.new.told ≡ self.old.told }
+        ensures room { self.new.room ≡ self.old.room }
     {
         self.table.words.put(piece as usize, 2);
         self.marks[piece as usize] = 1;

@@ -2,7 +2,7 @@
 
 ghost use Rattle.band_claims.specs.declared.sheet.Sheet.{Sheet};
 ghost use Rattle.band_claims.specs.declared.view.View.{View};
-ghost use Rattle.band_claims.specs.Laws.{DoneStaysDone, EndsAreRuns, HeldOnce, KeepsRule, LooksArePast, LooksRise, PublishedOnce, StepsAreRun};
+ghost use Rattle.band_claims.specs.Laws.{DoneStaysDone, EndsAreRuns, HeldOnce, KeepsRule, LooksArePast, LooksAreTold, LooksRise, PublishedOnce, StepsAreRun};
 ghost use Rattle.band_claims.specs.Rule.{RuleOf};
 ghost use Rattle.band_claims.specs.Refuted.{MayForge};
 ghost use Rattle.band_claims.specs.Sheets.{IsFit, cell, shape_of};
@@ -46,6 +46,11 @@ pub fn ends_are_runs_law()
 /// found not free is not free.
 pub fn looks_are_past_law()
     ensures { (key : Sheet) → IsFit key → LooksArePast key }
+{}
+
+/// The looks that a seat tells of end what it was told.
+pub fn looks_are_told_law()
+    ensures { (key : Sheet) → IsFit key → LooksAreTold key }
 {}
 
 /// Of two looks at one piece that a seat tells of, the later one found no less.

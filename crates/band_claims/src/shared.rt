@@ -1,5 +1,5 @@
 // The table, and the steps of a pass.
-ghost use Rattle.std.specs.Prelude.{◌≡◌, ◌≢◌, ◌⊎◌, ℕ, ◌+◌, ◌-◌, ◌*◌, ◌<◌, ◌≤◌, ◌↔◌, IsTrue, false, IfOk, List, true, [], ◌∷◌, ◌++◌, length, slice_index, Some, None};
+ghost use Rattle.std.specs.Prelude.{◌≡◌, ◌≢◌, ◌⊎◌, ℕ, ◌+◌, ◌-◌, ◌*◌, ◌<◌, ◌≤◌, ◌↔◌, ◌&&◌, ◌==◌, nat_lt, IsTrue, false, IfOk, List, true, [], ◌∷◌, ◌++◌, length, slice_index, Some, None};
 ghost use Rattle.page_model.specs.Bands.{pieces_of};
 ghost use Rattle.band_graph.specs.Needs.{is_need};
 ghost use Rattle.band_board.specs.TableWords.{AreWords, board_of};
@@ -8,15 +8,16 @@ ghost use Rattle.band_board.specs.Runs.{Sound};
 ghost use Rattle.band_board.specs.Shapes.{Has};
 ghost use Rattle.band_core.specs.Values.{IsFor};
 ghost use Rattle.band_claims.specs.Sheets.{cell, shape_of, IsFit};
-ghost use Rattle.band_claims.specs.Views.{IsFair, times, Knows, looked_at, claimed, put, finished, branched, joined, Won, Lost};
+ghost use Rattle.band_claims.specs.Views.{IsFair, times, Knows, looked_at, claimed, put, finished, parted, branched, joined, Won, Lost};
 ghost use Rattle.band_claims.specs.Seating.{Seats};
 ghost use Rattle.band_claims.specs.Rule.{piece_word};
 ghost use Rattle.band_claims.specs.Remembered.{Remembered, Ends};
-ghost use Rattle.band_claims.specs.Views.{newcomer};
+ghost use Rattle.band_claims.specs.Shares.{IsWhole};
+ghost use Rattle.band_claims.specs.Views.{newcomer, one_if};
 
 use crate::closed::Closed;
-use crate::pass::Pass;
-use crate::plays::{Claims, Finishes, Looks, Passes, Puts, Reads};
+use crate::pass::{Pass, Reader};
+use crate::plays::{Claims, Finishes, Looks, Passes, Puts, Readers, Reads};
 use crate::sheet::Sheet;
 use crate::view::View;
 use atomic_table::{Seat, Table, TableRule};
@@ -54,7 +55,11 @@ impl Model for Shared {
 
     ghost Value = { OpenTable };
 
-    ghost view = { λ s. record { table = s.table.shared.table_id; sheet = s.table.shared.key } };
+    ghost view = { λ s. record {
+      table = s.table.shared.table_id;
+      sheet = s.table.shared.key;
+      room = s.marks.cap;
+    } };
 
     ghost invariant = { λ s. IsOpenTable s.table.shared.table_id.words
         s.table.shared.table_id.slots s.table.shared.key s.sheet s.marks.items };
@@ -259,14 +264,15 @@ impl Shared {
             .load::<Reads>(&mut pass.seat, word as usize)
     }
 
-    /// A second pass, which holds nothing, has published nothing, and has seen what this one knows.
+    /// A second pass, which holds nothing, has published nothing, and has seen what this one knows. Each has half of the
+    /// share that this one had.
     pub fn split(&self, pass: Pass) -> (Pass, Pass)
         requires pass { Seats self.now pass }
         requires idle { pass.view.held ≡ None }
         ensures first { Seats self.now result.0 }
         ensures second { Seats self.now result.1 }
-        ensures kept { result.0.view ≡ pass.view }
-        ensures new { result.1.view ≡ branched pass.view }
+        ensures kept { result.0.view ≡ parted true pass.view }
+        ensures new { result.1.view ≡ branched true pass.view }
     {
         let mut pass = pass;
         let seat = self.table.shared.split_seat::<Passes>(&mut pass.seat);
@@ -278,7 +284,49 @@ impl Shared {
         (pass, other)
     }
 
-    /// One pass of two, which has published and seen what both had.
+    /// A seat that reads alone, and has seen what the pass knows. The pass stays as it is.
+    pub fn reader(&self, pass: &mut Pass) -> Reader
+        requires pass { Seats self.now pass.old }
+        requires idle { pass.old.view.held ≡ None }
+        ensures pass { pass.new ≡ pass.old }
+        ensures reader { Seats self.now result }
+        ensures new { result.view ≡ branched false pass.old.view }
+    {
+        Reader {
+            seat: self.table.shared.split_seat::<Readers>(&mut pass.seat),
+        }
+    }
+
+    /// The same as `is_done`, by a seat that reads alone.
+    pub fn sees_done(&self, reader: &mut Reader, piece: u32) -> bool
+        requires reader { Seats self.now reader.old }
+        requires piece { piece < pieces_of self.now.sheet.layout.bands }
+        ensures reader { Seats self.now reader.new }
+        ensures answer { (found : ℕ) × (reader.new.view ≡ looked_at piece found reader.old.view)
+            × (IsTrue result ↔ (found ≡ 2)) }
+    {
+        let found = self
+            .table
+            .shared
+            .load::<Looks>(&mut reader.seat, piece as usize);
+        found == 2
+    }
+
+    /// The same as `read_cell`, by a seat that reads alone.
+    pub fn read_alone(&self, reader: &mut Reader, j: u32) -> u64
+        requires reader { Seats self.now reader.old }
+        requires known { (piece : ℕ) × Has (shape_of self.now.sheet) piece j
+            × Knows reader.old.view piece }
+        ensures reader { reader.new ≡ reader.old }
+        ensures cell { result ≡ cell self.now.sheet j }
+    {
+        let word = pieces(self.sheet.layout.bands()) + j;
+        self.table
+            .shared
+            .load::<Reads>(&mut reader.seat, word as usize)
+    }
+
+    /// One pass of two, which has published and seen what both had, and has the shares of both.
     pub fn join(&self, one: Pass, two: Pass) -> Pass
         requires one { Seats self.now one }
         requires two { Seats self.now two }
@@ -298,7 +346,7 @@ impl Shared {
     }
 
     /// The table that no pass steps on any more, with what the last pass knew. Its words are those of a sound board, and
-    /// steps of the eight kinds led to them from the opening.
+    /// steps of the eight kinds led to them from the opening. Where the pass has all shares, it alone has published.
     pub fn close_all(self, pass: Pass) -> Closed
         requires pass { Seats self pass }
         ensures sheet { result.sheet ≡ self.sheet }
@@ -309,9 +357,14 @@ impl Shared {
         ensures published { result.published ≡ pass.view.published }
         ensures seen { result.seen ≡ pass.view.seen }
         ensures looked { result.looked ≡ pass.view.looked }
+        ensures told { result.told ≡ pass.view.told }
         ensures done { (i : ℕ) → Knows pass.view i → piece_word result.words i ≡ 2 }
+        ensures whole { IsWhole pass.view.share → (i : ℕ) → times i result.published
+            ≡ one_if (nat_lt i (pieces_of result.sheet.layout.bands)
+            && (piece_word result.words i == 2)) }
         ensures once { (i : ℕ) → times i result.published ≤ 1 }
         ensures alone { result.alone ≡ [] }
+        ensures room { result.room ≡ self.room }
     {
         let last = Snapshot::of(&pass);
         let Shared {

@@ -46,7 +46,8 @@ pub fn halo_law()
         → Halo (shape_of layout) (cell page layout) (recipe page layout) }
 {}
 
-/// Over every run of a page each board is sound for it, no cell changes once it is filled, and no piece is done twice.
+/// Over every run of a page each board is sound for it, no cell changes once it is filled, and no piece is
+/// claimed twice or done twice.
 pub fn run_law()
     ensures { (page : PageParts) (layout : Layout) → IsFor page layout
         → RunLaw (shape_of layout) (cell page layout) (recipe page layout) }

@@ -26,10 +26,10 @@ use Rattle.band_pieces.specs.Finished.{IsFinished, WasLeft}
 use Rattle.band_pieces.proofs.Filling.{HasCellsOf}
 
 same_lists : (r : Receipt) → KeepsLists r r
-same_lists r = record { published = refl; seen = refl; looked = refl }
+same_lists r = record { published = refl; seen = refl; looked = refl; told = refl; room = refl }
 
 then_lists : (a b c : Receipt) → KeepsLists a b → KeepsLists b c → KeepsLists a c
-then_lists a b c f s = record { published = s.published ∙ f.published; seen = s.seen ∙ f.seen; looked = s.looked ∙ f.looked }
+then_lists a b c f s = record { published = s.published ∙ f.published; seen = s.seen ∙ f.seen; looked = s.looked ∙ f.looked; told = s.told ∙ f.told; room = s.room ∙ f.room }
 
 -- the needs of a piece are done where all pieces before it are
 pub needs_known : (closed : Receipt) (layout : Layout) (piece n : ℕ) → IsFit closed.sheet → layout ≡ closed.sheet.layout → piece < pieces_of closed.sheet.layout.bands → ((i : ℕ) → i < piece → piece_word closed.words i ≡ 2) → DoneHaveCells closed → is_need layout.bands piece n ≡ true → HasCells closed n
@@ -172,6 +172,21 @@ alone_once before after n i done once f = elim (cases_eq (times i before.publish
   | inr some ↦ (let none : times i after.alone ≡ 0 = f.alone i ∙ rw (done i (omega (arith, some))) (none_left (nat_lt i n)) in omega (arith, ap (times i) f.lists.published, once i, none))
 ]
 
+both_ways : (a b : Bool) → one_if (a && b) + one_if (a && not b) ≡ one_if a
+both_ways true true = refl
+both_ways true false = refl
+both_ways false true = refl
+both_ways false false = refl
+
+-- where the last pass has published all that was done when the table was closed, each piece was made once
+pub each_once : (before after : Receipt) (i : ℕ) → after.sheet ≡ before.sheet → after.published ≡ before.published → times i before.published ≡ one_if (nat_lt i (pieces_of before.sheet.layout.bands) && (piece_word before.words i == 2))
+    → times i after.alone ≡ one_if (nat_lt i (pieces_of before.sheet.layout.bands) && not (piece_word before.words i == 2)) → times i after.published + times i after.alone ≡ one_if (nat_lt i (shape_of after.sheet).pieces)
+each_once before after i same published one alone =
+    let two = both_ways (nat_lt i (pieces_of before.sheet.layout.bands)) (piece_word before.words i == 2) in
+    let list = ap (times i) published in
+    let n : one_if (nat_lt i (pieces_of before.sheet.layout.bands)) ≡ one_if (nat_lt i (shape_of after.sheet).pieces) = ap (λ (z : Sheet). one_if (nat_lt i (shape_of z).pieces)) (sym same) in
+    omega (arith, list, one, alone, two, n)
+
 -- the cells of a finished table can be read
 pub has_cells : (receipt : Receipt) → IsFit receipt.sheet → ((j : ℕ) → j < (shape_of receipt.sheet).cells → cell_word (shape_of receipt.sheet) receipt.words j ≡ cell receipt.sheet j) → (i : ℕ) → HasCells receipt i
 has_cells receipt fit all i j h = let t = (fit_shape receipt.sheet fit).inside i h.piece in let b = h.below in all j (omega (arith, t, b))
@@ -180,9 +195,9 @@ pub finished_has_cells : (page : PageParts) (receipt : Receipt) → IsFinished p
 finished_has_cells page receipt f i = has_cells receipt f.fit f.cells i
 
 -- what making the rest alone leaves of the run
-abbrev pub was_left : (before after : Receipt) (v : View) → Ends before.sheet before.words v → after.sheet ≡ before.sheet → after.published ≡ v.published → after.seen ≡ v.seen → after.looked ≡ v.looked
+abbrev pub was_left : (before after : Receipt) (v : View) → Ends before.sheet before.words v → after.sheet ≡ before.sheet → after.published ≡ v.published → after.seen ≡ v.seen → after.looked ≡ v.looked → after.told ≡ v.told
     → ((i : ℕ) → times i after.alone ≡ one_if (nat_lt i (pieces_of before.sheet.layout.bands) && not (piece_word before.words i == 2))) → WasLeft after
-was_left before after v e same published seen looked alone = record {
+was_left before after v e same published seen looked told alone = record {
   kinds = e.kinds;
   left = e.last;
   steps = subst (λ (z : Sheet). Steps z e.kinds e.last) (sym same) e.steps;
@@ -192,5 +207,6 @@ was_left before after v e same published seen looked alone = record {
   published = sym published;
   seen = sym seen;
   looked = sym looked;
+  told = sym told;
   alone = λ i. alone i ∙ (ap (λ (z : Sheet). one_if (nat_lt i (shape_of z).pieces && not (piece_word before.words i == 2))) (sym same) ∙ ap (λ (ws : List ℕ). one_if (nat_lt i (shape_of after.sheet).pieces && not (piece_word ws i == 2))) (sym e.same_words));
 }

@@ -1,13 +1,13 @@
 -- What the passes left was left for a need.
-use Rattle.std.proofs.Common.{ap, sym, ◌∙◌, ⊎_elim, inl, inr, arith}
+use Rattle.std.proofs.Common.{◌++◌, ap, sym, ◌∙◌, ⊎_elim, inl, inr, arith}
 use Rattle.band_claims.specs.Rule.{piece_word}
 use Rattle.band_claims.specs.Sheets.{cell, shape_of}
 use Rattle.band_claims.specs.Views.{Knows}
 use Rattle.band_claims.proofs.Steps.{fit_shape, steps_are_run}
 use Rattle.band_claims.proofs.Readable.{kept}
-use Rattle.band_claims.proofs.Past.{looks_are_past}
+use Rattle.band_claims.proofs.Past.{looks_are_past, looks_are_told as run_looks_are_told, looks_rise}
 use Rattle.band_workers.specs.Accounts.{Shows}
-use Rattle.band_pieces.specs.Left.{LeftForNeeds, FirstAreClaimed}
+use Rattle.band_pieces.specs.Left.{LeftForNeeds, FirstAreClaimed, LooksAreTold}
 
 pub left_for_needs : LeftForNeeds
 left_for_needs page receipt f i l free =
@@ -26,3 +26,12 @@ left_for_needs page receipt f i l free =
 
 pub first_are_claimed : FirstAreClaimed
 first_are_claimed page receipt f i l none free = let t = left_for_needs page receipt f i l free in none t.shown.piece t.need
+
+pub looks_are_told : LooksAreTold
+looks_are_told page receipt f =
+    let run = f.run in
+    let ends = run_looks_are_told receipt.sheet f.fit run.kinds run.left run.steps run.seat run.view run.sees in record {
+      earlier = ends.0;
+      looks = sym run.told ∙ (ends.1 ∙ ap (λ z. ends.0 ++ z) run.looked);
+      rise = λ before mid after shown later stands. looks_rise receipt.sheet f.fit run.kinds run.left run.steps run.seat run.view run.sees before mid after shown later (run.told ∙ stands);
+    }

@@ -10,11 +10,13 @@ use Rattle.band_claims.specs.Views.{one_if, times}
 abbrev pub HasCells : Receipt → ℕ → Type 0
 HasCells receipt piece = (j : ℕ) → Has (shape_of receipt.sheet) piece j → cell_word (shape_of receipt.sheet) receipt.words j ≡ cell receipt.sheet j
 
--- the lists of the last pass stay
+-- the lists of the last pass stay, and the memory of the marks
 pub record KeepsLists (before after : Receipt) : Type 0 where
   pub published : after.published ≡ before.published
   pub seen : after.seen ≡ before.seen
   pub looked : after.looked ≡ before.looked
+  pub told : after.told ≡ before.told
+  pub room : after.room ≡ before.room
 
 -- the cells of the piece have their defined values, and all else stays
 pub record FillsPiece (before after : Receipt) (piece : ℕ) : Type 0 where

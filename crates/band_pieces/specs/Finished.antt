@@ -22,14 +22,15 @@ pub record WasLeft (receipt : Receipt) : Type 0 where
   pub published : view.published ≡ receipt.published
   pub seen : view.seen ≡ receipt.seen
   pub looked : view.looked ≡ receipt.looked
+  pub told : view.told ≡ receipt.told
   pub alone : (i : ℕ) → times i receipt.alone ≡ one_if (nat_lt i (shape_of receipt.sheet).pieces && not (piece_word left.words i == 2))
 
--- Every piece is done and every cell is the defined one, of that page; no piece was made twice, by passes or alone; each piece is accounted for; and the passes' part was a run.
+-- Every piece is done and every cell is the defined one, of that page; each piece was made once, by a pass that published it or alone; each piece is accounted for; and the passes' part was a run.
 pub record IsFinished (page : PageParts) (receipt : Receipt) : Type 0 where
   pub fit : IsFit receipt.sheet
   pub same_page : receipt.sheet.page.value ≡ page
   pub done : (i : ℕ) → i < (shape_of receipt.sheet).pieces → piece_word receipt.words i ≡ 2
   pub cells : (j : ℕ) → j < (shape_of receipt.sheet).cells → cell_word (shape_of receipt.sheet) receipt.words j ≡ cell receipt.sheet j
-  pub once : (i : ℕ) → times i receipt.published + times i receipt.alone ≤ 1
+  pub once : (i : ℕ) → times i receipt.published + times i receipt.alone ≡ one_if (nat_lt i (shape_of receipt.sheet).pieces)
   pub run : WasLeft receipt
   pub accounted : (i : ℕ) → i < (shape_of receipt.sheet).pieces → IsAccounted receipt.sheet.layout.bands run.view i

@@ -1,5 +1,5 @@
 -- What the receipt's run says of the work that the passes left.
-use Rattle.std.specs.Prelude.{◌≡◌, ◌≢◌, ℕ, ◌<◌, List, ◌∷◌, ◌++◌, true}
+use Rattle.std.specs.Prelude.{◌≡◌, ◌≢◌, ℕ, ◌<◌, ◌≤◌, List, ◌∷◌, ◌++◌, true}
 use Rattle.page_model.specs.declared.parts.PageParts.{PageParts}
 use Rattle.band_graph.specs.Needs.{is_need}
 use Rattle.band_claims.specs.declared.view.Look.{Look}
@@ -24,3 +24,12 @@ LeftForNeeds = (page : PageParts) (receipt : Receipt) → (f : IsFinished page r
 -- so each piece that needs no other was claimed by a pass
 abbrev pub FirstAreClaimed : Type 0
 FirstAreClaimed = (page : PageParts) (receipt : Receipt) → (f : IsFinished page receipt) → (i : ℕ) → i < (shape_of receipt.sheet).pieces → ((n : ℕ) → is_need receipt.sheet.layout.bands i n ≢ true) → piece_word f.run.left.words i ≢ 0
+
+-- the looks that a receipt tells of end what its last pass was told, in which of two words of one piece the later one is no less
+pub record TellsTruly (receipt : Receipt) : Type 0 where
+  pub earlier : List Look
+  pub looks : receipt.told ≡ earlier ++ receipt.looked
+  pub rise : (before mid after : List Look) (shown later : Look) → receipt.told ≡ before ++ shown ∷ (mid ++ later ∷ after) → later.piece ≡ shown.piece → shown.word ≤ later.word
+
+abbrev pub LooksAreTold : Type 0
+LooksAreTold = (page : PageParts) (receipt : Receipt) → IsFinished page receipt → TellsTruly receipt

@@ -58,6 +58,8 @@ pub fn finish_alone(closed: &mut Closed, page: &Page, scratch: &mut Scratch)
     ensures published_stays { closed.new.published ≡ closed.old.published }
     ensures seen_stays { closed.new.seen ≡ closed.old.seen }
     ensures looked_stays { closed.new.looked ≡ closed.old.looked }
+    ensures told_stays { closed.new.told ≡ closed.old.told }
+    ensures room_stays { closed.new.room ≡ closed.old.room }
 {
     let _whole = closed.sheet();
     let count = pieces(closed.bands());

@@ -1,6 +1,7 @@
 // The whole of a page's work at a table.
 ghost use Rattle.std.specs.Prelude.{◌≡◌, ℕ, ◌<◌, IsTrue, false};
 ghost use Rattle.band_claims.specs.Seating.{Seats};
+ghost use Rattle.band_claims.specs.Shares.{IsWhole};
 ghost use Rattle.band_claims.specs.Views.{Knows, Looks};
 ghost use Rattle.band_pieces.specs.Finished.{IsFinished};
 ghost use Rattle.band_pieces.specs.Undone.{FindsUndone};
@@ -9,39 +10,41 @@ ghost use Rattle.page_model.specs.Bands.{pieces_of};
 
 use crate::alone::finish_alone;
 use crate::scratch::Scratch;
-use band_claims::{Closed, Pass, Shared};
+use band_claims::{Closed, Pass, Reader, Shared};
 use band_graph::needs::pieces;
 use page_model::page::Page;
 
-/// Whether all pieces are done. If so the pass knows each of them afterwards; if not, `looked` ends with one that was found
-/// not done.
-pub fn all_done(shared: &Shared, pass: &mut Pass) -> bool
-    requires pass { Seats shared.now pass.old }
-    ensures pass { Seats shared.now pass.new }
-    ensures looks { Looks pass.old.view pass.new.view }
+/// Whether all pieces are done. If so the reader knows each of them afterwards; if not, `looked` ends with one that was
+/// found not done.
+pub fn all_done(shared: &Shared, reader: &mut Reader) -> bool
+    requires reader { Seats shared.now reader.old }
+    ensures reader { Seats shared.now reader.new }
+    ensures looks { Looks reader.old.view reader.new.view }
     ensures known { IsTrue result → (i : ℕ) → i < pieces_of shared.now.sheet.layout.bands
-        → Knows pass.new.view i }
+        → Knows reader.new.view i }
     ensures undone { result ≡ false
-        → FindsUndone (pieces_of shared.now.sheet.layout.bands) pass.old.view pass.new.view }
+        → FindsUndone (pieces_of shared.now.sheet.layout.bands) reader.old.view reader.new.view }
 {
     for piece in 0..pieces(shared.bands()) {
-        if !shared.is_done(pass, piece) {
+        if !shared.sees_done(reader, piece) {
             return false;
         }
     }
     true
 }
 
-/// Closes the table, whose passes have all been joined into this one, and makes alone what the workers left. It takes no
-/// memory and waits for nobody.
+/// Closes the table, whose passes have all been joined into this one, so that it has all shares, and makes alone what the
+/// workers left. It takes no memory and waits for nobody.
 pub fn finish_table(shared: Shared, pass: Pass, page: &Page, scratch: &mut Scratch) -> Closed
     requires page { page.now ≡ shared.sheet.page.value }
     requires scratch { scratch.old ≡ shared.sheet.layout }
     requires pass { Seats shared pass }
+    requires whole { IsWhole pass.view.share }
     requires accounted { (i : ℕ) → i < pieces_of shared.sheet.layout.bands
         → IsAccounted shared.sheet.layout.bands pass.view i }
     ensures scratch { scratch.new ≡ scratch.old }
     ensures sheet { result.sheet ≡ shared.sheet }
+    ensures room { result.room ≡ shared.room }
     ensures finished { IsFinished page.now result }
 {
     let _fits = shared.bands();

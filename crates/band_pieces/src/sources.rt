@@ -7,7 +7,7 @@ ghost use Rattle.band_claims.specs.Sheets.{cell, shape_of};
 ghost use Rattle.band_claims.specs.Views.{Knows};
 ghost use Rattle.band_pieces.specs.Fills.{HasCells};
 
-use band_claims::{Closed, Pass, Shared};
+use band_claims::{Closed, Pass, Reader, Shared};
 
 /// A table whose cells are read, by a seat at it.
 pub trait CellSource<S> {
@@ -32,6 +32,16 @@ impl CellSource<Pass> for Shared {
 
     fn word(&self, seat: &mut Pass, number: u32) -> u64 {
         self.read_cell(seat, number)
+    }
+}
+
+impl CellSource<Reader> for Shared {
+    ghost sheet = { λ shared reader. shared.sheet };
+
+    ghost knows = { λ shared reader piece. Seats shared reader × Knows reader.view piece };
+
+    fn word(&self, seat: &mut Reader, number: u32) -> u64 {
+        self.read_alone(seat, number)
     }
 }
 

@@ -5,7 +5,7 @@ ghost use Rattle.band_claims.specs.Seating.{Seats};
 ghost use Rattle.band_claims.specs.Views.{newcomer};
 ghost use Rattle.band_tests.specs.OneColumn.{OneColumn};
 
-use band_claims::{Pass, Shared};
+use band_claims::{Pass, Reader, Shared};
 use lists::list::List;
 use lists::names::OutOfMemory;
 use page_model::bands::Bands;
@@ -137,13 +137,30 @@ fn both_zones(shared: &Shared, pass: &mut Pass) -> Option<[u64; 2]>
     Some(words)
 }
 
+/// The word of the first band's zones, where a seat that reads alone finds them done.
+fn zone_read(shared: &Shared, reader: &mut Reader) -> Option<u64>
+    requires sheet { OneColumn shared.now.sheet }
+    requires seats { Seats shared.now reader.old }
+    ensures seats { Seats shared.now reader.new }
+{
+    if !shared.sees_done(reader, 0) {
+        return None;
+    }
+    Some(shared.read_alone(reader, 0))
+}
+
 /// The first thing that is not as it should be, or nothing.
 fn two_passes(shared: &Shared, pass: Pass) -> &'static str
     requires sheet { OneColumn shared.now.sheet }
     requires seats { Seats shared.now pass }
     requires idle { pass.view.held ≡ None }
 {
+    let mut pass = pass;
+    let mut reader = shared.reader(&mut pass);
     let (mut one, mut two) = shared.split(pass);
+    if zone_read(shared, &mut reader).is_some() {
+        return "a free piece is not done";
+    }
     if !shared.claim(&mut one, 0) {
         return "a free piece is claimed";
     }
@@ -168,6 +185,9 @@ fn two_passes(shared: &Shared, pass: Pass) -> &'static str
     }
     if both_zones(shared, &mut one) != Some([1, 1]) {
         return "both cells are read";
+    }
+    if zone_read(shared, &mut reader) != Some(1) {
+        return "a reader reads what is done";
     }
     ""
 }

@@ -1,11 +1,12 @@
 -- What a visit does to the account.
-use Rattle.std.proofs.Common.{◌≡◌, ℕ, ◌+◌, ◌≤◌, List, [], ◌∷◌, ◌++◌, length, sym, ap, ◌∙◌, inl, inr, arith, append_assoc, append-nil, length-append, None}
+use Rattle.std.proofs.Common.{◌≡◌, ℕ, ◌+◌, ◌≤◌, List, [], ◌∷◌, ◌++◌, length, sym, ap, ◌∙◌, inl, inr, arith, append_assoc, append-nil, length-append, Some, None}
 use Rattle.page_model.specs.declared.bands.Bands.{Bands}
 use Rattle.band_claims.specs.declared.view.View.{View}
 use Rattle.band_claims.specs.declared.view.Look.{Look}
-use Rattle.band_claims.specs.Views.{joined, times, Knows, Lost}
+use Rattle.band_claims.specs.Views.{look, finished, joined, times, Knows, Lost, Won}
 use Rattle.band_claims.proofs.Totals.{times_append}
-use Rattle.band_workers.specs.Accounts.{Shows, IsAccounted, Publishes, Made}
+use Rattle.band_workers.specs.Accounts.{Shows, IsAccounted, Publishes, Recalls, Made}
+use Rattle.band_workers.specs.Filled.{filled_to}
 
 module _ (bands : Bands) (piece : ℕ) (v w : View) (h : Lost bands piece v w) where
   shows_more : (i : ℕ) → Shows bands v i → Shows bands w i
@@ -38,6 +39,23 @@ module _ (bands : Bands) (piece : ℕ) (v w : View) (h : Lost bands piece v w) w
 
   pub still_idle : v.held ≡ None → w.held ≡ None
   still_idle e = h.looks.same_held ∙ e
+
+-- a piece that was won, filled and published
+pub made_by : (bands : Bands) (piece n p : ℕ) (u v w x : View) → Won bands piece u v → w ≡ filled_to n v → w.held ≡ Some p → x ≡ finished p w → Made piece u x
+made_by bands piece n p u v w x won filled held done =
+    let same : Some p ≡ Some piece = sym held ∙ (ap (λ (z : View). z.held) filled ∙ won.holding) in
+    let here : p ≡ piece = cc in record {
+      idle = ap (λ (z : View). z.held) done;
+      published = ap (λ (z : View). z.published) done ∙ (ap (λ (z : View). z.published ++ p ∷ []) filled ∙ (ap (λ (q : ℕ). v.published ++ q ∷ []) here ∙ ap (λ (z : List ℕ). z ++ piece ∷ []) won.same_published));
+      told = (won.more_told.0 ++ look p 2 ∷ [], ap (λ (z : View). z.told) done ∙ (ap (λ (z : View). z.told ++ look p 2 ∷ []) filled ∙ (ap (λ (z : List Look). z ++ look p 2 ∷ []) won.more_told.1 ∙ append_assoc u.told won.more_told.0 (look p 2 ∷ []))));
+      share = ap (λ (z : View). z.share) done ∙ (ap (λ (z : View). z.share) filled ∙ won.same_share);
+    }
+
+pub recalls_same : (v : View) → Recalls v v
+recalls_same v = ([], sym (append-nil v.told))
+
+pub recalls_more : (u v w : View) → Recalls u v → Recalls v w → Recalls u w
+recalls_more u v w a b = (a.0 ++ b.0, b.1 ∙ (ap (λ (z : List Look). z ++ b.0) a.1 ∙ append_assoc u.told a.0 b.0))
 
 pub publishes_made : (piece : ℕ) (u v w : View) → Publishes u v → Made piece v w → Publishes u w
 publishes_made piece u v w p m = (p.0 ++ piece ∷ [], m.published ∙ (ap (λ (z : List ℕ). z ++ piece ∷ []) p.1 ∙ append_assoc u.published p.0 (piece ∷ [])))

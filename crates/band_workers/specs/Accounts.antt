@@ -21,7 +21,13 @@ IsAccounted bands v piece = Knows v piece ⊎ Shows bands v piece
 abbrev pub Publishes : View → View → Type 0
 Publishes v w = (more : List ℕ) × (w.published ≡ v.published ++ more)
 
+-- the words that v was told are the first ones that w was told
+abbrev pub Recalls : View → View → Type 0
+Recalls v w = (more : List Look) × (w.told ≡ v.told ++ more)
+
 -- what a piece that was made leaves
 pub record Made (piece : ℕ) (v w : View) : Type 0 where
   pub idle : w.held ≡ None
   pub published : w.published ≡ v.published ++ piece ∷ []
+  pub told : Recalls v w
+  pub share : w.share ≡ v.share

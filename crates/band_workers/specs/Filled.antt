@@ -9,7 +9,7 @@ use Rattle.row_cells.specs.Places.{lanes_of, value_total}
 
 -- the view with so many cells of its piece filled
 abbrev pub filled_to : ℕ → View → View
-filled_to n v = record { sheet = v.sheet; held = v.held; filled = n; published = v.published; seen = v.seen; looked = v.looked; told = v.told }
+filled_to n v = record { sheet = v.sheet; held = v.held; filled = n; published = v.published; seen = v.seen; looked = v.looked; told = v.told; share = v.share }
 
 -- all values of the piece over the undivided page, in their order
 pub record AreValues (sheet : Sheet) (piece : ℕ) (values : List ℕ) : Type 0 where

@@ -2,7 +2,8 @@ ghost use Rattle.std.specs.Prelude.{◌≡◌, ℕ, ◌+◌, ◌<◌, ◌≤◌,
 ghost use Rattle.band_claims.specs.Seating.{Seats};
 ghost use Rattle.band_claims.specs.Views.{IsFair, Lost};
 ghost use Rattle.page_model.specs.Bands.{pieces_of};
-ghost use Rattle.band_workers.specs.Accounts.{IsAccounted, Publishes, Made};
+ghost use Rattle.band_claims.specs.Shares.{SameShare};
+ghost use Rattle.band_workers.specs.Accounts.{IsAccounted, Publishes, Recalls, Made};
 
 use crate::gate::Gate;
 use crate::maker::Maker;
@@ -58,6 +59,8 @@ fn walk<M: Maker, G: Gate>(
     ensures pass { Seats shared.now pass.new }
     ensures idle { pass.new.view.held ≡ None }
     ensures published { Publishes pass.old.view pass.new.view }
+    ensures told { Recalls pass.old.view pass.new.view }
+    ensures share { pass.new.view.share ≡ pass.old.view.share }
     ensures few { IsTrue result
         → length pass.new.view.published ≤ pieces_of shared.now.sheet.layout.bands }
     ensures more { IsTrue result
@@ -76,7 +79,7 @@ fn walk<M: Maker, G: Gate>(
 
 /// Walks over the pieces, claims and makes those that it can, and ends after a walk that won nothing. Each piece is
 /// then accounted for in the pass: it was published or seen done, or `looked` shows a need of it that was not done or
-/// that it was not free.
+/// that it was not free. What the pass was told before, it still tells, and it keeps its share.
 pub fn work<M: Maker, G: Gate>(
     shared: &Shared,
     pass: Pass,
@@ -92,6 +95,8 @@ pub fn work<M: Maker, G: Gate>(
     ensures pass { Seats shared.now result }
     ensures idle { result.view.held ≡ None }
     ensures published { Publishes pass.view result.view }
+    ensures told { Recalls pass.view result.view }
+    ensures share { result.view.share ≡ pass.view.share }
     ensures accounted { (i : ℕ) → i < pieces_of shared.now.sheet.layout.bands
         → IsAccounted shared.now.sheet.layout.bands result.view i }
 {
@@ -104,7 +109,8 @@ pub fn work<M: Maker, G: Gate>(
 }
 
 /// Runs `work` once for each maker, on threads of their own, and joins their passes. It waits for its own workers
-/// alone; where a thread can't be started the caller does that work itself.
+/// alone; where a thread can't be started the caller does that work itself. The pass that comes back has all of the share
+/// that was given, so no pass of a worker is let go.
 pub fn work_many<R: Threads + Sync, M: Maker + Send, G: Gate + Sync>(
     rt: &R,
     shared: &Shared,
@@ -121,6 +127,8 @@ pub fn work_many<R: Threads + Sync, M: Maker + Send, G: Gate + Sync>(
     ensures pass { Seats shared.now result }
     ensures idle { result.view.held ≡ None }
     ensures published { Publishes pass.view result.view }
+    ensures told { Recalls pass.view result.view }
+    ensures share { SameShare pass.view.share result.view.share }
     ensures accounted { (i : ℕ) → i < pieces_of shared.now.sheet.layout.bands
         → IsAccounted shared.now.sheet.layout.bands result.view i }
 {
@@ -142,6 +150,8 @@ pub fn work_many<R: Threads + Sync, M: Maker + Send, G: Gate + Sync>(
             ensures pass { Seats shared.entry.now result }
             ensures idle { result.view.held ≡ None }
             ensures published { Publishes one.view result.view }
+            ensures told { Recalls one.view result.view }
+            ensures share { SameShare one.view.share result.view.share }
             ensures accounted { (i : ℕ) → i < pieces_of shared.entry.now.sheet.layout.bands
                 → IsAccounted shared.entry.now.sheet.layout.bands result.view i }
         { work_many(rt, shared, one, page, left, gate) },
@@ -153,6 +163,7 @@ pub fn work_many<R: Threads + Sync, M: Maker + Send, G: Gate + Sync>(
             requires idle { two.view.held ≡ None }
             ensures pass { Seats shared.entry.now result }
             ensures idle { result.view.held ≡ None }
+            ensures share { SameShare two.view.share result.view.share }
             ensures accounted { (i : ℕ) → i < pieces_of shared.entry.now.sheet.layout.bands
                 → IsAccounted shared.entry.now.sheet.layout.bands result.view i }
         { work_many(rt, shared, two, page, right, gate) },

@@ -76,9 +76,10 @@ fn left_at(
     requires done { done < pieces_of shared.sheet.layout.bands }
 {
     let mut pass = pass;
+    let mut reader = shared.reader(&mut pass);
     let made = make_first(&shared, &mut pass, page, scratch, done);
     let _fits = shared.bands();
-    let all = all_done(&shared, &mut pass);
+    let all = all_done(&shared, &mut reader);
     let mut closed = shared.close_all(pass);
     let was_left = made && !all && closed.state(done) == 1;
     finish_alone(&mut closed, page, scratch);

@@ -1,8 +1,12 @@
 -- The memory of the workers and of the caller is that of the table's layout.
-use Rattle.std.proofs.Common.{◌≡◌, ℕ, ◌∙◌, ◌∷◌, ◌++◌, [], All, List, ap, arith, subst, sym}
+use Rattle.std.proofs.Common.{refl, ◌≡◌, ℕ, ◌∙◌, ◌∷◌, ◌++◌, [], All, List, ap, arith, subst, sym}
 use Rattle.std.proofs.lemmas.List.Elements.{All-append, All-cons}
 use Rattle.page_model.specs.declared.bands.Bands.{Bands}
 use Rattle.row_cells.specs.Layouts.{Layout}
+use Rattle.band_claims.specs.declared.sheet.Sheet.{Sheet}
+use Rattle.band_claims.specs.declared.view.View.{View}
+use Rattle.band_claims.specs.Shares.{IsWhole}
+use Rattle.band_claims.specs.Views.{newcomer}
 
 abbrev laid : Bands → ℕ → ℕ → Layout
 laid b w p = record { bands = b; width = w; plates = p }
@@ -16,3 +20,7 @@ one_served_by layout one bands w p w' p' e ew ep h = h ∙ sym (e ∙ ap (λ (n 
 -- and so it stays where one more is added
 pub one_more_laid : (all : List Layout) (one : Layout) (bands : Bands) (w p : ℕ) → All (λ (s : Layout). s ≡ record { bands = bands; width = w; plates = p }) all → one ≡ record { bands = bands; width = w; plates = p } → All (λ (s : Layout). s ≡ record { bands = bands; width = w; plates = p }) (all ++ one ∷ [])
 one_more_laid all one bands w p h e = All-append (λ (s : Layout). s ≡ laid bands w p) all (one ∷ []) h (All-cons (λ (s : Layout). s ≡ laid bands w p) one [] e (λ j d none. absurd (omega arith)))
+
+-- a table's first pass has all shares
+pub newcomer_whole : (key : Sheet) (v : View) → v ≡ newcomer key → IsWhole v.share
+newcomer_whole key v e = subst (λ (z : View). IsWhole z.share) (sym e) (record { halvings = 0; cut = (omega arith, tt); all = refl })

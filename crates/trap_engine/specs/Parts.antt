@@ -38,6 +38,6 @@ pub record AreCountedParts (page : PageParts) (parts : List Part) : Type 0 where
   pub cover : CoverPage page parts
   pub each : (i : ℕ) (d : Part) → i < length parts → IsCounted page (slice_index_or parts i d)
 
--- each has a pass of this table
+-- each has a seat of this table
 abbrev pub AreSeatedParts : OpenTable → List Part → Type 0
-AreSeatedParts shared parts = All (λ (part : Part). Seats shared part.pass) parts
+AreSeatedParts shared parts = All (λ (part : Part). Seats shared part.reader) parts

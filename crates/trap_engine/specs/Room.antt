@@ -1,6 +1,7 @@
 -- What a room for trapping is made of.
 use Rattle.std.specs.Prelude.{◌≡◌, ℕ, ◌≤◌, All, List, None, length}
 use Rattle.band_claims.specs.Seating.{OpenTable, Seating, Seats}
+use Rattle.band_claims.specs.Shares.{IsWhole}
 use Rattle.page_model.specs.declared.parts.PageParts.{PageParts}
 use Rattle.row_cells.specs.Layouts.{Layout}
 use Rattle.strip_engine.specs.declared.outcome.Outcome.{Outcome}
@@ -19,11 +20,12 @@ pub record RoomView : Type 0 where
   pub layout : Layout
   pub workers : ℕ
 
--- a table with its first pass, which holds nothing; the memory of some workers and of the caller, made for the table; and for the
--- table's page the works of its plates and the parts of its rows, each with a pass of the table, and an outcome with nothing in it
+-- a table with its first pass, which holds nothing and has all shares; the memory of some workers and of the caller, made for the table; and for the
+-- table's page the works of its plates and the parts of its rows, each with a seat of the table to read by, and an outcome with nothing in it
 pub record IsRoom (shared : OpenTable) (pass : Seating) (scratches : List Layout) (spare : Layout) (works : List PlateWork) (parts : List Part) (outcome : Outcome) : Type 0 where
   pub seat : Seats shared pass
   pub idle : pass.view.held ≡ None
+  pub whole : IsWhole pass.view.share
   pub served : All (λ (scratch : Layout). scratch ≡ shared.sheet.layout) scratches
   pub some : 1 ≤ length scratches
   pub spare_served : spare ≡ shared.sheet.layout

@@ -32,9 +32,9 @@ pub record AreTakenPlates (page : PageParts) (works : List PlateWork) : Type 0 w
   pub count : length works ≡ plates page
   pub each : (c : ℕ) (d : PlateWork) → c < plates page → IsTakenPlate page c (slice_index_or works c d).plane (slice_index_or works c d).changed
 
--- each has a pass of this table
+-- each has a seat of this table
 abbrev pub AreSeatedWorks : OpenTable → List PlateWork → Type 0
-AreSeatedWorks shared works = All (λ (work : PlateWork). Seats shared work.pass) works
+AreSeatedWorks shared works = All (λ (work : PlateWork). Seats shared work.reader) works
 
 -- the tally has what is counted in the rows from `first` on and before another
 pub record HasCounted (page : PageParts) (first to : ℕ) (tally : Tally) : Type 0 where

@@ -1,4 +1,4 @@
-// The page's rows in parts, and what is counted in each out of a table's cells: by the pass of each, side by side with the others,
+// The page's rows in parts, and what is counted in each out of a table's cells: by the reader of each, side by side with the others,
 // or from the closed table.
 ghost use Rattle.std.specs.Prelude.{◌≡◌, ℕ, ◌+◌, ◌*◌, ◌<◌, ◌≤◌, IfOk, None};
 ghost use Rattle.band_claims.specs.Seating.{Seats};
@@ -11,7 +11,7 @@ ghost use Rattle.strip_engine.specs.Tallies.{HasPlates};
 ghost use Rattle.trap_engine.specs.Parts.{AreCountedParts, AreOfSize, AreParts, AreSeatedParts, IsCounted, IsPart};
 
 use crate::tally::{Tally, take_rows, tally_of};
-use band_claims::{Closed, Pass, Shared};
+use band_claims::{Closed, Pass, Reader, Shared};
 use band_pieces::all_done;
 use lists::list::List;
 use page_model::page::Page;
@@ -23,59 +23,55 @@ use std::thread::Threads;
 use strip_engine::Outcome;
 use strip_engine::memory::push;
 
-/// Some rows of the page, with a pass of their own to read by. Until it is `done` nothing is counted in them; then the tally has
+/// Some rows of the page, with a seat of their own to read by. Until it is `done` nothing is counted in them; then the tally has
 /// all that there is.
 #[derive(Drop)]
 pub struct Part {
     pub rows: Rows,
-    pub pass: Pass,
+    pub reader: Reader,
     pub tally: Tally,
     pub done: bool,
 }
 
-/// The page's rows in parts of so many rows, one after the other; the last has what is left. A pass for each is split off.
+/// The page's rows in parts of so many rows, one after the other; the last has what is left. A reader for each is split off.
 pub fn parts_of(
     alloc: Global,
     page: &Page,
     shared: &Shared,
-    pass: Pass,
+    pass: &mut Pass,
     size: u32,
-) -> Result<(Pass, Vec<Part>), OutOfMemory>
-    requires pass { Seats shared.now pass }
-    requires idle { pass.view.held ≡ None }
+) -> Result<Vec<Part>, OutOfMemory>
+    requires pass { Seats shared.now pass.old }
+    requires idle { pass.old.view.held ≡ None }
     requires some { 1 ≤ size }
-    ensures pass { IfOk result (λ t. Seats shared.now t.0) }
-    ensures idle { IfOk result (λ t. t.0.view.held ≡ None) }
-    ensures parts { IfOk result (λ t. AreParts page.now t.1.items) }
-    ensures size { IfOk result (λ t. AreOfSize page.now size t.1.items) }
-    ensures seats { IfOk result (λ t. AreSeatedParts shared.now t.1.items) }
+    ensures pass { pass.new ≡ pass.old }
+    ensures parts { IfOk result (λ parts. AreParts page.now parts.items) }
+    ensures size { IfOk result (λ parts. AreOfSize page.now size parts.items) }
+    ensures seats { IfOk result (λ parts. AreSeatedParts shared.now parts.items) }
 {
     let height = page.height();
-    let mut pass = pass;
     let mut parts = List::new(alloc);
     let mut first = 0;
     while first < height {
-        let (kept, other) = shared.split(pass);
-        pass = kept;
         let count = (height - first).min(size);
         let part = Part {
             rows: Rows { first, count },
-            pass: other,
+            reader: shared.reader(pass),
             tally: tally_of(alloc, page)?,
             done: false,
         };
         push(&mut parts, part)?;
         first += count;
     }
-    Ok((pass, parts.into_vec()))
+    Ok(parts.into_vec())
 }
 
-/// Counts in the rows of a part by its own pass, if it finds all pieces done; else the part stays as it is. These planes have
+/// Counts in the rows of a part by its own reader, if it finds all pieces done; else the part stays as it is. These planes have
 /// all their new tints.
-fn count_by_pass(shared: &Shared, page: &Page, planes: &[Plane], part: &mut Part)
+fn count_by_reader(shared: &Shared, page: &Page, planes: &[Plane], part: &mut Part)
     requires page { page.now ≡ shared.now.sheet.page.value }
     requires planes { AreTrappedTo page.now planes.now (height page.now * width page.now) }
-    requires seat { Seats shared.now part.old.pass }
+    requires seat { Seats shared.now part.old.reader }
     requires part { IsPart page.now part.old }
     ensures rows { part.new.rows ≡ part.old.rows }
     ensures part { IsPart page.now part.new }
@@ -83,13 +79,13 @@ fn count_by_pass(shared: &Shared, page: &Page, planes: &[Plane], part: &mut Part
     if part.done {
         return;
     }
-    if !all_done(shared, &mut part.pass) {
+    if !all_done(shared, &mut part.reader) {
         return;
     }
     let _fits = shared.bands();
     take_rows(
         shared,
-        &mut part.pass,
+        &mut part.reader,
         page,
         shared.layout(),
         planes,
@@ -99,9 +95,9 @@ fn count_by_pass(shared: &Shared, page: &Page, planes: &[Plane], part: &mut Part
     part.done = true;
 }
 
-/// Counts in all parts by their own passes, in a thread for each. A part whose pass found a piece not done is left. These planes
+/// Counts in all parts by their own readers, in a thread for each. A part whose reader found a piece not done is left. These planes
 /// have all their new tints.
-pub fn count_by_passes<R: Threads + Sync>(
+pub fn count_by_readers<R: Threads + Sync>(
     rt: &R,
     shared: &Shared,
     page: &Page,
@@ -122,11 +118,11 @@ pub fn count_by_passes<R: Threads + Sync>(
         &|_i: usize, part: &mut Part|
             requires page { page.now ≡ shared.now.sheet.page.value }
             requires planes { AreTrappedTo page.now planes.now (height page.now * width page.now) }
-            requires seat { Seats shared.now part.now.pass }
+            requires seat { Seats shared.now part.now.reader }
             requires part { IsPart page.now part.now }
             ensures rows { part.exit.now.rows ≡ part.entry.now.rows }
             ensures part { IsPart page.entry.now part.exit.now }
-        { count_by_pass(shared, page, planes, part) },
+        { count_by_reader(shared, page, planes, part) },
     );
 }
 

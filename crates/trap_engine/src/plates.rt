@@ -1,4 +1,4 @@
-// The plates of the result, each read out of a table's cells: by the pass of each, side by side with the others, or from the
+// The plates of the result, each read out of a table's cells: by the reader of each, side by side with the others, or from the
 // closed table.
 ghost use Rattle.std.specs.Prelude.{◌≡◌, ℕ, ◌+◌, ◌*◌, ◌<◌, ◌≤◌, length, slice_index_or, false, true};
 ghost use Rattle.band_claims.specs.Seating.{Seats};
@@ -10,7 +10,7 @@ ghost use Rattle.strip_engine.specs.Standing.{IsTrappedTo};
 ghost use Rattle.strip_engine.specs.Tallies.{HasPlates, HasTallies};
 ghost use Rattle.trap_engine.specs.Taking.{ArePlateWorks, AreSeatedWorks, AreTakenPlates, IsPlateWork, IsTakenPlate};
 
-use band_claims::{Closed, Pass, Shared};
+use band_claims::{Closed, Reader, Shared};
 use band_pieces::{CellSource, all_done, read_plate};
 use page_model::page::Page;
 use page_model::parts::Plane;
@@ -19,11 +19,11 @@ use std::thread;
 use std::thread::Threads;
 use strip_engine::{Outcome, put_plate_row};
 
-/// What a plate of the result is taken with: a pass of its own to read by, room for a row, and the plane. Until it is `done`
+/// What a plate of the result is taken with: a seat of its own to read by, room for a row, and the plane. Until it is `done`
 /// the plane is a copy of the page's; then it has its new tints, and `changed` tells how many they are.
 #[derive(Drop)]
 pub struct PlateWork {
-    pub pass: Pass,
+    pub reader: Reader,
     pub row: Vec<u16>,
     pub plane: Plane,
     pub changed: u64,
@@ -60,24 +60,24 @@ fn take_plate<S, C: CellSource<S>>(
     changed
 }
 
-/// Takes plate c by the work's own pass, if it finds all pieces done; else the work stays as it is.
-fn take_by_pass(shared: &Shared, page: &Page, c: u32, work: &mut PlateWork)
+/// Takes plate c by the work's own reader, if it finds all pieces done; else the work stays as it is.
+fn take_by_reader(shared: &Shared, page: &Page, c: u32, work: &mut PlateWork)
     requires page { page.now ≡ shared.now.sheet.page.value }
     requires plate { c < plates page.now }
-    requires seat { Seats shared.now work.old.pass }
+    requires seat { Seats shared.now work.old.reader }
     requires work { IsPlateWork page.now c work.old }
     ensures { IsPlateWork page.now c work.new }
 {
     if work.done {
         return;
     }
-    if !all_done(shared, &mut work.pass) {
+    if !all_done(shared, &mut work.reader) {
         return;
     }
     let _fits = shared.bands();
     work.changed = take_plate(
         shared,
-        &mut work.pass,
+        &mut work.reader,
         page,
         shared.layout(),
         c,
@@ -87,8 +87,8 @@ fn take_by_pass(shared: &Shared, page: &Page, c: u32, work: &mut PlateWork)
     work.done = true;
 }
 
-/// Takes all plates by their own passes, in so many threads. A plate whose pass found a piece not done is left.
-pub fn take_by_passes<R: Threads + Sync>(
+/// Takes all plates by their own readers, in so many threads. A plate whose reader found a piece not done is left.
+pub fn take_by_readers<R: Threads + Sync>(
     rt: &R,
     shared: &Shared,
     page: &Page,
@@ -110,10 +110,10 @@ pub fn take_by_passes<R: Threads + Sync>(
             requires page { page.now ≡ shared.now.sheet.page.value }
             requires plate { c < plates page.now }
             requires few { plates page.now ≤ 16 }
-            requires seat { Seats shared.now work.now.pass }
+            requires seat { Seats shared.now work.now.reader }
             requires work { IsPlateWork page.now c work.now }
             ensures { IsPlateWork page.entry.now c work.exit.now }
-        { take_by_pass(shared, page, c as u32, work) },
+        { take_by_reader(shared, page, c as u32, work) },
     );
 }
 

@@ -13,7 +13,7 @@ ghost use Rattle.trap_engine.specs.Taking.{ArePlateWorks, AreSeatedWorks};
 
 use crate::parts::{Part, parts_of};
 use crate::plates::PlateWork;
-use band_claims::{Pass, Shared};
+use band_claims::{Pass, Reader, Shared};
 use band_pieces::Scratch;
 use lists::list::List;
 use page_model::bands::Bands;
@@ -108,14 +108,19 @@ fn no_plane(alloc: Global) -> Plane
 }
 
 /// What a plate is taken with, where this is a copy of the page's.
-fn work_of(alloc: Global, page: &Page, pass: Pass, plane: Plane) -> Result<PlateWork, OutOfMemory>
+fn work_of(
+    alloc: Global,
+    page: &Page,
+    reader: Reader,
+    plane: Plane,
+) -> Result<PlateWork, OutOfMemory>
     ensures row { IfOk result (λ work. length work.row.items ≡ width page.now) }
-    ensures pass { IfOk result (λ work. work.pass ≡ pass) }
+    ensures reader { IfOk result (λ work. work.reader ≡ reader) }
     ensures plane { IfOk result (λ work. work.plane ≡ plane) }
     ensures done { IfOk result (λ work. work.done ≡ false) }
 {
     Ok(PlateWork {
-        pass,
+        reader,
         row: filled(alloc, 0u16, page.width() as usize)?,
         plane,
         changed: 0,
@@ -123,32 +128,29 @@ fn work_of(alloc: Global, page: &Page, pass: Pass, plane: Plane) -> Result<Plate
     })
 }
 
-/// What each plate is taken with. The copies of the planes are taken out of the list, and a pass for each is split off.
+/// What each plate is taken with. The copies of the planes are taken out of the list, and a reader for each is split off.
 fn works_of(
     alloc: Global,
     page: &Page,
     shared: &Shared,
-    pass: Pass,
+    pass: &mut Pass,
     planes: &mut PlaneList,
-) -> Result<(Pass, Vec<PlateWork>), OutOfMemory>
-    requires pass { Seats shared.now pass }
-    requires idle { pass.view.held ≡ None }
+) -> Result<Vec<PlateWork>, OutOfMemory>
+    requires pass { Seats shared.now pass.old }
+    requires idle { pass.old.view.held ≡ None }
     requires planes { AreTrappedTo page.now planes.old 0 }
-    ensures pass { IfOk result (λ t. Seats shared.now t.0) }
-    ensures idle { IfOk result (λ t. t.0.view.held ≡ None) }
-    ensures works { IfOk result (λ t. ArePlateWorks page.now t.1.items) }
-    ensures seats { IfOk result (λ t. AreSeatedWorks shared.now t.1.items) }
+    ensures pass { pass.new ≡ pass.old }
+    ensures works { IfOk result (λ works. ArePlateWorks page.now works.items) }
+    ensures seats { IfOk result (λ works. AreSeatedWorks shared.now works.items) }
     ensures planes { length planes.new ≡ length planes.old }
 {
-    let mut pass = pass;
     let mut works = List::new(alloc);
     for c in 0..page.plates() {
-        let (kept, other) = shared.split(pass);
-        pass = kept;
+        let reader = shared.reader(pass);
         let plane = planes.set(c as usize, no_plane(alloc));
-        push(&mut works, work_of(alloc, page, other, plane)?)?;
+        push(&mut works, work_of(alloc, page, reader, plane)?)?;
     }
-    Ok((pass, works.into_vec()))
+    Ok(works.into_vec())
 }
 
 /// The table of a page with its first pass, and an outcome with no row of the page taken in. For more than one worker they
@@ -209,10 +211,10 @@ impl TrapRoom {
     {
         let bands = Bands::new(page.height(), band, page.reach2());
         let layout = Layout::new(page.width(), page.plates(), &bands);
-        let (shared, pass, mut outcome) = table_and_outcome(rt, alloc, page, &layout, workers)?;
+        let (shared, mut pass, mut outcome) = table_and_outcome(rt, alloc, page, &layout, workers)?;
         let count = workers_for(&bands, workers);
-        let (pass, works) = works_of(alloc, page, &shared, pass, &mut outcome.planes)?;
-        let (pass, parts) = parts_of(alloc, page, &shared, pass, page.height() / count + 1)?;
+        let works = works_of(alloc, page, &shared, &mut pass, &mut outcome.planes)?;
+        let parts = parts_of(alloc, page, &shared, &mut pass, page.height() / count + 1)?;
         Ok(TrapRoom {
             shared,
             pass,

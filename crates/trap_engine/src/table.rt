@@ -11,8 +11,8 @@ ghost use Rattle.trap_engine.specs.Parts.{AreParts, AreSeatedParts};
 ghost use Rattle.trap_engine.specs.Receipts.{IsWholeReceipt};
 ghost use Rattle.trap_engine.specs.Taking.{ArePlateWorks, AreSeatedWorks};
 
-use crate::parts::{Part, add_parts, count_by_passes, count_those_left};
-use crate::plates::{PlateWork, are_taken, put_works, take_by_passes, take_those_left};
+use crate::parts::{Part, add_parts, count_by_readers, count_those_left};
+use crate::plates::{PlateWork, are_taken, put_works, take_by_readers, take_those_left};
 use crate::room::TrapRoom;
 use band_claims::{Closed, Shared};
 use band_pieces::finish_table;
@@ -23,7 +23,7 @@ use std::alloc::Global;
 use std::thread::Threads;
 use strip_engine::{Outcome, Trapped};
 
-/// Takes the plates by their own passes, in so many threads, and where that took all of them, puts them into the outcome and
+/// Takes the plates by their own readers, in so many threads, and where that took all of them, puts them into the outcome and
 /// counts in the parts by theirs. It gives the works where some plate is left.
 fn take_side_by_side<R: Threads + Sync>(
     rt: &R,
@@ -45,12 +45,12 @@ fn take_side_by_side<R: Threads + Sync>(
     ensures parts { AreParts page.now parts.new }
 {
     let mut works = works;
-    take_by_passes(rt, shared, page, parts.len(), &mut works);
+    take_by_readers(rt, shared, page, parts.len(), &mut works);
     if !are_taken(&works) {
         return Some(works);
     }
     put_works(outcome, page, works);
-    count_by_passes(rt, shared, page, outcome.planes.as_slice(), parts);
+    count_by_readers(rt, shared, page, outcome.planes.as_slice(), parts);
     None
 }
 

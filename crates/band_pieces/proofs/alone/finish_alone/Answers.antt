@@ -64,3 +64,9 @@ returns-clause-seen_stays c = c.loop-piece.invariant.closed.lists.seen
 
 pub returns-clause-looked_stays : goal.returns-clause-looked_stays
 returns-clause-looked_stays c = c.loop-piece.invariant.closed.lists.looked
+
+pub returns-clause-told_stays : goal.returns-clause-told_stays
+returns-clause-told_stays c = c.loop-piece.invariant.closed.lists.told
+
+pub returns-clause-room_stays : goal.returns-clause-room_stays
+returns-clause-room_stays c = c.loop-piece.invariant.closed.lists.room

@@ -33,4 +33,4 @@ pub returns-clause-finished : goal.returns-clause-finished
 returns-clause-finished c =
     let key = c.args.closed.now.sheet in let fit = c.sheet-whole.ensures.fits in let wide = c.sheet-whole.ensures.wide in let f = c.fill_piece.ensures.filled in
     finished_now c.args.closed.now c.fill_piece.new.seat c.set_done.new.self c.args.piece fit wide c.requires.piece (λ e. c.if-state-eq2.false (c.state.ensures ∙ e)) c.requires.cells f
-    (record { sheet = c.set_done.ensures.sheet; lists = record { published = c.set_done.ensures.published; seen = c.set_done.ensures.seen; looked = c.set_done.ensures.looked }; words = c.set_done.ensures.words; alone = c.set_done.ensures.alone })
+    (record { sheet = c.set_done.ensures.sheet; lists = record { published = c.set_done.ensures.published; seen = c.set_done.ensures.seen; looked = c.set_done.ensures.looked; told = c.set_done.ensures.told; room = c.set_done.ensures.room }; words = c.set_done.ensures.words; alone = c.set_done.ensures.alone })

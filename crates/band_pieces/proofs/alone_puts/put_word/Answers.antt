@@ -26,7 +26,7 @@ returns c =
     let word = c.requires.word in
     record {
       sheet = ap (λ z. z.sheet) s;
-      lists = record { published = ap (λ z. z.published) s; seen = ap (λ z. z.seen) s; looked = ap (λ z. z.looked) s };
+      lists = record { published = ap (λ z. z.published) s; seen = ap (λ z. z.seen) s; looked = ap (λ z. z.looked) s; told = ap (λ z. z.told) s; room = ap (λ z. z.room) s };
       alone = ap (λ z. z.alone) s;
       words = ap (λ z. z.words) s ∙ (λ i. slice_set c.args.closed.now.words ((shape_of key).pieces + (first i + c.args.o)) (word i));
     }

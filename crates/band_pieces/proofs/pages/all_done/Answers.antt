@@ -4,10 +4,10 @@ use Rattle.band_pieces.proofs.pages.all_done.Goals as goal
 
 pub loop-piece-preserved : goal.loop-piece-preserved
 loop-piece-preserved c =
-    let v = c.loop-piece.invariant in let d = c.is_done.ensures.answer in
+    let v = c.loop-piece.invariant in let d = c.sees_done.ensures.answer in
     record {
       end = v.end;
-      pass = c.is_done.ensures.pass;
-      looks = rw d.1 (looks_more c.args.pass.now.view c.loop-piece.pass.view c.loop-piece.piece d.0 v.looks);
-      known = rw d.1 (known_before c.loop-piece.pass.view c.loop-piece.piece d.0 v.known (d.2.0 c.if-not-is_done.false));
+      reader = c.sees_done.ensures.reader;
+      looks = rw d.1 (looks_more c.args.reader.now.view c.loop-piece.reader.view c.loop-piece.piece d.0 v.looks);
+      known = rw d.1 (known_before c.loop-piece.reader.view c.loop-piece.piece d.0 v.known (d.2.0 c.if-not-sees_done.false));
     }

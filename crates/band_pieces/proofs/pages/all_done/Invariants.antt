@@ -7,7 +7,7 @@ use Rattle.band_pieces.proofs.pages.all_done.Given as goal
 abbrev pub invariant-loop-piece : goal.invariant-loop-piece
 invariant-loop-piece l = record {
   end : l.piece-end ≡ pieces_of l.shared.sheet.layout.bands;
-  pass : Seats l.shared l.pass;
-  looks : Looks l.initial.pass.view l.pass.view;
-  known : (i : ℕ) → i < l.piece → Knows l.pass.view i;
+  reader : Seats l.shared l.reader;
+  looks : Looks l.initial.reader.view l.reader.view;
+  known : (i : ℕ) → i < l.piece → Knows l.reader.view i;
 }

@@ -3,7 +3,7 @@ use Rattle.band_claims.specs.declared.sheet.Sheet.{Sheet}
 use Rattle.band_claims.specs.Sheets.{IsFit, shape_of}
 use Rattle.band_claims.specs.Views.{times}
 use Rattle.band_workers.specs.Accounts.{IsAccounted}
-use Rattle.band_pieces.proofs.Finishing.{was_left}
+use Rattle.band_pieces.proofs.Finishing.{each_once, was_left}
 use Rattle.band_pieces.proofs.pages.finish_table.Goals as goal
 
 pub finish_alone-requires-clause-page : goal.finish_alone-requires-clause-page
@@ -18,6 +18,9 @@ finish_alone-requires-clause-published c i l = c.close_all-closed.ensures.done i
 pub returns-clause-sheet : goal.returns-clause-sheet
 returns-clause-sheet c = c.finish_alone.ensures.sheet ∙ c.close_all-closed.ensures.sheet
 
+pub returns-clause-room : goal.returns-clause-room
+returns-clause-room c = c.finish_alone.ensures.room_stays ∙ c.close_all-closed.ensures.room
+
 pub returns-clause-finished : goal.returns-clause-finished
 returns-clause-finished c =
     let f = c.finish_alone.ensures in let k = c.close_all-closed.ensures in let same = f.sheet ∙ k.sheet in
@@ -26,7 +29,7 @@ returns-clause-finished c =
       same_page = ap (λ (z : Sheet). z.page.value) same ∙ sym c.requires.page;
       done = f.done;
       cells = f.cells;
-      once = f.once;
-      run = was_left c.close_all-closed.result c.finish_alone.new.closed c.args.pass.view k.run f.sheet (f.published_stays ∙ k.published) (f.seen_stays ∙ k.seen) (f.looked_stays ∙ k.looked) f.alone;
+      once = λ i. each_once c.close_all-closed.result c.finish_alone.new.closed i f.sheet f.published_stays (k.whole c.requires.whole i) (f.alone i);
+      run = was_left c.close_all-closed.result c.finish_alone.new.closed c.args.pass.view k.run f.sheet (f.published_stays ∙ k.published) (f.seen_stays ∙ k.seen) (f.looked_stays ∙ k.looked) (f.told_stays ∙ k.told) f.alone;
       accounted = λ i l. subst (λ (z : Sheet). IsAccounted z.layout.bands c.args.pass.view i) (sym same) (c.requires.accounted i (subst (λ (z : Sheet). i < (shape_of z).pieces) same l));
     }

@@ -3,7 +3,7 @@ use Rattle.std.proofs.lemmas.Bool.{cases_eq, false≢true}
 use Rattle.page_model.specs.Bands.{pieces_of}
 use Rattle.band_workers.specs.Accounts.{IsAccounted}
 use Rattle.band_workers.proofs.Pigeons.{few_published}
-use Rattle.band_workers.proofs.Accounting.{accounted_on, accounted_here, still, still_idle, publishes_made, longer_made}
+use Rattle.band_workers.proofs.Accounting.{accounted_on, accounted_here, still, still_idle, publishes_made, recalls_more, longer_made}
 use Rattle.band_workers.proofs.walks.walk.Goals.{then-visit, else-visit}
 use Rattle.band_workers.proofs.walks.walk.Goals as goal
 
@@ -20,6 +20,8 @@ loop-piece-preserved g c =
         pass = c.visit.ensures.pass;
         idle = t.idle;
         published = publishes_made c.loop-piece.piece u v x i.published t;
+        told = recalls_more u v x i.told t.told;
+        share = t.share ∙ i.share;
         few = λ _. few_published n x (c.visit.ensures.fair w.if-visit.true);
         more = λ _. longer_made c.loop-piece.piece u v x i.published t;
         accounted = λ f. absurd (false≢true (sym f ∙ w.won-is));
@@ -29,6 +31,8 @@ loop-piece-preserved g c =
         pass = c.visit.ensures.pass;
         idle = still_idle bands c.loop-piece.piece v x t i.idle;
         published = (i.published.0, same ∙ i.published.1);
+        told = recalls_more u v x i.told t.looks.more_told;
+        share = t.looks.same_share ∙ i.share;
         few = λ h. rw same (i.few (sym w.won-is ∙ h));
         more = λ h. rw same (i.more (sym w.won-is ∙ h));
         accounted = λ f j m. elim (cases_eq j c.loop-piece.piece) [

@@ -1,7 +1,7 @@
 use Rattle.std.proofs.Common.{◌≡◌, ℕ, ◌+◌, ◌-◌, ◌<◌, length, None, false, if◌then◌else◌}
 use Rattle.page_model.specs.Bands.{pieces_of}
 use Rattle.band_claims.specs.Seating.{Seats}
-use Rattle.band_workers.specs.Accounts.{IsAccounted, Publishes}
+use Rattle.band_workers.specs.Accounts.{IsAccounted, Publishes, Recalls}
 use Rattle.band_workers.proofs.walks.work.Given as goal
 
 abbrev pub invariant-loop-won : goal.invariant-loop-won
@@ -10,6 +10,8 @@ invariant-loop-won g l = record {
   pass : Seats l.shared l.pass;
   idle : l.pass.view.held ≡ None;
   published : Publishes l.initial.pass.view l.pass.view;
+  told : Recalls l.initial.pass.view l.pass.view;
+  share : l.pass.view.share ≡ l.initial.pass.view.share;
   accounted : l.won ≡ false → (i : ℕ) → i < pieces_of l.shared.sheet.layout.bands → IsAccounted l.shared.sheet.layout.bands l.pass.view i;
 }
 

@@ -12,7 +12,7 @@ use Rattle.trap_engine.proofs.parts.parts_of.Goals as goal
 pub loop-first-preserved : goal.loop-first-preserved
 loop-first-preserved c =
     let page = c.args.page.now in let v = c.loop-first.invariant in let parts = c.loop-first.parts in
-    let one : Part = record { rows = record { first = c.loop-first.first; count = c.min-count.result }; pass = c.split-kept.result.1; tally = c.in_ok-tally_of.field-0; done = false } in
+    let one : Part = record { rows = record { first = c.loop-first.first; count = c.min-count.result }; reader = c.reader.result; tally = c.in_ok-tally_of.field-0; done = false } in
     let grown : c.push.new.list ≡ parts ++ one ∷ [] = c.in_ok-push.ensures in
     let inside : c.loop-first.first + c.min-count.result ≤ c.height-height.result = omega (arith, c.min-count.ensures, c.loop-first-test.true) in
     let here : IsPart page one = record {
@@ -23,9 +23,8 @@ loop-first-preserved c =
     record {
       tall = v.tall;
       inside = inside;
-      seat = c.split-kept.ensures.first;
-      idle = ap (λ (w : View). w.held) c.split-kept.ensures.kept ∙ v.idle;
+      pass = c.reader.ensures.pass ∙ v.pass;
       laid = rw grown (one_laid page c.loop-first.first parts one refl here v.laid);
-      seats = rw grown (All-append (λ (p : Part). Seats c.args.shared.now p.pass) parts (one ∷ []) v.seats (All-cons (λ (p : Part). Seats c.args.shared.now p.pass) one [] c.split-kept.ensures.second (λ j d none. absurd (omega arith))));
+      seats = rw grown (All-append (λ (p : Part). Seats c.args.shared.now p.reader) parts (one ∷ []) v.seats (All-cons (λ (p : Part). Seats c.args.shared.now p.reader) one [] c.reader.ensures.reader (λ j d none. absurd (omega arith))));
       size = rw grown (one_of_size page c.args.size parts one (c.min-count.ensures ∙ ap (λ (n : ℕ). min (n - c.loop-first.first) c.args.size) v.tall) v.size);
     }

@@ -9,8 +9,7 @@ abbrev pub invariant-loop-first : goal.invariant-loop-first
 invariant-loop-first l = record {
   tall : l.height ≡ height l.page;
   inside : l.first ≤ l.height;
-  seat : Seats l.shared l.pass;
-  idle : l.pass.view.held ≡ None;
+  pass : l.pass ≡ l.initial.pass;
   laid : AreLaid l.page l.first l.parts;
   seats : AreSeatedParts l.shared l.parts;
   size : AreOfSize l.page l.size l.parts;

@@ -21,14 +21,13 @@ loop-c-preserved c =
     } in
     record {
       end = v.end;
-      seat = c.split-kept.ensures.first;
-      idle = ap (λ (w : View). w.held) c.split-kept.ensures.kept ∙ v.idle;
+      pass = c.reader-reader.ensures.pass ∙ v.pass;
       count = omega (arith, ap (λ (ws : List PlateWork). length ws) e, length-append works (one ∷ []), v.count);
       works = λ j d l. rw e (elim (cases_eq j c.loop-c.c) [
         | inl q ↦ (let here = get_or_push works one d j (v.count ∙ sym q) in rw here (rw q work))
         | inr ne ↦ (let here = get_or_append_left works (one ∷ []) d j (omega (arith, v.count, l, ne)) in rw here (v.works j d (omega (arith, l, ne))))
       ]);
-      seats = rw e (All-append (λ (w : PlateWork). Seats c.args.shared.now w.pass) works (one ∷ []) v.seats (All-cons (λ (w : PlateWork). Seats c.args.shared.now w.pass) one [] (rw c.in_ok-work_of.ensures.pass c.split-kept.ensures.second) (λ j d none. absurd (omega arith))));
+      seats = rw e (All-append (λ (w : PlateWork). Seats c.args.shared.now w.reader) works (one ∷ []) v.seats (All-cons (λ (w : PlateWork). Seats c.args.shared.now w.reader) one [] (rw c.in_ok-work_of.ensures.reader c.reader-reader.ensures.reader) (λ j d none. absurd (omega arith))));
       planes = rw c.set-plane.ensures.put (length-set c.loop-c.planes c.loop-c.c _ ∙ v.planes);
       rest = λ j a l. rw c.set-plane.ensures.put (rw (get_or-set_other c.loop-c.planes c.loop-c.c j _ no_plane (λ q. omega (arith, q, a))) (v.rest j (omega (arith, a)) l));
     }

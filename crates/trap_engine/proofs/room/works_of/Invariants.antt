@@ -11,8 +11,7 @@ use Rattle.trap_engine.proofs.room.works_of.Given as goal
 abbrev pub invariant-loop-c : goal.invariant-loop-c
 invariant-loop-c l = record {
   end : l.c-end ≡ plates l.page;
-  seat : Seats l.shared l.pass;
-  idle : l.pass.view.held ≡ None;
+  pass : l.pass ≡ l.initial.pass;
   count : length l.works ≡ l.c;
   works : (j : ℕ) (d : PlateWork) → j < l.c → IsPlateWork l.page j (slice_index_or l.works j d);
   seats : AreSeatedWorks l.shared l.works;

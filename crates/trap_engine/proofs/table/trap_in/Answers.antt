@@ -1,6 +1,7 @@
 use Rattle.std.proofs.Common.{◌≡◌, ◌∙◌, ap, arith, sym}
 use Rattle.std.proofs.lemmas.List.{with_items_is}
 use Rattle.band_claims.specs.declared.sheet.Sheet.{Sheet}
+use Rattle.band_claims.proofs.ShareLemmas.{same_whole}
 use Rattle.trap_engine.specs.Parts.{AreParts}
 use Rattle.trap_engine.specs.Room.{RoomView}
 use Rattle.trap_engine.proofs.table.trap_in.Goals.{then-len-gt1, else-len-gt1}
@@ -20,3 +21,6 @@ returns-clause-receipt g c = record {
   finished = c.finish_table-closed.ensures.finished;
   low = ap (λ (s : Sheet). s.layout.bands.height) c.finish_table-closed.ensures.sheet ∙ ap (λ (r : RoomView). r.layout.bands.height) c.room.view_is;
 }
+
+pub finish_table-closed-requires-clause-whole : goal.finish_table-closed-requires-clause-whole
+finish_table-closed-requires-clause-whole g c = same_whole c.room.inside.pass.view.share c.work_many-pass.result.view.share c.work_many-pass.ensures.share c.room.invariant.whole

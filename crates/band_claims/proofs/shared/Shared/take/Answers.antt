@@ -14,5 +14,5 @@ compare_exchange-found-requires c =
     rw (ap (λ z. z.sheet) c.self.view_is, ap (λ z. z.view) c.pass.view_is) c.requires.known in (
       ap (λ z. z.table) c.pass.view_is ∙ (c.requires.pass.table ∙ sym (ap (λ z. z.table) c.self.view_is)),
       omega (arith, within, c.self.invariant.wide),
-      claims key c.self.invariant.fit _ _ _ _ within idle known,
+      claims key c.self.invariant.fit _ _ _ _ within idle c.pass.invariant.2 known,
     )

@@ -1,21 +1,25 @@
-use Rattle.std.proofs.Common.{◌∙◌, arith}
-use Rattle.trap_engine.proofs.RoomLemmas.{one_served_by, served_by}
+use Rattle.std.proofs.Common.{◌∙◌, ap, arith}
+use Rattle.band_claims.specs.declared.view.View.{View}
+use Rattle.trap_engine.proofs.RoomLemmas.{newcomer_whole, one_served_by, served_by}
 use Rattle.trap_engine.proofs.TakeLemmas.{planes_begun, tallies_begun}
 use Rattle.trap_engine.proofs.room.TrapRoom.new.Goals as goal
 
 pub works_of-requires-clause-planes : goal.works_of-requires-clause-planes
 works_of-requires-clause-planes g c = planes_begun c.args.page.now c.in_ok-shared.outcome.planes c.in_ok-shared.ensures.outcome.planes
 
-pub invariant_of-result-2 : goal.invariant_of-result-2
-invariant_of-result-2 g c = rw c.shared.view_is (record {
-  seat = c.in_ok-pass-2.ensures.pass;
-  idle = c.in_ok-pass-2.ensures.idle;
+pub invariant_of-result-3 : goal.invariant_of-result-3
+invariant_of-result-3 g c =
+    let same = c.pass-2.view_is ∙ (c.in_ok-parts.ensures.pass ∙ c.in_ok-works.ensures.pass) in
+    rw (c.shared.view_is, same) (record {
+  seat = c.in_ok-shared.ensures.pass;
+  idle = ap (λ (v : View). v.held) c.in_ok-shared.ensures.new;
+  whole = newcomer_whole c.in_ok-shared.shared.sheet c.in_ok-shared.pass.view c.in_ok-shared.ensures.new;
   served = served_by c.in_ok-shared.shared.sheet.layout c.new-bands.result c.width.result c.plates.result _ _ c.in_ok-scratches_of.field-0.items (c.in_ok-shared.ensures.layout ∙ c.new-layout.ensures.value) c.width.ensures.value c.plates.ensures.value c.in_ok-scratches_of.ensures.made;
   some = omega (arith, c.in_ok-scratches_of.ensures.count, c.in_ok-scratches_of.field-0.ok, c.workers_for-count.ensures.some);
   spare_served = one_served_by c.in_ok-shared.shared.sheet.layout c.in_ok-new.field-0 c.new-bands.result c.width.result c.plates.result _ _ (c.in_ok-shared.ensures.layout ∙ c.new-layout.ensures.value) c.width.ensures.value c.plates.ensures.value c.in_ok-new.ensures;
-  work_seats = c.in_ok-pass.ensures.seats;
-  plate_works = rw c.in_ok-shared.ensures.page c.in_ok-pass.ensures.works;
-  part_seats = c.in_ok-pass-2.ensures.seats;
-  row_parts = rw c.in_ok-shared.ensures.page c.in_ok-pass-2.ensures.parts;
-  begun = rw c.in_ok-shared.ensures.page (tallies_begun c.args.page.now c.works_of.new.planes c.in_ok-shared.outcome c.in_ok-pass.ensures.planes c.in_ok-shared.ensures.outcome);
+  work_seats = c.in_ok-works.ensures.seats;
+  plate_works = rw c.in_ok-shared.ensures.page c.in_ok-works.ensures.works;
+  part_seats = c.in_ok-parts.ensures.seats;
+  row_parts = rw c.in_ok-shared.ensures.page c.in_ok-parts.ensures.parts;
+  begun = rw c.in_ok-shared.ensures.page (tallies_begun c.args.page.now c.works_of.new.planes c.in_ok-shared.outcome c.in_ok-works.ensures.planes c.in_ok-shared.ensures.outcome);
 })

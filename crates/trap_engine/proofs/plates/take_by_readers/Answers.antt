@@ -1,7 +1,7 @@
 use denote.Param.Send.{sendable}
 use Rattle.band_claims.proofs.Crosses.{pass_send, shared_sync}
 use Rattle.page_model.proofs.page.Page.TheSendSync as page
-use Rattle.trap_engine.proofs.plates.take_by_passes.Goals as goal
+use Rattle.trap_engine.proofs.plates.take_by_readers.Goals as goal
 
 pub for_each_mut-requires-sync-F : goal.for_each_mut-requires-sync-F
 for_each_mut-requires-sync-F g c = search (sendable, shared_sync, pass_send, page.the_sync) depth 14

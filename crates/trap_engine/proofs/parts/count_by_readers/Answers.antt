@@ -2,7 +2,7 @@ use denote.Param.Send.{sendable}
 use Rattle.band_claims.proofs.Crosses.{shared_sync}
 use Rattle.page_model.proofs.page.Page.TheSendSync as page
 use Rattle.page_model.proofs.parts.Plane.TheSendSync as plane
-use Rattle.trap_engine.proofs.parts.count_by_passes.Goals as goal
+use Rattle.trap_engine.proofs.parts.count_by_readers.Goals as goal
 
 pub for_each_mut-requires-sync-F : goal.for_each_mut-requires-sync-F
 for_each_mut-requires-sync-F g c = search (sendable, shared_sync, page.the_sync, plane.the_sync) depth 14

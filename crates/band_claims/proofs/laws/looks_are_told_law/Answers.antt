@@ -1,0 +1,5 @@
+use Rattle.band_claims.proofs.Past.{looks_are_told}
+use Rattle.band_claims.proofs.laws.looks_are_told_law.Goals as goal
+
+pub returns : goal.returns
+returns c = looks_are_told

@@ -1,0 +1,9 @@
+use Rattle.std.proofs.Common.{arith}
+use Rattle.band_claims.proofs.Looking.{knows_here}
+use Rattle.band_tests.proofs.OneZone.{cell_has}
+use Rattle.band_tests.proofs.table.zone_read.Goals as goal
+
+pub read_alone-requires-clause-known : goal.read_alone-requires-clause-known
+read_alone-requires-clause-known c =
+    let d = c.sees_done.ensures.answer in
+    (0, cell_has c.args.shared.now.sheet c.requires.sheet 0 (omega arith), rw d.1 (knows_here c.args.reader.now.view 0 d.0 (d.2.0 c.if-not-sees_done.false)))
