@@ -1,0 +1,9 @@
+-- The definitions of trap_c, lowest first.
+pub mod Names
+pub mod Requests
+pub mod Stops
+pub mod Planes
+pub mod Sources
+pub mod Fit
+pub mod Pages
+pub mod Calls
