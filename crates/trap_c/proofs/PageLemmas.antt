@@ -1,32 +1,29 @@
 -- The page of a call: its planes and plates are in range, and it has the layout of the call.
-use Rattle.std.proofs.Common.{◌≡◌, ℕ, Bool, true, false, cond, ltb, get_or, MatchResult, IfOk, ◌⊎◌, ◌+◌, ◌-◌, ◌*◌, ◌<◌, ◌≤◌, List, length, map, All, Option, Some, None, Result, Ok, Err, refl, sym, ap, ◌∙◌, subst, arith, add-one}
+use Rattle.std.proofs.Common.{◌≡◌, ℕ, Bool, true, false, cond, ltb, get_or, MatchResult, IfOk, ◌⊎◌, ◌+◌, ◌*◌, ◌<◌, ◌≤◌, List, length, All, Option, Some, None, Result, Ok, Err, refl, sym, ap, ◌∙◌, subst, arith, add-one, IsTrue}
 use Rattle.std.specs.List.{position, position_or_len}
 use Rattle.std.proofs.lemmas.Bool.Decides.{nat_tests}
-use Rattle.std.proofs.lemmas.List.{length-map, get_or-map, get_or_default}
-use Rattle.std.proofs.lemmas.List.Elements.{All-map}
+use Rattle.std.proofs.lemmas.List.{get_or_default}
 use Rattle.std.proofs.lemmas.List.Sums.{fails_before_first}
 use Rattle.lists.specs.Words.{first_some, or_else}
-use Rattle.lists.proofs.FirstSome.{each_none}
+use Rattle.lists.proofs.FirstSome.{all_none, each_none}
 use Rattle.lists.proofs.ListBelow.{length-list_below, list_below-at}
 use Rattle.job_reader.specs.declared.job.Job.{Job}
-use Rattle.page_gather.specs.Assembly.{CanAssemble, assembled, assembly, detailed, faulted, without_details}
+use Rattle.page_gather.specs.Assembly.{CanAssemblePlanes, parts_of_planes, assembly_of_planes, detailed, faulted, without_details}
 use Rattle.page_model.specs.declared.page.PageFault.{PageFault}
 use Rattle.page_model.specs.declared.parts.PageParts.{PageParts}
 use Rattle.page_model.specs.declared.parts.Plane.{Plane}
 use Rattle.page_model.specs.Conditions.{IsPlane}
 use Rattle.page_model.specs.Faults.{page_fault}
-use Rattle.page_model.specs.Limits.{most_samples}
-use Rattle.page_model.specs.Page.{plates}
 use Rattle.page_model.specs.Planes.{no_plane, plane_at}
-use Rattle.pgm_plates.specs.declared.plate.Plate.{Plate}
-use Rattle.pgm_plates.specs.Planes.{plane_of, plate_of}
-use Rattle.pgm_plates.specs.Plates.{IsPlate}
 use Rattle.trap_report.specs.declared.refusal.Refusal.{Refusal}
 use Rattle.trap_report.specs.declared.refusal.Refusal.TheVariants.{Memory}
 use Rattle.trap_c.specs.declared.layout.Layout.{Layout}
-use Rattle.trap_c.specs.Fit.{IsCall, IsFull, IsLayout, above_at, above_in, first_above}
+use Rattle.trap_c.specs.declared.planes.Copies.{Copies}
+use Rattle.trap_c.specs.Copies.{AreCopies}
+use Rattle.trap_c.specs.Fit.{AreFit, ArePlanesFit, IsCall, IsFull, IsLayout, above_at, above_in, first_above}
 use Rattle.trap_c.specs.Pages.{Fills}
-use Rattle.trap_c.specs.Planes.{plane_in, planes_in}
+use Rattle.trap_c.specs.Planes.{plane_in, planes_in, tints_in}
+use Rattle.trap_c.proofs.Above.{none_above}
 use Rattle.trap_c.proofs.Rows.{long_rows}
 use Rattle.trap_c.proofs.Sizes.{plane_inside}
 
@@ -47,6 +44,15 @@ planes_full names layout samples planes is e c l =
 
 pub as_many : (names : List (List ℕ)) (layout : Layout) (samples : List ℕ) (planes : List Plane) → planes ≡ planes_in layout samples (length names) → length planes ≡ length names
 as_many names layout samples planes e = ap (λ (ps : List Plane). length ps) e ∙ length-list_below (plane_in layout samples) (length names)
+
+-- what is known of the tints of each plane is known of its copy
+pub copies_made : (layout : Layout) (samples : List ℕ) (count : ℕ) (copies : Copies) → copies.planes ≡ planes_in layout samples count → (IsTrue copies.are_fit → (j : ℕ) → j < count → AreFit layout.maxval (tints_in layout samples j)) → AreCopies layout samples count copies
+copies_made layout samples count copies made fit = record {
+  planes = made;
+  fit = λ yes j l.
+      let here : j < count = omega (arith, l, ap (λ (ps : List Plane). length ps) made, length-list_below (plane_in layout samples) count) in
+      subst (λ (p : Plane). AreFit p.maxval p.tints) (sym (ap (λ (ps : List Plane). plane_at ps j) made ∙ list_below-at (plane_in layout samples) count j no_plane here)) (fit yes j here);
+}
 
 -- where no tint is found above the maxval, none is
 
@@ -75,6 +81,14 @@ found_more planes all plane found later c e l read is h =
     let same : plane ≡ plane_at planes c = read ∙ get_or_default all c plane no_plane l ∙ ap (λ (ps : List Plane). plane_at ps c) e in
     rw (add-one c) (ap (λ (o : Option Refusal). or_else o later) h ∙ ap (λ (o : Option Refusal). or_else (first_some (above_in planes) c) o) (is ∙ ap (λ (p : Plane). above_at c (position (λ t. ltb p.maxval t) p.tints)) same))
 
+-- none is found where all are known to be fit
+no_place : (c : ℕ) (o : Option ℕ) → o ≡ None → above_at c o ≡ None
+no_place c None e = refl
+no_place c (Some at) e = absurd (cc)
+
+pub none_where_fit : (planes : List Plane) → ArePlanesFit planes → first_above planes ≡ None
+none_where_fit planes fit = all_none (above_in planes) (length planes) (λ c l. no_place c _ (none_above (plane_at planes c).maxval (plane_at planes c).tints (fit c l)))
+
 -- so that each plane is in range
 
 plane_ok : (layout : Layout) (plane : Plane) → IsLayout layout → IsFull layout plane → All (λ t. t ≤ plane.maxval) plane.tints → IsPlane plane
@@ -89,9 +103,6 @@ plane_ok layout plane is full fit = record {
   below = fit;
 }
 
-few_in : (layout : Layout) (plane : Plane) → IsLayout layout → IsFull layout plane → plane.width * plane.height ≤ most_samples
-few_in layout plane is full = subst (λ (n : ℕ). n ≤ most_samples) (sym (ap (λ (w : ℕ). w * plane.height) full.wide ∙ ap (λ (h : ℕ). layout.width * h) full.tall)) is.sides.product
-
 -- from a fact of each plane one of all
 all_planes : (Fact : Plane → Type 0) (planes : List Plane) → ((c : ℕ) → c < length planes → Fact (plane_at planes c)) → All Fact planes
 all_planes Fact planes each = λ k d within. subst Fact (get_or_default planes k no_plane d within) (each k within)
@@ -99,27 +110,13 @@ all_planes Fact planes each = λ k d within. subst Fact (get_or_default planes k
 pub planes_ok : (layout : Layout) (planes : List Plane) → IsLayout layout → ((c : ℕ) → c < length planes → IsFull layout (plane_at planes c)) → first_above planes ≡ None → All IsPlane planes
 planes_ok layout planes is full e = all_planes IsPlane planes (λ c l. plane_ok layout (plane_at planes c) is (full c l) (is_fit planes c e l))
 
-pub planes_few : (layout : Layout) (planes : List Plane) → IsLayout layout → ((c : ℕ) → c < length planes → IsFull layout (plane_at planes c)) → All (λ plane. plane.width * plane.height ≤ most_samples) planes
-planes_few layout planes is full = all_planes (λ plane. plane.width * plane.height ≤ most_samples) planes (λ c l. few_in layout (plane_at planes c) is (full c l))
-
-plate_ok : (plane : Plane) → IsPlane plane → plane.width * plane.height ≤ most_samples → IsPlate (plate_of plane)
-plate_ok plane is few = record {
-  width = (omega (arith, is.some_width), is.narrow);
-  height = (omega (arith, is.some_height), is.low);
-  product = few;
-  positive = omega (arith, is.some_maxval);
-  maxval = is.maxval_fits;
-  count = length-map plane.tints (λ t. plane.maxval - t) ∙ is.full;
-  samples = All-map (λ s. s ≤ plane.maxval) (λ t. plane.maxval - t) plane.tints (λ k d within. omega arith);
+pub can_assemble : (layout : Layout) (planes : List Plane) (names : List (List ℕ)) → IsLayout layout → 1 ≤ length names → length names ≤ 16 → length planes ≡ length names → ((c : ℕ) → c < length planes → IsFull layout (plane_at planes c)) → first_above planes ≡ None → CanAssemblePlanes planes names
+can_assemble layout planes names is some few count full e = record {
+  some = omega (arith, count, some);
+  few = omega (arith, count, few);
+  named = sym count;
+  in_range = planes_ok layout planes is full e;
 }
-
-pub can_assemble : (layout : Layout) (planes : List Plane) (plates : List Plate) (names : List (List ℕ)) → IsLayout layout → 1 ≤ length names → length names ≤ 16 → length planes ≡ length names → ((c : ℕ) → c < length planes → IsFull layout (plane_at planes c)) → first_above planes ≡ None → plates ≡ map plate_of planes → CanAssemble plates names
-can_assemble layout planes plates names is some few count full e made = subst (λ (ps : List Plate). CanAssemble ps names) (sym made) (record {
-  some = omega (arith, length-map planes plate_of, count, some);
-  few = omega (arith, length-map planes plate_of, count, few);
-  named = sym (length-map planes plate_of ∙ count);
-  in_range = All-map IsPlate plate_of planes (λ k d within. plate_ok (get_or planes k d) (planes_ok layout planes is full e k d within) (planes_few layout planes is full k d within));
-})
 
 -- the page that is made is that of the parts
 
@@ -131,20 +128,17 @@ by_details : (parts page : PageParts) (o : Option ℕ) → detailed o parts ≡ 
 by_details parts page None e = by_fault parts page (page_fault parts) e
 by_details parts page (Some plate) e = absurd (cc)
 
-parts_made : (job : Job) (plates : List Plate) (names : List (List ℕ)) (page : PageParts) → assembly job plates names ≡ Ok page → page ≡ assembled job plates names
-parts_made job plates names page e = by_details (assembled job plates names) page (without_details job names) e
+parts_made : (job : Job) (planes : List Plane) (names : List (List ℕ)) (page : PageParts) → assembly_of_planes job planes names ≡ Ok page → page ≡ parts_of_planes job planes names
+parts_made job planes names page e = by_details (parts_of_planes job planes names) page (without_details job names) e
 
 -- it has the layout of the call
-page_fills : (job : Job) (layout : Layout) (planes : List Plane) (names : List (List ℕ)) (page : PageParts) → 1 ≤ length planes → length planes ≡ length names → IsFull layout (plane_at planes 0) → assembly job (map plate_of planes) names ≡ Ok page → Fills layout (length names) page
-page_fills job layout planes names page some count full e = subst (λ (p : PageParts). Fills layout (length names) p) (sym (parts_made job (map plate_of planes) names page e)) (record {
-  wide = ap (λ (p : Plane). p.width) first ∙ full.wide;
-  tall = ap (λ (p : Plane). p.height) first ∙ full.tall;
-  deep = ap (λ (p : Plane). p.maxval) first ∙ full.deep;
-  all = length-map (map plate_of planes) plane_of ∙ (length-map planes plate_of ∙ count);
+pub fills_if : (job : Job) (layout : Layout) (planes : List Plane) (names : List (List ℕ)) (result : Result PageParts Refusal) → 1 ≤ length names → length planes ≡ length names → ((c : ℕ) → c < length planes → IsFull layout (plane_at planes c)) → MatchResult result (λ page. assembly_of_planes job planes names ≡ Ok page) (λ refusal. (refusal ≡ Memory) ⊎ (assembly_of_planes job planes names ≡ Err refusal)) → IfOk result (Fills layout (length names))
+fills_if job layout planes names (Ok page) some count full made = subst (λ (p : PageParts). Fills layout (length names) p) (sym (parts_made job planes names page made)) (record {
+  wide = first.wide;
+  tall = first.tall;
+  deep = first.deep;
+  all = count;
 }) where
-  first : plane_at (map plane_of (map plate_of planes)) 0 ≡ plane_of (plate_of (plane_at planes 0))
-  first = get_or-map plane_of (map plate_of planes) 0 (plate_of no_plane) no_plane (omega (arith, some, length-map planes plate_of)) ∙ ap plane_of (get_or-map plate_of planes 0 no_plane (plate_of no_plane) (omega (arith, some)))
-
-pub fills_if : (job : Job) (layout : Layout) (planes : List Plane) (plates : List Plate) (names : List (List ℕ)) (result : Result PageParts Refusal) → 1 ≤ length names → length planes ≡ length names → ((c : ℕ) → c < length planes → IsFull layout (plane_at planes c)) → plates ≡ map plate_of planes → MatchResult result (λ page. assembly job plates names ≡ Ok page) (λ refusal. (refusal ≡ Memory) ⊎ (assembly job plates names ≡ Err refusal)) → IfOk result (Fills layout (length names))
-fills_if job layout planes plates names (Ok page) some count full e made = page_fills job layout planes names page (omega (arith, some, count)) count (full 0 (omega (arith, some, count))) (ap (λ (ps : List Plate). assembly job ps names) (sym e) ∙ made)
-fills_if job layout planes plates names (Err refusal) some count full e made = tt
+  first : IsFull layout (plane_at planes 0)
+  first = full 0 (omega (arith, some, count))
+fills_if job layout planes names (Err refusal) some count full made = tt

@@ -1,5 +1,5 @@
 -- What the arguments of a call have to be, and what the tints have to be.
-use Rattle.std.specs.Prelude.{◌≡◌, ℕ, ◌*◌, ◌≤◌, Bool, ◌==◌, ◌&&◌, nat_le, nat_lt, if◌then◌else◌, List, length, Option, Some, None}
+use Rattle.std.specs.Prelude.{◌≡◌, ℕ, ◌*◌, ◌<◌, ◌≤◌, Bool, ◌==◌, ◌&&◌, nat_le, nat_lt, if◌then◌else◌, List, length, slice_index, Option, Some, None}
 use Rattle.std.specs.List.{position}
 use Rattle.lists.specs.Words.{first_some}
 use Rattle.page_model.specs.declared.parts.Plane.{Plane}
@@ -58,6 +58,15 @@ pub record IsCall (names : List (List ℕ)) (layout : Layout) (count : ℕ) : Ty
   pub few : length names ≤ 16
   pub laid_out : IsLayout layout
   pub all : count ≡ length names * layout.height * layout.step
+
+-- No tint is above the maxval.
+abbrev pub AreFit : ℕ → List ℕ → Type 0
+AreFit maxval tints = (k : ℕ) → k < length tints → slice_index tints k ≤ maxval
+
+-- No tint of any plane is above the plane's maxval.
+abbrev pub ArePlanesFit : List Plane → Type 0
+ArePlanesFit planes =
+    (c : ℕ) → c < length planes → AreFit (plane_at planes c).maxval (plane_at planes c).tints
 
 -- a tint above the maxval, at that place of plane c
 abbrev pub above_at : ℕ → Option ℕ → Option Refusal

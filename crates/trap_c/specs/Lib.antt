@@ -5,5 +5,6 @@ pub mod Stops
 pub mod Planes
 pub mod Sources
 pub mod Fit
+pub mod Copies
 pub mod Pages
 pub mod Calls

@@ -1,11 +1,10 @@
 -- The page that a call is for.
-use Rattle.std.specs.Prelude.{◌≡◌, ◌⊎◌, ℕ, List, length, Option, Some, None, Result, Ok, Err, map}
+use Rattle.std.specs.Prelude.{◌≡◌, ◌⊎◌, ℕ, List, length, Option, Some, None, Result, Ok, Err}
 use Rattle.job_reader.specs.declared.job.Job.{Job}
 use Rattle.job_reader.specs.Jobs.{job_of}
-use Rattle.page_gather.specs.Assembly.{assembly}
+use Rattle.page_gather.specs.Assembly.{assembly_of_planes}
 use Rattle.page_model.specs.declared.parts.PageParts.{PageParts}
 use Rattle.page_model.specs.declared.parts.Plane.{Plane}
-use Rattle.pgm_plates.specs.Planes.{plate_of}
 use Rattle.page_model.specs.Page.{plates, width, height, maxval}
 use Rattle.ps_tokens.specs.declared.faults.JobFault.{JobFault}
 use Rattle.trap_report.specs.declared.refusal.Refusal.{Refusal}
@@ -27,7 +26,7 @@ page_unless None made = made
 -- the page of a job and these planes
 abbrev pub page_with : Job → List (List ℕ) → List Plane → Result PageParts Refusal
 page_with job names planes =
-    page_unless (first_above planes) (assembly job (map plate_of planes) names)
+    page_unless (first_above planes) (assembly_of_planes job planes names)
 
 -- the page of a job that was read, or the job's fault
 abbrev pub page_by :

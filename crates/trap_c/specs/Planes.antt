@@ -22,14 +22,18 @@ rows_in layout samples first (suc n) =
 abbrev pub tints_in : Layout → List ℕ → ℕ → List ℕ
 tints_in layout samples c = rows_in layout samples (c * layout.height) layout.height
 
--- plane c
-abbrev pub plane_in : Layout → List ℕ → ℕ → Plane
-plane_in layout samples c = record {
+-- a plane of these tints
+abbrev pub plane_with : Layout → List ℕ → Plane
+plane_with layout tints = record {
   width = layout.width;
   height = layout.height;
   maxval = layout.maxval;
-  tints = tints_in layout samples c;
+  tints = tints;
 }
+
+-- plane c
+abbrev pub plane_in : Layout → List ℕ → ℕ → Plane
+plane_in layout samples c = plane_with layout (tints_in layout samples c)
 
 -- the planes that lie there, so many
 abbrev pub planes_in : Layout → List ℕ → ℕ → List Plane

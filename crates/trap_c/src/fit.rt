@@ -2,7 +2,7 @@ ghost use Rattle.std.specs.Prelude.{◌≡◌, ◌≤◌, ◌<◌, ◌*◌, ◌+
 ghost use Rattle.std.specs.List.{position};
 ghost use Rattle.lists.specs.Words.{or_else};
 ghost use Rattle.page_model.specs.Limits.{most_maxval, most_side};
-ghost use Rattle.trap_c.specs.Fit.{AreSides, IsCall, are_sides as sides_test, is_side as side_test, is_maxval as maxval_test, call_fault as call_fault_of, above_at, first_above as first_above_in};
+ghost use Rattle.trap_c.specs.Fit.{AreFit, ArePlanesFit, AreSides, IsCall, are_sides as sides_test, is_side as side_test, is_maxval as maxval_test, call_fault as call_fault_of, above_at, first_above as first_above_in};
 
 use crate::layout::Layout;
 use crate::names::are_names;
@@ -70,8 +70,16 @@ fn is_maxval(most: u32, maxval: u32) -> bool
     1 <= maxval && maxval <= most
 }
 
-/// The first tint that is above the maxval, of all planes.
-pub fn first_above(planes: &PlaneList) -> Option<Refusal>
+/// The first tint that is above the maxval, of all planes. They are gone over only where they are not known to be fit.
+pub fn first_above(planes: &PlaneList, are_fit: bool) -> Option<Refusal>
+    requires few { length planes.now ≤ 16 }
+    requires fit { IsTrue are_fit → ArePlanesFit planes.now }
+    ensures { result ≡ first_above_in planes.now }
+{
+    if are_fit { None } else { look_above(planes) }
+}
+
+fn look_above(planes: &PlaneList) -> Option<Refusal>
     requires { length planes.now ≤ 16 }
     ensures { result ≡ first_above_in planes.now }
 {
@@ -105,16 +113,12 @@ fn above(plane: &Plane, c: u32) -> Option<Refusal>
 fn place_above(tints: &[u16], maxval: u32) -> Option<usize>
     ensures { result ≡ position (λ t. nat_lt maxval t) tints.now }
 {
-    if are_fit(tints, maxval) {
-        return None;
-    }
     tints.iter().position(|tint| *tint as u32 > maxval)
 }
 
-// Whether no tint is above the maxval. It goes over all of them without a branch, so that many go at once.
-fn are_fit(tints: &[u16], maxval: u32) -> bool
-    ensures { IsTrue result → (k : ℕ) → k < length tints.now
-        → slice_index tints.now k ≤ maxval }
+/// Whether no tint is above the maxval. It goes over all of them without a branch, so that many go at once.
+pub fn are_fit(tints: &[u16], maxval: u32) -> bool
+    ensures { IsTrue result → AreFit maxval tints.now }
 {
     let mut most = 0u16;
     for tint in tints {

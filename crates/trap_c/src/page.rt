@@ -1,6 +1,6 @@
-ghost use Rattle.std.specs.Prelude.{◌≡◌, ◌<◌, ◌≤◌, ℕ, IfOk, length};
+ghost use Rattle.std.specs.Prelude.{◌≡◌, ◌<◌, ◌≤◌, ℕ, IfOk, IsTrue, length};
 ghost use Rattle.job_reader.specs.InRange.{IsJob};
-ghost use Rattle.trap_c.specs.Fit.{IsCall, IsFull, IsLayout};
+ghost use Rattle.trap_c.specs.Fit.{ArePlanesFit, IsCall, IsFull, IsLayout};
 ghost use Rattle.trap_c.specs.Pages.{Fills, Gives, page_of as page_meant, page_with as page_meant_with};
 ghost use Rattle.page_model.specs.Planes.{plane_at};
 ghost use Rattle.trap_c.specs.Planes.{planes_in};
@@ -8,14 +8,13 @@ ghost use Rattle.trap_c.specs.Sources.{numbers};
 
 use crate::fit::first_above;
 use crate::layout::Layout;
-use crate::planes::{planes_of, plates_of};
+use crate::planes::{Copies, planes_of};
 use crate::source::Source;
 use job_reader::job::Job;
 use job_reader::reader::read_job;
 use lists::names::{NameList, OutOfMemory};
-use page_gather::assemble::assemble;
+use page_gather::assemble::assemble_planes;
 use page_model::page::Page;
-use page_model::parts::PlaneList;
 use ps_tokens::faults::JobRefusal;
 use std::alloc::Global;
 use trap_report::refusal::Refusal;
@@ -35,7 +34,7 @@ pub fn page_of(
 {
     match read_job(alloc, job) {
         Ok(job) => match planes_of(alloc, source, layout, names) {
-            Ok(planes) => page_with(alloc, job, names, planes, layout),
+            Ok(copies) => page_with(alloc, job, names, copies, layout),
             Err(OutOfMemory) => Err(Refusal::Memory),
         },
         Err(JobRefusal::Fault(fault)) => Err(Refusal::Job(fault)),
@@ -47,24 +46,22 @@ fn page_with(
     alloc: Global,
     job: Job,
     names: &NameList,
-    planes: PlaneList,
+    copies: Copies,
     layout: Layout,
 ) -> Result<Page, Refusal>
     requires layout { IsLayout layout }
     requires some { 1 ≤ length names.now }
     requires few { length names.now ≤ 16 }
-    requires count { length planes ≡ length names.now }
-    requires planes { (c : ℕ) → c < length planes → IsFull layout (plane_at planes c) }
+    requires count { length copies.planes ≡ length names.now }
+    requires planes { (c : ℕ) → c < length copies.planes
+        → IsFull layout (plane_at copies.planes c) }
+    requires fit { IsTrue copies.are_fit → ArePlanesFit copies.planes }
     requires job { IsJob job }
-    ensures gives { Gives (page_meant_with job names.now planes) result }
+    ensures gives { Gives (page_meant_with job names.now copies.planes) result }
     ensures layout { IfOk result (Fills layout (length names.now)) }
 {
-    match first_above(&planes) {
-        Some(refusal) => return Err(refusal),
-        None => {}
-    }
-    match plates_of(alloc, planes) {
-        Ok(plates) => assemble(alloc, job, plates, names),
-        Err(OutOfMemory) => Err(Refusal::Memory),
+    match first_above(&copies.planes, copies.are_fit) {
+        Some(refusal) => Err(refusal),
+        None => assemble_planes(alloc, job, copies.planes, names),
     }
 }

@@ -1,20 +1,23 @@
 ghost use Rattle.std.specs.Prelude.{◌≡◌, ◌≤◌, ◌<◌, ◌*◌, ◌+◌, ◌++◌, ℕ, IfOk, All, length, map, take, drop};
-ghost use Rattle.page_model.specs.Conditions.{IsPlane};
-ghost use Rattle.page_model.specs.Limits.{most_samples};
 ghost use Rattle.page_model.specs.Planes.{plane_at};
-ghost use Rattle.pgm_plates.specs.Planes.{plate_of};
-ghost use Rattle.trap_c.specs.Fit.{IsCall, IsLayout};
-ghost use Rattle.trap_c.specs.Planes.{KeepsGaps, plane_in, planes_in, size, tints_in};
+ghost use Rattle.trap_c.specs.Copies.{AreCopies};
+ghost use Rattle.trap_c.specs.Fit.{IsCall};
+ghost use Rattle.trap_c.specs.Planes.{KeepsGaps, plane_with, size, tints_in};
 ghost use Rattle.trap_c.specs.Sources.{numbers};
 
 use crate::layout::Layout;
 use crate::source::Source;
 use lists::list::List;
 use lists::names::NameList;
-use page_gather::assemble::PlateList;
 use page_model::parts::{OutOfMemory, Plane, PlaneList};
-use pgm_plates::plate::Plate;
 use std::alloc::Global;
+
+/// Planes, and whether their tints were seen to be at most their maxval.
+#[derive(Drop)]
+pub struct Copies {
+    pub planes: PlaneList,
+    pub are_fit: bool,
+}
 
 /// Copies of the planes that lie in the samples.
 pub fn planes_of(
@@ -22,56 +25,31 @@ pub fn planes_of(
     source: &Source<'_>,
     layout: Layout,
     names: &NameList,
-) -> Result<PlaneList, OutOfMemory>
+) -> Result<Copies, OutOfMemory>
     requires { IsCall names.now layout (length (numbers source.now)) }
-    ensures { let meant = planes_in layout (numbers source.now) (length names.now) in
-        IfOk result (λ planes. planes ≡ meant) }
+    ensures { IfOk result (AreCopies layout (numbers source.now) (length names.now)) }
 {
     let mut planes = List::new(alloc);
+    let mut are_fit = true;
     for c in 0..names.len() as u32 {
-        let plane = plane_of(alloc, source, layout, c)?;
-        if planes.push(plane).is_err() {
+        let copied = source.copy_of(alloc, layout, c)?;
+        are_fit = are_fit & copied.are_fit;
+        if planes.push(plane_of(layout, copied.tints)).is_err() {
             return Err(OutOfMemory);
         }
     }
-    Ok(planes)
+    Ok(Copies { planes, are_fit })
 }
 
-// A copy of plane c.
-fn plane_of(
-    alloc: Global,
-    source: &Source<'_>,
-    layout: Layout,
-    c: u32,
-) -> Result<Plane, OutOfMemory>
-    requires layout { IsLayout layout }
-    requires inside { (c * layout.height + layout.height) * layout.step
-        ≤ length (numbers source.now) }
-    ensures { IfOk result (λ plane. plane ≡ plane_in layout (numbers source.now) c) }
+fn plane_of(layout: Layout, tints: Vec<u16>) -> Plane
+    ensures { result ≡ plane_with layout tints.items }
 {
-    let tints = source.copy_of(alloc, layout, c)?;
-    Ok(Plane {
+    Plane {
         width: layout.width,
         height: layout.height,
         maxval: layout.maxval,
         tints: List::from_vec(tints),
-    })
-}
-
-/// The plates of planes.
-pub fn plates_of(alloc: Global, planes: PlaneList) -> Result<PlateList, OutOfMemory>
-    requires planes { All IsPlane planes }
-    requires few { All (λ plane. plane.width * plane.height ≤ most_samples) planes }
-    ensures { IfOk result (λ plates. plates ≡ map plate_of planes) }
-{
-    let planes = planes.into_vec();
-    let mut plates = List::new(alloc);
-    for plane in planes {
-        if plates.push(Plate::of_plane(plane)).is_err() {
-            return Err(OutOfMemory);
-        }
     }
-    Ok(plates)
 }
 
 /// Puts planes into samples of two bytes.
