@@ -90,4 +90,5 @@ deb: built
 lint:
 	cd man && ! mandoc -Tlint *.[15] 2>/dev/null | grep -v 'referenced manual not found'
 	if command -v shellcheck >/dev/null; then \
-	  shellcheck -x -e SC2015 press/farm press/farm.sbatch press/watch press/slurm-here press/press press/*.sh press/lib/deb-control tools/prove tools/launch; fi
+	  shellcheck -x -e SC2015 press/farm press/farm.sbatch press/watch press/slurm-here press/press press/*.sh press/lib/deb-control tools/prove tools/launch \
+	  library/build check/library.sh examples/library/run.sh; fi

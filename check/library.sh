@@ -22,6 +22,11 @@ library=$top/library/out
 compiled() { "$CC" -std=c99 -O2 -g -Wall -Wextra -Werror -I"$top/library" -o "$out/$1" "$here/library/$1.c" "${@:2}"; }
 
 python3 -B "$here/library.py" "$1" "$2"
+if python3 -c 'import numpy' 2>/dev/null; then
+  TRAP_LIBRARY=$library/libtrap.so.1 python3 -B "$here/library/arrays.py"
+else
+  skip "NumPy arrays" "python3 has no numpy"
+fi
 
 compiled refused "$library/libtrap.a" -Wl,--wrap=malloc,--wrap=realloc,--wrap=free
 "$out/refused"
