@@ -1,8 +1,9 @@
-# Installs what was built, and packs it. Nothing is built here: that is done by ./trap, or by rt.
+# Installs what was built, and packs it. Programs are not built here: that is done by ./trap, or by rt.
 #
 #   make install PREFIX=/usr/local   the programs, the press commands, the manual pages, and completion for bash
 #   make uninstall PREFIX=/usr/local
-#   make deb                         a Debian package of the same, in out/
+#   make library                     the engine as a library, in library/out; make install then puts it into place too
+#   make deb                         Debian packages of the same, in out/: trap, and libtrap-dev where the library is built
 #   make lint                        the manual pages by mandoc, the shell's scripts by shellcheck where it is there
 #
 # A program comes in as soon as it is built, and a page of man/ as soon as it is there. With BIN=DIR the programs are taken from
@@ -24,15 +25,23 @@ MAN := $(PREFIX)/share/man
 COMPLETION := $(PREFIX)/share/bash-completion/completions
 DOC := $(PREFIX)/share/doc/trap
 
-.PHONY: all install uninstall deb lint built
+LIBDIR ?= $(PREFIX)/lib
+INCLUDEDIR ?= $(PREFIX)/include
+LIBRARY := $(wildcard library/out/libtrap.so.1)
+DEB_PLACES = PREFIX=/usr LIBDIR=/usr/lib/$(shell $(CC) -print-multiarch)
+
+.PHONY: all library install install-library install-headers uninstall deb lint built
 
 all:
-	@echo "make install, uninstall, deb or lint; what is built is built by ./trap"
+	@echo "make library, install, uninstall, deb or lint; programs are built by ./trap"
+
+library:
+	library/build
 
 built:
 	@$(if $(filter trap,$(notdir $(BUILT))),:,echo "make: the program trap is not built (run ./trap once)" >&2; exit 1)
 
-install: built
+install: built $(if $(LIBRARY),install-library install-headers)
 	install -d $(DESTDIR)$(PREFIX)/bin $(DESTDIR)$(PRESS)/lib $(DESTDIR)$(MAN)/man1 $(DESTDIR)$(MAN)/man5 \
 	  $(DESTDIR)$(COMPLETION) $(DESTDIR)$(DOC)
 	install -m 755 $(BUILT) $(DESTDIR)$(PREFIX)/bin
@@ -42,21 +51,44 @@ install: built
 	install -m 644 $(PAGES1) $(DESTDIR)$(MAN)/man1
 	install -m 644 $(PAGES5) $(DESTDIR)$(MAN)/man5
 	install -m 644 $(COMPLETIONS) $(DESTDIR)$(COMPLETION)
-	install -m 644 README.md docs/JOBS.md docs/PRESS.md $(DESTDIR)$(DOC)
+	install -m 644 README.md docs/JOBS.md docs/PRESS.md docs/LIBRARY.md $(DESTDIR)$(DOC)
+
+# The shared object, for programs that are linked with it.
+install-library:
+	install -d $(DESTDIR)$(LIBDIR)
+	install -m 644 library/out/libtrap.so.1 $(DESTDIR)$(LIBDIR)
+
+# What a program is compiled and linked with.
+install-headers:
+	install -d $(DESTDIR)$(LIBDIR)/pkgconfig $(DESTDIR)$(INCLUDEDIR)
+	install -m 644 library/out/libtrap.a $(DESTDIR)$(LIBDIR)
+	ln -sf libtrap.so.1 $(DESTDIR)$(LIBDIR)/libtrap.so
+	install -m 644 library/trap.h $(DESTDIR)$(INCLUDEDIR)
+	sed 's|@PREFIX@|$(PREFIX)|; s|@LIBDIR@|$(LIBDIR)|; s|@INCLUDEDIR@|$(INCLUDEDIR)|' library/trap.pc.in \
+	  >$(DESTDIR)$(LIBDIR)/pkgconfig/trap.pc
 
 uninstall:
+	rm -f $(DESTDIR)$(LIBDIR)/libtrap.so.1 $(DESTDIR)$(LIBDIR)/libtrap.so $(DESTDIR)$(LIBDIR)/libtrap.a
+	rm -f $(DESTDIR)$(LIBDIR)/pkgconfig/trap.pc $(DESTDIR)$(INCLUDEDIR)/trap.h
 	rm -f $(PROGRAMS:%=$(DESTDIR)$(PREFIX)/bin/%) $(DESTDIR)$(PREFIX)/bin/press
 	rm -rf $(DESTDIR)$(PREFIX)/lib/trap $(DESTDIR)$(DOC)
 	rm -f $(PAGES1:man/%=$(DESTDIR)$(MAN)/man1/%) $(PAGES5:man/%=$(DESTDIR)$(MAN)/man5/%)
 	rm -f $(COMPLETIONS:press/completion/%=$(DESTDIR)$(COMPLETION)/%)
 
 deb: built
-	rm -rf out/deb
-	$(MAKE) --no-print-directory install DESTDIR=$(CURDIR)/out/deb PREFIX=/usr
+	rm -rf out/deb out/deb-dev
+	$(MAKE) --no-print-directory install DESTDIR=$(CURDIR)/out/deb PREFIX=/usr LIBRARY=
+	$(if $(LIBRARY),$(MAKE) --no-print-directory install-library DESTDIR=$(CURDIR)/out/deb $(DEB_PLACES))
 	press/lib/deb-control out/deb $(PROGRAMS)
 	dpkg-deb --build --root-owner-group out/deb out
+	$(if $(LIBRARY),$(MAKE) --no-print-directory install-headers DESTDIR=$(CURDIR)/out/deb-dev $(DEB_PLACES))
+	$(if $(LIBRARY),install -d out/deb-dev/usr/share/doc/libtrap-dev/examples)
+	$(if $(LIBRARY),install -m 644 docs/LIBRARY.md out/deb-dev/usr/share/doc/libtrap-dev)
+	$(if $(LIBRARY),install -m 644 examples/library/page.c out/deb-dev/usr/share/doc/libtrap-dev/examples)
+	$(if $(LIBRARY),press/lib/deb-control --dev out/deb-dev && dpkg-deb --build --root-owner-group out/deb-dev out)
 
 lint:
 	cd man && ! mandoc -Tlint *.[15] 2>/dev/null | grep -v 'referenced manual not found'
 	if command -v shellcheck >/dev/null; then \
-	  shellcheck -x -e SC2015 press/farm press/farm.sbatch press/watch press/slurm-here press/press press/*.sh press/lib/deb-control tools/prove tools/launch; fi
+	  shellcheck -x -e SC2015 press/farm press/farm.sbatch press/watch press/slurm-here press/press press/*.sh press/lib/deb-control tools/prove tools/launch \
+	  library/build check/library.sh examples/library/run.sh; fi

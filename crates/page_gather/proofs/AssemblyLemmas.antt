@@ -12,6 +12,7 @@ use Rattle.std.proofs.lemmas.List.Kept.{AllPairs-filter}
 use Rattle.job_reader.specs.declared.job.Job.{Job}
 use Rattle.page_model.specs.declared.parts.Ink.{Ink}
 use Rattle.page_model.specs.declared.parts.Limit.{Limit}
+use Rattle.page_model.specs.declared.parts.Plane.{Plane}
 use Rattle.page_model.specs.declared.parts.Zone.{Zone}
 use Rattle.page_model.specs.Conditions.{IsParts, IsPlane, IsInk, IsZone}
 use Rattle.page_model.specs.Page.{no_zone}
@@ -19,7 +20,7 @@ use Rattle.pgm_plates.specs.declared.plate.Plate.{Plate}
 use Rattle.pgm_plates.specs.Planes.{plane_of}
 use Rattle.pgm_plates.specs.Plates.{IsPlate}
 use Rattle.job_reader.specs.InRange.{IsJob}
-use Rattle.page_gather.specs.Assembly.{CanAssemble, assembled, detail_of, ink_of, ink_or, plain_ink, zone_for}
+use Rattle.page_gather.specs.Assembly.{CanAssemble, CanAssemblePlanes, parts_of_planes, detail_of, ink_of, ink_or, plain_ink, zone_for}
 
 plane_ok : (plate : Plate) → IsPlate plate → IsPlane (plane_of plate)
 plane_ok plate is = record {
@@ -67,14 +68,14 @@ same_lengths names (zone ∷ zones) = ap (λ (ns : List ℕ). length zone.path �
 sum_by-zones : (names : List (List ℕ)) (zones : List Zone) → sum_by (λ (z : Zone). length z.path) (map (zone_for names) zones) ≡ sum_by (λ (z : Zone). length z.path) zones
 sum_by-zones names zones = sym (sum-map (λ (z : Zone). length z.path) (map (zone_for names) zones)) ∙ ap sum (same_lengths names zones) ∙ sum-map (λ (z : Zone). length z.path) zones
 
-pub is_parts : (job : Job) (plates : List Plate) (names : List (List ℕ)) → IsJob job → CanAssemble plates names → IsParts (assembled job plates names)
-is_parts job plates names is can = record {
-  some_plates = omega (arith, length-map plates plane_of, can.some);
-  few_plates = omega (arith, length-map plates plane_of, can.few);
-  one_ink_each = length-map names (ink_of job.details) ∙ can.named ∙ sym (length-map plates plane_of);
+pub is_parts : (job : Job) (planes : List Plane) (names : List (List ℕ)) → IsJob job → CanAssemblePlanes planes names → IsParts (parts_of_planes job planes names)
+is_parts job planes names is can = record {
+  some_plates = can.some;
+  few_plates = can.few;
+  one_ink_each = length-map names (ink_of job.details) ∙ can.named;
   some_zones = omega (arith, length-map job.zones (zone_for names), is.some_zones);
   few_zones = omega (arith, length-map job.zones (zone_for names), is.few_zones);
-  planes_in_range = All-map IsPlane plane_of plates (λ k d within. plane_ok (get_or plates k d) (can.in_range k d within));
+  planes_in_range = can.in_range;
   inks_in_range = All-map IsInk (ink_of job.details) names (λ k d within. ink_ok job.details (get_or names k d) is.details);
   zones_in_range = All-map IsZone (zone_for names) job.zones (λ k d within. zone_ok names (get_or job.zones k d) (is.zones k d within));
   zone_0 = ap (λ (z : Zone). z.path) (first_zone names job.zones is.some_zones) ∙ is.zone_0;
@@ -84,3 +85,12 @@ is_parts job plates names is can = record {
       let alone = is.resolved none in
       (length-map job.zones (zone_for names) ∙ alone.0, ap (λ (z : Zone). z.params.enabled) (first_zone names job.zones is.some_zones) ∙ alone.1);
 }
+
+-- the planes of plates that can be assembled
+pub can_planes : (plates : List Plate) (planes : List Plane) (names : List (List ℕ)) → CanAssemble plates names → planes ≡ map plane_of plates → CanAssemblePlanes planes names
+can_planes plates planes names can made = subst (λ (ps : List Plane). CanAssemblePlanes ps names) (sym made) (record {
+  some = omega (arith, length-map plates plane_of, can.some);
+  few = omega (arith, length-map plates plane_of, can.few);
+  named = can.named ∙ sym (length-map plates plane_of);
+  in_range = All-map IsPlane plane_of plates (λ k d within. plane_ok (get_or plates k d) (can.in_range k d within));
+})

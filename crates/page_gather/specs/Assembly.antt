@@ -8,7 +8,9 @@ use Rattle.page_model.specs.declared.parts.InkKind.TheVariants.{Normal}
 use Rattle.page_model.specs.declared.parts.Limit.{Limit}
 use Rattle.page_model.specs.declared.page.PageFault.{PageFault}
 use Rattle.page_model.specs.declared.parts.PageParts.{PageParts}
+use Rattle.page_model.specs.declared.parts.Plane.{Plane}
 use Rattle.page_model.specs.declared.parts.Zone.{Zone}
+use Rattle.page_model.specs.Conditions.{IsPlane}
 use Rattle.page_model.specs.Faults.{page_fault}
 use Rattle.pgm_plates.specs.declared.plate.Plate.{Plate}
 use Rattle.pgm_plates.specs.Planes.{plane_of}
@@ -37,14 +39,18 @@ ink_of details name = ink_or (detail_of details name) (plain_ink name)
 abbrev pub zone_for : List (List ℕ) → Zone → Zone
 zone_for names zone = record zone { limits = filter (λ (l : Limit). list_any (λ n. bytes_eq n l.name) names) zone.limits }
 
--- the parts of the page, plate by plate in the order of the names
-abbrev pub assembled : Job → List Plate → List (List ℕ) → PageParts
-assembled job plates names = record {
+-- the parts of the page of these planes, in the order of the names
+abbrev pub parts_of_planes : Job → List Plane → List (List ℕ) → PageParts
+parts_of_planes job planes names = record {
   resolution = job.resolution;
-  planes = map plane_of plates;
+  planes = planes;
   inks = map (ink_of job.details) names;
   zones = map (zone_for names) job.zones;
 }
+
+-- and of these plates
+abbrev pub assembled : Job → List Plate → List (List ℕ) → PageParts
+assembled job plates names = parts_of_planes job (map plane_of plates) names
 
 -- whether some zone of the job is enabled
 abbrev pub some_enabled : Job → Bool
@@ -64,9 +70,22 @@ abbrev pub detailed : Option ℕ → PageParts → Result PageParts Refusal
 detailed None parts = faulted parts (page_fault parts)
 detailed (Some plate) parts = Err (NoDetails plate)
 
--- the page, or why there is none: a plate without details, and then the first fault of the parts
+-- the page of planes, or why there is none: a plane without details, and then the first fault of
+-- the parts
+abbrev pub assembly_of_planes : Job → List Plane → List (List ℕ) → Result PageParts Refusal
+assembly_of_planes job planes names =
+    detailed (without_details job names) (parts_of_planes job planes names)
+
+-- and of plates
 abbrev pub assembly : Job → List Plate → List (List ℕ) → Result PageParts Refusal
-assembly job plates names = detailed (without_details job names) (assembled job plates names)
+assembly job plates names = assembly_of_planes job (map plane_of plates) names
+
+-- as many names as planes, and each plane in range
+pub record CanAssemblePlanes (planes : List Plane) (names : List (List ℕ)) : Type 0 where
+  pub some : 1 ≤ length planes
+  pub few : length planes ≤ 16
+  pub named : length names ≡ length planes
+  pub in_range : All IsPlane planes
 
 -- as many names as plates, and each plate in range
 pub record CanAssemble (plates : List Plate) (names : List (List ℕ)) : Type 0 where

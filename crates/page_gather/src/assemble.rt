@@ -4,7 +4,7 @@ ghost use Rattle.std.specs.Str.{bytes_eq};
 ghost use Rattle.pgm_plates.specs.Planes.{plane_of};
 ghost use Rattle.pgm_plates.specs.Plates.{IsPlate};
 ghost use Rattle.job_reader.specs.InRange.{IsJob};
-ghost use Rattle.page_gather.specs.Assembly.{CanAssemble, assembled, assembly, without_details as plate_without, detail_of as detail_meant, ink_of as ink_meant, zone_for};
+ghost use Rattle.page_gather.specs.Assembly.{CanAssemble, CanAssemblePlanes, assembly, assembly_of_planes, parts_of_planes, without_details as plate_without, detail_of as detail_meant, ink_of as ink_meant, zone_for};
 
 use job_reader::job::Job;
 use lists::list::List;
@@ -40,10 +40,29 @@ pub fn assemble(
         MatchResult result (λ page. made ≡ Ok page)
         (λ refusal. (refusal ≡ Refusal.Memory) ⊎ (made ≡ Err refusal)) }
 {
+    match planes_of(alloc, plates) {
+        Ok(planes) => assemble_planes(alloc, job, planes, names),
+        Err(OutOfMemory) => Err(Refusal::Memory),
+    }
+}
+
+/// As `assemble`, of planes in place of plates.
+pub fn assemble_planes(
+    alloc: Global,
+    job: Job,
+    planes: PlaneList,
+    names: &NameList,
+) -> Result<Page, Refusal>
+    requires job { IsJob job }
+    requires planes { CanAssemblePlanes planes names.now }
+    ensures { let made = assembly_of_planes job planes names.now in
+        MatchResult result (λ page. made ≡ Ok page)
+        (λ refusal. (refusal ≡ Refusal.Memory) ⊎ (made ≡ Err refusal)) }
+{
     if let Some(plate) = without_details(&job, names) {
         return Err(Refusal::NoDetails(plate));
     }
-    match parts_of(alloc, job, plates, names) {
+    match parts_of(alloc, job, planes, names) {
         Ok(parts) => match Page::new(parts) {
             Ok(page) => Ok(page),
             Err((fault, _parts)) => Err(Refusal::Page(fault)),
@@ -103,18 +122,16 @@ fn is_named(ink: &Ink, name: &[u8]) -> bool
 fn parts_of(
     alloc: Global,
     job: Job,
-    plates: PlateList,
+    planes: PlaneList,
     names: &NameList,
 ) -> Result<PageParts, OutOfMemory>
-    requires plates { CanAssemble plates names.now }
-    ensures { IfOk result (λ parts. parts ≡ assembled job plates names.now) }
+    ensures { IfOk result (λ parts. parts ≡ parts_of_planes job planes names.now) }
 {
     let Job {
         resolution,
         zones,
         details,
     } = job;
-    let planes = planes_of(alloc, plates)?;
     let inks = inks_of(alloc, &details, names)?;
     let zones = zones_of(zones, names);
     Ok(PageParts {

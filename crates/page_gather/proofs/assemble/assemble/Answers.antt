@@ -1,7 +1,6 @@
-use Rattle.std.proofs.Common.{sym, subst}
-use Rattle.page_model.specs.Conditions.{IsParts}
-use Rattle.page_gather.proofs.AssemblyLemmas.{is_parts}
+-- Goals of assemble that want a lemma by name.
+use Rattle.page_gather.proofs.AssemblyLemmas.{can_planes}
 use Rattle.page_gather.proofs.assemble.assemble.Goals as goal
 
-pub new-requires : goal.new-requires
-new-requires c = subst IsParts (sym c.in-Ok.ensures) (is_parts c.args.job c.args.plates c.args.names.now c.requires.job c.requires.plates)
+pub assemble_planes-requires-clause-planes : goal.assemble_planes-requires-clause-planes
+assemble_planes-requires-clause-planes c = can_planes c.args.plates c.in-Ok.planes c.args.names.now c.requires.plates c.in-Ok.ensures

@@ -1,0 +1,95 @@
+#!/usr/bin/env python3
+"""Tries the package trapping on NumPy arrays as a program has them: arrays of rows and columns, views whose rows lie apart, planes of one
+stack, arrays that cannot be written, and four threads. The poster of examples/ says what has to come out."""
+import gzip
+import os
+import pickle
+import sys
+from concurrent.futures import ThreadPoolExecutor
+
+import numpy
+
+TOP = os.path.dirname(os.path.dirname(os.path.dirname(os.path.abspath(__file__))))
+sys.path.insert(0, os.path.join(TOP, "python"))
+import trapping  # noqa: E402
+
+POSTER = os.path.join(TOP, "examples", "poster")
+INKS = ("Cyan", "Magenta", "Yellow", "Black")
+
+
+def read(path):
+    with open(os.path.join(POSTER, path), "rb") as file:
+        return file.read()
+
+
+def tints(folder, ink):
+    """A plate of the poster as tints."""
+    with gzip.open(os.path.join(POSTER, folder, ink + ".pgm.gz")) as file:
+        file.readline()
+        width, height = map(int, file.readline().split())
+        maxval = int(file.readline())
+        return maxval - numpy.frombuffer(file.read(), numpy.uint8).reshape(height, width)
+
+
+JOB, REPORT = read("poster.job"), read("expected/report").decode()
+BEFORE, AFTER = ([tints(folder, ink) for ink in INKS] for folder in ("plates", "expected"))
+
+
+def padded(plane):
+    """The same samples in an array whose rows are seven samples longer."""
+    whole = numpy.full((plane.shape[0], plane.shape[1] + 7), 9, plane.dtype)
+    whole[:, 3:-4] = plane
+    return whole
+
+
+def trap_apart(dtype):
+    planes = {ink: plane.astype(dtype) for ink, plane in zip(INKS, BEFORE)}
+    report = trapping.trap(JOB, planes, maxval=255)
+    assert report.text == REPORT and report.edges == 3662 and report.zones[1] == (60000, 4604) and report.changed["Black"] == 1464
+    assert all((planes[ink] == plane).all() for ink, plane in zip(INKS, AFTER))
+
+
+def trap_views():
+    wholes = [padded(plane) for plane in BEFORE]
+    trapping.trap(JOB, {ink: whole[:, 3:-4] for ink, whole in zip(INKS, wholes)})
+    assert all((whole == padded(plane)).all() for whole, plane in zip(wholes, AFTER))
+
+
+def trap_stacks():
+    stack = numpy.stack(BEFORE)
+    trapping.trap(JOB, dict(zip(INKS, stack)))
+    assert (stack == numpy.stack(AFTER)).all()
+    wide = numpy.full((4, 300, 405), 7, numpy.uint16)
+    wide[:, :, :400] = BEFORE
+    trapping.trap_stack(JOB, INKS, wide, maxval=255, width=400)
+    assert (wide[:, :, :400] == AFTER).all() and (wide[:, :, 400:] == 7).all()
+
+
+def refused():
+    planes = {ink: plane.copy() for ink, plane in zip(INKS, BEFORE)}
+    try:
+        trapping.trap(JOB.replace(b"/TrapWidth 0.75", b"/TrapWidth 0.00"), planes)
+    except trapping.Refusal as refusal:
+        told = pickle.loads(pickle.dumps(refusal))
+        assert (told.status, told.subject, told.kind, told.detail) == (3, "job", "OutOfRange", "TrapWidth") and told.place > 0
+    else:
+        raise AssertionError("a width of 0 is no width")
+    assert all((planes[ink] == plane).all() for ink, plane in zip(INKS, BEFORE))
+    fixed = BEFORE[0].copy()
+    fixed.flags.writeable = False
+    for plane in (fixed, BEFORE[0].T.copy().T, BEFORE[0].astype(numpy.int16), BEFORE[0].astype(">u2"), BEFORE[0].ravel().copy(), 7):
+        try:
+            trapping.trap(JOB, {"Cyan": plane})
+        except (TypeError, ValueError):
+            continue
+        raise AssertionError("%r is no plane" % plane)
+
+
+def threads():
+    with ThreadPoolExecutor(4) as pool:
+        list(pool.map(trap_apart, [numpy.uint8, numpy.uint16] * 4))
+
+
+for tried in (lambda: trap_apart(numpy.uint8), lambda: trap_apart(numpy.uint16), trap_views, trap_stacks, refused, threads):
+    tried()
+print("library: NumPy arrays, views, stacks, refusals and four threads, as they have to be")

@@ -1,0 +1,74 @@
+/* threads [PAGES]: eight threads trap pages at once, each its own, by both calls; each page has to come out as it does alone. */
+#include <pthread.h>
+#include <stdio.h>
+#include <stdlib.h>
+#include <string.h>
+
+#include "trap.h"
+
+enum { WIDTH = 40, HEIGHT = 24, PLANES = 4, SAMPLES = PLANES * WIDTH * HEIGHT, THREADS = 8, MOST_PAGES = 64 };
+
+static const char job[] =
+    "<< /HWResolution [600 600] /TrappingDetails << /Type 1001 /ColorantDetails << /Cyan << /NeutralDensity 0.61 >> "
+    "/Magenta << /NeutralDensity 0.76 >> /Yellow << /NeutralDensity 0.16 >> /Black << /NeutralDensity 1.70 >> >> >> >> setpagedevice "
+    "<< /TrapWidth 0.5 /BlackWidth 2 >> settrapparams showpage";
+static const char names[] = "Cyan\nMagenta\nYellow\nBlack";
+
+/* A page after a call. */
+struct answer {
+  trap_status status;
+  uint16_t samples[SAMPLES];
+  size_t text_len;
+  uint8_t text[1024];
+};
+
+static struct answer alone[MOST_PAGES], together[MOST_PAGES];
+static int pages = 16;
+
+/* Blocks of five by five samples in the colours of a page's number. */
+static void draw(uint16_t *samples, unsigned page) {
+  for (int k = 0; k < SAMPLES; k++) {
+    unsigned x = k % WIDTH / 5, y = k / WIDTH % HEIGHT / 5, c = k / (WIDTH * HEIGHT);
+    unsigned mixed = (x * 7 + y * 13 + c * 29 + page * 31 + x * y * page) % 5;
+    samples[k] = (uint16_t)(mixed < 2 ? 0 : mixed == 2 ? 128 : 255);
+  }
+}
+
+/* Even pages are held as 16-bit numbers, odd ones as bytes. */
+static void trap_page(struct answer *answer, int page) {
+  draw(answer->samples, page);
+  const uint8_t *told = (const uint8_t *)job, *listed = (const uint8_t *)names;
+  if (page % 2 == 0) {
+    answer->status = trap_planes16(told, sizeof job - 1, listed, sizeof names - 1, answer->samples, SAMPLES, WIDTH, HEIGHT, WIDTH, 255,
+                                   answer->text, sizeof answer->text, &answer->text_len);
+    return;
+  }
+  uint8_t bytes[SAMPLES];
+  for (int k = 0; k < SAMPLES; k++) bytes[k] = (uint8_t)answer->samples[k];
+  answer->status = trap_planes8(told, sizeof job - 1, listed, sizeof names - 1, bytes, SAMPLES, WIDTH, HEIGHT, WIDTH, 255, answer->text,
+                                sizeof answer->text, &answer->text_len);
+  for (int k = 0; k < SAMPLES; k++) answer->samples[k] = bytes[k];
+}
+
+static void *walk(void *first) {
+  for (int page = (int)(size_t)first; page < pages; page += THREADS) trap_page(&together[page], page);
+  return 0;
+}
+
+int main(int count, char **words) {
+  if (count > 1) pages = atoi(words[1]);
+  if (pages < THREADS || pages > MOST_PAGES) return 2;
+  pthread_t threads[THREADS];
+  for (size_t k = 0; k < THREADS; k++)
+    if (pthread_create(&threads[k], 0, walk, (void *)k)) return 2;
+  for (int k = 0; k < THREADS; k++) pthread_join(threads[k], 0);
+  for (int page = 0; page < pages; page++) trap_page(&alone[page], page);
+  for (int page = 0; page < pages; page++) {
+    uint16_t before[SAMPLES];
+    draw(before, page);
+    if (alone[page].status || !memcmp(before, alone[page].samples, sizeof before) || memcmp(&alone[page], &together[page], sizeof alone[page]))
+      return printf("page %d is another by eight threads\n", page), 1;
+  }
+  printf("library: %d pages by eight threads at once, each as it is alone\n", pages);
+  return 0;
+}

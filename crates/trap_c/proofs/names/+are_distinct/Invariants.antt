@@ -1,0 +1,6 @@
+-- What becomes less at each call of are_distinct by itself.
+use Rattle.std.proofs.Common.{length}
+use Rattle.trap_c.proofs.names.+are_distinct.Given as goal
+
+abbrev pub decreases-are_distinct : goal.decreases-are_distinct
+decreases-are_distinct l = length l.names.now

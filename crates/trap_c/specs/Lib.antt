@@ -1,0 +1,10 @@
+-- The definitions of trap_c, lowest first.
+pub mod Names
+pub mod Requests
+pub mod Stops
+pub mod Planes
+pub mod Sources
+pub mod Fit
+pub mod Copies
+pub mod Pages
+pub mod Calls

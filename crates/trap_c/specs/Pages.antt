@@ -1,0 +1,72 @@
+-- The page that a call is for.
+use Rattle.std.specs.Prelude.{◌≡◌, ◌⊎◌, ℕ, List, length, Option, Some, None, Result, Ok, Err}
+use Rattle.job_reader.specs.declared.job.Job.{Job}
+use Rattle.job_reader.specs.Jobs.{job_of}
+use Rattle.page_gather.specs.Assembly.{assembly_of_planes}
+use Rattle.page_model.specs.declared.parts.PageParts.{PageParts}
+use Rattle.page_model.specs.declared.parts.Plane.{Plane}
+use Rattle.page_model.specs.Page.{plates, width, height, maxval}
+use Rattle.ps_tokens.specs.declared.faults.JobFault.{JobFault}
+use Rattle.trap_report.specs.declared.refusal.Refusal.{Refusal}
+use Rattle.trap_report.specs.declared.refusal.Refusal.TheVariants.{Job as JobRefusal, Memory}
+use Rattle.trap_c.specs.declared.layout.Layout.{Layout}
+use Rattle.trap_c.specs.declared.stop.CallFault.{CallFault}
+use Rattle.trap_c.specs.declared.stop.Stop.{Stop}
+use Rattle.trap_c.specs.declared.stop.Stop.TheVariants.{Call, Page}
+use Rattle.trap_c.specs.Requests.{Asked}
+use Rattle.trap_c.specs.Names.{names_in}
+use Rattle.trap_c.specs.Fit.{call_fault, first_above}
+use Rattle.trap_c.specs.Planes.{planes_in}
+
+-- the page that is made, where no tint is above the maxval
+abbrev pub page_unless : Option Refusal → Result PageParts Refusal → Result PageParts Refusal
+page_unless (Some refusal) made = Err refusal
+page_unless None made = made
+
+-- the page of a job and these planes
+abbrev pub page_with : Job → List (List ℕ) → List Plane → Result PageParts Refusal
+page_with job names planes =
+    page_unless (first_above planes) (assembly_of_planes job planes names)
+
+-- the page of a job that was read, or the job's fault
+abbrev pub page_by :
+    Result Job JobFault → List (List ℕ) → List Plane → Result PageParts Refusal
+page_by (Ok job) names planes = page_with job names planes
+page_by (Err fault) names planes = Err (JobRefusal fault)
+
+-- the page, or why there is none: the job is judged, then the tints, then what they make
+abbrev pub page_of : List ℕ → List (List ℕ) → List Plane → Result PageParts Refusal
+page_of job names planes = page_by (job_of job) names planes
+
+-- a page that was made, or the refusal
+abbrev pub stop_or : Result PageParts Refusal → Result PageParts Stop
+stop_or (Ok page) = Ok page
+stop_or (Err refusal) = Err (Page refusal)
+
+-- where the arguments have no fault
+abbrev pub call_unless : Option CallFault → Result PageParts Refusal → Result PageParts Stop
+call_unless (Some fault) made = Err (Call fault)
+call_unless None made = stop_or made
+
+-- the page of these names: the arguments are judged, and then the job and the planes
+abbrev pub named_page : ℕ → List ℕ → List (List ℕ) → Layout → List ℕ → Result PageParts Stop
+named_page most job names layout samples =
+    call_unless (call_fault most names layout (length samples))
+    (page_of job names (planes_in layout samples (length names)))
+
+-- the page that a call is for, or why there is none
+abbrev pub call_page : ℕ → Asked → List ℕ → Result PageParts Stop
+call_page most asked samples =
+    named_page most asked.job (names_in asked.names) asked.layout samples
+
+-- A result of what is asked for, or that memory was refused.
+abbrev pub Gives : Result PageParts Refusal → Result PageParts Refusal → Type 0
+Gives made (Ok page) = made ≡ Ok page
+Gives made (Err refusal) = (refusal ≡ Memory) ⊎ (made ≡ Err refusal)
+
+-- A page of that layout, with so many plates.
+pub record Fills (layout : Layout) (count : ℕ) (page : PageParts) : Type 0 where
+  pub wide : width page ≡ layout.width
+  pub tall : height page ≡ layout.height
+  pub deep : maxval page ≡ layout.maxval
+  pub all : plates page ≡ count

@@ -1,0 +1,104 @@
+ghost use Rattle.std.specs.Prelude.{◌≡◌, ◌≤◌, All, IfOk, length};
+ghost use Rattle.page_model.specs.Conditions.{IsPlane};
+ghost use Rattle.page_model.specs.Counts.{page_counts};
+ghost use Rattle.page_model.specs.Limits.{most_maxval};
+ghost use Rattle.page_model.specs.Tints.{trapped_planes};
+ghost use Rattle.trap_report.specs.Report.{report_of};
+ghost use Rattle.trap_c.specs.Fit.{IsCall};
+ghost use Rattle.trap_c.specs.Calls.{Works};
+ghost use Rattle.trap_c.specs.Requests.{asked};
+ghost use Rattle.trap_c.specs.Pages.{call_page, named_page, page_of as page_meant, stop_or};
+ghost use Rattle.trap_c.specs.Planes.{planes_in};
+ghost use Rattle.trap_c.specs.Sources.{numbers};
+
+use crate::fit::call_fault;
+use crate::layout::Layout;
+use crate::names::names_of;
+use crate::page::page_of;
+use crate::request::Request;
+use crate::source::Source;
+use crate::stop::Stop;
+use lists::names::{Name, NameList, OutOfMemory};
+use page_model::laws::trapped_planes_law;
+use page_model::page::Page;
+use page_model::parts::PlaneList;
+use std::alloc::Global;
+use strip_engine::{Trapped, trap_alone};
+use trap_report::refusal::Refusal;
+use trap_report::report::report;
+
+/// A page after trapping, and its report.
+#[derive(Drop)]
+pub struct Done {
+    pub planes: PlaneList,
+    pub report: Name,
+}
+
+/// Carries out a call up to the planes after trapping, which are still to be put into the samples. These hold numbers up to
+/// `most`.
+pub fn carry_out(
+    alloc: Global,
+    most: u32,
+    request: &Request<'_>,
+    source: &Source<'_>,
+) -> Result<Done, Stop>
+    requires { most ≤ most_maxval }
+    ensures { Works most request.now.layout (numbers source.now)
+        (call_page most (asked request.now) (numbers source.now)) result }
+{
+    match names_of(alloc, request.names) {
+        Ok(names) => carry_out_named(alloc, most, request, &names, source),
+        Err(OutOfMemory) => Err(Stop::Page(Refusal::Memory)),
+    }
+}
+
+fn carry_out_named(
+    alloc: Global,
+    most: u32,
+    request: &Request<'_>,
+    names: &NameList,
+    source: &Source<'_>,
+) -> Result<Done, Stop>
+    requires { most ≤ most_maxval }
+    ensures { let layout = request.now.layout in
+        Works most layout (numbers source.now)
+        (named_page most request.now.job.now names.now layout (numbers source.now)) result }
+{
+    let layout = request.layout;
+    if let Some(fault) = call_fault(most, names.as_slice(), layout, source.count()) {
+        return Err(Stop::Call(fault));
+    }
+    trap_source(alloc, request.job, names, source, layout)
+}
+
+fn trap_source(
+    alloc: Global,
+    job: &[u8],
+    names: &NameList,
+    source: &Source<'_>,
+    layout: Layout,
+) -> Result<Done, Stop>
+    requires { IsCall names.now layout (length (numbers source.now)) }
+    ensures { let planes = planes_in layout (numbers source.now) (length names.now) in
+        Works layout.maxval layout (numbers source.now) (stop_or (page_meant job.now names.now planes))
+        result }
+{
+    match page_of(alloc, job, names, source, layout) {
+        Ok(page) => match trapped(alloc, &page) {
+            Ok(done) => Ok(done),
+            Err(OutOfMemory) => Err(Stop::Page(Refusal::Memory)),
+        },
+        Err(refusal) => Err(Stop::Page(refusal)),
+    }
+}
+
+fn trapped(alloc: Global, page: &Page) -> Result<Done, OutOfMemory>
+    ensures planes { IfOk result (λ done. done.planes ≡ trapped_planes page.now) }
+    ensures report { IfOk result (λ done. done.report ≡ report_of page.now (page_counts page.now)) }
+    ensures in_range { All IsPlane (trapped_planes page.now) }
+{
+    trapped_planes_law(page);
+    let Trapped { planes, counts } = trap_alone(alloc, page)?;
+    let report = report(alloc, page, &counts)?;
+    Ok(Done { planes, report })
+}

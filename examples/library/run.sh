@@ -1,0 +1,84 @@
+#!/usr/bin/env bash
+# Compiles the examples of the library, runs each and compares what it makes with what must come out of examples/poster. It says
+# what it skips where a tool is not there. What it makes lies in out/.
+set -eu
+cd "$(dirname "$0")"
+top=../..
+out=out
+inks=(Cyan Magenta Yellow Black)
+CC=${CC:-cc}
+
+there() { command -v "$1" >/dev/null; }
+skip() { echo "examples/library: $1: skipped, $2"; }
+well() { echo "examples/library: $1"; }
+
+there "$CC" || { skip "all" "there is no C compiler"; exit 0; }
+$top/library/build >/dev/null
+library=$top/library/out
+rm -rf $out
+mkdir -p $out/plates $out/trapped
+
+# compiled NAME WORD ..: the program, linked with the one archive.
+compiled() {
+  "$CC" -std=c99 -D_POSIX_C_SOURCE=200809L -O2 -Wall -Wextra -Werror -I$top/library -o "$out/$1" "$1.c" $library/libtrap.a "${@:2}"
+}
+
+# compare_rip: what the RIP traps in its raster, and what page.c makes of the plates that the RIP writes untrapped.
+compare_rip() {
+  local page plate words
+  mkdir $out/rendered $out/ripped $out/paged
+  $out/rip ../label/label.pdf 300 1050x700 - $out/rendered >$out/told
+  $out/rip ../label/label.pdf 300 1050x700 label.job $out/ripped >$out/told
+  for page in 1 2; do
+    words=()
+    # in the order in which Ghostscript has them
+    for plate in Cyan Magenta Yellow Black Gold_Foil Label_Red; do
+      [ ! -f "$out/rendered/$page-$plate.pgm" ] || words+=("$plate:$out/rendered/$page-$plate.pgm:$out/paged/$page-$plate.pgm")
+    done
+    $out/page -8 label.job "$out/paged/$page.report" "${words[@]}"
+  done
+  diff -r $out/paged $out/ripped
+  ! diff -rq $out/rendered $out/ripped >$out/told || { echo "examples/library: rip.c changed nothing" >&2; exit 1; }
+}
+
+# A page of PGM files, held as bytes and as 16-bit numbers.
+compiled page
+for ink in "${inks[@]}"; do gzip -dc "$top/examples/poster/plates/$ink.pgm.gz" >$out/plates/"$ink.pgm"; done
+for width in -8 ""; do
+  words=()
+  for ink in "${inks[@]}"; do words+=("$ink:$out/plates/$ink.pgm:$out/trapped/$ink.pgm"); done
+  # shellcheck disable=SC2086
+  $out/page $width $top/examples/poster/poster.job $out/report "${words[@]}"
+  cmp $out/report $top/examples/poster/expected/report
+  for ink in "${inks[@]}"; do gzip -dc "$top/examples/poster/expected/$ink.pgm.gz" | cmp - $out/trapped/"$ink.pgm"; done
+  rm $out/report $out/trapped/*
+done
+well "page.c gives the plates and the report of the poster, as bytes and as words"
+
+# The header is C++ too.
+if there c++; then
+  echo '#include "trap.h"
+int main() { return trap_planes8(0, 0, 0, 0, 0, 0, 0, 0, 0, 0, 0, 0, 0) != 0; }' >$out/header.cpp
+  c++ -std=c++98 -pedantic -Wno-long-long -Wall -Wextra -Werror -fsyntax-only -I$top/library $out/header.cpp
+  well "trap.h is read by a C++ compiler"
+else
+  skip "trap.h in C++" "there is no C++ compiler"
+fi
+
+# Ghostscript's own raster.
+headers=${GHOSTSCRIPT_HEADERS:-/usr/include}
+if [ ! -f "$headers/ghostscript/iapi.h" ] || ! ldconfig -p | grep -q 'libgs\.so\.'; then
+  skip "rip.c" "libgs and its headers (libgs-dev) are not there"
+else
+  gs=$(ldconfig -p | sed -n 's/^\s*\(libgs\.so\.[0-9]*\) .*/\1/p' | head -n 1)
+  compiled rip -I"$headers" "-l:$gs"
+  compare_rip
+  well "rip.c traps the two pages of the label in Ghostscript's own raster, as page.c does with its plates as files"
+fi
+
+if there python3; then
+  TRAP_LIBRARY=$PWD/$library/libtrap.so.1 python3 -B picture.py $out/traps.ppm
+  well "picture.py drew the traps"
+else
+  skip "picture.py" "there is no python3"
+fi

@@ -1,0 +1,16 @@
+"""Traps the separated planes of a page where they lie in memory, over the shared library libtrap.
+
+    report = trapping.trap(job, {"Cyan": cyan, "Magenta": magenta, "Yellow": yellow, "Black": black})
+
+A plane is a writable buffer of samples of one byte or of two: a NumPy array of uint8 or uint16, a bytearray, an array.array or a
+memoryview. 0 is no ink, `maxval` is full ink. Rows run from the top, samples in a row from the left.
+
+Any number of threads may trap at once, each its own planes: Python's lock is let go during the call.
+"""
+from ._library import library_path
+from ._planes import Samples
+from ._refusal import Refusal
+from ._report import Report, Zone
+from ._trap import trap, trap_stack
+
+__all__ = ["Refusal", "Report", "Samples", "Zone", "library_path", "trap", "trap_stack"]
