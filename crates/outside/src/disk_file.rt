@@ -1,46 +1,54 @@
 ghost use Rattle.std.specs.Prelude.{◌<◌, ◌≤◌, IfOk, length};
 
-use std::alloc::Allocator;
-use std::fs;
+use arrayvec::ArrayString;
+use std::fmt::InlineText;
 use std::fs::{OpenFile, OpenOptions, Permissions};
-use std::io;
 use std::io::{ErrorKind, Write};
-use std::path::PathBuf;
+use std::path::Path;
 use std::rt::Files;
+use std::{fs, io};
 
 // How often a call that is interrupted is made again, how many links are followed, and how many names are tried.
 const TRIES: u32 = 1_000_000;
+
 const MOST_LINKS: u32 = 40;
+
 const MOST_NAMES: u32 = 10_000;
+
+// The longest path that the system takes.
+const LONGEST: usize = 4096;
 
 // A longer name is not repeated in the name beside it, so that that one is none that a disk refuses.
 const LONG_NAME: usize = 200;
+
+// A path, for which no memory is wanted.
+type PathText = ArrayString<LONGEST>;
 
 // A file that is written. Until it is whole it stands beside its place, under a name of its own; where it is let go
 // before it is finished it is removed. What is no regular file is written in place.
 pub(crate) struct DiskFile<'a, R: Files + Alloc> {
     files: &'a R,
     file: R::File,
-    beside: Option<Beside<R::A>>,
+    beside: Option<Beside>,
     is_broken: bool,
 }
 
 // Where a file is written, and the name that it takes when it is whole.
-#[derive(Drop)]
-struct Beside<A: Allocator> {
-    written: PathBuf<A>,
-    name: PathBuf<A>,
+#[derive(Clone, Copy)]
+struct Beside {
+    written: PathText,
+    name: PathText,
 }
 
 impl<R: Files + Alloc> Drop for DiskFile<'_, R> {
     fn drop(self) {
         if let Some(beside) = &self.beside {
-            let _gone = fs::remove_file(self.files, &beside.written);
+            let _gone = fs::remove_file(self.files, beside.written.as_str());
         }
         let DiskFile {
             files: _,
             file: _file,
-            beside: _beside,
+            beside: _,
             is_broken: _,
         } = self;
     }
@@ -53,7 +61,7 @@ impl<'a, R: Files + Alloc> DiskFile<'a, R> {
         let Some(place) = place_of(files, name)? else {
             return Ok(in_place(files, fs::create(files, name)?));
         };
-        match OpenOptions::new().write(true).open(files, &place) {
+        match OpenOptions::new().write(true).open(files, place.as_str()) {
             Ok(old) => {
                 let metadata = old.metadata()?;
                 if metadata.is_file() {
@@ -91,7 +99,7 @@ impl<'a, R: Files + Alloc> DiskFile<'a, R> {
         self.is_broken = true;
         write_through(&self.file)?;
         if let Some(beside) = &self.beside {
-            fs::rename(self.files, &beside.written, &beside.name)?;
+            fs::rename(self.files, beside.written.as_str(), beside.name.as_str())?;
         }
         self.beside = None;
         Ok(())
@@ -108,37 +116,52 @@ fn in_place<R: Files + Alloc>(files: &R, file: R::File) -> DiskFile<'_, R> {
 }
 
 // The file that the name means, where its links are followed; or none where they lead to what this process has open, as
-// /dev/stdout does.
-fn place_of<R: Files + Alloc>(files: &R, name: &str) -> io::Result<Option<PathBuf<R::A>>> {
-    let mut place = PathBuf::from_str(files.alloc(), name)?;
+// /dev/stdout does. Memory is wanted for a link alone.
+fn place_of<R: Files + Alloc>(files: &R, name: &str) -> io::Result<Option<PathText>> {
+    let mut place = path_text(name)?;
     for _ in 0..MOST_LINKS {
         let text = place.as_str();
         if text.starts_with("/proc/") || text.starts_with("/dev/fd/") {
             return Ok(None);
         }
-        let Ok(link) = fs::read_link(files, &place) else {
-            return Ok(Some(place));
-        };
-        place = match place.parent() {
-            Some(folder) => folder.join(files.alloc(), &link)?,
-            None => link,
-        };
+        match fs::symlink_metadata(files, text) {
+            Ok(metadata) if metadata.is_symlink() => {}
+            Ok(_) => return Ok(Some(place)),
+            Err(error) if error.kind() == ErrorKind::NotFound => return Ok(Some(place)),
+            Err(error) => return Err(error),
+        }
+        place = link_of(files, text)?;
     }
     Err(io::Error::from(ErrorKind::FilesystemLoop))
+}
+
+fn link_of<R: Files + Alloc>(files: &R, place: &str) -> io::Result<PathText> {
+    let link = fs::read_link(files, place)?;
+    match Path::new(place).parent() {
+        Some(folder) => path_text(folder.join(files.alloc(), &link)?.as_str()),
+        None => path_text(link.as_str()),
+    }
+}
+
+fn path_text(text: &str) -> io::Result<PathText> {
+    match PathText::from(text) {
+        Ok(path) => Ok(path),
+        Err(_) => Err(io::Error::from(ErrorKind::InvalidFilename)),
+    }
 }
 
 // Begins a file beside its place, under the first name that nothing has.
 fn begin_beside<R: Files + Alloc>(
     files: &R,
-    name: PathBuf<R::A>,
+    name: PathText,
     permissions: Option<Permissions>,
 ) -> io::Result<DiskFile<'_, R>> {
     for number in 0..MOST_NAMES {
-        let written = name_beside(files, &name, number)?;
+        let written = name_beside(name.as_str(), number)?;
         match OpenOptions::new()
             .write(true)
             .create_new(true)
-            .open(files, &written)
+            .open(files, written.as_str())
         {
             Ok(file) => {
                 let begun = DiskFile {
@@ -159,17 +182,34 @@ fn begin_beside<R: Files + Alloc>(
     Err(io::Error::from(ErrorKind::AlreadyExists))
 }
 
-fn name_beside<R: Files + Alloc>(
-    files: &R,
-    name: &PathBuf<R::A>,
-    number: u32,
-) -> io::Result<PathBuf<R::A>> {
-    let Some(last) = name.file_name() else {
+// The name of that number beside a file, in its folder.
+fn name_beside(name: &str, number: u32) -> io::Result<PathText> {
+    let path = Path::new(name);
+    let Some(last) = path.file_name() else {
         return Err(io::Error::from(ErrorKind::InvalidInput));
     };
-    let shown = if last.len() <= LONG_NAME { last } else { "" };
-    let hidden = format!(in files.alloc(); ".{shown}.trap-{number}")?;
-    Ok(name.with_file_name(files.alloc(), hidden.as_str())?)
+    let folder = match path.parent() {
+        Some(folder) => folder.as_str(),
+        None => "",
+    };
+    let number = InlineText::<10>::of(number);
+    let mut text = path_text(folder)?;
+    for part in [
+        if folder.is_empty() || folder.ends_with("/") {
+            ""
+        } else {
+            "/"
+        },
+        ".",
+        if last.len() <= LONG_NAME { last } else { "" },
+        ".trap-",
+        number.as_str(),
+    ] {
+        if text.try_push_str(part).is_err() {
+            return Err(io::Error::from(ErrorKind::InvalidFilename));
+        }
+    }
+    Ok(text)
 }
 
 // What cannot be written through, as a pipe, is passed over.

@@ -5,9 +5,9 @@ use crate::disk_file::DiskFile;
 use crate::mem_calls::fault;
 use crate::rack::Rack;
 use crate::tray::Failed;
+use std::io;
 use std::io::Write;
 use std::marker::Model;
-use std::io;
 use std::rt::Files;
 
 /// The files of a disk, and standard output. It tells nothing of what they hold.

@@ -116,7 +116,12 @@ impl Rack for MemRack {
         ensures rack { Creates name.now (rack_of self.old) (rack_of self.new) result }
         ensures exact { CreatesMem self.old self.new result }
     {
-        self.is_asked_told = note(self.alloc, &mut self.asked, self.is_asked_told, name.as_bytes());
+        self.is_asked_told = note(
+            self.alloc,
+            &mut self.asked,
+            self.is_asked_told,
+            name.as_bytes(),
+        );
         self.is_open = false;
         if is_failing(&mut self.calls, self.fails.as_slice()) {
             return Err(fault(&mut self.faults));
@@ -156,7 +161,12 @@ impl Rack for MemRack {
         self.is_open = false;
         if let Some(file) = &self.current {
             let name = file.name.as_slice();
-            self.is_finished_told = note(self.alloc, &mut self.finished, self.is_finished_told, name);
+            self.is_finished_told = note(
+                self.alloc,
+                &mut self.finished,
+                self.is_finished_told,
+                name,
+            );
         }
         Ok(())
     }

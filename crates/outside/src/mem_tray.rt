@@ -146,7 +146,12 @@ impl Tray for MemTray {
         ensures tray { Begins name.now (tray_of self.old) (tray_of self.new) result }
         ensures exact { BeginsMem name.now self.old self.new result }
     {
-        self.is_asked_told = note(self.alloc, &mut self.asked, self.is_asked_told, name.as_bytes());
+        self.is_asked_told = note(
+            self.alloc,
+            &mut self.asked,
+            self.is_asked_told,
+            name.as_bytes(),
+        );
         self.place = None;
         self.taken = 0;
         if is_failing(&mut self.calls, self.fails.as_slice()) {
