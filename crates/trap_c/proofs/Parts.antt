@@ -1,5 +1,5 @@
 -- Parts of a list, after one of them was put in.
-use Rattle.std.proofs.Common.{◌≡◌, ℕ, ◌+◌, ◌-◌, ◌<◌, ◌≤◌, List, ◌++◌, length, take, drop, get_or, inl, inr, append_assoc, refl, sym, ap, ◌∙◌, arith}
+use Rattle.std.proofs.Common.{◌≡◌, ℕ, ◌+◌, ◌-◌, ◌<◌, ◌≤◌, List, ◌++◌, length, take, drop, get_or, inl, inr, refl, sym, ap, ◌∙◌, arith}
 use Rattle.std.specs.Prelude.{slice_range}
 use Rattle.std.proofs.lemmas.Bool.{cases_lt}
 use Rattle.std.proofs.lemmas.List.{take-append-le, take-append-drop, take-take, take_at, drop_at, length-take, length-drop, length-append, get_or_append_left, get_or-append_right, get_or-drop, get_or-take}
@@ -25,10 +25,6 @@ part_here xs ys rest a e inside end =
 -- a prefix and what follows it
 pub prefix_more : (xs : List ℕ) (a e : ℕ) → a ≤ e → take e xs ≡ take a xs ++ slice_range xs a e
 prefix_more xs a e l = sym (take-append-drop a (take e xs)) ∙ (ap (λ (ys : List ℕ). ys ++ drop a (take e xs)) (take-take a e xs l) ∙ ap (λ (ys : List ℕ). take a xs ++ ys) (sym (between_is xs a e)))
-
--- a prefix up to what was put in
-pub prefix_put : (xs ys rest : List ℕ) (a e : ℕ) → a ≤ length xs → e ≡ a + length ys → take e (take a xs ++ (ys ++ rest)) ≡ take a xs ++ ys
-prefix_put xs ys rest a e inside end = ap (λ (zs : List ℕ). take e zs) (sym (append_assoc (take a xs) ys rest)) ∙ take_at (take a xs ++ ys) rest e (length-append (take a xs) ys ∙ (ap (λ (n : ℕ). n + length ys) (long_prefix xs a inside) ∙ sym end))
 
 -- it is as long as before
 pub long_put : (xs ys : List ℕ) (a e : ℕ) → e ≡ a + length ys → e ≤ length xs → length (take a xs ++ (ys ++ drop e xs)) ≡ length xs

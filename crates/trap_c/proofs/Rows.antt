@@ -6,7 +6,7 @@ use Rattle.std.proofs.lemmas.List.Edits.{length-between}
 use Rattle.std.proofs.lemmas.Nat.{mod-mul-add}
 use Rattle.trap_c.specs.declared.layout.Layout.{Layout}
 use Rattle.trap_c.specs.Planes.{KeepsGaps, row_in, rows_in, size, tints_in}
-use Rattle.trap_c.proofs.Parts.{prefix_more, prefix_put, item_kept, part_before, part_here}
+use Rattle.trap_c.proofs.Parts.{prefix_more, item_kept, part_before, part_here}
 use Rattle.trap_c.proofs.Sizes.{plane_before, row_inside, times_le}
 
 -- some samples, with a row put in from one on
@@ -65,17 +65,6 @@ put_more layout tints before now after row c y apart ly inside long is put_in h 
 
 pub put_whole : (layout : Layout) (tints before now : List ℕ) (c : ℕ) → length tints ≡ size layout → IsPut layout tints before now c layout.height → tints_in layout now c ≡ tints
 put_whole layout tints before now c long h = h.here ∙ take_all (layout.height * layout.width) tints (omega (arith, long))
-
--- one more row is copied
-pub copied_more : (layout : Layout) (samples tints after : List ℕ) (first y : ℕ) → layout.width ≤ layout.step → y < layout.height → (first + y) * layout.step + layout.width ≤ length samples → length tints ≡ size layout → after ≡ take (y * layout.width) tints ++ (row_in layout samples (first + y) ++ drop (y * layout.width + layout.width) tints) → take (y * layout.width) tints ≡ rows_in layout samples first y → take ((y + 1) * layout.width) after ≡ rows_in layout samples first (y + 1)
-copied_more layout samples tints after first y apart ly inside long put_in before =
-    let row = row_in layout samples (first + y) in
-    let long_row : length row ≡ layout.width = omega (arith, length-between samples ((first + y) * layout.step) ((first + y) * layout.step + layout.width) inside) in
-    let fits : y * layout.width + layout.width ≤ length tints = row_inside y layout.height layout.width layout.width (length tints) ly (omega arith) (omega (arith, long)) in
-    rw (add-one y) (ap (λ (xs : List ℕ). take (suc y * layout.width) xs) put_in ∙ (prefix_put tints row (drop (y * layout.width + layout.width) tints) (y * layout.width) (suc y * layout.width) (omega (arith, fits)) (omega (arith, long_row)) ∙ ap (λ (xs : List ℕ). xs ++ row) before))
-
-pub copied_all : (layout : Layout) (samples tints : List ℕ) (first : ℕ) → length tints ≡ size layout → take (layout.height * layout.width) tints ≡ rows_in layout samples first layout.height → tints ≡ rows_in layout samples first layout.height
-copied_all layout samples tints first long h = sym (take_all (layout.height * layout.width) tints (omega (arith, long))) ∙ h
 
 -- a row of tints
 pub tint_row : (layout : Layout) (tints : List ℕ) (y : ℕ) → y < layout.height → length tints ≡ size layout → length (slice_range tints (y * layout.width) (y * layout.width + layout.width)) ≡ layout.width

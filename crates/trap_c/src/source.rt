@@ -1,7 +1,7 @@
-ghost use Rattle.std.specs.Prelude.{◌≡◌, ◌≤◌, ◌*◌, ◌+◌, ◌++◌, IfOk, IsTrue, length, take, drop};
+ghost use Rattle.std.specs.Prelude.{◌≡◌, ◌≤◌, ◌*◌, ◌+◌, ◌++◌, [], IfOk, IsTrue, OnOk, length};
 ghost use Rattle.trap_c.specs.Copies.{IsCopied};
 ghost use Rattle.trap_c.specs.Fit.{AreFit, IsLayout};
-ghost use Rattle.trap_c.specs.Planes.{row_in, size, tints_in};
+ghost use Rattle.trap_c.specs.Planes.{row_in, tints_in};
 ghost use Rattle.trap_c.specs.Sources.{numbers};
 
 use crate::fit::are_fit;
@@ -42,42 +42,61 @@ impl Source<'_> {
             ≤ length (numbers self.now) }
         ensures { IfOk result (IsCopied layout (numbers self.now) c) }
     {
-        let count = layout.width as usize * layout.height as usize;
-        let mut tints = filled(alloc, 0u16, count)?;
-        let are_fit = self.fill(layout, c, tints.as_mut_slice());
+        let mut row = filled(alloc, 0u16, layout.width as usize)?;
+        let Ok(mut tints) = Vec::with_capacity(alloc, row.len() * layout.height as usize) else {
+            return Err(OutOfMemory);
+        };
+        let are_fit = self.fill(layout, c, row.as_mut_slice(), &mut tints)?;
         Ok(Copied { tints, are_fit })
     }
 
-    // Copies the tints of plane c. Each row is looked at while it is at hand.
-    fn fill(&self, layout: Layout, c: u32, tints: &mut [u16]) -> bool
+    // Copies the tints of plane c, row by row. Each row is looked at while it is at hand.
+    fn fill(
+        &self,
+        layout: Layout,
+        c: u32,
+        row: &mut [u16],
+        tints: &mut Vec<u16>,
+    ) -> Result<bool, OutOfMemory>
         requires layout { IsLayout layout }
         requires inside { (c * layout.height + layout.height) * layout.step
             ≤ length (numbers self.now) }
-        requires full { length tints.old ≡ size layout }
-        ensures tints { tints.new ≡ tints_in layout (numbers self.now) c }
-        ensures fit { IsTrue result → AreFit layout.maxval (tints_in layout (numbers self.now) c) }
+        requires row { length row.old ≡ layout.width }
+        requires none { tints.old.items ≡ [] }
+        ensures tints { OnOk result (tints.new.items ≡ tints_in layout (numbers self.now) c) }
+        ensures fit { IfOk result (λ fit. IsTrue fit
+            → AreFit layout.maxval (tints_in layout (numbers self.now) c)) }
     {
-        let width = layout.width as usize;
         let first = c as usize * layout.height as usize;
         let mut are_fit = true;
         for y in 0..layout.height as usize {
-            let is_fit = self.copy_row(layout, first + y, y * width, tints);
+            let is_fit = self.add_row(layout, first + y, row, tints)?;
             are_fit = are_fit & is_fit;
         }
-        are_fit
+        Ok(are_fit)
     }
 
-    // Copies row r into the tints, from one on, and tells whether they are at most the maxval.
-    fn copy_row(&self, layout: Layout, r: usize, from: usize, tints: &mut [u16]) -> bool
-        requires row { r * layout.step + layout.width ≤ length (numbers self.now) }
-        requires place { from + layout.width ≤ length tints.old }
-        ensures tints { let row = row_in layout (numbers self.now) r in
-            tints.new ≡ take from tints.old ++ (row ++ drop (from + layout.width) tints.old) }
-        ensures fit { IsTrue result → AreFit layout.maxval (row_in layout (numbers self.now) r) }
+    // Adds row r to the tints, by way of one row of memory, and tells whether it is at most the maxval.
+    fn add_row(
+        &self,
+        layout: Layout,
+        r: usize,
+        row: &mut [u16],
+        tints: &mut Vec<u16>,
+    ) -> Result<bool, OutOfMemory>
+        requires inside { r * layout.step + layout.width ≤ length (numbers self.now) }
+        requires row { length row.old ≡ layout.width }
+        ensures row { length row.new ≡ layout.width }
+        ensures tints { OnOk result
+            (tints.new.items ≡ tints.old.items ++ row_in layout (numbers self.now) r) }
+        ensures fit { IfOk result (λ fit. IsTrue fit
+            → AreFit layout.maxval (row_in layout (numbers self.now) r)) }
     {
-        let into = &mut tints[from..from + layout.width as usize];
-        self.put_row(layout, r, into);
-        are_fit(into, layout.maxval)
+        self.put_row(layout, r, row);
+        match tints.extend_from_slice(row) {
+            Ok(()) => Ok(are_fit(row, layout.maxval)),
+            Err(_) => Err(OutOfMemory),
+        }
     }
 
     fn put_row(&self, layout: Layout, r: usize, into: &mut [u16])

@@ -1,5 +1,5 @@
 -- What holds each time round the loop of fill.
-use Rattle.std.proofs.Common.{◌≡◌, ◌*◌, take}
+use Rattle.std.proofs.Common.{◌≡◌, ◌*◌, length}
 use Rattle.std.specs.Prelude.{IsTrue}
 use Rattle.trap_c.specs.Fit.{AreFit}
 use Rattle.trap_c.specs.Planes.{rows_in}
@@ -8,6 +8,7 @@ use Rattle.trap_c.proofs.source.Source.fill.Given as goal
 
 abbrev pub invariant-loop-y : goal.invariant-loop-y
 invariant-loop-y l = record {
-  tints : take (l.y * l.layout.width) l.tints ≡ rows_in l.layout (numbers l.self) (l.fn.c * l.layout.height) l.y;
+  row : length l.row ≡ l.layout.width;
+  tints : l.tints.items ≡ rows_in l.layout (numbers l.self) (l.fn.c * l.layout.height) l.y;
   fit : IsTrue l.are_fit → AreFit l.layout.maxval (rows_in l.layout (numbers l.self) (l.fn.c * l.layout.height) l.y);
 }
