@@ -1,5 +1,5 @@
 -- The plates' files, looked at behind the last page one after another.
-use Rattle.std.proofs.Common.{◌≡◌, ℕ, ◌<◌, ◌+◌, List, [], ◌∷◌, length, take, Option, Some, None, Result, Ok, Err, IsTrue, refl, ◌∙◌, subst, arith, below_more}
+use Rattle.std.proofs.Common.{◌≡◌, ℕ, ◌<◌, ◌+◌, List, [], ◌∷◌, length, take, Option, Some, None, Result, Ok, Err, IsTrue, inl, inr, refl, ◌∙◌, subst, arith, below_more}
 use Rattle.std.proofs.lemmas.List.{take_all}
 use Rattle.outside.specs.Causes.{Asks}
 use Rattle.outside.specs.Tray.{TrayState, KeepsTray}
@@ -11,21 +11,23 @@ use Rattle.pgm_plates.specs.declared.plate.Plate.{Plate as PlateRead}
 use Rattle.pgm_plates.specs.declared.plate.PlateFault.{PlateFault}
 use Rattle.pgm_plates.specs.declared.plate.PlateRefusal.TheVariants.{Fault, ReadFault}
 use Rattle.pgm_plates.specs.Sequences.{ReadsPage}
+use Rattle.run_reading.specs.InHand.{MayHold, TakesImage}
 use Rattle.run_reading.specs.Reading.{AnswersBehind, AnswersLook, LookStops, LooksAtOne, LooksBehind}
 use Rattle.run_reading.specs.Reading.{AnswersBehind as all, AnswersLook as one}
-use Rattle.run_reading.proofs.ImageLemmas.{asked_more, count_then, fault_count, has_fault, has_image, has_none, unbroken, unbroken_before}
+use Rattle.run_reading.proofs.ImageLemmas.{asked_more, count_then, fault_count, has_fault, has_image, has_none, held_from, takes_image, unbroken, unbroken_before}
 use Rattle.traprun_verdicts.specs.declared.stop.RunStop.{RunStop}
 use Rattle.traprun_verdicts.specs.declared.stop.RunStop.TheVariants.{Whole, Extra}
 use Rattle.traprun_verdicts.specs.Images.{HasImage, HasImageFault, HasNoImage}
 use Rattle.trap_report.specs.declared.refusal.Refusal.TheVariants.{Plate, Read, Memory}
 
 pub look_ended : (k plate : ℕ) (name : List ℕ) (a b : TrayState) → ReadsPage name k a b (Ok None) → LooksAtOne k plate name a b (Ok tt)
-look_ended k plate name a b reads = record { keeps = reads.keeps; asked = reads.asked; answer = one.ended refl reads.count (has_none name k a b reads) }
+look_ended k plate name a b reads = record { keeps = reads.keeps; asked = reads.asked; takes = takes_image name k a b _ reads; answer = one.ended refl reads.count (has_none name k a b reads) }
 
 pub look_extra : (k plate : ℕ) (name : List ℕ) (a b : TrayState) (image : PlateRead) → ReadsPage name k a b (Ok (Some image)) → LooksAtOne k plate name a b (Err (Extra plate))
 look_extra k plate name a b image reads = record {
   keeps = reads.keeps;
   asked = reads.asked;
+  takes = takes_image name k a b _ reads;
   answer = one.extra refl reads.count (λ tells. let there = has_image name k a b image reads tells in (there.0, there.1, (image, there.2)));
 }
 
@@ -33,15 +35,17 @@ pub look_fails : (k plate : ℕ) (name : List ℕ) (a b : TrayState) (fault : Pl
 look_fails k plate name a b fault reads = record {
   keeps = reads.keeps;
   asked = reads.asked;
+  takes = takes_image name k a b _ reads;
   answer = one.fails fault refl (fault_count (Option PlateRead) a b fault reads.count) (has_fault name k a b fault reads);
 }
 
 pub look_unread : (k plate : ℕ) (name : List ℕ) (a b : TrayState) → ReadsPage name k a b (Err ReadFault) → LooksAtOne k plate name a b (Err (Whole (Read (Some plate))))
-look_unread k plate name a b reads = record { keeps = reads.keeps; asked = reads.asked; answer = one.unread refl reads.answer.0 (unbroken name k a b reads) }
+look_unread k plate name a b reads = record { keeps = reads.keeps; asked = reads.asked; takes = takes_image name k a b _ reads; answer = one.unread refl reads.answer.0 (unbroken name k a b reads) }
 
 -- what stands after some files were looked at
 pub record Looked (pages : ℕ) (names : List (List ℕ)) (k : ℕ) (a b : TrayState) : Type 0 where
   pub keeps : KeepsTray a b
+  pub in_hand : MayHold names pages a b
   pub asked : Asks a.asked b.asked (take k names)
   pub calm : b.faults ≡ a.faults
   pub ended : IsTrue a.tells → (p : ℕ) → p < k → Holds a.file (name_at names p) (HasNoImage pages)
@@ -49,26 +53,31 @@ pub record Looked (pages : ℕ) (names : List (List ℕ)) (k : ℕ) (a b : TrayS
 pub none_looked : (pages : ℕ) (names : List (List ℕ)) (a : TrayState) → Looked pages names 0 a a
 none_looked pages names a = record {
   keeps = record { tells = refl; file = refl; faults = omega arith };
+  in_hand = inl refl;
   asked = asks_none a.asked;
   calm = refl;
   ended = λ tells p within. absurd (omega arith);
 }
 
 module _ (pages : ℕ) (names : List (List ℕ)) (k : ℕ) (a b c : TrayState) (within : k < length names) (looked : Looked pages names k a b) where
-  more_by : Asks b.asked c.asked (name_at names k ∷ []) → KeepsTray b c → AnswersLook pages k (name_at names k) b c (Ok tt) → Looked pages names (k + 1) a c
-  more_by asked keeps (one.ended is calm held) = record {
+  in_hand_by : TakesImage pages (name_at names k) b c → MayHold names pages a c
+  in_hand_by takes = inr (held_from pages names k a b c within looked.keeps takes)
+
+  more_by : Asks b.asked c.asked (name_at names k ∷ []) → KeepsTray b c → TakesImage pages (name_at names k) b c → AnswersLook pages k (name_at names k) b c (Ok tt) → Looked pages names (k + 1) a c
+  more_by asked keeps takes (one.ended is calm held) = record {
     keeps = kept_tray a b c looked.keeps keeps;
+    in_hand = in_hand_by takes;
     asked = asked_more names k a b c within looked.asked asked;
     calm = calm ∙ looked.calm;
     ended = λ tells. below_more (λ (p : ℕ). Holds a.file (name_at names p) (HasNoImage pages)) k (looked.ended tells) (held_before a b (name_at names k) (HasNoImage pages) looked.keeps held tells);
   }
-  more_by asked keeps (one.extra is calm held) = absurd (let e : ◌≡◌ {A = Result (Unit {0}) RunStop} (Ok tt) (Err (Extra k)) = is in cc)
-  more_by asked keeps (one.fails fault is count held) = absurd (let e : ◌≡◌ {A = Result (Unit {0}) RunStop} (Ok tt) (Err (Whole (Plate k fault))) = is in cc)
-  more_by asked keeps (one.unread is rose held) = absurd (let e : ◌≡◌ {A = Result (Unit {0}) RunStop} (Ok tt) (Err (Whole (Read (Some k)))) = is in cc)
-  more_by asked keeps (one.no_memory is calm) = absurd (let e : ◌≡◌ {A = Result (Unit {0}) RunStop} (Ok tt) (Err (Whole Memory)) = is in cc)
+  more_by asked keeps takes (one.extra is calm held) = absurd (let e : ◌≡◌ {A = Result (Unit {0}) RunStop} (Ok tt) (Err (Extra k)) = is in cc)
+  more_by asked keeps takes (one.fails fault is count held) = absurd (let e : ◌≡◌ {A = Result (Unit {0}) RunStop} (Ok tt) (Err (Whole (Plate k fault))) = is in cc)
+  more_by asked keeps takes (one.unread is rose held) = absurd (let e : ◌≡◌ {A = Result (Unit {0}) RunStop} (Ok tt) (Err (Whole (Read (Some k)))) = is in cc)
+  more_by asked keeps takes (one.no_memory is calm) = absurd (let e : ◌≡◌ {A = Result (Unit {0}) RunStop} (Ok tt) (Err (Whole Memory)) = is in cc)
 
   pub more_looked : LooksAtOne pages k (name_at names k) b c (Ok tt) → Looked pages names (k + 1) a c
-  more_looked looks = more_by looks.asked looks.keeps looks.answer
+  more_looked looks = more_by looks.asked looks.keeps looks.takes looks.answer
 
   stops : Asks b.asked c.asked (name_at names k ∷ []) → LookStops pages names k a c
   stops asked = record { known = within; asked = asked_more names k a b c within looked.asked asked; ended = looked.ended }
@@ -81,7 +90,7 @@ module _ (pages : ℕ) (names : List (List ℕ)) (k : ℕ) (a b c : TrayState) (
   stopped_by stop asked (one.no_memory is calm) = all.no_memory is (calm ∙ looked.calm) (asks_front a.asked c.asked (k + 1) names (asked_more names k a b c within looked.asked asked))
 
   pub look_stopped : (stop : RunStop) → LooksAtOne pages k (name_at names k) b c (Err stop) → LooksBehind pages names a c (Err stop)
-  look_stopped stop looks = record { keeps = kept_tray a b c looked.keeps looks.keeps; answer = stopped_by stop looks.asked looks.answer }
+  look_stopped stop looks = record { keeps = kept_tray a b c looked.keeps looks.keeps; in_hand = in_hand_by looks.takes; answer = stopped_by stop looks.asked looks.answer }
 
 -- all of them end
 pub all_ended : (pages : ℕ) (names : List (List ℕ)) (k : ℕ) (a b : TrayState) → k ≡ length names → Looked pages names k a b → LooksBehind pages names a b (Ok tt)
@@ -89,5 +98,6 @@ all_ended pages names k a b every looked =
     let done : Looked pages names (length names) a b = subst (λ (n : ℕ). Looked pages names n a b) every looked in
     record {
       keeps = done.keeps;
+      in_hand = done.in_hand;
       answer = all.ended refl done.calm (subst (λ (l : List (List ℕ)). Asks a.asked b.asked l) (take_all (length names) names (omega arith)) done.asked) done.ended;
     }

@@ -31,7 +31,15 @@ module _ (run : Held) (a b : TrayState) (is : IsHeld run) where
   held_by : ReadsRunJob run.order.now.job.now a b (Ok run.job) → AnswersRunJob run.order.now.job.now a b (Ok run.job) → HoldsRun run.order.now a b (Ok run)
   held_by reads (answers.read bytes count same has calm found) =
       let one : bytes ≡ run.job = (let e : ◌≡◌ {A = Result (List ℕ) RunStop} (Ok run.job) (Ok bytes) = same in cc) in
-      HoldsRun.held run count refl is refl (subst (λ (x : List ℕ). pages_of x ≡ Ok count) one has) reads.keeps calm reads.asked (λ tells. found tells ∙ ap (λ (x : List ℕ). Some x) one)
+      HoldsRun.held run refl is refl (record {
+        count = count;
+        has = subst (λ (x : List ℕ). pages_of x ≡ Ok count) one has;
+        keeps = reads.keeps;
+        calm = calm;
+        asked = reads.asked;
+        few = reads.few;
+        known = λ tells. found tells ∙ ap (λ (x : List ℕ). Some x) one;
+      })
   held_by reads (answers.refused fault same calm held) = absurd (let e : ◌≡◌ {A = Result (List ℕ) RunStop} (Ok run.job) (Err (Whole (Job fault))) = same in cc)
   held_by reads (answers.too_many at same calm held) = absurd (let e : ◌≡◌ {A = Result (List ℕ) RunStop} (Ok run.job) (Err (TooManyPages at)) = same in cc)
   held_by reads (answers.unread same rose) = absurd (let e : ◌≡◌ {A = Result (List ℕ) RunStop} (Ok run.job) (Err (Whole (Read None))) = same in cc)

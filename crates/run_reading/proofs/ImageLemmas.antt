@@ -11,11 +11,13 @@ use Rattle.page_gather.proofs.PlateLemmas.{held_before, read_more}
 use Rattle.pgm_plates.specs.declared.plate.Plate.{Plate as PlateRead}
 use Rattle.pgm_plates.specs.declared.plate.PlateFault.{PlateFault}
 use Rattle.pgm_plates.specs.declared.plate.PlateFault.TheVariants.{BadMagic, BadHeader, SideRange, TooManySamples, MaxvalRange, SampleAboveMaxval, Truncated, TrailingBytes}
+use Rattle.pgm_plates.specs.declared.plate.PlateRefusal.{PlateRefusal}
 use Rattle.pgm_plates.specs.declared.plate.PlateRefusal.TheVariants.{Fault, ReadFault}
 use Rattle.pgm_plates.specs.Plates.{IsPlate}
 use Rattle.pgm_plates.specs.Reading.{KeepsCount}
 use Rattle.pgm_plates.specs.Sequences.{IsSequence, ReadsPage, StandsBehind}
 use Rattle.pgm_plates.proofs.Facts.{fault_stays}
+use Rattle.run_reading.specs.InHand.{MayHold, PlateInHand, TakesImage}
 use Rattle.run_reading.specs.Reading.{AnswersImages, AnswersOneImage, IsUnbroken, ReadsImages, ReadsOneImage, StopsAt}
 use Rattle.run_reading.specs.Reading.{AnswersImages as all, AnswersOneImage as one}
 use Rattle.traprun_verdicts.specs.declared.stop.RunStop.{RunStop}
@@ -116,29 +118,46 @@ unbroken_before k a b c name keeps here begun tells =
     let there = here begun (keeps.tells ∙ tells) in
     (there.0, there.1, ap (λ (files : List ℕ → Option (List ℕ)). files name) (sym keeps.file) ∙ there.2, there.3, there.4)
 
+-- what was taken of the file
+pub takes_image : (name : List ℕ) (k : ℕ) (a b : TrayState) (result : Result (Option PlateRead) PlateRefusal) → ReadsPage name k a b result → TakesImage k name a b
+takes_image name k a b result reads = record { bytes = reads.bytes; taken = reads.taken }
+
+-- a plate that is in hand, seen from a tray before
+pub held_from : (page : ℕ) (names : List (List ℕ)) (k : ℕ) (a b c : TrayState) → k < length names → KeepsTray a b → TakesImage page (name_at names k) b c → PlateInHand names page a c
+held_from page names k a b c within keeps takes = record {
+  plate = k;
+  known = within;
+  page = page;
+  within = omega arith;
+  takes = record { bytes = takes.bytes; taken = λ begun tells. ap (λ (files : List ℕ → Option (List ℕ)). files (name_at names k)) (sym keeps.file) ∙ takes.taken begun (keeps.tells ∙ tells) };
+}
+
 pub image_read : (k plate : ℕ) (name : List ℕ) (a b : TrayState) (image : PlateRead) → ReadsPage name k a b (Ok (Some image)) → ReadsOneImage k plate name a b (Ok image)
 image_read k plate name a b image reads = record {
   keeps = reads.keeps;
   asked = reads.asked;
+  takes = takes_image name k a b _ reads;
   answer = one.read image refl (is_plate name k a b image reads) reads.count (has_image name k a b image reads);
 }
 
 pub image_ends : (k plate : ℕ) (name : List ℕ) (a b : TrayState) → ReadsPage name k a b (Ok None) → ReadsOneImage k plate name a b (Err (Ends k plate))
-image_ends k plate name a b reads = record { keeps = reads.keeps; asked = reads.asked; answer = one.ends refl reads.count (has_none name k a b reads) }
+image_ends k plate name a b reads = record { keeps = reads.keeps; asked = reads.asked; takes = takes_image name k a b _ reads; answer = one.ends refl reads.count (has_none name k a b reads) }
 
 pub image_fails : (k plate : ℕ) (name : List ℕ) (a b : TrayState) (fault : PlateFault) → ReadsPage name k a b (Err (Fault fault)) → ReadsOneImage k plate name a b (Err (AtPage k (Plate plate fault)))
 image_fails k plate name a b fault reads = record {
   keeps = reads.keeps;
   asked = reads.asked;
+  takes = takes_image name k a b _ reads;
   answer = one.fails fault refl (fault_count (Option PlateRead) a b fault reads.count) (has_fault name k a b fault reads);
 }
 
 pub image_unread : (k plate : ℕ) (name : List ℕ) (a b : TrayState) → ReadsPage name k a b (Err ReadFault) → ReadsOneImage k plate name a b (Err (AtPage k (Read (Some plate))))
-image_unread k plate name a b reads = record { keeps = reads.keeps; asked = reads.asked; answer = one.unread refl reads.answer.0 (unbroken name k a b reads) }
+image_unread k plate name a b reads = record { keeps = reads.keeps; asked = reads.asked; takes = takes_image name k a b _ reads; answer = one.unread refl reads.answer.0 (unbroken name k a b reads) }
 
 -- what stands after some images of a page were read
 pub record SoFar (page : ℕ) (names : List (List ℕ)) (k : ℕ) (a b : TrayState) (plates : List PlateRead) : Type 0 where
   pub keeps : KeepsTray a b
+  pub in_hand : MayHold names page a b
   pub asked : Asks a.asked b.asked (take k names)
   pub count : length plates ≡ k
   pub in_range : All IsPlate plates
@@ -148,6 +167,7 @@ pub record SoFar (page : ℕ) (names : List (List ℕ)) (k : ℕ) (a b : TraySta
 pub none_so_far : (page : ℕ) (names : List (List ℕ)) (a : TrayState) → SoFar page names 0 a a []
 none_so_far page names a = record {
   keeps = record { tells = refl; file = refl; faults = omega arith };
+  in_hand = inl refl;
   asked = asks_none a.asked;
   count = refl;
   in_range = λ k d within. absurd (omega arith);
@@ -170,24 +190,28 @@ err_same : {T U : Type 0} → (s t : RunStop) → ◌≡◌ {A = Result T RunSto
 err_same s t e = let same : s ≡ t = cc in ap (λ (x : RunStop). Err x) same
 
 module _ (page : ℕ) (names : List (List ℕ)) (k : ℕ) (a b c : TrayState) (plates : List PlateRead) (within : k < length names) (so_far : SoFar page names k a b plates) where
-  more_by : (plate : PlateRead) → Asks b.asked c.asked (name_at names k ∷ []) → KeepsTray b c → AnswersOneImage page k (name_at names k) b c (Ok plate) → SoFar page names (k + 1) a c (plates ++ plate ∷ [])
-  more_by plate asked keeps (one.read image is ok calm held) =
+  in_hand_by : TakesImage page (name_at names k) b c → MayHold names page a c
+  in_hand_by takes = inr (held_from page names k a b c within so_far.keeps takes)
+
+  more_by : (plate : PlateRead) → Asks b.asked c.asked (name_at names k ∷ []) → KeepsTray b c → TakesImage page (name_at names k) b c → AnswersOneImage page k (name_at names k) b c (Ok plate) → SoFar page names (k + 1) a c (plates ++ plate ∷ [])
+  more_by plate asked keeps takes (one.read image is ok calm held) =
       let same : image ≡ plate = (let e : ◌≡◌ {A = Result PlateRead RunStop} (Ok plate) (Ok image) = is in cc) in
       record {
         keeps = kept_tray a b c so_far.keeps keeps;
+        in_hand = in_hand_by takes;
         asked = asked_more names k a b c within so_far.asked asked;
         count = length-append plates (plate ∷ []) ∙ ap (λ (n : ℕ). n + 1) so_far.count;
         in_range = All-append IsPlate plates (plate ∷ []) so_far.in_range (All-cons IsPlate plate [] (subst IsPlate same ok) (λ j d none. absurd (omega arith)));
         calm = calm ∙ so_far.calm;
         read = λ tells. read_more (page_spelling page) a.file names k plates plate (so_far.read tells) (held_before a b (name_at names k) (λ bytes. HasImage page bytes plate) so_far.keeps (λ there. subst (λ (p : PlateRead). Holds b.file (name_at names k) (λ bytes. HasImage page bytes p)) same (held there)) tells);
       }
-  more_by plate asked keeps (one.ends is calm held) = absurd (let e : ◌≡◌ {A = Result PlateRead RunStop} (Ok plate) (Err (Ends page k)) = is in cc)
-  more_by plate asked keeps (one.fails fault is count held) = absurd (let e : ◌≡◌ {A = Result PlateRead RunStop} (Ok plate) (Err (AtPage page (Plate k fault))) = is in cc)
-  more_by plate asked keeps (one.unread is rose held) = absurd (let e : ◌≡◌ {A = Result PlateRead RunStop} (Ok plate) (Err (AtPage page (Read (Some k)))) = is in cc)
-  more_by plate asked keeps (one.no_memory is calm) = absurd (let e : ◌≡◌ {A = Result PlateRead RunStop} (Ok plate) (Err (Whole Memory)) = is in cc)
+  more_by plate asked keeps takes (one.ends is calm held) = absurd (let e : ◌≡◌ {A = Result PlateRead RunStop} (Ok plate) (Err (Ends page k)) = is in cc)
+  more_by plate asked keeps takes (one.fails fault is count held) = absurd (let e : ◌≡◌ {A = Result PlateRead RunStop} (Ok plate) (Err (AtPage page (Plate k fault))) = is in cc)
+  more_by plate asked keeps takes (one.unread is rose held) = absurd (let e : ◌≡◌ {A = Result PlateRead RunStop} (Ok plate) (Err (AtPage page (Read (Some k)))) = is in cc)
+  more_by plate asked keeps takes (one.no_memory is calm) = absurd (let e : ◌≡◌ {A = Result PlateRead RunStop} (Ok plate) (Err (Whole Memory)) = is in cc)
 
   pub more_so_far : (plate : PlateRead) → ReadsOneImage page k (name_at names k) b c (Ok plate) → SoFar page names (k + 1) a c (plates ++ plate ∷ [])
-  more_so_far plate reads = more_by plate reads.asked reads.keeps reads.answer
+  more_so_far plate reads = more_by plate reads.asked reads.keeps reads.takes reads.answer
 
   stops : Asks b.asked c.asked (name_at names k ∷ []) → StopsAt page names k a c
   stops asked = record { known = within; asked = asked_more names k a b c within so_far.asked asked; plates = plates; before_it = so_far.read }
@@ -200,12 +224,12 @@ module _ (page : ℕ) (names : List (List ℕ)) (k : ℕ) (a b c : TrayState) (p
   stopped_by stop asked keeps (one.no_memory is calm) = all.no_memory (err_same stop (Whole Memory) is) (calm ∙ so_far.calm) (asks_front a.asked c.asked (k + 1) names (asked_more names k a b c within so_far.asked asked))
 
   pub images_stopped : (stop : RunStop) → ReadsOneImage page k (name_at names k) b c (Err stop) → ReadsImages page names a c (Err stop)
-  images_stopped stop reads = record { keeps = kept_tray a b c so_far.keeps reads.keeps; answer = stopped_by stop reads.asked reads.keeps reads.answer }
+  images_stopped stop reads = record { keeps = kept_tray a b c so_far.keeps reads.keeps; in_hand = in_hand_by reads.takes; answer = stopped_by stop reads.asked reads.keeps reads.answer }
 
   pub no_room : (plate : PlateRead) → ReadsOneImage page k (name_at names k) b c (Ok plate) → ReadsImages page names a c (Err (Whole Memory))
   no_room plate reads =
       let more = more_so_far plate reads in
-      record { keeps = more.keeps; answer = all.no_memory refl more.calm (asks_front a.asked c.asked (k + 1) names more.asked) }
+      record { keeps = more.keeps; in_hand = more.in_hand; answer = all.no_memory refl more.calm (asks_front a.asked c.asked (k + 1) names more.asked) }
 
 -- all of them are read
 pub all_read : (page : ℕ) (names : List (List ℕ)) (k : ℕ) (a b : TrayState) (plates : List PlateRead) → k ≡ length names → SoFar page names k a b plates → ReadsImages page names a b (Ok plates)
@@ -213,5 +237,6 @@ all_read page names k a b plates every so_far =
     let done : SoFar page names (length names) a b plates = subst (λ (n : ℕ). SoFar page names n a b plates) every so_far in
     record {
       keeps = done.keeps;
+      in_hand = done.in_hand;
       answer = all.read plates refl done.count done.in_range done.calm (subst (λ (l : List (List ℕ)). Asks a.asked b.asked l) (take_all (length names) names (omega arith)) done.asked) done.read;
     }

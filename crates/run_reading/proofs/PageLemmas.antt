@@ -61,18 +61,20 @@ plates_made (Some plate) parts page is = absurd (cc)
 module _ (source : Sources) (bytes : List ℕ) (k : ℕ) (a b : TrayState) where
   -- the job of page k is refused, before a plate is read
   job_refused : (fault : JobFault) → page_job_of bytes k ≡ Err fault → GathersPage source bytes k a a (Err (AtPage k (Job fault)))
-  job_refused fault is = (
-    record { tells = refl; file = refl; faults = omega arith },
-    tt,
-    λ known. stops.refused (Job fault) refl (inl refl) refl (asks_none a.asked) (λ tells target. (bytes, known tells, is)),
-  )
+  job_refused fault is = record {
+    keeps = record { tells = refl; file = refl; faults = omega arith };
+    in_hand = inl refl;
+    count = tt;
+    answer = λ known. stops.refused (Job fault) refl (inl refl) refl (asks_none a.asked) (λ tells target. (bytes, known tells, is));
+  }
 
   no_job_memory : GathersPage source bytes k a a (Err (Whole Memory))
-  no_job_memory = (
-    record { tells = refl; file = refl; faults = omega arith },
-    tt,
-    λ known. stops.no_memory refl refl (asks_none_of a.asked source.inputs),
-  )
+  no_job_memory = record {
+    keeps = record { tells = refl; file = refl; faults = omega arith };
+    in_hand = inl refl;
+    count = tt;
+    answer = λ known. stops.no_memory refl refl (asks_none_of a.asked source.inputs);
+  }
 
   -- the job of page k is not read
   pub job_stopped : (refusal : JobRefusals) → Gives {X = JobRead} (Err refusal) (page_job_of bytes k) → GathersPage source bytes k a a (Err (job_stop k refusal))
@@ -98,7 +100,7 @@ module _ (source : Sources) (bytes : List ℕ) (k : ℕ) (a b : TrayState) where
 
     -- an image is refused
     pub images_refused : (stop : RunStop) → ReadsImages k source.inputs a b (Err stop) → GathersPage source bytes k a b (Err stop)
-    images_refused stop reads = (reads.keeps, tt, λ known. stopped_by stop known reads.answer)
+    images_refused stop reads = record { keeps = reads.keeps; in_hand = reads.in_hand; count = tt; answer = λ known. stopped_by stop known reads.answer }
 
     -- the images that were read
     record AllRead (read : List PlateRead) : Type 0 where
@@ -124,7 +126,7 @@ module _ (source : Sources) (bytes : List ℕ) (k : ℕ) (a b : TrayState) where
     page_made read page reads is =
         let every = all_read read reads.answer in
         let count : plates page ≡ length source.inputs = plates_made (without_details job source.names) (assembled job read source.names) page is ∙ length-map read plane_of ∙ every.count in
-        (reads.keeps, count, λ known. record { count = count; calm = every.calm; asked = every.asked; makes = makes read (Ok page) known every is })
+        record { keeps = reads.keeps; in_hand = reads.in_hand; count = count; answer = λ known. record { count = count; calm = every.calm; asked = every.asked; makes = makes read (Ok page) known every is } }
 
     refused_by : (read : List PlateRead) (refusal : Refusal) → IsJobOf source bytes a → AllRead read → NoneOther (Err refusal) → assembly job read source.names ≡ Err refusal → StopsPage source k a b (stop_at k refusal)
     refused_by read (NoDetails plate) known every other is = stops.refused (NoDetails plate) refl (inl refl) every.calm every.asked (λ tells target. makes read (Err (NoDetails plate)) known every is tells)
@@ -140,10 +142,10 @@ module _ (source : Sources) (bytes : List ℕ) (k : ℕ) (a b : TrayState) where
     pub page_refused : (read : List PlateRead) (refusal : Refusal) (stop : RunStop) → stop ≡ stop_at k refusal → ReadsImages k source.inputs a b (Ok read) → (refusal ≡ Memory) ⊎ (assembly job read source.names ≡ Err refusal) → GathersPage source bytes k a b (Err stop)
     page_refused read refusal stop same reads (inl memory) =
         let every = all_read read reads.answer in
-        (reads.keeps, tt, λ known. stops.no_memory (same ∙ ap (stop_at k) memory) every.calm (asks_all a.asked b.asked source.inputs every.asked))
+        record { keeps = reads.keeps; in_hand = reads.in_hand; count = tt; answer = λ known. stops.no_memory (same ∙ ap (stop_at k) memory) every.calm (asks_all a.asked b.asked source.inputs every.asked) }
     page_refused read refusal stop same reads (inr is) =
         let every = all_read read reads.answer in
-        (reads.keeps, tt, λ known. subst (λ (s : RunStop). StopsPage source k a b s) (sym same) (refused_by read refusal known every (none_other (without_details job source.names) (assembled job read source.names) refusal is) is))
+        record { keeps = reads.keeps; in_hand = reads.in_hand; count = tt; answer = λ known. subst (λ (s : RunStop). StopsPage source k a b s) (sym same) (refused_by read refusal known every (none_other (without_details job source.names) (assembled job read source.names) refusal is) is) }
 
 can_by : (k : ℕ) (inputs names : List (List ℕ)) (a b : TrayState) (read : List PlateRead) → 1 ≤ length inputs → length inputs ≤ 16 → length names ≡ length inputs → AnswersImages k inputs a b (Ok read) → CanAssemble read names
 can_by k inputs names a b read some few named (all.read ps is count ok calm asked held) =

@@ -3,21 +3,23 @@ use Rattle.std.specs.Prelude.{◌≡◌, ◌⊎◌, ℕ, ◌+◌, IsTrue, List, 
 use Rattle.outside.specs.Causes.{Rose, Asks, AsksFront}
 use Rattle.outside.specs.Tray.{TrayState, KeepsTray}
 use Rattle.page_gather.specs.Inputs.{Sources, Holds, AreRead, Makes, name_at}
-use Rattle.page_gather.specs.Steps.{PassesNoFault}
+use Rattle.page_gather.specs.Steps.{PassesNoFault, TakesJob}
 use Rattle.job_reader.specs.declared.job.Job.{Job as JobRead}
 use Rattle.page_model.specs.declared.parts.PageParts.{PageParts}
 use Rattle.page_model.specs.Page.{plates}
 use Rattle.pgm_plates.specs.declared.plate.Plate.{Plate as PlateRead}
 use Rattle.ps_tokens.specs.declared.faults.JobRefusal.{JobRefusal as JobRefusals}
 use Rattle.ps_tokens.specs.declared.faults.JobRefusal.TheVariants.{Fault, OutOfMemory}
-use Rattle.run_reading.specs.Held.{IsHeld}
+use Rattle.run_reading.specs.Held.{IsHeld, order_in}
+use Rattle.run_reading.specs.InHand.{MayHold}
 use Rattle.run_reading.specs.Reading.{IsUnbroken, ReadsRunJob}
+use Rattle.run_reading.specs.Words.{sources_of}
 use Rattle.run_reading.specs.declared.gather.Held.{Held}
 use Rattle.run_reading.specs.declared.words.RunOrder.{RunOrder}
 use Rattle.traprun_verdicts.specs.declared.stop.RunStop.{RunStop}
 use Rattle.traprun_verdicts.specs.declared.stop.RunStop.TheVariants.{Whole, AtPage, Ends}
 use Rattle.traprun_verdicts.specs.Images.{page_spelling}
-use Rattle.traprun_verdicts.specs.Pages.{pages_of}
+use Rattle.traprun_verdicts.specs.Pages.{pages_of, run_reads}
 use Rattle.traprun_verdicts.specs.RunVerdicts.{PlateEnds}
 use Rattle.trap_report.specs.declared.refusal.Refusal.{Refusal}
 use Rattle.trap_report.specs.declared.refusal.Refusal.TheVariants.{Job, Plate, Read, Memory}
@@ -68,11 +70,24 @@ AnswersGather source k before after (Ok page) = IsPageMade source k before after
 AnswersGather source k before after (Err stop) = StopsPage source k before after stop
 
 -- Page k is read, with a plane for each plate; where the job's file has these bytes, it is the page that they and the plates' files make.
-abbrev pub GathersPage : Sources → List ℕ → ℕ → TrayState → TrayState → Result PageParts RunStop → Type 0
-GathersPage source bytes k before after result = KeepsTray before after × IfOk result (λ page. plates page ≡ length source.inputs) × (IsJobOf source bytes before → AnswersGather source k before after result)
+pub record GathersPage (source : Sources) (bytes : List ℕ) (k : ℕ) (before after : TrayState) (result : Result PageParts RunStop) : Type 0 where
+  pub keeps : KeepsTray before after
+  pub in_hand : MayHold source.inputs k before after
+  pub count : IfOk result (λ page. plates page ≡ length source.inputs)
+  pub answer : IsJobOf source bytes before → AnswersGather source k before after result
+
+-- The job of a run was read and has pages, seen from the tray as it was before.
+pub record JobOpened (source : Sources) (bytes : List ℕ) (before after : TrayState) : Type 0 where
+  pub count : ℕ
+  pub has : pages_of bytes ≡ Ok count
+  pub keeps : KeepsTray before after
+  pub calm : after.faults ≡ before.faults
+  pub asked : Asks before.asked after.asked (run_reads source 0)
+  pub few : TakesJob source.job before after
+  pub known : IsJobOf source bytes before
 
 -- The run is in hand: its job is read and has pages, and its names are those of the words. Or it stops.
 pub data HoldsRun (order : RunOrder) (before after : TrayState) (result : Result Held RunStop) : Type 0 where
   not_begun : result ≡ Err (Whole Memory) → after ≡ before → HoldsRun order before after result
-  held : (run : Held) (count : ℕ) → result ≡ Ok run → IsHeld run → run.order.now ≡ order → pages_of run.job ≡ Ok count → KeepsTray before after → after.faults ≡ before.faults → Asks before.asked after.asked (order.job.now ∷ []) → (IsTrue before.tells → before.file order.job.now ≡ Some run.job) → HoldsRun order before after result
+  held : (run : Held) → result ≡ Ok run → IsHeld run → run.order.now ≡ order → JobOpened (sources_of (order_in order)) run.job before after → HoldsRun order before after result
   stopped : (stop : RunStop) → result ≡ Err stop → ReadsRunJob order.job.now before after (Err stop) → HoldsRun order before after result

@@ -1,4 +1,5 @@
+pub mod InHand
+pub mod Reading
 pub mod Words
 pub mod Held
-pub mod Reading
 pub mod Gathering

@@ -3,6 +3,7 @@ use Rattle.std.specs.Prelude.{◌≡◌, ℕ, ◌<◌, ◌+◌, IsTrue, List, []
 use Rattle.outside.specs.Causes.{Rose, Asks, AsksFront}
 use Rattle.outside.specs.Tray.{TrayState, KeepsTray}
 use Rattle.page_gather.specs.Inputs.{Holds, AreRead, name_at}
+use Rattle.page_gather.specs.Steps.{TakesJob}
 use Rattle.job_pages.specs.declared.run.RunRefusal.TheVariants.{Fault as JobFails, TooManyPages as HasTooMany}
 use Rattle.pgm_plates.specs.declared.plate.Plate.{Plate as PlateRead}
 use Rattle.pgm_plates.specs.declared.plate.PlateFault.{PlateFault}
@@ -12,6 +13,7 @@ use Rattle.pgm_plates.specs.Plates.{IsPlate}
 use Rattle.pgm_plates.specs.Reading.{IsTruncated, KeepsCount}
 use Rattle.pgm_plates.specs.Sequences.{StandsBehind}
 use Rattle.ps_tokens.specs.declared.faults.JobFault.{JobFault}
+use Rattle.run_reading.specs.InHand.{MayHold, TakesImage}
 use Rattle.traprun_verdicts.specs.declared.stop.RunStop.{RunStop}
 use Rattle.traprun_verdicts.specs.declared.stop.RunStop.TheVariants.{Whole, TooManyPages, AtPage, Ends, Extra}
 use Rattle.traprun_verdicts.specs.Images.{HasImage, HasImageFault, HasNoImage, page_spelling}
@@ -33,10 +35,11 @@ pub data AnswersRunJob (name : List ℕ) (before after : TrayState) (result : Re
   unread : result ≡ Err (Whole (Read None)) → Rose before.faults after.faults → AnswersRunJob name before after result
   no_memory : result ≡ Err (Whole Memory) → after.faults ≡ before.faults → AnswersRunJob name before after result
 
--- The job of that name is read, and its pages are found.
+-- The job of that name is read, and its pages are found. Whatever the answer, no more is taken of its file than is owed.
 pub record ReadsRunJob (name : List ℕ) (before after : TrayState) (result : Result (List ℕ) RunStop) : Type 0 where
   pub keeps : KeepsTray before after
   pub asked : Asks before.asked after.asked (name ∷ [])
+  pub few : TakesJob name before after
   pub answer : AnswersRunJob name before after result
 
 -- Some bytes were taken off the front of the plate's file that is in hand: behind at most as many plate files they have no fault but an early end.
@@ -55,6 +58,7 @@ pub data AnswersOneImage (page plate : ℕ) (name : List ℕ) (before after : Tr
 pub record ReadsOneImage (page plate : ℕ) (name : List ℕ) (before after : TrayState) (result : Result PlateRead RunStop) : Type 0 where
   pub keeps : KeepsTray before after
   pub asked : Asks before.asked after.asked (name ∷ [])
+  pub takes : TakesImage page name before after
   pub answer : AnswersOneImage page plate name before after result
 
 -- The images of a page are read from the files before that of this plate, which is in hand.
@@ -75,6 +79,7 @@ pub data AnswersImages (page : ℕ) (names : List (List ℕ)) (before after : Tr
 -- The images of a page are read, up to the first that is refused.
 pub record ReadsImages (page : ℕ) (names : List (List ℕ)) (before after : TrayState) (result : Result (List PlateRead) RunStop) : Type 0 where
   pub keeps : KeepsTray before after
+  pub in_hand : MayHold names page before after
   pub answer : AnswersImages page names before after result
 
 -- what the answer says of one plate's file, where it is looked at behind the last of so many pages
@@ -85,9 +90,11 @@ pub data AnswersLook (pages plate : ℕ) (name : List ℕ) (before after : TrayS
   unread : result ≡ Err (Whole (Read (Some plate))) → Rose before.faults after.faults → IsUnbroken pages name before after → AnswersLook pages plate name before after result
   no_memory : result ≡ Err (Whole Memory) → after.faults ≡ before.faults → AnswersLook pages plate name before after result
 
+-- One plate's file is looked at behind the last of so many pages.
 pub record LooksAtOne (pages plate : ℕ) (name : List ℕ) (before after : TrayState) (result : Result (Unit {0}) RunStop) : Type 0 where
   pub keeps : KeepsTray before after
   pub asked : Asks before.asked after.asked (name ∷ [])
+  pub takes : TakesImage pages name before after
   pub answer : AnswersLook pages plate name before after result
 
 -- The files before that of this plate end behind the last page; this one is in hand.
@@ -106,4 +113,5 @@ pub data AnswersBehind (pages : ℕ) (names : List (List ℕ)) (before after : T
 -- Each file is looked at behind the last page, up to the first that does not end there.
 pub record LooksBehind (pages : ℕ) (names : List (List ℕ)) (before after : TrayState) (result : Result (Unit {0}) RunStop) : Type 0 where
   pub keeps : KeepsTray before after
+  pub in_hand : MayHold names pages before after
   pub answer : AnswersBehind pages names before after result
