@@ -59,8 +59,8 @@ module _ (source : Sources) (target : Targets) (bytes : List ℕ) (k : ℕ) (t t
   -- the page could not be made
   pub not_gathered : (r : RackState) (stop : RunStop) → GathersPage source bytes k t t' (Err stop) → StepsPage source target bytes k t t' r r (Err stop)
   not_gathered r stop gathers = (
-    gathers.0,
-    λ known. record { rack_keeps = unchanged r; told = λ tells. refl; answer = AnswersStep.stopped stop refl refl (gathers.2 known) },
+    gathers.keeps,
+    λ known. record { rack_keeps = unchanged r; told = λ tells. refl; in_hand = gathers.in_hand; answer = AnswersStep.stopped stop refl refl (gathers.answer known) },
   )
 
   module _ (page : PageParts) (r r' : RackState) where
@@ -73,8 +73,8 @@ module _ (source : Sources) (target : Targets) (bytes : List ℕ) (k : ℕ) (t t
     -- the page is made and put out
     pub gathered_and_put : (result : Result (Unit {0}) RunStop) → GathersPage source bytes k t t' (Ok page) → PutsPage target k page r r' result → StepsPage source target bytes k t t' r r' result
     gathered_and_put result gathers put = (
-      gathers.0,
-      λ known. record { rack_keeps = put.keeps; told = put.told; answer = step_by result put.valid (gathers.2 known) put.answer },
+      gathers.keeps,
+      λ known. record { rack_keeps = put.keeps; told = put.told; in_hand = gathers.in_hand; answer = step_by result put.valid (gathers.answer known) put.answer },
     )
 
 -- the names of a page's files are those that the words give, with its number

@@ -4,17 +4,18 @@ use Rattle.outside.specs.Causes.{Rose, Asks, AsksFront}
 use Rattle.outside.specs.Tray.{TrayState, KeepsTray}
 use Rattle.outside.specs.Rack.{RackState, KeepsRack}
 use Rattle.page_gather.specs.Inputs.{Sources, name_at}
-use Rattle.page_gather.specs.Steps.{PassesNoFault}
+use Rattle.page_gather.specs.Steps.{PassesNoFault, TakesJob}
 use Rattle.page_model.specs.declared.parts.PageParts.{PageParts}
 use Rattle.page_model.specs.Conditions.{IsPage}
 use Rattle.page_writing.specs.Writing.{WritesAll, Breaks}
-use Rattle.run_reading.specs.Gathering.{IsJobOf, PageBreaks, page_reads}
+use Rattle.run_reading.specs.Gathering.{JobOpened, PageBreaks, page_reads}
+use Rattle.run_reading.specs.InHand.{InHand}
 use Rattle.run_reading.specs.Reading.{IsUnbroken}
 use Rattle.page_run.specs.Text.{usage_line}
 use Rattle.run_reading.specs.Words.{RunWords, order_of, sources_of, targets_of}
 use Rattle.traprun_verdicts.specs.declared.stop.RunStop.{RunStop}
 use Rattle.traprun_verdicts.specs.declared.stop.RunStop.TheVariants.{Whole, AtPage, Ends, Extra}
-use Rattle.traprun_verdicts.specs.Pages.{AreMade, pages_of, run_files, run_names, run_reads, target_at}
+use Rattle.traprun_verdicts.specs.Pages.{AreMade, run_files, run_names, run_reads, target_at}
 use Rattle.traprun_verdicts.specs.RunVerdicts.{AllEnd, HasPages, IsRunVerdict, Stopped}
 use Rattle.traprun_verdicts.specs.Stops.{RefusesRun, status_of_stop}
 use Rattle.trap_report.specs.declared.refusal.Refusal.TheVariants.{Plate, Read, Write, Memory}
@@ -64,13 +65,13 @@ StandsBehind source before k other = k ≡ 0
 -- How a run ends, before a line is told. The pages are those that were written whole before it, the last of them first.
 pub data AnswersRun (source : Sources) (target : Targets) (tray tray' : TrayState) (rack rack' : RackState) (result : Result (Unit {0}) RunStop) : Type 0 where
   not_begun : result ≡ Err (Whole Memory) → tray' ≡ tray → rack' ≡ rack → AnswersRun source target tray tray' rack rack' result
-  unread_job : result ≡ Err (Whole (Read None)) → rack' ≡ rack → Rose tray.faults tray'.faults → Asks tray.asked tray'.asked (run_reads source 0) → AnswersRun source target tray tray' rack rack' result
-  no_job_memory : result ≡ Err (Whole Memory) → rack' ≡ rack → tray'.faults ≡ tray.faults → Asks tray.asked tray'.asked (run_reads source 0) → AnswersRun source target tray tray' rack rack' result
-  done : (pages : List PageParts) (between : TrayState) → result ≡ Ok tt → Written source target tray between rack rack' pages → tray'.faults ≡ tray.faults → Asks tray.asked tray'.asked (run_reads source (suc (length pages))) → (IsTrue tray.tells → HasPages tray.file source (length pages) × AllEnd tray.file source (length pages) (length source.inputs)) → AnswersRun source target tray tray' rack rack' result
-  refused : (pages : List PageParts) (between : TrayState) (stop : RunStop) → result ≡ Err stop → (status_of_stop stop ≡ job_refused) ⊎ (status_of_stop stop ≡ page_refused) → Written source target tray between rack rack' pages → StandsBehind source tray (length pages) stop → StopKeepsCount tray tray' stop → Asks tray.asked tray'.asked (stop_reads source (length pages) stop) → (IsTrue tray.tells → IsRunVerdict tray.file source target (Stopped stop)) → AnswersRun source target tray tray' rack rack' result
-  unread : (pages : List PageParts) (between : TrayState) (stop : RunStop) → result ≡ Err stop → status_of_stop stop ≡ 5 → Written source target tray between rack rack' pages → Rose tray.faults tray'.faults → Asks tray.asked tray'.asked (stop_reads source (length pages) stop) → BreaksRun source (length pages) tray tray' stop → AnswersRun source target tray tray' rack rack' result
-  unwritten : (pages : List PageParts) (between : TrayState) (mid : RackState) (page : PageParts) (file : Option ℕ) → result ≡ Err (AtPage (length pages) (Write file)) → Written source target tray between rack mid pages → KeepsRack rack mid → KeepsRack mid rack' → tray'.faults ≡ tray.faults → Asks tray.asked tray'.asked (run_reads source (suc (length pages))) → IsPage page → (IsTrue tray.tells → AreMade tray.file source (page ∷ pages)) → Breaks (length target.outputs) (outcome (target_at target (length pages)) page) file mid rack' → AsksFront mid.asked rack'.asked (written_names (target_at target (length pages))) → AnswersRun source target tray tray' rack rack' result
-  no_memory : (pages : List PageParts) (between : TrayState) → result ≡ Err (Whole Memory) → Written source target tray between rack rack' pages → tray'.faults ≡ tray.faults → AsksFront tray.asked tray'.asked (run_reads source (suc (length pages))) → AnswersRun source target tray tray' rack rack' result
+  unread_job : result ≡ Err (Whole (Read None)) → rack' ≡ rack → Rose tray.faults tray'.faults → Asks tray.asked tray'.asked (run_reads source 0) → TakesJob source.job tray tray' → AnswersRun source target tray tray' rack rack' result
+  no_job_memory : result ≡ Err (Whole Memory) → rack' ≡ rack → tray'.faults ≡ tray.faults → Asks tray.asked tray'.asked (run_reads source 0) → TakesJob source.job tray tray' → AnswersRun source target tray tray' rack rack' result
+  done : (pages : List PageParts) (between : TrayState) → result ≡ Ok tt → Written source target tray between rack rack' pages → tray'.faults ≡ tray.faults → Asks tray.asked tray'.asked (run_reads source (suc (length pages))) → (IsTrue tray.tells → HasPages tray.file source (length pages) × AllEnd tray.file source (length pages) (length source.inputs)) → InHand source (length pages) tray tray' → AnswersRun source target tray tray' rack rack' result
+  refused : (pages : List PageParts) (between : TrayState) (stop : RunStop) → result ≡ Err stop → (status_of_stop stop ≡ job_refused) ⊎ (status_of_stop stop ≡ page_refused) → Written source target tray between rack rack' pages → StandsBehind source tray (length pages) stop → StopKeepsCount tray tray' stop → Asks tray.asked tray'.asked (stop_reads source (length pages) stop) → (IsTrue tray.tells → IsRunVerdict tray.file source target (Stopped stop)) → InHand source (length pages) tray tray' → AnswersRun source target tray tray' rack rack' result
+  unread : (pages : List PageParts) (between : TrayState) (stop : RunStop) → result ≡ Err stop → status_of_stop stop ≡ 5 → Written source target tray between rack rack' pages → Rose tray.faults tray'.faults → Asks tray.asked tray'.asked (stop_reads source (length pages) stop) → BreaksRun source (length pages) tray tray' stop → InHand source (length pages) tray tray' → AnswersRun source target tray tray' rack rack' result
+  unwritten : (pages : List PageParts) (between : TrayState) (mid : RackState) (page : PageParts) (file : Option ℕ) → result ≡ Err (AtPage (length pages) (Write file)) → Written source target tray between rack mid pages → KeepsRack rack mid → KeepsRack mid rack' → tray'.faults ≡ tray.faults → Asks tray.asked tray'.asked (run_reads source (suc (length pages))) → IsPage page → (IsTrue tray.tells → AreMade tray.file source (page ∷ pages)) → Breaks (length target.outputs) (outcome (target_at target (length pages)) page) file mid rack' → AsksFront mid.asked rack'.asked (written_names (target_at target (length pages))) → InHand source (length pages) tray tray' → AnswersRun source target tray tray' rack rack' result
+  no_memory : (pages : List PageParts) (between : TrayState) → result ≡ Err (Whole Memory) → Written source target tray between rack rack' pages → tray'.faults ≡ tray.faults → AsksFront tray.asked tray'.asked (run_reads source (suc (length pages))) → InHand source (length pages) tray tray' → AnswersRun source target tray tray' rack rack' result
 
 -- A run is carried out.
 pub record Runs (source : Sources) (target : Targets) (tray tray' : TrayState) (rack rack' : RackState) (result : Result (Unit {0}) RunStop) : Type 0 where
@@ -81,13 +82,14 @@ pub record Runs (source : Sources) (target : Targets) (tray tray' : TrayState) (
 
 -- Behind a job that was read and has pages, the run is carried out: seen from the tray as it was before.
 abbrev pub RunsFrom : Sources → Targets → List ℕ → TrayState → TrayState → RackState → RackState → Result (Unit {0}) RunStop → Type 0
-RunsFrom source target bytes between tray' rack rack' result = (tray : TrayState) (count : ℕ) → KeepsTray tray between → between.faults ≡ tray.faults → Asks tray.asked between.asked (run_reads source 0) → IsJobOf source bytes tray → pages_of bytes ≡ Ok count → Runs source target tray tray' rack rack' result
+RunsFrom source target bytes between tray' rack rack' result = (tray : TrayState) → JobOpened source bytes tray between → Runs source target tray tray' rack rack' result
 
 -- So far these pages are trapped.
 pub record PagesDone (source : Sources) (target : Targets) (tray tray' : TrayState) (rack rack' : RackState) (pages : List PageParts) : Type 0 where
   pub tray_keeps : KeepsTray tray tray'
   pub rack_keeps : KeepsRack rack rack'
   pub told : IsTrue rack.tells → rack'.told ≡ rack.told
+  pub in_hand : InHand source (length pages) tray tray'
   pub written : Written source target tray tray' rack rack' pages
 
 -- All pages are trapped, or the run stops at one of them.
@@ -96,7 +98,7 @@ AnswersPages source target count tray tray' rack rack' (Ok x) = (pages : List Pa
 AnswersPages source target count tray tray' rack rack' (Err stop) = Runs source target tray tray' rack rack' (Err stop)
 
 abbrev pub TrapsPages : Sources → Targets → List ℕ → TrayState → TrayState → RackState → RackState → Result (Unit {0}) RunStop → Type 0
-TrapsPages source target bytes between tray' rack rack' result = (tray : TrayState) (count : ℕ) → KeepsTray tray between → between.faults ≡ tray.faults → Asks tray.asked between.asked (run_reads source 0) → IsJobOf source bytes tray → pages_of bytes ≡ Ok count → AnswersPages source target count tray tray' rack rack' result
+TrapsPages source target bytes between tray' rack rack' result = (tray : TrayState) → (opened : JobOpened source bytes tray between) → AnswersPages source target opened.count tray tray' rack rack' result
 
 -- the status, or the line of the stop
 abbrev pub Closes : Result (Unit {0}) RunStop → RackState → RackState → ℕ → Type 0

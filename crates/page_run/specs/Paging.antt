@@ -8,6 +8,7 @@ use Rattle.page_model.specs.declared.parts.PageParts.{PageParts}
 use Rattle.page_model.specs.Conditions.{IsPage}
 use Rattle.page_writing.specs.Writing.{WritesAll, Breaks}
 use Rattle.run_reading.specs.Gathering.{IsJobOf, IsPageMade, StopsPage}
+use Rattle.run_reading.specs.InHand.{MayHold}
 use Rattle.traprun_verdicts.specs.declared.stop.RunStop.{RunStop}
 use Rattle.traprun_verdicts.specs.declared.stop.RunStop.TheVariants.{Whole, AtPage}
 use Rattle.traprun_verdicts.specs.Pages.{target_at}
@@ -33,9 +34,11 @@ pub data AnswersStep (source : Sources) (target : Targets) (k : ℕ) (tray tray'
   stopped : (stop : RunStop) → result ≡ Err stop → rack' ≡ rack → StopsPage source k tray tray' stop → AnswersStep source target k tray tray' rack rack' result
   unwritten : (page : PageParts) (file : Option ℕ) → result ≡ Err (AtPage k (Write file)) → IsPage page → IsPageMade source k tray tray' page → Breaks (length target.outputs) (outcome (target_at target k) page) file rack rack' → AsksFront rack.asked rack'.asked (written_names (target_at target k)) → AnswersStep source target k tray tray' rack rack' result
 
+-- Page k is read, trapped and written, or the run stops there.
 pub record Steps (source : Sources) (target : Targets) (k : ℕ) (tray tray' : TrayState) (rack rack' : RackState) (result : Result (Unit {0}) RunStop) : Type 0 where
   pub rack_keeps : KeepsRack rack rack'
   pub told : IsTrue rack.tells → rack'.told ≡ rack.told
+  pub in_hand : MayHold source.inputs k tray tray'
   pub answer : AnswersStep source target k tray tray' rack rack' result
 
 -- Where the job's file has these bytes, page k is read, trapped and written.

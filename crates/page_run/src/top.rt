@@ -45,7 +45,7 @@ pub fn traprun_main<H: Threads + Sync, T: Tray, R: Rack, G: Gate + Sync>(
     ensures write_fault { WriteFault (map string_bytes words.now) (T.state tray.old)
         (T.state tray.new) (R.state rack.old) (R.state rack.new) result }
     ensures memory { LeavesPages (map string_bytes words.now) (T.state tray.old)
-        (R.state rack.old) (R.state rack.new) result }
+        (T.state tray.new) (R.state rack.old) (R.state rack.new) result }
     ensures fault_line { FaultLine (R.state rack.old) (R.state rack.new) result }
     ensures completeness { Completeness (map string_bytes words.now) (T.state tray.old)
         (T.state tray.new) (R.state rack.old) (R.state rack.new) result }

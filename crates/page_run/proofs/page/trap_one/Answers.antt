@@ -16,4 +16,4 @@ returns-in-Err g c =
     not_gathered (sources_of order) (targets_of order) c.args.held.now.job c.args.page (g.T.Tray.state c.args.tray.now) (g.T.Tray.state c.gather_page.new.tray) (g.R.Rack.state c.args.rack.now) c.in-Err.stop c.in-Err.ensures
 
 pub put_page-requires-clause-count : goal.put_page-requires-clause-count
-put_page-requires-clause-count g c κs lives = c.in-Ok.ensures.1 ∙ as_many_sources c.args.held.now
+put_page-requires-clause-count g c κs lives = c.in-Ok.ensures.count ∙ as_many_sources c.args.held.now
