@@ -1,5 +1,6 @@
 mod failing;
 mod many;
+mod pages;
 mod refused;
 mod words;
 mod worked;
