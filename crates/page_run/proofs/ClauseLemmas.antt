@@ -1,20 +1,19 @@
 -- The clauses of the top call, by how the run of the words ended.
 use Rattle.std.proofs.Common.{◌≡◌, ◌≢◌, ◌⊎◌, ℕ, suc, ◌<◌, ◌≤◌, List, [], ◌∷◌, ◌++◌, length, take, All, Option, Some, None, Result, Ok, Err, Bool, IsTrue, IsFalse, inl, inr, refl, sym, ap, ◌∙◌, subst, arith}
-use Rattle.std.proofs.lemmas.Bool.{cases_lt}
 use Rattle.std.proofs.lemmas.List.Elements.{All-cons}
-use Rattle.outside.specs.Causes.{Rose, Asks, AsksFront}
+use Rattle.outside.specs.Causes.{Rose, RoseOnce, Asks, AsksFront}
 use Rattle.outside.specs.Tray.{TrayState}
 use Rattle.outside.specs.Rack.{RackState, KeepsRack}
-use Rattle.outside.specs.Writing.{BreaksFile}
 use Rattle.outside.proofs.Names.{asks_before, asks_none, asks_none_of}
-use Rattle.outside.proofs.Steps.{rose_before}
+use Rattle.outside.proofs.Steps.{rose_after, rose_before}
 use Rattle.page_model.specs.declared.parts.PageParts.{PageParts}
 use Rattle.page_model.specs.Conditions.{IsPage}
 use Rattle.page_run.specs.Clauses.{Mean, Whole, EveryPage, FailsToRead, FailsToWrite, KeepsPages, Success, Usage, RefusesPages, RefusedInput, ReadFault, WriteFault, LeavesPages, FaultLine, Completeness}
 use Rattle.page_run.specs.Endings.{AnswersRun, BreaksRun, Closes, EndsRun, EndsWords, Written, stop_reads}
 use Rattle.page_run.specs.Text.{usage_line}
 use Rattle.page_writing.specs.Files.{Written as File, names_of, put_all}
-use Rattle.page_writing.specs.Writing.{Breaks, BreaksAt, WritesAll}
+use Rattle.page_writing.specs.Writing.{FinishesAll}
+use Rattle.page_writing.proofs.Told.{breaks_cause, file_breaks, line_after}
 use Rattle.run_reading.specs.InHand.{InHand}
 use Rattle.run_reading.specs.Words.{RunWords, order_of, sources_of, targets_of}
 use Rattle.traprun_verdicts.specs.declared.stop.RunStop.{RunStop}
@@ -28,7 +27,7 @@ use Rattle.traprun_verdicts.proofs.SomeRunLemmas.{some_run_verdict}
 use Rattle.trap_report.specs.declared.refusal.Refusal.TheVariants as refusals
 use Rattle.page_run.proofs.PageLemmas.{some_run_files}
 use Rattle.trap_report.specs.Refusals.{line_of}
-use Rattle.trap_report.specs.Telling.{KeepsFiles, TellsText, TellsBehindFault}
+use Rattle.trap_report.specs.Telling.{KeepsFiles, TellsText, TellsAfterFault}
 use Rattle.page_gather.specs.Inputs.{Sources, name_at}
 use Rattle.verdicts.specs.Verdicts.{IsFile, Targets, outcome}
 
@@ -39,37 +38,6 @@ data Ending (order : RunWords) (t t' : TrayState) (r r' : RackState) (status : �
   unread : (stop : RunStop) (pages : List PageParts) → status ≡ 5 → Rose t.faults t'.faults → status ≡ status_of_stop stop → Whole order t t' r r' pages → Asks t.asked t'.asked (stop_reads (sources_of order) (length pages) stop) → BreaksRun (sources_of order) (length pages) t t' stop → TellsText (line_of_stop stop) r r' → Ending order t t' r r' status
   unwritten : status ≡ 6 → Rose r.faults r'.faults → t'.faults ≡ t.faults → FailsToWrite order t t' r r' → Ending order t t' r r' status
   no_memory : (pages : List PageParts) → status ≡ 7 → t'.faults ≡ t.faults → AsksFront t.asked t'.asked (run_reads (sources_of order) (suc (length pages))) → Whole order t t' r r' pages → TellsText (line_of_stop (stops.Whole refusals.Memory)) r r' → Ending order t t' r r' status
-
--- a count that rose stays above what it was
-rose_after : (a b c : ℕ) → a ≤ b → b ≤ c → Rose a b → Rose a c
-rose_after a b c first then (inl less) = inl (omega arith)
-rose_after a b c first then (inr last) = elim (cases_lt a c) [ inl less ↦ inl less | inr back ↦ inr (omega arith) ]
-
-broken_then : (name bytes : List ℕ) (held : List ℕ → Option (List ℕ)) (b c : RackState) → c.is_open ≡ b.is_open → c.file ≡ b.file → BreaksFile name bytes held b → BreaksFile name bytes held c
-broken_then name bytes held b c opened same (inl none) = inl (opened ∙ none.0, same ∙ none.1)
-broken_then name bytes held b c opened same (inr front) = inr (opened ∙ front.0, (front.1.0, same ∙ front.1.1))
-
--- the write that failed, after its line was told
-breaks_then : (written : List File) (k : ℕ) (a b c : RackState) → a.faults ≤ b.faults → b.tells ≡ a.tells → BreaksAt written k a b → KeepsFiles b c → BreaksAt written k a c
-breaks_then written k a b c le tells breaks files = record {
-  earlier = breaks.earlier;
-  file = breaks.file;
-  later = breaks.later;
-  all = breaks.all;
-  place = breaks.place;
-  asked = subst (λ (names : Option (List (List ℕ))). Asks a.asked names (names_of breaks.earlier ++ breaks.file.name ∷ [])) (sym files.asked) breaks.asked;
-  finished = λ told. subst (λ (names : Option (List (List ℕ))). Asks a.finished names (names_of breaks.earlier)) (sym files.finished) (breaks.finished told);
-  part = λ told. broken_then breaks.file.name breaks.file.bytes (put_all breaks.earlier a.file) b c files.is_open (files.files (tells ∙ told)) (breaks.part told);
-  cause = rose_after a.faults b.faults c.faults le files.keeps.faults breaks.cause;
-}
-
-file_breaks : (plates : ℕ) (written : List File) (file : Option ℕ) (a b c : RackState) → a.faults ≤ b.faults → b.tells ≡ a.tells → Breaks plates written file a b → KeepsFiles b c → Breaks plates written file a c
-file_breaks plates written None a b c le tells breaks files = breaks_then written plates a b c le tells breaks files
-file_breaks plates written (Some k) a b c le tells breaks files = (breaks.0, breaks_then written k a b c le tells breaks.1 files)
-
-breaks_cause : (plates : ℕ) (written : List File) (file : Option ℕ) (a b : RackState) → Breaks plates written file a b → Rose a.faults b.faults
-breaks_cause plates written None a b breaks = breaks.cause
-breaks_cause plates written (Some k) a b breaks = breaks.1.cause
 
 module _ (order : RunWords) (t t' : TrayState) (r m r' : RackState) (status : ℕ) (rack_keeps : KeepsRack r m) (told : IsTrue r.tells → m.told ≡ r.told) where
   abbrev source : Sources
@@ -85,18 +53,14 @@ module _ (order : RunWords) (t t' : TrayState) (r m r' : RackState) (status : �
     | inr part ↦ inr (rose_before r.faults m.faults r'.faults rack_keeps.faults part.0, (part.1.0, part.1.1 ∙ ap (λ (x : List ℕ). x ++ take part.1.0 text) (told tells)))
   ]
 
-  line_behind : (text : List ℕ) → Rose r.faults m.faults → TellsText text m r' → TellsBehindFault text r r'
-  line_behind text rose line = (
-    m.faults,
-    rose,
-    λ tells. elim (line (rack_keeps.tells ∙ tells)) [
-      | inl whole ↦ inl (whole ∙ ap (λ (x : List ℕ). x ++ text) (told tells))
-      | inr part ↦ inr (part.0, (part.1.0, part.1.1 ∙ ap (λ (x : List ℕ). x ++ take part.1.0 text) (told tells)))
-    ],
-  )
+  line_after_write : (text : List ℕ) → RoseOnce r.faults m.faults → TellsText text m r' → TellsAfterFault text r r'
+  line_after_write text once line = line_after text r m r' told rack_keeps.tells once line
 
   created_then : (names : List (List ℕ)) → Asks r.asked m.asked names → KeepsFiles m r' → Asks r.asked r'.asked names
   created_then names asked files = subst (λ (o : Option (List (List ℕ))). Asks r.asked o names) (sym files.asked) asked
+
+  finished_by : (names : List (List ℕ)) → FinishesAll names r m → KeepsFiles m r' → FinishesAll names r r'
+  finished_by names before files tells = subst (λ (o : Option (List (List ℕ))). Asks r.finished o names) (sym files.finished) (before tells)
 
   -- pages that were written are whole, after what changes no file
   whole_then : (u : TrayState) (pages : List PageParts) → Written source target t u r m pages → InHand source (length pages) t t' → KeepsFiles m r' → Whole order t t' r r' pages
@@ -106,6 +70,7 @@ module _ (order : RunWords) (t t' : TrayState) (r m r' : RackState) (status : �
     files = λ tells. files.files (rack_keeps.tells ∙ tells) ∙ written.wrote.whole tells;
     shut = λ some. subst (λ (b : Bool). IsFalse b) (sym files.is_open) (written.wrote.shut (some_run_files target pages some));
     created = created_then (run_names target (length pages)) written.created files;
+    finished = finished_by (run_names target (length pages)) written.finished files;
     in_hand = in_hand;
   }
 
@@ -117,6 +82,7 @@ module _ (order : RunWords) (t t' : TrayState) (r m r' : RackState) (status : �
     files = λ tells. files.files (rack_keeps.tells ∙ tells) ∙ ap (λ (x : RackState). x.file) same;
     shut = λ some. absurd (omega arith);
     created = created_then [] (subst (λ (x : RackState). Asks r.asked x.asked []) (sym same) (asks_none r.asked)) files;
+    finished = finished_by [] (subst (λ (x : RackState). FinishesAll [] r x) (sym same) (λ tells. asks_none r.finished)) files;
     in_hand = in_hand;
   }
 
@@ -130,7 +96,7 @@ module _ (order : RunWords) (t t' : TrayState) (r m r' : RackState) (status : �
   ended_done pages u written in_hand calm asked ended closed =
       let same : m ≡ r' = sym closed.0 in
       done closed.1 (calm, subst (λ (x : RackState). x.faults ≡ r.faults) same written.wrote.well) pages
-      (record { valid = written.valid; made = written.made; files = subst (λ (x : RackState). IsTrue r.tells → x.file ≡ put_all (run_files target pages) r.file) same written.wrote.whole; shut = λ some. subst (λ (x : RackState). IsFalse x.is_open) same (written.wrote.shut (some_run_files target pages some)); created = subst (λ (x : RackState). Asks r.asked x.asked (run_names target (length pages))) same written.created; in_hand = in_hand })
+      (record { valid = written.valid; made = written.made; files = subst (λ (x : RackState). IsTrue r.tells → x.file ≡ put_all (run_files target pages) r.file) same written.wrote.whole; shut = λ some. subst (λ (x : RackState). IsFalse x.is_open) same (written.wrote.shut (some_run_files target pages some)); created = subst (λ (x : RackState). Asks r.asked x.asked (run_names target (length pages))) same written.created; finished = subst (λ (x : RackState). FinishesAll (run_names target (length pages)) r x) same written.finished; in_hand = in_hand })
       ended asked (subst (λ (x : RackState). IsTrue r.tells → x.told ≡ r.told) same told)
 
   ending_of : (result : Result (Unit {0}) RunStop) → AnswersRun source target t t' r m result → Closes result m r' status → Ending order t t' r r' status
@@ -158,7 +124,7 @@ module _ (order : RunWords) (t t' : TrayState) (r m r' : RackState) (status : �
   ending_of result (AnswersRun.unread pages u stop is five written rose asked breaks in_hand) closed =
       let refuses = closes_err result stop is closed in
       unread stop pages (refuses.status_is ∙ five) rose refuses.status_is (whole_then u pages written in_hand refuses.files) asked breaks (line_from _ refuses.line)
-  ending_of result (AnswersRun.unwritten pages u mid page file is written keeps wrote_keeps calm asked valid made breaks created in_hand) closed =
+  ending_of result (AnswersRun.unwritten pages u mid page file is written keeps wrote_keeps calm asked valid made breaks created once in_hand) closed =
       let refuses = closes_err result (stops.AtPage (length pages) (refusals.Write file)) is closed in
       let cause = breaks_cause (length target.outputs) (outcome (target_at target (length pages)) page) file mid m breaks in
       let rose : Rose r.faults m.faults = rose_before r.faults mid.faults m.faults keeps.faults cause in
@@ -170,12 +136,13 @@ module _ (order : RunWords) (t t' : TrayState) (r m r' : RackState) (status : �
         keeps = keeps;
         wrote = written.wrote;
         created = written.created;
+        finished = written.finished;
         begun = asked;
         in_hand = in_hand;
         valid = All-cons IsPage page pages valid written.valid;
         made = made;
-        breaks = file_breaks (length target.outputs) (outcome (target_at target (length pages)) page) file mid m r' wrote_keeps.faults wrote_keeps.tells breaks refuses.files;
-        line = line_behind _ rose refuses.line;
+        breaks = file_breaks (length target.outputs) (outcome (target_at target (length pages)) page) file mid m r' wrote_keeps breaks refuses.files;
+        line = line_after_write _ once refuses.line;
       })
   ending_of result (AnswersRun.no_memory pages u is written calm asked in_hand) closed =
       let refuses = closes_err result (stops.Whole refusals.Memory) is closed in

@@ -8,7 +8,7 @@ use Rattle.outside.specs.Causes.{Asks, AsksFront}
 use Rattle.outside.specs.Tray.{TrayState, KeepsTray}
 use Rattle.outside.specs.Rack.{RackState, KeepsRack, put}
 use Rattle.outside.proofs.Names.{asks_none, asks_then}
-use Rattle.outside.proofs.Steps.{kept_then, kept_tray, rose_before}
+use Rattle.outside.proofs.Steps.{kept_then, kept_tray, once_before, rose_before}
 use Rattle.page_gather.specs.Inputs.{Sources, AreRead, Makes, name_at}
 use Rattle.page_gather.specs.Steps.{TakesJob}
 use Rattle.page_gather.proofs.PlateLemmas.{count_then, held_before}
@@ -20,7 +20,7 @@ use Rattle.page_run.specs.Endings.{AnswersRun, PagesDone, Runs, Written}
 use Rattle.page_run.specs.Paging.{AnswersStep, Steps, StepsPage}
 use Rattle.page_writing.specs.Files.{Written as File, names_of, plate_files, put_all}
 use Rattle.page_writing.specs.Writing.{FinishesAll, WritesAll}
-use Rattle.page_writing.proofs.Steps.{finished_then, wrote_none}
+use Rattle.page_writing.proofs.Steps.{wrote_none}
 use Rattle.run_reading.specs.Gathering.{IsJobOf, IsPageMade, StopsPage}
 use Rattle.run_reading.specs.InHand.{InHand, MayHold}
 use Rattle.run_reading.proofs.ImageLemmas.{unbroken_before}
@@ -45,12 +45,16 @@ front_more a (Some mid) (Some every) xs ys one two =
     let same : mid ≡ two.0 = same_Some mid two.0 two.2 in
     (one.0, length xs + two.1, one.1, two.3 ∙ ap (λ (l : List (List ℕ)). l ++ take two.1 ys) (sym same ∙ one.2) ∙ append_assoc one.0 xs (take two.1 ys) ∙ ap (λ (l : List (List ℕ)). one.0 ++ l) (sym (take-append-add xs ys two.1)))
 
+-- files that are finished, and then others
+finished_both : (names more : List (List ℕ)) (a b c : RackState) → KeepsRack a b → FinishesAll names a b → FinishesAll more b c → FinishesAll (names ++ more) a c
+finished_both names more a b c keeps one two tells = asks_then a.finished b.finished c.finished names more (one tells) (two (keeps.tells ∙ tells))
+
 -- some files and then others
 wrote_both : (files more : List File) (a b c : RackState) → KeepsRack a b → 0 < length more → WritesAll files a b → WritesAll more b c → WritesAll (files ++ more) a c
 wrote_both files more a b c keeps some first then = record {
   asked = subst (λ (names : List (List ℕ)). Asks a.asked c.asked names) (sym (map-append (λ (f : File). f.name) files more)) (asks_then a.asked b.asked c.asked (names_of files) (names_of more) first.asked then.asked);
+  finished = subst (λ (names : List (List ℕ)). FinishesAll names a c) (sym (map-append (λ (f : File). f.name) files more)) (finished_both (names_of files) (names_of more) a b c keeps first.finished then.finished);
   whole = λ tells. then.whole (keeps.tells ∙ tells) ∙ ap (put_all more) (first.whole tells) ∙ sym (put_both files more a.file);
-  finished = subst (λ (names : List (List ℕ)). FinishesAll names a c) (sym (map-append (λ (f : File). f.name) files more)) (finished_then (names_of files) (names_of more) a b c keeps first.finished then.finished);
   shut = λ any. then.shut some;
   well = then.well ∙ first.well;
 }
@@ -77,6 +81,7 @@ no_page_done source target t b r keeps calm asked few = record {
     calm = calm;
     asked = asked;
     created = asks_none r.asked;
+    finished = λ tells. asks_none r.finished;
     wrote = wrote_none [] r refl;
   };
 }
@@ -94,7 +99,7 @@ may_from source n k t b c le keeps before (inr held) = inr (inr (record {
   known = held.known;
   page = held.page;
   within = held.within;
-  takes = record { bytes = held.takes.bytes; taken = λ begun tells. ap (λ (files : List ℕ → Option (List ℕ)). files (name_at source.inputs held.plate)) (sym keeps.file) ∙ held.takes.taken begun (keeps.tells ∙ tells) };
+  takes = record { bytes = held.takes.bytes; taken = λ begun tells. ap (λ (files : List ℕ → Option (List ℕ)). files (name_at source.inputs held.plate)) (sym keeps.file) ∙ held.takes.taken begun (keeps.tells ∙ tells); few = held.takes.few };
 }))
 
 -- a fact of the files, seen from the tray as it was at first
@@ -122,7 +127,7 @@ module _ (source : Sources) (target : Targets) (t b c : TrayState) (r r1 r2 : Ra
     pub more : PagesDone source target t c r r2 (page ∷ pages)
 
   written_by : Steps source target (length pages) b c r1 r2 (Ok tt) → AnswersStep source target (length pages) b c r1 r2 (Ok tt) → More
-  written_by steps (AnswersStep.written page is valid made wrote created) = record {
+  written_by steps (AnswersStep.written page is valid made wrote created finished) = record {
     page = page;
     more = record {
       tray_keeps = kept_tray t b c done.tray_keeps keeps;
@@ -135,12 +140,13 @@ module _ (source : Sources) (target : Targets) (t b c : TrayState) (r r1 r2 : Ra
         calm = made.calm ∙ done.written.calm;
         asked = asked_more source.inputs made.asked;
         created = asks_then r.asked r1.asked r2.asked (run_names target (length pages)) (written_names (target_at target (length pages))) done.written.created created;
+        finished = finished_both (run_names target (length pages)) (written_names (target_at target (length pages))) r r1 r2 done.rack_keeps done.written.finished finished;
         wrote = wrote_both (run_files target pages) (outcome (target_at target (length pages)) page) r r1 r2 done.rack_keeps (some_files (target_at target (length pages)) page) done.written.wrote wrote;
       };
     };
   }
   written_by steps (AnswersStep.stopped stop is same stops) = absurd (let e : ◌≡◌ {A = Result (Unit {0}) RunStop} (Ok tt) (Err stop) = is in cc)
-  written_by steps (AnswersStep.unwritten page file is valid made breaks created) = absurd (let e : ◌≡◌ {A = Result (Unit {0}) RunStop} (Ok tt) (Err (AtPage (length pages) (Write file))) = is in cc)
+  written_by steps (AnswersStep.unwritten page file is valid made breaks created once) = absurd (let e : ◌≡◌ {A = Result (Unit {0}) RunStop} (Ok tt) (Err (AtPage (length pages) (Write file))) = is in cc)
 
   -- one page more
   pub one_more : Steps source target (length pages) b c r1 r2 (Ok tt) → More
@@ -185,12 +191,12 @@ module _ (source : Sources) (target : Targets) (t b c : TrayState) (r r1 r2 : Ra
         (AnswersRun.no_memory pages b refl (subst (λ (x : RackState). Written source target t b r x pages) (sym same) done.written) (calm ∙ done.written.calm) (front_more t.asked b.asked c.asked (run_reads source (length pages)) source.inputs done.written.asked asked) in_hand)
 
     step_stopped : (stop : RunStop) → KeepsRack r1 r2 → InHand source (length pages) t c → AnswersStep source target (length pages) b c r1 r2 (Err stop) → AnswersRun source target t c r r2 (Err stop)
-    step_stopped stop wrote_keeps in_hand (AnswersStep.written page is valid made wrote created) = absurd (let e : ◌≡◌ {A = Result (Unit {0}) RunStop} (Err stop) (Ok tt) = is in cc)
+    step_stopped stop wrote_keeps in_hand (AnswersStep.written page is valid made wrote created finished) = absurd (let e : ◌≡◌ {A = Result (Unit {0}) RunStop} (Err stop) (Ok tt) = is in cc)
     step_stopped stop wrote_keeps in_hand (AnswersStep.stopped other is same stops) =
         let one : other ≡ stop = (let e : ◌≡◌ {A = Result (Unit {0}) RunStop} (Err stop) (Err other) = is in cc) in
         stopped_by stop same in_hand (subst (λ (s : RunStop). StopsPage source (length pages) b c s) one stops)
-    step_stopped stop wrote_keeps in_hand (AnswersStep.unwritten page file is valid made breaks created) =
-        AnswersRun.unwritten pages b r1 page file is done.written done.rack_keeps wrote_keeps (made.calm ∙ done.written.calm) (asked_more source.inputs made.asked) valid (made_more page made) breaks created in_hand
+    step_stopped stop wrote_keeps in_hand (AnswersStep.unwritten page file is valid made breaks created once) =
+        AnswersRun.unwritten pages b r1 page file is done.written done.rack_keeps wrote_keeps (made.calm ∙ done.written.calm) (asked_more source.inputs made.asked) valid (made_more page made) breaks created (once_before r.faults r1.faults r2.faults done.written.wrote.well once) in_hand
 
     -- the run stops at this page
     pub run_stopped : (stop : RunStop) → Steps source target (length pages) b c r1 r2 (Err stop) → Runs source target t c r r2 (Err stop)

@@ -34,10 +34,10 @@ not_put target k page a valid = record { valid = valid; keeps = unchanged a; tol
 module _ (target : Targets) (k band : ℕ) (page : PageParts) (a b : RackState) where
   -- the page's files are written
   pub page_put : (receipt : Receipt) → PutsOut band (target_at target k) page a b (Ok receipt) → PutsPage target k page a b (Ok tt)
-  page_put receipt put = record { valid = put.valid; keeps = put.keeps; told = put.told; answer = AnswersPutPage.written refl put.answer.1 put.answer.2 }
+  page_put receipt put = record { valid = put.valid; keeps = put.keeps; told = put.told; answer = AnswersPutPage.written refl put.answer.1 put.answer.2 put.answer.3 }
 
   by_refusal : (refusal : Refusal) → PutsOut band (target_at target k) page a b (Err refusal) → AnswersPut band (target_at target k) page a b (Err refusal) → AnswersPutPage target k page a b (Err (stop_at k refusal))
-  by_refusal (Write file) put answer = AnswersPutPage.unwritten file refl (subst (λ (n : ℕ). Breaks n (outcome (target_at target k) page) file a b) (length-map target.outputs (numbered k)) answer) put.asked
+  by_refusal (Write file) put answer = AnswersPutPage.unwritten file refl (subst (λ (n : ℕ). Breaks n (outcome (target_at target k) page) file a b) (length-map target.outputs (numbered k)) answer) put.asked put.once
   by_refusal Memory put answer = AnswersPutPage.no_memory refl answer
   by_refusal Usage put answer = absurd answer
   by_refusal (Job fault) put answer = absurd answer
@@ -65,8 +65,8 @@ module _ (source : Sources) (target : Targets) (bytes : List ℕ) (k : ℕ) (t t
 
   module _ (page : PageParts) (r r' : RackState) where
     step_by : (result : Result (Unit {0}) RunStop) → IsPage page → IsPageMade source k t t' page → AnswersPutPage target k page r r' result → AnswersStep source target k t t' r r' result
-    step_by result valid made (AnswersPutPage.written is wrote created) = AnswersStep.written page is valid made wrote created
-    step_by result valid made (AnswersPutPage.unwritten file is breaks created) = AnswersStep.unwritten page file is valid made breaks created
+    step_by result valid made (AnswersPutPage.written is wrote created finished) = AnswersStep.written page is valid made wrote created finished
+    step_by result valid made (AnswersPutPage.unwritten file is breaks created once) = AnswersStep.unwritten page file is valid made breaks created once
     step_by result valid made (AnswersPutPage.no_memory is same) =
         AnswersStep.stopped (Whole Memory) is same (StopsPage.no_memory refl made.calm (asks_all t.asked t'.asked source.inputs made.asked))
 

@@ -13,7 +13,7 @@ use Rattle.page_run.specs.Text.{usage_line}
 use Rattle.run_reading.specs.InHand.{InHand}
 use Rattle.run_reading.specs.Words.{RunWords, order_of, sources_of, targets_of}
 use Rattle.page_writing.specs.Files.{Written, put_all}
-use Rattle.page_writing.specs.Writing.{Breaks, WritesAll}
+use Rattle.page_writing.specs.Writing.{Breaks, FinishesAll, WritesAll}
 use Rattle.traprun_verdicts.specs.declared.stop.RunStop.{RunStop}
 use Rattle.traprun_verdicts.specs.declared.stop.RunStop.TheVariants.{AtPage}
 use Rattle.traprun_verdicts.specs.Pages.{AreMade, run_files, run_names, run_reads, target_at}
@@ -24,7 +24,7 @@ use Rattle.trap_report.specs.declared.refusal.Refusal.TheVariants.{Memory, Write
 use Rattle.trap_report.specs.Refusals.{line_of}
 use Rattle.trap_report.specs.Statuses.{done, usage, job_refused, page_refused, not_read}
 use Rattle.trap_report.specs.Statuses.{not_written, out_of_memory}
-use Rattle.trap_report.specs.Telling.{TellsText, TellsBehindFault}
+use Rattle.trap_report.specs.Telling.{TellsText, TellsAfterFault}
 use Rattle.verdicts.specs.Verdicts.{IsFile, outcome}
 
 -- The words mean this run.
@@ -41,9 +41,11 @@ pub record Whole (order : RunWords) (tray tray' : TrayState) (rack rack' : RackS
   pub made : IsTrue tray.tells → AreMade tray.file (sources_of order) pages
   pub files : IsTrue rack.tells →
     rack'.file ≡ put_all (run_files (targets_of order) pages) rack.file
-  -- each of them is finished, whether or not the rack tells
-  pub shut : 0 < length pages → IsFalse rack'.is_open
   pub created : Asks rack.asked rack'.asked (run_names (targets_of order) (length pages))
+  -- each of them is finished
+  pub finished : FinishesAll (run_names (targets_of order) (length pages)) rack rack'
+  -- none is open, whether or not the rack tells
+  pub shut : 0 < length pages → IsFalse rack'.is_open
   pub in_hand : InHand (sources_of order) (length pages) tray tray'
 
 -- All pages of the job are whole, and no plate's file has another image after the last one. All
@@ -144,13 +146,14 @@ pub record FailsToWrite (order : RunWords) (tray tray' : TrayState) (rack rack' 
   pub keeps : KeepsRack rack between
   pub wrote : WritesAll (run_files (targets_of order) pages) rack between
   pub created : Asks rack.asked between.asked (run_names (targets_of order) (length pages))
+  pub finished : FinishesAll (run_names (targets_of order) (length pages)) rack between
   pub begun : Asks tray.asked tray'.asked (run_reads (sources_of order) (suc (length pages)))
   pub in_hand : InHand (sources_of order) (length pages) tray tray'
   pub valid : All IsPage (page ∷ pages)
   pub made : IsTrue tray.tells → AreMade tray.file (sources_of order) (page ∷ pages)
   pub breaks : Breaks (length (targets_of order).outputs)
     (outcome (target_at (targets_of order) (length pages)) page) file between rack'
-  pub line : TellsBehindFault (line_of_stop (AtPage (length pages) (Write file))) rack rack'
+  pub line : TellsAfterFault (line_of_stop (AtPage (length pages) (Write file))) rack rack'
 
 -- Status 6 comes only where the rack's count rose.
 pub record WriteFault (words : List (List ℕ)) (tray tray' : TrayState) (rack rack' : RackState)

@@ -120,7 +120,7 @@ unbroken_before k a b c name keeps here begun tells =
 
 -- what was taken of the file
 pub takes_image : (name : List ℕ) (k : ℕ) (a b : TrayState) (result : Result (Option PlateRead) PlateRefusal) → ReadsPage name k a b result → TakesImage k name a b
-takes_image name k a b result reads = record { bytes = reads.bytes; taken = reads.taken }
+takes_image name k a b result reads = record { bytes = reads.bytes; taken = reads.taken; few = reads.few }
 
 -- a plate that is in hand, seen from a tray before
 pub held_from : (page : ℕ) (names : List (List ℕ)) (k : ℕ) (a b c : TrayState) → k < length names → KeepsTray a b → TakesImage page (name_at names k) b c → PlateInHand names page a c
@@ -129,7 +129,7 @@ held_from page names k a b c within keeps takes = record {
   known = within;
   page = page;
   within = omega arith;
-  takes = record { bytes = takes.bytes; taken = λ begun tells. ap (λ (files : List ℕ → Option (List ℕ)). files (name_at names k)) (sym keeps.file) ∙ takes.taken begun (keeps.tells ∙ tells) };
+  takes = record { bytes = takes.bytes; taken = λ begun tells. ap (λ (files : List ℕ → Option (List ℕ)). files (name_at names k)) (sym keeps.file) ∙ takes.taken begun (keeps.tells ∙ tells); few = takes.few };
 }
 
 pub image_read : (k plate : ℕ) (name : List ℕ) (a b : TrayState) (image : PlateRead) → ReadsPage name k a b (Ok (Some image)) → ReadsOneImage k plate name a b (Ok image)

@@ -1,5 +1,6 @@
 -- What it means to read the job of a run, and one page of it.
-use Rattle.std.specs.Prelude.{◌≡◌, ◌⊎◌, ℕ, ◌+◌, IsTrue, List, [], ◌∷◌, length, take, Some, Result, Ok, Err, IfOk}
+use Rattle.std.specs.Prelude.{◌≡◌, ◌⊎◌, ℕ, ◌+◌, IsTrue, List, [], ◌∷◌, length, take, Some, Result}
+use Rattle.std.specs.Prelude.{Ok, Err, IfOk}
 use Rattle.outside.specs.Causes.{Rose, Asks, AsksFront}
 use Rattle.outside.specs.Tray.{TrayState, KeepsTray}
 use Rattle.page_gather.specs.Inputs.{Sources, Holds, AreRead, Makes, name_at}
@@ -36,30 +37,47 @@ abbrev pub job_stop : ℕ → JobRefusals → RunStop
 job_stop page (Fault fault) = AtPage page (Job fault)
 job_stop page OutOfMemory = Whole Memory
 
--- the files that are begun at a page where that refusal comes: none stands behind the one that is refused
+-- the files that are begun at a page where that refusal comes: none stands behind the one that is
+-- refused
 abbrev pub page_reads : Sources → Refusal → List (List ℕ)
 page_reads source (Job fault) = []
 page_reads source (Plate plate fault) = take (plate + 1) source.inputs
 page_reads source (Read (Some plate)) = take (plate + 1) source.inputs
 page_reads source other = source.inputs
 
--- The read of a plate failed at page k: the page's job and the plates before it are read, and of its own bytes those that were taken have no fault but an early end.
+-- The read of a plate failed at page k: the page's job and the plates before it are read, and of
+-- its own bytes those that were taken have no fault but an early end.
 pub record PageBreaks (source : Sources) (k plate : ℕ) (before after : TrayState) : Type 0 where
   pub job : JobRead
   pub plates : List PlateRead
-  pub job_read : IsTrue before.tells → Holds before.file source.job (λ bytes. (page_spelling k).job bytes ≡ Ok job)
-  pub before_it : IsTrue before.tells → AreRead (page_spelling k) before.file source.inputs plate plates
+  pub job_read : IsTrue before.tells
+      → Holds before.file source.job (λ bytes. (page_spelling k).job bytes ≡ Ok job)
+  pub before_it : IsTrue before.tells
+      → AreRead (page_spelling k) before.file source.inputs plate plates
   pub in_hand : IsUnbroken k (name_at source.inputs plate) before after
 
 -- Page k stops the run before a file of it is created.
-pub data StopsPage (source : Sources) (k : ℕ) (before after : TrayState) (stop : RunStop) : Type 0 where
-  refused : (refusal : Refusal) → stop ≡ AtPage k refusal → (status_of refusal ≡ job_refused) ⊎ (status_of refusal ≡ page_refused) → PassesNoFault {T = Unit {0}} before after (Err refusal) → Asks before.asked after.asked (page_reads source refusal) → (IsTrue before.tells → (target : Targets) → IsVerdict (page_spelling k) before.file source target (Refused refusal)) → StopsPage source k before after stop
-  ends : (plate : ℕ) → stop ≡ Ends k plate → after.faults ≡ before.faults → Asks before.asked after.asked (take (plate + 1) source.inputs) → (IsTrue before.tells → PlateEnds before.file source k plate) → StopsPage source k before after stop
-  unread : (plate : ℕ) → stop ≡ AtPage k (Read (Some plate)) → Rose before.faults after.faults → Asks before.asked after.asked (take (plate + 1) source.inputs) → PageBreaks source k plate before after → StopsPage source k before after stop
-  no_memory : stop ≡ Whole Memory → after.faults ≡ before.faults → AsksFront before.asked after.asked source.inputs → StopsPage source k before after stop
+pub data StopsPage (source : Sources) (k : ℕ) (before after : TrayState)
+    (stop : RunStop) : Type 0 where
+  refused : (refusal : Refusal) → stop ≡ AtPage k refusal → (status_of refusal ≡ job_refused)
+      ⊎ (status_of refusal ≡ page_refused) → PassesNoFault {T = Unit {0}} before after (Err refusal)
+      → Asks before.asked after.asked (page_reads source refusal)
+      → (IsTrue before.tells → (target : Targets)
+      → IsVerdict (page_spelling k) before.file source target (Refused refusal))
+      → StopsPage source k before after stop
+  ends : (plate : ℕ) → stop ≡ Ends k plate → after.faults ≡ before.faults
+      → Asks before.asked after.asked (take (plate + 1) source.inputs)
+      → (IsTrue before.tells → PlateEnds before.file source k plate)
+      → StopsPage source k before after stop
+  unread : (plate : ℕ) → stop ≡ AtPage k (Read (Some plate)) → Rose before.faults after.faults
+      → Asks before.asked after.asked (take (plate + 1) source.inputs)
+      → PageBreaks source k plate before after → StopsPage source k before after stop
+  no_memory : stop ≡ Whole Memory → after.faults ≡ before.faults
+      → AsksFront before.asked after.asked source.inputs → StopsPage source k before after stop
 
 -- Page k is made of the job and of the k-th images.
-pub record IsPageMade (source : Sources) (k : ℕ) (before after : TrayState) (page : PageParts) : Type 0 where
+pub record IsPageMade (source : Sources) (k : ℕ) (before after : TrayState)
+    (page : PageParts) : Type 0 where
   pub count : plates page ≡ length source.inputs
   pub calm : after.faults ≡ before.faults
   pub asked : Asks before.asked after.asked source.inputs
@@ -69,8 +87,10 @@ abbrev pub AnswersGather : Sources → ℕ → TrayState → TrayState → Resul
 AnswersGather source k before after (Ok page) = IsPageMade source k before after page
 AnswersGather source k before after (Err stop) = StopsPage source k before after stop
 
--- Page k is read, with a plane for each plate; where the job's file has these bytes, it is the page that they and the plates' files make.
-pub record GathersPage (source : Sources) (bytes : List ℕ) (k : ℕ) (before after : TrayState) (result : Result PageParts RunStop) : Type 0 where
+-- Page k is read, with a plane for each plate; where the job's file has these bytes, it is the page
+-- that they and the plates' files make.
+pub record GathersPage (source : Sources) (bytes : List ℕ) (k : ℕ) (before after : TrayState)
+    (result : Result PageParts RunStop) : Type 0 where
   pub keeps : KeepsTray before after
   pub in_hand : MayHold source.inputs k before after
   pub count : IfOk result (λ page. plates page ≡ length source.inputs)
@@ -86,8 +106,13 @@ pub record JobOpened (source : Sources) (bytes : List ℕ) (before after : TrayS
   pub few : TakesJob source.job before after
   pub known : IsJobOf source bytes before
 
--- The run is in hand: its job is read and has pages, and its names are those of the words. Or it stops.
-pub data HoldsRun (order : RunOrder) (before after : TrayState) (result : Result Held RunStop) : Type 0 where
+-- The run is in hand: its job is read and has pages, and its names are those of the words. Or it
+-- stops.
+pub data HoldsRun (order : RunOrder) (before after : TrayState)
+    (result : Result Held RunStop) : Type 0 where
   not_begun : result ≡ Err (Whole Memory) → after ≡ before → HoldsRun order before after result
-  held : (run : Held) → result ≡ Ok run → IsHeld run → run.order.now ≡ order → JobOpened (sources_of (order_in order)) run.job before after → HoldsRun order before after result
-  stopped : (stop : RunStop) → result ≡ Err stop → ReadsRunJob order.job.now before after (Err stop) → HoldsRun order before after result
+  held : (run : Held) → result ≡ Ok run → IsHeld run → run.order.now ≡ order
+      → JobOpened (sources_of (order_in order)) run.job before after
+      → HoldsRun order before after result
+  stopped : (stop : RunStop) → result ≡ Err stop → ReadsRunJob order.job.now before after (Err stop)
+      → HoldsRun order before after result

@@ -8,7 +8,8 @@ use Rattle.run_reading.specs.declared.words.RunOrder.{RunOrder}
 
 -- the run of the words that are held
 abbrev pub order_in : RunOrder → RunWords
-order_in order = record { workers = order.workers; band = order.band; job = order.job.now; report = order.report.now; plates = map parts_of (map string_bytes order.plates.now) }
+order_in order = record { workers = order.workers; band = order.band; job = order.job.now; report =
+    order.report.now; plates = map parts_of (map string_bytes order.plates.now) }
 
 -- the limits of what the words may ask for
 pub record IsWithin (order : RunOrder) : Type 0 where
