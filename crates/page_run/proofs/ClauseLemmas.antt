@@ -14,8 +14,8 @@ use Rattle.page_run.specs.Text.{usage_line}
 use Rattle.page_writing.specs.Files.{Written as File, names_of, put_all}
 use Rattle.page_writing.specs.Writing.{FinishesAll}
 use Rattle.page_writing.proofs.Told.{breaks_cause, file_breaks, line_after}
-use Rattle.run_reading.specs.InHand.{InHand}
-use Rattle.run_reading.specs.Words.{RunWords, order_of, sources_of, targets_of}
+use Rattle.page_run.specs.InHand.{InHand}
+use Rattle.page_run.specs.Words.{RunWords, order_of, sources_of, targets_of}
 use Rattle.traprun_verdicts.specs.declared.stop.RunStop.{RunStop}
 use Rattle.traprun_verdicts.specs.declared.stop.RunStop.TheVariants as stops
 use Rattle.traprun_verdicts.specs.Pages.{AreMade, run_files, run_names, run_reads, target_at}

@@ -21,9 +21,9 @@ use Rattle.page_run.specs.Paging.{AnswersStep, Steps, StepsPage}
 use Rattle.page_writing.specs.Files.{Written as File, names_of, plate_files, put_all}
 use Rattle.page_writing.specs.Writing.{FinishesAll, WritesAll}
 use Rattle.page_writing.proofs.Steps.{wrote_none}
-use Rattle.run_reading.specs.Gathering.{IsJobOf, IsPageMade, StopsPage}
-use Rattle.run_reading.specs.InHand.{InHand, MayHold}
-use Rattle.run_reading.proofs.ImageLemmas.{unbroken_before}
+use Rattle.page_run.specs.Gathering.{IsJobOf, IsPageMade, StopsPage}
+use Rattle.page_run.specs.InHand.{InHand, MayHold}
+use Rattle.page_run.proofs.ImageLemmas.{unbroken_before}
 use Rattle.traprun_verdicts.specs.declared.stop.RunStop.{RunStop}
 use Rattle.traprun_verdicts.specs.declared.stop.RunStop.TheVariants.{AtPage, Ends}
 use Rattle.traprun_verdicts.specs.Images.{page_spelling}
@@ -37,7 +37,7 @@ put_both : (files more : List File) (held : List ℕ → Option (List ℕ)) → 
 put_both [] more held = refl
 put_both (f ∷ fs) more held = put_both fs more (put f.name f.bytes held)
 
--- names that were handed out, and then a front of others
+-- names that were handed out, and then a prefix of others
 pub front_more : (a m b : Option (List (List ℕ))) (xs ys : List (List ℕ)) → Asks a m xs → AsksFront m b ys → AsksFront a b (xs ++ ys)
 front_more a m None xs ys one two = tt
 front_more a None (Some every) xs ys one two = absurd (let e : None ≡ Some two.0 = two.2 in cc)

@@ -12,10 +12,10 @@ use Rattle.page_output.specs.Output.{AnswersPut, PutsOut, targets}
 use Rattle.page_run.specs.Paging.{AnswersPutPage, AnswersStep, PutsPage, StepsPage}
 use Rattle.page_writing.specs.Writing.{Breaks}
 use Rattle.plain_words.specs.Parts.{PlateNames}
-use Rattle.run_reading.specs.Held.{order_in}
-use Rattle.run_reading.specs.Words.{targets_of}
-use Rattle.run_reading.specs.declared.words.RunOrder.{RunOrder}
-use Rattle.run_reading.specs.Gathering.{GathersPage, IsPageMade, StopsPage}
+use Rattle.page_run.specs.Opened.{order_in}
+use Rattle.page_run.specs.Words.{targets_of}
+use Rattle.page_run.specs.declared.words.TraprunArgs.{TraprunArgs}
+use Rattle.page_run.specs.Gathering.{GathersPage, IsPageMade, StopsPage}
 use Rattle.traprun_verdicts.specs.declared.stop.RunStop.{RunStop}
 use Rattle.traprun_verdicts.specs.declared.stop.RunStop.TheVariants.{Whole}
 use Rattle.traprun_verdicts.specs.Pages.{numbered, target_at}
@@ -84,5 +84,5 @@ files_named target k band page a b result outputs report named told put =
     (subst (λ (o : List (List ℕ)). PutsOut band (targets o report) page a b result) named put)
 
 -- there are as many files as plates
-pub as_many_outputs : {X : Type 0} (text : X → List ℕ) (files : List X) (order : RunOrder) (k : ℕ) → map text files ≡ map (numbered k) (targets_of (order_in order)).outputs → length files ≡ length order.plates.now
+pub as_many_outputs : {X : Type 0} (text : X → List ℕ) (files : List X) (order : TraprunArgs) (k : ℕ) → map text files ≡ map (numbered k) (targets_of (order_in order)).outputs → length files ≡ length order.plates.now
 as_many_outputs text files order k named = sym (length-map files text) ∙ ap (λ (l : List (List ℕ)). length l) named ∙ length-map (targets_of (order_in order)).outputs (numbered k) ∙ length-map (order_in order).plates (λ (p : PlateNames). p.output) ∙ length-map _ _ ∙ length-map _ _

@@ -9,11 +9,11 @@ use Rattle.page_gather.specs.Steps.{PassesNoFault, TakesJob}
 use Rattle.page_model.specs.declared.parts.PageParts.{PageParts}
 use Rattle.page_model.specs.Conditions.{IsPage}
 use Rattle.page_writing.specs.Writing.{WritesAll, Breaks, FinishesAll}
-use Rattle.run_reading.specs.Gathering.{JobOpened, PageBreaks, page_reads}
-use Rattle.run_reading.specs.InHand.{InHand}
-use Rattle.run_reading.specs.Reading.{IsUnbroken}
+use Rattle.page_run.specs.Gathering.{JobOpened, PageBreaks, page_reads}
+use Rattle.page_run.specs.InHand.{InHand}
+use Rattle.page_run.specs.Reading.{IsUnbroken}
 use Rattle.page_run.specs.Text.{usage_line}
-use Rattle.run_reading.specs.Words.{RunWords, order_of, sources_of, targets_of}
+use Rattle.page_run.specs.Words.{RunWords, order_of, sources_of, targets_of}
 use Rattle.traprun_verdicts.specs.declared.stop.RunStop.{RunStop}
 use Rattle.traprun_verdicts.specs.declared.stop.RunStop.TheVariants.{Whole, AtPage, Ends, Extra}
 use Rattle.traprun_verdicts.specs.Pages.{AreMade, run_files, run_names, run_reads, target_at}
@@ -35,7 +35,7 @@ pub record Written (source : Sources) (target : Targets) (tray tray' : TrayState
   pub finished : FinishesAll (run_names target (length pages)) rack rack'
   pub wrote : WritesAll (run_files target pages) rack rack'
 
--- the files that are begun where a run stops so behind so many pages: none stands behind the one
+-- the files that are begun where a run stops so after so many pages: none stands after the one
 -- that is refused
 abbrev pub stop_reads : Sources → ℕ → RunStop → List (List ℕ)
 stop_reads source k (AtPage page refusal) = run_reads source k ++ page_reads source refusal
@@ -57,7 +57,7 @@ StopKeepsCount before after (Whole refusal) =
 StopKeepsCount before after other = after.faults ≡ before.faults
 
 -- The read of the file that a stop names failed. What was read before it is without fault: the job;
--- of a page its job and the plates before; behind the last page the plates before, whose files end
+-- of a page its job and the plates before; after the last page the plates before, whose files end
 -- there. Of the plate's own bytes those that were taken have no fault but an early end.
 abbrev pub BreaksRun : Sources → ℕ → TrayState → TrayState → RunStop → Type 0
 BreaksRun source k before after (Whole (Read None)) = k ≡ 0
@@ -69,15 +69,15 @@ BreaksRun source k before after (Whole (Read (Some plate))) =
     × IsUnbroken k (name_at source.inputs plate) before after
 BreaksRun source k before after other = ⊥
 
--- A stop stands behind so many pages: that of a page has the page's number, one of the whole job
--- comes before the first page, and one of a plate's last look behind all pages of the job.
-abbrev pub StandsBehind : Sources → TrayState → ℕ → RunStop → Type 0
-StandsBehind source before k (AtPage page refusal) = page ≡ k
-StandsBehind source before k (Ends page plate) = page ≡ k
-StandsBehind source before k (Extra plate) = IsTrue before.tells → HasPages before.file source k
-StandsBehind source before k (Whole (Plate plate fault)) = IsTrue before.tells
+-- A stop stands after so many pages: that of a page has the page's number, one of the whole job
+-- comes before the first page, and one of a plate's last look after all pages of the job.
+abbrev pub StopsAfter : Sources → TrayState → ℕ → RunStop → Type 0
+StopsAfter source before k (AtPage page refusal) = page ≡ k
+StopsAfter source before k (Ends page plate) = page ≡ k
+StopsAfter source before k (Extra plate) = IsTrue before.tells → HasPages before.file source k
+StopsAfter source before k (Whole (Plate plate fault)) = IsTrue before.tells
     → HasPages before.file source k
-StandsBehind source before k other = k ≡ 0
+StopsAfter source before k other = k ≡ 0
 
 -- How a run ends, before a line is told. The pages are those that were written whole before it, the
 -- last of them first.
@@ -101,7 +101,7 @@ pub data AnswersRun (source : Sources) (target : Targets) (tray tray' : TrayStat
   refused : (pages : List PageParts) (between : TrayState) (stop : RunStop) → result ≡ Err stop
       → (status_of_stop stop ≡ job_refused) ⊎ (status_of_stop stop ≡ page_refused)
       → Written source target tray between rack rack' pages
-      → StandsBehind source tray (length pages) stop → StopKeepsCount tray tray' stop
+      → StopsAfter source tray (length pages) stop → StopKeepsCount tray tray' stop
       → Asks tray.asked tray'.asked (stop_reads source (length pages) stop)
       → (IsTrue tray.tells → IsRunVerdict tray.file source target (Stopped stop))
       → InHand source (length pages) tray tray'
@@ -137,7 +137,7 @@ pub record Runs (source : Sources) (target : Targets) (tray tray' : TrayState)
   pub told : IsTrue rack.tells → rack'.told ≡ rack.told
   pub answer : AnswersRun source target tray tray' rack rack' result
 
--- Behind a job that was read and has pages, the run is carried out: seen from the tray as it was
+-- After a job that was read and has pages, the run is carried out: seen from the tray as it was
 -- before.
 abbrev pub RunsFrom : Sources → Targets → List ℕ → TrayState → TrayState → RackState → RackState
     → Result (Unit {0}) RunStop → Type 0

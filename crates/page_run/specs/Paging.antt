@@ -7,8 +7,8 @@ use Rattle.page_gather.specs.Inputs.{Sources}
 use Rattle.page_model.specs.declared.parts.PageParts.{PageParts}
 use Rattle.page_model.specs.Conditions.{IsPage}
 use Rattle.page_writing.specs.Writing.{WritesAll, Breaks, FinishesAll}
-use Rattle.run_reading.specs.Gathering.{IsJobOf, IsPageMade, StopsPage}
-use Rattle.run_reading.specs.InHand.{MayHold}
+use Rattle.page_run.specs.Gathering.{IsJobOf, IsPageMade, StopsPage}
+use Rattle.page_run.specs.InHand.{MayHold}
 use Rattle.traprun_verdicts.specs.declared.stop.RunStop.{RunStop}
 use Rattle.traprun_verdicts.specs.declared.stop.RunStop.TheVariants.{Whole, AtPage}
 use Rattle.traprun_verdicts.specs.Pages.{target_at}

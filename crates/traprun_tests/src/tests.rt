@@ -96,7 +96,7 @@ fn calls(alloc: Global, call: Option<u64>) -> Result<CallList, AllocError> {
     Ok(List::from_vec(numbers))
 }
 
-// The file of that name, of these pieces one behind the other.
+// The file of that name, of these pieces one after the other.
 fn file_of(alloc: Global, name: &str, pieces: &[&[u8]]) -> Result<MemFile, AllocError> {
     let bytes = pieces.concat(alloc)?;
     Ok(MemFile {

@@ -16,12 +16,7 @@ const PAGES: &[(&[&[u8]], u32, u32, Option<Limits>)] = &[
     (&[INKS, WIDE, DARKER_SIDE], 2, 0, Some(Ok((20_000, 7_000)))),
     (&[INKS, WIDE, DARKER_SIDE], 2, 1, Some(Ok((20_000, 10_000)))),
     (&[INKS, WIDE, DARKER_SIDE], 2, 2, None),
-    (
-        &[DISABLED, b" 5 showpage"],
-        2,
-        0,
-        Some(Ok((2_500, 7_000))),
-    ),
+    (&[DISABLED, b" 5 showpage"], 2, 0, Some(Ok((2_500, 7_000)))),
     (
         &[DISABLED, b" 5 showpage"],
         2,

@@ -2,12 +2,12 @@ use Rattle.std.proofs.Common.{◌≡◌, List, length}
 use Rattle.outside.specs.Tray.{TrayState}
 use Rattle.page_model.specs.declared.parts.PageParts.{PageParts}
 use Rattle.page_run.specs.Endings.{PagesDone}
-use Rattle.run_reading.specs.Gathering.{JobOpened}
-use Rattle.run_reading.specs.Held.{order_in}
-use Rattle.run_reading.specs.Words.{sources_of, targets_of}
+use Rattle.page_run.specs.Gathering.{JobOpened}
+use Rattle.page_run.specs.Opened.{order_in}
+use Rattle.page_run.specs.Words.{sources_of, targets_of}
 use Rattle.page_run.proofs.run.trap_pages.Given as goal
 
 abbrev pub invariant-loop-page : goal.invariant-loop-page
 invariant-loop-page g l =
-    let order = order_in l.held.order.now in
-    (tray : TrayState) → JobOpened (sources_of order) l.held.job tray (g.T.Tray.state l.fn.tray) → (pages : List PageParts) × (length pages ≡ l.page) × PagesDone (sources_of order) (targets_of order) tray (g.T.Tray.state l.tray) (g.R.Rack.state l.fn.rack) (g.R.Rack.state l.rack) pages
+    let order = order_in l.opened.order.now in
+    (tray : TrayState) → JobOpened (sources_of order) l.opened.job tray (g.T.Tray.state l.fn.tray) → (pages : List PageParts) × (length pages ≡ l.page) × PagesDone (sources_of order) (targets_of order) tray (g.T.Tray.state l.tray) (g.R.Rack.state l.fn.rack) (g.R.Rack.state l.rack) pages

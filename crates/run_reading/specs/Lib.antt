@@ -1,5 +1,0 @@
-pub mod InHand
-pub mod Reading
-pub mod Words
-pub mod Held
-pub mod Gathering
