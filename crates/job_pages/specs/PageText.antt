@@ -1,9 +1,10 @@
 -- The text of one page of a job of many.
-use Rattle.std.specs.Prelude.{ℕ, Bool, not, ◌&&◌, ◌-◌, nat_le, max, List, ◌∷◌, ◌++◌, take, drop, length, map, filter, fold, replicate, slice_index, ◌+◌}
+use Rattle.std.specs.Prelude.{ℕ, Bool, not, ◌&&◌, ◌-◌, nat_le, max, List, ◌∷◌, ◌++◌, take, drop}
+use Rattle.std.specs.Prelude.{length, map, filter, fold, replicate, slice_index, ◌+◌}
 use Rattle.job_pages.specs.declared.passages.Passage.{Passage}
 use Rattle.job_pages.specs.Passages.{shows, stays}
 
--- where the pages of a job end, in their order: each behind its `showpage`
+-- where the pages of a job end, in their order: each after its `showpage`
 abbrev pub page_ends : List Passage → List ℕ
 page_ends passages = map (λ (p : Passage). p.end) (filter shows passages)
 
@@ -21,9 +22,15 @@ spaces_for bytes = replicate (length bytes) 32
 
 -- a text with spaces in a statement's place
 abbrev pub blanked : List ℕ → Passage → List ℕ
-blanked text p = take p.from text ++ spaces_for (take (p.end - p.from) (drop p.from text)) ++ drop (max p.from p.end) text
+blanked text p =
+    take p.from text ++ spaces_for (take (p.end - p.from) (drop p.from text)) ++
+    drop (max p.from p.end) text
 
--- The bytes up to the end of page k, counted from 0. In the place of each statement of an earlier page stand spaces, unless it is `setpagedevice` or `settrapparams`: so parameters, limits, resolution, Trapping and details go on from page to page, paths and zones do not, and all offsets are those of the whole job.
+-- The bytes up to the end of page k, counted from 0. In the place of each statement of an earlier
+-- page stand spaces, unless it is `setpagedevice` or `settrapparams`: so parameters, limits,
+-- resolution, Trapping and details go on from page to page, paths and zones do not, and all offsets
+-- are those of the whole job.
 abbrev pub text_in : List Passage → List ℕ → ℕ → List ℕ
 text_in passages bytes k =
-    fold blanked (take (bound passages (k + 1)) bytes) (filter (is_left_behind (bound passages k)) passages)
+    fold blanked (take (bound passages (k + 1)) bytes)
+    (filter (is_left_behind (bound passages k)) passages)

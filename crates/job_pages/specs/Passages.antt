@@ -1,17 +1,23 @@
 -- The statements of a job among its bytes.
-use Rattle.std.specs.Prelude.{ℕ, Bool, true, false, List, [], map, length, Option, Some, None, slice_get, ◌+◌}
+use Rattle.std.specs.Prelude.{ℕ, Bool, true, false, List, [], map, length, Option, Some, None}
+use Rattle.std.specs.Prelude.{slice_get, ◌+◌}
 use Rattle.ps_tokens.specs.declared.object.Body.{Body}
 use Rattle.ps_tokens.specs.declared.object.Body.TheVariants as bodies
 use Rattle.ps_tokens.specs.declared.object.Object.{Object}
 use Rattle.job_reader.specs.declared.calls.Call.{Call}
 use Rattle.job_reader.specs.declared.operators.Operator.{Operator}
-use Rattle.job_reader.specs.declared.operators.Operator.TheVariants.{SetPageDevice, SetTrapParams, NewPath, ClosePath, MoveTo, LineTo, RelativeMoveTo, RelativeLineTo, SetTrapZone, ShowPage}
+use Rattle.job_reader.specs.declared.operators.Operator.TheVariants.{SetPageDevice, SetTrapParams}
+use Rattle.job_reader.specs.declared.operators.Operator.TheVariants.{NewPath, ClosePath, MoveTo}
+use Rattle.job_reader.specs.declared.operators.Operator.TheVariants.{LineTo, RelativeMoveTo}
+use Rattle.job_reader.specs.declared.operators.Operator.TheVariants.{RelativeLineTo, SetTrapZone}
+use Rattle.job_reader.specs.declared.operators.Operator.TheVariants.{ShowPage}
 use Rattle.job_reader.specs.Calls.{Statement, statements_of}
 use Rattle.job_pages.specs.declared.passages.Effect.{Effect}
 use Rattle.job_pages.specs.declared.passages.Effect.TheVariants.{Stays, Shows, Passes}
 use Rattle.job_pages.specs.declared.passages.Passage.{Passage}
 
--- Parameters, limits, resolution, Trapping and details stay in force from page to page; paths and zones do not.
+-- Parameters, limits, resolution, Trapping and details stay in force from page to page; paths and
+-- zones do not.
 abbrev pub effect_by : Operator → Effect
 effect_by SetPageDevice = Stays
 effect_by SetTrapParams = Stays
@@ -62,7 +68,8 @@ passage_at objects from place call = record {
 abbrev pub passage_of : List Object → Statement → Passage
 passage_of objects s = passage_at objects s.from s.place s.call
 
--- the statements of a job's objects, from the first byte of the first operand, or of the operator where there is none, to the last byte of the operator
+-- the statements of a job's objects, from the first byte of the first operand, or of the operator
+-- where there is none, to the last byte of the operator
 abbrev pub passages_of : List Object → List Passage
 passages_of objects = map (passage_of objects) (statements_of objects)
 

@@ -1,5 +1,6 @@
 -- The pages of a job, or the first refusal.
-use Rattle.std.specs.Prelude.{◌≡◌, ℕ, List, [], length, filter, Option, Some, None, Result, Ok, Err, slice_get, option_map, ◌+◌, ◌-◌, ◌<◌}
+use Rattle.std.specs.Prelude.{◌≡◌, ℕ, List, [], length, filter, Option, Some, None, Result, Ok, Err}
+use Rattle.std.specs.Prelude.{slice_get, option_map, ◌+◌, ◌-◌, ◌<◌}
 use Rattle.lists.specs.Words.{or_else}
 use Rattle.ps_tokens.specs.declared.faults.FaultKind.TheVariants.{NoShowpage}
 use Rattle.ps_tokens.specs.declared.faults.JobFault.{JobFault}
@@ -30,7 +31,8 @@ objects_by bytes (Err fault) = Err fault
 abbrev pub objects_in : List ℕ → Result (List Object) JobFault
 objects_in bytes = objects_by bytes (tokens_of bytes)
 
--- the fault at the end of a job of so many bytes: it has no page, or an object stands behind the last `showpage`
+-- the fault at the end of a job of so many bytes: it has no page, or an object stands after the
+-- last `showpage`
 abbrev pub end_fault : ℕ → List Object → Option Passage → Option JobFault
 end_fault len objects None = Some (record { kind = NoShowpage; at = len })
 end_fault len objects (Some p) = behind_fault (slice_get objects (p.place + 1))
@@ -44,9 +46,12 @@ abbrev pub excess : Option Passage → Option RunRefusal
 excess None = None
 excess (Some p) = Some (TooManyPages p.at)
 
--- the first refusal of a job of so many bytes, where its objects have no fault, and its pages are shown by these statements
+-- the first refusal of a job of so many bytes, where its objects have no fault, and its pages are
+-- shown by these statements
 abbrev pub run_refusal : ℕ → List Object → List Passage → Option RunRefusal
-run_refusal len objects shown = or_else (option_map Fault (end_fault len objects (last_of shown))) (excess (slice_get shown most_pages))
+run_refusal len objects shown =
+    or_else (option_map Fault (end_fault len objects (last_of shown)))
+    (excess (slice_get shown most_pages))
 
 -- statements, unless there is a refusal
 abbrev pub run_unless : Option RunRefusal → List Passage → Result (List Passage) RunRefusal
@@ -55,9 +60,12 @@ run_unless (Some refusal) passages = Err refusal
 
 abbrev pub run_from : ℕ → Result (List Object) JobFault → Result (List Passage) RunRefusal
 run_from len (Err fault) = Err (Fault fault)
-run_from len (Ok objects) = run_unless (run_refusal len objects (filter shows (passages_of objects))) (passages_of objects)
+run_from len (Ok objects) =
+    run_unless (run_refusal len objects (filter shows (passages_of objects))) (passages_of objects)
 
--- The statements of a job of many pages. First of all the whole job's tokens and then its objects are judged; then it has to have a `showpage`, no object may stand behind the last one, and there may be 256.
+-- The statements of a job of many pages. First of all the whole job's tokens and then its objects
+-- are judged; then it has to have a `showpage`, no object may stand after the last one, and there
+-- may be 256.
 unfoldable pub run_of : List ℕ → Result (List Passage) RunRefusal
 run_of bytes = run_from (length bytes) (objects_in bytes)
 

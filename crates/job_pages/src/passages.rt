@@ -10,7 +10,7 @@ use ps_tokens::dictionary::count;
 use ps_tokens::object::{Body, Object, ObjectList};
 use std::alloc::Global;
 
-/// What a statement does for the pages behind its own.
+/// What a statement does for the pages after its own.
 #[derive(Clone, Copy, Debug, Drop, PartialEq, Eq)]
 pub enum Effect {
     /// What it sets stays in force.
@@ -21,7 +21,7 @@ pub enum Effect {
     Passes,
 }
 
-/// A statement among a job's bytes: from the first byte of its first operand, up to the byte behind its operator. The
+/// A statement among a job's bytes: from the first byte of its first operand, up to the byte after its operator. The
 /// operator is the object at `place`, and stands at the offset `at`.
 #[derive(Clone, Copy, Debug, Drop, PartialEq, Eq)]
 pub struct Passage {
@@ -46,7 +46,7 @@ impl Passage {
         }
     }
 
-    /// Whether what it sets stays in force on the pages behind its own.
+    /// Whether what it sets stays in force on the pages after its own.
     pub fn stays(&self) -> bool
         ensures { result ≡ stays self.now }
     {

@@ -38,7 +38,7 @@ pub struct Run {
 /// How many pages a job has: one for each `showpage`, at most `MOST_PAGES`. It has at most `ps_tokens::LONGEST_JOB` bytes.
 ///
 /// The faults of the whole job's tokens come first, then those of its objects; then `NoShowpage` where there is no page,
-/// `AfterShowpage` at the first object behind the last page, and `TooManyPages`.
+/// `AfterShowpage` at the first object after the last page, and `TooManyPages`.
 pub fn page_count(alloc: Global, bytes: &[u8]) -> Result<u32, RunRefusal>
     requires { length bytes.now ≤ longest_job }
     ensures { GivesRun result (count_of bytes.now) }
@@ -115,7 +115,7 @@ fn run_refusal(len: u32, objects: &ObjectList, shown: &[Passage]) -> Option<RunR
     }
 }
 
-// What is wrong at the job's end, behind its last page.
+// What is wrong at the job's end, after its last page.
 fn end_fault(len: u32, objects: &ObjectList, last: Option<&Passage>) -> Option<JobFault>
     ensures { result ≡ end_fault len objects.now (option_copied last.entry) }
 {

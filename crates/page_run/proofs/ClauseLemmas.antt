@@ -1,21 +1,21 @@
 -- The clauses of the top call, by how the run of the words ended.
 use Rattle.std.proofs.Common.{◌≡◌, ◌≢◌, ◌⊎◌, ℕ, suc, ◌<◌, ◌≤◌, List, [], ◌∷◌, ◌++◌, length, take, All, Option, Some, None, Result, Ok, Err, Bool, IsTrue, IsFalse, inl, inr, refl, sym, ap, ◌∙◌, subst, arith}
-use Rattle.std.proofs.lemmas.Bool.{cases_lt}
 use Rattle.std.proofs.lemmas.List.Elements.{All-cons}
-use Rattle.outside.specs.Causes.{Rose, Asks, AsksFront}
+use Rattle.outside.specs.Causes.{Rose, RoseOnce, Asks, AsksFront}
 use Rattle.outside.specs.Tray.{TrayState}
 use Rattle.outside.specs.Rack.{RackState, KeepsRack}
-use Rattle.outside.specs.Writing.{BreaksFile}
-use Rattle.outside.proofs.Names.{asks_all, asks_none, asks_none_of}
-use Rattle.outside.proofs.Steps.{rose_before}
+use Rattle.outside.proofs.Names.{asks_before, asks_none, asks_none_of}
+use Rattle.outside.proofs.Steps.{rose_after, rose_before}
 use Rattle.page_model.specs.declared.parts.PageParts.{PageParts}
 use Rattle.page_model.specs.Conditions.{IsPage}
-use Rattle.page_run.specs.Clauses.{Mean, Whole, Success, Usage, RefusesPages, RefusedInput, ReadFault, WriteFault, LeavesPages, FaultLine, Completeness}
+use Rattle.page_run.specs.Clauses.{Mean, Whole, EveryPage, FailsToRead, FailsToWrite, KeepsPages, Success, Usage, RefusesPages, RefusedInput, ReadFault, WriteFault, LeavesPages, FaultLine, Completeness}
 use Rattle.page_run.specs.Endings.{AnswersRun, BreaksRun, Closes, EndsRun, EndsWords, Written, stop_reads}
 use Rattle.page_run.specs.Text.{usage_line}
 use Rattle.page_writing.specs.Files.{Written as File, names_of, put_all}
-use Rattle.page_writing.specs.Writing.{Breaks, BreaksAt, WritesAll}
-use Rattle.run_reading.specs.Words.{RunWords, order_of, sources_of, targets_of}
+use Rattle.page_writing.specs.Writing.{FinishesAll}
+use Rattle.page_writing.proofs.Told.{breaks_cause, file_breaks, line_after}
+use Rattle.page_run.specs.InHand.{InHand}
+use Rattle.page_run.specs.Words.{RunWords, order_of, sources_of, targets_of}
 use Rattle.traprun_verdicts.specs.declared.stop.RunStop.{RunStop}
 use Rattle.traprun_verdicts.specs.declared.stop.RunStop.TheVariants as stops
 use Rattle.traprun_verdicts.specs.Pages.{AreMade, run_files, run_names, run_reads, target_at}
@@ -26,63 +26,18 @@ use Rattle.traprun_verdicts.proofs.RunLemmas.{one_run_verdict}
 use Rattle.traprun_verdicts.proofs.SomeRunLemmas.{some_run_verdict}
 use Rattle.trap_report.specs.declared.refusal.Refusal.TheVariants as refusals
 use Rattle.page_run.proofs.PageLemmas.{some_run_files}
-use Rattle.trap_report.specs.Telling.{KeepsFiles, TellsText, TellsBehindFault}
+use Rattle.trap_report.specs.Refusals.{line_of}
+use Rattle.trap_report.specs.Telling.{KeepsFiles, TellsText, TellsAfterFault}
 use Rattle.page_gather.specs.Inputs.{Sources, name_at}
 use Rattle.verdicts.specs.Verdicts.{IsFile, Targets, outcome}
 
--- what a write fault leaves
-pub record Breaking (order : RunWords) (t t' : TrayState) (r r' : RackState) : Type 0 where
-  pub pages : List PageParts
-  pub page : PageParts
-  pub file : Option ℕ
-  pub mid : RackState
-  pub wrote : WritesAll (run_files (targets_of order) pages) r mid
-  pub created : Asks r.asked mid.asked (run_names (targets_of order) (length pages))
-  pub calm : t'.faults ≡ t.faults
-  pub begun : Asks t.asked t'.asked (run_reads (sources_of order) (suc (length pages)))
-  pub valid : All IsPage (page ∷ pages)
-  pub made : IsTrue t.tells → AreMade t.file (sources_of order) (page ∷ pages)
-  pub breaks : Breaks (length (targets_of order).outputs) (outcome (target_at (targets_of order) (length pages)) page) file mid r'
-  pub line : TellsBehindFault (line_of_stop (stops.AtPage (length pages) (refusals.Write file))) r r'
-
 -- How a run of these words ended.
 data Ending (order : RunWords) (t t' : TrayState) (r r' : RackState) (status : ℕ) : Type 0 where
-  done : status ≡ 0 → (t'.faults ≡ t.faults) × (r'.faults ≡ r.faults) → (pages : List PageParts) → Whole order t r r' pages → (IsTrue t.tells → HasPages t.file (sources_of order) (length pages) × AllEnd t.file (sources_of order) (length pages) (length (sources_of order).inputs)) → Asks t.asked t'.asked (run_reads (sources_of order) (suc (length pages))) → Asks r.asked r'.asked (run_names (targets_of order) (length pages)) → (IsTrue r.tells → r'.told ≡ r.told) → Ending order t t' r r' status
+  done : status ≡ 0 → (t'.faults ≡ t.faults) × (r'.faults ≡ r.faults) → (pages : List PageParts) → Whole order t t' r r' pages → (IsTrue t.tells → HasPages t.file (sources_of order) (length pages) × AllEnd t.file (sources_of order) (length pages) (length (sources_of order).inputs)) → Asks t.asked t'.asked (run_reads (sources_of order) (suc (length pages))) → (IsTrue r.tells → r'.told ≡ r.told) → Ending order t t' r r' status
   refused : (stop : RunStop) (pages : List PageParts) → (status ≡ 3) ⊎ (status ≡ 4) → RefusesPages order t t' r r' status stop pages → Ending order t t' r r' status
-  unread : (stop : RunStop) (pages : List PageParts) → status ≡ 5 → Rose t.faults t'.faults → status ≡ status_of_stop stop → Whole order t r r' pages → Asks t.asked t'.asked (stop_reads (sources_of order) (length pages) stop) → BreaksRun (sources_of order) (length pages) t t' stop → TellsText (line_of_stop stop) r r' → Asks r.asked r'.asked (run_names (targets_of order) (length pages)) → Ending order t t' r r' status
-  unwritten : status ≡ 6 → Rose r.faults r'.faults → Breaking order t t' r r' → Ending order t t' r r' status
-  no_memory : (pages : List PageParts) → status ≡ 7 → t'.faults ≡ t.faults → ((n : ℕ) × AsksFront t.asked t'.asked (run_reads (sources_of order) n)) → Whole order t r r' pages → Asks r.asked r'.asked (run_names (targets_of order) (length pages)) → TellsText (line_of_stop (stops.Whole refusals.Memory)) r r' → Ending order t t' r r' status
-
--- a count that rose stays above what it was
-rose_after : (a b c : ℕ) → a ≤ b → b ≤ c → Rose a b → Rose a c
-rose_after a b c first then (inl less) = inl (omega arith)
-rose_after a b c first then (inr last) = elim (cases_lt a c) [ inl less ↦ inl less | inr back ↦ inr (omega arith) ]
-
-broken_then : (name bytes : List ℕ) (held : List ℕ → Option (List ℕ)) (b c : RackState) → c.is_open ≡ b.is_open → c.file ≡ b.file → BreaksFile name bytes held b → BreaksFile name bytes held c
-broken_then name bytes held b c opened same (inl none) = inl (opened ∙ none.0, same ∙ none.1)
-broken_then name bytes held b c opened same (inr front) = inr (opened ∙ front.0, (front.1.0, same ∙ front.1.1))
-
--- the write that failed, after its line was told
-breaks_then : (written : List File) (k : ℕ) (a b c : RackState) → a.faults ≤ b.faults → b.tells ≡ a.tells → BreaksAt written k a b → KeepsFiles b c → BreaksAt written k a c
-breaks_then written k a b c le tells breaks files = record {
-  earlier = breaks.earlier;
-  file = breaks.file;
-  later = breaks.later;
-  all = breaks.all;
-  place = breaks.place;
-  asked = subst (λ (names : Option (List (List ℕ))). Asks a.asked names (names_of breaks.earlier ++ breaks.file.name ∷ [])) (sym files.asked) breaks.asked;
-  finished = λ told. subst (λ (names : Option (List (List ℕ))). Asks a.finished names (names_of breaks.earlier)) (sym files.finished) (breaks.finished told);
-  part = λ told. broken_then breaks.file.name breaks.file.bytes (put_all breaks.earlier a.file) b c files.is_open (files.files (tells ∙ told)) (breaks.part told);
-  cause = rose_after a.faults b.faults c.faults le files.keeps.faults breaks.cause;
-}
-
-file_breaks : (plates : ℕ) (written : List File) (file : Option ℕ) (a b c : RackState) → a.faults ≤ b.faults → b.tells ≡ a.tells → Breaks plates written file a b → KeepsFiles b c → Breaks plates written file a c
-file_breaks plates written None a b c le tells breaks files = breaks_then written plates a b c le tells breaks files
-file_breaks plates written (Some k) a b c le tells breaks files = (breaks.0, breaks_then written k a b c le tells breaks.1 files)
-
-breaks_cause : (plates : ℕ) (written : List File) (file : Option ℕ) (a b : RackState) → Breaks plates written file a b → Rose a.faults b.faults
-breaks_cause plates written None a b breaks = breaks.cause
-breaks_cause plates written (Some k) a b breaks = breaks.1.cause
+  unread : (stop : RunStop) (pages : List PageParts) → status ≡ 5 → Rose t.faults t'.faults → status ≡ status_of_stop stop → Whole order t t' r r' pages → Asks t.asked t'.asked (stop_reads (sources_of order) (length pages) stop) → BreaksRun (sources_of order) (length pages) t t' stop → TellsText (line_of_stop stop) r r' → Ending order t t' r r' status
+  unwritten : status ≡ 6 → Rose r.faults r'.faults → t'.faults ≡ t.faults → FailsToWrite order t t' r r' → Ending order t t' r r' status
+  no_memory : (pages : List PageParts) → status ≡ 7 → t'.faults ≡ t.faults → AsksFront t.asked t'.asked (run_reads (sources_of order) (suc (length pages))) → Whole order t t' r r' pages → TellsText (line_of_stop (stops.Whole refusals.Memory)) r r' → Ending order t t' r r' status
 
 module _ (order : RunWords) (t t' : TrayState) (r m r' : RackState) (status : ℕ) (rack_keeps : KeepsRack r m) (told : IsTrue r.tells → m.told ≡ r.told) where
   abbrev source : Sources
@@ -98,39 +53,38 @@ module _ (order : RunWords) (t t' : TrayState) (r m r' : RackState) (status : �
     | inr part ↦ inr (rose_before r.faults m.faults r'.faults rack_keeps.faults part.0, (part.1.0, part.1.1 ∙ ap (λ (x : List ℕ). x ++ take part.1.0 text) (told tells)))
   ]
 
-  line_behind : (text : List ℕ) → Rose r.faults m.faults → TellsText text m r' → TellsBehindFault text r r'
-  line_behind text rose line = (
-    m.faults,
-    rose,
-    λ tells. elim (line (rack_keeps.tells ∙ tells)) [
-      | inl whole ↦ inl (whole ∙ ap (λ (x : List ℕ). x ++ text) (told tells))
-      | inr part ↦ inr (part.0, (part.1.0, part.1.1 ∙ ap (λ (x : List ℕ). x ++ take part.1.0 text) (told tells)))
-    ],
-  )
-
-  -- pages that were written are whole, after what changes no file
-  whole_then : (u : TrayState) (pages : List PageParts) → Written source target t u r m pages → KeepsFiles m r' → Whole order t r r' pages
-  whole_then u pages written files = record {
-    valid = written.valid;
-    made = written.made;
-    files = λ tells. files.files (rack_keeps.tells ∙ tells) ∙ written.wrote.whole tells;
-    shut = λ some. subst (λ (b : Bool). IsFalse b) (sym files.is_open) (written.wrote.shut (some_run_files target pages some));
-  }
+  line_after_write : (text : List ℕ) → RoseOnce r.faults m.faults → TellsText text m r' → TellsAfterFault text r r'
+  line_after_write text once line = line_after text r m r' told rack_keeps.tells once line
 
   created_then : (names : List (List ℕ)) → Asks r.asked m.asked names → KeepsFiles m r' → Asks r.asked r'.asked names
   created_then names asked files = subst (λ (o : Option (List (List ℕ))). Asks r.asked o names) (sym files.asked) asked
 
+  finished_by : (names : List (List ℕ)) → FinishesAll names r m → KeepsFiles m r' → FinishesAll names r r'
+  finished_by names before files tells = subst (λ (o : Option (List (List ℕ))). Asks r.finished o names) (sym files.finished) (before tells)
+
+  -- pages that were written are whole, after what changes no file
+  whole_then : (u : TrayState) (pages : List PageParts) → Written source target t u r m pages → InHand source (length pages) t t' → KeepsFiles m r' → Whole order t t' r r' pages
+  whole_then u pages written in_hand files = record {
+    valid = written.valid;
+    made = written.made;
+    files = λ tells. files.files (rack_keeps.tells ∙ tells) ∙ written.wrote.whole tells;
+    shut = λ some. subst (λ (b : Bool). IsFalse b) (sym files.is_open) (written.wrote.shut (some_run_files target pages some));
+    created = created_then (run_names target (length pages)) written.created files;
+    finished = finished_by (run_names target (length pages)) written.finished files;
+    in_hand = in_hand;
+  }
+
   -- no page was written
-  whole_none : m ≡ r → KeepsFiles m r' → Whole order t r r' []
-  whole_none same files = record {
+  whole_none : m ≡ r → InHand source 0 t t' → KeepsFiles m r' → Whole order t t' r r' []
+  whole_none same in_hand files = record {
     valid = λ k d within. absurd (omega arith);
     made = λ tells. tt;
     files = λ tells. files.files (rack_keeps.tells ∙ tells) ∙ ap (λ (x : RackState). x.file) same;
     shut = λ some. absurd (omega arith);
+    created = created_then [] (subst (λ (x : RackState). Asks r.asked x.asked []) (sym same) (asks_none r.asked)) files;
+    finished = finished_by [] (subst (λ (x : RackState). FinishesAll [] r x) (sym same) (λ tells. asks_none r.finished)) files;
+    in_hand = in_hand;
   }
-
-  created_none : m ≡ r → KeepsFiles m r' → Asks r.asked r'.asked []
-  created_none same files = created_then [] (subst (λ (x : RackState). Asks r.asked x.asked []) (sym same) (asks_none r.asked)) files
 
   closes_err : (result : Result (Unit {0}) RunStop) (stop : RunStop) → result ≡ Err stop → Closes result m r' status → RefusesRun stop m r' status
   closes_err result stop is closed = subst (λ (x : Result (Unit {0}) RunStop). Closes x m r' status) is closed
@@ -138,60 +92,61 @@ module _ (order : RunWords) (t t' : TrayState) (r m r' : RackState) (status : �
   closes_ok : (result : Result (Unit {0}) RunStop) → result ≡ Ok tt → Closes result m r' status → (r' ≡ m) × (status ≡ 0)
   closes_ok result is closed = subst (λ (x : Result (Unit {0}) RunStop). Closes x m r' status) is closed
 
-  ended_done : (pages : List PageParts) (u : TrayState) → Written source target t u r m pages → t'.faults ≡ t.faults → Asks t.asked t'.asked (run_reads source (suc (length pages))) → (IsTrue t.tells → HasPages t.file source (length pages) × AllEnd t.file source (length pages) (length source.inputs)) → (r' ≡ m) × (status ≡ 0) → Ending order t t' r r' status
-  ended_done pages u written calm asked ended closed =
+  ended_done : (pages : List PageParts) (u : TrayState) → Written source target t u r m pages → InHand source (length pages) t t' → t'.faults ≡ t.faults → Asks t.asked t'.asked (run_reads source (suc (length pages))) → (IsTrue t.tells → HasPages t.file source (length pages) × AllEnd t.file source (length pages) (length source.inputs)) → (r' ≡ m) × (status ≡ 0) → Ending order t t' r r' status
+  ended_done pages u written in_hand calm asked ended closed =
       let same : m ≡ r' = sym closed.0 in
       done closed.1 (calm, subst (λ (x : RackState). x.faults ≡ r.faults) same written.wrote.well) pages
-      (record { valid = written.valid; made = written.made; files = subst (λ (x : RackState). IsTrue r.tells → x.file ≡ put_all (run_files target pages) r.file) same written.wrote.whole; shut = λ some. subst (λ (x : RackState). IsFalse x.is_open) same (written.wrote.shut (some_run_files target pages some)) })
-      ended asked (subst (λ (x : RackState). Asks r.asked x.asked (run_names target (length pages))) same written.created) (subst (λ (x : RackState). IsTrue r.tells → x.told ≡ r.told) same told)
+      (record { valid = written.valid; made = written.made; files = subst (λ (x : RackState). IsTrue r.tells → x.file ≡ put_all (run_files target pages) r.file) same written.wrote.whole; shut = λ some. subst (λ (x : RackState). IsFalse x.is_open) same (written.wrote.shut (some_run_files target pages some)); created = subst (λ (x : RackState). Asks r.asked x.asked (run_names target (length pages))) same written.created; finished = subst (λ (x : RackState). FinishesAll (run_names target (length pages)) r x) same written.finished; in_hand = in_hand })
+      ended asked (subst (λ (x : RackState). IsTrue r.tells → x.told ≡ r.told) same told)
 
   ending_of : (result : Result (Unit {0}) RunStop) → AnswersRun source target t t' r m result → Closes result m r' status → Ending order t t' r r' status
   ending_of result (AnswersRun.not_begun is same_tray same) closed =
       let refuses = closes_err result (stops.Whole refusals.Memory) is closed in
-      no_memory [] refuses.status_is (ap (λ (x : TrayState). x.faults) same_tray) (0, subst (λ (x : TrayState). AsksFront t.asked x.asked (run_reads source 0)) (sym same_tray) (asks_none_of t.asked (run_reads source 0))) (whole_none same refuses.files) (created_none same refuses.files) (line_from _ refuses.line)
-  ending_of result (AnswersRun.unread_job is same rose asked) closed =
+      no_memory [] refuses.status_is (ap (λ (x : TrayState). x.faults) same_tray) (subst (λ (x : TrayState). AsksFront t.asked x.asked (run_reads source 1)) (sym same_tray) (asks_none_of t.asked (run_reads source 1))) (whole_none same (inr (inl same_tray)) refuses.files) (line_from _ refuses.line)
+  ending_of result (AnswersRun.unread_job is same rose asked few) closed =
       let refuses = closes_err result (stops.Whole (refusals.Read None)) is closed in
-      unread (stops.Whole (refusals.Read None)) [] refuses.status_is rose refuses.status_is (whole_none same refuses.files) asked refl (line_from _ refuses.line) (created_none same refuses.files)
-  ending_of result (AnswersRun.no_job_memory is same calm asked) closed =
+      unread (stops.Whole (refusals.Read None)) [] refuses.status_is rose refuses.status_is (whole_none same (inl few) refuses.files) asked refl (line_from _ refuses.line)
+  ending_of result (AnswersRun.no_job_memory is same calm asked few) closed =
       let refuses = closes_err result (stops.Whole refusals.Memory) is closed in
-      no_memory [] refuses.status_is calm (0, asks_all t.asked t'.asked (run_reads source 0) asked) (whole_none same refuses.files) (created_none same refuses.files) (line_from _ refuses.line)
-  ending_of result (AnswersRun.done pages u is written calm asked ended) closed = ended_done pages u written calm asked ended (closes_ok result is closed)
-  ending_of result (AnswersRun.refused pages u stop is which written place count asked verdict) closed =
+      no_memory [] refuses.status_is calm (asks_before t.asked t'.asked (run_reads source 0) source.inputs asked) (whole_none same (inl few) refuses.files) (line_from _ refuses.line)
+  ending_of result (AnswersRun.done pages u is written calm asked ended in_hand) closed = ended_done pages u written in_hand calm asked ended (closes_ok result is closed)
+  ending_of result (AnswersRun.refused pages u stop is which written place count asked verdict in_hand) closed =
       let refuses = closes_err result stop is closed in
       refused stop pages (elim which [ inl three ↦ inl (refuses.status_is ∙ three) | inr four ↦ inr (refuses.status_is ∙ four) ]) (record {
         status_is = refuses.status_is;
         verdict = verdict;
-        whole = whole_then u pages written refuses.files;
+        whole = whole_then u pages written in_hand refuses.files;
         place = place;
         begun = asked;
-        created = created_then (run_names target (length pages)) written.created refuses.files;
         count = count;
         line = line_from _ refuses.line;
       })
-  ending_of result (AnswersRun.unread pages u stop is five written rose asked breaks) closed =
+  ending_of result (AnswersRun.unread pages u stop is five written rose asked breaks in_hand) closed =
       let refuses = closes_err result stop is closed in
-      unread stop pages (refuses.status_is ∙ five) rose refuses.status_is (whole_then u pages written refuses.files) asked breaks (line_from _ refuses.line) (created_then (run_names target (length pages)) written.created refuses.files)
-  ending_of result (AnswersRun.unwritten pages u mid page file is written keeps wrote_keeps calm asked valid made breaks created) closed =
+      unread stop pages (refuses.status_is ∙ five) rose refuses.status_is (whole_then u pages written in_hand refuses.files) asked breaks (line_from _ refuses.line)
+  ending_of result (AnswersRun.unwritten pages u mid page file is written keeps wrote_keeps calm asked valid made breaks created once in_hand) closed =
       let refuses = closes_err result (stops.AtPage (length pages) (refusals.Write file)) is closed in
       let cause = breaks_cause (length target.outputs) (outcome (target_at target (length pages)) page) file mid m breaks in
       let rose : Rose r.faults m.faults = rose_before r.faults mid.faults m.faults keeps.faults cause in
-      unwritten refuses.status_is (rose_after r.faults m.faults r'.faults rack_keeps.faults refuses.files.keeps.faults rose) (record {
+      unwritten refuses.status_is (rose_after r.faults m.faults r'.faults rack_keeps.faults refuses.files.keeps.faults rose) calm (record {
         pages = pages;
         page = page;
         file = file;
-        mid = mid;
+        between = mid;
+        keeps = keeps;
         wrote = written.wrote;
         created = written.created;
-        calm = calm;
+        finished = written.finished;
         begun = asked;
+        in_hand = in_hand;
         valid = All-cons IsPage page pages valid written.valid;
         made = made;
-        breaks = file_breaks (length target.outputs) (outcome (target_at target (length pages)) page) file mid m r' wrote_keeps.faults wrote_keeps.tells breaks refuses.files;
-        line = line_behind _ rose refuses.line;
+        breaks = file_breaks (length target.outputs) (outcome (target_at target (length pages)) page) file mid m r' wrote_keeps breaks refuses.files;
+        line = line_after_write _ once refuses.line;
       })
-  ending_of result (AnswersRun.no_memory pages u is written calm asked) closed =
+  ending_of result (AnswersRun.no_memory pages u is written calm asked in_hand) closed =
       let refuses = closes_err result (stops.Whole refusals.Memory) is closed in
-      no_memory pages refuses.status_is calm (suc (length pages), asked) (whole_then u pages written refuses.files) (created_then (run_names target (length pages)) written.created refuses.files) (line_from _ refuses.line)
+      no_memory pages refuses.status_is calm asked (whole_then u pages written in_hand refuses.files) (line_from _ refuses.line)
 
 module _ (words : List (List ℕ)) (t t' : TrayState) (r r' : RackState) (status : ℕ) where
   abbrev EndingOf : RunWords → Type 0
@@ -218,15 +173,17 @@ module _ (words : List (List ℕ)) (t t' : TrayState) (r r' : RackState) (status
     pub wrote : status ≡ 6 → Rose r.faults r'.faults
     pub still : (status ≡ 6) ⊎ (status ≡ 7) → t'.faults ≡ t.faults
     pub line : status ≢ 0 → status ≢ 6 → (stop : RunStop) × (status ≡ status_of_stop stop) × TellsText (line_of_stop stop) r r'
+    pub memory : status ≡ 7 → TellsText (line_of refusals.Memory) r r'
 
   statuses_of : (order : RunWords) → EndingOf order → Statuses order
-  statuses_of order (done is calm pages whole ended begun created told) = record {
+  statuses_of order (done is calm pages whole ended begun told) = record {
     known = inl is;
     calm = λ s. calm;
     read = λ s. absurd (omega arith);
     wrote = λ s. absurd (omega arith);
     still = λ s. elim s [ inl six ↦ absurd (omega arith) | inr seven ↦ absurd (omega arith) ];
     line = λ some other. absurd (some is);
+    memory = λ s. absurd (omega arith);
   }
   statuses_of order (refused stop pages (inl three) says) = record {
     known = inr (omega arith, omega arith);
@@ -235,6 +192,7 @@ module _ (words : List (List ℕ)) (t t' : TrayState) (r r' : RackState) (status
     wrote = λ s. absurd (omega arith);
     still = λ s. elim s [ inl six ↦ absurd (omega arith) | inr seven ↦ absurd (omega arith) ];
     line = λ some other. (stop, says.status_is, says.line);
+    memory = λ s. absurd (omega arith);
   }
   statuses_of order (refused stop pages (inr four) says) = record {
     known = inr (omega arith, omega arith);
@@ -243,51 +201,50 @@ module _ (words : List (List ℕ)) (t t' : TrayState) (r r' : RackState) (status
     wrote = λ s. absurd (omega arith);
     still = λ s. elim s [ inl six ↦ absurd (omega arith) | inr seven ↦ absurd (omega arith) ];
     line = λ some other. (stop, says.status_is, says.line);
+    memory = λ s. absurd (omega arith);
   }
-  statuses_of order (unread stop pages is rose also whole begun breaks line created) = record {
+  statuses_of order (unread stop pages is rose also whole begun breaks line) = record {
     known = inr (omega arith, omega arith);
     calm = λ s. absurd (omega arith);
     read = λ s. rose;
     wrote = λ s. absurd (omega arith);
     still = λ s. elim s [ inl six ↦ absurd (omega arith) | inr seven ↦ absurd (omega arith) ];
     line = λ some other. (stop, also, line);
+    memory = λ s. absurd (omega arith);
   }
-  statuses_of order (unwritten is rose breaking) = record {
+  statuses_of order (unwritten is rose calm breaking) = record {
     known = inr (omega arith, omega arith);
     calm = λ s. absurd (omega arith);
     read = λ s. absurd (omega arith);
     wrote = λ s. rose;
-    still = λ s. breaking.calm;
+    still = λ s. calm;
     line = λ some other. absurd (other is);
+    memory = λ s. absurd (omega arith);
   }
-  statuses_of order (no_memory pages is calm begun whole created line) = record {
+  statuses_of order (no_memory pages is calm begun whole line) = record {
     known = inr (omega arith, omega arith);
     calm = λ s. absurd (omega arith);
     read = λ s. absurd (omega arith);
     wrote = λ s. absurd (omega arith);
     still = λ s. calm;
     line = λ some other. (stops.Whole refusals.Memory, is, line);
+    memory = λ s. line;
   }
 
-  record Done (order : RunWords) : Type 0 where
-    pub pages : List PageParts
-    pub whole : Whole order t r r' pages
-    pub ended : IsTrue t.tells → HasPages t.file (sources_of order) (length pages) × AllEnd t.file (sources_of order) (length pages) (length (sources_of order).inputs)
-    pub begun : Asks t.asked t'.asked (run_reads (sources_of order) (suc (length pages)))
-    pub created : Asks r.asked r'.asked (run_names (targets_of order) (length pages))
-    pub told : IsTrue r.tells → r'.told ≡ r.told
+  abbrev every_page : (order : RunWords) (pages : List PageParts) → Whole order t t' r r' pages → (IsTrue t.tells → HasPages t.file (sources_of order) (length pages) × AllEnd t.file (sources_of order) (length pages) (length (sources_of order).inputs)) → Asks t.asked t'.asked (run_reads (sources_of order) (suc (length pages))) → (IsTrue r.tells → r'.told ≡ r.told) → EveryPage order t t' r r'
+  every_page order pages whole ended begun told = record { pages = pages; whole = whole; all = λ tells. (ended tells).0; ended = λ tells. (ended tells).1; begun = begun; silent = told }
 
-  done_by : (order : RunWords) → EndingOf order → status ≡ 0 → Done order
-  done_by order (done is calm pages whole ended begun created told) s = record { pages = pages; whole = whole; ended = ended; begun = begun; created = created; told = told }
+  done_by : (order : RunWords) → EndingOf order → status ≡ 0 → EveryPage order t t' r r'
+  done_by order (done is calm pages whole ended begun told) s = every_page order pages whole ended begun told
   done_by order (refused stop pages (inl three) says) s = absurd (omega arith)
   done_by order (refused stop pages (inr four) says) s = absurd (omega arith)
-  done_by order (unread stop pages is rose also whole begun breaks line created) s = absurd (omega arith)
-  done_by order (unwritten is rose breaking) s = absurd (omega arith)
-  done_by order (no_memory pages is calm begun whole created line) s = absurd (omega arith)
+  done_by order (unread stop pages is rose also whole begun breaks line) s = absurd (omega arith)
+  done_by order (unwritten is rose calm breaking) s = absurd (omega arith)
+  done_by order (no_memory pages is calm begun whole line) s = absurd (omega arith)
 
   -- the verdict where all pages are whole
-  out_of : (order : RunWords) (d : Done order) → IsTrue t.tells → IsRunVerdict t.file (sources_of order) (targets_of order) (Out (run_files (targets_of order) d.pages))
-  out_of order d tells = (record { pages = d.pages; has = (d.ended tells).0; made = d.whole.made tells }, (d.ended tells).1, refl)
+  out_of : (order : RunWords) (d : EveryPage order t t' r r') → IsTrue t.tells → IsRunVerdict t.file (sources_of order) (targets_of order) (Out (run_files (targets_of order) d.pages))
+  out_of order d tells = (record { pages = d.pages; has = d.all tells; made = d.whole.made tells }, d.ended tells, refl)
 
   calm_of : EndsWords words t t' r r' status → status ≡ 0 → (t'.faults ≡ t.faults) × (r'.faults ≡ r.faults)
   calm_of (EndsWords.no_run none same refuses) s = let e : status ≡ 2 = refuses.status_is in absurd (omega arith)
@@ -296,9 +253,8 @@ module _ (words : List (List ℕ)) (t t' : TrayState) (r r' : RackState) (status
   pub success : EndsWords words t t' r r' status → Success words t t' r r' status
   success ended = record {
     calm = calm_of ended;
-    pages = λ order means s. let d = done_by order (order_ending order means ended) s in (d.pages, d.whole, d.ended, d.begun, d.created);
+    pages = λ order means s. done_by order (order_ending order means ended) s;
     verdict = λ order means s tells. let d = done_by order (order_ending order means ended) s in (run_files (targets_of order) d.pages, out_of order d tells, d.whole.files);
-    silent = λ order means s. (done_by order (order_ending order means ended) s).told;
   }
 
   usage_only : EndsWords words t t' r r' status → status ≡ 2 → order_of words ≡ None
@@ -321,30 +277,30 @@ module _ (words : List (List ℕ)) (t t' : TrayState) (r r' : RackState) (status
 
   only_by : (order : RunWords) → EndingOf order → (status ≡ 3) ⊎ (status ≡ 4) → (stop : RunStop) × (pages : List PageParts) × RefusesPages order t t' r r' status stop pages
   only_by order (refused stop pages which says) s = (stop, pages, says)
-  only_by order (done is calm pages whole ended begun created told) (inl s) = absurd (omega arith)
-  only_by order (done is calm pages whole ended begun created told) (inr s) = absurd (omega arith)
-  only_by order (unread stop pages is rose also whole begun breaks line created) (inl s) = absurd (omega arith)
-  only_by order (unread stop pages is rose also whole begun breaks line created) (inr s) = absurd (omega arith)
-  only_by order (unwritten is rose breaking) (inl s) = absurd (omega arith)
-  only_by order (unwritten is rose breaking) (inr s) = absurd (omega arith)
-  only_by order (no_memory pages is calm begun whole created line) (inl s) = absurd (omega arith)
-  only_by order (no_memory pages is calm begun whole created line) (inr s) = absurd (omega arith)
+  only_by order (done is calm pages whole ended begun told) (inl s) = absurd (omega arith)
+  only_by order (done is calm pages whole ended begun told) (inr s) = absurd (omega arith)
+  only_by order (unread stop pages is rose also whole begun breaks line) (inl s) = absurd (omega arith)
+  only_by order (unread stop pages is rose also whole begun breaks line) (inr s) = absurd (omega arith)
+  only_by order (unwritten is rose calm breaking) (inl s) = absurd (omega arith)
+  only_by order (unwritten is rose calm breaking) (inr s) = absurd (omega arith)
+  only_by order (no_memory pages is calm begun whole line) (inl s) = absurd (omega arith)
+  only_by order (no_memory pages is calm begun whole line) (inr s) = absurd (omega arith)
 
   one_verdict : (order : RunWords) (v w : RunVerdict) → IsRunVerdict t.file (sources_of order) (targets_of order) v → IsRunVerdict t.file (sources_of order) (targets_of order) w → v ≡ w
   one_verdict order v w a b = one_run_verdict t.file (sources_of order) (targets_of order) v w a b
 
   always_by : (order : RunWords) (stop : RunStop) → EndingOf order → IsTrue t.tells → IsRunVerdict t.file (sources_of order) (targets_of order) (Stopped stop) → ¬ Rose t.faults t'.faults → ¬ Rose r.faults r'.faults → (status ≡ status_of_stop stop) ⊎ (status ≡ 7)
-  always_by order stop (done is calm pages whole ended begun created told) tells judged still_tray still =
-      let d : Done order = record { pages = pages; whole = whole; ended = ended; begun = begun; created = created; told = told } in
+  always_by order stop (done is calm pages whole ended begun told) tells judged still_tray still =
+      let d : EveryPage order t t' r r' = every_page order pages whole ended begun told in
       let same : Out (run_files (targets_of order) pages) ≡ Stopped stop = one_verdict order (Out (run_files (targets_of order) pages)) (Stopped stop) (out_of order d tells) judged in
       absurd cc
   always_by order stop (refused other pages which says) tells judged still_tray still =
       let same : Stopped other ≡ Stopped stop = one_verdict order (Stopped other) (Stopped stop) (says.verdict tells) judged in
       let one : other ≡ stop = cc in
       inl (says.status_is ∙ ap status_of_stop one)
-  always_by order stop (unread other pages is rose also whole begun breaks line created) tells judged still_tray still = absurd (still_tray rose)
-  always_by order stop (unwritten is rose breaking) tells judged still_tray still = absurd (still rose)
-  always_by order stop (no_memory pages is calm begun whole created line) tells judged still_tray still = inr is
+  always_by order stop (unread other pages is rose also whole begun breaks line) tells judged still_tray still = absurd (still_tray rose)
+  always_by order stop (unwritten is rose calm breaking) tells judged still_tray still = absurd (still rose)
+  always_by order stop (no_memory pages is calm begun whole line) tells judged still_tray still = inr is
 
   pub refused_input : EndsWords words t t' r r' status → RefusedInput words t t' r r' status
   refused_input ended = record {
@@ -352,21 +308,13 @@ module _ (words : List (List ℕ)) (t t' : TrayState) (r r' : RackState) (status
     always = λ order stop means tells judged still_tray still. always_by order stop (order_ending order means ended) tells judged still_tray still;
   }
 
-  read_by : (order : RunWords) → EndingOf order → status ≡ 5 → (stop : RunStop) × (pages : List PageParts) × (status ≡ status_of_stop stop) × Whole order t r r' pages × Asks t.asked t'.asked (stop_reads (sources_of order) (length pages) stop) × BreaksRun (sources_of order) (length pages) t t' stop × TellsText (line_of_stop stop) r r'
-  read_by order (unread stop pages is rose also whole begun breaks line created) s = (stop, pages, also, whole, begun, breaks, line)
-  read_by order (done is calm pages whole ended begun created told) s = absurd (omega arith)
+  read_by : (order : RunWords) → EndingOf order → status ≡ 5 → FailsToRead order t t' r r' status
+  read_by order (unread stop pages is rose also whole begun breaks line) s = record { stop = stop; pages = pages; status_is = also; whole = whole; begun = begun; breaks = breaks; line = line }
+  read_by order (done is calm pages whole ended begun told) s = absurd (omega arith)
   read_by order (refused stop pages (inl three) says) s = absurd (omega arith)
   read_by order (refused stop pages (inr four) says) s = absurd (omega arith)
-  read_by order (unwritten is rose breaking) s = absurd (omega arith)
-  read_by order (no_memory pages is calm begun whole created line) s = absurd (omega arith)
-
-  memory_by : (order : RunWords) → EndingOf order → status ≡ 7 → (n : ℕ) × AsksFront t.asked t'.asked (run_reads (sources_of order) n)
-  memory_by order (no_memory pages is calm begun whole created line) s = begun
-  memory_by order (done is calm pages whole ended begun created told) s = absurd (omega arith)
-  memory_by order (refused stop pages (inl three) says) s = absurd (omega arith)
-  memory_by order (refused stop pages (inr four) says) s = absurd (omega arith)
-  memory_by order (unread stop pages is rose also whole begun breaks line created) s = absurd (omega arith)
-  memory_by order (unwritten is rose breaking) s = absurd (omega arith)
+  read_by order (unwritten is rose calm breaking) s = absurd (omega arith)
+  read_by order (no_memory pages is calm begun whole line) s = absurd (omega arith)
 
   read_cause : EndsWords words t t' r r' status → status ≡ 5 → Rose t.faults t'.faults
   read_cause (EndsWords.no_run none same refuses) s = let e : status ≡ 2 = refuses.status_is in absurd (omega arith)
@@ -380,17 +328,16 @@ module _ (words : List (List ℕ)) (t t' : TrayState) (r r' : RackState) (status
   read_fault ended = record {
     cause = read_cause ended;
     breaks = λ order means s. read_by order (order_ending order means ended) s;
-    asked = λ order means s. memory_by order (order_ending order means ended) s;
     calm = calm_still ended;
   }
 
-  broken_by : (order : RunWords) → EndingOf order → status ≡ 6 → Breaking order t t' r r'
-  broken_by order (unwritten is rose breaking) s = breaking
-  broken_by order (done is calm pages whole ended begun created told) s = absurd (omega arith)
+  broken_by : (order : RunWords) → EndingOf order → status ≡ 6 → FailsToWrite order t t' r r'
+  broken_by order (unwritten is rose calm breaking) s = breaking
+  broken_by order (done is calm pages whole ended begun told) s = absurd (omega arith)
   broken_by order (refused stop pages (inl three) says) s = absurd (omega arith)
   broken_by order (refused stop pages (inr four) says) s = absurd (omega arith)
-  broken_by order (unread stop pages is rose also whole begun breaks line created) s = absurd (omega arith)
-  broken_by order (no_memory pages is calm begun whole created line) s = absurd (omega arith)
+  broken_by order (unread stop pages is rose also whole begun breaks line) s = absurd (omega arith)
+  broken_by order (no_memory pages is calm begun whole line) s = absurd (omega arith)
 
   write_cause : EndsWords words t t' r r' status → status ≡ 6 → Rose r.faults r'.faults
   write_cause (EndsWords.no_run none same refuses) s = let e : status ≡ 2 = refuses.status_is in absurd (omega arith)
@@ -399,31 +346,42 @@ module _ (words : List (List ℕ)) (t t' : TrayState) (r r' : RackState) (status
   pub write_fault : EndsWords words t t' r r' status → WriteFault words t t' r r' status
   write_fault ended = record {
     cause = write_cause ended;
-    breaks = λ order means s. let b = broken_by order (order_ending order means ended) s in (b.pages, b.page, b.file, b.mid, b.wrote, b.created, b.begun, b.valid, b.made, b.breaks, b.line);
+    breaks = λ order means s. broken_by order (order_ending order means ended) s;
   }
 
-  left_by : (order : RunWords) → EndingOf order → status ≢ 6 → (pages : List PageParts) × Whole order t r r' pages × Asks r.asked r'.asked (run_names (targets_of order) (length pages))
-  left_by order (done is calm pages whole ended begun created told) other = (pages, whole, created)
-  left_by order (refused stop pages which says) other = (pages, says.whole, says.created)
-  left_by order (unread stop pages is rose also whole begun breaks line created) other = (pages, whole, created)
-  left_by order (unwritten is rose breaking) other = absurd (other is)
-  left_by order (no_memory pages is calm begun whole created line) other = (pages, whole, created)
+  kept : (order : RunWords) (pages : List PageParts) → Whole order t t' r r' pages → (status ≡ 7 → AsksFront t.asked t'.asked (run_reads (sources_of order) (suc (length pages)))) → KeepsPages order t t' r r' status
+  kept order pages whole begun = record { pages = pages; whole = whole; begun = begun }
 
-  pub leaves_pages : EndsWords words t t' r r' status → LeavesPages words t r r' status
+  left_by : (order : RunWords) → EndingOf order → status ≢ 6 → KeepsPages order t t' r r' status
+  left_by order (done is calm pages whole ended begun told) other = kept order pages whole (λ s. absurd (omega arith))
+  left_by order (refused stop pages (inl three) says) other = kept order pages says.whole (λ s. absurd (omega arith))
+  left_by order (refused stop pages (inr four) says) other = kept order pages says.whole (λ s. absurd (omega arith))
+  left_by order (unread stop pages is rose also whole begun breaks line) other = kept order pages whole (λ s. absurd (omega arith))
+  left_by order (unwritten is rose calm breaking) other = absurd (other is)
+  left_by order (no_memory pages is calm begun whole line) other = kept order pages whole (λ s. begun)
+
+  pub leaves_pages : EndsWords words t t' r r' status → LeavesPages words t t' r r' status
   leaves_pages ended order means other = left_by order (order_ending order means ended) other
 
+  line_by : EndsWords words t t' r r' status → status ≢ 0 → status ≢ 2 → status ≢ 6 → (stop : RunStop) × (status ≡ status_of_stop stop) × TellsText (line_of_stop stop) r r'
+  line_by (EndsWords.no_run none same refuses) some words_mean other = absurd (words_mean refuses.status_is)
+  line_by (EndsWords.run order also ended) some words_mean other = (statuses_of order (ending order ended)).line some other
+
+  memory_line : EndsWords words t t' r r' status → status ≡ 7 → TellsText (line_of refusals.Memory) r r'
+  memory_line (EndsWords.no_run none same refuses) s = let e : status ≡ 2 = refuses.status_is in absurd (omega arith)
+  memory_line (EndsWords.run order also ended) s = (statuses_of order (ending order ended)).memory s
+
   pub fault_line : EndsWords words t t' r r' status → FaultLine r r' status
-  fault_line (EndsWords.no_run none same refuses) some words_mean other = absurd (words_mean refuses.status_is)
-  fault_line (EndsWords.run order also ended) some words_mean other = (statuses_of order (ending order ended)).line some other
+  fault_line ended = record { stopped = line_by ended; memory = memory_line ended }
 
   complete_by : (order : RunWords) (files : List File) → EndingOf order → IsTrue t.tells → IsRunVerdict t.file (sources_of order) (targets_of order) (Out files) → ¬ Rose t.faults t'.faults → ¬ Rose r.faults r'.faults → (status ≡ 0) ⊎ (status ≡ 7)
-  complete_by order files (done is calm pages whole ended begun created told) tells judged still_tray still = inl is
+  complete_by order files (done is calm pages whole ended begun told) tells judged still_tray still = inl is
   complete_by order files (refused stop pages which says) tells judged still_tray still =
       let same : Stopped stop ≡ Out files = one_verdict order (Stopped stop) (Out files) (says.verdict tells) judged in
       absurd cc
-  complete_by order files (unread stop pages is rose also whole begun breaks line created) tells judged still_tray still = absurd (still_tray rose)
-  complete_by order files (unwritten is rose breaking) tells judged still_tray still = absurd (still rose)
-  complete_by order files (no_memory pages is calm begun whole created line) tells judged still_tray still = inr is
+  complete_by order files (unread stop pages is rose also whole begun breaks line) tells judged still_tray still = absurd (still_tray rose)
+  complete_by order files (unwritten is rose calm breaking) tells judged still_tray still = absurd (still rose)
+  complete_by order files (no_memory pages is calm begun whole line) tells judged still_tray still = inr is
 
   decided_by : (order : RunWords) (verdict : RunVerdict) → EndingOf order → IsTrue t.tells → IsRunVerdict t.file (sources_of order) (targets_of order) verdict → ¬ Rose t.faults t'.faults → ¬ Rose r.faults r'.faults → (status ≡ status_of_verdict verdict) ⊎ (status ≡ 7)
   decided_by order (Stopped stop) ending tells judged still_tray still = always_by order stop ending tells judged still_tray still

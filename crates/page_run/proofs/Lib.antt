@@ -1,3 +1,8 @@
+pub mod JobLemmas
+pub mod ImageLemmas
+pub mod EndLemmas
+pub mod GatherLemmas
+pub mod OpenLemmas
 pub mod PutLemmas
 pub mod PageLemmas
 pub mod RunLemmas

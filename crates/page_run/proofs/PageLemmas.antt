@@ -1,5 +1,5 @@
 -- The pages of a run, one after another.
-use Rattle.std.proofs.Common.{◌≡◌, ℕ, suc, ◌<◌, ◌+◌, List, [], ◌∷◌, ◌++◌, length, take, All, Option, Some, None, Result, Ok, Err, IsTrue, inr, refl, sym, ap, ◌∙◌, subst, arith}
+use Rattle.std.proofs.Common.{◌≡◌, ℕ, suc, ◌<◌, ◌+◌, List, [], ◌∷◌, ◌++◌, length, take, All, Option, Some, None, Result, Ok, Err, IsTrue, ◌≤◌, inl, inr, refl, sym, ap, ◌∙◌, subst, arith}
 use Rattle.std.proofs.Math.Seq.{take-append-add}
 use Rattle.std.proofs.lemmas.List.{append_assoc, length-append, map-append}
 use Rattle.std.proofs.lemmas.Option.{same_Some}
@@ -8,8 +8,9 @@ use Rattle.outside.specs.Causes.{Asks, AsksFront}
 use Rattle.outside.specs.Tray.{TrayState, KeepsTray}
 use Rattle.outside.specs.Rack.{RackState, KeepsRack, put}
 use Rattle.outside.proofs.Names.{asks_none, asks_then}
-use Rattle.outside.proofs.Steps.{kept_then, kept_tray, rose_before}
+use Rattle.outside.proofs.Steps.{kept_then, kept_tray, once_before, rose_before}
 use Rattle.page_gather.specs.Inputs.{Sources, AreRead, Makes, name_at}
+use Rattle.page_gather.specs.Steps.{TakesJob}
 use Rattle.page_gather.proofs.PlateLemmas.{count_then, held_before}
 use Rattle.page_model.specs.declared.parts.PageParts.{PageParts}
 use Rattle.page_model.specs.Conditions.{IsPage}
@@ -19,9 +20,10 @@ use Rattle.page_run.specs.Endings.{AnswersRun, PagesDone, Runs, Written}
 use Rattle.page_run.specs.Paging.{AnswersStep, Steps, StepsPage}
 use Rattle.page_writing.specs.Files.{Written as File, names_of, plate_files, put_all}
 use Rattle.page_writing.specs.Writing.{FinishesAll, WritesAll}
-use Rattle.page_writing.proofs.Steps.{finished_then, wrote_none}
-use Rattle.run_reading.specs.Gathering.{IsJobOf, IsPageMade, StopsPage}
-use Rattle.run_reading.proofs.ImageLemmas.{unbroken_before}
+use Rattle.page_writing.proofs.Steps.{wrote_none}
+use Rattle.page_run.specs.Gathering.{IsJobOf, IsPageMade, StopsPage}
+use Rattle.page_run.specs.InHand.{InHand, MayHold}
+use Rattle.page_run.proofs.ImageLemmas.{unbroken_before}
 use Rattle.traprun_verdicts.specs.declared.stop.RunStop.{RunStop}
 use Rattle.traprun_verdicts.specs.declared.stop.RunStop.TheVariants.{AtPage, Ends}
 use Rattle.traprun_verdicts.specs.Images.{page_spelling}
@@ -35,7 +37,7 @@ put_both : (files more : List File) (held : List ℕ → Option (List ℕ)) → 
 put_both [] more held = refl
 put_both (f ∷ fs) more held = put_both fs more (put f.name f.bytes held)
 
--- names that were handed out, and then a front of others
+-- names that were handed out, and then a prefix of others
 pub front_more : (a m b : Option (List (List ℕ))) (xs ys : List (List ℕ)) → Asks a m xs → AsksFront m b ys → AsksFront a b (xs ++ ys)
 front_more a m None xs ys one two = tt
 front_more a None (Some every) xs ys one two = absurd (let e : None ≡ Some two.0 = two.2 in cc)
@@ -43,12 +45,16 @@ front_more a (Some mid) (Some every) xs ys one two =
     let same : mid ≡ two.0 = same_Some mid two.0 two.2 in
     (one.0, length xs + two.1, one.1, two.3 ∙ ap (λ (l : List (List ℕ)). l ++ take two.1 ys) (sym same ∙ one.2) ∙ append_assoc one.0 xs (take two.1 ys) ∙ ap (λ (l : List (List ℕ)). one.0 ++ l) (sym (take-append-add xs ys two.1)))
 
+-- files that are finished, and then others
+finished_both : (names more : List (List ℕ)) (a b c : RackState) → KeepsRack a b → FinishesAll names a b → FinishesAll more b c → FinishesAll (names ++ more) a c
+finished_both names more a b c keeps one two tells = asks_then a.finished b.finished c.finished names more (one tells) (two (keeps.tells ∙ tells))
+
 -- some files and then others
 wrote_both : (files more : List File) (a b c : RackState) → KeepsRack a b → 0 < length more → WritesAll files a b → WritesAll more b c → WritesAll (files ++ more) a c
 wrote_both files more a b c keeps some first then = record {
   asked = subst (λ (names : List (List ℕ)). Asks a.asked c.asked names) (sym (map-append (λ (f : File). f.name) files more)) (asks_then a.asked b.asked c.asked (names_of files) (names_of more) first.asked then.asked);
+  finished = subst (λ (names : List (List ℕ)). FinishesAll names a c) (sym (map-append (λ (f : File). f.name) files more)) (finished_both (names_of files) (names_of more) a b c keeps first.finished then.finished);
   whole = λ tells. then.whole (keeps.tells ∙ tells) ∙ ap (put_all more) (first.whole tells) ∙ sym (put_both files more a.file);
-  finished = subst (λ (names : List (List ℕ)). FinishesAll names a c) (sym (map-append (λ (f : File). f.name) files more)) (finished_then (names_of files) (names_of more) a b c keeps first.finished then.finished);
   shut = λ any. then.shut some;
   well = then.well ∙ first.well;
 }
@@ -63,20 +69,38 @@ some_run_files target [] some = absurd (omega arith)
 some_run_files target (page ∷ earlier) some = let long = length-append (run_files target earlier) (outcome (target_at target (length earlier)) page) in let last = some_files (target_at target (length earlier)) page in omega (arith, long, last)
 
 -- no page yet
-pub no_page_done : (source : Sources) (target : Targets) (t b : TrayState) (r : RackState) → KeepsTray t b → b.faults ≡ t.faults → Asks t.asked b.asked (run_reads source 0) → PagesDone source target t b r r []
-no_page_done source target t b r keeps calm asked = record {
+pub no_page_done : (source : Sources) (target : Targets) (t b : TrayState) (r : RackState) → KeepsTray t b → b.faults ≡ t.faults → Asks t.asked b.asked (run_reads source 0) → TakesJob source.job t b → PagesDone source target t b r r []
+no_page_done source target t b r keeps calm asked few = record {
   tray_keeps = keeps;
   rack_keeps = record { tells = refl; faults = omega arith };
   told = λ tells. refl;
+  in_hand = inl few;
   written = record {
     valid = λ k d within. absurd (omega arith);
     made = λ tells. tt;
     calm = calm;
     asked = asked;
     created = asks_none r.asked;
+    finished = λ tells. asks_none r.finished;
     wrote = wrote_none [] r refl;
   };
 }
+
+held_up : (source : Sources) (n k : ℕ) (t b : TrayState) → n ≤ k → InHand source n t b → InHand source k t b
+held_up source n k t b le (inl job) = inl job
+held_up source n k t b le (inr (inl same)) = inr (inl same)
+held_up source n k t b le (inr (inr held)) = inr (inr (record { plate = held.plate; known = held.known; page = held.page; within = omega (arith, held.within); takes = held.takes }))
+
+-- what is in hand, seen from the tray as it was at first
+may_from : (source : Sources) (n k : ℕ) (t b c : TrayState) → n ≤ k → KeepsTray t b → InHand source n t b → MayHold source.inputs k b c → InHand source k t c
+may_from source n k t b c le keeps before (inl same) = subst (λ (x : TrayState). InHand source k t x) (sym same) (held_up source n k t b le before)
+may_from source n k t b c le keeps before (inr held) = inr (inr (record {
+  plate = held.plate;
+  known = held.known;
+  page = held.page;
+  within = held.within;
+  takes = record { bytes = held.takes.bytes; taken = λ begun tells. ap (λ (files : List ℕ → Option (List ℕ)). files (name_at source.inputs held.plate)) (sym keeps.file) ∙ held.takes.taken begun (keeps.tells ∙ tells); few = held.takes.few };
+}))
 
 -- a fact of the files, seen from the tray as it was at first
 from_first : (t b : TrayState) (Fact : (List ℕ → Option (List ℕ)) → Type 0) → KeepsTray t b → (IsTrue b.tells → Fact b.file) → IsTrue t.tells → Fact t.file
@@ -95,29 +119,34 @@ module _ (source : Sources) (target : Targets) (t b c : TrayState) (r r1 r2 : Ra
   asked_more : (names : List (List ℕ)) → Asks b.asked c.asked names → Asks t.asked c.asked (run_reads source (length pages) ++ names)
   asked_more names asked = asks_then t.asked b.asked c.asked (run_reads source (length pages)) names done.written.asked asked
 
+  pub hold_more : MayHold source.inputs (length pages) b c → InHand source (length pages) t c
+  hold_more held = may_from source (length pages) (length pages) t b c (omega arith) done.tray_keeps done.in_hand held
+
   pub record More : Type 0 where
     pub page : PageParts
     pub more : PagesDone source target t c r r2 (page ∷ pages)
 
   written_by : Steps source target (length pages) b c r1 r2 (Ok tt) → AnswersStep source target (length pages) b c r1 r2 (Ok tt) → More
-  written_by steps (AnswersStep.written page is valid made wrote created) = record {
+  written_by steps (AnswersStep.written page is valid made wrote created finished) = record {
     page = page;
     more = record {
       tray_keeps = kept_tray t b c done.tray_keeps keeps;
       rack_keeps = kept_then r r1 r2 done.rack_keeps steps.rack_keeps;
       told = λ tells. steps.told (done.rack_keeps.tells ∙ tells) ∙ done.told tells;
+      in_hand = held_up source (length pages) (suc (length pages)) t c (omega arith) (hold_more steps.in_hand);
       written = record {
         valid = valid_more page valid;
         made = made_more page made;
         calm = made.calm ∙ done.written.calm;
         asked = asked_more source.inputs made.asked;
         created = asks_then r.asked r1.asked r2.asked (run_names target (length pages)) (written_names (target_at target (length pages))) done.written.created created;
+        finished = finished_both (run_names target (length pages)) (written_names (target_at target (length pages))) r r1 r2 done.rack_keeps done.written.finished finished;
         wrote = wrote_both (run_files target pages) (outcome (target_at target (length pages)) page) r r1 r2 done.rack_keeps (some_files (target_at target (length pages)) page) done.written.wrote wrote;
       };
     };
   }
   written_by steps (AnswersStep.stopped stop is same stops) = absurd (let e : ◌≡◌ {A = Result (Unit {0}) RunStop} (Ok tt) (Err stop) = is in cc)
-  written_by steps (AnswersStep.unwritten page file is valid made breaks created) = absurd (let e : ◌≡◌ {A = Result (Unit {0}) RunStop} (Ok tt) (Err (AtPage (length pages) (Write file))) = is in cc)
+  written_by steps (AnswersStep.unwritten page file is valid made breaks created once) = absurd (let e : ◌≡◌ {A = Result (Unit {0}) RunStop} (Ok tt) (Err (AtPage (length pages) (Write file))) = is in cc)
 
   -- one page more
   pub one_more : Steps source target (length pages) b c r1 r2 (Ok tt) → More
@@ -127,22 +156,22 @@ module _ (source : Sources) (target : Targets) (t b c : TrayState) (r r1 r2 : Ra
     comes_to : IsTrue t.tells → ComesTo t.file source (length pages)
     comes_to tells = record { count = count; has = (bytes, known tells, has); within = within; pages = pages; number = refl; made = done.written.made tells }
 
-    stopped_by : (stop : RunStop) → r2 ≡ r1 → StopsPage source (length pages) b c stop → AnswersRun source target t c r r2 (Err stop)
-    stopped_by stop same (StopsPage.refused refusal is which passes asked verdict) =
+    stopped_by : (stop : RunStop) → r2 ≡ r1 → InHand source (length pages) t c → StopsPage source (length pages) b c stop → AnswersRun source target t c r r2 (Err stop)
+    stopped_by stop same in_hand (StopsPage.refused refusal is which passes asked verdict) =
         subst (λ (s : RunStop). AnswersRun source target t c r r2 (Err s)) (sym is)
         (AnswersRun.refused pages b (AtPage (length pages) refusal) refl which (subst (λ (x : RackState). Written source target t b r x pages) (sym same) done.written)
         refl
         (count_then (Unit {0}) (Unit {0}) t b c refusal done.written.calm passes)
         (asked_more _ asked)
-        (λ tells. (comes_to tells, from_first t b (λ files. IsVerdict (page_spelling (length pages)) files source (target_at target (length pages)) (Refused refusal)) done.tray_keeps (λ there. verdict there (target_at target (length pages))) tells)))
-    stopped_by stop same (StopsPage.ends plate is calm asked ends) =
+        (λ tells. (comes_to tells, from_first t b (λ files. IsVerdict (page_spelling (length pages)) files source (target_at target (length pages)) (Refused refusal)) done.tray_keeps (λ there. verdict there (target_at target (length pages))) tells)) in_hand)
+    stopped_by stop same in_hand (StopsPage.ends plate is calm asked ends) =
         subst (λ (s : RunStop). AnswersRun source target t c r r2 (Err s)) (sym is)
         (AnswersRun.refused pages b (Ends (length pages) plate) refl (inr refl) (subst (λ (x : RackState). Written source target t b r x pages) (sym same) done.written)
         refl
         (calm ∙ done.written.calm)
         (asked_more _ asked)
-        (λ tells. (comes_to tells, from_first t b (λ files. PlateEnds files source (length pages) plate) done.tray_keeps ends tells)))
-    stopped_by stop same (StopsPage.unread plate is rose asked breaks) =
+        (λ tells. (comes_to tells, from_first t b (λ files. PlateEnds files source (length pages) plate) done.tray_keeps ends tells)) in_hand)
+    stopped_by stop same in_hand (StopsPage.unread plate is rose asked breaks) =
         subst (λ (s : RunStop). AnswersRun source target t c r r2 (Err s)) (sym is)
         (AnswersRun.unread pages b (AtPage (length pages) (Read (Some plate))) refl refl (subst (λ (x : RackState). Written source target t b r x pages) (sym same) done.written)
         (rose_before t.faults b.faults c.faults done.tray_keeps.faults rose)
@@ -156,18 +185,18 @@ module _ (source : Sources) (target : Targets) (t b c : TrayState) (r r1 r2 : Ra
             before_it = from_first t b (λ files. AreRead (page_spelling (length pages)) files source.inputs plate breaks.plates) done.tray_keeps breaks.before_it;
             in_hand = unbroken_before (length pages) t b c (name_at source.inputs plate) done.tray_keeps breaks.in_hand;
           },
-        ))
-    stopped_by stop same (StopsPage.no_memory is calm asked) =
+        ) in_hand)
+    stopped_by stop same in_hand (StopsPage.no_memory is calm asked) =
         subst (λ (s : RunStop). AnswersRun source target t c r r2 (Err s)) (sym is)
-        (AnswersRun.no_memory pages b refl (subst (λ (x : RackState). Written source target t b r x pages) (sym same) done.written) (calm ∙ done.written.calm) (front_more t.asked b.asked c.asked (run_reads source (length pages)) source.inputs done.written.asked asked))
+        (AnswersRun.no_memory pages b refl (subst (λ (x : RackState). Written source target t b r x pages) (sym same) done.written) (calm ∙ done.written.calm) (front_more t.asked b.asked c.asked (run_reads source (length pages)) source.inputs done.written.asked asked) in_hand)
 
-    step_stopped : (stop : RunStop) → KeepsRack r1 r2 → AnswersStep source target (length pages) b c r1 r2 (Err stop) → AnswersRun source target t c r r2 (Err stop)
-    step_stopped stop wrote_keeps (AnswersStep.written page is valid made wrote created) = absurd (let e : ◌≡◌ {A = Result (Unit {0}) RunStop} (Err stop) (Ok tt) = is in cc)
-    step_stopped stop wrote_keeps (AnswersStep.stopped other is same stops) =
+    step_stopped : (stop : RunStop) → KeepsRack r1 r2 → InHand source (length pages) t c → AnswersStep source target (length pages) b c r1 r2 (Err stop) → AnswersRun source target t c r r2 (Err stop)
+    step_stopped stop wrote_keeps in_hand (AnswersStep.written page is valid made wrote created finished) = absurd (let e : ◌≡◌ {A = Result (Unit {0}) RunStop} (Err stop) (Ok tt) = is in cc)
+    step_stopped stop wrote_keeps in_hand (AnswersStep.stopped other is same stops) =
         let one : other ≡ stop = (let e : ◌≡◌ {A = Result (Unit {0}) RunStop} (Err stop) (Err other) = is in cc) in
-        stopped_by stop same (subst (λ (s : RunStop). StopsPage source (length pages) b c s) one stops)
-    step_stopped stop wrote_keeps (AnswersStep.unwritten page file is valid made breaks created) =
-        AnswersRun.unwritten pages b r1 page file is done.written done.rack_keeps wrote_keeps (made.calm ∙ done.written.calm) (asked_more source.inputs made.asked) valid (made_more page made) breaks created
+        stopped_by stop same in_hand (subst (λ (s : RunStop). StopsPage source (length pages) b c s) one stops)
+    step_stopped stop wrote_keeps in_hand (AnswersStep.unwritten page file is valid made breaks created once) =
+        AnswersRun.unwritten pages b r1 page file is done.written done.rack_keeps wrote_keeps (made.calm ∙ done.written.calm) (asked_more source.inputs made.asked) valid (made_more page made) breaks created (once_before r.faults r1.faults r2.faults done.written.wrote.well once) in_hand
 
     -- the run stops at this page
     pub run_stopped : (stop : RunStop) → Steps source target (length pages) b c r1 r2 (Err stop) → Runs source target t c r r2 (Err stop)
@@ -175,7 +204,7 @@ module _ (source : Sources) (target : Targets) (t b c : TrayState) (r r1 r2 : Ra
       tray_keeps = kept_tray t b c done.tray_keeps keeps;
       rack_keeps = kept_then r r1 r2 done.rack_keeps steps.rack_keeps;
       told = λ tells. steps.told (done.rack_keeps.tells ∙ tells) ∙ done.told tells;
-      answer = step_stopped stop steps.rack_keeps steps.answer;
+      answer = step_stopped stop steps.rack_keeps (hold_more steps.in_hand) steps.answer;
     }
 
 -- the job's bytes are those of a later tray too

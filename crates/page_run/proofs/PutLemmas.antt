@@ -12,10 +12,10 @@ use Rattle.page_output.specs.Output.{AnswersPut, PutsOut, targets}
 use Rattle.page_run.specs.Paging.{AnswersPutPage, AnswersStep, PutsPage, StepsPage}
 use Rattle.page_writing.specs.Writing.{Breaks}
 use Rattle.plain_words.specs.Parts.{PlateNames}
-use Rattle.run_reading.specs.Held.{order_in}
-use Rattle.run_reading.specs.Words.{targets_of}
-use Rattle.run_reading.specs.declared.words.RunOrder.{RunOrder}
-use Rattle.run_reading.specs.Gathering.{GathersPage, IsPageMade, StopsPage}
+use Rattle.page_run.specs.Opened.{order_in}
+use Rattle.page_run.specs.Words.{targets_of}
+use Rattle.page_run.specs.declared.words.TraprunArgs.{TraprunArgs}
+use Rattle.page_run.specs.Gathering.{GathersPage, IsPageMade, StopsPage}
 use Rattle.traprun_verdicts.specs.declared.stop.RunStop.{RunStop}
 use Rattle.traprun_verdicts.specs.declared.stop.RunStop.TheVariants.{Whole}
 use Rattle.traprun_verdicts.specs.Pages.{numbered, target_at}
@@ -34,10 +34,10 @@ not_put target k page a valid = record { valid = valid; keeps = unchanged a; tol
 module _ (target : Targets) (k band : ℕ) (page : PageParts) (a b : RackState) where
   -- the page's files are written
   pub page_put : (receipt : Receipt) → PutsOut band (target_at target k) page a b (Ok receipt) → PutsPage target k page a b (Ok tt)
-  page_put receipt put = record { valid = put.valid; keeps = put.keeps; told = put.told; answer = AnswersPutPage.written refl put.answer.1 put.answer.2 }
+  page_put receipt put = record { valid = put.valid; keeps = put.keeps; told = put.told; answer = AnswersPutPage.written refl put.answer.1 put.answer.2 put.answer.3 }
 
   by_refusal : (refusal : Refusal) → PutsOut band (target_at target k) page a b (Err refusal) → AnswersPut band (target_at target k) page a b (Err refusal) → AnswersPutPage target k page a b (Err (stop_at k refusal))
-  by_refusal (Write file) put answer = AnswersPutPage.unwritten file refl (subst (λ (n : ℕ). Breaks n (outcome (target_at target k) page) file a b) (length-map target.outputs (numbered k)) answer) put.asked
+  by_refusal (Write file) put answer = AnswersPutPage.unwritten file refl (subst (λ (n : ℕ). Breaks n (outcome (target_at target k) page) file a b) (length-map target.outputs (numbered k)) answer) put.asked put.once
   by_refusal Memory put answer = AnswersPutPage.no_memory refl answer
   by_refusal Usage put answer = absurd answer
   by_refusal (Job fault) put answer = absurd answer
@@ -59,22 +59,22 @@ module _ (source : Sources) (target : Targets) (bytes : List ℕ) (k : ℕ) (t t
   -- the page could not be made
   pub not_gathered : (r : RackState) (stop : RunStop) → GathersPage source bytes k t t' (Err stop) → StepsPage source target bytes k t t' r r (Err stop)
   not_gathered r stop gathers = (
-    gathers.0,
-    λ known. record { rack_keeps = unchanged r; told = λ tells. refl; answer = AnswersStep.stopped stop refl refl (gathers.2 known) },
+    gathers.keeps,
+    λ known. record { rack_keeps = unchanged r; told = λ tells. refl; in_hand = gathers.in_hand; answer = AnswersStep.stopped stop refl refl (gathers.answer known) },
   )
 
   module _ (page : PageParts) (r r' : RackState) where
     step_by : (result : Result (Unit {0}) RunStop) → IsPage page → IsPageMade source k t t' page → AnswersPutPage target k page r r' result → AnswersStep source target k t t' r r' result
-    step_by result valid made (AnswersPutPage.written is wrote created) = AnswersStep.written page is valid made wrote created
-    step_by result valid made (AnswersPutPage.unwritten file is breaks created) = AnswersStep.unwritten page file is valid made breaks created
+    step_by result valid made (AnswersPutPage.written is wrote created finished) = AnswersStep.written page is valid made wrote created finished
+    step_by result valid made (AnswersPutPage.unwritten file is breaks created once) = AnswersStep.unwritten page file is valid made breaks created once
     step_by result valid made (AnswersPutPage.no_memory is same) =
         AnswersStep.stopped (Whole Memory) is same (StopsPage.no_memory refl made.calm (asks_all t.asked t'.asked source.inputs made.asked))
 
     -- the page is made and put out
     pub gathered_and_put : (result : Result (Unit {0}) RunStop) → GathersPage source bytes k t t' (Ok page) → PutsPage target k page r r' result → StepsPage source target bytes k t t' r r' result
     gathered_and_put result gathers put = (
-      gathers.0,
-      λ known. record { rack_keeps = put.keeps; told = put.told; answer = step_by result put.valid (gathers.2 known) put.answer },
+      gathers.keeps,
+      λ known. record { rack_keeps = put.keeps; told = put.told; in_hand = gathers.in_hand; answer = step_by result put.valid (gathers.answer known) put.answer },
     )
 
 -- the names of a page's files are those that the words give, with its number
@@ -84,5 +84,5 @@ files_named target k band page a b result outputs report named told put =
     (subst (λ (o : List (List ℕ)). PutsOut band (targets o report) page a b result) named put)
 
 -- there are as many files as plates
-pub as_many_outputs : {X : Type 0} (text : X → List ℕ) (files : List X) (order : RunOrder) (k : ℕ) → map text files ≡ map (numbered k) (targets_of (order_in order)).outputs → length files ≡ length order.plates.now
+pub as_many_outputs : {X : Type 0} (text : X → List ℕ) (files : List X) (order : TraprunArgs) (k : ℕ) → map text files ≡ map (numbered k) (targets_of (order_in order)).outputs → length files ≡ length order.plates.now
 as_many_outputs text files order k named = sym (length-map files text) ∙ ap (λ (l : List (List ℕ)). length l) named ∙ length-map (targets_of (order_in order)).outputs (numbered k) ∙ length-map (order_in order).plates (λ (p : PlateNames). p.output) ∙ length-map _ _ ∙ length-map _ _

@@ -1,4 +1,4 @@
--- A run, from its job to the look behind its last page.
+-- A run, from its job to the look after its last page.
 use Rattle.std.proofs.Common.{◌≡◌, ℕ, ◌<◌, List, [], ◌∷◌, ◌++◌, length, Some, None, Result, Ok, Err, IsTrue, inl, inr, refl, sym, ap, ◌∙◌, subst, arith}
 use Rattle.outside.specs.Causes.{Asks}
 use Rattle.outside.specs.Tray.{TrayState, KeepsTray}
@@ -6,11 +6,11 @@ use Rattle.outside.specs.Rack.{RackState}
 use Rattle.outside.proofs.Names.{asks_then}
 use Rattle.outside.proofs.Steps.{kept_tray, rose_before}
 use Rattle.page_gather.specs.Inputs.{Sources, Holds, name_at}
-use Rattle.page_gather.specs.Steps.{PassesNoFault}
+use Rattle.page_gather.specs.Steps.{PassesNoFault, TakesJob}
 use Rattle.page_gather.proofs.PlateLemmas.{held_before}
 use Rattle.page_model.specs.declared.parts.PageParts.{PageParts}
 use Rattle.page_run.specs.Endings.{AnswersRun, PagesDone, Runs, RunsFrom}
-use Rattle.page_run.proofs.PageLemmas.{front_more, no_page_done}
+use Rattle.page_run.proofs.PageLemmas.{front_more, hold_more, no_page_done}
 use Rattle.pgm_plates.specs.declared.plate.Plate.{Plate as PlateRead}
 use Rattle.pgm_plates.specs.declared.plate.PlateFault.{PlateFault}
 use Rattle.pgm_plates.specs.declared.plate.PlateFault.TheVariants.{BadMagic, BadHeader, SideRange, TooManySamples, MaxvalRange, SampleAboveMaxval, Truncated, TrailingBytes}
@@ -18,14 +18,16 @@ use Rattle.pgm_plates.specs.declared.plate.PlateRefusal.TheVariants.{Fault}
 use Rattle.pgm_plates.specs.Reading.{KeepsCount}
 use Rattle.job_pages.specs.declared.run.RunRefusal.{RunRefusal}
 use Rattle.job_pages.specs.Runs.{count_of}
-use Rattle.run_reading.specs.Gathering.{HoldsRun, IsJobOf}
-use Rattle.run_reading.specs.Held.{order_in}
-use Rattle.run_reading.specs.Words.{sources_of, targets_of}
-use Rattle.run_reading.specs.declared.gather.Held.{Held}
-use Rattle.run_reading.specs.declared.words.RunOrder.{RunOrder}
-use Rattle.run_reading.proofs.JobLemmas.{counted}
-use Rattle.run_reading.specs.Reading.{AnswersBehind, AnswersRunJob, LookStops, LooksBehind, ReadsRunJob}
-use Rattle.run_reading.proofs.ImageLemmas.{count_then, unbroken_before}
+use Rattle.page_run.specs.Gathering.{OpensJob, IsJobOf, JobOpened}
+use Rattle.page_run.specs.Opened.{order_in}
+use Rattle.page_run.specs.InHand.{InHand}
+use Rattle.page_run.specs.Words.{sources_of, targets_of}
+use Rattle.page_run.specs.declared.gather.OpenJob.{OpenJob}
+use Rattle.page_run.specs.declared.words.TraprunArgs.{TraprunArgs}
+use Rattle.page_run.proofs.GatherLemmas.{plate_count}
+use Rattle.page_run.proofs.JobLemmas.{counted}
+use Rattle.page_run.specs.Reading.{AnswersEnds, AnswersRunJob, EndStops, ExpectsEnd, ReadsRunJob}
+use Rattle.page_run.proofs.ImageLemmas.{count_then, unbroken_before}
 use Rattle.traprun_verdicts.specs.declared.stop.RunStop.{RunStop}
 use Rattle.traprun_verdicts.specs.declared.stop.RunStop.TheVariants.{Whole, TooManyPages, Extra}
 use Rattle.traprun_verdicts.specs.Images.{HasImage, HasImageFault, HasNoImage}
@@ -33,17 +35,6 @@ use Rattle.traprun_verdicts.specs.Pages.{pages_of, run_reads}
 use Rattle.traprun_verdicts.specs.RunVerdicts.{AllEnd, AllMade, HasPages, LooksLast}
 use Rattle.trap_report.specs.declared.refusal.Refusal.TheVariants.{Job, Plate, Read, Memory}
 use Rattle.verdicts.specs.Verdicts.{Targets}
-
--- the count of faults where a plate is refused behind the last page
-plate_count : (k : ℕ) (a b : TrayState) (fault : PlateFault) → KeepsCount {T = PlateRead} a b (Err (Fault fault)) → PassesNoFault {T = Unit {0}} a b (Err (Plate k fault))
-plate_count k a b (SampleAboveMaxval at) count = tt
-plate_count k a b (BadMagic at) count = count
-plate_count k a b (BadHeader at) count = count
-plate_count k a b (SideRange at) count = count
-plate_count k a b (TooManySamples at) count = count
-plate_count k a b (MaxvalRange at) count = count
-plate_count k a b (Truncated at) count = count
-plate_count k a b (TrailingBytes at) count = count
 
 module _ (source : Sources) (target : Targets) (t b c : TrayState) (r r' : RackState) (pages : List PageParts) (done : PagesDone source target t b r r' pages) (keeps : KeepsTray b c) (bytes : List ℕ) (known : IsJobOf source bytes t) (has : pages_of bytes ≡ Ok (length pages)) where
   has_pages : IsTrue t.tells → HasPages t.file source (length pages)
@@ -58,7 +49,7 @@ module _ (source : Sources) (target : Targets) (t b c : TrayState) (r r' : RackS
   ended_before : (n : ℕ) → (IsTrue b.tells → (p : ℕ) → p < n → Holds b.file (name_at source.inputs p) (HasNoImage (length pages))) → IsTrue t.tells → AllEnd t.file source (length pages) n
   ended_before n ended tells p within = held_before t b (name_at source.inputs p) (HasNoImage (length pages)) done.tray_keeps (λ there. ended there p within) tells
 
-  looks_last : (plate : ℕ) (Fact : ℕ → List ℕ → Type 0) → LookStops (length pages) source.inputs plate b c → (IsTrue b.tells → Holds b.file (name_at source.inputs plate) (Fact (length pages))) → IsTrue t.tells → LooksLast t.file source plate Fact
+  looks_last : (plate : ℕ) (Fact : ℕ → List ℕ → Type 0) → EndStops (length pages) source.inputs plate b c → (IsTrue b.tells → Holds b.file (name_at source.inputs plate) (Fact (length pages))) → IsTrue t.tells → LooksLast t.file source plate Fact
   looks_last plate Fact at here tells = record {
     all = all_made tells;
     known = at.known;
@@ -66,43 +57,43 @@ module _ (source : Sources) (target : Targets) (t b c : TrayState) (r r' : RackS
     here = held_before t b (name_at source.inputs plate) (Fact (length pages)) done.tray_keeps here tells;
   }
 
-  answer_look : (result : Result (Unit {0}) RunStop) → AnswersBehind (length pages) source.inputs b c result → AnswersRun source target t c r r' result
-  answer_look result (AnswersBehind.ended is calm asked ended) =
-      AnswersRun.done pages b is done.written (calm ∙ done.written.calm) (asked_more source.inputs asked) (λ tells. (has_pages tells, ended_before (length source.inputs) ended tells))
-  answer_look result (AnswersBehind.extra plate is calm at here) =
-      AnswersRun.refused pages b (Extra plate) is (inr refl) done.written has_pages (calm ∙ done.written.calm) (asked_more _ at.asked) (looks_last plate (λ n all. (another : PlateRead) × HasImage n all another) at here)
-  answer_look result (AnswersBehind.fails plate fault is count at here) =
-      AnswersRun.refused pages b (Whole (Plate plate fault)) is (inr refl) done.written has_pages (plate_count plate t c fault (count_then t b c fault done.written.calm count)) (asked_more _ at.asked) (looks_last plate (λ n all. HasImageFault n all fault) at here)
-  answer_look result (AnswersBehind.unread plate is rose at held) =
+  answer_look : (result : Result (Unit {0}) RunStop) → InHand source (length pages) t c → AnswersEnds (length pages) source.inputs b c result → AnswersRun source target t c r r' result
+  answer_look result in_hand (AnswersEnds.ended is calm asked ended) =
+      AnswersRun.done pages b is done.written (calm ∙ done.written.calm) (asked_more source.inputs asked) (λ tells. (has_pages tells, ended_before (length source.inputs) ended tells)) in_hand
+  answer_look result in_hand (AnswersEnds.extra plate is calm at here) =
+      AnswersRun.refused pages b (Extra plate) is (inr refl) done.written has_pages (calm ∙ done.written.calm) (asked_more _ at.asked) (looks_last plate (λ n all. (another : PlateRead) × HasImage n all another) at here) in_hand
+  answer_look result in_hand (AnswersEnds.fails plate fault is count at here) =
+      AnswersRun.refused pages b (Whole (Plate plate fault)) is (inr refl) done.written has_pages (plate_count plate t c fault (count_then t b c fault done.written.calm count)) (asked_more _ at.asked) (looks_last plate (λ n all. HasImageFault n all fault) at here) in_hand
+  answer_look result in_hand (AnswersEnds.unread plate is rose at held) =
       AnswersRun.unread pages b (Whole (Read (Some plate))) is refl done.written (rose_before t.faults b.faults c.faults done.tray_keeps.faults rose) (asked_more _ at.asked)
-      ((λ tells. (has_pages tells, ended_before plate at.ended tells)), unbroken_before (length pages) t b c (name_at source.inputs plate) done.tray_keeps held)
-  answer_look result (AnswersBehind.no_memory is calm asked) =
-      AnswersRun.no_memory pages b is done.written (calm ∙ done.written.calm) (front_more t.asked b.asked c.asked (run_reads source (length pages)) source.inputs done.written.asked asked)
+      ((λ tells. (has_pages tells, ended_before plate at.ended tells)), unbroken_before (length pages) t b c (name_at source.inputs plate) done.tray_keeps held) in_hand
+  answer_look result in_hand (AnswersEnds.no_memory is calm asked) =
+      AnswersRun.no_memory pages b is done.written (calm ∙ done.written.calm) (front_more t.asked b.asked c.asked (run_reads source (length pages)) source.inputs done.written.asked asked) in_hand
 
-  -- it is looked behind the last page
-  pub looked : (result : Result (Unit {0}) RunStop) → LooksBehind (length pages) source.inputs b c result → Runs source target t c r r' result
+  -- it is looked after the last page
+  pub looked : (result : Result (Unit {0}) RunStop) → ExpectsEnd (length pages) source.inputs b c result → Runs source target t c r r' result
   looked result looks = record {
     tray_keeps = kept_tray t b c done.tray_keeps keeps;
     rack_keeps = done.rack_keeps;
     told = done.told;
-    answer = answer_look result looks.answer;
+    answer = answer_look result (hold_more source target t b c r r' r' pages done keeps looks.in_hand) looks.answer;
   }
 
 module _ (source : Sources) (target : Targets) (t t' : TrayState) (r : RackState) where
-  answer_job : (stop : RunStop) → Asks t.asked t'.asked (source.job ∷ []) → KeepsTray t t' → AnswersRunJob source.job t t' (Err stop) → AnswersRun source target t t' r r (Err stop)
-  answer_job stop asked keeps (AnswersRunJob.read bytes count is has calm found) = absurd (let e : ◌≡◌ {A = Result (List ℕ) RunStop} (Err stop) (Ok bytes) = is in cc)
-  answer_job stop asked keeps (AnswersRunJob.refused fault is calm held) =
+  answer_job : (stop : RunStop) → Asks t.asked t'.asked (source.job ∷ []) → KeepsTray t t' → TakesJob source.job t t' → AnswersRunJob source.job t t' (Err stop) → AnswersRun source target t t' r r (Err stop)
+  answer_job stop asked keeps few (AnswersRunJob.read bytes count is has calm found) = absurd (let e : ◌≡◌ {A = Result (List ℕ) RunStop} (Err stop) (Ok bytes) = is in cc)
+  answer_job stop asked keeps few (AnswersRunJob.refused fault is calm held) =
       let same : stop ≡ Whole (Job fault) = (let e : ◌≡◌ {A = Result (List ℕ) RunStop} (Err stop) (Err (Whole (Job fault))) = is in cc) in
-      AnswersRun.refused [] t' (Whole (Job fault)) (ap (λ (s : RunStop). Err s) same) (inl refl) (no_page_done source target t t' r keeps calm asked).written refl calm asked held
-  answer_job stop asked keeps (AnswersRunJob.too_many at is calm held) =
+      AnswersRun.refused [] t' (Whole (Job fault)) (ap (λ (s : RunStop). Err s) same) (inl refl) (no_page_done source target t t' r keeps calm asked few).written refl calm asked held (inl few)
+  answer_job stop asked keeps few (AnswersRunJob.too_many at is calm held) =
       let same : stop ≡ TooManyPages at = (let e : ◌≡◌ {A = Result (List ℕ) RunStop} (Err stop) (Err (TooManyPages at)) = is in cc) in
-      AnswersRun.refused [] t' (TooManyPages at) (ap (λ (s : RunStop). Err s) same) (inl refl) (no_page_done source target t t' r keeps calm asked).written refl calm asked held
-  answer_job stop asked keeps (AnswersRunJob.unread is rose) =
+      AnswersRun.refused [] t' (TooManyPages at) (ap (λ (s : RunStop). Err s) same) (inl refl) (no_page_done source target t t' r keeps calm asked few).written refl calm asked held (inl few)
+  answer_job stop asked keeps few (AnswersRunJob.unread is rose) =
       let same : stop ≡ Whole (Read None) = (let e : ◌≡◌ {A = Result (List ℕ) RunStop} (Err stop) (Err (Whole (Read None))) = is in cc) in
-      AnswersRun.unread_job (ap (λ (s : RunStop). Err s) same) refl rose asked
-  answer_job stop asked keeps (AnswersRunJob.no_memory is calm) =
+      AnswersRun.unread_job (ap (λ (s : RunStop). Err s) same) refl rose asked few
+  answer_job stop asked keeps few (AnswersRunJob.no_memory is calm) =
       let same : stop ≡ Whole Memory = (let e : ◌≡◌ {A = Result (List ℕ) RunStop} (Err stop) (Err (Whole Memory)) = is in cc) in
-      AnswersRun.no_job_memory (ap (λ (s : RunStop). Err s) same) refl calm asked
+      AnswersRun.no_job_memory (ap (λ (s : RunStop). Err s) same) refl calm asked few
 
   -- the job was not read
   pub not_held : (stop : RunStop) → ReadsRunJob source.job t t' (Err stop) → Runs source target t t' r r (Err stop)
@@ -110,7 +101,7 @@ module _ (source : Sources) (target : Targets) (t t' : TrayState) (r : RackState
     tray_keeps = reads.keeps;
     rack_keeps = record { tells = refl; faults = omega arith };
     told = λ tells. refl;
-    answer = answer_job stop reads.asked reads.keeps reads.answer;
+    answer = answer_job stop reads.asked reads.keeps reads.few reads.answer;
   }
 
 -- nothing was begun, since there was no memory
@@ -126,31 +117,30 @@ not_begun source target t r = record {
 pub same_count : (bytes : List ℕ) (count n : ℕ) → pages_of bytes ≡ Ok count → count_of bytes ≡ Ok n → n ≡ count
 same_count bytes count n has counts = let e : ◌≡◌ {A = Result ℕ RunRefusal} (Ok n) (Ok count) = sym counts ∙ counted bytes count has in cc
 
--- all pages are trapped, and it is looked behind the last one
-pub looked_behind : (source : Sources) (target : Targets) (bytes : List ℕ) (n count : ℕ) (t b c : TrayState) (r r' : RackState) (result : Result (Unit {0}) RunStop) → n ≡ count → IsJobOf source bytes t → pages_of bytes ≡ Ok count → (every : (pages : List PageParts) × (length pages ≡ count) × PagesDone source target t b r r' pages) → LooksBehind n source.inputs b c result → Runs source target t c r r' result
+-- all pages are trapped, and it is looked after the last one
+pub looked_behind : (source : Sources) (target : Targets) (bytes : List ℕ) (n count : ℕ) (t b c : TrayState) (r r' : RackState) (result : Result (Unit {0}) RunStop) → n ≡ count → IsJobOf source bytes t → pages_of bytes ≡ Ok count → (every : (pages : List PageParts) × (length pages ≡ count) × PagesDone source target t b r r' pages) → ExpectsEnd n source.inputs b c result → Runs source target t c r r' result
 looked_behind source target bytes n count t b c r r' result one known has every looks =
-    let here : LooksBehind (length every.0) source.inputs b c result = subst (λ (m : ℕ). LooksBehind m source.inputs b c result) (one ∙ sym every.1) looks in
+    let here : ExpectsEnd (length every.0) source.inputs b c result = subst (λ (m : ℕ). ExpectsEnd m source.inputs b c result) (one ∙ sym every.1) looks in
     looked source target t b c r r' every.0 every.2 looks.keeps bytes known (has ∙ ap (λ (m : ℕ). Ok m) (sym every.1)) result here
 
 -- a run that is held is carried out
-pub carried : (order : RunOrder) (t b t' : TrayState) (r r' : RackState) (run : Held) (result : Result (Unit {0}) RunStop) → HoldsRun order t b (Ok run) → RunsFrom (sources_of (order_in run.order.now)) (targets_of (order_in run.order.now)) run.job b t' r r' result → Runs (sources_of (order_in order)) (targets_of (order_in order)) t t' r r' result
-carried order t b t' r r' run result (HoldsRun.not_begun is same) runs = absurd (let e : ◌≡◌ {A = Result Held RunStop} (Ok run) (Err (Whole Memory)) = is in cc)
-carried order t b t' r r' run result (HoldsRun.stopped stop is reads) runs = absurd (let e : ◌≡◌ {A = Result Held RunStop} (Ok run) (Err stop) = is in cc)
-carried order t b t' r r' run result (HoldsRun.held other count is held same has keeps calm asked found) runs =
-    let one : other ≡ run = (let e : ◌≡◌ {A = Result Held RunStop} (Ok run) (Ok other) = is in cc) in
-    let order_is : run.order.now ≡ order = ap (λ (h : Held). h.order.now) (sym one) ∙ same in
-    let job_is : pages_of run.job ≡ Ok count = subst (λ (h : Held). pages_of h.job ≡ Ok count) one has in
-    let job_found : IsTrue t.tells → t.file order.job.now ≡ Some run.job = λ tells. found tells ∙ ap (λ (h : Held). Some h.job) one in
-    let from : RunsFrom (sources_of (order_in order)) (targets_of (order_in order)) run.job b t' r r' result = subst (λ (o : RunOrder). RunsFrom (sources_of (order_in o)) (targets_of (order_in o)) run.job b t' r r' result) order_is runs in
-    from t count keeps calm asked job_found job_is
+pub carried : (order : TraprunArgs) (t b t' : TrayState) (r r' : RackState) (run : OpenJob) (result : Result (Unit {0}) RunStop) → OpensJob order t b (Ok run) → RunsFrom (sources_of (order_in run.order.now)) (targets_of (order_in run.order.now)) run.job b t' r r' result → Runs (sources_of (order_in order)) (targets_of (order_in order)) t t' r r' result
+carried order t b t' r r' run result (OpensJob.not_begun is same) runs = absurd (let e : ◌≡◌ {A = Result OpenJob RunStop} (Ok run) (Err (Whole Memory)) = is in cc)
+carried order t b t' r r' run result (OpensJob.stopped stop is reads) runs = absurd (let e : ◌≡◌ {A = Result OpenJob RunStop} (Ok run) (Err stop) = is in cc)
+carried order t b t' r r' run result (OpensJob.opened other is held same opened) runs =
+    let one : other ≡ run = (let e : ◌≡◌ {A = Result OpenJob RunStop} (Ok run) (Ok other) = is in cc) in
+    let order_is : run.order.now ≡ order = ap (λ (h : OpenJob). h.order.now) (sym one) ∙ same in
+    let opened_is : JobOpened (sources_of (order_in order)) run.job t b = subst (λ (h : OpenJob). JobOpened (sources_of (order_in order)) h.job t b) one opened in
+    let from : RunsFrom (sources_of (order_in order)) (targets_of (order_in order)) run.job b t' r r' result = subst (λ (o : TraprunArgs). RunsFrom (sources_of (order_in o)) (targets_of (order_in o)) run.job b t' r r' result) order_is runs in
+    from t opened_is
 
 -- it is not held
-pub not_carried : (order : RunOrder) (t b : TrayState) (r : RackState) (stop : RunStop) → HoldsRun order t b (Err stop) → Runs (sources_of (order_in order)) (targets_of (order_in order)) t b r r (Err stop)
-not_carried order t b r stop (HoldsRun.not_begun is same) =
-    let one : stop ≡ Whole Memory = (let e : ◌≡◌ {A = Result Held RunStop} (Err stop) (Err (Whole Memory)) = is in cc) in
+pub not_carried : (order : TraprunArgs) (t b : TrayState) (r : RackState) (stop : RunStop) → OpensJob order t b (Err stop) → Runs (sources_of (order_in order)) (targets_of (order_in order)) t b r r (Err stop)
+not_carried order t b r stop (OpensJob.not_begun is same) =
+    let one : stop ≡ Whole Memory = (let e : ◌≡◌ {A = Result OpenJob RunStop} (Err stop) (Err (Whole Memory)) = is in cc) in
     subst (λ (s : RunStop). Runs (sources_of (order_in order)) (targets_of (order_in order)) t b r r (Err s)) (sym one)
     (subst (λ (x : TrayState). Runs (sources_of (order_in order)) (targets_of (order_in order)) t x r r (Err (Whole Memory))) (sym same) (not_begun (sources_of (order_in order)) (targets_of (order_in order)) t r))
-not_carried order t b r stop (HoldsRun.stopped other is reads) =
-    let one : other ≡ stop = (let e : ◌≡◌ {A = Result Held RunStop} (Err stop) (Err other) = is in cc) in
+not_carried order t b r stop (OpensJob.stopped other is reads) =
+    let one : other ≡ stop = (let e : ◌≡◌ {A = Result OpenJob RunStop} (Err stop) (Err other) = is in cc) in
     subst (λ (s : RunStop). Runs (sources_of (order_in order)) (targets_of (order_in order)) t b r r (Err s)) one (not_held (sources_of (order_in order)) (targets_of (order_in order)) t b r other reads)
-not_carried order t b r stop (HoldsRun.held other count is held same has keeps calm asked found) = absurd (let e : ◌≡◌ {A = Result Held RunStop} (Err stop) (Ok other) = is in cc)
+not_carried order t b r stop (OpensJob.opened other is held same opened) = absurd (let e : ◌≡◌ {A = Result OpenJob RunStop} (Err stop) (Ok other) = is in cc)

@@ -1,47 +1,82 @@
--- What the top call promises, clause by clause, of the words and of what stands before and, primed, after the call.
-use Rattle.std.specs.Prelude.{◌≡◌, ◌≢◌, ◌⊎◌, ℕ, suc, ◌<◌, ◌≤◌, IsTrue, IsFalse, List, ◌∷◌, length, All, Option, Some, None}
+-- What the top call promises, clause by clause, of the words and of what stands before and, primed,
+-- after the call.
+use Rattle.std.specs.Prelude.{◌≡◌, ◌≢◌, ◌⊎◌, ℕ, suc, ◌<◌, ◌≤◌, IsTrue, IsFalse, List, ◌∷◌, length}
+use Rattle.std.specs.Prelude.{All, Option, Some, None}
 use Rattle.outside.specs.Causes.{Rose, Asks, AsksFront}
 use Rattle.outside.specs.Tray.{TrayState}
-use Rattle.outside.specs.Rack.{RackState}
+use Rattle.outside.specs.Rack.{RackState, KeepsRack}
 use Rattle.page_gather.specs.Inputs.{name_at}
 use Rattle.page_model.specs.declared.parts.PageParts.{PageParts}
 use Rattle.page_model.specs.Conditions.{IsPage}
-use Rattle.page_run.specs.Endings.{BreaksRun, StandsBehind, StopKeepsCount, stop_reads}
+use Rattle.page_run.specs.Endings.{BreaksRun, StopsAfter, StopKeepsCount, stop_reads}
 use Rattle.page_run.specs.Text.{usage_line}
-use Rattle.run_reading.specs.Words.{RunWords, order_of, sources_of, targets_of}
+use Rattle.page_run.specs.InHand.{InHand}
+use Rattle.page_run.specs.Words.{RunWords, order_of, sources_of, targets_of}
 use Rattle.page_writing.specs.Files.{Written, put_all}
-use Rattle.page_writing.specs.Writing.{Breaks, WritesAll}
+use Rattle.page_writing.specs.Writing.{Breaks, FinishesAll, WritesAll}
 use Rattle.traprun_verdicts.specs.declared.stop.RunStop.{RunStop}
 use Rattle.traprun_verdicts.specs.declared.stop.RunStop.TheVariants.{AtPage}
 use Rattle.traprun_verdicts.specs.Pages.{AreMade, run_files, run_names, run_reads, target_at}
-use Rattle.traprun_verdicts.specs.RunVerdicts.{RunVerdict, AllEnd, HasPages, IsRunVerdict, Stopped, Out, status_of_verdict}
+use Rattle.traprun_verdicts.specs.RunVerdicts.{RunVerdict, AllEnd, HasPages, IsRunVerdict, Stopped}
+use Rattle.traprun_verdicts.specs.RunVerdicts.{Out, status_of_verdict}
 use Rattle.traprun_verdicts.specs.Stops.{line_of_stop, status_of_stop}
-use Rattle.trap_report.specs.declared.refusal.Refusal.TheVariants.{Write}
-use Rattle.trap_report.specs.Statuses.{done, usage, job_refused, page_refused, not_read, not_written, out_of_memory}
-use Rattle.trap_report.specs.Telling.{TellsText, TellsBehindFault}
+use Rattle.trap_report.specs.declared.refusal.Refusal.TheVariants.{Memory, Write}
+use Rattle.trap_report.specs.Refusals.{line_of}
+use Rattle.trap_report.specs.Statuses.{done, usage, job_refused, page_refused, not_read}
+use Rattle.trap_report.specs.Statuses.{not_written, out_of_memory}
+use Rattle.trap_report.specs.Telling.{TellsText, TellsAfterFault}
 use Rattle.verdicts.specs.Verdicts.{IsFile, outcome}
 
 -- The words mean this run.
 abbrev pub Mean : List (List ℕ) → RunWords → Type 0
 Mean words order = order_of words ≡ Some order
 
--- These pages are whole, the last of them first: each is the one that its job and its plates' images make, where the tray tells them; and the rack's files are the old ones with those of these pages put in, page after page.
-pub record Whole (order : RunWords) (tray : TrayState) (rack rack' : RackState) (pages : List PageParts) : Type 0 where
+-- These pages are whole, the last of them first: each is the one that its job and its plates'
+-- images make, where the tray tells them; and the rack's files are the old ones with those of these
+-- pages put in, page after page. No other file was created, and no more was taken of the file that
+-- is in hand than is owed.
+pub record Whole (order : RunWords) (tray tray' : TrayState) (rack rack' : RackState)
+    (pages : List PageParts) : Type 0 where
   pub valid : All IsPage pages
   pub made : IsTrue tray.tells → AreMade tray.file (sources_of order) pages
-  pub files : IsTrue rack.tells → rack'.file ≡ put_all (run_files (targets_of order) pages) rack.file
-  -- each of them is finished, whether or not the rack tells
+  pub files : IsTrue rack.tells →
+      rack'.file ≡ put_all (run_files (targets_of order) pages) rack.file
+  pub created : Asks rack.asked rack'.asked (run_names (targets_of order) (length pages))
+  -- each of them is finished
+  pub finished : FinishesAll (run_names (targets_of order) (length pages)) rack rack'
+  -- none is open, whether or not the rack tells
   pub shut : 0 < length pages → IsFalse rack'.is_open
+  pub in_hand : InHand (sources_of order) (length pages) tray tray'
 
--- Status 0 comes only where neither count rose. All pages of the job are then whole, and no plate's file has another image behind the last one, so that the verdict is these files. All inputs were read for each page and looked at behind the last one; each file that was asked for was asked for in its order, and is finished; and nothing is told.
-pub record Success (words : List (List ℕ)) (tray tray' : TrayState) (rack rack' : RackState) (status : ℕ) : Type 0 where
+-- All pages of the job are whole, and no plate's file has another image after the last one. All
+-- inputs were read for each page and looked at after the last one, each in its order; and nothing
+-- is told.
+pub record EveryPage (order : RunWords) (tray tray' : TrayState) (rack rack' : RackState)
+    : Type 0 where
+  pub pages : List PageParts
+  pub whole : Whole order tray tray' rack rack' pages
+  pub all : IsTrue tray.tells → HasPages tray.file (sources_of order) (length pages)
+  pub ended : IsTrue tray.tells →
+      AllEnd tray.file (sources_of order) (length pages) (length (sources_of order).inputs)
+  pub begun : Asks tray.asked tray'.asked (run_reads (sources_of order) (suc (length pages)))
+  pub silent : IsTrue rack.tells → rack'.told ≡ rack.told
+
+-- Status 0 comes only where neither count rose. All pages of the job are then whole, so that the
+-- verdict is their files.
+pub record Success (words : List (List ℕ)) (tray tray' : TrayState) (rack rack' : RackState)
+    (status : ℕ) : Type 0 where
   pub calm : status ≡ done → (tray'.faults ≡ tray.faults) × (rack'.faults ≡ rack.faults)
-  pub pages : (order : RunWords) → Mean words order → status ≡ done → (pages : List PageParts) × Whole order tray rack rack' pages × (IsTrue tray.tells → HasPages tray.file (sources_of order) (length pages) × AllEnd tray.file (sources_of order) (length pages) (length (sources_of order).inputs)) × Asks tray.asked tray'.asked (run_reads (sources_of order) (suc (length pages))) × Asks rack.asked rack'.asked (run_names (targets_of order) (length pages))
-  pub verdict : (order : RunWords) → Mean words order → status ≡ done → IsTrue tray.tells → (files : List Written) × IsRunVerdict tray.file (sources_of order) (targets_of order) (Out files) × (IsTrue rack.tells → rack'.file ≡ put_all files rack.file)
-  pub silent : (order : RunWords) → Mean words order → status ≡ done → IsTrue rack.tells → rack'.told ≡ rack.told
+  pub pages : (order : RunWords) → Mean words order → status ≡ done →
+      EveryPage order tray tray' rack rack'
+  pub verdict : (order : RunWords) → Mean words order → status ≡ done → IsTrue tray.tells →
+      (files : List Written) × IsRunVerdict tray.file (sources_of order) (targets_of order)
+      (Out files) ×
+      (IsTrue rack.tells → rack'.file ≡ put_all files rack.file)
 
--- Status 2 comes exactly where the words mean no run. The usage line is then told, no name is handed out, and the files are as before.
-pub record Usage (words : List (List ℕ)) (tray tray' : TrayState) (rack rack' : RackState) (status : ℕ) : Type 0 where
+-- Status 2 comes exactly where the words mean no run. The usage line is then told, no name is
+-- handed out, and the files are as before.
+pub record Usage (words : List (List ℕ)) (tray tray' : TrayState) (rack rack' : RackState)
+    (status : ℕ) : Type 0 where
   pub only : status ≡ usage → order_of words ≡ None
   pub always : order_of words ≡ None → status ≡ usage
   pub line : order_of words ≡ None → TellsText usage_line rack rack'
@@ -49,44 +84,123 @@ pub record Usage (words : List (List ℕ)) (tray tray' : TrayState) (rack rack' 
   pub no_create : order_of words ≡ None → rack'.asked ≡ rack.asked
   pub files : order_of words ≡ None → IsTrue rack.tells → rack'.file ≡ rack.file
 
--- What comes where the run is refused: the stop's status and its line; the verdict; all pages before it, which are whole; the names that were handed to `begin`, none behind that of the file that is refused, and to `create`; and that no fault of the tray was passed over.
-pub record RefusesPages (order : RunWords) (tray tray' : TrayState) (rack rack' : RackState) (status : ℕ) (stop : RunStop) (pages : List PageParts) : Type 0 where
+-- What comes where the run is refused: the stop's status and its line; the verdict; all pages
+-- before it, which are whole; the names that were handed to `begin`, none after that of the file
+-- that is refused, and to `create`; and that no fault of the tray was passed over.
+pub record RefusesPages (order : RunWords) (tray tray' : TrayState) (rack rack' : RackState)
+    (status : ℕ) (stop : RunStop) (pages : List PageParts) : Type 0 where
   pub status_is : status ≡ status_of_stop stop
-  pub verdict : IsTrue tray.tells → IsRunVerdict tray.file (sources_of order) (targets_of order) (Stopped stop)
-  pub whole : Whole order tray rack rack' pages
-  pub place : StandsBehind (sources_of order) tray (length pages) stop
+  pub verdict : IsTrue tray.tells →
+      IsRunVerdict tray.file (sources_of order) (targets_of order) (Stopped stop)
+  pub whole : Whole order tray tray' rack rack' pages
+  pub place : StopsAfter (sources_of order) tray (length pages) stop
   pub begun : Asks tray.asked tray'.asked (stop_reads (sources_of order) (length pages) stop)
-  pub created : Asks rack.asked rack'.asked (run_names (targets_of order) (length pages))
   pub count : StopKeepsCount tray tray' stop
   pub line : TellsText (line_of_stop stop) rack rack'
 
--- Status 3 and 4 come only where the verdict is a stop of that status; and where it is one, and neither count rose, its status comes, or want of memory.
-pub record RefusedInput (words : List (List ℕ)) (tray tray' : TrayState) (rack rack' : RackState) (status : ℕ) : Type 0 where
-  pub only : (order : RunWords) → Mean words order → (status ≡ job_refused) ⊎ (status ≡ page_refused) → (stop : RunStop) × (pages : List PageParts) × RefusesPages order tray tray' rack rack' status stop pages
-  pub always : (order : RunWords) (stop : RunStop) → Mean words order → IsTrue tray.tells → IsRunVerdict tray.file (sources_of order) (targets_of order) (Stopped stop) → ¬ Rose tray.faults tray'.faults → ¬ Rose rack.faults rack'.faults → (status ≡ status_of_stop stop) ⊎ (status ≡ out_of_memory)
+-- Status 3 and 4 come only where the verdict is a stop of that status; and where it is one, and
+-- neither count rose, its status comes, or 7.
+pub record RefusedInput (words : List (List ℕ)) (tray tray' : TrayState) (rack rack' : RackState)
+    (status : ℕ) : Type 0 where
+  pub only : (order : RunWords) → Mean words order →
+      (status ≡ job_refused) ⊎ (status ≡ page_refused) →
+      (stop : RunStop) × (pages : List PageParts) ×
+      RefusesPages order tray tray' rack rack' status stop pages
+  pub always : (order : RunWords) (stop : RunStop) → Mean words order → IsTrue tray.tells →
+      IsRunVerdict tray.file (sources_of order) (targets_of order) (Stopped stop) →
+      ¬ Rose tray.faults tray'.faults → ¬ Rose rack.faults rack'.faults →
+      (status ≡ status_of_stop stop) ⊎ (status ≡ out_of_memory)
 
--- Status 5 comes only where the tray's count rose. The pages before are whole, what was read of this one has no fault, and the line names the file that was handed to `begin` last. At want of memory the names handed to `begin` are a front of the job's and, page after page, the plates'. Neither a failed write nor want of memory passes a fault of the tray over.
-pub record ReadFault (words : List (List ℕ)) (tray tray' : TrayState) (rack rack' : RackState) (status : ℕ) : Type 0 where
+-- What comes where a read fails: the pages before are whole, what was read of this one has no
+-- fault, and the line names the file that was handed to `begin` last.
+pub record FailsToRead (order : RunWords) (tray tray' : TrayState) (rack rack' : RackState)
+    (status : ℕ) : Type 0 where
+  pub stop : RunStop
+  pub pages : List PageParts
+  pub status_is : status ≡ status_of_stop stop
+  pub whole : Whole order tray tray' rack rack' pages
+  pub begun : Asks tray.asked tray'.asked (stop_reads (sources_of order) (length pages) stop)
+  pub breaks : BreaksRun (sources_of order) (length pages) tray tray' stop
+  pub line : TellsText (line_of_stop stop) rack rack'
+
+-- Status 5 comes only where the tray's count rose. Neither a failed write nor want of memory passes
+-- a fault of the tray over.
+pub record ReadFault (words : List (List ℕ)) (tray tray' : TrayState) (rack rack' : RackState)
+    (status : ℕ) : Type 0 where
   pub cause : status ≡ not_read → Rose tray.faults tray'.faults
-  pub breaks : (order : RunWords) → Mean words order → status ≡ not_read → (stop : RunStop) × (pages : List PageParts) × (status ≡ status_of_stop stop) × Whole order tray rack rack' pages × Asks tray.asked tray'.asked (stop_reads (sources_of order) (length pages) stop) × BreaksRun (sources_of order) (length pages) tray tray' stop × TellsText (line_of_stop stop) rack rack'
-  pub asked : (order : RunWords) → Mean words order → status ≡ out_of_memory → (pages : ℕ) × AsksFront tray.asked tray'.asked (run_reads (sources_of order) pages)
+  pub breaks : (order : RunWords) → Mean words order → status ≡ not_read →
+      FailsToRead order tray tray' rack rack' status
   pub calm : (status ≡ not_written) ⊎ (status ≡ out_of_memory) → tray'.faults ≡ tray.faults
 
--- Status 6 comes only where the rack's count rose, at a page that was made, behind pages that are whole: of its files those before the failed one are whole, it holds a front of its bytes or is as before, and the later ones are as before. The names handed to `create` are those of the pages before and a front of this one's, and the line names the last of them.
-pub record WriteFault (words : List (List ℕ)) (tray tray' : TrayState) (rack rack' : RackState) (status : ℕ) : Type 0 where
+-- What comes where a write fails, at a page that was made: the pages before it are whole, as the
+-- rack stood between them and this page; of its files those before the failed one are whole, it
+-- holds a prefix of its bytes or is as before, and the later ones are as before. The names handed
+-- to `create` are those of the pages before and a prefix of this one's, and the line names the last
+-- of them.
+pub record FailsToWrite (order : RunWords) (tray tray' : TrayState) (rack rack' : RackState)
+    : Type 0 where
+  pub pages : List PageParts
+  pub page : PageParts
+  pub file : Option ℕ
+  pub between : RackState
+  pub keeps : KeepsRack rack between
+  pub wrote : WritesAll (run_files (targets_of order) pages) rack between
+  pub created : Asks rack.asked between.asked (run_names (targets_of order) (length pages))
+  pub finished : FinishesAll (run_names (targets_of order) (length pages)) rack between
+  pub begun : Asks tray.asked tray'.asked (run_reads (sources_of order) (suc (length pages)))
+  pub in_hand : InHand (sources_of order) (length pages) tray tray'
+  pub valid : All IsPage (page ∷ pages)
+  pub made : IsTrue tray.tells → AreMade tray.file (sources_of order) (page ∷ pages)
+  pub breaks : Breaks (length (targets_of order).outputs)
+      (outcome (target_at (targets_of order) (length pages)) page) file between rack'
+  pub line : TellsAfterFault (line_of_stop (AtPage (length pages) (Write file))) rack rack'
+
+-- Status 6 comes only where the rack's count rose.
+pub record WriteFault (words : List (List ℕ)) (tray tray' : TrayState) (rack rack' : RackState)
+    (status : ℕ) : Type 0 where
   pub cause : status ≡ not_written → Rose rack.faults rack'.faults
-  pub breaks : (order : RunWords) → Mean words order → status ≡ not_written → (pages : List PageParts) × (page : PageParts) × (file : Option ℕ) × (mid : RackState) × WritesAll (run_files (targets_of order) pages) rack mid × Asks rack.asked mid.asked (run_names (targets_of order) (length pages)) × Asks tray.asked tray'.asked (run_reads (sources_of order) (suc (length pages))) × All IsPage (page ∷ pages) × (IsTrue tray.tells → AreMade tray.file (sources_of order) (page ∷ pages)) × Breaks (length (targets_of order).outputs) (outcome (target_at (targets_of order) (length pages)) page) file mid rack' × TellsBehindFault (line_of_stop (AtPage (length pages) (Write file))) rack rack'
+  pub breaks : (order : RunWords) → Mean words order → status ≡ not_written →
+      FailsToWrite order tray tray' rack rack'
 
--- At every status but 6, so at want of memory too, some pages are whole and nothing else is changed.
-abbrev pub LeavesPages : List (List ℕ) → TrayState → RackState → RackState → ℕ → Type 0
-LeavesPages words tray rack rack' status = (order : RunWords) → Mean words order → status ≢ not_written → (pages : List PageParts) × Whole order tray rack rack' pages × Asks rack.asked rack'.asked (run_names (targets_of order) (length pages))
+-- Some pages are whole and nothing else is changed. At status 7 the names handed to `begin` are a
+-- prefix of those of these pages and of one page more, or of the look at the plates after the last.
+pub record KeepsPages (order : RunWords) (tray tray' : TrayState) (rack rack' : RackState)
+    (status : ℕ) : Type 0 where
+  pub pages : List PageParts
+  pub whole : Whole order tray tray' rack rack' pages
+  pub begun : status ≡ out_of_memory →
+      AsksFront tray.asked tray'.asked (run_reads (sources_of order) (suc (length pages)))
 
--- Every stop tells its line and nothing else; that of a failed write is the line of `write_fault`, and that of words that mean no run the one of `usage`.
-abbrev pub FaultLine : RackState → RackState → ℕ → Type 0
-FaultLine rack rack' status = status ≢ done → status ≢ usage → status ≢ not_written → (stop : RunStop) × (status ≡ status_of_stop stop) × TellsText (line_of_stop stop) rack rack'
+-- At every status but 6, so at want of memory too, some pages are whole and nothing else is
+-- changed.
+abbrev pub LeavesPages : List (List ℕ) → TrayState → TrayState → RackState → RackState → ℕ → Type 0
+LeavesPages words tray tray' rack rack' status =
+    (order : RunWords) → Mean words order → status ≢ not_written →
+    KeepsPages order tray tray' rack rack' status
 
--- Where the verdict is a list of files and no count rose, the status is 0 or 7. Where the job and all plates are among the tray's files there is a verdict, and where no count rose the status is the one that it asks for, or 7: valid input comes to 0 or 7, and any other to its first refusal. Every status is 0 or one of 2 to 7.
-pub record Completeness (words : List (List ℕ)) (tray tray' : TrayState) (rack rack' : RackState) (status : ℕ) : Type 0 where
-  pub pages : (order : RunWords) (files : List Written) → Mean words order → IsTrue tray.tells → IsRunVerdict tray.file (sources_of order) (targets_of order) (Out files) → ¬ Rose tray.faults tray'.faults → ¬ Rose rack.faults rack'.faults → (status ≡ done) ⊎ (status ≡ out_of_memory)
-  pub decided : (order : RunWords) → Mean words order → IsTrue tray.tells → IsFile tray.file (sources_of order).job → ((k : ℕ) → k < length (sources_of order).inputs → IsFile tray.file (name_at (sources_of order).inputs k)) → ¬ Rose tray.faults tray'.faults → ¬ Rose rack.faults rack'.faults → (verdict : RunVerdict) × IsRunVerdict tray.file (sources_of order) (targets_of order) verdict × ((status ≡ status_of_verdict verdict) ⊎ (status ≡ out_of_memory))
+-- Every stop tells its line and nothing else; that of a failed write is the line of `write_fault`,
+-- and that of words that mean no run the one of `usage`. Status 7 tells `out of memory` alone, at
+-- whichever place it comes.
+pub record FaultLine (rack rack' : RackState) (status : ℕ) : Type 0 where
+  pub stopped : status ≢ done → status ≢ usage → status ≢ not_written →
+      (stop : RunStop) × (status ≡ status_of_stop stop) × TellsText (line_of_stop stop) rack rack'
+  pub memory : status ≡ out_of_memory → TellsText (line_of Memory) rack rack'
+
+-- Where the verdict is a list of files and no count rose, the status is 0 or 7. Where the job and
+-- all plates are among the tray's files there is a verdict, and where no count rose the status is
+-- the one that it asks for, or 7: valid input comes to 0 or 7, and any other to its first refusal.
+-- Every status is 0 or one of 2 to 7.
+pub record Completeness (words : List (List ℕ)) (tray tray' : TrayState) (rack rack' : RackState)
+    (status : ℕ) : Type 0 where
+  pub pages : (order : RunWords) (files : List Written) → Mean words order → IsTrue tray.tells →
+      IsRunVerdict tray.file (sources_of order) (targets_of order) (Out files) →
+      ¬ Rose tray.faults tray'.faults → ¬ Rose rack.faults rack'.faults →
+      (status ≡ done) ⊎ (status ≡ out_of_memory)
+  pub decided : (order : RunWords) → Mean words order → IsTrue tray.tells →
+      IsFile tray.file (sources_of order).job →
+      ((k : ℕ) → k < length (sources_of order).inputs →
+      IsFile tray.file (name_at (sources_of order).inputs k)) →
+      ¬ Rose tray.faults tray'.faults → ¬ Rose rack.faults rack'.faults →
+      (verdict : RunVerdict) × IsRunVerdict tray.file (sources_of order) (targets_of order) verdict ×
+      ((status ≡ status_of_verdict verdict) ⊎ (status ≡ out_of_memory))
   pub statuses : (status ≡ done) ⊎ ((usage ≤ status) × (status ≤ out_of_memory))

@@ -1,3 +1,8 @@
+pub mod InHand
+pub mod Reading
+pub mod Words
+pub mod Opened
+pub mod Gathering
 pub mod Text
 pub mod Paging
 pub mod Endings

@@ -1,6 +1,12 @@
 //! The top call of the program `traprun`: jobs of many pages, and plate files of one image for each page.
 #![tactic(auto)]
 
+mod ends;
+mod files;
+mod gather;
+mod images;
+mod job;
 mod page;
 mod run;
 pub mod top;
+mod words;

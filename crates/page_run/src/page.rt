@@ -2,17 +2,17 @@ ghost use Rattle.std.specs.Prelude.{◌≡◌, length};
 ghost use Rattle.job_pages.specs.Runs.{HasPage};
 ghost use Rattle.page_model.specs.Page.{plates};
 ghost use Rattle.page_run.specs.Paging.{PutsPage, StepsPage};
-ghost use Rattle.run_reading.specs.Held.{IsHeld, IsWithin, order_in};
-ghost use Rattle.run_reading.specs.Words.{sources_of, targets_of};
+ghost use Rattle.page_run.specs.Opened.{IsOpenJob, IsWithin, order_in};
+ghost use Rattle.page_run.specs.Words.{sources_of, targets_of};
 
+use crate::files::{numbered, outputs_at};
+use crate::gather::{OpenJob, gather_page};
+use crate::words::TraprunArgs;
 use band_workers::Gate;
 use outside::rack::Rack;
 use outside::tray::Tray;
 use page_model::page::Page;
 use page_output::output::{PageOrder, put_out};
-use run_reading::files::{numbered, outputs_at};
-use run_reading::gather::{Held, gather_page};
-use run_reading::words::RunOrder;
 use std::alloc::Global;
 use std::thread::Threads;
 use trap_report::refusal::Refusal;
@@ -22,20 +22,20 @@ use traprun_verdicts::stop::{RunStop, stop_at};
 pub(crate) fn trap_one<H: Threads + Sync, T: Tray, R: Rack, G: Gate + Sync>(
     rt: &H,
     alloc: Global,
-    held: &Held<'_>,
+    opened: &OpenJob<'_>,
     page: u32,
     tray: &mut T,
     rack: &mut R,
     gate: &G,
 ) -> Result<(), RunStop>
-    requires held { IsHeld held.now }
-    requires page { HasPage held.now.job page }
-    ensures { let order = order_in held.now.order.now in
-        StepsPage (sources_of order) (targets_of order) held.now.job page (T.state tray.old)
+    requires opened { IsOpenJob opened.now }
+    requires page { HasPage opened.now.job page }
+    ensures { let order = order_in opened.now.order.now in
+        StepsPage (sources_of order) (targets_of order) opened.now.job page (T.state tray.old)
         (T.state tray.new) (R.state rack.old) (R.state rack.new) result }
 {
-    match gather_page(alloc, held, page, tray) {
-        Ok(made) => put_page(rt, alloc, held.order, page, &made, rack, gate),
+    match gather_page(alloc, opened, page, tray) {
+        Ok(made) => put_page(rt, alloc, opened.order, page, &made, rack, gate),
         Err(stop) => Err(stop),
     }
 }
@@ -44,7 +44,7 @@ pub(crate) fn trap_one<H: Threads + Sync, T: Tray, R: Rack, G: Gate + Sync>(
 fn put_page<H: Threads + Sync, R: Rack, G: Gate + Sync>(
     rt: &H,
     alloc: Global,
-    order: &RunOrder<'_>,
+    order: &TraprunArgs<'_>,
     number: u32,
     page: &Page,
     rack: &mut R,

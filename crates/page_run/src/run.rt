@@ -1,15 +1,15 @@
 ghost use Rattle.std.specs.Prelude.{◌≡◌, ◌≤◌, vec_len};
 ghost use Rattle.page_run.specs.Endings.{EndsRun, Runs, RunsFrom, TrapsPages};
-ghost use Rattle.run_reading.specs.Held.{IsHeld, IsWithin, order_in};
-ghost use Rattle.run_reading.specs.Words.{sources_of, targets_of};
+ghost use Rattle.page_run.specs.Opened.{IsOpenJob, IsWithin, order_in};
+ghost use Rattle.page_run.specs.Words.{sources_of, targets_of};
 
+use crate::ends::expect_end;
+use crate::gather::{OpenJob, open_job};
 use crate::page::trap_one;
+use crate::words::TraprunArgs;
 use band_workers::Gate;
 use outside::rack::Rack;
 use outside::tray::Tray;
-use run_reading::behind::look_behind;
-use run_reading::gather::{Held, hold};
-use run_reading::words::RunOrder;
 use std::alloc::Global;
 use std::thread::Threads;
 use trap_report::statuses::DONE;
@@ -20,7 +20,7 @@ use traprun_verdicts::telling::refuse_run;
 pub(crate) fn run_order<H: Threads + Sync, T: Tray, R: Rack, G: Gate + Sync>(
     rt: &H,
     alloc: Global,
-    order: &RunOrder<'_>,
+    order: &TraprunArgs<'_>,
     tray: &mut T,
     rack: &mut R,
     gate: &G,
@@ -35,11 +35,11 @@ pub(crate) fn run_order<H: Threads + Sync, T: Tray, R: Rack, G: Gate + Sync>(
     }
 }
 
-// Reads the job, and page after page reads, traps and writes; and looks behind the last page.
+// Reads the job, and page after page reads, traps and writes; and looks after the last page.
 fn carry_out<H: Threads + Sync, T: Tray, R: Rack, G: Gate + Sync>(
     rt: &H,
     alloc: Global,
-    order: &RunOrder<'_>,
+    order: &TraprunArgs<'_>,
     tray: &mut T,
     rack: &mut R,
     gate: &G,
@@ -49,28 +49,28 @@ fn carry_out<H: Threads + Sync, T: Tray, R: Rack, G: Gate + Sync>(
         Runs (sources_of meant) (targets_of meant) (T.state tray.old) (T.state tray.new)
         (R.state rack.old) (R.state rack.new) result }
 {
-    match hold(alloc, order, tray) {
-        Ok(held) => trap_held(rt, alloc, &held, tray, rack, gate),
+    match open_job(alloc, order, tray) {
+        Ok(opened) => trap_job(rt, alloc, &opened, tray, rack, gate),
         Err(stop) => Err(stop),
     }
 }
 
-// Traps all pages of a job that was read, and looks behind the last one.
-fn trap_held<H: Threads + Sync, T: Tray, R: Rack, G: Gate + Sync>(
+// Traps all pages of a job that was read, and looks after the last one.
+fn trap_job<H: Threads + Sync, T: Tray, R: Rack, G: Gate + Sync>(
     rt: &H,
     alloc: Global,
-    held: &Held<'_>,
+    opened: &OpenJob<'_>,
     tray: &mut T,
     rack: &mut R,
     gate: &G,
 ) -> Result<(), RunStop>
-    requires { IsHeld held.now }
-    ensures { let meant = order_in held.now.order.now in
-        RunsFrom (sources_of meant) (targets_of meant) held.now.job (T.state tray.old)
+    requires { IsOpenJob opened.now }
+    ensures { let meant = order_in opened.now.order.now in
+        RunsFrom (sources_of meant) (targets_of meant) opened.now.job (T.state tray.old)
         (T.state tray.new) (R.state rack.old) (R.state rack.new) result }
 {
-    match trap_pages(rt, alloc, held, tray, rack, gate) {
-        Ok(()) => look_behind(alloc, tray, held.job.count(), held.inputs.as_slice()),
+    match trap_pages(rt, alloc, opened, tray, rack, gate) {
+        Ok(()) => expect_end(alloc, tray, opened.job.count(), opened.inputs.as_slice()),
         Err(stop) => Err(stop),
     }
 }
@@ -79,18 +79,18 @@ fn trap_held<H: Threads + Sync, T: Tray, R: Rack, G: Gate + Sync>(
 fn trap_pages<H: Threads + Sync, T: Tray, R: Rack, G: Gate + Sync>(
     rt: &H,
     alloc: Global,
-    held: &Held<'_>,
+    opened: &OpenJob<'_>,
     tray: &mut T,
     rack: &mut R,
     gate: &G,
 ) -> Result<(), RunStop>
-    requires { IsHeld held.now }
-    ensures { let meant = order_in held.now.order.now in
-        TrapsPages (sources_of meant) (targets_of meant) held.now.job (T.state tray.old)
+    requires { IsOpenJob opened.now }
+    ensures { let meant = order_in opened.now.order.now in
+        TrapsPages (sources_of meant) (targets_of meant) opened.now.job (T.state tray.old)
         (T.state tray.new) (R.state rack.old) (R.state rack.new) result }
 {
-    for page in 0..held.job.count() {
-        match trap_one(rt, alloc, held, page, tray, rack, gate) {
+    for page in 0..opened.job.count() {
+        match trap_one(rt, alloc, opened, page, tray, rack, gate) {
             Ok(()) => {}
             Err(stop) => return Err(stop),
         }

@@ -4,10 +4,10 @@ ghost use Rattle.page_run.specs.Endings.{EndsWords, RefusesWords};
 ghost use Rattle.page_run.specs.Text.{usage_line as usage_meant};
 
 use crate::run::run_order;
+use crate::words::read_words;
 use band_workers::Gate;
 use outside::rack::Rack;
 use outside::tray::Tray;
-use run_reading::words::read_words;
 use std::alloc::Global;
 use std::thread::Threads;
 use trap_report::line::Line;
@@ -19,7 +19,7 @@ use trap_report::telling::tell_line;
 /// The words are `WORKERS BAND JOB REPORT NAME:IN:OUT ...`: the workers, from 1 to 64, the rows of a band, from 1 to 4,096, the
 /// job's file, the report's, and one to sixteen plates, each with the name of its colorant, the file that is read and the one
 /// that is written. The job has one `showpage` for each page, and each plate's file one image. Page k, counted from 0, is
-/// written into OUT and REPORT, each followed by `.` and k. It is read, trapped and written before the next one is read; behind
+/// written into OUT and REPORT, each followed by `.` and k. It is read, trapped and written before the next one is read; after
 /// the last page each plate's file has to end.
 ///
 /// The status is 0 where all pages are written; 2 where the words mean no run; 3 where the job has a fault, or lacks the details
@@ -45,7 +45,7 @@ pub fn traprun_main<H: Threads + Sync, T: Tray, R: Rack, G: Gate + Sync>(
     ensures write_fault { WriteFault (map string_bytes words.now) (T.state tray.old)
         (T.state tray.new) (R.state rack.old) (R.state rack.new) result }
     ensures memory { LeavesPages (map string_bytes words.now) (T.state tray.old)
-        (R.state rack.old) (R.state rack.new) result }
+        (T.state tray.new) (R.state rack.old) (R.state rack.new) result }
     ensures fault_line { FaultLine (R.state rack.old) (R.state rack.new) result }
     ensures completeness { Completeness (map string_bytes words.now) (T.state tray.old)
         (T.state tray.new) (R.state rack.old) (R.state rack.new) result }

@@ -1,5 +1,6 @@
 mod failing;
 mod many;
+mod pages;
 mod refused;
 mod words;
 mod worked;
@@ -95,7 +96,7 @@ fn calls(alloc: Global, call: Option<u64>) -> Result<CallList, AllocError> {
     Ok(List::from_vec(numbers))
 }
 
-// The file of that name, of these pieces one behind the other.
+// The file of that name, of these pieces one after the other.
 fn file_of(alloc: Global, name: &str, pieces: &[&[u8]]) -> Result<MemFile, AllocError> {
     let bytes = pieces.concat(alloc)?;
     Ok(MemFile {

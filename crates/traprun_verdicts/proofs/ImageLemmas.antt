@@ -9,10 +9,10 @@ use Rattle.pgm_plates.specs.Plates.{IsPlateFile}
 use Rattle.pgm_plates.specs.Sequences.{StandsBehind, further as further_on}
 use Rattle.pgm_plates.proofs.Facts.{one_fault, one_plate}
 use Rattle.traprun_verdicts.specs.Images.{HasImage, HasImageFault, HasNoImage, page_spelling}
-use Rattle.traprun_verdicts.proofs.FrontLemmas.{Begins, Further, begins_faultless, further, none_or_some, nothing_begins, nothing_faultless, one_image}
+use Rattle.traprun_verdicts.proofs.PrefixLemmas.{Begins, Further, begins_faultless, further, none_or_some, nothing_begins, nothing_faultless, one_image}
 use Rattle.verdicts.proofs.VerdictLemmas.{PlateLaws}
 
--- what stands behind the shorter row, seen from the longer one
+-- what stands after the shorter row, seen from the longer one
 behind_fronts : (bytes x y : List ℕ) (m n : ℕ) (s : StandsBehind bytes m x) (t : StandsBehind bytes n y) → length s.plates ≤ length t.plates → Further s.front t.front x y s.plates t.plates
 behind_fronts bytes x y m n s t le = further s.front t.front x y s.plates t.plates (sym s.whole ∙ t.whole) s.sequence t.sequence le
 

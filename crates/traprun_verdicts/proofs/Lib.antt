@@ -1,4 +1,4 @@
-pub mod FrontLemmas
+pub mod PrefixLemmas
 pub mod ImageLemmas
 pub mod RunLemmas
 pub mod TrailingLemmas

@@ -186,7 +186,7 @@ module _ (files : List ℕ → Option (List ℕ)) (source : Sources) (target : T
   all_same : (a b : AllMade files source) → length a.pages ≡ length b.pages
   all_same a b = one_count (length a.pages) (length b.pages) a.has b.has
 
-  -- what stops a run behind its last page
+  -- what stops a run after its last page
   data Last (stop : RunStop) : Type 0 where
     fails : (plate : ℕ) (fault : PlateFault) → stop ≡ Whole (Plate plate fault) → LooksLast files source plate (λ count bytes. HasImageFault count bytes fault) → Last stop
     extra : (plate : ℕ) → stop ≡ Extra plate → LooksLast files source plate (λ count bytes. (another : PlateRead) × HasImage count bytes another) → Last stop

@@ -10,7 +10,7 @@ use Rattle.pgm_plates.specs.Faults.{IsFault}
 use Rattle.pgm_plates.specs.Sequences.{IsOfImage, StandsBehind, further}
 use Rattle.pgm_plates.proofs.Judging.{plate_or_fault}
 use Rattle.traprun_verdicts.specs.Images.{HasImage, HasImageFault, HasNoImage}
-use Rattle.traprun_verdicts.proofs.FrontLemmas.{Begins}
+use Rattle.traprun_verdicts.proofs.PrefixLemmas.{Begins}
 use Rattle.traprun_verdicts.proofs.TrailingLemmas.{trailing_begins}
 
 abbrev pub AreBytes : List ℕ → Type 0

@@ -122,7 +122,7 @@ module _ (files : List ℕ → Option (List ℕ)) (source : Sources) (target : T
     | inl so ↦ next_page count n has (omega (arith, within)) so.0 so.1 so.2 (page_ends n)
   ]
 
-  -- Behind the last page the files of so many plates end, or the run stops at one of them.
+  -- After the last page the files of so many plates end, or the run stops at one of them.
   abbrev Looked : AllMade files source → ℕ → Type 0
   Looked all n = AllEnd files source (length all.pages) n ⊎ Stands
 

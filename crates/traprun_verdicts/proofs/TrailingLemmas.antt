@@ -1,4 +1,4 @@
--- Where bytes have the fault that something stands behind a plate file, they do begin with a plate file.
+-- Where bytes have the fault that something stands after a plate file, they do begin with a plate file.
 use Rattle.std.proofs.Common.{◌≡◌, ℕ, suc, ◌<◌, ◌≤◌, ◌+◌, ◌*◌, List, [], ◌∷◌, ◌++◌, length, take, drop, get_or, Option, Some, None, Result, Ok, Err, inl, inr, refl, sym, ap, ◌∙◌, subst, arith}
 use Rattle.std.proofs.Math.Seq.{split_at, take-append_seam}
 use Rattle.std.proofs.lemmas.Bool.{cases_lt}
@@ -19,9 +19,9 @@ use Rattle.pgm_plates.proofs.Headers.{WholeHeader, fresh, header_going, scanned_
 use Rattle.pgm_plates.proofs.Moments.{stands_now}
 use Rattle.pgm_plates.proofs.Scans.{scan_faults, scan_more}
 use Rattle.pgm_plates.proofs.Shapes.{one_header, through}
-use Rattle.traprun_verdicts.proofs.FrontLemmas.{Begins}
+use Rattle.traprun_verdicts.proofs.PrefixLemmas.{Begins}
 
--- No front of these bytes decides a fault.
+-- No prefix of these bytes decides a fault.
 abbrev Quiet : List ℕ → Type 0
 Quiet bytes = (front back : List ℕ) (fault : PlateFault) → front ++ back ≡ bytes → Decides front fault → ⊥
 
@@ -35,7 +35,7 @@ header_ends front bs ns header whole le ran =
     let none : bs ≡ [] = through front bs (header.maxval ∷ header.height ∷ header.width ∷ []) (reached Ended ns) (header_run front header.width header.height header.maxval whole.is_header) ran in
     subst InRange (sym (append-nil front) ∙ ap (λ (x : List ℕ). front ++ x) (sym none)) (header, whole, le)
 
--- A header of which no front decides a fault is in range.
+-- A header of which no prefix decides a fault is in range.
 header_in_range : (bytes rest ns : List ℕ) (scan : Scan) → Scanned bytes scan → (scan.stand ≡ Ended → ⊥) → length bytes ≤ 65536 → run Start [] (bytes ++ rest) ≡ Some (reached Ended ns) → Quiet (bytes ++ rest) → InRange (bytes ++ rest)
 header_in_range bytes [] ns scan scanned going le ran quiet =
     let same : Some (reached scan.stand scanned.ns) ≡ Some (reached Ended ns) = sym scanned.ran ∙ ap (run Start []) (sym (append-nil bytes)) ∙ ran in
@@ -71,7 +71,7 @@ header_in_range bytes (b ∷ bs) ns scan scanned going le ran quiet =
           by_step (scan_step scan b (length bytes)) refl
     ]
 
--- A header and as many samples as it says, of which no front decides a fault, are a plate file.
+-- A header and as many samples as it says, of which no prefix decides a fault, are a plate file.
 module _ (header : List ℕ) (w h m : ℕ) (samples : List ℕ) (is_header : IsHeader header w h m) (all : length samples ≡ w * h) (quiet : Quiet (header ++ raster m samples)) where
   quiet_header : Quiet header
   quiet_header front back fault whole decides =
@@ -130,7 +130,7 @@ module _ (header : List ℕ) (w h m : ℕ) (samples : List ℕ) (is_header : IsH
         whole = refl;
       }
 
--- Where something stands behind a plate file, the bytes begin with one.
+-- Where something stands after a plate file, the bytes begin with one.
 pub trailing_begins : (bytes : List ℕ) (at : ℕ) → IsFault bytes (TrailingBytes at) → Begins bytes
 trailing_begins bytes at is =
     let d = is.stands.1 in

@@ -8,7 +8,7 @@ use Rattle.pgm_plates.specs.Faults.{IsFault}
 use Rattle.pgm_plates.specs.Plates.{IsPlateFile}
 use Rattle.pgm_plates.specs.Sequences.{IsSequence, IsOfImage, StandsBehind, further}
 
--- Behind as many plate files, one directly behind the other, stands a plate file of this plate.
+-- After as many plate files, one directly after the other, stands a plate file of this plate.
 pub record HasImage (number : ℕ) (bytes : List ℕ) (plate : Plate) : Type 0 where
   pub image : List ℕ
   pub later : List ℕ
@@ -16,7 +16,8 @@ pub record HasImage (number : ℕ) (bytes : List ℕ) (plate : Plate) : Type 0 w
   pub counted : length front.plates ≡ number
   pub is_image : IsPlateFile image plate
 
--- Behind at most as many plate files stands an image that is none: it has this fault, at its place in the file.
+-- After at most as many plate files stands an image that is none: it has this fault, at its place
+-- in the file.
 pub record HasImageFault (number : ℕ) (bytes : List ℕ) (fault : PlateFault) : Type 0 where
   pub image : List ℕ
   pub front : StandsBehind bytes number image
@@ -25,10 +26,14 @@ pub record HasImageFault (number : ℕ) (bytes : List ℕ) (fault : PlateFault) 
   pub of_image : IsOfImage found
   pub place : fault ≡ further (length front.front) found
 
--- The bytes are at most as many plate files, one directly behind the other, and nothing else.
+-- The bytes are at most as many plate files, one directly after the other, and nothing else.
 abbrev pub HasNoImage : ℕ → List ℕ → Type 0
 HasNoImage number bytes = (plates : List Plate) × IsSequence bytes plates × (length plates ≤ number)
 
 -- page k of a job of many pages, and image k of each plate's file
 abbrev pub page_spelling : ℕ → Spelling
-page_spelling k = record { job = λ bytes. page_job_of bytes k; plate = HasImage k; fault = HasImageFault k }
+page_spelling k = record {
+  job = λ bytes. page_job_of bytes k;
+  plate = HasImage k;
+  fault = HasImageFault k;
+}

@@ -2,9 +2,11 @@
 use Rattle.std.specs.Prelude.{◌≡◌, ℕ, List, ◌++◌, codes, decimal}
 use Rattle.outside.specs.Rack.{RackState}
 use Rattle.traprun_verdicts.specs.declared.stop.RunStop.{RunStop}
-use Rattle.traprun_verdicts.specs.declared.stop.RunStop.TheVariants.{Whole, TooManyPages, AtPage, Ends, Extra}
+use Rattle.traprun_verdicts.specs.declared.stop.RunStop.TheVariants.{Whole, TooManyPages, AtPage}
+use Rattle.traprun_verdicts.specs.declared.stop.RunStop.TheVariants.{Ends, Extra}
 use Rattle.trap_report.specs.declared.refusal.Refusal.{Refusal}
-use Rattle.trap_report.specs.declared.refusal.Refusal.TheVariants.{Usage, Job, NoDetails, Plate, Page, Read, Write, Memory}
+use Rattle.trap_report.specs.declared.refusal.Refusal.TheVariants.{Usage, Job, NoDetails, Plate}
+use Rattle.trap_report.specs.declared.refusal.Refusal.TheVariants.{Page, Read, Write, Memory}
 use Rattle.trap_report.specs.Refusals.{line_of, numbered_line, status_of}
 use Rattle.trap_report.specs.Report.{line}
 use Rattle.trap_report.specs.Statuses.{job_refused, page_refused}
@@ -15,7 +17,8 @@ abbrev pub line_of_stop : RunStop → List ℕ
 line_of_stop (Whole refusal) = line_of refusal
 line_of_stop (TooManyPages at) = line (codes "run: TooManyPages at " ++ decimal at)
 line_of_stop (AtPage page refusal) = numbered_line page refusal
-line_of_stop (Ends page plate) = line (codes "page " ++ decimal page ++ codes ": plate " ++ decimal plate ++ codes ": Ends")
+line_of_stop (Ends page plate) =
+    line (codes "page " ++ decimal page ++ codes ": plate " ++ decimal plate ++ codes ": Ends")
 line_of_stop (Extra plate) = line (codes "run: plate " ++ decimal plate ++ codes ": Extra")
 
 -- the status that the program ends with

@@ -7,7 +7,7 @@ use trap_report::statuses::{JOB_REFUSED, PAGE_REFUSED};
 /// Why a run over many pages stopped. Pages and plates are numbered from 0.
 #[derive(Clone, Copy, Debug, Drop, PartialEq, Eq)]
 pub enum RunStop {
-    /// The job as a whole, or a plate that is looked at behind the last page; or want of memory, at any place.
+    /// The job as a whole, or a plate that is looked at after the last page; or want of memory, at any place.
     Whole(Refusal),
     /// The 257th `showpage` stands at this offset.
     TooManyPages(u32),
@@ -15,7 +15,7 @@ pub enum RunStop {
     AtPage(u32, Refusal),
     /// For this page this plate's file has no image.
     Ends(u32, u32),
-    /// This plate's file has another image behind that of the last page.
+    /// This plate's file has another image after that of the last page.
     Extra(u32),
 }
 

@@ -8,7 +8,7 @@ use std::test::Fail;
 use std::thread::Threads;
 
 // Where a run of two pages stops at a failed read: the line, and how many files stand whole then. The files are read in their
-// order, page after page, and looked at once more behind the last one.
+// order, page after page, and looked at once more after the last one.
 const READS: &[(&str, usize)] = &[
     ("read fault: job\n", 0),
     ("page 0: read fault: plate 0\n", 0),
@@ -19,7 +19,7 @@ const READS: &[(&str, usize)] = &[
     ("read fault: plate 1\n", 6),
 ];
 
-// Where it stops at a failed write. Of the file behind the whole ones there may be a front.
+// Where it stops at a failed write. Of the file after the whole ones there may be a prefix.
 const WRITES: &[(&str, usize)] = &[
     ("page 0: write fault: plate 0\n", 0),
     ("page 0: write fault: plate 1\n", 1),
@@ -69,7 +69,7 @@ fn read_stop(status: u8, rack: &MemRack) -> Option<usize> {
     }
 }
 
-// Whether so many files stand whole, and of the next one a front of its bytes or nothing, and no more.
+// Whether so many files stand whole, and of the next one a prefix of its bytes or nothing, and no more.
 fn holds_front(rack: &MemRack, count: usize) -> bool {
     for (place, name) in WRITTEN.iter().enumerate() {
         let wanted = FILES.get(place).copied();

@@ -26,7 +26,7 @@ const PAGES: &[(&str, Option<&[u8]>)] = &[
 
 const NO_PAGES: &[(&str, Option<&[u8]>)] = &[("out0.0", None), ("report.0", None)];
 
-// How a job ends that has one of these pieces so many times behind its first page, and which files stand then. The last ones are
+// How a job ends that has one of these pieces so many times after its first page, and which files stand then. The last ones are
 // as long as a job may be, and a byte longer.
 const JOBS: &[(&[u8], usize, u8, &str, &[(&str, Option<&[u8]>)])] = &[
     (SHOW, 255, 0, "", PAGES),

@@ -4,9 +4,9 @@ use std::test::Fail;
 // The pieces of a run's job, and those of both plates' files.
 type Files = &'static [&'static [&'static [u8]]];
 
-const WIDE: &[u8] = b"<< /TrapWidth 2 >> settrapparams showpage";
+pub(super) const WIDE: &[u8] = b"<< /TrapWidth 2 >> settrapparams showpage";
 
-const DARKER_SIDE: &[u8] = b" << /SlidingTrapLimit 1 >> settrapparams showpage";
+pub(super) const DARKER_SIDE: &[u8] = b" << /SlidingTrapLimit 1 >> settrapparams showpage";
 
 // What the edge between both plates becomes: a trap on both sides of it, or one of two samples on its darker side alone.
 const SLID_CYAN: &[u8] = b"P5\n6 1\n255\n\0\0\0\0\xFF\xFF";

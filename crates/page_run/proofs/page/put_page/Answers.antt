@@ -2,8 +2,8 @@ use Rattle.std.proofs.Common.{Global, Result, length, map, string_bytes, ap, sym
 use Rattle.band_claims.specs.Receipt.{Receipt}
 use Rattle.page_output.specs.Output.{PutsOut}
 use Rattle.page_run.proofs.PutLemmas.{as_many_outputs, files_named, not_put, page_not_put, page_put}
-use Rattle.run_reading.specs.Held.{order_in}
-use Rattle.run_reading.specs.Words.{targets_of}
+use Rattle.page_run.specs.Opened.{order_in}
+use Rattle.page_run.specs.Words.{targets_of}
 use Rattle.traprun_verdicts.specs.Pages.{target_at}
 use Rattle.trap_report.specs.declared.refusal.Refusal.{Refusal}
 use Rattle.page_run.proofs.page.put_page.Goals as goal

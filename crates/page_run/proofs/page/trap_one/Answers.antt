@@ -1,19 +1,19 @@
 use Rattle.page_run.proofs.PutLemmas.{gathered_and_put, not_gathered}
-use Rattle.run_reading.specs.Held.{order_in}
-use Rattle.run_reading.specs.Words.{sources_of, targets_of}
+use Rattle.page_run.specs.Opened.{order_in}
+use Rattle.page_run.specs.Words.{sources_of, targets_of}
 use Rattle.std.proofs.Common.{◌∙◌}
-use Rattle.run_reading.proofs.HeldLemmas.{as_many_sources}
+use Rattle.page_run.proofs.OpenLemmas.{as_many_sources}
 use Rattle.page_run.proofs.page.trap_one.Goals as goal
 
 pub returns-in-Ok : goal.returns-in-Ok
 returns-in-Ok g c =
-    let order = order_in c.args.held.now.order.now in
-    gathered_and_put (sources_of order) (targets_of order) c.args.held.now.job c.args.page (g.T.Tray.state c.args.tray.now) (g.T.Tray.state c.gather_page.new.tray) c.in-Ok.made (g.R.Rack.state c.args.rack.now) (g.R.Rack.state c.put_page.new.rack) c.put_page.result c.in-Ok.ensures c.put_page.ensures
+    let order = order_in c.args.opened.now.order.now in
+    gathered_and_put (sources_of order) (targets_of order) c.args.opened.now.job c.args.page (g.T.Tray.state c.args.tray.now) (g.T.Tray.state c.gather_page.new.tray) c.in-Ok.made (g.R.Rack.state c.args.rack.now) (g.R.Rack.state c.put_page.new.rack) c.put_page.result c.in-Ok.ensures c.put_page.ensures
 
 pub returns-in-Err : goal.returns-in-Err
 returns-in-Err g c =
-    let order = order_in c.args.held.now.order.now in
-    not_gathered (sources_of order) (targets_of order) c.args.held.now.job c.args.page (g.T.Tray.state c.args.tray.now) (g.T.Tray.state c.gather_page.new.tray) (g.R.Rack.state c.args.rack.now) c.in-Err.stop c.in-Err.ensures
+    let order = order_in c.args.opened.now.order.now in
+    not_gathered (sources_of order) (targets_of order) c.args.opened.now.job c.args.page (g.T.Tray.state c.args.tray.now) (g.T.Tray.state c.gather_page.new.tray) (g.R.Rack.state c.args.rack.now) c.in-Err.stop c.in-Err.ensures
 
 pub put_page-requires-clause-count : goal.put_page-requires-clause-count
-put_page-requires-clause-count g c κs lives = c.in-Ok.ensures.1 ∙ as_many_sources c.args.held.now
+put_page-requires-clause-count g c κs lives = c.in-Ok.ensures.count ∙ as_many_sources c.args.opened.now

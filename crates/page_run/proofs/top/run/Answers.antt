@@ -1,6 +1,6 @@
 use Rattle.std.proofs.Common.{sym}
 use Rattle.page_run.specs.Endings.EndsWords.{run}
-use Rattle.run_reading.specs.Held.{order_in}
+use Rattle.page_run.specs.Opened.{order_in}
 use Rattle.page_run.proofs.top.run.Goals as goal
 
 pub returns-in-Some : goal.returns-in-Some

@@ -1,0 +1,41 @@
+use Rattle.std.proofs.Common.{ℕ, List, Bor, map, Ok, Err, sym, ap, ◌∙◌, subst, arith}
+use Rattle.page_gather.specs.Assembly.{assembly}
+use Rattle.page_run.specs.Opened.{order_in}
+use Rattle.page_run.specs.Reading.{ReadsImages}
+use Rattle.page_run.specs.Words.{sources_of}
+use Rattle.page_run.proofs.OpenLemmas.{as_many_inputs, as_many_names, as_many_sources}
+use Rattle.page_run.proofs.GatherLemmas.{can_assemble, images_refused, page_made, page_refused, refusal_named}
+use Rattle.page_run.proofs.gather.gather_images.Goals as goal
+
+pub read_images-requires : goal.read_images-requires
+read_images-requires g c = let many = as_many_inputs c.args.opened.now c.requires.opened in let few = c.requires.opened.within.few in omega (arith, many, few, c.as_slice.ensures.len)
+
+pub returns-in-Err : goal.returns-in-Err
+returns-in-Err g c =
+    let named = ap (λ (fs : List (Bor (List ℕ))). map (λ (f : Bor (List ℕ)). f.now) fs) c.as_slice.ensures.value ∙ c.requires.opened.inputs in
+    images_refused (sources_of (order_in c.args.opened.now.order.now)) c.args.opened.now.job c.args.page (g.T.Tray.state c.args.tray.now) (g.T.Tray.state c.read_images.new.tray) c.args.job c.requires.given c.in-Err.stop
+    (subst (λ (l : List (List ℕ)). ReadsImages c.args.page l (g.T.Tray.state c.args.tray.now) (g.T.Tray.state c.read_images.new.tray) (Err c.in-Err.stop)) named c.in-Err.ensures)
+
+pub assemble-requires-clause-plates : goal.assemble-requires-clause-plates
+assemble-requires-clause-plates g c =
+    let source = sources_of (order_in c.args.opened.now.order.now) in
+    let named = ap (λ (fs : List (Bor (List ℕ))). map (λ (f : Bor (List ℕ)). f.now) fs) c.as_slice.ensures.value ∙ c.requires.opened.inputs in
+    let many = as_many_sources c.args.opened.now in
+    let some = c.requires.opened.within.some in
+    let few = c.requires.opened.within.few in
+    can_assemble c.args.page source.inputs c.args.opened.now.names (g.T.Tray.state c.args.tray.now) (g.T.Tray.state c.read_images.new.tray) c.in-Ok.plates (omega (arith, many, some)) (omega (arith, many, few)) (as_many_names c.args.opened.now c.requires.opened)
+    (subst (λ (l : List (List ℕ)). ReadsImages c.args.page l (g.T.Tray.state c.args.tray.now) (g.T.Tray.state c.read_images.new.tray) (Ok c.in-Ok.plates)) named c.in-Ok.ensures)
+
+pub returns-in-Ok-assemble : goal.returns-in-Ok-assemble
+returns-in-Ok-assemble g c =
+    let named = ap (λ (fs : List (Bor (List ℕ))). map (λ (f : Bor (List ℕ)). f.now) fs) c.as_slice.ensures.value ∙ c.requires.opened.inputs in
+    page_made (sources_of (order_in c.args.opened.now.order.now)) c.args.opened.now.job c.args.page (g.T.Tray.state c.args.tray.now) (g.T.Tray.state c.read_images.new.tray) c.args.job c.requires.given c.in-Ok.plates c.in-Ok-assemble.made
+    (subst (λ (l : List (List ℕ)). ReadsImages c.args.page l (g.T.Tray.state c.args.tray.now) (g.T.Tray.state c.read_images.new.tray) (Ok c.in-Ok.plates)) named c.in-Ok.ensures)
+    (ap (λ (ns : List (List ℕ)). assembly c.args.job c.in-Ok.plates ns) (sym c.requires.opened.names) ∙ c.in-Ok-assemble.ensures)
+
+pub returns-in-Err-assemble : goal.returns-in-Err-assemble
+returns-in-Err-assemble g c =
+    let named = ap (λ (fs : List (Bor (List ℕ))). map (λ (f : Bor (List ℕ)). f.now) fs) c.as_slice.ensures.value ∙ c.requires.opened.inputs in
+    page_refused (sources_of (order_in c.args.opened.now.order.now)) c.args.opened.now.job c.args.page (g.T.Tray.state c.args.tray.now) (g.T.Tray.state c.read_images.new.tray) c.args.job c.requires.given c.in-Ok.plates c.in-Err-assemble.refusal c.stop_at.result c.stop_at.ensures
+    (subst (λ (l : List (List ℕ)). ReadsImages c.args.page l (g.T.Tray.state c.args.tray.now) (g.T.Tray.state c.read_images.new.tray) (Ok c.in-Ok.plates)) named c.in-Ok.ensures)
+    (refusal_named c.args.job c.in-Ok.plates c.in-Err-assemble.refusal c.requires.opened.names c.in-Err-assemble.ensures)

@@ -1,0 +1,113 @@
+ghost use Rattle.std.specs.Prelude.{◌≡◌, Ok};
+ghost use Rattle.job_reader.specs.InRange.{IsJob};
+ghost use Rattle.job_pages.specs.Runs.{HasPage, page_job_of};
+ghost use Rattle.page_run.specs.Gathering.{GathersPage, OpensJob, job_stop as job_stop_meant};
+ghost use Rattle.page_run.specs.Opened.{IsOpenJob, IsWithin, order_in};
+ghost use Rattle.page_run.specs.Words.{sources_of};
+
+use crate::files::{inputs_of, names_of};
+use crate::images::read_images;
+use crate::job::read_run_job;
+use crate::words::TraprunArgs;
+use job_pages::many::ManyPages;
+use job_reader::job::Job;
+use lists::names::NameList;
+use outside::tray::Tray;
+use page_gather::assemble::assemble;
+use page_model::page::Page;
+use ps_tokens::faults::JobRefusal;
+use std::alloc::Global;
+use trap_report::refusal::Refusal;
+use traprun_verdicts::stop::{RunStop, stop_at};
+
+/// A run in hand: its order, the names of its plates' colorants and their files, and its job.
+#[derive(Drop)]
+pub struct OpenJob<'a> {
+    pub order: &'a TraprunArgs<'a>,
+    pub names: NameList,
+    pub inputs: Vec<&'a str>,
+    pub job: ManyPages,
+}
+
+/// Reads the job of a run. Memory for the names of its plates is taken first.
+pub fn open_job<'a, T: Tray>(
+    alloc: Global,
+    order: &'a TraprunArgs<'a>,
+    tray: &mut T,
+) -> Result<OpenJob<'a>, RunStop>
+    requires { IsWithin order.now }
+    ensures { OpensJob order.now (T.state tray.old) (T.state tray.new) result }
+{
+    let (names, inputs) = match (
+        names_of(alloc, order.plates),
+        inputs_of(alloc, order.plates),
+    ) {
+        (Ok(names), Ok(inputs)) => (names, inputs),
+        _ => return Err(RunStop::Whole(Refusal::Memory)),
+    };
+    match read_run_job(alloc, tray, order.job) {
+        Ok(job) => Ok(OpenJob {
+            order,
+            names,
+            inputs,
+            job,
+        }),
+        Err(stop) => Err(stop),
+    }
+}
+
+/// Reads the page of that number, counted from 0: its job, and the image of each plate; and makes the page of them.
+///
+/// It stops at the first refusal: the job's fault, a read that fails, a plate whose file has no image for the page or a fault, a
+/// plate without details, a fault of the page, or want of memory. No file is begun after the one that is refused.
+pub fn gather_page<T: Tray>(
+    alloc: Global,
+    opened: &OpenJob<'_>,
+    page: u32,
+    tray: &mut T,
+) -> Result<Page, RunStop>
+    requires opened { IsOpenJob opened.now }
+    requires page { HasPage opened.now.job page }
+    ensures { let order = order_in opened.now.order.now in
+        GathersPage (sources_of order) opened.now.job page (T.state tray.old) (T.state tray.new)
+        result }
+{
+    match opened.job.job(alloc, page) {
+        Ok(job) => gather_images(alloc, job, opened, page, tray),
+        Err(refusal) => Err(job_stop(page, refusal)),
+    }
+}
+
+// The stop that the refusal of a page's job is. Want of memory belongs to no page.
+fn job_stop(page: u32, refusal: JobRefusal) -> RunStop
+    ensures { result ≡ job_stop_meant page refusal }
+{
+    match refusal {
+        JobRefusal::Fault(fault) => RunStop::AtPage(page, Refusal::Job(fault)),
+        JobRefusal::OutOfMemory => RunStop::Whole(Refusal::Memory),
+    }
+}
+
+// Reads the images of the page after its job, and makes the page of both.
+fn gather_images<T: Tray>(
+    alloc: Global,
+    job: Job,
+    opened: &OpenJob<'_>,
+    page: u32,
+    tray: &mut T,
+) -> Result<Page, RunStop>
+    requires opened { IsOpenJob opened.now }
+    requires job { IsJob job }
+    requires given { page_job_of opened.now.job page ≡ Ok job }
+    ensures { let order = order_in opened.now.order.now in
+        GathersPage (sources_of order) opened.now.job page (T.state tray.old) (T.state tray.new)
+        result }
+{
+    match read_images(alloc, tray, page, opened.inputs.as_slice()) {
+        Ok(plates) => match assemble(alloc, job, plates, &opened.names) {
+            Ok(made) => Ok(made),
+            Err(refusal) => Err(stop_at(page, refusal)),
+        },
+        Err(stop) => Err(stop),
+    }
+}

@@ -1,0 +1,204 @@
+ghost use Rattle.std.specs.Prelude.{◌≡◌, ◌≤◌, ◌∷◌, IfSome, IsTrue, length, map, option_map, string_bytes};
+ghost use Rattle.std.specs.List.{list_all, list_any};
+ghost use Rattle.std.specs.Option.{ForSome};
+ghost use Rattle.std.specs.Str.{bytes_eq};
+ghost use Rattle.plain_words.specs.Distinct.{are_distinct};
+ghost use Rattle.plain_words.specs.Parts.{is_plate as plate_test, parts_of};
+ghost use Rattle.page_run.specs.Opened.{order_in, IsWithin};
+ghost use Rattle.plain_words.specs.Plates.{are_plates as plates_test, inputs_of, names_of, outputs_of, stand_together as together_test};
+ghost use Rattle.page_run.specs.Words.{is_number_end as number_end_test, is_page_file as page_file_test, is_written as written_test, order_of, order_with as order_meant, plates_of, reads_page_file as reads_test};
+
+use plain_words::numbers::read_number;
+use plain_words::parts::{is_plate, plate_parts};
+
+/// A run over many pages: its workers, the rows of its bands, the files that are read and written, and the words of the plates.
+#[derive(Clone, Copy)]
+pub struct TraprunArgs<'a> {
+    pub workers: u32,
+    pub band: u32,
+    pub job: &'a str,
+    pub report: &'a str,
+    pub plates: &'a [String],
+}
+
+/// The run that the words after the program's name mean: `WORKERS BAND JOB REPORT NAME:IN:OUT ...`. `None` where they mean
+/// nothing. The form is this project's own.
+pub fn read_words(words: &[String]) -> Option<TraprunArgs<'_>>
+    ensures meaning { option_map order_in result ≡ order_of (map string_bytes words.now) }
+    ensures limits { IfSome result IsWithin }
+{
+    match words {
+        [workers, band, job, report, plates @ ..] => order_with(
+            read_number(workers.as_str(), 1, 64),
+            read_number(band.as_str(), 1, 4096),
+            job.as_str(),
+            report.as_str(),
+            plates,
+        ),
+        _ => None,
+    }
+}
+
+fn order_with<'a>(
+    workers: Option<u32>,
+    band: Option<u32>,
+    job: &'a str,
+    report: &'a str,
+    plates: &'a [String],
+) -> Option<TraprunArgs<'a>>
+    requires workers { ForSome workers (λ n. (1 ≤ n) × (n ≤ 64)) }
+    requires band { ForSome band (λ n. (1 ≤ n) × (n ≤ 4096)) }
+    ensures meaning { option_map order_in result ≡ order_meant workers band job.now report.now
+        (plates_of job.now report.now (map string_bytes plates.now)) }
+    ensures limits { IfSome result IsWithin }
+{
+    if are_plates(plates)
+        && stand_together(report, plates)
+        && !reads_page_file(job, report, plates)
+    {
+        Some(TraprunArgs {
+            workers: workers?,
+            band: band?,
+            job,
+            report,
+            plates,
+        })
+    } else {
+        None
+    }
+}
+
+fn are_plates(words: &[String]) -> bool
+    ensures value { result ≡ plates_test (map string_bytes words.now) }
+    ensures count { IsTrue result → (1 ≤ length words.now) × (length words.now ≤ 16) }
+{
+    1 <= words.len() && words.len() <= 16 && are_all_plates(words)
+}
+
+fn are_all_plates(words: &[String]) -> bool
+    ensures { result ≡ list_all (λ w. plate_test (parts_of w)) (map string_bytes words.now) }
+{
+    match words {
+        [first, rest @ ..] => is_plate(plate_parts(first.as_str())) && are_all_plates(rest),
+        [] => true,
+    }
+}
+
+// Whether no colorant's name stands there twice, and no file that is written, the report among them.
+fn stand_together(report: &str, words: &[String]) -> bool
+    ensures { result ≡ together_test report.now (map parts_of (map string_bytes words.now)) }
+{
+    have_distinct_names(words) && !has_output(words, report) && have_distinct_outputs(words)
+}
+
+fn have_distinct_names(words: &[String]) -> bool
+    ensures { result ≡ are_distinct (names_of (map parts_of (map string_bytes words.now))) }
+{
+    match words {
+        [first, rest @ ..] => {
+            !has_name(rest, plate_parts(first.as_str()).name) && have_distinct_names(rest)
+        }
+        [] => true,
+    }
+}
+
+fn has_name(words: &[String], name: &str) -> bool
+    ensures { let names = names_of (map parts_of (map string_bytes words.now)) in
+        result ≡ list_any (bytes_eq name.now) names }
+{
+    match words {
+        [first, rest @ ..] => { name == plate_parts(first.as_str()).name || has_name(rest, name) }
+        [] => false,
+    }
+}
+
+fn have_distinct_outputs(words: &[String]) -> bool
+    ensures { result ≡ are_distinct (outputs_of (map parts_of (map string_bytes words.now))) }
+{
+    match words {
+        [first, rest @ ..] => {
+            !has_output(rest, plate_parts(first.as_str()).output) && have_distinct_outputs(rest)
+        }
+        [] => true,
+    }
+}
+
+fn has_output(words: &[String], output: &str) -> bool
+    ensures { let outputs = outputs_of (map parts_of (map string_bytes words.now)) in
+        result ≡ list_any (bytes_eq output.now) outputs }
+{
+    match words {
+        [first, rest @ ..] => {
+            output == plate_parts(first.as_str()).output || has_output(rest, output)
+        }
+        [] => false,
+    }
+}
+
+// Whether a file that is read may be one that a page is written into.
+fn reads_page_file(job: &str, report: &str, words: &[String]) -> bool
+    ensures { result ≡ reads_test job.now report.now (map parts_of (map string_bytes words.now)) }
+{
+    is_written(job, report, words) || is_some_input_written(words, report, words)
+}
+
+fn is_some_input_written(words: &[String], report: &str, all: &[String]) -> bool
+    ensures { let plates = map parts_of (map string_bytes all.now) in
+        let inputs = inputs_of (map parts_of (map string_bytes words.now)) in
+        result ≡ list_any (written_test report.now plates) inputs }
+{
+    match words {
+        [first, rest @ ..] => {
+            is_written(plate_parts(first.as_str()).input, report, all)
+                || is_some_input_written(rest, report, all)
+        }
+        [] => false,
+    }
+}
+
+// Whether the report or a plate of some page could be written into that file.
+fn is_written(name: &str, report: &str, words: &[String]) -> bool
+    ensures { result
+        ≡ written_test report.now (map parts_of (map string_bytes words.now)) name.now }
+{
+    is_page_file(report.as_bytes(), name.as_bytes()) || is_plate_file(name, words)
+}
+
+fn is_plate_file(name: &str, words: &[String]) -> bool
+    ensures { let outputs = outputs_of (map parts_of (map string_bytes words.now)) in
+        result ≡ list_any (λ output. page_file_test output name.now) outputs }
+{
+    match words {
+        [first, rest @ ..] => {
+            is_page_file(
+                plate_parts(first.as_str()).output.as_bytes(),
+                name.as_bytes(),
+            ) || is_plate_file(name, rest)
+        }
+        [] => false,
+    }
+}
+
+// Whether the name is that of a file that is written, and after it `.` and digits.
+fn is_page_file(written: &[u8], name: &[u8]) -> bool
+    ensures { result ≡ page_file_test written.now name.now }
+{
+    written.len() <= name.len()
+        && &name[..written.len()] == written
+        && is_number_end(&name[written.len()..])
+}
+
+fn is_number_end(end: &[u8]) -> bool
+    ensures { result ≡ number_end_test end.now }
+{
+    match end {
+        [dot, digits @ ..] => *dot == b'.' && 1 <= digits.len() && are_digits(digits),
+        [] => false,
+    }
+}
+
+fn are_digits(digits: &[u8]) -> bool
+    ensures { result ≡ list_all Rattle.std.specs.Char.is_ascii_digit digits.now }
+{
+    digits.iter().all(|byte| byte.is_ascii_digit())
+}

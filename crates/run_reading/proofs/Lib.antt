@@ -1,5 +1,0 @@
-pub mod JobLemmas
-pub mod ImageLemmas
-pub mod BehindLemmas
-pub mod PageLemmas
-pub mod HeldLemmas

@@ -1,7 +1,0 @@
-use Rattle.run_reading.proofs.JobLemmas.{job_judged}
-use Rattle.run_reading.proofs.job.read_run_job.Goals as goal
-
-pub returns-in-Ok : goal.returns-in-Ok
-returns-in-Ok g c =
-    let read = c.in-Ok.ensures in
-    job_judged c.args.name.now (g.T.Tray.state c.args.tray.now) (g.T.Tray.state c.read_file.new.tray) c.in-Ok.bytes c.judged.result read.keeps read.asked read.taken read.well c.judged.ensures

@@ -1,4 +1,0 @@
-pub mod Words
-pub mod Held
-pub mod Reading
-pub mod Gathering
