@@ -51,13 +51,7 @@ impl<'a> Sheet<'a> {
     }
 
     /// Notes for each sample of a row of plate c 2 where it has no ink, else 1. It takes a step for each of them.
-    pub(crate) fn bare_row<L: Ledger>(
-        &self,
-        c: u32,
-        y: u32,
-        row: &mut [u8],
-        steps: &mut Steps<L>,
-    )
+    pub(crate) fn bare_row<L: Ledger>(&self, c: u32, y: u32, row: &mut [u8], steps: &mut Steps<L>)
         requires plate { c < length self.now }
         requires row { y < tall self.now }
         requires wide { length row.old ≡ wide self.now }
