@@ -1,5 +1,6 @@
 -- How a list of jobs goes on by one line.
-use Rattle.std.specs.Prelude.{◌≡◌, ℕ, ◌+◌, ◌<◌, ◌≤◌, Bool, true, false, not, ◌&&◌, List, ◌∷◌, ◌++◌, length, Some, None, Option}
+use Rattle.std.specs.Prelude.{◌≡◌, ℕ, ◌+◌, ◌<◌, ◌≤◌, Bool, true, false, not, ◌&&◌, List, ◌∷◌, ◌++◌}
+use Rattle.std.specs.Prelude.{length, Some, None, Option}
 use Rattle.std.specs.Borrow.{Bor}
 use Rattle.std.specs.List.{list_all, list_any}
 use Rattle.std.specs.Str.{bytes_eq}
@@ -13,10 +14,13 @@ are_apart first second = list_all (λ text. not (list_any (bytes_eq text) second
 
 -- whether a job writes no file twice, and none that an earlier one writes
 abbrev pub is_new : LineParts → List LineParts → Bool
-is_new line lines = are_distinct (written_by line) && list_all (λ e. are_apart (written_by e) (written_by line)) lines
+is_new line lines =
+    are_distinct (written_by line)
+    && list_all (λ e. are_apart (written_by e) (written_by line)) lines
 
 -- A text follows these jobs, behind so many bytes.
-pub record Follows (seen : ℕ) (lines : List LineParts) (text : List ℕ) (line : LineParts) : Type 0 where
+pub record Follows (seen : ℕ) (lines : List LineParts) (text : List ℕ)
+    (line : LineParts) : Type 0 where
   pub read : line_of text ≡ Some line
   pub few : length lines < most_lines
   pub short : seen + length text + 1 ≤ most_of_list
@@ -33,8 +37,10 @@ next_in (Some next) = Some (next.0, next.1.now)
 
 -- The next line follows, or none does.
 abbrev pub NextLine : ℕ → List LineParts → List ℕ → Option (LineParts × List ℕ) → Type 0
-NextLine seen lines rest (Some next) = (text : List ℕ) × (rest ≡ text ++ 10 ∷ next.1) × Follows seen lines text next.0
-NextLine seen lines rest None = (text behind : List ℕ) (line : LineParts) → rest ≡ text ++ 10 ∷ behind → Follows seen lines text line → ⊥
+NextLine seen lines rest (Some next) = (text : List ℕ) × (rest ≡ text ++ 10 ∷ next.1)
+    × Follows seen lines text next.0
+NextLine seen lines rest None = (text behind : List ℕ) (line : LineParts)
+    → rest ≡ text ++ 10 ∷ behind → Follows seen lines text line → ⊥
 
 -- How far the list is read: these lines, and what is left.
 pub record Stands (bytes : List ℕ) (lines : List LineParts) (rest : List ℕ) : Type 0 where

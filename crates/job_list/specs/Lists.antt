@@ -1,5 +1,6 @@
 -- What a list of jobs is, and which of its lines is the first bad one.
-use Rattle.std.specs.Prelude.{◌≡◌, ◌≢◌, ◌⊎◌, ℕ, ◌<◌, ◌≤◌, true, List, [], ◌∷◌, ◌++◌, length, Option, Some, None, Result, Ok, Err}
+use Rattle.std.specs.Prelude.{◌≡◌, ◌≢◌, ◌⊎◌, ℕ, ◌<◌, ◌≤◌, true, List, [], ◌∷◌, ◌++◌, length, Option}
+use Rattle.std.specs.Prelude.{Some, None, Result, Ok, Err}
 use Rattle.plain_words.specs.Distinct.{are_distinct}
 use Rattle.job_list.specs.Lines.{LineParts, line_of}
 use Rattle.job_list.specs.declared.reading.ListRefusal.{ListRefusal}
@@ -35,7 +36,8 @@ abbrev pub written : List LineParts → List (List ℕ)
 written [] = []
 written (line ∷ lines) = written_by line ++ written lines
 
--- A list may begin with these lines: each means a job, no file is written twice, and they are neither too many nor too long.
+-- A list may begin with these lines: each means a job, no file is written twice, and they are
+-- neither too many nor too long.
 pub record Begins (texts : List (List ℕ)) (lines : List LineParts) : Type 0 where
   pub read : lines_of texts ≡ Some lines
   pub few : length texts ≤ most_lines
@@ -44,9 +46,11 @@ pub record Begins (texts : List (List ℕ)) (lines : List LineParts) : Type 0 wh
 
 -- The bytes are a list of these jobs, of which there is at least one.
 abbrev pub IsList : List ℕ → List LineParts → Type 0
-IsList bytes lines = (texts : List (List ℕ)) × (bytes ≡ text_of texts) × (1 ≤ length lines) × Begins texts lines
+IsList bytes lines = (texts : List (List ℕ)) × (bytes ≡ text_of texts) × (1 ≤ length lines)
+    × Begins texts lines
 
--- Line k is the first bad one: a list may begin with the k lines before it, and with no line more. It is not the end behind the last line; but where there is no byte, line 0 is missing.
+-- Line k is the first bad one: a list may begin with the k lines before it, and with no line more.
+-- It is not the end behind the last line; but where there is no byte, line 0 is missing.
 pub record IsBadLine (bytes : List ℕ) (k : ℕ) : Type 0 where
   pub texts : List (List ℕ)
   pub lines : List LineParts
@@ -55,7 +59,8 @@ pub record IsBadLine (bytes : List ℕ) (k : ℕ) : Type 0 where
   pub good : Begins texts lines
   pub place : length texts ≡ k
   pub there : 0 < k → rest ≢ []
-  pub bad : (text behind : List ℕ) (more : List LineParts) → rest ≡ text ++ 10 ∷ behind → Begins (texts ++ text ∷ []) more → ⊥
+  pub bad : (text behind : List ℕ) (more : List LineParts) → rest ≡ text ++ 10 ∷ behind
+      → Begins (texts ++ text ∷ []) more → ⊥
 
 -- what the answer says
 abbrev pub ReadsList : List ℕ → Result (List LineParts) ListRefusal → Type 0
@@ -67,8 +72,12 @@ ReadsList bytes (Err OutOfMemory) = Unit {0}
 abbrev pub HasReading : List ℕ → Type 0
 HasReading bytes = ((lines : List LineParts) × IsList bytes lines) ⊎ ((k : ℕ) × IsBadLine bytes k)
 
--- Bytes that are a list have no bad line; there is one first bad line at most; and one list of jobs.
+-- Bytes that are a list have no bad line; there is one first bad line at most; and one list of
+-- jobs.
 pub record OneReading : Type 0 where
-  pub no_bad_line : (bytes : List ℕ) (lines : List LineParts) (k : ℕ) → IsList bytes lines → IsBadLine bytes k → ⊥
-  pub one_bad_line : (bytes : List ℕ) (one two : ℕ) → IsBadLine bytes one → IsBadLine bytes two → one ≡ two
-  pub one_list : (bytes : List ℕ) (one two : List LineParts) → IsList bytes one → IsList bytes two → one ≡ two
+  pub no_bad_line : (bytes : List ℕ) (lines : List LineParts) (k : ℕ) → IsList bytes lines
+      → IsBadLine bytes k → ⊥
+  pub one_bad_line : (bytes : List ℕ) (one two : ℕ) → IsBadLine bytes one → IsBadLine bytes two
+      → one ≡ two
+  pub one_list : (bytes : List ℕ) (one two : List LineParts) → IsList bytes one → IsList bytes two
+      → one ≡ two

@@ -4,12 +4,18 @@ use mathlib.Core.Option.{some}
 use lib.ListN.{get_elem?}
 use Rattle.line_queue.specs.declared.rule.PassView.{PassView}
 
--- the parts of all passes together: a pass that has them all is the only one that can have pushed or taken
+-- the parts of all passes together: a pass that has them all is the only one that can have pushed
+-- or taken
 abbrev pub whole : ℕ
 whole = 1024
 
 abbrev pub pass_view : ℕ → Bool → List ℕ → List ℕ → PassView
-pass_view parts mark pushed taken = record { parts = parts; mark = mark; pushed = pushed; taken = taken }
+pass_view parts mark pushed taken = record {
+  parts = parts;
+  mark = mark;
+  pushed = pushed;
+  taken = taken;
+}
 
 abbrev pub one_if : Bool → ℕ
 one_if true = 1
@@ -39,7 +45,8 @@ abbrev pub either_mark : Bool → Bool → Bool
 either_mark true b = true
 either_mark false b = b
 
--- what holds of each pass alone: without the mark it has pushed nothing, what it pushed ascends, and with no part it has taken nothing
+-- what holds of each pass alone: without the mark it has pushed nothing, what it pushed ascends,
+-- and with no part it has taken nothing
 abbrev pub IsOrderly : PassView → Type 0
 IsOrderly v = (v.mark ≡ false → v.pushed ≡ []) × Ascends v.pushed × (v.parts ≡ 0 → v.taken ≡ [])
 
@@ -48,7 +55,9 @@ pub record IsKept (items : List ℕ) (views : List PassView) : Type 0 where
   -- the lines in the queue ascend
   pub ascends : Ascends items
   -- those in the queue and in all taken lists together are those that were pushed
-  pub balance : (line : ℕ) → times line items + total (λ v. times line v.taken) views ≡ total (λ v. times line v.pushed) views
+  pub balance : (line : ℕ)
+      → times line items + total (λ v. times line v.taken) views
+      ≡ total (λ v. times line v.pushed) views
   -- each once
   pub once : (line : ℕ) → total (λ v. times line v.pushed) views ≤ 1
   -- at most one pass bears the mark
@@ -56,9 +65,11 @@ pub record IsKept (items : List ℕ) (views : List PassView) : Type 0 where
   pub orderly : (port : ℕ) (v : PassView) → get_elem? views port ≡ some v → IsOrderly v
   pub parts : total (λ v. v.parts) views ≡ whole
 
--- what a pass knows of the lines in the queue at one moment: they ascend and each stands once; with the mark, they are of those that it pushed;
+-- what a pass knows of the lines in the queue at one moment: they ascend and each stands once; with
+-- the mark, they are of those that it pushed;
 -- with every part, what it pushed is what it took and what the queue holds
 abbrev pub Known : PassView → List ℕ → Type 0
 Known v items = Ascends items
     × (v.mark ≡ true → (line : ℕ) → times line items ≤ times line v.pushed)
-    × (v.mark ≡ true → v.parts ≡ whole → (line : ℕ) → times line v.pushed ≡ times line v.taken + times line items)
+    × (v.mark ≡ true → v.parts ≡ whole → (line : ℕ)
+    → times line v.pushed ≡ times line v.taken + times line items)

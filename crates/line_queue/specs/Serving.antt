@@ -1,5 +1,6 @@
 -- What workers keep of the lines that they take.
-use Rattle.std.specs.Prelude.{◌≡◌, ◌≤◌, ℕ, List, [], ◌∷◌, ◌++◌, None, map, All, vec_capacity, vec_len}
+use Rattle.std.specs.Prelude.{◌≡◌, ◌≤◌, ℕ, List, [], ◌∷◌, ◌++◌, None, map, All, vec_capacity}
+use Rattle.std.specs.Prelude.{vec_len}
 use Rattle.line_queue.specs.declared.serving.Kept.{Kept}
 use Rattle.line_queue.specs.declared.serving.Room.{Room}
 

@@ -1,4 +1,6 @@
-use Rattle.std.specs.Prelude.{ℕ, zero, suc, ◌+◌, ◌*◌, ◌/◌, ◌%◌, Bool, true, ◌&&◌, not, nat_le, ◌==◌, List, length, slice_index}
+-- Which samples misregister could leave bare.
+use Rattle.std.specs.Prelude.{ℕ, zero, suc, ◌+◌, ◌*◌, ◌/◌, ◌%◌, Bool, true, ◌&&◌, not, nat_le, ◌==◌}
+use Rattle.std.specs.Prelude.{List, length, slice_index}
 use Rattle.page_model.specs.declared.parts.Plane.{Plane}
 use Rattle.page_model.specs.Planes.{tints_of}
 use Rattle.lists.specs.Words.{any_below, count_below, gap}
@@ -19,11 +21,14 @@ is_near radius a b = nat_le (gap a b) radius
 
 -- in row k of plate c some sample without ink is near column x
 abbrev pub bares_in_row : List Plane → ℕ → ℕ → ℕ → ℕ → Bool
-bares_in_row planes radius c x k = any_below (λ j. is_near radius x j && is_bare planes c j k) (wide planes)
+bares_in_row planes radius c x k =
+    any_below (λ j. is_near radius x j && is_bare planes c j k) (wide planes)
 
--- plate c can shift, by at most the radius to each side, so that a sample of the page without its ink lies on (x, y)
+-- plate c can shift, by at most the radius to each side, so that a sample of the page without its
+-- ink lies on (x, y)
 abbrev pub can_bare : List Plane → ℕ → ℕ → ℕ → ℕ → Bool
-can_bare planes radius c x y = any_below (λ k. is_near radius y k && bares_in_row planes radius c x k) (tall planes)
+can_bare planes radius c x y =
+    any_below (λ k. is_near radius y k && bares_in_row planes radius c x k) (tall planes)
 
 -- some plate has ink on the sample
 abbrev pub is_inked : List Plane → ℕ → ℕ → Bool
@@ -31,8 +36,11 @@ is_inked planes x y = any_below (λ c. not (is_bare planes c x y)) (length plane
 
 -- ink lies on the sample, and the plates, each by a shift of its own, can leave it bare
 abbrev pub is_at_risk : List Plane → ℕ → ℕ → ℕ → Bool
-is_at_risk planes radius x y = is_inked planes x y && all_below (λ c. can_bare planes radius c x y) (length planes)
+is_at_risk planes radius x y =
+    is_inked planes x y && all_below (λ c. can_bare planes radius c x y) (length planes)
 
 -- how many samples are at risk
 abbrev pub risk : List Plane → ℕ → ℕ
-risk planes radius = count_below (λ k. is_at_risk planes radius (k % wide planes) (k / wide planes)) (wide planes * tall planes)
+risk planes radius =
+    count_below (λ k. is_at_risk planes radius (k % wide planes) (k / wide planes))
+    (wide planes * tall planes)

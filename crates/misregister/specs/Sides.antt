@@ -1,3 +1,4 @@
+-- The sides that a buffer has room for.
 use Rattle.std.specs.Prelude.{ℕ}
 
 -- the sides of the pages that a buffer has room for

@@ -1,10 +1,13 @@
-use Rattle.std.specs.Prelude.{◌≡◌, ℕ, zero, suc, ◌+◌, ◌*◌, Bool, ◌<◌, ◌≤◌, ◌==◌, min, nat_lt, vec_len, List, slice_index, if◌then◌else◌}
+-- What the count holds while it goes over the rows of a plate.
+use Rattle.std.specs.Prelude.{◌≡◌, ℕ, zero, suc, ◌+◌, ◌*◌, Bool, ◌<◌, ◌≤◌, ◌==◌, min, nat_lt}
+use Rattle.std.specs.Prelude.{vec_len, List, slice_index, if◌then◌else◌}
 use Rattle.page_model.specs.declared.parts.Plane.{Plane}
 use Rattle.plane_shapes.specs.Shapes.{wide, tall}
 use Rattle.misregister.specs.declared.room.Room.{Room}
 use Rattle.misregister.specs.Risk.{is_bare, bares_in_row, can_bare}
 
--- of the places below n the last that passes bares all places up to the radius past it: the first place that none bares
+-- of the places below n the last that passes bares all places up to the radius past it: the first
+-- place that none bares
 abbrev pub bared_until : (ℕ → Bool) → ℕ → ℕ → ℕ
 bared_until test radius zero = 0
 bared_until test radius (suc n) = if test n then n + radius + 1 else bared_until test radius n
@@ -14,12 +17,14 @@ bit b = if b then 1 else 0
 
 -- 2 where plate c has no ink on the sample, 1 where it has and can leave it bare, else 0
 abbrev pub shade : List Plane → ℕ → ℕ → ℕ → ℕ → ℕ
-shade planes radius c x y = if can_bare planes radius c x y then 1 + bit (is_bare planes c x y) else 0
+shade planes radius c x y =
+    if can_bare planes radius c x y then 1 + bit (is_bare planes c x y) else 0
 
 -- the least shade of the first n plates, of at most 2
 abbrev pub least_shade : List Plane → ℕ → ℕ → ℕ → ℕ → ℕ
 least_shade planes radius x y zero = 2
-least_shade planes radius x y (suc n) = min (least_shade planes radius x y n) (shade planes radius n x y)
+least_shade planes radius x y (suc n) =
+    min (least_shade planes radius x y n) (shade planes radius n x y)
 
 -- whether a row's entry says that the plate has no ink there
 abbrev pub is_clear : List ℕ → ℕ → Bool
@@ -46,12 +51,18 @@ pub record HasRoom (planes : List Plane) (room : Room) : Type 0 where
   pub until : vec_len room.until ≡ wide planes
   pub shades : vec_len room.shades ≡ wide planes * tall planes
 
--- the shade of a sample of plate c beside the older plates' shade, after the first `entered` rows were asked and the first `left` ones were closed
+-- the shade of a sample of plate c beside the older plates' shade, after the first `entered` rows
+-- were asked and the first `left` ones were closed
 abbrev pub stage : List Plane → ℕ → ℕ → ℕ → ℕ → ℕ → ℕ → ℕ → ℕ
 stage planes radius c entered left x y older =
-    if nat_lt y left then min older (shade planes radius c x y) else (if nat_lt y entered then min older (1 + bit (is_bare planes c x y)) else older)
+    if nat_lt y left then min older (shade planes radius c x y) else
+    (if nat_lt y entered then min older (1 + bit (is_bare planes c x y)) else older)
 
 -- plate c is under way, and the shades were `older` before it
-pub record IsUnderWay (planes : List Plane) (radius c : ℕ) (older : List ℕ) (room : Room) (entered left : ℕ) : Type 0 where
-  pub until : (x : ℕ) → x < wide planes → slice_index room.until.items x ≡ bared_until (bares_in_row planes radius c x) radius entered
-  pub shades : (x y : ℕ) → x < wide planes → y < tall planes → at room.shades.items (wide planes) y x ≡ stage planes radius c entered left x y (at older (wide planes) y x)
+pub record IsUnderWay (planes : List Plane) (radius c : ℕ) (older : List ℕ) (room : Room)
+    (entered left : ℕ) : Type 0 where
+  pub until : (x : ℕ) → x < wide planes
+      → slice_index room.until.items x ≡ bared_until (bares_in_row planes radius c x) radius entered
+  pub shades : (x y : ℕ) → x < wide planes → y < tall planes
+      → at room.shades.items (wide planes) y x
+      ≡ stage planes radius c entered left x y (at older (wide planes) y x)

@@ -5,7 +5,7 @@ ghost use Rattle.plane_shapes.specs.Shapes.{wide, tall};
 ghost use Rattle.misregister.specs.Sweep.{HasRoom, IsRowPut, IsUnderWay, at, shade};
 
 use crate::room::Room;
-use crate::row::{ask_row, put_near};
+use crate::row::put_near;
 use crate::sheet::Sheet;
 use page_model::steps::Steps;
 use std::sync::ledger::Ledger;
@@ -55,7 +55,7 @@ fn enter_row<L: Ledger>(
     ensures steps { steps.new ≡ steps.old + wide sheet.now }
 {
     let _height = sheet.height();
-    ask_row(sheet, c, y, room.row.as_mut_slice(), steps);
+    sheet.bare_row(c, y, room.row.as_mut_slice(), steps);
     let row = room.row.as_slice();
     darken_row(room.shades.as_mut_slice(), y as usize, row);
     put_near(

@@ -1,36 +1,9 @@
-// One row of one plate.
+// What one row of one plate bares.
 
 ghost use Rattle.std.specs.Prelude.{◌≡◌, ◌+◌, ◌<◌, ◌≤◌, ◌*◌, ◌==◌, ◌&&◌, ℕ, nat_lt, length, slice_index, if◌then◌else◌};
 ghost use Rattle.lists.specs.Words.{any_below};
-ghost use Rattle.plane_shapes.specs.Shapes.{wide, tall};
-ghost use Rattle.misregister.specs.Risk.{is_bare, is_near};
-ghost use Rattle.misregister.specs.Sweep.{bared_until, bit, is_clear};
-
-use crate::sheet::Sheet;
-use page_model::steps::Steps;
-use std::sync::ledger::Ledger;
-
-/// Asks plate c for each sample of a row: 2 where it has no ink, else 1.
-pub(crate) fn ask_row<L: Ledger>(
-    sheet: &Sheet,
-    c: u32,
-    y: u32,
-    row: &mut [u8],
-    steps: &mut Steps<L>,
-)
-    requires plate { c < length sheet.now }
-    requires row { y < tall sheet.now }
-    requires wide { length row.old ≡ wide sheet.now }
-    ensures asked { (x : ℕ) → x < wide sheet.now
-        → slice_index row.new x ≡ 1 + bit (is_bare sheet.now c x y) }
-    ensures steps { steps.new ≡ steps.old + wide sheet.now }
-{
-    let tints = sheet.row(c, y);
-    for x in 0..tints.len() {
-        steps.tick();
-        row[x] = if tints[x] == 0 { 2 } else { 1 };
-    }
-}
+ghost use Rattle.misregister.specs.Risk.{is_near};
+ghost use Rattle.misregister.specs.Sweep.{bared_until, is_clear};
 
 /// The first place that none of the first samples of a row bares.
 fn first_reach(row: &[u8], lead: usize, radius: usize) -> usize

@@ -1,8 +1,9 @@
-ghost use Rattle.std.specs.Prelude.{◌≡◌, ◌+◌, ◌<◌, ◌≤◌, ◌*◌, length, slice_range, slice_index};
+ghost use Rattle.std.specs.Prelude.{◌≡◌, ◌+◌, ◌<◌, ◌≤◌, ◌*◌, ℕ, length, slice_range, slice_index};
 ghost use Rattle.page_model.specs.Limits.{most_side};
 ghost use Rattle.page_model.specs.Planes.{tints_of};
 ghost use Rattle.plane_shapes.specs.Shapes.{AreOneShape, wide, tall};
 ghost use Rattle.misregister.specs.Risk.{is_bare};
+ghost use Rattle.misregister.specs.Sweep.{bit};
 
 use page_model::parts::PlaneList;
 use page_model::steps::Steps;
@@ -45,7 +46,23 @@ impl<'a> Sheet<'a> {
         ensures step { steps.new ≡ steps.old + 1 }
     {
         steps.tick();
-        self.row(c, y)[x as usize] == 0
+        let plane = &self.planes.as_slice()[c as usize];
+        plane.tints.as_slice()[y as usize * plane.width as usize + x as usize] == 0
+    }
+
+    /// Notes for each sample of a row of plate c 2 where it has no ink, else 1. It takes a step for each of them.
+    pub(crate) fn bare_row<L: Ledger>(&self, c: u32, y: u32, row: &mut [u8], steps: &mut Steps<L>)
+        requires plate { c < length self.now }
+        requires row { y < tall self.now }
+        requires wide { length row.old ≡ wide self.now }
+        ensures noted { (x : ℕ) → x < wide self.now
+            → slice_index row.new x ≡ 1 + bit (is_bare self.now c x y) }
+        ensures steps { steps.new ≡ steps.old + wide self.now }
+    {
+        let tints = self.row(c, y, steps);
+        for x in 0..tints.len() {
+            row[x] = if tints[x] == 0 { 2 } else { 1 };
+        }
     }
 
     /// How many rows there are.
@@ -59,17 +76,21 @@ impl<'a> Sheet<'a> {
         self.planes.as_slice()[0].height
     }
 
-    /// The tints of plate c in a row.
-    pub(crate) fn row(&self, c: u32, y: u32) -> &[u16]
+    /// The tints of plate c in a row, with a step for each of them: no other call of the crate hands tints out.
+    fn row<L: Ledger>(&self, c: u32, y: u32, steps: &mut Steps<L>) -> &[u16]
         requires plate { c < length self.now }
         requires row { y < tall self.now }
         ensures tints { result.now
             ≡ slice_range (tints_of self.now c)
             (y * wide self.now) (y * wide self.now + wide self.now) }
         ensures wide { length result.now ≡ wide self.now }
+        ensures steps { steps.new ≡ steps.old + wide self.now }
     {
         let plane = &self.planes.as_slice()[c as usize];
         let width = plane.width as usize;
+        for _ in 0..width {
+            steps.tick();
+        }
         let first = y as usize * width;
         &plane.tints.as_slice()[first..first + width]
     }

@@ -1,3 +1,4 @@
+-- Planes of one shape.
 use Rattle.std.specs.Prelude.{◌≡◌, ℕ, ◌*◌, ◌≤◌, List, length, All}
 use Rattle.page_model.specs.declared.parts.Plane.{Plane}
 use Rattle.page_model.specs.Conditions.{IsPlane}
@@ -22,7 +23,8 @@ pub record IsLike (planes : List Plane) (plane : Plane) : Type 0 where
   pub as_tall : plane.height ≡ tall planes
   pub as_deep : plane.maxval ≡ deep planes
 
--- as many planes as a page may have, each in range, alike, and together with no more samples than a page may have
+-- as many planes as a page may have, each in range, alike, and together with no more samples than a
+-- page may have
 pub record AreOneShape (planes : List Plane) : Type 0 where
   pub some : 1 ≤ length planes
   pub few : length planes ≤ most_plates

@@ -1,6 +1,7 @@
 -- The clauses of the top call, by how the check of the words ended.
 use Rattle.std.proofs.Common.{◌≡◌, ◌≢◌, ◌⊎◌, ℕ, ◌≤◌, List, ◌++◌, take, Option, Some, None, Result, Ok, Err, IsTrue, inl, inr, refl, sym, ap, ◌∙◌, subst, arith}
-use Rattle.outside.specs.Causes.{Rose, Asks}
+use Rattle.outside.specs.Causes.{Rose, RoseOnce, Asks}
+use Rattle.outside.proofs.Steps.{rose_once}
 use Rattle.outside.specs.Tray.{TrayState}
 use Rattle.outside.specs.Rack.{RackState}
 use Rattle.page_model.specs.declared.parts.PageParts.{PageParts}
@@ -23,7 +24,7 @@ use Rattle.verdicts.proofs.VerdictLemmas.{PlateLaws, one_verdict}
 -- How a check of these files ended.
 data Ending (source : Sources) (radius : ℕ) (t t' : TrayState) (r r' : RackState) (status : ℕ) : Type 0 where
   done : status ≡ 0 → (t'.faults ≡ t.faults) × (r'.faults ≡ r.faults) → (page : PageParts) → IsMade source t page → Asks t.asked t'.asked (read_files source) → (IsTrue r.tells → r'.told ≡ r.told ++ text_of radius page) → Ending source radius t t' r r' status
-  untold : status ≡ 6 → t'.faults ≡ t.faults → Rose r.faults r'.faults → (page : PageParts) → IsMade source t page → (IsTrue r.tells → (count : ℕ) × (r'.told ≡ r.told ++ take count (text_of radius page))) → Ending source radius t t' r r' status
+  untold : status ≡ 6 → t'.faults ≡ t.faults → RoseOnce r.faults r'.faults → (page : PageParts) → IsMade source t page → Asks t.asked t'.asked (read_files source) → (IsTrue r.tells → (count : ℕ) × (r'.told ≡ r.told ++ take count (text_of radius page))) → Ending source radius t t' r r' status
   refused : (refusal : Refusal) → status ≡ status_of refusal → (status ≡ 3) ⊎ (status ≡ 4) → (IsTrue t.tells → AreRefused t.file source refusal) → Asks t.asked t'.asked (files_to source refusal) → PassesNoFault {T = Unit {0}} t t' (Err refusal) → TellsText (line_of refusal) r r' → Ending source radius t t' r r' status
   unread : (file : Option ℕ) → status ≡ 5 → Rose t.faults t'.faults → Asks t.asked t'.asked (files_to source (refusals.Read file)) → BreaksReading source file t t' → TellsText (line_of (refusals.Read file)) r r' → Ending source radius t t' r r' status
   no_memory : status ≡ 7 → t'.faults ≡ t.faults → TellsText (line_of refusals.Memory) r r' → Ending source radius t t' r r' status
@@ -33,8 +34,8 @@ module _ (source : Sources) (radius : ℕ) (t t' : TrayState) (r r' : RackState)
   told_of : (text : List ℕ) (page : PageParts) → text ≡ text_of radius page → t'.faults ≡ t.faults → IsMade source t page → Asks t.asked t'.asked (read_files source) → AnswersTell text r r' status → Ending source radius t t' r r' status
   told_of text page same calm made begun (AnswersTell.told is still whole) =
       done is (calm, still) page made begun (λ tells. whole tells ∙ ap (λ (x : List ℕ). r.told ++ x) same)
-  told_of text page same calm made begun (AnswersTell.told_in_part is rose part) =
-      untold is calm rose page made (λ tells. let p = part tells in (p.0, p.1 ∙ ap (λ (x : List ℕ). r.told ++ take p.0 x) same))
+  told_of text page same calm made begun (AnswersTell.told_in_part is once part) =
+      untold is calm once page made begun (λ tells. let p = part tells in (p.0, p.1 ∙ ap (λ (x : List ℕ). r.told ++ take p.0 x) same))
 
   ending_of : (result : Result (List ℕ) Refusal) → ChecksPage source radius t t' result → Closes result r r' status → Ending source radius t t' r r' status
   ending_of (Ok text) checked closed =
@@ -67,21 +68,21 @@ module _ (source : Sources) (radius : ℕ) (t t' : TrayState) (r r' : RackState)
 
   always_by : PlateLaws one_page → (refusal : Refusal) → Ending source radius t t' r r' status → IsTrue t.tells → AreRefused t.file source refusal → ¬ Rose t.faults t'.faults → (status ≡ status_of refusal) ⊎ (status ≡ 7)
   always_by laws refusal (done is calm page made begun told) tells judged still_tray = absurd (made_or_refused laws page refusal (made.1 tells) judged)
-  always_by laws refusal (untold is calm rose page made part) tells judged still_tray = absurd (made_or_refused laws page refusal (made.1 tells) judged)
+  always_by laws refusal (untold is calm once page made begun part) tells judged still_tray = absurd (made_or_refused laws page refusal (made.1 tells) judged)
   always_by laws refusal (refused other is which verdict begun count line) tells judged still_tray = inl (is ∙ ap (λ (o : Refusal). status_of o) (one_refusal laws other refusal (verdict tells) judged))
   always_by laws refusal (unread file is rose begun breaks line) tells judged still_tray = absurd (still_tray rose)
   always_by laws refusal (no_memory is calm line) tells judged still_tray = inr is
 
   complete_by : PlateLaws one_page → (page : PageParts) → Ending source radius t t' r r' status → IsTrue t.tells → Makes one_page t.file source (Ok page) → ¬ Rose t.faults t'.faults → ¬ Rose r.faults r'.faults → (status ≡ 0) ⊎ (status ≡ 7)
   complete_by laws page (done is calm other made begun told) tells makes still_tray still = inl is
-  complete_by laws page (untold is calm rose other made part) tells makes still_tray still = absurd (still rose)
+  complete_by laws page (untold is calm once other made begun part) tells makes still_tray still = absurd (still (rose_once r.faults r'.faults once))
   complete_by laws page (refused refusal is which verdict begun count line) tells makes still_tray still = absurd (made_or_refused laws page refusal makes (verdict tells))
   complete_by laws page (unread file is rose begun breaks line) tells makes still_tray still = absurd (still_tray rose)
   complete_by laws page (no_memory is calm line) tells makes still_tray still = inr is
 
   done_by : Ending source radius t t' r r' status → status ≡ 0 → ((t'.faults ≡ t.faults) × (r'.faults ≡ r.faults)) × ((page : PageParts) × IsMade source t page × (IsTrue r.tells → r'.told ≡ r.told ++ text_of radius page)) × Asks t.asked t'.asked (read_files source)
   done_by (done is calm page made begun told) s = (calm, (page, made, told), begun)
-  done_by (untold is calm rose page made part) s = absurd (omega arith)
+  done_by (untold is calm once page made begun part) s = absurd (omega arith)
   done_by (refused refusal is (inl which) verdict begun count line) s = absurd (omega arith)
   done_by (refused refusal is (inr which) verdict begun count line) s = absurd (omega arith)
   done_by (unread file is rose begun breaks line) s = absurd (omega arith)
@@ -90,13 +91,13 @@ module _ (source : Sources) (radius : ℕ) (t t' : TrayState) (r r' : RackState)
   read_by : Ending source radius t t' r r' status → status ≡ 5 → Rose t.faults t'.faults × ((file : Option ℕ) × Asks t.asked t'.asked (files_to source (refusals.Read file)) × BreaksReading source file t t' × TellsText (line_of (refusals.Read file)) r r')
   read_by (unread file is rose begun breaks line) s = (rose, (file, begun, breaks, line))
   read_by (done is calm page made begun told) s = absurd (omega arith)
-  read_by (untold is calm rose page made part) s = absurd (omega arith)
+  read_by (untold is calm once page made begun part) s = absurd (omega arith)
   read_by (refused refusal is (inl which) verdict begun count line) s = absurd (omega arith)
   read_by (refused refusal is (inr which) verdict begun count line) s = absurd (omega arith)
   read_by (no_memory is calm line) s = absurd (omega arith)
 
-  untold_by : Ending source radius t t' r r' status → status ≡ 6 → Rose r.faults r'.faults × (t'.faults ≡ t.faults) × ((page : PageParts) × IsMade source t page × (IsTrue r.tells → (count : ℕ) × (r'.told ≡ r.told ++ take count (text_of radius page))))
-  untold_by (untold is calm rose page made part) s = (rose, calm, (page, made, part))
+  untold_by : Ending source radius t t' r r' status → status ≡ 6 → RoseOnce r.faults r'.faults × (t'.faults ≡ t.faults) × Asks t.asked t'.asked (read_files source) × ((page : PageParts) × IsMade source t page × (IsTrue r.tells → (count : ℕ) × (r'.told ≡ r.told ++ take count (text_of radius page))))
+  untold_by (untold is calm once page made begun part) s = (once, calm, begun, (page, made, part))
   untold_by (done is calm page made begun told) s = absurd (omega arith)
   untold_by (refused refusal is (inl which) verdict begun count line) s = absurd (omega arith)
   untold_by (refused refusal is (inr which) verdict begun count line) s = absurd (omega arith)
@@ -106,14 +107,14 @@ module _ (source : Sources) (radius : ℕ) (t t' : TrayState) (r r' : RackState)
   memory_by : Ending source radius t t' r r' status → status ≡ 7 → t'.faults ≡ t.faults
   memory_by (no_memory is calm line) s = calm
   memory_by (done is calm page made begun told) s = calm.0
-  memory_by (untold is calm rose page made part) s = calm
+  memory_by (untold is calm once page made begun part) s = calm
   memory_by (refused refusal is (inl which) verdict begun count line) s = absurd (omega arith)
   memory_by (refused refusal is (inr which) verdict begun count line) s = absurd (omega arith)
   memory_by (unread file is rose begun breaks line) s = absurd (omega arith)
 
   line_by : Ending source radius t t' r r' status → status ≢ 0 → status ≢ 6 → (refusal : Refusal) × (status ≡ status_of refusal) × TellsText (line_of refusal) r r'
   line_by (done is calm page made begun told) some other = absurd (some is)
-  line_by (untold is calm rose page made part) some other = absurd (other is)
+  line_by (untold is calm once page made begun part) some other = absurd (other is)
   line_by (refused refusal is which verdict begun count line) some other = (refusal, is, line)
   line_by (unread file is rose begun breaks line) some other = (refusals.Read file, is, line)
   line_by (no_memory is calm line) some other = (refusals.Memory, is, line)
@@ -121,7 +122,7 @@ module _ (source : Sources) (radius : ℕ) (t t' : TrayState) (r r' : RackState)
   -- no check ends with the status of words that are none
   status_by : Ending source radius t t' r r' status → (status ≡ 0) ⊎ ((3 ≤ status) × (status ≤ 7))
   status_by (done is calm page made begun told) = inl is
-  status_by (untold is calm rose page made part) = inr (omega arith, omega arith)
+  status_by (untold is calm once page made begun part) = inr (omega arith, omega arith)
   status_by (refused refusal is (inl which) verdict begun count line) = inr (omega arith, omega arith)
   status_by (refused refusal is (inr which) verdict begun count line) = inr (omega arith, omega arith)
   status_by (unread file is rose begun breaks line) = inr (omega arith, omega arith)
@@ -179,8 +180,8 @@ module _ (words : List (List ℕ)) (t t' : TrayState) (r r' : RackState) (status
   only_by check (refused refusal is which verdict begun count line) s = (refusal, record { status_is = is; verdict = verdict; begun = begun; count = count; line = line })
   only_by check (done is calm page made begun told) (inl s) = absurd (omega arith)
   only_by check (done is calm page made begun told) (inr s) = absurd (omega arith)
-  only_by check (untold is calm rose page made part) (inl s) = absurd (omega arith)
-  only_by check (untold is calm rose page made part) (inr s) = absurd (omega arith)
+  only_by check (untold is calm once page made begun part) (inl s) = absurd (omega arith)
+  only_by check (untold is calm once page made begun part) (inr s) = absurd (omega arith)
   only_by check (unread file is rose begun breaks line) (inl s) = absurd (omega arith)
   only_by check (unread file is rose begun breaks line) (inr s) = absurd (omega arith)
   only_by check (no_memory is calm line) (inl s) = absurd (omega arith)
@@ -209,7 +210,7 @@ module _ (words : List (List ℕ)) (t t' : TrayState) (r r' : RackState) (status
     calm = calm_memory ended;
   }
 
-  tell_cause : Ends words t t' r r' status → status ≡ 6 → Rose r.faults r'.faults × (t'.faults ≡ t.faults)
+  tell_cause : Ends words t t' r r' status → status ≡ 6 → RoseOnce r.faults r'.faults × (t'.faults ≡ t.faults)
   tell_cause (Ends.no_check none same refuses) s = let e : status ≡ 2 = refuses.status_is in absurd (omega arith)
   tell_cause (Ends.check check also ended) s = let by = untold_by (sources_of check) check.radius t t' r r' status (ending check ended) s in (by.0, by.1)
 
@@ -217,7 +218,8 @@ module _ (words : List (List ℕ)) (t t' : TrayState) (r r' : RackState) (status
   tell_fault ended = record {
     cause = λ s. (tell_cause ended s).0;
     calm = λ s. (tell_cause ended s).1;
-    part = λ check means s. (untold_by (sources_of check) check.radius t t' r r' status (check_ending check means ended) s).2;
+    begun = λ check means s. (untold_by (sources_of check) check.radius t t' r r' status (check_ending check means ended) s).2;
+    part = λ check means s. (untold_by (sources_of check) check.radius t t' r r' status (check_ending check means ended) s).3;
   }
 
   closed_files : (result : Result (List ℕ) Refusal) → Closes result r r' status → KeepsFiles r r'

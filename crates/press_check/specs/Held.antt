@@ -6,7 +6,11 @@ use Rattle.press_check.specs.declared.words.Check.{Check}
 
 -- the check of the words that are held
 abbrev pub check_in : Check → CheckWords
-check_in check = record { radius = check.radius; job = check.job.now; plates = map input_of (map string_bytes check.plates.now) }
+check_in check = record {
+  radius = check.radius;
+  job = check.job.now;
+  plates = map input_of (map string_bytes check.plates.now);
+}
 
 -- the limits of what the words may ask for
 pub record IsWithin (check : Check) : Type 0 where

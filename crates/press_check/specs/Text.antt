@@ -8,11 +8,14 @@ use Rattle.trap_report.specs.Report.{line}
 -- the radius, and how many samples are at risk before trapping and after
 abbrev pub check_text : ℕ → ℕ → ℕ → List ℕ
 check_text radius before after =
-    line (codes "press check") ++ line (codes "radius " ++ decimal radius) ++ line (codes "before " ++ decimal before) ++ line (codes "after " ++ decimal after) ++ line (codes "end")
+    line (codes "press check") ++ line (codes "radius " ++ decimal radius)
+    ++ line (codes "before " ++ decimal before) ++ line (codes "after " ++ decimal after)
+    ++ line (codes "end")
 
 -- the text of a page
 abbrev pub text_of : ℕ → PageParts → List ℕ
-text_of radius page = check_text radius (risk page.planes radius) (risk (trapped_planes page) radius)
+text_of radius page =
+    check_text radius (risk page.planes radius) (risk (trapped_planes page) radius)
 
 -- what is told of words that are no check
 abbrev pub usage_line : List ℕ

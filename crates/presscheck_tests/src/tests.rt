@@ -19,7 +19,7 @@ const CYAN: &[u8] = b"P5\n6 1\n255\n\0\0\0\xFF\xFF\xFF";
 const MAGENTA: &[u8] = b"P5\n6 1\n255\n\xFF\xFF\xFF\0\0\0";
 
 const TRAPPED: &str =
-    "<< /HWResolution [72 72] /TrappingDetails << /Type 1001 /ColorantDetails << /Cyan << /NeutralDensity 0.61 >> /Magenta << /NeutralDensity 0.76 >> >> >> >> setpagedevice << /TrapWidth 2 >> settrapparams showpage";
+    "<< /HWResolution [72 72] /TrappingDetails << /Type 1001 /ColorantDetails << /Cyan << /NeutralDensity 0.61 >> /Magenta << /NeutralDensity 0.76 >> /Yellow << /NeutralDensity 0.16 >> /Black << /NeutralDensity 1.70 >> >> >> >> setpagedevice << /TrapWidth 2 >> settrapparams showpage";
 
 const DISABLED: &str = "<< /Enabled false >> settrapparams showpage";
 

@@ -30,7 +30,8 @@ IsReading Usage = ⊥
 IsReading (Write file) = ⊥
 IsReading other = Unit {0}
 
--- A page that was gathered is trapped, or is too large, or there was no memory to trap it; else there is the refusal of the page.
+-- A page that was gathered is trapped, or is too large, or there was no memory to trap it; else
+-- there is the refusal of the page.
 abbrev pub IsReply : Option PageParts → Outcome → Type 0
 IsReply (Some page) (Done trapped) = IsTrapOf page trapped
 IsReply (Some page) TooLarge = Unit {0}

@@ -7,6 +7,8 @@ use Rattle.trap_pool.specs.declared.pool.PoolRoom.{PoolRoom}
 
 -- room for so many lines, and for as many workers
 pub record IsRoomFor (lines workers : ℕ) (room : PoolRoom) : Type 0 where
+  pub none : room.gathered.items ≡ []
+  pub gathered : lines ≤ vec_capacity room.gathered
   pub no_reply : room.replies.items ≡ []
   pub replies : lines ≤ vec_capacity room.replies
   pub no_number : room.numbers.items ≡ []

@@ -5,7 +5,7 @@ use Rattle.strip_engine.specs.declared.alone.Trapped.{Trapped}
 use Rattle.trap_report.specs.declared.refusal.Refusal.TheVariants.{Memory}
 use Rattle.trap_pool.specs.declared.outcome.Outcome.{Outcome}
 use Rattle.trap_pool.specs.declared.outcome.Outcome.TheVariants.{Done, Refused, TooLarge}
-use Rattle.trap_pool.specs.Replies.{ReplyParts, IsTrapOf, reply_parts}
+use Rattle.trap_pool.specs.Replies.{ReplyParts, IsReading, IsTrapOf, reply_parts}
 
 -- stands past the last reply
 abbrev pub no_reply : ReplyParts
@@ -14,6 +14,22 @@ no_reply = reply_parts 0 None (Refused Memory)
 -- reply k
 abbrev pub reply_at : List ReplyParts → ℕ → ReplyParts
 reply_at replies k = slice_index_or replies k no_reply
+
+-- what becomes of a line whose page waits to be trapped, where nothing more is made: there was no
+-- memory for it
+abbrev pub outcome_so_far : Option Outcome → Outcome
+outcome_so_far None = Refused Memory
+outcome_so_far (Some outcome) = outcome
+
+-- A page that was gathered waits, is trapped, or is too large; else there is the refusal of the
+-- page.
+abbrev pub IsGathered : Option PageParts → Option Outcome → Type 0
+IsGathered (Some page) None = Unit {0}
+IsGathered (Some page) (Some (Done trapped)) = IsTrapOf page trapped
+IsGathered (Some page) (Some TooLarge) = Unit {0}
+IsGathered (Some page) (Some (Refused refusal)) = ⊥
+IsGathered None (Some (Refused refusal)) = IsReading refusal
+IsGathered None outcome = ⊥
 
 -- the page that was accepted, if any
 abbrev pub accepted_page : Option PageParts → Outcome → Option PageParts
@@ -32,16 +48,19 @@ waiting_in None outcome = None
 -- what a reply's accepted page is trapped to, if anything was made
 abbrev pub TrapsReply : ReplyParts → Option Trapped → Type 0
 TrapsReply reply None = Unit {0}
-TrapsReply reply (Some trapped) = (page : PageParts) × (accepted_page reply.page reply.outcome ≡ Some page) × IsTrapOf page trapped
+TrapsReply reply (Some trapped) = (page : PageParts)
+    × (accepted_page reply.page reply.outcome ≡ Some page) × IsTrapOf page trapped
 
 -- the same of the reply to that line, if there is one
 abbrev pub TrapsLine : List ReplyParts → ℕ → Option Trapped → Type 0
 TrapsLine replies line None = Unit {0}
-TrapsLine replies line (Some trapped) = (line < length replies) × TrapsReply (reply_at replies line) (Some trapped)
+TrapsLine replies line (Some trapped) = (line < length replies)
+    × TrapsReply (reply_at replies line) (Some trapped)
 
 -- The outcome stays, or the accepted page is done.
 abbrev pub Settles : Option PageParts → Outcome → Outcome → Type 0
-Settles page old new = (new ≡ old) ⊎ ((made : PageParts) × (trapped : Trapped) × (accepted_page page old ≡ Some made) × (new ≡ Done trapped) × IsTrapOf made trapped)
+Settles page old new = (new ≡ old) ⊎ ((made : PageParts) × (trapped : Trapped)
+    × (accepted_page page old ≡ Some made) × (new ≡ Done trapped) × IsTrapOf made trapped)
 
 -- A reply is settled: its line and its page stay.
 pub record Settled (old new : ReplyParts) : Type 0 where

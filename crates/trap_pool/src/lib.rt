@@ -1,6 +1,7 @@
 //! Workers that stay over a whole list of jobs and take page after page, by line numbers from a queue under a rule.
 #![tactic(auto)]
 
+mod gathered;
 mod gathering;
 pub mod outcome;
 pub mod pool;

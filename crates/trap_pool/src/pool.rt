@@ -6,9 +6,10 @@ ghost use Rattle.trap_pool.specs.Pools.{AnswersPool};
 ghost use Rattle.trap_pool.specs.Rooms.{IsRoomFor};
 ghost use Rattle.trap_pool.specs.Taking.{TrapsLine};
 
+use crate::gathered::Gathered;
 use crate::gathering::gather_lines;
 use crate::reply::{Reply, ReplyList};
-use crate::taking::{take_in, trap_rest};
+use crate::taking::{replies_of, take_in, trap_rest};
 use crate::work::{PageWork, TakeGate};
 use job_list::line::LineList;
 use line_queue::{LinePass, LineQueue, Rooms, open_queue, push_lines, rooms_of, serve_all};
@@ -47,29 +48,31 @@ pub fn pool_run<H: Threads + Wait + Sync, T: Tray, G: TakeGate + Sync>(
         return Err(OutOfMemory);
     };
     let PoolRoom {
+        gathered,
         replies,
         numbers,
         results,
         queue,
         pass,
     } = room;
-    let mut replies = gather_lines(alloc, tray, lines, replies);
-    let numbers = waiting_lines(replies.as_slice(), numbers);
+    let mut gathered = gather_lines(alloc, tray, lines, gathered);
+    let numbers = waiting_lines(gathered.as_slice(), numbers);
     let work = PageWork {
         alloc,
-        replies: replies.as_slice(),
+        gathered: gathered.as_slice(),
         gate,
     };
     let results = serve_waiting(rt, &work, &queue, pass, numbers.as_slice(), results);
-    take_in(&mut replies, results);
-    trap_rest(alloc, &mut replies);
-    Ok(List::from_vec(replies))
+    take_in(&mut gathered, results);
+    trap_rest(alloc, &mut gathered);
+    Ok(List::from_vec(replies_of(gathered, replies)))
 }
 
-// What a pool takes before it begins: a place for each line's reply and number, a room for each worker's results, and the
+// What a pool takes before it begins: a place for each line's page, reply and number, a room for each worker's results, and the
 // queue with its opening pass.
 #[derive(Drop)]
 struct PoolRoom {
+    gathered: Vec<Gathered>,
     replies: Vec<Reply>,
     numbers: Vec<u32>,
     results: Rooms<Option<Trapped>>,
@@ -81,11 +84,13 @@ impl PoolRoom {
     fn new(alloc: Global, lines: usize, workers: usize) -> Result<PoolRoom, AllocError>
         ensures { IfOk result (λ room. IsRoomFor lines workers room) }
     {
+        let gathered = Vec::with_capacity(alloc, lines)?;
         let replies = Vec::with_capacity(alloc, lines)?;
         let numbers = Vec::with_capacity(alloc, lines)?;
         let results = rooms_of(alloc, workers, lines.min(PLACES))?;
         let (queue, pass) = open_queue(alloc, PLACES)?;
         Ok(PoolRoom {
+            gathered,
             replies,
             numbers,
             results,
@@ -96,21 +101,21 @@ impl PoolRoom {
 }
 
 // The lines whose pages wait to be trapped, in order.
-fn waiting_lines(replies: &[Reply], room: Vec<u32>) -> Vec<u32>
-    requires numbered { length replies.now < 2 ^ 32 }
+fn waiting_lines(gathered: &[Gathered], room: Vec<u32>) -> Vec<u32>
+    requires numbered { length gathered.now < 2 ^ 32 }
     requires empty { room.items ≡ [] }
-    requires room { length replies.now ≤ vec_capacity room }
+    requires room { length gathered.now ≤ vec_capacity room }
     ensures { Ascends result.items }
 {
     let mut numbers = room;
-    for number in 0..replies.len() {
-        note_waiting(&replies[number], number as u32, &mut numbers);
+    for number in 0..gathered.len() {
+        note_waiting(&gathered[number], number as u32, &mut numbers);
     }
     numbers
 }
 
 // Adds the line's number, where its page waits to be trapped.
-fn note_waiting(reply: &Reply, number: u32, numbers: &mut Vec<u32>)
+fn note_waiting(line: &Gathered, number: u32, numbers: &mut Vec<u32>)
     requires ascends { Ascends numbers.old.items }
     requires above { IsAbove number numbers.old.items }
     requires room { vec_len numbers.old < vec_capacity numbers.old }
@@ -119,7 +124,7 @@ fn note_waiting(reply: &Reply, number: u32, numbers: &mut Vec<u32>)
     ensures few { vec_len numbers.new ≤ vec_len numbers.old + 1 }
     ensures room { vec_capacity numbers.old ≤ vec_capacity numbers.new }
 {
-    if reply.waiting().is_some() {
+    if line.waiting().is_some() {
         let Ok(()) = numbers.push(number) else {
             unreachable!()
         };
@@ -139,7 +144,7 @@ fn serve_waiting<H: Threads + Wait + Sync, G: TakeGate + Sync>(
     requires opening { view pass ≡ pass_view whole true [] [] }
     requires ascends { Ascends numbers.now }
     requires results { (vec_len results < whole) × All IsUnused results.items }
-    ensures { All (AreMade (TrapsLine work.now.replies.now)) result.items }
+    ensures { All (AreMade (TrapsLine work.now.gathered.now)) result.items }
 {
     let mut pass = pass;
     push_lines(rt, queue, &mut pass, numbers);

@@ -1,6 +1,6 @@
 ghost use Rattle.trap_pool.specs.Taking.{TrapsReply};
 
-use crate::reply::Reply;
+use crate::gathered::Gathered;
 use line_queue::LineWork;
 use std::alloc::Global;
 use strip_engine::{Trapped, trap_alone};
@@ -19,31 +19,31 @@ impl TakeGate for OpenTakes {
     fn taken(&self, _line: u32) {}
 }
 
-// What all workers share: the replies with their pages, and the gate.
+// What all workers share: the lines with their pages, and the gate.
 #[derive(Drop)]
 pub(crate) struct PageWork<'a, G> {
     pub alloc: Global,
-    pub replies: &'a [Reply],
+    pub gathered: &'a [Gathered],
     pub gate: &'a G,
 }
 
 impl<'a, G: TakeGate> LineWork<Option<Trapped>> for PageWork<'a, G> {
     ghost use Rattle.trap_pool.specs.Taking.{TrapsLine};
 
-    ghost makes = { λ work line made. TrapsLine work.replies.now line made };
+    ghost makes = { λ work line made. TrapsLine work.gathered.now line made };
 
     fn make(&self, line: u32) -> Option<Trapped> {
         self.gate.taken(line);
-        let reply = self.replies.get(line as usize)?;
-        trap_waiting(self.alloc, reply)
+        let gathered = self.gathered.get(line as usize)?;
+        trap_waiting(self.alloc, gathered)
     }
 }
 
-// What the reply's page is trapped to, where it waits for it and there is memory.
-pub(crate) fn trap_waiting(alloc: Global, reply: &Reply) -> Option<Trapped>
-    ensures { TrapsReply reply.now result }
+// What the line's page is trapped to, where it waits for it and there is memory.
+pub(crate) fn trap_waiting(alloc: Global, line: &Gathered) -> Option<Trapped>
+    ensures { TrapsReply line.now result }
 {
-    match reply.waiting() {
+    match line.waiting() {
         Some(page) => trap_alone(alloc, page).ok(),
         None => None,
     }

@@ -60,6 +60,7 @@ module _ {E : Type 0} (start s t : TrayState) (held0 held held2 line : List ℕ)
     begun = g.begun;
     line = ((record { text = line; is = ap (λ (c : ℕ). line ++ c ∷ []) is; one = so.none }, omega (arith, few, length-append line (b ∷ []))), text_more b g);
     none = tt;
+    other = tt;
     part = tt;
     well = g.well ∙ so.count;
     cause = tt;
@@ -75,6 +76,9 @@ module _ {E : Type 0} (start s t : TrayState) (held0 held held2 line : List ℕ)
         (let whole : held0 ++ start.left ≡ line ++ [] = so.text tells ∙ ap (λ (bs : List ℕ). line ++ bs) (g.none (so.keeps.tells ∙ tells)).0 in
         let same : line ++ [] ≡ l ++ more = sym whole ∙ e in
         no_short line [] l more so.none short.0 (omega (arith, ap (length {A = ℕ}) same, length-append line [], length-append l more)) same);
+    other = λ tells.
+        (let ends = g.none (so.keeps.tells ∙ tells) in
+        (line, so.text tells ∙ ap (λ (bs : List ℕ). line ++ bs) (ends.0 ∙ sym ends.1)));
     part = tt;
     well = g.well ∙ so.count;
     cause = tt;
@@ -87,6 +91,7 @@ module _ {E : Type 0} (start s t : TrayState) (held0 held held2 line : List ℕ)
     begun = g.begun;
     line = tt;
     none = tt;
+    other = tt;
     part = λ tells. (line, so.none, so.text tells ∙ ap (λ (bs : List ℕ). line ++ bs) (g.kept (so.keeps.tells ∙ tells)));
     well = tt;
     cause = rose_before start.faults s.faults t.faults so.keeps.faults g.cause;
@@ -99,6 +104,7 @@ line_long start s held0 held line so full = record {
   begun = so.begun;
   line = tt;
   none = λ tells l more short e. no_short line (held ++ s.left) l more so.none short.0 (omega (arith, short.1, full)) (sym (so.text tells) ∙ e);
+  other = λ tells. (line, so.text tells);
   part = tt;
   well = so.count;
   cause = tt;
@@ -107,10 +113,10 @@ line_long start s held0 held line so full = record {
 -- what is looked for in place of any short line
 module _ {E D : Type 0} (Looked : List ℕ → Type 0) (s t : TrayState) (held held2 : List ℕ) where
   pub next_line : (line : List ℕ) → Looked line → ReadsNext {E = E} IsShortLine s t held held2 (Ok (Some line)) → ReadsNext {E = D} Looked s t held held2 (Ok (Some line))
-  next_line line is n = record { keeps = n.keeps; asked = n.asked; begun = n.begun; line = (is, n.line.1); none = tt; part = tt; well = n.well; cause = tt }
+  next_line line is n = record { keeps = n.keeps; asked = n.asked; begun = n.begun; line = (is, n.line.1); none = tt; other = tt; part = tt; well = n.well; cause = tt }
 
   pub next_none : ((line : List ℕ) → Looked line → IsShortLine line) → ReadsNext {E = E} IsShortLine s t held held2 (Ok None) → ReadsNext {E = D} Looked s t held held2 (Ok None)
-  next_none short n = record { keeps = n.keeps; asked = n.asked; begun = n.begun; line = tt; none = λ tells line more is e. n.none tells line more (short line is) e; part = tt; well = n.well; cause = tt }
+  next_none short n = record { keeps = n.keeps; asked = n.asked; begun = n.begun; line = tt; none = λ tells line more is e. n.none tells line more (short line is) e; other = n.other; part = tt; well = n.well; cause = tt }
 
   pub next_other : (line : List ℕ) → ((l : List ℕ) → Looked l → IsShortLine l) → (Looked line → ⊥) → ReadsNext {E = E} IsShortLine s t held held2 (Ok (Some line)) → ReadsNext {E = D} Looked s t held held2 (Ok None)
   next_other line short other n = record {
@@ -119,13 +125,14 @@ module _ {E D : Type 0} (Looked : List ℕ → Type 0) (s t : TrayState) (held h
     begun = n.begun;
     line = tt;
     none = λ tells l more is e. other (subst Looked (sym (same_line line l (held2 ++ t.left) more n.line.0.0 (short l is).0 (sym (n.line.1 tells) ∙ e))) is);
+    other = λ tells. (line, n.line.1 tells);
     part = tt;
     well = n.well;
     cause = tt;
   }
 
   pub next_fault : (e : E) (d : D) → ReadsNext {E = E} IsShortLine s t held held2 (Err e) → ReadsNext {E = D} Looked s t held held2 (Err d)
-  next_fault e d n = record { keeps = n.keeps; asked = n.asked; begun = n.begun; line = tt; none = tt; part = n.part; well = tt; cause = n.cause }
+  next_fault e d n = record { keeps = n.keeps; asked = n.asked; begun = n.begun; line = tt; none = tt; other = tt; part = n.part; well = tt; cause = n.cause }
 
 pub short_title : (l : List ℕ) → l ≡ title_line → IsShortLine l
 short_title l is = subst IsShortLine (sym is) title_is_line

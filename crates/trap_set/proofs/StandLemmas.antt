@@ -13,8 +13,8 @@ use Rattle.std.proofs.lemmas.Bool.{both_ways}
 use Rattle.outside.proofs.Steps.{kept_tray, rose_before}
 use Rattle.page_model.specs.declared.parts.Plane.{Plane}
 use Rattle.trap_set.specs.Applied.{applied}
-use Rattle.trap_set.specs.Applying.{Fits, IsFull, Differ, CountsFaults, KeepsPlanes, EndsSet, AppliesText, AppliesSet}
-use Rattle.trap_set.specs.Bytes.{ReadsNext}
+use Rattle.trap_set.specs.Applying.{Fits, IsFull, Differ, CountsFaults, KeepsPlanes, EndsSet, EndsWith, AppliesText, AppliesSet}
+use Rattle.trap_set.specs.Bytes.{GivesByte, ReadsNext}
 use Rattle.trap_set.specs.Lines.{IsLine, HasNoEnd, lines_of}
 use Rattle.trap_set.specs.Runs.{Run}
 use Rattle.trap_set.specs.SetText.{SetHead, IsHead, IsRun, IsSet, Follows, title_line, page_line, run_line, end_line, set_lines}
@@ -125,6 +125,13 @@ no_other bytes head ls planes h lines fits d =
 taken_front : (lines : List (List ℕ)) (part left bytes : List ℕ) → bytes ≡ joined lines ++ (part ++ left) → bytes ≡ (joined lines ++ part) ++ left
 taken_front lines part left bytes e = e ∙ sym (append_assoc (joined lines) part left)
 
+-- what is left is the end of the text
+pub left_behind : (lines : List (List ℕ)) (part held left bytes rest : List ℕ) → bytes ≡ joined lines ++ rest → rest ≡ part ++ (held ++ left) → EndsWith bytes left
+left_behind lines part held left bytes rest whole here = (
+  (joined lines ++ part) ++ held,
+  whole ∙ ap (λ (bs : List ℕ). joined lines ++ bs) here ∙ sym (append_assoc (joined lines) part (held ++ left)) ∙ sym (append_assoc (joined lines ++ part) held left),
+)
+
 front_lines : (lines : List (List ℕ)) (part : List ℕ) → All IsLine lines → HasNoEnd part → lines_of (joined lines ++ part) ≡ lines ++ part ∷ []
 front_lines lines part h none = lines_of_lines lines part h ∙ ap (λ (ls : List (List ℕ)). lines ++ ls) (lone_line part none)
 
@@ -144,6 +151,7 @@ module _ (start s t : TrayState) (held held2 : List ℕ) (old : List Plane) wher
     begun = n.begun;
     planes = keeps_itself old;
     count = n.well ∙ r.count;
+    taken = λ tells. (let part = n.other (r.keeps.tells ∙ tells) in left_behind [] part.0 held2 t.left start.left (held ++ s.left) (r.text tells) part.1);
     says = λ tells.
         (let bad = bad_title start.left (λ more e. n.none (r.keeps.tells ∙ tells) title_line more refl (sym (r.text tells) ∙ e)) in
         let first = begin_none start.left in
@@ -161,6 +169,7 @@ module _ (start s t : TrayState) (held held2 : List ℕ) (old : List Plane) wher
     begun = n.begun;
     planes = keeps_itself old;
     count = n.well ∙ r.count;
+    taken = λ tells. (let part = n.other (r.keeps.tells ∙ tells) in left_behind (title_line ∷ []) part.0 held2 t.left start.left (held ++ s.left) (r.text tells) part.1);
     says = λ tells.
         (let whole : start.left ≡ title_line ++ (held ++ s.left) = r.text tells in
         let bad = bad_page start.left (held ++ s.left) whole (λ head more h e. n.none (r.keeps.tells ∙ tells) (page_line head) more (head, h, refl) e) in
@@ -175,6 +184,7 @@ module _ (start s t : TrayState) (held held2 : List ℕ) (old : List Plane) wher
     begun = begun;
     planes = keeps_itself old;
     count = r.count;
+    taken = λ tells. left_behind (begun_lines head []) [] held2 t.left start.left (held2 ++ t.left) (r.text tells) refl;
     says = λ tells. (record { head = head; begins = begins_runs start.left (held2 ++ t.left) head [] (empty_set head h) (r.text tells); others = others }, refl);
   }
 
@@ -186,6 +196,7 @@ module _ (start s t : TrayState) (held held2 : List ℕ) (old : List Plane) wher
     begun = n.begun;
     planes = keeps_itself old;
     count = rose_before start.faults s.faults t.faults r.keeps.faults n.cause;
+    taken = λ tells. (let part = n.part (r.keeps.tells ∙ tells) in (part.0, r.text tells ∙ part.2));
     says = λ tells.
         (let part = n.part (r.keeps.tells ∙ tells) in
         let lines : lines_of part.0 ≡ part.0 ∷ [] = lone_line part.0 part.1 in
@@ -207,6 +218,7 @@ module _ (start s t : TrayState) (held held2 : List ℕ) (old : List Plane) wher
     begun = n.begun;
     planes = keeps_itself old;
     count = rose_before start.faults s.faults t.faults r.keeps.faults n.cause;
+    taken = λ tells. (let part = n.part (r.keeps.tells ∙ tells) in (title_line ++ part.0, r.text tells ∙ ap (λ (bs : List ℕ). title_line ++ bs) part.2 ∙ sym (append_assoc title_line part.0 t.left)));
     says = λ tells.
         (let part = n.part (r.keeps.tells ∙ tells) in
         let lines : lines_of (title_line ++ part.0) ≡ title_line ∷ part.0 ∷ [] = lines_of_line title_line part.0 title_is_line.0 ∙ ap (λ (ls : List (List ℕ)). title_line ∷ ls) (lone_line part.0 part.1) in
@@ -220,6 +232,16 @@ module _ (start s t : TrayState) (held held2 : List ℕ) (old : List Plane) wher
           has = record { head = first.0; runs = first.1; begins = record { is_set = first.2.is_set; there = omega arith; same = ap (take 1) lines }; planes = sym (applied_none old) };
         });
   }
+
+-- a byte behind the last line is the first of a bad one
+pub byte_behind : {T E : Type 0} (number b : ℕ) (s t : TrayState) (held held2 : List ℕ) → GivesByte {E = E} s t held held2 (Ok (Some b)) → EndsSet {T = T} number s t held (Err (BadLine number))
+byte_behind number b s t held held2 g = record {
+  keeps = g.keeps;
+  asked = g.asked;
+  begun = g.begun;
+  count = g.well;
+  says = λ tells. (refl, (λ none. absurd (let e : [] ≡ b ∷ (held2 ++ t.left) = sym none ∙ g.some tells in cc)), (b ∷ held2, g.some tells));
+}
 
 -- behind the page line
 module _ (start s t : TrayState) (held held2 : List ℕ) (old new : List Plane) (head : SetHead) (runs : List Run) (place : Place) (h : IsHead head) (to : RunsTo head runs place) (fits : Fits head old) (is : new ≡ applied runs old) where
@@ -239,6 +261,7 @@ module _ (start s t : TrayState) (held held2 : List ℕ) (old new : List Plane) 
     begun = n.begun;
     planes = keeps_planes;
     count = n.well ∙ r.count;
+    taken = λ tells. (let part = n.other (r.keeps.tells ∙ tells) in left_behind (begun_lines head runs) part.0 held2 t.left start.left (held ++ s.left) (r.text tells) part.1);
     says = λ tells.
         (let whole = r.text tells in
         let there = r.keeps.tells ∙ tells in
@@ -261,6 +284,7 @@ module _ (start s t : TrayState) (held held2 : List ℕ) (old new : List Plane) 
     begun = n.begun;
     planes = keeps_planes;
     count = rose_before start.faults s.faults t.faults r.keeps.faults n.cause;
+    taken = λ tells. (let part = n.part (r.keeps.tells ∙ tells) in (joined (begun_lines head runs) ++ part.0, taken_front (begun_lines head runs) part.0 t.left start.left (r.text tells ∙ ap (λ (bs : List ℕ). joined (begun_lines head runs) ++ bs) part.2)));
     says = λ tells.
         (let part = n.part (r.keeps.tells ∙ tells) in
         let lines = front_lines (begun_lines head runs) part.0 (begun_are_lines head h runs to.within) part.1 in
@@ -282,6 +306,7 @@ module _ (start s t : TrayState) (held held2 : List ℕ) (old new : List Plane) 
     begun = e.begun;
     planes = keeps_planes;
     count = e.count ∙ r.count;
+    taken = λ tells. (start.left, sym (append-nil start.left) ∙ ap (λ (bs : List ℕ). start.left ++ bs) (sym (e.says (r.keeps.tells ∙ tells)).1));
     says = λ tells.
         (let says = e.says (r.keeps.tells ∙ tells) in
         record { head = head; runs = runs; is_file = is_file start.left (held ++ s.left) head runs set_here (r.text tells) says.0; fits = fits; planes = is; at_end = says.1 });
@@ -292,6 +317,7 @@ module _ (start s t : TrayState) (held held2 : List ℕ) (old new : List Plane) 
     begun = e.begun;
     planes = keeps_planes;
     count = e.count ∙ r.count;
+    taken = λ tells. (let part = (e.says (r.keeps.tells ∙ tells)).2 in (joined (set_lines head runs) ++ part.0, taken_front (set_lines head runs) part.0 t.left start.left (r.text tells ∙ ap (λ (bs : List ℕ). joined (set_lines head runs) ++ bs) part.1)));
     says = λ tells.
         (let says = e.says (r.keeps.tells ∙ tells) in
         let whole = r.text tells in
@@ -309,6 +335,7 @@ module _ (start s t : TrayState) (held held2 : List ℕ) (old new : List Plane) 
     begun = e.begun;
     planes = keeps_planes;
     count = e.count ∙ r.count;
+    taken = λ tells. absurd (e.says (r.keeps.tells ∙ tells));
     says = λ tells. absurd (e.says (r.keeps.tells ∙ tells));
   }
   set_ends number (Err ReadFault) is_number r e = record {
@@ -317,6 +344,7 @@ module _ (start s t : TrayState) (held held2 : List ℕ) (old new : List Plane) 
     begun = e.begun;
     planes = keeps_planes;
     count = rose_before start.faults s.faults t.faults r.keeps.faults e.count;
+    taken = λ tells. (joined (set_lines head runs) ++ [], taken_front (set_lines head runs) [] t.left start.left (r.text tells ∙ ap (λ (bs : List ℕ). joined (set_lines head runs) ++ bs) (e.says (r.keeps.tells ∙ tells))));
     says = λ tells.
         (let rest = e.says (r.keeps.tells ∙ tells) in
         let front = joined (set_lines head runs) ++ [] in
@@ -387,6 +415,7 @@ begun_applied name a b c v old new r g t = record {
   planes = t.planes;
   count = counts_from a b c r g.well t.count;
   not_begun = λ f. absurd (both_ways c.begun f t.begun);
+  taken = λ begun tells. (b.left, g.left tells, t.taken (g.keeps.tells ∙ tells));
   says = λ begun tells. (b.left, g.left tells, t.says (g.keeps.tells ∙ tells));
 }
 
@@ -397,6 +426,7 @@ begin_failed name a b e old g = record {
   planes = keeps_itself old;
   count = g.cause;
   not_begun = λ f. (refl, refl);
+  taken = λ begun tells. absurd (both_ways b.begun g.begun begun);
   says = λ begun tells. absurd (both_ways b.begun g.begun begun);
 }
 

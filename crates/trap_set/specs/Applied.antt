@@ -1,3 +1,4 @@
+-- Planes with the tints of runs put on.
 use Rattle.std.specs.Prelude.{ℕ, ◌/◌, ◌%◌, List, length, slice_index, find, Option, Some, None}
 use Rattle.page_model.specs.declared.parts.Plane.{Plane}
 use Rattle.page_model.specs.Planes.{plane_at}
@@ -16,7 +17,8 @@ tint_by (Some run) c tint = slice_index run.tints c
 -- a plane with the runs' tints for plate c on the samples that they cover, and its own elsewhere
 abbrev pub applied_plane : List Run → ℕ → Plane → Plane
 applied_plane runs c plane = record plane {
-  tints = list_below (λ k. tint_by (covering runs (k % plane.width) (k / plane.width)) c (slice_index plane.tints k)) (length plane.tints);
+  tints = list_below (λ k. tint_by (covering runs (k % plane.width) (k / plane.width)) c
+      (slice_index plane.tints k)) (length plane.tints);
 }
 
 -- all planes with the runs applied

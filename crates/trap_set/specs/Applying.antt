@@ -1,5 +1,6 @@
 -- What it means to apply the set that a file holds.
-use Rattle.std.specs.Prelude.{◌≡◌, ℕ, ◌+◌, ◌-◌, ◌*◌, ◌<◌, ◌≤◌, IsTrue, IsFalse, List, [], ◌∷◌, ◌++◌, length, take, Some, Result, Ok, Err, All}
+use Rattle.std.specs.Prelude.{◌≡◌, ℕ, ◌+◌, ◌-◌, ◌*◌, ◌<◌, ◌≤◌, IsTrue, IsFalse, List, [], ◌∷◌, ◌++◌}
+use Rattle.std.specs.Prelude.{length, take, Some, Result, Ok, Err, All}
 use Rattle.outside.specs.Causes.{Rose, Asks}
 use Rattle.outside.specs.Tray.{TrayState, KeepsTray}
 use Rattle.page_model.specs.declared.parts.Plane.{Plane}
@@ -32,7 +33,8 @@ pub record Differ (bytes : List ℕ) (planes : List Plane) : Type 0 where
   pub begins : BeginSet bytes 2 head []
   pub others : Fits head planes → ⊥
 
--- the first k lines of the text begin a set, and the planes have the runs of these lines, of which the first two are none
+-- the first k lines of the text begin a set, and the planes have the runs of these lines, of which
+-- the first two are none
 pub record HaveRuns (bytes : List ℕ) (k : ℕ) (old new : List Plane) : Type 0 where
   pub head : SetHead
   pub runs : List Run
@@ -56,7 +58,8 @@ pub record MeetsBadLine (bytes : List ℕ) (n : ℕ) (old new : List Plane) : Ty
   pub same : Differ bytes old → ⊥
   pub has : HaveRuns bytes good old new
 
--- the tray failed behind a front of the text; none of its lines is bad, and it is not for other planes
+-- the tray failed after a prefix of the text; none of its lines is bad, and it is not for other
+-- planes
 pub record BreaksOff (bytes : List ℕ) (after : TrayState) (old new : List Plane) : Type 0 where
   pub front : List ℕ
   pub taken : bytes ≡ front ++ after.left
@@ -66,7 +69,8 @@ pub record BreaksOff (bytes : List ℕ) (after : TrayState) (old new : List Plan
   pub has : HaveRuns front good old new
 
 -- what the answer says of the file's bytes and of the planes
-abbrev pub SaysOf : {T : Type 0} → List ℕ → TrayState → List Plane → List Plane → Result T SetRefusal → Type 0
+abbrev pub SaysOf : {T : Type 0} → List ℕ → TrayState → List Plane → List Plane
+    → Result T SetRefusal → Type 0
 SaysOf bytes after old new (Ok done) = TakesSet bytes after old new
 SaysOf bytes after old new (Err (BadLine n)) = MeetsBadLine bytes n old new
 SaysOf bytes after old new (Err Differs) = Differ bytes old × (new ≡ old)
@@ -89,22 +93,29 @@ pub record KeepsPlanes (old new : List Plane) : Type 0 where
   pub each : (c : ℕ) → c < length old → KeepsPlane (plane_at old c) (plane_at new c)
   pub below : All IsBelow old → All IsBelow new
 
--- no answer but a read fault passes a fault of the tray over, and that one comes only where there is one
+-- no answer but a read fault passes a fault of the tray over, and that one comes only where there
+-- is one
 abbrev pub CountsFaults : {T : Type 0} → TrayState → TrayState → Result T SetRefusal → Type 0
 CountsFaults before after (Ok done) = after.faults ≡ before.faults
 CountsFaults before after (Err (BadLine n)) = after.faults ≡ before.faults
 CountsFaults before after (Err Differs) = after.faults ≡ before.faults
 CountsFaults before after (Err ReadFault) = Rose before.faults after.faults
 
+-- the bytes end with these
+abbrev pub EndsWith : List ℕ → List ℕ → Type 0
+EndsWith bytes rest = (front : List ℕ) × (bytes ≡ front ++ rest)
+
 -- what is to come behind the last line
 abbrev pub SaysEnd : {T : Type 0} → ℕ → TrayState → List ℕ → Result T SetRefusal → Type 0
 SaysEnd number after rest (Ok done) = (rest ≡ []) × (after.left ≡ [])
 SaysEnd number after rest (Err (BadLine n)) = (n ≡ number) × (rest ≡ [] → ⊥)
+    × EndsWith rest after.left
 SaysEnd number after rest (Err Differs) = ⊥
 SaysEnd number after rest (Err ReadFault) = rest ≡ after.left
 
 -- nothing stands behind the last line, or what does is a bad line of that number, or the tray fails
-pub record EndsSet {T : Type 0} (number : ℕ) (before after : TrayState) (held : List ℕ) (result : Result T SetRefusal) : Type 0 where
+pub record EndsSet {T : Type 0} (number : ℕ) (before after : TrayState) (held : List ℕ)
+    (result : Result T SetRefusal) : Type 0 where
   pub keeps : KeepsTray before after
   pub asked : after.asked ≡ before.asked
   pub begun : IsTrue after.begun
@@ -112,20 +123,27 @@ pub record EndsSet {T : Type 0} (number : ℕ) (before after : TrayState) (held 
   pub says : IsTrue before.tells → SaysEnd number after (held ++ before.left) result
 
 -- the file that is begun is read and its set applied
-pub record AppliesText {T : Type 0} (before after : TrayState) (old new : List Plane) (result : Result T SetRefusal) : Type 0 where
+pub record AppliesText {T : Type 0} (before after : TrayState) (old new : List Plane)
+    (result : Result T SetRefusal) : Type 0 where
   pub keeps : KeepsTray before after
   pub asked : after.asked ≡ before.asked
   pub begun : IsTrue after.begun
   pub planes : KeepsPlanes old new
   pub count : CountsFaults before after result
+  pub taken : IsTrue before.tells → EndsWith before.left after.left
   pub says : IsTrue before.tells → SaysOf before.left after old new result
 
--- The set of the file of that name is applied. Where the tray tells, the answer says what the file is and which runs the planes
--- have; a file that is not begun is a read fault, and leaves the planes as they were.
-pub record AppliesSet {T : Type 0} (name : List ℕ) (before after : TrayState) (old new : List Plane) (result : Result T SetRefusal) : Type 0 where
+-- The set of the file of that name is applied. Where the tray tells, the answer says what the file
+-- is and which runs the planes have; a file that is not begun is a read fault, and leaves the
+-- planes as they were. What is left is the end of the file.
+pub record AppliesSet {T : Type 0} (name : List ℕ) (before after : TrayState) (old new : List Plane)
+    (result : Result T SetRefusal) : Type 0 where
   pub keeps : KeepsTray before after
   pub asked : Asks before.asked after.asked (name ∷ [])
   pub planes : KeepsPlanes old new
   pub count : CountsFaults before after result
   pub not_begun : IsFalse after.begun → (new ≡ old) × (result ≡ Err ReadFault)
-  pub says : IsTrue after.begun → IsTrue before.tells → (bytes : List ℕ) × (before.file name ≡ Some bytes) × SaysOf bytes after old new result
+  pub taken : IsTrue after.begun → IsTrue before.tells → (bytes : List ℕ)
+      × (before.file name ≡ Some bytes) × EndsWith bytes after.left
+  pub says : IsTrue after.begun → IsTrue before.tells → (bytes : List ℕ)
+      × (before.file name ≡ Some bytes) × SaysOf bytes after old new result

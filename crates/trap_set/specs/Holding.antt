@@ -1,10 +1,12 @@
--- What it means to write a text piece by piece, of which the last bytes are held back until there are enough for a write.
+-- What it means to write a text piece by piece, of which the last bytes are held back until there
+-- are enough for a write.
 use Rattle.std.specs.Prelude.{◌≡◌, ℕ, IsTrue, List, ◌++◌, take, Result, OnOk, OnErr}
 use Rattle.outside.specs.Causes.{Rose, RoseOnce}
 use Rattle.outside.specs.Rack.{RackState, KeepsRack}
 use Rattle.outside.specs.Writing.{Grows}
 
--- all of a text is written or held back, behind what the open file had at the start, and no call has failed since
+-- all of a text is written or held back, behind what the open file had at the start, and no call
+-- has failed since
 pub record Holds (text held : List ℕ) (start state : RackState) : Type 0 where
   pub tells : state.tells ≡ start.tells
   pub faults : state.faults ≡ start.faults
@@ -29,7 +31,10 @@ pub record Breaks (text : List ℕ) (start state : RackState) : Type 0 where
   pub once : RoseOnce start.faults state.faults
 
 -- the piece is put behind any text that is held, or the rack fails within it
-pub record Puts {T E : Type 0} (piece held held2 : List ℕ) (before after : RackState) (result : Result T E) : Type 0 where
-  pub well : OnOk result ((start : RackState) (text : List ℕ) → Holds text held start before → Holds (text ++ piece) held2 start after)
-  pub fault : OnErr result ((start : RackState) (text : List ℕ) → Holds text held start before → Breaks (text ++ piece) start after)
+pub record Puts {T E : Type 0} (piece held held2 : List ℕ) (before after : RackState)
+    (result : Result T E) : Type 0 where
+  pub well : OnOk result ((start : RackState) (text : List ℕ) → Holds text held start before
+      → Holds (text ++ piece) held2 start after)
+  pub fault : OnErr result ((start : RackState) (text : List ℕ) → Holds text held start before
+      → Breaks (text ++ piece) start after)
   pub is_open : OnOk result (IsTrue after.is_open)

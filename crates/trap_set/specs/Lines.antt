@@ -1,5 +1,6 @@
 -- Where the text of no set has its fault: at the first line that no set goes on with.
-use Rattle.std.specs.Prelude.{◌≡◌, ◌≢◌, ℕ, ◌+◌, ◌≤◌, ◌==◌, List, [], ◌∷◌, ◌++◌, length, take, All, if◌then◌else◌}
+use Rattle.std.specs.Prelude.{◌≡◌, ◌≢◌, ℕ, ◌+◌, ◌≤◌, ◌==◌, List, [], ◌∷◌, ◌++◌, length, take, All}
+use Rattle.std.specs.Prelude.{if◌then◌else◌}
 use Rattle.trap_set.specs.Runs.{Run}
 use Rattle.trap_set.specs.SetText.{SetHead, IsSet, IsSetFile, set_lines}
 
@@ -11,7 +12,8 @@ before_first b (text ∷ later) = (b ∷ text) ∷ later
 -- the lines of a text, each with its LF; what stands behind the last LF is a line without one
 abbrev pub lines_of : List ℕ → List (List ℕ)
 lines_of [] = [] ∷ []
-lines_of (b ∷ bytes) = if b == 10 then (b ∷ []) ∷ lines_of bytes else before_first b (lines_of bytes)
+lines_of (b ∷ bytes) =
+    if b == 10 then (b ∷ []) ∷ lines_of bytes else before_first b (lines_of bytes)
 
 -- none of the bytes ends a line
 abbrev pub HasNoEnd : List ℕ → Type 0
@@ -32,7 +34,8 @@ pub record BeginSet (bytes : List ℕ) (k : ℕ) (head : SetHead) (runs : List R
 abbrev pub BeginsSome : List ℕ → ℕ → Type 0
 BeginsSome bytes k = (head : SetHead) × (runs : List Run) × BeginSet bytes k head runs
 
--- the text is no set; its first k lines begin some set, and with the line behind them, which may be missing, they do not
+-- the text is no set; its first k lines begin some set, and with the line behind them, which may be
+-- missing, they do not
 pub record IsBadLine (bytes : List ℕ) (k : ℕ) : Type 0 where
   pub no_set : (head : SetHead) (runs : List Run) → IsSetFile bytes head runs → ⊥
   pub before : BeginsSome bytes k

@@ -7,7 +7,12 @@ use Rattle.trap_set.specs.SetText.{SetHead}
 
 -- what the second line says
 abbrev pub head_in : Head → SetHead
-head_in head = record { width = head.width; height = head.height; maxval = head.maxval; plates = head.plates }
+head_in head = record {
+  width = head.width;
+  height = head.height;
+  maxval = head.maxval;
+  plates = head.plates;
+}
 
 -- its numbers have five digits at most
 pub record AreShort (head : SetHead) : Type 0 where
@@ -18,7 +23,12 @@ pub record AreShort (head : SetHead) : Type 0 where
 
 -- the run whose line has these numbers: its row, its column, how many samples it has, and its tints
 abbrev pub run_in : List ℕ → Run
-run_in numbers = record { y = slice_index numbers 0; x = slice_index numbers 1; count = slice_index numbers 2; tints = drop 3 numbers }
+run_in numbers = record {
+  y = slice_index numbers 0;
+  x = slice_index numbers 1;
+  count = slice_index numbers 2;
+  tints = drop 3 numbers;
+}
 
 -- a run whose line has so many numbers, each of five digits at most
 pub record IsShortRun (count : ℕ) (run : Run) : Type 0 where

@@ -1,4 +1,7 @@
-use Rattle.std.specs.Prelude.{◌≡◌, ℕ, zero, suc, ◌+◌, ◌-◌, ◌*◌, ◌/◌, ◌%◌, Bool, false, ◌&&◌, not, nat_le, nat_lt, ◌==◌, List, [], ◌∷◌, ◌++◌, length, slice_index, if◌then◌else◌}
+-- The runs of neighbouring samples that changed in the same way.
+use Rattle.std.specs.Prelude.{◌≡◌, ℕ, zero, suc, ◌+◌, ◌-◌, ◌*◌, ◌/◌, ◌%◌, Bool, false, ◌&&◌, not}
+use Rattle.std.specs.Prelude.{nat_le, nat_lt, ◌==◌, List, [], ◌∷◌, ◌++◌, length, slice_index}
+use Rattle.std.specs.Prelude.{if◌then◌else◌}
 use Rattle.page_model.specs.declared.parts.Plane.{Plane}
 use Rattle.page_model.specs.Planes.{tints_of}
 use Rattle.lists.specs.Words.{any_below, list_below}
@@ -25,12 +28,14 @@ changes old new x y = any_below (λ c. not (tint_at old c x y == tint_at new c x
 
 -- no plane has another tint in column j than in column i of the row
 abbrev pub same_tints : List Plane → ℕ → ℕ → ℕ → Bool
-same_tints planes i j y = not (any_below (λ c. not (tint_at planes c i y == tint_at planes c j y)) (length planes))
+same_tints planes i j y =
+    not (any_below (λ c. not (tint_at planes c i y == tint_at planes c j y)) (length planes))
 
 -- the sample and its left neighbour both change, and have the same new tints
 abbrev pub goes_on : List Plane → List Plane → ℕ → ℕ → Bool
 goes_on old new zero y = false
-goes_on old new (suc x) y = changes old new x y && (changes old new (suc x) y && same_tints new x (suc x) y)
+goes_on old new (suc x) y =
+    changes old new x y && (changes old new (suc x) y && same_tints new x (suc x) y)
 
 -- the sample changes, and is the first of its run
 abbrev pub begins : List Plane → List Plane → ℕ → ℕ → Bool
@@ -43,12 +48,20 @@ run_on old new y x (suc n) = if goes_on old new x y then suc (run_on old new y (
 
 -- the run of which a sample is the first: as far as the samples of the row go on
 abbrev pub run_at : List Plane → List Plane → ℕ → ℕ → Run
-run_at old new x y = record { y = y; x = x; count = suc (run_on old new y (suc x) (wide old - suc x)); tints = list_below (λ c. tint_at new c x y) (length new) }
+run_at old new x y = record {
+  y = y;
+  x = x;
+  count = suc (run_on old new y (suc x) (wide old - suc x));
+  tints = list_below (λ c. tint_at new c x y) (length new);
+}
 
 -- the runs that begin at the first n samples, row by row from the top
 abbrev pub runs_below : List Plane → List Plane → ℕ → List Run
 runs_below old new zero = []
-runs_below old new (suc n) = runs_below old new n ++ (if begins old new (n % wide old) (n / wide old) then run_at old new (n % wide old) (n / wide old) ∷ [] else [])
+runs_below old new (suc n) =
+    runs_below old new n
+    ++ (if begins old new (n % wide old) (n / wide old)
+    then run_at old new (n % wide old) (n / wide old) ∷ [] else [])
 
 -- all runs of the samples that change
 abbrev pub trap_runs : List Plane → List Plane → List Run

@@ -1,4 +1,6 @@
-use Rattle.std.specs.Prelude.{◌≡◌, ◌⊎◌, ℕ, ◌+◌, ◌*◌, ◌<◌, ◌≤◌, List, [], ◌∷◌, ◌++◌, length, map, codes, All, AllPairs}
+-- The text of a set, line by line.
+use Rattle.std.specs.Prelude.{◌≡◌, ◌⊎◌, ℕ, ◌+◌, ◌*◌, ◌<◌, ◌≤◌, List, [], ◌∷◌, ◌++◌, length, map}
+use Rattle.std.specs.Prelude.{codes, All, AllPairs}
 use Rattle.std.specs.Fmt.{decimal}
 use Rattle.std.specs.List.{flat_map}
 use Rattle.page_model.specs.declared.parts.Plane.{Plane}
@@ -24,10 +26,14 @@ abbrev pub title_line : List ℕ
 title_line = line (codes "trap set")
 
 abbrev pub page_line : SetHead → List ℕ
-page_line head = line (codes "page" ++ number head.width ++ number head.height ++ number head.maxval ++ codes " plates" ++ number head.plates)
+page_line head =
+    line (codes "page" ++ number head.width ++ number head.height ++ number head.maxval
+    ++ codes " plates" ++ number head.plates)
 
 abbrev pub run_line : Run → List ℕ
-run_line run = line (codes "run" ++ number run.y ++ number run.x ++ number run.count ++ flat_map number run.tints)
+run_line run =
+    line (codes "run" ++ number run.y ++ number run.x ++ number run.count
+    ++ flat_map number run.tints)
 
 abbrev pub end_line : List ℕ
 end_line = line (codes "end")
@@ -61,7 +67,8 @@ pub record IsRun (head : SetHead) (run : Run) : Type 0 where
 
 -- a run lies behind another: in a later row, or in its row at or after its end
 abbrev pub Follows : Run → Run → Type 0
-Follows earlier later = (earlier.y < later.y) ⊎ ((earlier.y ≡ later.y) × (earlier.x + earlier.count ≤ later.x))
+Follows earlier later = (earlier.y < later.y)
+    ⊎ ((earlier.y ≡ later.y) × (earlier.x + earlier.count ≤ later.x))
 
 -- what a set may hold: runs in their order
 pub record IsSet (head : SetHead) (runs : List Run) : Type 0 where
@@ -76,7 +83,12 @@ pub record IsSetFile (bytes : List ℕ) (head : SetHead) (runs : List Run) : Typ
 
 -- the head of planes of one shape
 abbrev pub head_of : List Plane → SetHead
-head_of planes = record { width = wide planes; height = tall planes; maxval = deep planes; plates = length planes }
+head_of planes = record {
+  width = wide planes;
+  height = tall planes;
+  maxval = deep planes;
+  plates = length planes;
+}
 
 -- the set of what changed between planes of one shape
 abbrev pub set_text : List Plane → List Plane → List ℕ

@@ -1,10 +1,12 @@
 -- Where the reading of a set stands.
-use Rattle.std.specs.Prelude.{◌≡◌, ◌⊎◌, ◌↔◌, ℕ, ◌+◌, ◌*◌, ◌<◌, ◌≤◌, IsTrue, List, ◌∷◌, ◌++◌, length, map, Option, Some, None, Result, Ok, Err, All, AllPairs}
+use Rattle.std.specs.Prelude.{◌≡◌, ◌⊎◌, ◌↔◌, ℕ, ◌+◌, ◌*◌, ◌<◌, ◌≤◌, IsTrue, List, ◌∷◌, ◌++◌, length}
+use Rattle.std.specs.Prelude.{map, Option, Some, None, Result, Ok, Err, All, AllPairs}
 use Rattle.std.specs.List.{flat_map}
 use Rattle.outside.specs.Tray.{TrayState, KeepsTray}
 use Rattle.trap_set.specs.Reading.{head_in, run_in}
 use Rattle.trap_set.specs.Runs.{Run}
-use Rattle.trap_set.specs.SetText.{SetHead, IsHead, IsRun, Follows, end_line, page_line, run_line, title_line}
+use Rattle.trap_set.specs.SetText.{SetHead, IsHead, IsRun, Follows, end_line, page_line, run_line}
+use Rattle.trap_set.specs.SetText.{title_line}
 use Rattle.trap_set.specs.declared.lines.Head.{Head}
 use Rattle.trap_set.specs.declared.steps.Next.{Next}
 use Rattle.trap_set.specs.declared.steps.Next.TheVariants as nexts
@@ -20,7 +22,8 @@ IsPageLine line = (head : SetHead) × IsHead head × (line ≡ page_line head)
 
 -- the last line of a set, or the line of a run that may come at the place
 abbrev pub MayCome : SetHead → Place → List ℕ → Type 0
-MayCome head place line = (line ≡ end_line) ⊎ ((run : Run) × IsRun head run × IsBehind place run × (line ≡ run_line run))
+MayCome head place line = (line ≡ end_line)
+    ⊎ ((run : Run) × IsRun head run × IsBehind place run × (line ≡ run_line run))
 
 -- the page line that was read, where one was
 abbrev pub found_page : {E : Type 0} → Result (Option Head) E → Result (Option (List ℕ)) E

@@ -56,7 +56,7 @@ module _ (t t' : TrayState) (used : ℕ) (line : LineParts) (m n : TrayState) (k
   done_case : (page : PageParts) → AcceptsPage t used (all_samples page) line page → (a b : RackState) (what : Said) → AnswersDone (target_of line) page a b what → IsCase t t' used (all_samples page) line a b what
   done_case page accepts a b said.Done answer = (page, accepts, answer)
   done_case page accepts a b said.TooLarge answer = absurd answer
-  done_case page accepts a b (said.Refused (refusals.Write file)) answer = (page, accepts, answer)
+  done_case page accepts a b (said.Refused (refusals.Write file)) answer = (page, accepts, answer.0, answer.1)
   done_case page accepts a b (said.Refused refusals.Memory) answer = (inr (page, accepts), answer)
   done_case page accepts a b (said.Refused refusals.Usage) answer = absurd answer
   done_case page accepts a b (said.Refused (refusals.Job fault)) answer = absurd answer

@@ -1,13 +1,27 @@
 -- The clauses of the top call, by how it ends.
-use Rattle.std.proofs.Common.{◌≡◌, ◌≢◌, ◌⊎◌, ◌∙◌, ℕ, ◌+◌, List, [], ◌∷◌, ◌++◌, Option, Some, None, IsTrue, inl, inr, refl, sym, ap, subst, arith, append_assoc, append-nil}
-use Rattle.outside.specs.Causes.{Rose}
+use Rattle.std.proofs.Common.{◌≡◌, ◌≢◌, ◌⊎◌, ◌∙◌, ℕ, ◌+◌, List, [], ◌∷◌, ◌++◌, length, Option, Some, None, IsTrue, inl, inr, refl, sym, ap, subst, arith, append_assoc, append-nil}
+use Rattle.outside.specs.Causes.{Rose, Asks}
 use Rattle.outside.specs.Rack.{RackState}
 use Rattle.outside.specs.Tray.{TrayState}
-use Rattle.outside.proofs.Steps.{rose_before, told_on}
+use Rattle.outside.proofs.Names.{asks_none, asks_then}
+use Rattle.outside.proofs.Steps.{rose_before, rose_once, told_on}
+use Rattle.page_model.specs.declared.parts.PageParts.{PageParts}
+use Rattle.page_model.specs.Counts.{page_counts}
+use Rattle.page_model.specs.Page.{plates}
+use Rattle.page_model.specs.Tints.{trapped_planes}
+use Rattle.page_writing.specs.Writing.{FinishesAll, WritesAll}
+use Rattle.page_writing.proofs.Steps.{page_names}
 use Rattle.job_list.specs.Lines.{LineParts}
+use Rattle.trap_pool.specs.declared.outcome.Outcome.{Outcome}
+use Rattle.trap_pool.specs.declared.outcome.Outcome.TheVariants as outcomes
+use Rattle.trap_pool.specs.Pools.{target_of}
+use Rattle.trap_report.specs.Report.{report_of}
+use Rattle.verdicts.specs.Verdicts.{Targets, outcome, written_names}
 use Rattle.trap_pool.specs.Replies.{ReplyParts}
-use Rattle.trappool_cli.specs.Answers.{AnswersAll, AnswersOne, status_with}
-use Rattle.trappool_cli.specs.Clauses.{AnswersLines, IsAnswer, IsStatus, LeavesFiles, RefusedList, Success, Untold, Usage, done_text}
+use Rattle.trappool_cli.specs.Answers.{AllHaveOuts, AnswersAll, AnswersOne, AnswersSaid, status_with}
+use Rattle.trappool_cli.proofs.Outs.{made_outs}
+use Rattle.trappool_cli.proofs.Writing.{as_many_planes}
+use Rattle.trappool_cli.specs.Clauses.{AnswersLines, IsAnswer, IsStatus, LeavesFiles, RefusedList, Success, Untold, Usage, all_written, done_text}
 use Rattle.trappool_cli.specs.Endings.{Ends, fault_status}
 use Rattle.trappool_cli.specs.Endings.Ends.{answered, no_list, no_words}
 use Rattle.trappool_cli.specs.Text.{job_line}
@@ -60,7 +74,7 @@ rose_in k so_far (line ∷ lines) (reply ∷ replies) a b status never (inl one)
     let files = one.2.1.keeps.faults in
     let calm = one.2.2.calm in
     rose_before a.faults one.1.faults b.faults (omega arith) (rose_in (k + 1) (status_with so_far one.0) lines replies one.1 b status (not_six so_far one.0 never) one.3 six)
-rose_in k so_far (line ∷ lines) (reply ∷ replies) a b status never (inr untold) six = rose_before a.faults untold.0.1.faults b.faults untold.0.2.keeps.faults untold.0.3.cause
+rose_in k so_far (line ∷ lines) (reply ∷ replies) a b status never (inr untold) six = rose_before a.faults untold.0.1.faults b.faults untold.0.2.keeps.faults (rose_once untold.0.1.faults b.faults untold.0.3.once)
 
 -- what one line that is done adds to the told text
 told_one : (k : ℕ) (line : LineParts) (reply : ReplyParts) (a b : RackState) (what : Said) → what ≡ said.Done → AnswersOne k line reply a b (Some what) → IsTrue a.tells → IsTrue b.tells × (b.told ≡ a.told ++ job_line k said.Done)
@@ -86,6 +100,39 @@ told_done k (line ∷ lines) (reply ∷ replies) a b status (inl one) is tells =
   ]
 ]
 told_done k (line ∷ lines) (reply ∷ replies) a b status (inr untold) is tells = let six = untold.1 in absurd (omega arith)
+
+-- The files of a page that is written whole are finished.
+page_finished : (target : Targets) (page : PageParts) (a b : RackState) → plates page ≡ length target.outputs → WritesAll (outcome target page) a b → FinishesAll (written_names target) a b
+page_finished target page a b outs wrote = subst (λ (names : List (List ℕ)). FinishesAll names a b)
+    (page_names target.outputs (trapped_planes page) target.report (report_of page (page_counts page)) (as_many_planes page ∙ outs)) wrote.finished
+
+said_finished : (target : Targets) (page : Option PageParts) (outcome : Outcome) (a b : RackState) → ((made : PageParts) → page ≡ Some made → plates made ≡ length target.outputs) → AnswersSaid target page outcome a b said.Done → FinishesAll (written_names target) a b
+said_finished target (Some page) (outcomes.Done trapped) a b outs answer = page_finished target page a b (outs page refl) answer
+said_finished target (Some page) (outcomes.Refused refusal) a b outs answer = absurd answer
+said_finished target (Some page) outcomes.TooLarge a b outs answer = absurd answer
+said_finished target None (outcomes.Done trapped) a b outs answer = absurd answer
+said_finished target None (outcomes.Refused refusal) a b outs answer = absurd answer
+said_finished target None outcomes.TooLarge a b outs answer = absurd answer
+
+-- So are those of all lines, where each is told done.
+finished_done : (k : ℕ) (lines : List LineParts) (replies : List ReplyParts) (a b : RackState) (status : ℕ) → AllHaveOuts lines replies → AnswersAll k 0 lines replies a b status → status ≡ 0 → FinishesAll (all_written lines) a b
+finished_done k [] [] a b status outs all is tells = subst (λ (r : RackState). Asks a.finished r.finished []) (sym all.0) (asks_none a.finished)
+finished_done k [] (reply ∷ replies) a b status outs all is tells = absurd all
+finished_done k (line ∷ lines) [] a b status outs all is tells = absurd all
+finished_done k (line ∷ lines) (reply ∷ replies) a b status outs (inl one) is tells = elim (kind one.0) [
+  | inl done ↦
+      let between = one.2.0 in
+      let wrote = said_finished (target_of line) reply.page reply.outcome a between outs.0 (subst (λ (w : Said). AnswersSaid (target_of line) reply.page reply.outcome a between w) done.0 one.2.1.answer) tells in
+      let first = subst (λ (names : Option (List (List ℕ))). Asks a.finished names (written_names (target_of line))) (sym one.2.2.files.finished) wrote in
+      let kept = told_on between one.1 one.2.2.files.keeps (told_on a between one.2.1.keeps tells) in
+      let rest = finished_done (k + 1) lines replies one.1 b status outs.1 (subst (λ (n : ℕ). AnswersAll (k + 1) n lines replies one.1 b status) done.1 one.3) is kept in
+      asks_then a.finished one.1.finished b.finished (written_names (target_of line)) (all_written lines) first rest
+  | inr bad ↦ elim (refused_on (k + 1) lines replies one.1 b status (subst (λ (n : ℕ). AnswersAll (k + 1) n lines replies one.1 b status) bad one.3)) [
+    | inl nine ↦ absurd (omega arith)
+    | inr six ↦ absurd (omega arith)
+  ]
+]
+finished_done k (line ∷ lines) (reply ∷ replies) a b status outs (inr untold) is tells = let six = untold.1 in absurd (omega arith)
 
 -- the statuses of a list that is refused
 fault_statuses : (fault : ListFault) → (fault_status fault ≡ 3) ⊎ ((fault_status fault ≡ 5) ⊎ (fault_status fault ≡ 7))
@@ -154,7 +201,7 @@ module _ (words : List (List ℕ)) (t t' : TrayState) (r r' : RackState) (status
   pub success : Ends words t t' r r' status → Success words t r r' status
   success (no_words none same refuses) = λ is. absurd (usage_no_answer status refuses.status_is (inl is))
   success (no_list asked fault means made refuses) = λ is. absurd (no_answer fault (subst IsAnswer refuses.status_is (inl is)))
-  success (answered asked lines replies means made all) = λ is. (asked, lines, means, made.1.answer.2, told_done 0 lines replies r r' status all is)
+  success (answered asked lines replies means made all) = λ is. (asked, lines, means, made.1.answer.2, told_done 0 lines replies r r' status all is, finished_done 0 lines replies r r' status (made_outs asked.list lines replies t t' made) all is)
 
   pub untold : Ends words t t' r r' status → Untold r r' status
   untold (no_words none same refuses) = λ is. absurd (usage_no_answer status refuses.status_is (inr (inr is)))

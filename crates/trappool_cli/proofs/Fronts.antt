@@ -12,7 +12,7 @@ use Rattle.job_list.specs.Lists.{IsBadLine, IsList, ReadsList, lines_of, one_mor
 use Rattle.job_list.specs.declared.reading.ListRefusal.{ListRefusal}
 use Rattle.job_list.specs.declared.reading.ListRefusal.TheVariants as refused
 use Rattle.trappool_cli.specs.declared.lines.ListFault.{ListFault}
-use Rattle.trappool_cli.specs.Reading.{AllPaired, AreJobs, Judges, ReadsLines}
+use Rattle.trappool_cli.specs.Reading.{AllPaired, AreJobs, Judges, ReadsLines, TakesList}
 use Rattle.job_list.proofs.Going.{as_many, text_more}
 
 front_of : (rest behind text later : List ℕ) → rest ++ behind ≡ text ++ 10 ∷ later → length text + 1 ≤ length rest → (after : List ℕ) × (rest ≡ text ++ 10 ∷ after)
@@ -32,33 +32,33 @@ longer texts text =
     let three = length-append text (10 ∷ []) in
     omega arith
 
-pub list_of_front : (all : List ℕ) (lines : List LineParts) → IsList (take 1048577 all) lines → IsList all lines
-list_of_front all lines list =
+pub list_of_front : (most : ℕ) (all : List ℕ) (lines : List LineParts) → 1048577 ≤ most → IsList (take most all) lines → IsList all lines
+list_of_front most all lines enough list =
     let short = list.3.short in
-    let long : length (take 1048577 all) ≤ 1048576 = subst (λ (l : List ℕ). length l ≤ 1048576) (sym list.1) short in
-    let few : length all ≤ 1048577 = omega (arith, length-take 1048577 all) in
-    subst (λ (l : List ℕ). IsList l lines) (take_all 1048577 all few) list
+    let long : length (take most all) ≤ 1048576 = subst (λ (l : List ℕ). length l ≤ 1048576) (sym list.1) short in
+    let few : length all ≤ most = omega (arith, enough, length-take most all) in
+    subst (λ (l : List ℕ). IsList l lines) (take_all most all few) list
 
 not_empty : (rest behind : List ℕ) → rest ≢ [] → rest ++ behind ≢ []
 not_empty [] behind some = λ none. some refl
 not_empty (r ∷ rest) behind some = λ none. absurd (cc)
 
-pub bad_of_front : (all : List ℕ) (k : ℕ) → IsBadLine (take 1048577 all) k → IsBadLine all k
-bad_of_front all k bad = record {
+pub bad_of_front : (most : ℕ) (all : List ℕ) (k : ℕ) → 1048577 ≤ most → IsBadLine (take most all) k → IsBadLine all k
+bad_of_front most all k enough bad = record {
   texts = bad.texts;
   lines = bad.lines;
-  rest = bad.rest ++ drop 1048577 all;
-  whole = sym (take-append-drop 1048577 all) ∙ ap (λ (l : List ℕ). l ++ drop 1048577 all) bad.whole ∙ append_assoc (text_of bad.texts) bad.rest (drop 1048577 all);
+  rest = bad.rest ++ drop most all;
+  whole = sym (take-append-drop most all) ∙ ap (λ (l : List ℕ). l ++ drop most all) bad.whole ∙ append_assoc (text_of bad.texts) bad.rest (drop most all);
   good = bad.good;
   place = bad.place;
-  there = λ some. not_empty bad.rest (drop 1048577 all) (bad.there some);
+  there = λ some. not_empty bad.rest (drop most all) (bad.there some);
   bad = λ text behind more same begins.
       let short = begins.short in
       let size = longer bad.texts text in
-      let front : length (take 1048577 all) ≡ length (text_of bad.texts) + length bad.rest = ap length bad.whole ∙ length-append (text_of bad.texts) bad.rest in
-      let sum : length bad.rest + length (drop 1048577 all) ≡ length text + length (10 ∷ behind) = sym (length-append bad.rest (drop 1048577 all)) ∙ ap length same ∙ length-append text (10 ∷ behind) in
-      let long : length text + 1 ≤ length bad.rest = omega (arith, length-take 1048577 all, length-drop 1048577 all) in
-      let found = front_of bad.rest (drop 1048577 all) text behind same long in
+      let front : length (take most all) ≡ length (text_of bad.texts) + length bad.rest = ap length bad.whole ∙ length-append (text_of bad.texts) bad.rest in
+      let sum : length bad.rest + length (drop most all) ≡ length text + length (10 ∷ behind) = sym (length-append bad.rest (drop most all)) ∙ ap length same ∙ length-append text (10 ∷ behind) in
+      let long : length text + 1 ≤ length bad.rest = omega (arith, enough, length-take most all, length-drop most all) in
+      let found = front_of bad.rest (drop most all) text behind same long in
       bad.bad text found.0 more found.1 begins;
 }
 
@@ -100,18 +100,20 @@ list_jobs bytes lines list =
     (omega arith, texts_paired list.0 lines list.3.read)
 
 -- A list that was read is judged.
-pub read_judged : (name : List ℕ) (a b : TrayState) (bytes : List ℕ) (read : Result (List LineParts) ListRefusal) (result : Result (List LineParts) ListFault) → KeepsTray a b → Asks a.asked b.asked (name ∷ []) → b.faults ≡ a.faults → (IsTrue a.tells → TakesFront name 1048577 a b bytes) → ReadsList bytes read → Judges read result → ReadsLines name a b result
-read_judged name a b bytes (Ok lines) result keeps asked calm taken reads is =
+pub read_judged : (most : ℕ) (name : List ℕ) (a b : TrayState) (bytes : List ℕ) (read : Result (List LineParts) ListRefusal) (result : Result (List LineParts) ListFault) → KeepsTray a b → Asks a.asked b.asked (name ∷ []) → TakesList name a b → b.faults ≡ a.faults → (IsTrue a.tells → TakesFront name most a b bytes) → ReadsList bytes read → Judges read result → 1048577 ≤ most → ReadsLines name a b result
+read_judged most name a b bytes (Ok lines) result keeps asked few calm taken reads is enough =
     subst (ReadsLines name a b) (sym is) (record {
       keeps = keeps;
       asked = asked;
-      answer = (calm, list_jobs bytes lines reads, λ tells. let front = taken tells in (front.all, front.found, list_of_front front.all lines (subst (λ (l : List ℕ). IsList l lines) front.taken reads)));
+      few = few;
+      answer = (calm, list_jobs bytes lines reads, λ tells. let front = taken tells in (front.all, front.found, list_of_front most front.all lines enough (subst (λ (l : List ℕ). IsList l lines) front.taken reads)));
     })
-read_judged name a b bytes (Err (refused.BadLine k)) result keeps asked calm taken reads is =
+read_judged most name a b bytes (Err (refused.BadLine k)) result keeps asked few calm taken reads is enough =
     subst (ReadsLines name a b) (sym is) (record {
       keeps = keeps;
       asked = asked;
-      answer = (calm, λ tells. let front = taken tells in (front.all, front.found, bad_of_front front.all k (subst (λ (l : List ℕ). IsBadLine l k) front.taken reads)));
+      few = few;
+      answer = (calm, λ tells. let front = taken tells in (front.all, front.found, bad_of_front most front.all k enough (subst (λ (l : List ℕ). IsBadLine l k) front.taken reads)));
     })
-read_judged name a b bytes (Err refused.OutOfMemory) result keeps asked calm taken reads is =
-    subst (ReadsLines name a b) (sym is) (record { keeps = keeps; asked = asked; answer = calm })
+read_judged most name a b bytes (Err refused.OutOfMemory) result keeps asked few calm taken reads is enough =
+    subst (ReadsLines name a b) (sym is) (record { keeps = keeps; asked = asked; few = few; answer = calm })

@@ -4,6 +4,7 @@ use Rattle.outside.specs.Causes.{Rose, Asks}
 use Rattle.outside.specs.Rack.{RackState}
 use Rattle.outside.specs.Tray.{TrayState}
 use Rattle.outside.proofs.Names.{asks_all}
+use Rattle.outside.proofs.Steps.{rose_once}
 use Rattle.page_gather.specs.Inputs.{Holds, one_page}
 use Rattle.job_list.specs.Lines.{LineParts}
 use Rattle.job_list.specs.Lists.{IsBadLine, IsList, OneReading}
@@ -13,7 +14,7 @@ use Rattle.trappool_cli.specs.Clauses.{Answered, AnswersEach, BeginsList, Comple
 use Rattle.trappool_cli.specs.Answers.{AnswersAll}
 use Rattle.trappool_cli.specs.Endings.{Ends}
 use Rattle.trappool_cli.specs.Endings.Ends.{answered, no_list, no_words}
-use Rattle.trappool_cli.specs.Reading.{MakesReplies}
+use Rattle.trappool_cli.specs.Reading.{MakesReplies, TakesList}
 use Rattle.trappool_cli.specs.Text.{bad_line}
 use Rattle.trappool_cli.specs.Words.{AskedWords, asked_of}
 use Rattle.trappool_cli.specs.declared.answering.Said.{Said}
@@ -48,12 +49,12 @@ same_line law name t t' j k tells bad (inl reads) =
 same_line law name t t' j k tells bad (inr full) = let never = full.0 in absurd (cc)
 
 unread_rose : (name : List ℕ) (t t' : TrayState) → MakesReplies name t t' (Err NotRead) → Rose t.faults t'.faults
-unread_rose name t t' (inl reads) = reads.answer
+unread_rose name t t' (inl reads) = rose_once t.faults t'.faults reads.answer
 unread_rose name t t' (inr full) = let never = full.0 in absurd (cc)
 
-asked_list : (name : List ℕ) (t t' : TrayState) (fault : ListFault) → MakesReplies name t t' (Err fault) → Asks t.asked t'.asked (name ∷ [])
-asked_list name t t' fault (inl reads) = reads.asked
-asked_list name t t' fault (inr full) = full.2.asked
+list_taken : (name : List ℕ) (t t' : TrayState) (fault : ListFault) → MakesReplies name t t' (Err fault) → Asks t.asked t'.asked (name ∷ []) × TakesList name t t'
+list_taken name t t' fault (inl reads) = (reads.asked, reads.few)
+list_taken name t t' fault (inr full) = (full.2.asked, full.2.few)
 
 bad_list_read : OneReading → (name : List ℕ) (t t' : TrayState) (lines : List LineParts) (replies : List ReplyParts) (k : ℕ) → IsTrue t.tells → Holds t.file name (λ bytes. IsBadLine bytes k) → MakesReplies name t t' (Ok (lines, replies)) → ⊥
 bad_list_read law name t t' lines replies k tells bad made =
@@ -110,7 +111,7 @@ module _ (words : List (List ℕ)) (t t' : TrayState) (r r' : RackState) (status
   pub begins_list : Ends words t t' r r' status → BeginsList words t t' status
   begins_list (no_words none same refuses) asked means other = absurd (both words t t' r r' status asked means none)
   begins_list (no_list made_for fault also made refuses) asked means other =
-      subst (λ (a : AskedWords). Asks t.asked t'.asked (a.list ∷ [])) (one_meaning words made_for asked also means) (asked_list made_for.list t t' fault made)
+      subst (λ (a : AskedWords). Asks t.asked t'.asked (a.list ∷ []) × TakesList a.list t t') (one_meaning words made_for asked also means) (list_taken made_for.list t t' fault made)
   begins_list (answered made_for lines replies also made all) asked means other = absurd (other (answer_status 0 lines replies r r' status all))
 
   all_answered : OneVerdict one_page → (asked : AskedWords) (lines : List LineParts) (replies : List ReplyParts) → MakesReplies asked.list t t' (Ok (lines, replies)) → AnswersAll 0 0 lines replies r r' status → (whats : List Said) × Answered asked t t' r r' status lines whats

@@ -3,14 +3,14 @@ use Rattle.std.proofs.Common.{◌≡◌, ◌∙◌, ℕ, ◌+◌, min, List, ◌
 use Rattle.std.proofs.Math.Seq.{take-append-add}
 use Rattle.std.proofs.lemmas.List.{take-append-le, take_min}
 use Rattle.outside.specs.Rack.{RackState, Tells}
-use Rattle.outside.proofs.Steps.{kept_then, rose_before, told_on}
+use Rattle.outside.proofs.Steps.{kept_then, once_before, told_on}
 use Rattle.trappool_cli.specs.Answers.{TellsPart, TellsWhole}
 
 -- A front of the first piece is told.
 pub told_none : {T E : Type 0} (name text : List ℕ) (a b : RackState) (e : E) → Tells {T = T} {E = E} name a b (Err e) → TellsPart (name ++ text) a b
 told_none name text a b e one = record {
   files = record { keeps = one.keeps; asked = one.asked; finished = one.finished; is_open = one.is_open; files = one.files };
-  cause = one.cause;
+  once = one.once;
   told = λ tells.
       let part = one.part tells in
       let count = min part.0 (length name) in
@@ -29,7 +29,7 @@ module _ {T E U V : Type 0} (name text : List ℕ) (a b c : RackState) where
   pub told_first : (x : T) (e : V) → Tells {T = T} {E = E} name a b (Ok x) → Tells {T = U} {E = V} text b c (Err e) → TellsPart (name ++ text) a c
   told_first x e one two = record {
     files = record { keeps = kept_then a b c one.keeps two.keeps; asked = two.asked ∙ one.asked; finished = two.finished ∙ one.finished; is_open = two.is_open ∙ one.is_open; files = λ tells. two.files (told_on a b one.keeps tells) ∙ one.files tells };
-    cause = rose_before a.faults b.faults c.faults one.keeps.faults two.cause;
+    once = once_before a.faults b.faults c.faults one.well two.once;
     told = λ tells.
         let part = two.part (told_on a b one.keeps tells) in
         (length name + part.0, part.1 ∙ ap (λ (l : List ℕ). l ++ take part.0 text) (one.told tells) ∙ append_assoc a.told name (take part.0 text) ∙ ap (λ (l : List ℕ). a.told ++ l) (sym (take-append-add name text part.0)));

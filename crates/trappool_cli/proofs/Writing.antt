@@ -70,7 +70,7 @@ said_of (Err refusal) = said.Refused refusal
 module _ {T : Type 0} (line : LineParts) (page : PageParts) (a b : RackState) where
   written_as : (result : Result T Refusal) → WritesPage line.outs (trapped_planes page) line.report (report_of page (page_counts page)) a b result → AnswersDone (target_of line) page a b (said_of result)
   written_as (Ok x) wrote = wrote.answer
-  written_as (Err (refusals.Write file)) wrote = wrote.answer
+  written_as (Err (refusals.Write file)) wrote = (wrote.answer, wrote.once)
   written_as (Err refusals.Usage) wrote = absurd wrote.answer
   written_as (Err (refusals.Job fault)) wrote = absurd wrote.answer
   written_as (Err (refusals.NoDetails k)) wrote = absurd wrote.answer

@@ -1,6 +1,7 @@
 -- How the lines of a list are answered: files are written, and a line is told.
-use Rattle.std.specs.Prelude.{◌≡◌, ◌⊎◌, ℕ, ◌+◌, IsTrue, List, [], ◌∷◌, ◌++◌, length, take, Option, Some, None}
-use Rattle.outside.specs.Causes.{Rose, AsksFront}
+use Rattle.std.specs.Prelude.{◌≡◌, ◌⊎◌, ℕ, ◌+◌, IsTrue, List, [], ◌∷◌, ◌++◌, length, take, Option}
+use Rattle.std.specs.Prelude.{Some, None}
+use Rattle.outside.specs.Causes.{RoseOnce, AsksFront}
 use Rattle.outside.specs.Rack.{RackState, KeepsRack}
 use Rattle.page_model.specs.declared.parts.PageParts.{PageParts}
 use Rattle.page_model.specs.Page.{plates}
@@ -18,22 +19,30 @@ use Rattle.trappool_cli.specs.declared.answering.Said.{Said}
 use Rattle.trappool_cli.specs.declared.answering.Said.TheVariants as said
 use Rattle.trappool_cli.specs.Text.{job_line}
 
--- A page that is done is written, unless the rack has a fault or there is no memory for its report.
+-- A page that is done is written, unless one call of the rack failed or there is no memory for its
+-- report.
 abbrev pub AnswersDone : Targets → PageParts → RackState → RackState → Said → Type 0
 AnswersDone target page before after said.Done = WritesAll (outcome target page) before after
-AnswersDone target page before after (said.Refused (refusals.Write file)) = Breaks (length target.outputs) (outcome target page) file before after
+AnswersDone target page before after (said.Refused (refusals.Write file)) =
+    Breaks (length target.outputs) (outcome target page) file before after
+    × RoseOnce before.faults after.faults
 AnswersDone target page before after (said.Refused refusals.Memory) = after ≡ before
 AnswersDone target page before after other = ⊥
 
--- What becomes of the files, and what is said: a page that is done is written, unless the rack has a fault or there is no memory for its report; all else is said as it is, and no file is touched.
-abbrev pub AnswersSaid : Targets → Option PageParts → Outcome → RackState → RackState → Said → Type 0
-AnswersSaid target (Some page) (outcomes.Done trapped) before after what = AnswersDone target page before after what
-AnswersSaid target page (outcomes.Refused refusal) before after (said.Refused other) = (other ≡ refusal) × (after ≡ before)
+-- What becomes of the files, and what is said: a page that is done is written, unless the rack has
+-- a fault or there is no memory for its report; all else is said as it is, and no file is touched.
+abbrev pub AnswersSaid : Targets → Option PageParts → Outcome → RackState → RackState → Said
+    → Type 0
+AnswersSaid target (Some page) (outcomes.Done trapped) before after what =
+    AnswersDone target page before after what
+AnswersSaid target page (outcomes.Refused refusal) before after (said.Refused other) =
+    (other ≡ refusal) × (after ≡ before)
 AnswersSaid target page outcomes.TooLarge before after said.TooLarge = after ≡ before
 AnswersSaid target page outcome before after other = ⊥
 
 -- The files of a line are written, as far as they are; no text is told.
-pub record WritesReply (line : LineParts) (reply : ReplyParts) (before after : RackState) (said : Said) : Type 0 where
+pub record WritesReply (line : LineParts) (reply : ReplyParts) (before after : RackState)
+    (said : Said) : Type 0 where
   pub keeps : KeepsRack before after
   pub told : IsTrue before.tells → after.told ≡ before.told
   pub asked : AsksFront before.asked after.asked (written_names (target_of line))
@@ -51,7 +60,8 @@ AllHaveOuts [] (reply ∷ replies) = ⊥
 AllHaveOuts (line ∷ lines) [] = ⊥
 
 -- The files of a line whose page is done are written, as far as they are.
-pub record WritesDone (line : LineParts) (page : PageParts) (before after : RackState) (said : Said) : Type 0 where
+pub record WritesDone (line : LineParts) (page : PageParts) (before after : RackState)
+    (said : Said) : Type 0 where
   pub keeps : KeepsRack before after
   pub told : IsTrue before.tells → after.told ≡ before.told
   pub asked : AsksFront before.asked after.asked (written_names (target_of line))
@@ -63,16 +73,18 @@ pub record TellsWhole (text : List ℕ) (before after : RackState) : Type 0 wher
   pub calm : after.faults ≡ before.faults
   pub told : IsTrue before.tells → after.told ≡ before.told ++ text
 
--- The rack has a fault: a front of the text is told.
+-- One call of the rack failed: a prefix of the text is told.
 pub record TellsPart (text : List ℕ) (before after : RackState) : Type 0 where
   pub files : KeepsFiles before after
-  pub cause : Rose before.faults after.faults
+  pub once : RoseOnce before.faults after.faults
   pub told : IsTrue before.tells → (count : ℕ) × (after.told ≡ before.told ++ take count text)
 
 -- Line k is answered, and told if there is something said.
 abbrev pub AnswersOne : ℕ → LineParts → ReplyParts → RackState → RackState → Option Said → Type 0
-AnswersOne k line reply before after (Some said) = (between : RackState) × WritesReply line reply before between said × TellsWhole (job_line k said) between after
-AnswersOne k line reply before after None = (said : Said) × (between : RackState) × WritesReply line reply before between said × TellsPart (job_line k said) between after
+AnswersOne k line reply before after (Some said) = (between : RackState)
+    × WritesReply line reply before between said × TellsWhole (job_line k said) between after
+AnswersOne k line reply before after None = (said : Said) × (between : RackState)
+    × WritesReply line reply before between said × TellsPart (job_line k said) between after
 
 -- the status, after what is said of one line more
 abbrev pub status_with : ℕ → Said → ℕ
@@ -80,9 +92,14 @@ status_with status said.Done = status
 status_with status (said.Refused refusal) = lines_refused
 status_with status said.TooLarge = lines_refused
 
--- The lines from number k on are answered one after another; the first that cannot be told is the last.
-abbrev pub AnswersAll : ℕ → ℕ → List LineParts → List ReplyParts → RackState → RackState → ℕ → Type 0
+-- The lines from number k on are answered one after another; the first that cannot be told is the
+-- last.
+abbrev pub AnswersAll : ℕ → ℕ → List LineParts → List ReplyParts → RackState → RackState → ℕ
+    → Type 0
 AnswersAll k so_far [] [] before after status = (after ≡ before) × (status ≡ so_far)
 AnswersAll k so_far [] (reply ∷ replies) before after status = ⊥
 AnswersAll k so_far (line ∷ lines) [] before after status = ⊥
-AnswersAll k so_far (line ∷ lines) (reply ∷ replies) before after status = ((said : Said) × (between : RackState) × AnswersOne k line reply before between (Some said) × AnswersAll (k + 1) (status_with so_far said) lines replies between after status) ⊎ (AnswersOne k line reply before after None × (status ≡ not_written))
+AnswersAll k so_far (line ∷ lines) (reply ∷ replies) before after status =
+    ((said : Said) × (between : RackState) × AnswersOne k line reply before between (Some said)
+    × AnswersAll (k + 1) (status_with so_far said) lines replies between after status)
+    ⊎ (AnswersOne k line reply before after None × (status ≡ not_written))

@@ -1,6 +1,6 @@
 -- What becomes of each line of a list, beside the verdict on its files.
 use Rattle.std.specs.Prelude.{◌≡◌, ◌⊎◌, ℕ, ◌+◌, ◌<◌, ◌≤◌, IsTrue, List, [], ◌∷◌, length, Option, Ok}
-use Rattle.outside.specs.Causes.{Rose, AsksFront}
+use Rattle.outside.specs.Causes.{Rose, RoseOnce, AsksFront}
 use Rattle.outside.specs.Rack.{RackState, KeepsRack}
 use Rattle.outside.specs.Tray.{TrayState}
 use Rattle.page_gather.specs.Inputs.{Makes, one_page}
@@ -11,7 +11,8 @@ use Rattle.trap_pool.specs.Pools.{source_of, target_of}
 use Rattle.trap_pool.specs.Replies.{all_samples, most_in_all}
 use Rattle.trap_report.specs.declared.refusal.Refusal.TheVariants as refusals
 use Rattle.trap_report.specs.Statuses.{not_written}
-use Rattle.verdicts.specs.Verdicts.{IsVerdict, Out, Refused as refused_verdict, outcome, written_names}
+use Rattle.verdicts.specs.Verdicts.{IsVerdict, Out, Refused as refused_verdict, outcome}
+use Rattle.verdicts.specs.Verdicts.{written_names}
 use Rattle.trappool_cli.specs.Answers.{TellsPart, TellsWhole, status_with}
 use Rattle.trappool_cli.specs.Text.{job_line}
 use Rattle.trappool_cli.specs.declared.answering.Said.{Said}
@@ -20,37 +21,66 @@ use Rattle.trappool_cli.specs.declared.answering.Said.TheVariants as said
 -- The line's files make this page, so that their verdict is its outcome.
 pub record MakesPage (tray : TrayState) (line : LineParts) (page : PageParts) : Type 0 where
   pub made : IsTrue tray.tells → Makes one_page tray.file (source_of line) (Ok page)
-  pub verdict : IsTrue tray.tells → IsVerdict one_page tray.file (source_of line) (target_of line) (Out (outcome (target_of line) page))
+  pub verdict : IsTrue tray.tells
+      → IsVerdict one_page tray.file (source_of line) (target_of line)
+      (Out (outcome (target_of line) page))
 
--- And it is accepted: behind so many samples of the accepted pages before it, its own are not too many.
-pub record AcceptsPage (tray : TrayState) (used taken : ℕ) (line : LineParts) (page : PageParts) : Type 0 where
+-- And it is accepted: after so many samples of the accepted pages before it, its own are not too
+-- many.
+pub record AcceptsPage (tray : TrayState) (used taken : ℕ) (line : LineParts)
+    (page : PageParts) : Type 0 where
   pub is_made : MakesPage tray line page
   pub room : used + all_samples page ≤ most_in_all
   pub samples : taken ≡ all_samples page
 
--- The cases of a line, by what is said of it: its files are those of the verdict; its page is too large behind the accepted ones before it; a write failed, and the files are written as far as that; there was no memory; a read failed, and the tray's count rose; or its refusal is the verdict. Where it is refused without a failed write, no file is touched.
-abbrev pub IsCase : TrayState → TrayState → ℕ → ℕ → LineParts → RackState → RackState → Said → Type 0
-IsCase tray tray' used taken line before after said.Done = (page : PageParts) × AcceptsPage tray used taken line page × WritesAll (outcome (target_of line) page) before after
-IsCase tray tray' used taken line before after said.TooLarge = (page : PageParts) × MakesPage tray line page × (most_in_all < used + all_samples page) × (taken ≡ 0) × (after ≡ before)
-IsCase tray tray' used taken line before after (said.Refused (refusals.Write file)) = (page : PageParts) × AcceptsPage tray used taken line page × Breaks (length line.outs) (outcome (target_of line) page) file before after
-IsCase tray tray' used taken line before after (said.Refused refusals.Memory) = ((taken ≡ 0) ⊎ ((page : PageParts) × AcceptsPage tray used taken line page)) × (after ≡ before)
-IsCase tray tray' used taken line before after (said.Refused (refusals.Read file)) = Rose tray.faults tray'.faults × (taken ≡ 0) × (after ≡ before)
+-- The cases of a line, by what is said of it: its files are those of the verdict; its page is too
+-- large after the accepted ones before it; one write failed, and the files are written as far as
+-- that; there was no memory; a read failed, and the tray's count rose; or its refusal is the
+-- verdict. Where it is refused without a failed write, no file is touched.
+abbrev pub IsCase : TrayState → TrayState → ℕ → ℕ → LineParts → RackState → RackState → Said
+    → Type 0
+IsCase tray tray' used taken line before after said.Done = (page : PageParts)
+    × AcceptsPage tray used taken line page × WritesAll (outcome (target_of line) page) before after
+IsCase tray tray' used taken line before after said.TooLarge = (page : PageParts)
+    × MakesPage tray line page × (most_in_all < used + all_samples page) × (taken ≡ 0)
+    × (after ≡ before)
+IsCase tray tray' used taken line before after (said.Refused (refusals.Write file)) =
+    (page : PageParts) × AcceptsPage tray used taken line page
+    × Breaks (length line.outs) (outcome (target_of line) page) file before after
+    × RoseOnce before.faults after.faults
+IsCase tray tray' used taken line before after (said.Refused refusals.Memory) =
+    ((taken ≡ 0) ⊎ ((page : PageParts) × AcceptsPage tray used taken line page)) × (after ≡ before)
+IsCase tray tray' used taken line before after (said.Refused (refusals.Read file)) =
+    Rose tray.faults tray'.faults × (taken ≡ 0) × (after ≡ before)
 IsCase tray tray' used taken line before after (said.Refused refusals.Usage) = ⊥
-IsCase tray tray' used taken line before after (said.Refused refusal) = (IsTrue tray.tells → IsVerdict one_page tray.file (source_of line) (target_of line) (refused_verdict refusal)) × (taken ≡ 0) × (after ≡ before)
+IsCase tray tray' used taken line before after (said.Refused refusal) =
+    (IsTrue tray.tells
+    → IsVerdict one_page tray.file (source_of line) (target_of line) (refused_verdict refusal))
+    × (taken ≡ 0) × (after ≡ before)
 
--- A line is in one of the cases. No text is told, and the names that are handed to `create` are the first of its outputs and its report.
-pub record LineEnds (tray tray' : TrayState) (used taken : ℕ) (line : LineParts) (before after : RackState) (what : Said) : Type 0 where
+-- A line is in one of the cases. No text is told, and the names that are handed to `create` are the
+-- first of its outputs and its report.
+pub record LineEnds (tray tray' : TrayState) (used taken : ℕ) (line : LineParts)
+    (before after : RackState) (what : Said) : Type 0 where
   pub keeps : KeepsRack before after
   pub told : IsTrue before.tells → after.told ≡ before.told
   pub asked : AsksFront before.asked after.asked (written_names (target_of line))
   pub ends : IsCase tray tray' used taken line before after what
 
--- The lines from number k on end one after another, and of each is told what is said of it. The first that cannot be told is the last of which something is said; what comes later is not touched.
-abbrev pub LinesEnd : TrayState → TrayState → ℕ → ℕ → ℕ → List LineParts → List Said → RackState → RackState → ℕ → Type 0
+-- The lines from number k on end one after another, and of each is told what is said of it. The
+-- first that cannot be told is the last of which something is said; what comes later is not
+-- touched.
+abbrev pub LinesEnd : TrayState → TrayState → ℕ → ℕ → ℕ → List LineParts → List Said → RackState
+    → RackState → ℕ → Type 0
 LinesEnd tray tray' k used so_far [] [] before after status = (after ≡ before) × (status ≡ so_far)
 LinesEnd tray tray' k used so_far [] (what ∷ whats) before after status = ⊥
 LinesEnd tray tray' k used so_far (line ∷ lines) [] before after status = ⊥
-LinesEnd tray tray' k used so_far (line ∷ lines) (what ∷ whats) before after status = (taken : ℕ) × (between : RackState) × LineEnds tray tray' used taken line before between what × (((next : RackState) × TellsWhole (job_line k what) between next × LinesEnd tray tray' (k + 1) (used + taken) (status_with so_far what) lines whats next after status) ⊎ (TellsPart (job_line k what) between after × (whats ≡ []) × (status ≡ not_written)))
+LinesEnd tray tray' k used so_far (line ∷ lines) (what ∷ whats) before after status = (taken : ℕ)
+    × (between : RackState) × LineEnds tray tray' used taken line before between what
+    × (((next : RackState) × TellsWhole (job_line k what) between next
+    × LinesEnd tray tray' (k + 1) (used + taken)
+    (status_with so_far what) lines whats next after status)
+    ⊎ (TellsPart (job_line k what) between after × (whats ≡ []) × (status ≡ not_written)))
 
 -- 1 where a failed read is told
 abbrev pub read_line : Said → ℕ
@@ -73,6 +103,8 @@ write_lines [] = 0
 write_lines (what ∷ whats) = write_line what + write_lines whats
 
 -- Of each group of names, one after another, the first so many are handed out.
-abbrev pub AsksFronts : Option (List (List ℕ)) → Option (List (List ℕ)) → List (List (List ℕ)) → Type 0
+abbrev pub AsksFronts : Option (List (List ℕ)) → Option (List (List ℕ)) → List (List (List ℕ))
+    → Type 0
 AsksFronts before after [] = after ≡ before
-AsksFronts before after (names ∷ groups) = (between : Option (List (List ℕ))) × AsksFront before between names × AsksFronts between after groups
+AsksFronts before after (names ∷ groups) = (between : Option (List (List ℕ)))
+    × AsksFront before between names × AsksFronts between after groups

@@ -33,7 +33,14 @@ fault_status NotRead = not_read
 fault_status Memory = out_of_memory
 
 -- The words mean nothing; or the list is refused; or its lines are answered.
-pub data Ends (words : List (List ℕ)) (tray tray' : TrayState) (rack rack' : RackState) (status : ℕ) : Type 0 where
-  no_words : asked_of words ≡ None → tray' ≡ tray → Refuses usage_line usage rack rack' status → Ends words tray tray' rack rack' status
-  no_list : (asked : AskedWords) (fault : ListFault) → asked_of words ≡ Some asked → MakesReplies asked.list tray tray' (Err fault) → Refuses (fault_line fault) (fault_status fault) rack rack' status → Ends words tray tray' rack rack' status
-  answered : (asked : AskedWords) (lines : List LineParts) (replies : List ReplyParts) → asked_of words ≡ Some asked → MakesReplies asked.list tray tray' (Ok (lines, replies)) → AnswersAll 0 0 lines replies rack rack' status → Ends words tray tray' rack rack' status
+pub data Ends (words : List (List ℕ)) (tray tray' : TrayState) (rack rack' : RackState)
+    (status : ℕ) : Type 0 where
+  no_words : asked_of words ≡ None → tray' ≡ tray → Refuses usage_line usage rack rack' status
+      → Ends words tray tray' rack rack' status
+  no_list : (asked : AskedWords) (fault : ListFault) → asked_of words ≡ Some asked
+      → MakesReplies asked.list tray tray' (Err fault)
+      → Refuses (fault_line fault) (fault_status fault) rack rack' status
+      → Ends words tray tray' rack rack' status
+  answered : (asked : AskedWords) (lines : List LineParts) (replies : List ReplyParts)
+      → asked_of words ≡ Some asked → MakesReplies asked.list tray tray' (Ok (lines, replies))
+      → AnswersAll 0 0 lines replies rack rack' status → Ends words tray tray' rack rack' status

@@ -11,7 +11,7 @@ said_text Done = line (codes "done")
 said_text TooLarge = line (codes "TooLarge")
 said_text (Refused refusal) = line_of refusal
 
--- the front of the line that is told of a job of the list
+-- the prefix of the line that is told of a job of the list
 abbrev pub job_name : ℕ → List ℕ
 job_name number = codes "job " ++ decimal number ++ codes ": "
 

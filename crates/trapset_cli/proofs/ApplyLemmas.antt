@@ -10,6 +10,7 @@ use Rattle.page_gather.specs.Steps.{AnswersPlates, ReadsPlates}
 use Rattle.page_gather.proofs.GatherLemmas.{refused_count}
 use Rattle.page_model.specs.declared.parts.Plane.{Plane}
 use Rattle.page_writing.specs.Files.{plate_files}
+use Rattle.page_writing.specs.Writing.{FinishesAll}
 use Rattle.page_writing.proofs.Steps.{plates_length, plates_names}
 use Rattle.pgm_plates.specs.declared.plate.Plate.{Plate as PlateRead}
 use Rattle.pgm_plates.specs.Planes.{plane_of}
@@ -17,14 +18,14 @@ use Rattle.plain_words.specs.Parts.{CopyNames, copy_of}
 use Rattle.trapset_cli.specs.declared.cause.Cause.{Cause}
 use Rattle.trapset_cli.specs.declared.cause.Cause.TheVariants as causes
 use Rattle.trapset_cli.specs.Commands.{inputs_of, read_names}
-use Rattle.trapset_cli.specs.Endings.{Answers, CarriesOut, NotRead}
+use Rattle.trapset_cli.specs.Endings.{Answers, CarriesOut, NotRead, SetInHand}
 use Rattle.trapset_cli.specs.Putting.{AnswersPatch, AreInRange, Patches, PatchesPlanes, PutsPlates, ReadsPlanes}
 use Rattle.trapset_cli.proofs.PlanesInRange.{kept_in_range, read_in_range}
 use Rattle.trapset_cli.proofs.TrapsLemmas.{nothing_written}
-use Rattle.set_words.specs.Words.{ApplyWords, Apply, outputs_of}
+use Rattle.trapset_cli.specs.Words.{ApplyWords, Apply, outputs_of}
 use Rattle.trap_report.specs.declared.refusal.Refusal.{Refusal}
 use Rattle.trap_report.specs.declared.refusal.Refusal.TheVariants as refusals
-use Rattle.trap_set.specs.Applying.{AppliesSet}
+use Rattle.trap_set.specs.Applying.{AppliesSet, EndsWith}
 use Rattle.trap_set.specs.declared.apply.SetRefusal.{SetRefusal}
 use Rattle.trap_set.specs.declared.apply.SetRefusal.TheVariants as set_refusals
 
@@ -168,19 +169,33 @@ module _ (words : ApplyWords) (a b c : TrayState) (old : List Plane) (reads : Re
   patch_answer (Err (causes.Page refusal)) app = absurd app
   patch_answer (Err causes.SetUnwritten) app = absurd app
 
-  set_asked : (result : Result (List Plane) Cause) → Patches words.set old b c result → Asks b.asked c.asked (words.set ∷ [])
-  set_asked (Ok new) app = app.asked
-  set_asked (Err (causes.BadLine n)) (new, app) = app.asked
-  set_asked (Err causes.Differs) (new, app) = app.asked
-  set_asked (Err causes.SetUnread) (new, app) = app.asked
-  set_asked (Err causes.NoCommand) app = absurd app
-  set_asked (Err (causes.Page refusal)) app = absurd app
-  set_asked (Err causes.SetUnwritten) app = absurd app
+  -- what was taken of the set, whatever its answer
+  abbrev SetTaken : Type 0
+  SetTaken = Asks b.asked c.asked (words.set ∷ []) × (IsTrue c.begun → IsTrue b.tells → (bytes : List ℕ) × (b.file words.set ≡ Some bytes) × EndsWith bytes c.left)
+
+  set_taken : (result : Result (List Plane) Cause) → Patches words.set old b c result → SetTaken
+  set_taken (Ok new) app = (app.asked, app.taken)
+  set_taken (Err (causes.BadLine n)) (new, app) = (app.asked, app.taken)
+  set_taken (Err causes.Differs) (new, app) = (app.asked, app.taken)
+  set_taken (Err causes.SetUnread) (new, app) = (app.asked, app.taken)
+  set_taken (Err causes.NoCommand) app = absurd app
+  set_taken (Err (causes.Page refusal)) app = absurd app
+  set_taken (Err causes.SetUnwritten) app = absurd app
+
+  set_in_hand : SetTaken → SetInHand words a c
+  set_in_hand set = record {
+    asked = all_asked set.0;
+    planes = old;
+    read = reads.answer.2;
+    taken = λ begun tells.
+        let here = set.1 begun (reads.keeps.tells ∙ tells) in
+        (here.0, same_file here.0 here.1, here.2);
+  }
 
   set_put_on : (result : Result (List Plane) Cause) → Patches words.set old b c result → PatchesPlanes words a c result
   set_put_on result app =
-      let asked = all_asked (set_asked result app) in
-      record { asked = asks_all a.asked c.asked (read_names (Apply words)) asked; in_hand = inr (inr asked); answer = patch_answer result app }
+      let set = set_taken result app in
+      record { asked = asks_all a.asked c.asked (read_names (Apply words)) (all_asked set.0); in_hand = inr (inr (set_in_hand set)); answer = patch_answer result app }
 
 pub plates_patched : (words : ApplyWords) (a b c : TrayState) (names : List (List ℕ)) (old : List Plane) (result : Result (List Plane) Cause) → names ≡ inputs_of words → ReadsPlanes names a b (Ok old) → Patches words.set old b c result → PatchesPlanes words a c result
 plates_patched words a b c names old result named reads app = set_put_on words a b c old (subst (λ (ns : List (List ℕ)). ReadsPlanes ns a b (Ok old)) named reads) result app
@@ -210,16 +225,20 @@ module _ (words : ApplyWords) (planes : List Plane) (a b : TrayState) (r r' : Ra
     some = omega (arith, plates_length (outputs_of words.plates) planes (omega (arith, in_all)), in_words, some);
     wrote = puts.answer;
     created = subst (λ (names : List (List ℕ)). Asks r.asked r'.asked names) (plates_names (outputs_of words.plates) planes in_all) puts.answer.asked;
+    finished = subst (λ (names : List (List ℕ)). FinishesAll names r r') (plates_names (outputs_of words.plates) planes in_all) puts.answer.finished;
   }
-  wrote_answer (Err (causes.Page (refusals.Write (Some k)))) some puts = inr (record {
-    calm = patches.answer.0;
-    begun = patches.answer.1;
-    written = plate_files (outputs_of words.plates) planes;
-    to_write = ((planes, patches.answer.2.planes_ok, in_words, refl), λ tells. (planes, patches.answer.3 tells, refl));
-    place = k;
-    is = refl;
-    breaks = puts.answer.1;
-  })
+  wrote_answer (Err (causes.Page (refusals.Write (Some k)))) some puts = inr (
+    record {
+      calm = patches.answer.0;
+      begun = patches.answer.1;
+      written = plate_files (outputs_of words.plates) planes;
+      to_write = ((planes, patches.answer.2.planes_ok, in_words, refl), λ tells. (planes, patches.answer.3 tells, refl));
+      place = k;
+      is = refl;
+      breaks = puts.answer.1;
+    },
+    puts.once,
+  )
   wrote_answer (Err (causes.Page (refusals.Write None))) some puts = absurd puts.answer
   wrote_answer (Err (causes.Page refusals.Usage)) some puts = absurd puts.answer
   wrote_answer (Err (causes.Page (refusals.Job fault))) some puts = absurd puts.answer

@@ -1,11 +1,12 @@
 -- The clauses of the top call, by how the command of the words ended.
 use Rattle.std.proofs.Common.{◌≡◌, ◌≢◌, ◌⊎◌, ℕ, ◌≤◌, List, [], ◌∷◌, ◌++◌, take, Option, Some, None, Result, Ok, Err, IsTrue, inl, inr, refl, sym, ap, ◌∙◌, subst, arith}
 use Rattle.std.proofs.lemmas.Bool.{cases_lt}
-use Rattle.outside.specs.Causes.{Rose, Asks, AsksFront}
+use Rattle.outside.specs.Causes.{Rose, RoseOnce, Asks, AsksFront}
 use Rattle.outside.specs.Tray.{TrayState}
 use Rattle.outside.specs.Rack.{RackState, KeepsRack}
 use Rattle.outside.specs.Writing.{BreaksFile}
 use Rattle.page_gather.specs.Inputs.{one_page}
+use Rattle.page_writing.proofs.Told.{breaks_then, line_after}
 use Rattle.page_writing.specs.Files.{Written, put_all, names_of}
 use Rattle.page_writing.specs.Writing.{BreaksAt}
 use Rattle.trapset_cli.specs.declared.cause.Cause.{Cause}
@@ -16,45 +17,10 @@ use Rattle.trapset_cli.specs.Commands.{written_names}
 use Rattle.trapset_cli.specs.Endings.{Breaks, CarriesOut, Closes, Ends, EndsCommand, IsDone, IsOfInput, IsUnwritten, NotRead, NotWritten, Passes, names_to}
 use Rattle.trapset_cli.specs.Verdicts.{IsVerdict, Refused, Out}
 use Rattle.trapset_cli.proofs.OneVerdict.{one_cause, out_or_refused}
-use Rattle.set_words.specs.Words.{ApplyWords, Command, Traps, Apply, command_of}
+use Rattle.trapset_cli.specs.Words.{ApplyWords, Command, Traps, Apply, command_of}
 use Rattle.trap_report.specs.declared.refusal.Refusal.TheVariants as refusals
-use Rattle.trap_report.specs.Telling.{KeepsFiles, TellsText, TellsBehindFault}
+use Rattle.trap_report.specs.Telling.{KeepsFiles, TellsText, TellsAfterFault}
 use Rattle.verdicts.proofs.VerdictLemmas.{PlateLaws}
-
--- a line behind a failed write: it is cut short by a second fault alone
-line_behind : (text : List ℕ) (a b c : RackState) → (IsTrue a.tells → b.told ≡ a.told) → b.tells ≡ a.tells → Rose a.faults b.faults → TellsText text b c → TellsBehindFault text a c
-line_behind text a b c same tells rose line = (
-  b.faults,
-  rose,
-  λ told. elim (line (tells ∙ told)) [
-    | inl whole ↦ inl (whole ∙ ap (λ (t : List ℕ). t ++ text) (same told))
-    | inr part ↦ inr (part.0, (part.1.0, part.1.1 ∙ ap (λ (t : List ℕ). t ++ take part.1.0 text) (same told)))
-  ],
-)
-
--- a count that rose stays above what it was
-rose_after : (a b c : ℕ) → a ≤ b → b ≤ c → Rose a b → Rose a c
-rose_after a b c first then (inl less) = inl (omega arith)
-rose_after a b c first then (inr last) = elim (cases_lt a c) [ inl less ↦ inl less | inr back ↦ inr (omega arith) ]
-
--- a file that broke, after what changes no file
-broken_then : (name bytes : List ℕ) (held : List ℕ → Option (List ℕ)) (b c : RackState) → c.is_open ≡ b.is_open → c.file ≡ b.file → BreaksFile name bytes held b → BreaksFile name bytes held c
-broken_then name bytes held b c opened same (inl none) = inl (opened ∙ none.0, same ∙ none.1)
-broken_then name bytes held b c opened same (inr front) = inr (opened ∙ front.0, (front.1.0, same ∙ front.1.1))
-
--- the write that failed, after its line was told
-breaks_then : (written : List Written) (k : ℕ) (a b c : RackState) → KeepsRack a b → BreaksAt written k a b → KeepsFiles b c → BreaksAt written k a c
-breaks_then written k a b c keeps breaks files = record {
-  earlier = breaks.earlier;
-  file = breaks.file;
-  later = breaks.later;
-  all = breaks.all;
-  place = breaks.place;
-  asked = subst (λ (names : Option (List (List ℕ))). Asks a.asked names (names_of breaks.earlier ++ breaks.file.name ∷ [])) (sym files.asked) breaks.asked;
-  finished = λ told. subst (λ (names : Option (List (List ℕ))). Asks a.finished names (names_of breaks.earlier)) (sym files.finished) (breaks.finished told);
-  part = λ told. broken_then breaks.file.name breaks.file.bytes (put_all breaks.earlier a.file) b c files.is_open (files.files (keeps.tells ∙ told)) (breaks.part told);
-  cause = rose_after a.faults b.faults c.faults keeps.faults files.keeps.faults breaks.cause;
-}
 
 not_written_then : (command : Command) (t t' : TrayState) (a b c : RackState) (cause : Cause) → KeepsRack a b → NotWritten command t t' a b cause → KeepsFiles b c → NotWritten command t t' a c cause
 not_written_then command t t' a b c cause keeps broke files = record {
@@ -84,7 +50,7 @@ data Ending (command : Command) (t t' : TrayState) (r r' : RackState) (status : 
   done : status ≡ 0 → (IsTrue r.tells → r'.told ≡ r.told) → IsDone command t t' r r' → Ending command t t' r r' status
   refused : (cause : Cause) → IsOfInput command cause → Passes cause t t' → Asks t.asked t'.asked (names_to command cause) → (IsTrue t.tells → IsVerdict t.file command (Refused cause)) → RefusesCause cause r r' status → Ending command t t' r r' status
   unread : (cause : Cause) → cause_status cause ≡ 5 → Rose t.faults t'.faults → Asks t.asked t'.asked (names_to command cause) → Breaks command cause t t' → RefusesCause cause r r' status → Ending command t t' r r' status
-  unwritten : (cause : Cause) → cause_status cause ≡ 6 → status ≡ cause_status cause → NotWritten command t t' r r' cause → TellsBehindFault (cause_line cause) r r' → Ending command t t' r r' status
+  unwritten : (cause : Cause) → cause_status cause ≡ 6 → status ≡ cause_status cause → NotWritten command t t' r r' cause → TellsAfterFault (cause_line cause) r r' → Ending command t t' r r' status
   no_memory : t'.faults ≡ t.faults → RefusesCause (causes.Page refusals.Memory) r r' status → Ending command t t' r r' status
 
 module _ (command : Command) (t t' : TrayState) (r r' : RackState) (status : ℕ) where
@@ -93,10 +59,10 @@ module _ (command : Command) (t t' : TrayState) (r r' : RackState) (status : ℕ
   not_read cause (NotRead.unread is rose asks breaks) closed = unread cause is rose asks breaks closed
   not_read cause (NotRead.no_memory is calm) closed = no_memory calm (subst (λ (c : Cause). RefusesCause c r r' status) is closed)
 
-  not_done : (cause : Cause) (between : RackState) → KeepsRack r between → (IsTrue r.tells → between.told ≡ r.told) → (NotRead command t t' cause × (between ≡ r)) ⊎ NotWritten command t t' r between cause → RefusesCause cause between r' status → Ending command t t' r r' status
+  not_done : (cause : Cause) (between : RackState) → KeepsRack r between → (IsTrue r.tells → between.told ≡ r.told) → (NotRead command t t' cause × (between ≡ r)) ⊎ (NotWritten command t t' r between cause × RoseOnce r.faults between.faults) → RefusesCause cause between r' status → Ending command t t' r r' status
   not_done cause between keeps told (inl none) closed = not_read cause none.0 (subst (λ (s : RackState). RefusesCause cause s r' status) none.1 closed)
-  not_done cause between keeps told (inr broke) closed =
-      unwritten cause (unwritten_status command cause broke.place broke.is) closed.status_is (not_written_then command t t' r between r' cause keeps broke closed.files) (line_behind (cause_line cause) r between r' told keeps.tells broke.breaks.cause closed.line)
+  not_done cause between keeps told (inr (broke, once)) closed =
+      unwritten cause (unwritten_status command cause broke.place broke.is) closed.status_is (not_written_then command t t' r between r' cause keeps broke closed.files) (line_after (cause_line cause) r between r' told keeps.tells once closed.line)
 
   ending_of : (result : Result (Unit {0}) Cause) (between : RackState) → CarriesOut command t t' r between result → Closes result between r' status → Ending command t t' r r' status
   ending_of (Ok nothing) between carried closed = subst (λ (s : RackState). Ending command t t' r s status) (sym closed.0) (done closed.1 carried.told carried.answer)
@@ -127,18 +93,24 @@ module _ (command : Command) (t t' : TrayState) (r r' : RackState) (status : ℕ
   unread_by (unwritten cause is so broke line) s = absurd (omega arith)
   unread_by (no_memory calm closed) s = absurd (omega (arith, closed.status_is))
 
-  unwritten_by : Ending command t t' r r' status → status ≡ 6 → (cause : Cause) × NotWritten command t t' r r' cause × TellsBehindFault (cause_line cause) r r'
+  unwritten_by : Ending command t t' r r' status → status ≡ 6 → (cause : Cause) × NotWritten command t t' r r' cause × TellsAfterFault (cause_line cause) r r'
   unwritten_by (unwritten cause is so broke line) s = (cause, broke, line)
   unwritten_by (done is told work) s = absurd (omega arith)
   unwritten_by (refused cause input passes asks verdict closed) s = absurd (elim (input_status command cause input) [ inl a ↦ omega (arith, closed.status_is) | inr (inl a) ↦ omega (arith, closed.status_is) | inr (inr a) ↦ omega (arith, closed.status_is) ])
   unwritten_by (unread cause is rose asks breaks closed) s = absurd (omega (arith, closed.status_is))
   unwritten_by (no_memory calm closed) s = absurd (omega (arith, closed.status_is))
 
-  calm_by : Ending command t t' r r' status → status ≡ 7 → t'.faults ≡ t.faults
+  -- neither 6 nor 7 is the status of a refused input
+  not_input : (cause : Cause) → IsOfInput command cause → status ≡ cause_status cause → (status ≡ 6) ⊎ (status ≡ 7) → ⊥
+  not_input cause input is (inl six) = elim (input_status command cause input) [ inl a ↦ omega (arith, is) | inr (inl a) ↦ omega (arith, is) | inr (inr a) ↦ omega (arith, is) ]
+  not_input cause input is (inr seven) = elim (input_status command cause input) [ inl a ↦ omega (arith, is) | inr (inl a) ↦ omega (arith, is) | inr (inr a) ↦ omega (arith, is) ]
+
+  calm_by : Ending command t t' r r' status → (status ≡ 6) ⊎ (status ≡ 7) → t'.faults ≡ t.faults
   calm_by (no_memory calm closed) s = calm
   calm_by (done is told work) s = work.calm
-  calm_by (refused cause input passes asks verdict closed) s = absurd (elim (input_status command cause input) [ inl a ↦ omega (arith, closed.status_is) | inr (inl a) ↦ omega (arith, closed.status_is) | inr (inr a) ↦ omega (arith, closed.status_is) ])
-  calm_by (unread cause is rose asks breaks closed) s = absurd (omega (arith, closed.status_is))
+  calm_by (refused cause input passes asks verdict closed) s = absurd (not_input cause input closed.status_is s)
+  calm_by (unread cause is rose asks breaks closed) (inl s) = absurd (omega (arith, closed.status_is))
+  calm_by (unread cause is rose asks breaks closed) (inr s) = absurd (omega (arith, closed.status_is))
   calm_by (unwritten cause is so broke line) s = broke.calm
 
   -- a status that is neither 0 nor 6 leaves the files alone, and tells the line of its cause
@@ -217,7 +189,8 @@ module _ (words : List (List ℕ)) (t t' : TrayState) (r r' : RackState) (status
         (let work = (done_by command t t' r r' status (command_ending command means ended) s).1 in
         (work.written, work.to_write, work.wrote.whole));
     silent = λ s. (done_of ended s).1;
-    finished = λ s. (let work = (done_of ended s).2 in work.wrote.shut work.some);
+    finished = λ command means s. (done_by command t t' r r' status (command_ending command means ended) s).1.finished;
+    shut = λ s. (let work = (done_of ended s).2 in work.wrote.shut work.some);
     begun = λ command means s. (done_by command t t' r r' status (command_ending command means ended) s).1.begun;
     created = λ command means s. (done_by command t t' r r' status (command_ending command means ended) s).1.created;
   }
@@ -268,9 +241,9 @@ module _ (words : List (List ℕ)) (t t' : TrayState) (r r' : RackState) (status
   read_cause (Ends.no_command none same refuses) s = absurd (omega (arith, refuses.status_is))
   read_cause (Ends.command command also ended) s = (unread_by command t t' r r' status (ending command t t' r r' status ended) s).0
 
-  memory_calm : Ends words t t' r r' status → status ≡ 7 → t'.faults ≡ t.faults
-  memory_calm (Ends.no_command none same refuses) s = ap (λ (u : TrayState). u.faults) same
-  memory_calm (Ends.command command also ended) s = calm_by command t t' r r' status (ending command t t' r r' status ended) s
+  all_calm : Ends words t t' r r' status → (status ≡ 6) ⊎ (status ≡ 7) → t'.faults ≡ t.faults
+  all_calm (Ends.no_command none same refuses) s = ap (λ (u : TrayState). u.faults) same
+  all_calm (Ends.command command also ended) s = calm_by command t t' r r' status (ending command t t' r r' status ended) s
 
   pub read_fault : Ends words t t' r r' status → ReadFault words t t' r r' status
   read_fault ended = record {
@@ -278,16 +251,17 @@ module _ (words : List (List ℕ)) (t t' : TrayState) (r r' : RackState) (status
     breaks = λ command means s. (unread_by command t t' r r' status (command_ending command means ended) s).1;
     asked = λ command means. (command_ended command means ended).carried.asked;
     in_hand = λ command means. (command_ended command means ended).carried.in_hand;
-    calm = memory_calm ended;
+    calm = all_calm ended;
   }
 
   write_cause : Ends words t t' r r' status → status ≡ 6 → Rose r.faults r'.faults
   write_cause (Ends.no_command none same refuses) s = absurd (omega (arith, refuses.status_is))
   write_cause (Ends.command command also ended) s = (unwritten_by command t t' r r' status (ending command t t' r r' status ended) s).1.breaks.cause
 
-  pub write_fault : Ends words t t' r r' status → WriteFault words t r r' status
+  pub write_fault : Ends words t t' r r' status → WriteFault words t t' r r' status
   write_fault ended = record {
     cause = write_cause ended;
+    begun = λ command means s. (unwritten_by command t t' r r' status (command_ending command means ended) s).1.begun;
     breaks = λ command means s.
         (let by = unwritten_by command t t' r r' status (command_ending command means ended) s in
         (by.0, (by.1.written, by.1.place, by.1.to_write, by.1.is, by.1.breaks), by.2));

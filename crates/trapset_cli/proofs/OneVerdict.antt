@@ -16,7 +16,7 @@ use Rattle.trapset_cli.specs.declared.cause.Cause.{Cause}
 use Rattle.trapset_cli.specs.declared.cause.Cause.TheVariants as causes
 use Rattle.trapset_cli.specs.Commands.{inputs_of, sources_of}
 use Rattle.trapset_cli.specs.Verdicts.{ArePlanes, Gives, HasBadLine, IsApply, IsTraps, IsVerdict, OnPlanes, PlateRefused, Refused, Out, no_files}
-use Rattle.set_words.specs.Words.{TrapsWords, ApplyWords, Command, Traps, Apply}
+use Rattle.trapset_cli.specs.Words.{TrapsWords, ApplyWords, Command, Traps, Apply}
 use Rattle.trap_report.specs.declared.refusal.Refusal.{Refusal}
 use Rattle.trap_report.specs.declared.refusal.Refusal.TheVariants as refusals
 use Rattle.trap_set.specs.Applying.{Differ, Fits}

@@ -21,7 +21,7 @@ use Rattle.trapset_cli.specs.Commands.{read_names, sources_of, written_names}
 use Rattle.trapset_cli.specs.Endings.{Answers, CarriesOut, HasInHand, NotRead}
 use Rattle.trapset_cli.specs.Putting.{AnswersPut, PutsSet}
 use Rattle.trapset_cli.specs.Verdicts.{set_files}
-use Rattle.set_words.specs.Words.{TrapsWords, Command, Traps}
+use Rattle.trapset_cli.specs.Words.{TrapsWords, Command, Traps}
 use Rattle.trap_report.specs.declared.refusal.Refusal.{Refusal}
 use Rattle.trap_report.specs.declared.refusal.Refusal.TheVariants as refusals
 use Rattle.trap_set.specs.SetText.{set_text}
@@ -66,7 +66,7 @@ module _ (name : List ℕ) (page : PageParts) (old new : List Plane) (a b : Rack
     keeps = wrote.keeps;
     told = wrote.told;
     asked = asks_all a.asked b.asked (name ∷ []) wrote.asked;
-    answer = set_broke {T = T} {E = E} name (set_text page.planes (trapped_planes page)) a b e (subst (λ (bytes : List ℕ). WritesFile {T = T} {E = E} name bytes a b (Err e)) same_text wrote);
+    answer = (set_broke {T = T} {E = E} name (set_text page.planes (trapped_planes page)) a b e (subst (λ (bytes : List ℕ). WritesFile {T = T} {E = E} name bytes a b (Err e)) same_text wrote), wrote.once);
   }
 
 -- There was no memory to trap the page.
@@ -112,16 +112,20 @@ module _ (words : TrapsWords) (page : PageParts) (a b : TrayState) (r r' : RackS
     some = omega arith;
     wrote = answer;
     created = answer.asked;
+    finished = answer.finished;
   }
-  put_answer (Err causes.SetUnwritten) answer = inr (record {
-    calm = reads.count;
-    begun = reads.answer.1;
-    written = set_files words.set page;
-    to_write = ((page, valid, refl), λ tells. (page, reads.answer.2 tells, refl));
-    place = 0;
-    is = (refl, refl);
-    breaks = answer;
-  })
+  put_answer (Err causes.SetUnwritten) answer = inr (
+    record {
+      calm = reads.count;
+      begun = reads.answer.1;
+      written = set_files words.set page;
+      to_write = ((page, valid, refl), λ tells. (page, reads.answer.2 tells, refl));
+      place = 0;
+      is = (refl, refl);
+      breaks = answer.0;
+    },
+    answer.1,
+  )
   put_answer (Err (causes.Page refusals.Memory)) answer = inl (NotRead.no_memory refl reads.count, answer)
   put_answer (Err (causes.Page refusals.Usage)) answer = absurd answer
   put_answer (Err (causes.Page (refusals.Job fault))) answer = absurd answer

@@ -2,7 +2,8 @@
 use Rattle.std.specs.Prelude.{◌≡◌, ℕ, List, ◌++◌, codes, decimal}
 use Rattle.outside.specs.Rack.{RackState}
 use Rattle.trapset_cli.specs.declared.cause.Cause.{Cause}
-use Rattle.trapset_cli.specs.declared.cause.Cause.TheVariants.{NoCommand, Page, SetUnread, SetUnwritten, BadLine, Differs}
+use Rattle.trapset_cli.specs.declared.cause.Cause.TheVariants.{NoCommand, Page, SetUnread}
+use Rattle.trapset_cli.specs.declared.cause.Cause.TheVariants.{SetUnwritten, BadLine, Differs}
 use Rattle.trap_report.specs.Refusals.{line_of, status_of}
 use Rattle.trap_report.specs.Report.{line}
 use Rattle.trap_report.specs.Statuses.{usage, not_read, not_written, set_refused}
@@ -10,7 +11,8 @@ use Rattle.trap_report.specs.Telling.{KeepsFiles, TellsText}
 
 -- the line that is told of a cause
 abbrev pub cause_line : Cause → List ℕ
-cause_line NoCommand = line (codes "usage: trapset traps JOB SET NAME:IN ... | trapset apply SET IN:OUT ...")
+cause_line NoCommand =
+    line (codes "usage: trapset traps JOB SET NAME:IN ... | trapset apply SET IN:OUT ...")
 cause_line (Page refusal) = line_of refusal
 cause_line SetUnread = line (codes "read fault: set")
 cause_line SetUnwritten = line (codes "write fault: set")

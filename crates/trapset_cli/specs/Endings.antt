@@ -1,6 +1,7 @@
 -- How the steps of a command end.
-use Rattle.std.specs.Prelude.{◌≡◌, ◌⊎◌, ℕ, ◌+◌, ◌<◌, IsTrue, List, length, take, All, Some, None, Result, Ok, Err}
-use Rattle.outside.specs.Causes.{Rose, Asks, AsksFront}
+use Rattle.std.specs.Prelude.{◌≡◌, ◌⊎◌, ℕ, ◌+◌, ◌<◌, IsTrue, List, length, take, All, Some, None}
+use Rattle.std.specs.Prelude.{Result, Ok, Err}
+use Rattle.outside.specs.Causes.{Rose, RoseOnce, Asks, AsksFront}
 use Rattle.outside.specs.Tray.{TrayState}
 use Rattle.outside.specs.Rack.{RackState, KeepsRack}
 use Rattle.page_gather.specs.Gathering.{BreaksReading, InHand, files_to}
@@ -10,74 +11,101 @@ use Rattle.page_model.specs.declared.parts.PageParts.{PageParts}
 use Rattle.page_model.specs.declared.parts.Plane.{Plane}
 use Rattle.page_model.specs.Conditions.{IsPage, IsPlane}
 use Rattle.page_writing.specs.Files.{Written, plate_files}
-use Rattle.page_writing.specs.Writing.{WritesAll, BreaksAt}
+use Rattle.page_writing.specs.Writing.{FinishesAll, WritesAll, BreaksAt}
 use Rattle.pgm_plates.specs.declared.plate.Plate.{Plate as PlateRead}
 use Rattle.trapset_cli.specs.declared.cause.Cause.{Cause}
-use Rattle.trapset_cli.specs.declared.cause.Cause.TheVariants.{NoCommand, Page, SetUnread, SetUnwritten}
+use Rattle.trapset_cli.specs.declared.cause.Cause.TheVariants.{NoCommand, Page, SetUnread}
+use Rattle.trapset_cli.specs.declared.cause.Cause.TheVariants.{SetUnwritten}
 use Rattle.trapset_cli.specs.Causes.{RefusesCause, cause_status}
 use Rattle.trapset_cli.specs.Commands.{inputs_of, read_names, sources_of, written_names}
 use Rattle.trapset_cli.specs.Verdicts.{ArePlanes, IsVerdict, Refused, Out, set_files}
-use Rattle.set_words.specs.Words.{ApplyWords, Command, Traps, Apply, command_of, outputs_of}
+use Rattle.trapset_cli.specs.Words.{ApplyWords, Command, Traps, Apply, command_of, outputs_of}
 use Rattle.trap_report.specs.declared.refusal.Refusal.TheVariants.{Plate, Read, Write, Memory}
 use Rattle.trap_report.specs.Statuses.{done, job_refused, page_refused, not_read, set_refused}
-use Rattle.trap_set.specs.Applying.{BreaksOff}
+use Rattle.trap_set.specs.Applying.{BreaksOff, EndsWith}
 
--- What a command may write, whatever its files: of `traps` the set of a page, of `apply` planes in range, as many as its plates.
+-- What a command may write, whatever its files: of `traps` the set of a page, of `apply` planes in
+-- range, as many as its plates.
 abbrev pub MayWrite : Command → List Written → Type 0
-MayWrite (Traps words) written = (page : PageParts) × IsPage page × (written ≡ set_files words.set page)
-MayWrite (Apply words) written = (planes : List Plane) × All IsPlane planes × (length planes ≡ length words.plates) × (written ≡ plate_files (outputs_of words.plates) planes)
+MayWrite (Traps words) written = (page : PageParts) × IsPage page
+    × (written ≡ set_files words.set page)
+MayWrite (Apply words) written = (planes : List Plane) × All IsPlane planes
+    × (length planes ≡ length words.plates)
+    × (written ≡ plate_files (outputs_of words.plates) planes)
 
 -- What a command is to write: where the tray tells, what its files give.
 abbrev pub IsToWrite : Command → TrayState → List Written → Type 0
-IsToWrite command tray written = MayWrite command written × (IsTrue tray.tells → IsVerdict tray.file command (Out written))
+IsToWrite command tray written = MayWrite command written
+    × (IsTrue tray.tells → IsVerdict tray.file command (Out written))
 
--- the files that are begun where that cause comes: none stands behind the one that is refused
+-- the files that are begun where that cause comes: none comes after the one that is refused
 abbrev pub names_to : Command → Cause → List (List ℕ)
 names_to (Traps words) (Page refusal) = files_to (sources_of words) refusal
 names_to (Apply words) (Page (Plate plate fault)) = take (plate + 1) (inputs_of words)
 names_to (Apply words) (Page (Read (Some plate))) = take (plate + 1) (inputs_of words)
 names_to command other = read_names command
 
--- The read of a plate of `apply` failed: the plates before it are read, and of its own bytes those that were taken have no fault but an early end.
+-- The read of a plate of `apply` failed: the plates before it are read, and of its own bytes those
+-- that were taken have no fault but an early end.
 pub record PlateBreaks (words : ApplyWords) (plate : ℕ) (before after : TrayState) : Type 0 where
   pub known : plate < length (inputs_of words)
   pub plates : List PlateRead
   pub before_it : IsTrue before.tells → AreRead one_page before.file (inputs_of words) plate plates
   pub in_hand : IsFaultless (name_at (inputs_of words) plate) before after
 
--- The read of the set failed: all plates are read, and none of the lines that were taken is bad or for other planes.
+-- The read of the set failed: all plates are read, and none of the lines that were taken is bad or
+-- for other planes.
 pub record SetBreaks (words : ApplyWords) (before after : TrayState) : Type 0 where
   pub planes : List Plane
   pub before_it : IsTrue before.tells → ArePlanes before.file (inputs_of words) planes
-  pub in_hand : IsTrue after.begun → IsTrue before.tells → (bytes : List ℕ) × (new : List Plane) × (before.file words.set ≡ Some bytes) × BreaksOff bytes after planes new
+  pub in_hand : IsTrue after.begun → IsTrue before.tells → (bytes : List ℕ) × (new : List Plane)
+      × (before.file words.set ≡ Some bytes) × BreaksOff bytes after planes new
 
 -- What was read before the read that failed.
 abbrev pub Breaks : Command → Cause → TrayState → TrayState → Type 0
-Breaks (Traps words) (Page (Read file)) before after = BreaksReading (sources_of words) file before after
+Breaks (Traps words) (Page (Read file)) before after =
+    BreaksReading (sources_of words) file before after
 Breaks (Apply words) (Page (Read (Some plate))) before after = PlateBreaks words plate before after
 Breaks (Apply words) SetUnread before after = SetBreaks words before after
 Breaks command other before after = ⊥
 
 -- the input is refused: of `traps` the job, a plate or the page, of `apply` a plate or the set
 abbrev pub IsOfInput : Command → Cause → Type 0
-IsOfInput (Traps words) cause = (cause_status cause ≡ job_refused) ⊎ (cause_status cause ≡ page_refused)
-IsOfInput (Apply words) cause = (cause_status cause ≡ page_refused) ⊎ (cause_status cause ≡ set_refused)
+IsOfInput (Traps words) cause = (cause_status cause ≡ job_refused)
+    ⊎ (cause_status cause ≡ page_refused)
+IsOfInput (Apply words) cause = (cause_status cause ≡ page_refused)
+    ⊎ (cause_status cause ≡ set_refused)
 
 -- No fault of the tray is passed over where the input is refused.
 abbrev pub Passes : Cause → TrayState → TrayState → Type 0
 Passes (Page refusal) before after = PassesNoFault {T = Unit {0}} before after (Err refusal)
 Passes other before after = after.faults ≡ before.faults
 
+-- The set is in hand: all plates are read, and what is left is the end of the set's file.
+pub record SetInHand (words : ApplyWords) (before after : TrayState) : Type 0 where
+  pub asked : Asks before.asked after.asked (read_names (Apply words))
+  pub planes : List Plane
+  pub read : IsTrue before.tells → ArePlanes before.file (inputs_of words) planes
+  pub taken : IsTrue after.begun → IsTrue before.tells
+      → (bytes : List ℕ) × (before.file words.set ≡ Some bytes) × EndsWith bytes after.left
+
 -- No more was taken of the job or of the plate that is in hand than is owed; or the set is in hand.
 abbrev pub HasInHand : Command → TrayState → TrayState → Type 0
 HasInHand (Traps words) before after = (after ≡ before) ⊎ InHand (sources_of words) before after
-HasInHand (Apply words) before after = (after ≡ before) ⊎ PlateInHand (inputs_of words) before after ⊎ Asks before.asked after.asked (read_names (Apply words))
+HasInHand (Apply words) before after = (after ≡ before) ⊎ PlateInHand (inputs_of words) before after
+    ⊎ SetInHand words before after
 
 -- Why there is nothing to write: the input is refused, a read failed, or there was no memory.
 pub data NotRead (command : Command) (before after : TrayState) (cause : Cause) : Type 0 where
-  refused : IsOfInput command cause → Passes cause before after → Asks before.asked after.asked (names_to command cause) → (IsTrue before.tells → IsVerdict before.file command (Refused cause)) → NotRead command before after cause
-  unread : cause_status cause ≡ not_read → Rose before.faults after.faults → Asks before.asked after.asked (names_to command cause) → Breaks command cause before after → NotRead command before after cause
-  no_memory : cause ≡ Page Memory → after.faults ≡ before.faults → NotRead command before after cause
+  refused : IsOfInput command cause → Passes cause before after
+      → Asks before.asked after.asked (names_to command cause)
+      → (IsTrue before.tells → IsVerdict before.file command (Refused cause))
+      → NotRead command before after cause
+  unread : cause_status cause ≡ not_read → Rose before.faults after.faults
+      → Asks before.asked after.asked (names_to command cause) → Breaks command cause before after
+      → NotRead command before after cause
+  no_memory : cause ≡ Page Memory → after.faults ≡ before.faults
+      → NotRead command before after cause
 
 -- the file of that number was not written
 abbrev pub IsUnwritten : Command → Cause → ℕ → Type 0
@@ -85,7 +113,8 @@ IsUnwritten (Traps words) cause place = (cause ≡ SetUnwritten) × (place ≡ 0
 IsUnwritten (Apply words) cause place = cause ≡ Page (Write (Some place))
 
 -- All is read, and one of the files breaks.
-pub record NotWritten (command : Command) (tray tray' : TrayState) (rack rack' : RackState) (cause : Cause) : Type 0 where
+pub record NotWritten (command : Command) (tray tray' : TrayState) (rack rack' : RackState)
+    (cause : Cause) : Type 0 where
   pub calm : tray'.faults ≡ tray.faults
   pub begun : Asks tray.asked tray'.asked (read_names command)
   pub written : List Written
@@ -95,7 +124,8 @@ pub record NotWritten (command : Command) (tray tray' : TrayState) (rack rack' :
   pub breaks : BreaksAt written place rack rack'
 
 -- All is read and written.
-pub record IsDone (command : Command) (tray tray' : TrayState) (rack rack' : RackState) : Type 0 where
+pub record IsDone (command : Command) (tray tray' : TrayState)
+    (rack rack' : RackState) : Type 0 where
   pub calm : tray'.faults ≡ tray.faults
   pub begun : Asks tray.asked tray'.asked (read_names command)
   pub written : List Written
@@ -103,14 +133,19 @@ pub record IsDone (command : Command) (tray tray' : TrayState) (rack rack' : Rac
   pub some : 0 < length written
   pub wrote : WritesAll written rack rack'
   pub created : Asks rack.asked rack'.asked (written_names command)
+  pub finished : FinishesAll (written_names command) rack rack'
 
--- What the answer says.
-abbrev pub Answers : Command → TrayState → TrayState → RackState → RackState → Result (Unit {0}) Cause → Type 0
+-- What the answer says. A failed write is one failed call.
+abbrev pub Answers : Command → TrayState → TrayState → RackState → RackState
+    → Result (Unit {0}) Cause → Type 0
 Answers command tray tray' rack rack' (Ok nothing) = IsDone command tray tray' rack rack'
-Answers command tray tray' rack rack' (Err cause) = (NotRead command tray tray' cause × (rack' ≡ rack)) ⊎ NotWritten command tray tray' rack rack' cause
+Answers command tray tray' rack rack' (Err cause) =
+    (NotRead command tray tray' cause × (rack' ≡ rack))
+    ⊎ (NotWritten command tray tray' rack rack' cause × RoseOnce rack.faults rack'.faults)
 
 -- A command is carried out: all is read, and only then written. Nothing is told.
-pub record CarriesOut (command : Command) (tray tray' : TrayState) (rack rack' : RackState) (result : Result (Unit {0}) Cause) : Type 0 where
+pub record CarriesOut (command : Command) (tray tray' : TrayState) (rack rack' : RackState)
+    (result : Result (Unit {0}) Cause) : Type 0 where
   pub asked : AsksFront tray.asked tray'.asked (read_names command)
   pub in_hand : HasInHand command tray tray'
   pub rack_keeps : KeepsRack rack rack'
@@ -124,13 +159,17 @@ Closes (Ok nothing) before after status = (after ≡ before) × (status ≡ done
 Closes (Err cause) before after status = RefusesCause cause before after status
 
 -- A command is carried out and closed.
-pub record EndsCommand (command : Command) (tray tray' : TrayState) (rack rack' : RackState) (status : ℕ) : Type 0 where
+pub record EndsCommand (command : Command) (tray tray' : TrayState) (rack rack' : RackState)
+    (status : ℕ) : Type 0 where
   pub result : Result (Unit {0}) Cause
   pub between : RackState
   pub carried : CarriesOut command tray tray' rack between result
   pub closed : Closes result between rack' status
 
 -- The words are carried out, or they are no command.
-pub data Ends (words : List (List ℕ)) (tray tray' : TrayState) (rack rack' : RackState) (status : ℕ) : Type 0 where
-  no_command : command_of words ≡ None → tray' ≡ tray → RefusesCause NoCommand rack rack' status → Ends words tray tray' rack rack' status
-  command : (command : Command) → command_of words ≡ Some command → EndsCommand command tray tray' rack rack' status → Ends words tray tray' rack rack' status
+pub data Ends (words : List (List ℕ)) (tray tray' : TrayState) (rack rack' : RackState)
+    (status : ℕ) : Type 0 where
+  no_command : command_of words ≡ None → tray' ≡ tray → RefusesCause NoCommand rack rack' status
+      → Ends words tray tray' rack rack' status
+  command : (command : Command) → command_of words ≡ Some command
+      → EndsCommand command tray tray' rack rack' status → Ends words tray tray' rack rack' status

@@ -1,3 +1,5 @@
+pub mod Words
+pub mod Held
 pub mod Commands
 pub mod Causes
 pub mod Verdicts

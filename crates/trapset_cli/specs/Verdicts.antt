@@ -12,7 +12,7 @@ use Rattle.pgm_plates.specs.Planes.{plane_of}
 use Rattle.trapset_cli.specs.declared.cause.Cause.{Cause}
 use Rattle.trapset_cli.specs.declared.cause.Cause.TheVariants.{Page, BadLine, Differs}
 use Rattle.trapset_cli.specs.Commands.{inputs_of, sources_of}
-use Rattle.set_words.specs.Words.{TrapsWords, ApplyWords, Command, Traps, Apply, outputs_of}
+use Rattle.trapset_cli.specs.Words.{TrapsWords, ApplyWords, Command, Traps, Apply, outputs_of}
 use Rattle.trap_report.specs.declared.refusal.Refusal.TheVariants.{Plate}
 use Rattle.trap_set.specs.Applied.{applied}
 use Rattle.trap_set.specs.Applying.{Differ, Fits}
@@ -34,16 +34,21 @@ no_files = record { outputs = []; report = [] }
 
 -- the set of what trapping changes of a page
 abbrev pub set_files : List ℕ → PageParts → List Written
-set_files name page = record { name = name; bytes = set_text page.planes (trapped_planes page) } ∷ []
+set_files name page = record {
+  name = name;
+  bytes = set_text page.planes (trapped_planes page);
+} ∷ []
 
 -- The plates of these files are read, and have these planes.
-pub record ArePlanes (files : List ℕ → Option (List ℕ)) (names : List (List ℕ)) (planes : List Plane) : Type 0 where
+pub record ArePlanes (files : List ℕ → Option (List ℕ)) (names : List (List ℕ))
+    (planes : List Plane) : Type 0 where
   pub plates : List PlateRead
   pub read : AreRead one_page files names (length names) plates
   pub same : planes ≡ map plane_of plates
 
 -- The plates before this one are read; it has this fault.
-pub record PlateRefused (files : List ℕ → Option (List ℕ)) (names : List (List ℕ)) (plate : ℕ) (fault : PlateFault) : Type 0 where
+pub record PlateRefused (files : List ℕ → Option (List ℕ)) (names : List (List ℕ)) (plate : ℕ)
+    (fault : PlateFault) : Type 0 where
   pub known : plate < length names
   pub plates : List PlateRead
   pub before : AreRead one_page files names plate plates
@@ -65,24 +70,29 @@ pub record Gives (new : List Plane) (bytes : List ℕ) (planes : List Plane) : T
   pub planes_are : new ≡ applied runs planes
 
 -- All plates are read, and the bytes of the set are such for their planes.
-pub record OnPlanes (files : List ℕ → Option (List ℕ)) (words : ApplyWords) (Fact : List ℕ → List Plane → Type 0) : Type 0 where
+pub record OnPlanes (files : List ℕ → Option (List ℕ)) (words : ApplyWords)
+    (Fact : List ℕ → List Plane → Type 0) : Type 0 where
   pub planes : List Plane
   pub read : ArePlanes files (inputs_of words) planes
   pub set : Holds files words.set (λ bytes. Fact bytes planes)
 
 -- The job is judged first, then each plate in order, then what they make.
 abbrev pub IsTraps : (List ℕ → Option (List ℕ)) → TrapsWords → Verdict → Type 0
-IsTraps files words (Refused (Page refusal)) = IsPageVerdict one_page files (sources_of words) no_files (page_refused refusal)
+IsTraps files words (Refused (Page refusal)) =
+    IsPageVerdict one_page files (sources_of words) no_files (page_refused refusal)
 IsTraps files words (Refused other) = ⊥
-IsTraps files words (Out written) = (page : PageParts) × Makes one_page files (sources_of words) (Ok page) × (written ≡ set_files words.set page)
+IsTraps files words (Out written) = (page : PageParts)
+    × Makes one_page files (sources_of words) (Ok page) × (written ≡ set_files words.set page)
 
 -- The plates are judged first, in order, and then the set.
 abbrev pub IsApply : (List ℕ → Option (List ℕ)) → ApplyWords → Verdict → Type 0
-IsApply files words (Refused (Page (Plate plate fault))) = PlateRefused files (inputs_of words) plate fault
+IsApply files words (Refused (Page (Plate plate fault))) =
+    PlateRefused files (inputs_of words) plate fault
 IsApply files words (Refused (BadLine n)) = OnPlanes files words (HasBadLine n)
 IsApply files words (Refused Differs) = OnPlanes files words Differ
 IsApply files words (Refused other) = ⊥
-IsApply files words (Out written) = (new : List Plane) × OnPlanes files words (Gives new) × (written ≡ plate_files (outputs_of words.plates) new)
+IsApply files words (Out written) = (new : List Plane) × OnPlanes files words (Gives new)
+    × (written ≡ plate_files (outputs_of words.plates) new)
 
 -- Where a file that this comes to is not there, there is no verdict.
 abbrev pub IsVerdict : (List ℕ → Option (List ℕ)) → Command → Verdict → Type 0

@@ -2,17 +2,17 @@ ghost use Rattle.std.specs.Prelude.{◌≤◌, length, map};
 ghost use Rattle.trapset_cli.specs.Endings.{CarriesOut};
 ghost use Rattle.trapset_cli.specs.Putting.{AreInRange, PutsPlates};
 ghost use Rattle.plain_words.specs.Inputs.{AreFew};
-ghost use Rattle.set_words.specs.Held.{apply_in};
-ghost use Rattle.set_words.specs.Words.{Apply as apply};
+ghost use Rattle.trapset_cli.specs.Held.{apply_in};
+ghost use Rattle.trapset_cli.specs.Words.{Apply as apply};
 
 use crate::cause::Cause;
+use crate::command::ApplyCommand;
 use crate::files::outputs_of;
 use crate::planes::patched_planes;
 use outside::rack::Rack;
 use outside::tray::Tray;
 use page_model::parts::PlaneList;
 use page_writing::writing::write_plates;
-use set_words::command::ApplyCommand;
 use std::alloc::Global;
 use trap_report::refusal::Refusal;
 

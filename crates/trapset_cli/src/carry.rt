@@ -1,12 +1,12 @@
 ghost use Rattle.trapset_cli.specs.Endings.{CarriesOut, EndsCommand};
-ghost use Rattle.set_words.specs.Held.{IsWithin, command_in};
+ghost use Rattle.trapset_cli.specs.Held.{IsWithin, command_in};
 
 use crate::apply::carry_out_apply;
 use crate::cause::{Cause, refuse_by};
+use crate::command::Command;
 use crate::traps::carry_out_traps;
 use outside::rack::Rack;
 use outside::tray::Tray;
-use set_words::command::Command;
 use std::alloc::Global;
 use trap_report::statuses::DONE;
 

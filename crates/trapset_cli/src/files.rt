@@ -3,13 +3,13 @@
 ghost use Rattle.std.specs.Prelude.{◌≡◌, IfOk, map, string_bytes};
 ghost use Rattle.plain_words.specs.Parts.{copy_of, input_of};
 ghost use Rattle.trapset_cli.specs.Commands.{inputs_of as inputs_meant, sources_of};
-ghost use Rattle.set_words.specs.Held.{apply_in, traps_in};
-ghost use Rattle.set_words.specs.Words.{outputs_of as outputs_meant};
+ghost use Rattle.trapset_cli.specs.Held.{apply_in, traps_in};
+ghost use Rattle.trapset_cli.specs.Words.{outputs_of as outputs_meant};
 
+use crate::command::{ApplyCommand, TrapsCommand};
 use lists::list::List;
 use lists::names::{NameList, OutOfMemory, copied};
 use plain_words::parts::{copy_parts, input_parts};
-use set_words::command::{ApplyCommand, TrapsCommand};
 use std::alloc::Global;
 
 /// The names of the plates' colorants.

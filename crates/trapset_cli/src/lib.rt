@@ -4,7 +4,9 @@
 mod apply;
 mod carry;
 pub mod cause;
+mod command;
 mod files;
 mod planes;
+mod plates;
 pub mod top;
 mod traps;

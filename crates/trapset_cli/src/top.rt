@@ -4,10 +4,10 @@ ghost use Rattle.trapset_cli.specs.Endings.{Ends};
 
 use crate::carry::run_command;
 use crate::cause::{Cause, refuse_by};
+use crate::command::read_words;
 use outside::rack::Rack;
 use outside::tray::Tray;
 use pgm_plates::laws::{not_both, one_fault, one_plate};
-use set_words::command::read_words;
 use std::alloc::Global;
 
 /// Carries out the command that the words mean, and answers the status that the program ends with.
@@ -35,7 +35,7 @@ pub fn trapset_main<T: Tray, R: Rack>(
     ensures read_fault { ReadFault (map string_bytes words.now) (T.state tray.old)
         (T.state tray.new) (R.state rack.old) (R.state rack.new) result }
     ensures write_fault { WriteFault (map string_bytes words.now) (T.state tray.old)
-        (R.state rack.old) (R.state rack.new) result }
+        (T.state tray.new) (R.state rack.old) (R.state rack.new) result }
     ensures memory { LeavesFiles (R.state rack.old) (R.state rack.new) result }
     ensures set_fault { SetFault (map string_bytes words.now) (T.state tray.old)
         (T.state tray.new) (R.state rack.old) (R.state rack.new) result }

@@ -157,6 +157,50 @@ fn counted<L: Ledger>(
     }
 }
 
+/// Whether the sheet says of each sample of a row of plate c whether the plane has ink there.
+fn row_is_told<L: Ledger>(
+    sheet: &Sheet,
+    plane: &Plane,
+    c: u32,
+    y: u32,
+    width: u32,
+    steps: &mut Steps<L>,
+) -> bool
+    requires plate { c < length sheet.now }
+    requires width { width ≡ wide sheet.now }
+    requires narrow { width ≤ 40 }
+    requires row { y < tall sheet.now }
+    requires low { y < 40 }
+{
+    for x in 0..width {
+        let bare = plane.tints.as_slice().get((y * width + x) as usize) == Some(&0);
+        if sheet.is_bare(c, x, y, steps) != bare {
+            return false;
+        }
+    }
+    true
+}
+
+/// Whether the sheet says so of each row of plate c.
+fn plate_is_told<L: Ledger>(sheet: &Sheet, plane: &Plane, c: u32, height: u32, blank: Blank) -> bool
+    requires plate { c < length sheet.now }
+    requires height { height ≡ tall sheet.now }
+    requires narrow { wide sheet.now ≤ 40 }
+    requires low { height ≤ 40 }
+    requires plane { plane.now.width ≡ wide sheet.now }
+    requires name { blank.name ≡ L.name }
+    requires parts { blank.parts ≡ L.parts }
+    requires some_parts { 0 < L.parts }
+{
+    let mut steps = Steps::<L>::new(blank);
+    for y in 0..height {
+        if !row_is_told(sheet, plane, c, y, plane.width, &mut steps) {
+            return false;
+        }
+    }
+    true
+}
+
 /// The first radius at which the two counts differ.
 fn first_difference(
     alloc: Global,
@@ -195,6 +239,48 @@ fn case(
     }
     let planes = chance_planes(alloc, width, height, plates, bare)?;
     Ok(first_difference(alloc, &planes, width, height, plates))
+}
+
+/// The first plate of a random page of which the sheet says something else than its plane; 99 where the page is none.
+fn told_case(
+    alloc: Global,
+    width: u32,
+    height: u32,
+    plates: u32,
+    bare: u32,
+) -> Result<Option<u32>, Fail> {
+    if width < 1 || width > 40 || height < 1 || height > 40 || plates < 1 || plates > 16 {
+        return Ok(Some(99));
+    }
+    let planes = chance_planes(alloc, width, height, plates, bare)?;
+    Ok(first_misread(&planes, height, plates))
+}
+
+/// The first plate of which the sheet says something else than its plane.
+fn first_misread(planes: &PlaneList, height: u32, plates: u32) -> Option<u32>
+    requires shape { AreOneShape planes.now }
+    requires height { height ≡ tall planes.now }
+    requires plates { plates ≡ length planes.now }
+    requires narrow { wide planes.now ≤ 40 }
+    requires low { height ≤ 40 }
+{
+    let sheet = Sheet::new(planes);
+    for c in 0..plates {
+        let plane = &planes.as_slice()[c as usize];
+        if !plate_is_told::<Brand>(&sheet, plane, c, height, Blank::new(1)) {
+            return Some(c);
+        }
+    }
+    None
+}
+
+#[test]
+fn a_sheet_says_of_each_sample_whether_it_has_ink(rt: HostRuntime) -> Result<(), Fail> {
+    for (width, height, plates, bare) in [(1, 1, 1, 0), (7, 5, 3, 1), (5, 7, 16, 4)] {
+        let found = told_case(rt.alloc(), width, height, plates, bare)?;
+        assert!(rt; found == None, "{width} by {height}, {plates} plates");
+    }
+    Ok(())
 }
 
 #[test]

@@ -1,4 +1,5 @@
 use crate::tests::{Run, TRAPPED_CYAN, Wanted, ends};
+use job_list::reading::read_list;
 use std::alloc::{AllocError, Global};
 use std::process::Abort;
 use std::sync::Wait;
@@ -163,5 +164,26 @@ fn all_reading_comes_before_all_writing(rt: HostRuntime) -> Result<(), Fail> {
         ],
     };
     assert!(rt; ends(&rt, rt.alloc(), run, &OpenTakes, wanted)?);
+    Ok(())
+}
+
+// The file that a plate of the first line is written into.
+fn first_out(alloc: Global, list: &[u8], plate: u32) -> Option<String> {
+    let Ok(lines) = read_list(alloc, list) else {
+        return None;
+    };
+    let line = lines.as_slice().first()?;
+    if plate as usize >= line.outs().len() {
+        return None;
+    }
+    String::from_str(alloc, line.out(plate)).ok()
+}
+
+#[test]
+fn a_line_gives_the_file_of_each_plate(rt: HostRuntime) -> Result<(), Fail> {
+    for (plate, wanted) in [(0, Some("a0")), (1, Some("b0")), (2, None)] {
+        let found = first_out(rt.alloc(), ONE, plate);
+        assert!(rt; found.as_ref().map(|name| name.as_str()) == wanted, "{plate}");
+    }
     Ok(())
 }

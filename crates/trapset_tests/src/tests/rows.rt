@@ -50,7 +50,7 @@ const BAD: &[(&[u8], &str)] = &[
 // A page of two rows with two edges in each: what changes above has the same tints in one run; below there are others at the
 // second edge, so that two runs touch.
 const JOB: &[u8] =
-    b"<< /HWResolution [72 72] /TrappingDetails << /Type 1001 /ColorantDetails << /Cyan << /NeutralDensity 0.61 >> /Magenta << /NeutralDensity 0.76 >> >> >> >> setpagedevice << /TrapWidth 2 >> settrapparams showpage";
+    b"<< /HWResolution [72 72] /TrappingDetails << /Type 1001 /ColorantDetails << /Cyan << /NeutralDensity 0.61 >> /Magenta << /NeutralDensity 0.76 >> /Yellow << /NeutralDensity 0.16 >> /Black << /NeutralDensity 1.70 >> >> >> >> setpagedevice << /TrapWidth 2 >> settrapparams showpage";
 
 const STRIPED_CYAN: &[u8] = b"P5\n6 2\n255\n\0\0\xFF\xFF\0\0\0\0\xFF\xFF\x28\x28";
 

@@ -5,7 +5,7 @@ use std::test::Fail;
 
 // a job up to its trapping parameters
 const DEVICE: &str =
-    "<< /HWResolution [72 72] /TrappingDetails << /Type 1001 /ColorantDetails << /Cyan << /NeutralDensity 0.61 >> /Magenta << /NeutralDensity 0.76 >> >> >> >> setpagedevice ";
+    "<< /HWResolution [72 72] /TrappingDetails << /Type 1001 /ColorantDetails << /Cyan << /NeutralDensity 0.61 >> /Magenta << /NeutralDensity 0.76 >> /Yellow << /NeutralDensity 0.16 >> /Black << /NeutralDensity 1.70 >> >> >> >> setpagedevice ";
 
 // The parameters of a job, and the set of what it changes.
 const TRAPS: &[(&str, &[u8])] = &[

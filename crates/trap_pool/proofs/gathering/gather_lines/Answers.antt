@@ -9,18 +9,18 @@ pub loop-number-preserved : goal.loop-number-preserved
 loop-number-preserved g c =
     let a = g.T.Tray.state c.args.tray.now in
     let b = g.T.Tray.state c.loop-number.tray in
-    let d = g.T.Tray.state c.gather_line-reply.new.tray in
+    let d = g.T.Tray.state c.gather_line-line.new.tray in
     let n = c.loop-number.number in
     let line = c.index-as_slice-number.result in
-    let reply = c.gather_line-reply.result in
-    let pushed : c.push.new.self.items ≡ c.loop-number.replies.items ++ reply ∷ [] = c.in-Ok.ensures.items in
+    let reply = c.gather_line-line.result in
+    let pushed : c.push.new.self.items ≡ c.loop-number.gathered.items ++ reply ∷ [] = c.in-Ok.ensures.items in
     let item : line ≡ get_or c.args.lines.now n line = c.index-as_slice-number.is ∙ ap (λ (l : List LineParts). get_or l n line) c.as_slice.ensures in
     let before = c.loop-number.invariant in
     record {
       turn = subst (λ (l : List ReplyParts). InTurn 0 0 (take (n + 1) c.args.lines.now) a d l) (sym pushed)
-          (next_turn c.args.lines.now n c.loop-number.used line a b d c.loop-number.replies.items reply (omega arith) before.count before.used item before.turn c.gather_line-reply.ensures.answer);
-      count = ap length pushed ∙ length-append c.loop-number.replies.items (reply ∷ []) ∙ ap (λ (m : ℕ). m + 1) before.count;
-      used = ap (λ (m : ℕ). c.loop-number.used + m) c.accepted-used.ensures ∙ ap (λ (m : ℕ). m + accepted_of reply.page reply.outcome) before.used ∙ sym (ap accepted pushed ∙ accepted_more c.loop-number.replies.items reply);
-      few = let limit = c.gather_line-reply.ensures.limit in let took = c.accepted-used.ensures in omega arith;
+          (next_turn c.args.lines.now n c.loop-number.used line a b d c.loop-number.gathered.items reply (omega arith) before.count before.used item before.turn c.gather_line-line.ensures.answer);
+      count = ap length pushed ∙ length-append c.loop-number.gathered.items (reply ∷ []) ∙ ap (λ (m : ℕ). m + 1) before.count;
+      used = ap (λ (m : ℕ). c.loop-number.used + m) c.accepted-used.ensures ∙ ap (λ (m : ℕ). m + accepted_of reply.page reply.outcome) before.used ∙ sym (ap accepted pushed ∙ accepted_more c.loop-number.gathered.items reply);
+      few = let limit = c.gather_line-line.ensures.limit in let took = c.accepted-used.ensures in omega arith;
       room = let kept = c.in-Ok.ensures.capacity in let room = before.room in omega arith;
     }

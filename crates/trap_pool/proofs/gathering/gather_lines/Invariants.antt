@@ -5,9 +5,9 @@ use Rattle.trap_pool.proofs.gathering.gather_lines.Given as goal
 
 abbrev pub invariant-loop-number : goal.invariant-loop-number
 invariant-loop-number g l = record {
-  turn : InTurn 0 0 (take l.number l.lines) (g.T.Tray.state l.fn.tray) (g.T.Tray.state l.tray) l.replies.items;
-  count : length l.replies.items ≡ l.number;
-  used : l.used ≡ accepted l.replies.items;
+  turn : InTurn 0 0 (take l.number l.lines) (g.T.Tray.state l.fn.tray) (g.T.Tray.state l.tray) l.gathered.items;
+  count : length l.gathered.items ≡ l.number;
+  used : l.used ≡ accepted l.gathered.items;
   few : l.used ≤ most_in_all;
-  room : length l.lines ≤ vec_capacity l.replies;
+  room : length l.lines ≤ vec_capacity l.gathered;
 }

@@ -1,4 +1,4 @@
-use Rattle.std.proofs.Common.{length, sym, ap, subst, arith}
+use Rattle.std.proofs.Common.{◌∙◌, length, sym, ap, subst, arith}
 use Rattle.trap_pool.specs.Pools.{Pools}
 use Rattle.trap_pool.proofs.Settling.{all_then, turn_kept}
 use Rattle.trap_pool.proofs.Turns.{as_many, pools}
@@ -6,23 +6,31 @@ use Rattle.trap_pool.proofs.pool.pool_run.Goals as goal
 
 pub waiting_lines-numbers-requires-clause-numbered : goal.waiting_lines-numbers-requires-clause-numbered
 waiting_lines-numbers-requires-clause-numbered g c =
-    let many = as_many 0 0 c.args.lines.now (g.T.Tray.state c.args.tray.now) (g.T.Tray.state c.gather_lines-replies.new.tray) c.gather_lines-replies.result.items c.gather_lines-replies.ensures in
+    let many = as_many 0 0 c.args.lines.now (g.T.Tray.state c.args.tray.now) (g.T.Tray.state c.gather_lines-gathered.new.tray) c.gather_lines-gathered.result.items c.gather_lines-gathered.ensures in
     let same = ap length c.as_slice.ensures.value in
     omega arith
 
 pub waiting_lines-numbers-requires-clause-room : goal.waiting_lines-numbers-requires-clause-room
 waiting_lines-numbers-requires-clause-room g c =
-    let many = as_many 0 0 c.args.lines.now (g.T.Tray.state c.args.tray.now) (g.T.Tray.state c.gather_lines-replies.new.tray) c.gather_lines-replies.result.items c.gather_lines-replies.ensures in
+    let many = as_many 0 0 c.args.lines.now (g.T.Tray.state c.args.tray.now) (g.T.Tray.state c.gather_lines-gathered.new.tray) c.gather_lines-gathered.result.items c.gather_lines-gathered.ensures in
     let same = ap length c.as_slice.ensures.value in
     let room = c.in-Ok.ensures.numbers in
+    omega arith
+
+pub replies_of-requires-clause-room : goal.replies_of-requires-clause-room
+replies_of-requires-clause-room g c =
+    let many = as_many 0 0 c.args.lines.now (g.T.Tray.state c.args.tray.now) (g.T.Tray.state c.gather_lines-gathered.new.tray) c.gather_lines-gathered.result.items c.gather_lines-gathered.ensures in
+    let first = c.take_in.ensures.count in
+    let last = c.trap_rest.ensures.count in
+    let room = c.in-Ok.ensures.replies in
     omega arith
 
 pub returns : goal.returns
 returns g c =
     let a = g.T.Tray.state c.args.tray.now in
-    let b = g.T.Tray.state c.gather_lines-replies.new.tray in
-    let first = c.gather_lines-replies.result.items in
-    let last = c.trap_rest.new.replies.items in
-    let settled = all_then first c.take_in.new.replies.items last c.take_in.ensures c.trap_rest.ensures in
-    subst (Pools c.args.lines.now a b) (sym c.from_vec.ensures)
-    (pools c.args.lines.now a b last (turn_kept 0 0 c.args.lines.now a b first last settled c.gather_lines-replies.ensures))
+    let b = g.T.Tray.state c.gather_lines-gathered.new.tray in
+    let first = c.gather_lines-gathered.result.items in
+    let last = c.trap_rest.new.gathered.items in
+    let settled = all_then first c.take_in.new.gathered.items last c.take_in.ensures c.trap_rest.ensures in
+    subst (Pools c.args.lines.now a b) (sym (c.from_vec.ensures ∙ c.replies_of.ensures))
+    (pools c.args.lines.now a b last (turn_kept 0 0 c.args.lines.now a b first last settled c.gather_lines-gathered.ensures))

@@ -7,5 +7,5 @@ invariant-loop-number l = record {
   ascends : Ascends l.numbers.items;
   above : IsAbove l.number l.numbers.items;
   few : vec_len l.numbers ≤ l.number;
-  room : length l.replies ≤ vec_capacity l.numbers;
+  room : length l.gathered ≤ vec_capacity l.numbers;
 }

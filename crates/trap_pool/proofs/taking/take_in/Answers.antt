@@ -8,6 +8,6 @@ pub loop-room-preserved : goal.loop-room-preserved
 loop-room-preserved c =
     let whole : c.args.rooms.items ≡ c.loop-room.yielded ++ c.in-Some.room ∷ into_iter_items c.next.new.self = search rules in
     record {
-      settled = all_then c.args.replies.now.items c.loop-room.replies.items c.take_room.new.replies.items c.loop-room.invariant.settled c.take_room.ensures;
+      settled = all_then c.args.gathered.now.items c.loop-room.gathered.items c.take_room.new.gathered.items c.loop-room.invariant.settled c.take_room.ensures;
       left = whole ∙ sym (append_assoc c.loop-room.yielded (c.in-Some.room ∷ []) (into_iter_items c.next.new.self));
     }

@@ -5,6 +5,6 @@ use Rattle.trap_pool.proofs.taking.take_in.Given as goal
 
 abbrev pub invariant-loop-room : goal.invariant-loop-room
 invariant-loop-room l = record {
-  settled : AllSettled l.fn.replies.items l.replies.items;
+  settled : AllSettled l.fn.gathered.items l.gathered.items;
   left : l.fn.rooms.items ≡ l.yielded ++ into_iter_items l.room-iterator;
 }

@@ -4,6 +4,6 @@ use Rattle.trap_pool.proofs.taking.trap_rest.Goals.{in-Some, in_default}
 
 pub loop-place-preserved : goal.loop-place-preserved
 loop-place-preserved c = elim c.match-trap_waiting.branch [
-  | in-Some w ↦ rw w.replies-is (all_then c.args.replies.now.items c.loop-place.replies.items w.settle_at.new.replies.items c.loop-place.invariant w.settle_at.ensures)
-  | in_default w ↦ rw w.replies-is c.loop-place.invariant
+  | in-Some w ↦ rw w.gathered-is (all_then c.args.gathered.now.items c.loop-place.gathered.items w.settle_at.new.gathered.items c.loop-place.invariant w.settle_at.ensures)
+  | in_default w ↦ rw w.gathered-is c.loop-place.invariant
 ]

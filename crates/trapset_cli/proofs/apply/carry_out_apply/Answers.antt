@@ -1,5 +1,5 @@
 use Rattle.std.proofs.Common.{List, ℕ, Bor, map, ap, ◌∙◌}
-use Rattle.set_words.specs.Held.{apply_in}
+use Rattle.trapset_cli.specs.Held.{apply_in}
 use Rattle.trapset_cli.proofs.ApplyLemmas.{patched_out, some_plates}
 use Rattle.trapset_cli.proofs.apply.carry_out_apply.Goals as goal
 

@@ -1,6 +1,6 @@
 use Rattle.std.proofs.Common.{◌≡◌, map, string_bytes, take}
 use Rattle.plain_words.specs.Parts.{copy_of}
-use Rattle.set_words.specs.Words.{outputs_of}
+use Rattle.trapset_cli.specs.Words.{outputs_of}
 use Rattle.trapset_cli.proofs.files.outputs_of.Given as goal
 
 abbrev pub invariant-loop-word : goal.invariant-loop-word

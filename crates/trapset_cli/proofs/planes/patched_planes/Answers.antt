@@ -1,5 +1,5 @@
 use Rattle.std.proofs.Common.{List, ℕ, Bor, map, ap, ◌∙◌}
-use Rattle.set_words.specs.Held.{apply_in}
+use Rattle.trapset_cli.specs.Held.{apply_in}
 use Rattle.trapset_cli.proofs.ApplyLemmas.{plates_patched, plates_unread, some_plates}
 use Rattle.trapset_cli.proofs.planes.patched_planes.Goals as goal
 

@@ -1,6 +1,6 @@
 use Rattle.std.proofs.Common.{sym}
 use Rattle.trapset_cli.specs.Endings.Ends.{command}
-use Rattle.set_words.specs.Held.{command_in}
+use Rattle.trapset_cli.specs.Held.{command_in}
 use Rattle.trapset_cli.proofs.top.run.Goals as goal
 
 pub returns-in-Some : goal.returns-in-Some

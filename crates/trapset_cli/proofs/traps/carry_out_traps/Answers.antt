@@ -1,4 +1,4 @@
-use Rattle.set_words.specs.Held.{traps_in}
+use Rattle.trapset_cli.specs.Held.{traps_in}
 use Rattle.trapset_cli.proofs.TrapsLemmas.{page_put}
 use Rattle.trapset_cli.proofs.traps.carry_out_traps.Goals as goal
 

@@ -6,7 +6,7 @@ ghost use Rattle.std.specs.Str.{bytes_eq};
 ghost use Rattle.plain_words.specs.Distinct.{are_distinct};
 ghost use Rattle.plain_words.specs.Inputs.{AreFew};
 ghost use Rattle.plain_words.specs.Parts.{copy_of, is_copy};
-ghost use Rattle.set_words.specs.Words.{are_copies, outputs_of};
+ghost use Rattle.trapset_cli.specs.Words.{are_copies, outputs_of};
 
 use plain_words::inputs::are_few;
 use plain_words::parts::{copy_parts, is_copy_word};

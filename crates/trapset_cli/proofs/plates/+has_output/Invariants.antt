@@ -1,5 +1,5 @@
 use Rattle.std.proofs.Common.{length}
-use Rattle.set_words.proofs.plates.+has_output.Given as goal
+use Rattle.trapset_cli.proofs.plates.+has_output.Given as goal
 
 abbrev pub decreases-has_output : goal.decreases-has_output
 decreases-has_output l = length l.words.now

@@ -1,5 +1,5 @@
 use Rattle.std.proofs.Common.{length}
-use Rattle.set_words.proofs.plates.+are_all_copies.Given as goal
+use Rattle.trapset_cli.proofs.plates.+are_all_copies.Given as goal
 
 abbrev pub decreases-are_all_copies : goal.decreases-are_all_copies
 decreases-are_all_copies l = length l.words.now

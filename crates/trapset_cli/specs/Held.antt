@@ -2,15 +2,20 @@
 use Rattle.std.specs.Prelude.{length, map, string_bytes}
 use Rattle.plain_words.specs.Inputs.{AreFew}
 use Rattle.plain_words.specs.Parts.{input_of, copy_of}
-use Rattle.set_words.specs.Words.{TrapsWords, ApplyWords, Command as Meaning, Traps as traps, Apply as apply}
-use Rattle.set_words.specs.declared.command.TrapsCommand.{TrapsCommand}
-use Rattle.set_words.specs.declared.command.ApplyCommand.{ApplyCommand}
-use Rattle.set_words.specs.declared.command.Command.{Command}
-use Rattle.set_words.specs.declared.command.Command.TheVariants.{Traps, Apply}
+use Rattle.trapset_cli.specs.Words.{TrapsWords, ApplyWords, Command as Meaning, Traps as traps}
+use Rattle.trapset_cli.specs.Words.{Apply as apply}
+use Rattle.trapset_cli.specs.declared.command.TrapsCommand.{TrapsCommand}
+use Rattle.trapset_cli.specs.declared.command.ApplyCommand.{ApplyCommand}
+use Rattle.trapset_cli.specs.declared.command.Command.{Command}
+use Rattle.trapset_cli.specs.declared.command.Command.TheVariants.{Traps, Apply}
 
 -- a command of `traps`
 abbrev pub traps_in : TrapsCommand → TrapsWords
-traps_in c = record { job = c.job.now; set = c.set.now; plates = map input_of (map string_bytes c.plates.now) }
+traps_in c = record {
+  job = c.job.now;
+  set = c.set.now;
+  plates = map input_of (map string_bytes c.plates.now);
+}
 
 -- a command of `apply`
 abbrev pub apply_in : ApplyCommand → ApplyWords

@@ -1,5 +1,5 @@
 use Rattle.std.proofs.Common.{length}
-use Rattle.set_words.proofs.plates.+have_distinct_outputs.Given as goal
+use Rattle.trapset_cli.proofs.plates.+have_distinct_outputs.Given as goal
 
 abbrev pub decreases-have_distinct_outputs : goal.decreases-have_distinct_outputs
 decreases-have_distinct_outputs l = length l.words.now

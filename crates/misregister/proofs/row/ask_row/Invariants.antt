@@ -1,7 +1,0 @@
-use Rattle.std.proofs.Common.{◌≡◌, ◌+◌, ◌<◌, ℕ, slice_index}
-use Rattle.misregister.specs.Risk.{is_bare}
-use Rattle.misregister.specs.Sweep.{bit}
-use Rattle.misregister.proofs.row.ask_row.Given as goal
-
-abbrev pub invariant-loop-x : goal.invariant-loop-x
-invariant-loop-x g l = record { asked : (k : ℕ) → k < l.x → slice_index l.row k ≡ 1 + bit (is_bare l.sheet l.c k l.y); steps : l.steps ≡ l.initial.steps + l.x }
