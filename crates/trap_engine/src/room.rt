@@ -154,8 +154,8 @@ fn works_of(
     Ok(works.into_vec())
 }
 
-/// The table of a page with its first pass, and an outcome with no row of the page taken in. For more than one worker they
-/// are made side by side: most of that time the system is at work on fresh memory.
+/// The table of a page with its first pass, and an outcome with no row of the page taken in. Where more than one worker is used
+/// they are made side by side: most of that time the system is at work on fresh memory.
 fn table_and_outcome<R: Threads + Sync>(
     rt: &R,
     alloc: Global,
@@ -213,8 +213,8 @@ impl TrapRoom {
     {
         let bands = Bands::new(page.height(), band, page.reach2());
         let layout = Layout::new(page.width(), page.plates(), &bands);
-        let (shared, mut pass, mut outcome) = table_and_outcome(rt, alloc, page, &layout, workers)?;
         let count = workers_for(&bands, workers);
+        let (shared, mut pass, mut outcome) = table_and_outcome(rt, alloc, page, &layout, count)?;
         let works = works_of(alloc, page, &shared, &mut pass, &mut outcome.planes)?;
         let parts = parts_of(alloc, page, &shared, &mut pass, count)?;
         Ok(TrapRoom {
