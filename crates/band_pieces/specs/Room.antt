@@ -5,6 +5,16 @@ use Rattle.page_model.specs.Columns.{halo}
 use Rattle.row_cells.specs.Layouts.{Layout, IsLayout}
 use Rattle.row_cells.specs.Places.{per_row}
 
+-- what contracts see of a worker's memory: the layout that it was made for, how many values of each
+-- phase there is memory for, and the room of the makers
+pub record Memory : Type 0 where
+  pub layout : Layout
+  pub zones : ℕ
+  pub marks : ℕ
+  pub answers : ℕ
+  pub tints : ℕ
+  pub room : Room
+
 -- at least so many rows of a page as are within so many rows of a band of it
 abbrev pub most_rows : Layout → ℕ → ℕ
 most_rows layout near = min (layout.bands.height + near) layout.bands.rows

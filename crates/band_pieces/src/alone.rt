@@ -17,7 +17,7 @@ use page_model::page::Page;
 /// Makes a piece that is left, whose needs are among the pieces before it.
 fn finish_piece(closed: &mut Closed, page: &Page, scratch: &mut Scratch, piece: u32)
     requires page { page.now ≡ closed.old.sheet.page.value }
-    requires scratch { scratch.old ≡ closed.old.sheet.layout }
+    requires scratch { scratch.old.layout ≡ closed.old.sheet.layout }
     requires piece { piece < pieces_of closed.old.sheet.layout.bands }
     requires earlier { (i : ℕ) → i < piece → piece_word closed.old.words i ≡ 2 }
     requires cells { DoneHaveCells closed.old }
@@ -37,7 +37,7 @@ fn finish_piece(closed: &mut Closed, page: &Page, scratch: &mut Scratch, piece: 
 /// the scratch was made for. It takes no memory and waits for nobody.
 pub fn finish_alone(closed: &mut Closed, page: &Page, scratch: &mut Scratch)
     requires page { page.now ≡ closed.old.sheet.page.value }
-    requires scratch { scratch.old ≡ closed.old.sheet.layout }
+    requires scratch { scratch.old.layout ≡ closed.old.sheet.layout }
     requires words { AreWords (shape_of closed.old.sheet) closed.old.words }
     requires sound { Sound (shape_of closed.old.sheet) (cell closed.old.sheet)
         (board_of (shape_of closed.old.sheet) closed.old.words) }

@@ -37,7 +37,7 @@ pub fn all_done(shared: &Shared, reader: &mut Reader) -> bool
 /// workers left. It takes no memory and waits for nobody.
 pub fn finish_table(shared: Shared, pass: Pass, page: &Page, scratch: &mut Scratch) -> Closed
     requires page { page.now ≡ shared.sheet.page.value }
-    requires scratch { scratch.old ≡ shared.sheet.layout }
+    requires scratch { scratch.old.layout ≡ shared.sheet.layout }
     requires pass { Seats shared pass }
     requires whole { IsWhole pass.view.share }
     requires accounted { (i : ℕ) → i < pieces_of shared.sheet.layout.bands

@@ -1,6 +1,9 @@
-ghost use Rattle.std.specs.Prelude.{◌≡◌, ℕ, ◌<◌, true, IfOk, vec_len};
-ghost use Rattle.band_claims.specs.Sheets.{IsFit};
+ghost use Rattle.std.specs.Prelude.{◌≡◌, ℕ, ◌<◌, true, IfOk, Some, vec_len};
+ghost use Rattle.band_claims.specs.Seating.{Seats};
+ghost use Rattle.band_claims.specs.Sheets.{shape_of, IsFit};
+ghost use Rattle.band_claims.specs.Views.{Knows};
 ghost use Rattle.band_graph.specs.Needs.{is_need};
+ghost use Rattle.band_workers.specs.Filled.{filled_to};
 ghost use Rattle.page_model.specs.Bands.{AreBands, pieces_of};
 ghost use Rattle.page_model.specs.Page.{height, plates, width};
 ghost use Rattle.page_model.specs.Reach.{page_reach};
@@ -18,7 +21,7 @@ use std::alloc::Global;
 use std::marker::Model;
 
 /// All the memory of one worker: the values that it reads and makes of a piece of each phase, and the room of the makers.
-/// It is taken once, and a piece takes none.
+/// It is taken once, and a piece takes none: contracts see beside the layout how much each list has, and it stays.
 #[derive(Drop)]
 pub struct Scratch {
     layout: Layout,
@@ -30,13 +33,19 @@ pub struct Scratch {
 }
 
 impl Model for Scratch {
-    ghost use Rattle.std.specs.Prelude.{vec_len};
-    ghost use Rattle.row_cells.specs.Layouts.{Layout};
-    ghost use Rattle.band_pieces.specs.Room.{IsRoom};
+    ghost use Rattle.std.specs.Prelude.{vec_capacity, vec_len};
+    ghost use Rattle.band_pieces.specs.Room.{IsRoom, Memory};
 
-    ghost Value = { Layout };
+    ghost Value = { Memory };
 
-    ghost view = { λ s. s.layout };
+    ghost view = { λ s. record {
+      layout = s.layout;
+      zones = vec_capacity s.zones;
+      marks = vec_capacity s.marks;
+      answers = vec_capacity s.answers;
+      tints = vec_capacity s.tints;
+      room = s.room;
+    } };
 
     ghost invariant = { λ s. IsRoom s.layout s.room (vec_len s.zones) (vec_len s.marks)
         (vec_len s.answers) (vec_len s.tints) };
@@ -58,7 +67,7 @@ impl Scratch {
         requires bands { AreBands bands.now }
         requires rows { bands.now.rows ≡ height page.now }
         requires reach { bands.now.reach2 ≡ page_reach page.now }
-        ensures { IfOk result (λ scratch. scratch
+        ensures { IfOk result (λ scratch. scratch.layout
             ≡ record { bands = bands.now; width = width page.now; plates = plates page.now }) }
     {
         let layout = Layout::new(page.width(), page.plates(), bands);
@@ -83,12 +92,12 @@ impl Scratch {
         page: &Page,
         piece: u32,
     )
-        requires layout { self.old ≡ (C.sheet table.now seat.old).layout }
+        requires layout { self.old.layout ≡ (C.sheet table.now seat.old).layout }
         requires page { page.now ≡ (C.sheet table.now seat.old).page.value }
         requires fit { IsFit (C.sheet table.now seat.old) }
-        requires piece { piece < pieces_of self.old.bands }
+        requires piece { piece < pieces_of self.old.layout.bands }
         requires may { C.may_fill table.now seat.old piece }
-        requires known { (n : ℕ) → is_need self.old.bands piece n ≡ true
+        requires known { (n : ℕ) → is_need self.old.layout.bands piece n ≡ true
             → C.knows table.now seat.old n }
         ensures scratch { self.new ≡ self.old }
         ensures filled { C.filled table.now seat.old seat.new piece }
@@ -109,9 +118,23 @@ impl Scratch {
 }
 
 impl Maker for Scratch {
-    ghost serves = { λ scratch sheet. scratch ≡ sheet.layout };
+    ghost serves = { λ scratch sheet. scratch.layout ≡ sheet.layout };
 
-    fn fill(&mut self, page: &Page, shared: &Shared, pass: &mut Pass, piece: u32) {
+    fn fill(&mut self, page: &Page, shared: &Shared, pass: &mut Pass, piece: u32)
+        requires page { page.now ≡ shared.now.sheet.page.value }
+        requires serves { self.old.layout ≡ shared.now.sheet.layout }
+        requires pass { Seats shared.now pass.old }
+        requires piece { piece < pieces_of shared.now.sheet.layout.bands }
+        requires held { pass.old.view.held ≡ Some piece }
+        requires none_filled { pass.old.view.filled ≡ 0 }
+        requires known { (n : ℕ) → is_need shared.now.sheet.layout.bands piece n ≡ true
+            → Knows pass.old.view n }
+        ensures serves { self.new.layout ≡ shared.now.sheet.layout }
+        ensures pass { Seats shared.now pass.new }
+        ensures filled { pass.new.view
+            ≡ filled_to ((shape_of shared.now.sheet).size piece) pass.old.view }
+        ensures memory { self.new ≡ self.old }
+    {
         let _fits = shared.bands();
         self.fill_piece(shared, pass, page, piece);
     }

@@ -13,6 +13,8 @@ mod random_pages;
 #[cfg(test)]
 mod reads;
 #[cfg(test)]
+mod slow_edges;
+#[cfg(test)]
 mod slow_marks;
 #[cfg(test)]
 mod slow_traps;

@@ -1,14 +1,14 @@
 // The traps of a page by the whole rule, for tests: the decider of each sample is searched for among all deciding edges.
 
-ghost use Rattle.std.specs.Prelude.{◌≡◌, ◌<◌, ◌+◌, ◌*◌, All, IfOk, OnOk, length};
+ghost use Rattle.std.specs.Prelude.{◌≡◌, ◌<◌, All, IfOk, length};
 ghost use Rattle.std.specs.Option.{ForSome};
 ghost use Rattle.page_model.specs.Edges.{IsEdge};
-ghost use Rattle.page_model.specs.Page.{InPage, plates, samples, width};
+ghost use Rattle.page_model.specs.Page.{InPage, plates, samples};
 ghost use Rattle.strip_engine.specs.Whole.{sample_zones};
 
 use crate::grid::{sample_of, samples_of};
 use crate::memory::{filled, push};
-use crate::slow_marks::{decides_at, zone_among};
+use crate::slow_edges::{deciding_edges, zone_among};
 use crate::zones::zones_of;
 use lists::list::List;
 use page_model::edges::squared_distance;
@@ -17,39 +17,6 @@ use page_model::parts::{At, CountList, Counts, EdgeAt, OutOfMemory, Plane, Plane
 use std::alloc::Global;
 use strip_engine::Trapped;
 use trap_color::trap_sample;
-
-/// Adds the deciding edges of a column of the doubled grid.
-fn add_column(
-    page: &Page,
-    zones: &[u8],
-    x2: u32,
-    edges: &mut List<EdgeAt>,
-) -> Result<(), OutOfMemory>
-    requires zones { zones.now ≡ sample_zones page.now }
-    requires column { x2 + 1 < 2 * width page.now }
-    requires edges { All (IsEdge page.now) edges.old }
-    ensures { OnOk result (All (IsEdge page.now) edges.new) }
-{
-    for y2 in 0..2 * page.height() - 1 {
-        let e = EdgeAt { x2, y2 };
-        if (x2 + y2) % 2 == 1 && decides_at(page, zones, e) {
-            push(edges, e)?;
-        }
-    }
-    Ok(())
-}
-
-/// All deciding edges of the page.
-fn deciding_edges(alloc: Global, page: &Page, zones: &[u8]) -> Result<List<EdgeAt>, OutOfMemory>
-    requires zones { zones.now ≡ sample_zones page.now }
-    ensures { IfOk result (All (IsEdge page.now)) }
-{
-    let mut edges = List::new(alloc);
-    for x2 in 0..2 * page.width() - 1 {
-        add_column(page, zones, x2, &mut edges)?;
-    }
-    Ok(edges)
-}
 
 /// Whether e is nearer to p than f is, or as near and further left, or above f in its column.
 fn comes_before(page: &Page, p: At, e: EdgeAt, f: EdgeAt) -> bool

@@ -21,7 +21,7 @@ fn make_piece(
     piece: u32,
 ) -> bool
     requires page { page.now ≡ shared.now.sheet.page.value }
-    requires scratch { scratch.old ≡ shared.now.sheet.layout }
+    requires scratch { scratch.old.layout ≡ shared.now.sheet.layout }
     requires pass { Seats shared.now pass.old }
     requires piece { piece < pieces_of shared.now.sheet.layout.bands }
     requires idle { pass.old.view.held ≡ None }
@@ -46,7 +46,7 @@ fn make_first(
     count: u32,
 ) -> bool
     requires page { page.now ≡ shared.now.sheet.page.value }
-    requires scratch { scratch.old ≡ shared.now.sheet.layout }
+    requires scratch { scratch.old.layout ≡ shared.now.sheet.layout }
     requires pass { Seats shared.now pass.old }
     requires count { count < pieces_of shared.now.sheet.layout.bands }
     requires idle { pass.old.view.held ≡ None }
@@ -70,7 +70,7 @@ fn left_at(
     done: u32,
 ) -> (bool, bool)
     requires page { page.now ≡ shared.sheet.page.value }
-    requires scratch { scratch.old ≡ shared.sheet.layout }
+    requires scratch { scratch.old.layout ≡ shared.sheet.layout }
     requires pass { Seats shared pass }
     requires idle { pass.view.held ≡ None }
     requires done { done < pieces_of shared.sheet.layout.bands }

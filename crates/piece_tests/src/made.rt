@@ -38,7 +38,7 @@ fn scratches(
     requires rows { bands.now.rows ≡ height_of page.now }
     requires reach { bands.now.reach2 ≡ page_reach page.now }
     ensures count { IfOk result (λ all. length all.items ≡ count) }
-    ensures layout { IfOk result (λ all. All (λ scratch. scratch
+    ensures layout { IfOk result (λ all. All (λ scratch. scratch.layout
         ≡ record { bands = bands.now; width = width page.now; plates = plates page.now })
         all.items) }
 {

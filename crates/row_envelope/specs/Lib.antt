@@ -1,2 +1,3 @@
 pub mod Envelope
 pub mod Hull
+pub mod Room

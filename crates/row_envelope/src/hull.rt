@@ -12,7 +12,8 @@ use std::alloc::Global;
 use std::marker::Model;
 use std::sync::ledger::Ledger;
 
-/// Room for the arms that are nearest somewhere in a row.
+/// Room for the arms that are nearest somewhere in a row. Contracts see the doubled columns of the rows that it was made for,
+/// and how much memory it has.
 #[derive(Drop)]
 pub struct HullBuf {
     pub(crate) places: Vec<u32>,
@@ -20,11 +21,16 @@ pub struct HullBuf {
 }
 
 impl Model for HullBuf {
-    ghost use Rattle.std.specs.Prelude.{◌≡◌, ℕ, vec_len};
+    ghost use Rattle.std.specs.Prelude.{◌≡◌, vec_capacity, vec_len};
+    ghost use Rattle.row_envelope.specs.Room.{Room};
 
-    ghost Value = { ℕ };
+    ghost Value = { Room };
 
-    ghost view = { λ h. vec_len h.places };
+    ghost view = { λ h. record {
+      columns = vec_len h.places;
+      places = vec_capacity h.places;
+      starts = vec_capacity h.starts;
+    } };
 
     ghost invariant = { λ h. vec_len h.starts ≡ vec_len h.places };
 }
@@ -45,7 +51,7 @@ impl HullBuf {
     pub fn new(alloc: Global, width: u32) -> Result<HullBuf, OutOfMemory>
         requires some { 1 ≤ width }
         requires narrow { width ≤ most_side }
-        ensures { IfOk result (λ h. h ≡ 2 * width - 1) }
+        ensures { IfOk result (λ h. h.columns ≡ 2 * width - 1) }
     {
         let columns = 2 * width as usize - 1;
         Ok(HullBuf {

@@ -93,7 +93,7 @@ pub fn nearest_row<L: Ledger>(
     requires narrow { width ≤ most_side }
     requires order { Rising arms.now }
     requires inside { (k : ℕ) → k < length arms.now → (arm_at arms.now k).column + 2 ≤ 2 * width }
-    requires hull { hull.old ≡ 2 * width - 1 }
+    requires hull { hull.old.columns ≡ 2 * width - 1 }
     requires out { length out.old ≡ width }
     ensures len { length out.new ≡ width }
     ensures nearest { (x : ℕ) → x < width → slice_index_or out.new x None ≡ nearest arms.now x }

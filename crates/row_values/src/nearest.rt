@@ -36,7 +36,7 @@ fn nearest_by<L: Ledger>(
     requires arms { length arms.old ≡ 2 * width page.now - 1 }
     requires columns { length columns.old ≡ 2 * width page.now - 1 }
     requires places { length places.old ≡ width page.now }
-    requires hull { hull.old ≡ 2 * width page.now - 1 }
+    requires hull { hull.old.columns ≡ 2 * width page.now - 1 }
     ensures arms { length arms.new ≡ length arms.old }
     ensures columns { length columns.new ≡ length columns.old }
     ensures places { length places.new ≡ length places.old }
@@ -72,7 +72,7 @@ pub fn nearest_arms(
     requires arms { length arms.old ≡ 2 * width page.now - 1 }
     requires columns { length columns.old ≡ 2 * width page.now - 1 }
     requires places { length places.old ≡ width page.now }
-    requires hull { hull.old ≡ 2 * width page.now - 1 }
+    requires hull { hull.old.columns ≡ 2 * width page.now - 1 }
     ensures arms { length arms.new ≡ length arms.old }
     ensures columns { length columns.new ≡ length columns.old }
     ensures places { length places.new ≡ length places.old }

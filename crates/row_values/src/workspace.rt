@@ -12,7 +12,8 @@ use zone_map::SpanBuf;
 
 /// The room that the makers work in, for pages of one width and number of plates: the crossings of a row, its arms with
 /// their columns, the place of each sample's nearest arm, the hull of the arms, and a tint for each plate. It is made once,
-/// and nothing is allocated afterwards.
+/// and nothing is allocated afterwards: contracts see how much memory each of these has, so that a maker that leaves it as it
+/// was took none.
 #[derive(Drop)]
 pub struct Workspace {
     pub(crate) width: u32,
@@ -26,16 +27,25 @@ pub struct Workspace {
 }
 
 impl Model for Workspace {
-    ghost use Rattle.std.specs.Prelude.{◌≡◌, ◌-◌, ◌*◌, vec_len};
+    ghost use Rattle.std.specs.Prelude.{◌≡◌, ◌-◌, ◌*◌, vec_capacity, vec_len};
     ghost use Rattle.row_values.specs.Room.{Room};
 
     ghost Value = { Room };
 
-    ghost view = { λ w. record { wide = w.width; deep = w.plates } };
+    ghost view = { λ w. record {
+      wide = w.width;
+      deep = w.plates;
+      arms = vec_capacity w.arms;
+      columns = vec_capacity w.columns;
+      places = vec_capacity w.places;
+      tints = vec_capacity w.tints;
+      spans = w.spans;
+      hull = w.hull;
+    } };
 
-    ghost invariant = { λ w. (w.spans ≡ w.width) × (vec_len w.arms ≡ 2 * w.width - 1)
+    ghost invariant = { λ w. (w.spans.wide ≡ w.width) × (vec_len w.arms ≡ 2 * w.width - 1)
         × (vec_len w.columns ≡ 2 * w.width - 1) × (vec_len w.places ≡ w.width)
-        × (w.hull ≡ 2 * w.width - 1) × (vec_len w.tints ≡ w.plates) };
+        × (w.hull.columns ≡ 2 * w.width - 1) × (vec_len w.tints ≡ w.plates) };
 }
 
 /// So many copies of an item.

@@ -13,7 +13,7 @@ fn write_zones(page: &Page, rows: Rows, k: u32, out: &mut [u8], spans: &mut Span
     requires row { k < rows.count }
     requires inside { rows.first + rows.count ≤ height page.now }
     requires out { length out.old ≡ rows.count * width page.now }
-    requires spans { spans.old ≡ width page.now }
+    requires spans { spans.old.wide ≡ width page.now }
     ensures here { (x : ℕ) → x < width page.now
         → slice_index out.new (k * width page.now + x) ≡ zone_value page.now (rows.first + k) x }
     ensures kept { (i : ℕ) → i < k * width page.now
@@ -29,7 +29,7 @@ fn write_zones(page: &Page, rows: Rows, k: u32, out: &mut [u8], spans: &mut Span
 fn zones_into(page: &Page, rows: Rows, out: &mut [u8], spans: &mut SpanBuf)
     requires inside { rows.first + rows.count ≤ height page.now }
     requires out { length out.old ≡ rows.count * width page.now }
-    requires spans { spans.old ≡ width page.now }
+    requires spans { spans.old.wide ≡ width page.now }
     ensures zones { HoldsZones page.now rows out.new }
     ensures len { length out.new ≡ length out.old }
     ensures spans { spans.new ≡ spans.old }

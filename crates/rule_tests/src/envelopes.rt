@@ -12,11 +12,11 @@ use std::test::Fail;
 fn places<L: Ledger>(arms: &[Arm], hull: &mut HullBuf, blank: Blank) -> [Option<u32>; 3]
     requires order { Rising arms.now }
     requires inside { (k : ℕ) → k < length arms.now → (arm_at arms.now k).column + 2 ≤ 6 }
-    requires hull { hull.old ≡ 5 }
+    requires hull { hull.old.columns ≡ 5 }
     requires name { blank.name ≡ L.name }
     requires parts { blank.parts ≡ L.parts }
     requires some { 0 < L.parts }
-    ensures { hull.new ≡ 5 }
+    ensures { hull.new.columns ≡ 5 }
 {
     let mut steps = Steps::<L>::new(blank);
     let mut out = [Some(9); 3];

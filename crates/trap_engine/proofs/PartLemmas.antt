@@ -2,11 +2,14 @@
 use Rattle.std.proofs.Common.{◌≡◌, ℕ, ◌+◌, ◌<◌, ◌≤◌, ◌∙◌, ◌∷◌, ◌++◌, [], refl, sym, ap, arith, List, length, inl, inr}
 use Rattle.std.specs.Prelude.{◌-◌, min, slice_index_or}
 use Rattle.std.proofs.lemmas.Bool.{cases_eq}
-use Rattle.std.proofs.lemmas.List.{get_or_append_left, get_or_push, length-append}
+use Rattle.std.specs.Prelude.{◌*◌, ◌/◌, ◌%◌, slice_set}
+use Rattle.std.proofs.Math.Nat.{div-add-mod, lt_of_mul-lt-mul_right, mod-lt}
+use Rattle.std.proofs.lemmas.List.{get_or_append_left, get_or_push, get_or-set_other, get_or-set_same, length-append, length-set}
 use Rattle.row_values.specs.declared.rows.Rows.{Rows}
 use Rattle.page_model.specs.declared.parts.PageParts.{PageParts}
 use Rattle.page_model.specs.Page.{height}
 use Rattle.trap_engine.specs.declared.parts.Part.{Part}
+use Rattle.trap_engine.specs.Memory.{KeepsParts, KeepsTally}
 use Rattle.trap_engine.specs.Parts.{AreOfSize, AreParts, CoverPage, IsPart}
 
 -- the parts' rows are those of before
@@ -83,3 +86,47 @@ all_laid page to parts e tall h =
       cover = record { some = some; first = λ d. h.first d some; next = h.next; last = λ i d l. h.last i d l ∙ e };
       each = h.each;
     }
+
+-- parts of one size are as many as the rows before the next one call for, and so no more than are asked for
+
+one_more : (n size : ℕ) → (n + 1) * size ≡ n * size + size
+one_more n size = omega arith
+
+pub one_even : (parts : List Part) (one : Part) (size first tall count : ℕ) → first < tall → count ≡ min (tall - first) size → length parts * size ≡ first → first + count < tall → length (parts ++ one ∷ []) * size ≡ first + count
+one_even parts one size first tall count low e h l =
+    let long : length (parts ++ one ∷ []) ≡ length parts + 1 = length-append parts (one ∷ []) in
+    rw long (omega (arith, one_more (length parts) size, low, e, h, l))
+
+pub one_few : (parts : List Part) (one : Part) (size first tall : ℕ) → first < tall → length parts * size ≡ first → length (parts ++ one ∷ []) * size < tall + size
+one_few parts one size first tall low h =
+    let long : length (parts ++ one ∷ []) ≡ length parts + 1 = length-append parts (one ∷ []) in
+    rw long (omega (arith, one_more (length parts) size, low, h))
+
+pub at_most : (n most size tall : ℕ) → 1 ≤ most → size ≡ tall / most + 1 → n * size < tall + size → n ≤ most
+at_most n most size tall some e few =
+    let whole : most * (tall / most) + tall % most ≡ tall = div-add-mod tall most in
+    let less : tall % most < most = mod-lt tall some in
+    let all : most * size ≡ most * (tall / most) + most = ap (λ (s : ℕ). most * s) e ∙ omega arith in
+    let enough : n * size < (most + 1) * size = omega (arith, one_more most size, all, whole, less, few) in
+    let below : n < most + 1 = lt_of_mul-lt-mul_right size enough in
+    omega (arith, below)
+
+-- the room of the parts' tallies
+
+pub parts_kept : (parts : List Part) → KeepsParts parts parts
+parts_kept parts = record { count = refl; each = λ i d l. record { zones = refl; marks = refl; changes = refl; zone_samples = refl; zone_changed = refl } }
+
+pub one_kept : (before after : List Part) (k : ℕ) (one : Part) → k < length after → ((d : Part) → KeepsTally (slice_index_or after k d).tally one.tally) → KeepsParts before after → KeepsParts before (slice_set after k one)
+one_kept before after k one within here h = record {
+  count = length-set after k one ∙ h.count;
+  each = λ i d l. elim (cases_eq i k) [
+    | inl e ↦ (let old = h.each i d l in let new = here d in rw (e, get_or-set_same after k one d within) (record {
+      zones = new.zones ∙ rw e at old.zones;
+      marks = new.marks ∙ rw e at old.marks;
+      changes = new.changes ∙ rw e at old.changes;
+      zone_samples = new.zone_samples ∙ rw e at old.zone_samples;
+      zone_changed = new.zone_changed ∙ rw e at old.zone_changed;
+    }))
+    | inr ne ↦ rw (get_or-set_other after k i one d ne) (h.each i d l)
+  ];
+}

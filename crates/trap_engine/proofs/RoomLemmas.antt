@@ -7,19 +7,20 @@ use Rattle.band_claims.specs.declared.sheet.Sheet.{Sheet}
 use Rattle.band_claims.specs.declared.view.View.{View}
 use Rattle.band_claims.specs.Shares.{IsWhole}
 use Rattle.band_claims.specs.Views.{newcomer}
+use Rattle.band_pieces.specs.Room.{Memory}
 
 abbrev laid : Bands → ℕ → ℕ → Layout
 laid b w p = record { bands = b; width = w; plates = p }
 
-pub served_by : (layout : Layout) (bands : Bands) (w p w' p' : ℕ) (all : List Layout) → layout ≡ record { bands = bands; width = w; plates = p } → w ≡ w' → p ≡ p' → All (λ (s : Layout). s ≡ record { bands = bands; width = w'; plates = p' }) all → All (λ (s : Layout). s ≡ layout) all
-served_by layout bands w p w' p' all e ew ep h = subst (λ (l : Layout). All (λ (s : Layout). s ≡ l) all) (sym (e ∙ ap (λ (n : ℕ). laid bands n p) ew ∙ ap (laid bands w') ep)) h
+pub served_by : (layout : Layout) (bands : Bands) (w p w' p' : ℕ) (all : List Memory) → layout ≡ record { bands = bands; width = w; plates = p } → w ≡ w' → p ≡ p' → All (λ (s : Memory). s.layout ≡ record { bands = bands; width = w'; plates = p' }) all → All (λ (s : Memory). s.layout ≡ layout) all
+served_by layout bands w p w' p' all e ew ep h = subst (λ (l : Layout). All (λ (s : Memory). s.layout ≡ l) all) (sym (e ∙ ap (λ (n : ℕ). laid bands n p) ew ∙ ap (laid bands w') ep)) h
 
 pub one_served_by : (layout one : Layout) (bands : Bands) (w p w' p' : ℕ) → layout ≡ record { bands = bands; width = w; plates = p } → w ≡ w' → p ≡ p' → one ≡ record { bands = bands; width = w'; plates = p' } → one ≡ layout
 one_served_by layout one bands w p w' p' e ew ep h = h ∙ sym (e ∙ ap (λ (n : ℕ). laid bands n p) ew ∙ ap (laid bands w') ep)
 
 -- and so it stays where one more is added
-pub one_more_laid : (all : List Layout) (one : Layout) (bands : Bands) (w p : ℕ) → All (λ (s : Layout). s ≡ record { bands = bands; width = w; plates = p }) all → one ≡ record { bands = bands; width = w; plates = p } → All (λ (s : Layout). s ≡ record { bands = bands; width = w; plates = p }) (all ++ one ∷ [])
-one_more_laid all one bands w p h e = All-append (λ (s : Layout). s ≡ laid bands w p) all (one ∷ []) h (All-cons (λ (s : Layout). s ≡ laid bands w p) one [] e (λ j d none. absurd (omega arith)))
+pub one_more_laid : (all : List Memory) (one : Memory) (bands : Bands) (w p : ℕ) → All (λ (s : Memory). s.layout ≡ record { bands = bands; width = w; plates = p }) all → one.layout ≡ record { bands = bands; width = w; plates = p } → All (λ (s : Memory). s.layout ≡ record { bands = bands; width = w; plates = p }) (all ++ one ∷ [])
+one_more_laid all one bands w p h e = All-append (λ (s : Memory). s.layout ≡ laid bands w p) all (one ∷ []) h (All-cons (λ (s : Memory). s.layout ≡ laid bands w p) one [] e (λ j d none. absurd (omega arith)))
 
 -- a table's first pass has all shares
 pub newcomer_whole : (key : Sheet) (v : View) → v ≡ newcomer key → IsWhole v.share

@@ -1,7 +1,8 @@
 -- Plates and parts of rows that are taken out of a table.
-use Rattle.std.proofs.Common.{◌≡◌, ℕ, Bool, ◌+◌, ◌*◌, ◌/◌, ◌%◌, ◌^◌, ◌<◌, ◌≤◌, refl, sym, ◌∙◌, ap, subst, arith, List, [], ◌∷◌, ◌++◌, length, slice_index}
-use Rattle.std.specs.Prelude.{slice_index_or}
-use Rattle.std.proofs.lemmas.List.{get_or_append_left, get_or_push}
+use Rattle.std.proofs.Common.{◌≡◌, ℕ, Bool, ◌+◌, ◌*◌, ◌/◌, ◌%◌, ◌^◌, ◌<◌, ◌≤◌, refl, sym, ◌∙◌, ap, subst, arith, List, [], ◌∷◌, ◌++◌, inl, inr, length, slice_index}
+use Rattle.std.specs.Prelude.{slice_index_or, slice_set, vec_capacity}
+use Rattle.std.proofs.lemmas.Bool.{cases_eq}
+use Rattle.std.proofs.lemmas.List.{get_or_append_left, get_or_push, get_or-set_other, get_or-set_same, length-set}
 use Rattle.page_model.specs.declared.parts.PageParts.{PageParts}
 use Rattle.page_model.specs.declared.parts.Plane.{Plane}
 use Rattle.page_model.specs.Conditions.{IsPage}
@@ -15,6 +16,7 @@ use Rattle.strip_engine.specs.declared.outcome.Outcome.{Outcome}
 use Rattle.strip_engine.specs.Standing.{AreMarks, AreTrappedTo, HasRows, IsTrappedTo, edges_of}
 use Rattle.strip_engine.specs.Tallies.{HasPlates, HasTallies}
 use Rattle.trap_engine.specs.declared.plates.PlateWork.{PlateWork}
+use Rattle.trap_engine.specs.Memory.{KeepsWorks}
 use Rattle.trap_engine.specs.Taking.{IsTakenPlate}
 
 -- no row yet
@@ -82,3 +84,17 @@ fewer_taken page works work n e h j d l = subst (λ (w : PlateWork). IsTakenPlat
 
 pub last_taken : (page : PageParts) (works : List PlateWork) (work : PlateWork) (n : ℕ) → n ≡ length works → ((j : ℕ) (d : PlateWork) → j < n + 1 → IsTakenPlate page j (slice_index_or (works ++ work ∷ []) j d).plane (slice_index_or (works ++ work ∷ []) j d).changed) → IsTakenPlate page n work.plane work.changed
 last_taken page works work n e h = subst (λ (w : PlateWork). IsTakenPlate page n w.plane w.changed) (get_or_push works work work n (sym e)) (h n work (omega arith))
+
+-- the room of the rows that plates are taken with
+
+pub works_kept : (works : List PlateWork) → KeepsWorks works works
+works_kept works = record { count = refl; each = λ c d l. refl }
+
+pub work_kept : (before after : List PlateWork) (k : ℕ) (one : PlateWork) → k < length after → ((d : PlateWork) → vec_capacity one.row ≡ vec_capacity (slice_index_or after k d).row) → KeepsWorks before after → KeepsWorks before (slice_set after k one)
+work_kept before after k one within here h = record {
+  count = length-set after k one ∙ h.count;
+  each = λ i d l. elim (cases_eq i k) [
+    | inl e ↦ rw (e, get_or-set_same after k one d within) (here d ∙ h.each k d (omega (arith, l, e)))
+    | inr ne ↦ rw (get_or-set_other after k i one d ne) (h.each i d l)
+  ];
+}

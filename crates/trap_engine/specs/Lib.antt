@@ -1,3 +1,4 @@
+pub mod Memory
 pub mod Receipts
 pub mod Parts
 pub mod Room

@@ -4,6 +4,7 @@ use Rattle.band_claims.specs.Seating.{OpenTable, Seating, Seats}
 use Rattle.band_claims.specs.Shares.{IsWhole}
 use Rattle.page_model.specs.declared.parts.PageParts.{PageParts}
 use Rattle.row_cells.specs.Layouts.{Layout}
+use Rattle.band_pieces.specs.Room.{Memory}
 use Rattle.strip_engine.specs.declared.outcome.Outcome.{Outcome}
 use Rattle.strip_engine.specs.Tallies.{HasTallies}
 use Rattle.trap_engine.specs.declared.parts.Part.{Part}
@@ -14,23 +15,29 @@ use Rattle.trap_engine.specs.Taking.{ArePlateWorks, AreSeatedWorks}
 pub record PageOf : Type 0 where
   pub value : PageParts
 
--- what contracts see of a room: its page, the layout of its cells, and how many workers it has memory for
+-- what contracts see of a room: its page, the layout of its cells, how many workers it has memory
+-- for, and in how many parts the rows are counted
 pub record RoomView : Type 0 where
   pub page : PageOf
   pub layout : Layout
   pub workers : ℕ
+  pub parts : ℕ
 
--- a table with its first pass, which holds nothing and has all shares; the memory of some workers and of the caller, made for the table; and for the
--- table's page the works of its plates and the parts of its rows, each with a seat of the table to read by, and an outcome with nothing in it
-pub record IsRoom (shared : OpenTable) (pass : Seating) (scratches : List Layout) (spare : Layout) (works : List PlateWork) (parts : List Part) (outcome : Outcome) : Type 0 where
+-- a table with its first pass, which holds nothing and has all shares; the memory of some workers and
+-- of the caller, made for the table; and for the table's page the works of its plates and the parts of
+-- its rows, at most as many as workers, each with a seat of the table to read by, and an outcome with
+-- nothing in it
+pub record IsRoom (shared : OpenTable) (pass : Seating) (scratches : List Memory) (spare : Memory)
+    (works : List PlateWork) (parts : List Part) (outcome : Outcome) : Type 0 where
   pub seat : Seats shared pass
   pub idle : pass.view.held ≡ None
   pub whole : IsWhole pass.view.share
-  pub served : All (λ (scratch : Layout). scratch ≡ shared.sheet.layout) scratches
+  pub served : All (λ (scratch : Memory). scratch.layout ≡ shared.sheet.layout) scratches
   pub some : 1 ≤ length scratches
-  pub spare_served : spare ≡ shared.sheet.layout
+  pub spare_served : spare.layout ≡ shared.sheet.layout
   pub work_seats : AreSeatedWorks shared works
   pub plate_works : ArePlateWorks shared.sheet.page.value works
   pub part_seats : AreSeatedParts shared parts
   pub row_parts : AreParts shared.sheet.page.value parts
+  pub few_parts : length parts ≤ length scratches
   pub begun : HasTallies shared.sheet.page.value 0 outcome

@@ -1,13 +1,14 @@
 // The page's rows in parts, and what is counted in each out of a table's cells: by the reader of each, side by side with the others,
 // or from the closed table.
-ghost use Rattle.std.specs.Prelude.{◌≡◌, ℕ, ◌+◌, ◌*◌, ◌<◌, ◌≤◌, IfOk, None};
+ghost use Rattle.std.specs.Prelude.{◌≡◌, ℕ, ◌+◌, ◌*◌, ◌/◌, ◌<◌, ◌≤◌, IfOk, None, length};
 ghost use Rattle.band_claims.specs.Seating.{Seats};
 ghost use Rattle.band_claims.specs.Sheets.{IsFit};
 ghost use Rattle.band_pieces.specs.Finished.{IsFinished};
 ghost use Rattle.page_model.specs.Bands.{pieces_of};
 ghost use Rattle.page_model.specs.Page.{height, width};
-ghost use Rattle.strip_engine.specs.Standing.{AreTrappedTo, HasRows};
+ghost use Rattle.strip_engine.specs.Standing.{AreTrappedTo, HasRows, KeepsRoom};
 ghost use Rattle.strip_engine.specs.Tallies.{HasPlates};
+ghost use Rattle.trap_engine.specs.Memory.{KeepsParts, KeepsTally};
 ghost use Rattle.trap_engine.specs.Parts.{AreCountedParts, AreOfSize, AreParts, AreSeatedParts, IsCounted, IsPart};
 
 use crate::tally::{Tally, take_rows, tally_of};
@@ -33,23 +34,26 @@ pub struct Part {
     pub done: bool,
 }
 
-/// The page's rows in parts of so many rows, one after the other; the last has what is left. A reader for each is split off.
+/// The page's rows in so many parts at most, one after the other and of as many rows; the last has what is left. A reader for
+/// each is split off.
 pub fn parts_of(
     alloc: Global,
     page: &Page,
     shared: &Shared,
     pass: &mut Pass,
-    size: u32,
+    most: u32,
 ) -> Result<Vec<Part>, OutOfMemory>
     requires pass { Seats shared.now pass.old }
     requires idle { pass.old.view.held ≡ None }
-    requires some { 1 ≤ size }
+    requires some { 1 ≤ most }
     ensures pass { pass.new ≡ pass.old }
     ensures parts { IfOk result (λ parts. AreParts page.now parts.items) }
-    ensures size { IfOk result (λ parts. AreOfSize page.now size parts.items) }
+    ensures few { IfOk result (λ parts. length parts.items ≤ most) }
+    ensures size { IfOk result (λ parts. AreOfSize page.now (height page.now / most + 1) parts.items) }
     ensures seats { IfOk result (λ parts. AreSeatedParts shared.now parts.items) }
 {
     let height = page.height();
+    let size = height / most + 1;
     let mut parts = List::new(alloc);
     let mut first = 0;
     while first < height {
@@ -75,6 +79,7 @@ fn count_by_reader(shared: &Shared, page: &Page, planes: &[Plane], part: &mut Pa
     requires part { IsPart page.now part.old }
     ensures rows { part.new.rows ≡ part.old.rows }
     ensures part { IsPart page.now part.new }
+    ensures room { KeepsTally part.old.tally part.new.tally }
 {
     if part.done {
         return;
@@ -108,7 +113,8 @@ pub fn count_by_readers<R: Threads + Sync>(
     requires planes { AreTrappedTo page.now planes.now (height page.now * width page.now) }
     requires seats { AreSeatedParts shared.now parts.old }
     requires parts { AreParts page.now parts.old }
-    ensures { AreParts page.now parts.new }
+    ensures parts { AreParts page.now parts.new }
+    ensures room { KeepsParts parts.old parts.new }
 {
     let threads = parts.len();
     thread::for_each_mut(
@@ -122,6 +128,7 @@ pub fn count_by_readers<R: Threads + Sync>(
             requires part { IsPart page.now part.now }
             ensures rows { part.exit.now.rows ≡ part.entry.now.rows }
             ensures part { IsPart page.entry.now part.exit.now }
+            ensures room { KeepsTally part.entry.now.tally part.exit.now.tally }
         { count_by_reader(shared, page, planes, part) },
     );
 }
@@ -133,6 +140,7 @@ fn count_left(closed: &Closed, page: &Page, planes: &[Plane], part: &mut Part)
     requires part { IsPart page.now part.old }
     ensures rows { part.new.rows ≡ part.old.rows }
     ensures part { IsCounted page.now part.new }
+    ensures room { KeepsTally part.old.tally part.new.tally }
 {
     if part.done {
         return;
@@ -155,7 +163,8 @@ pub fn count_those_left(closed: &Closed, page: &Page, planes: &[Plane], parts: &
     requires finished { IsFinished page.now closed.now }
     requires planes { AreTrappedTo page.now planes.now (height page.now * width page.now) }
     requires parts { AreParts page.now parts.old }
-    ensures { AreCountedParts page.now parts.new }
+    ensures parts { AreCountedParts page.now parts.new }
+    ensures room { KeepsParts parts.old parts.new }
 {
     for i in 0..parts.len() {
         count_left(closed, page, planes, &mut parts[i]);
@@ -166,7 +175,8 @@ pub fn count_those_left(closed: &Closed, page: &Page, planes: &[Plane], parts: &
 fn add_part(outcome: &mut Outcome, page: &Page, part: &Part)
     requires plates { HasPlates page.now part.now.rows.first outcome.old }
     requires part { IsCounted page.now part.now }
-    ensures { HasPlates page.now (part.now.rows.first + part.now.rows.count) outcome.new }
+    ensures plates { HasPlates page.now (part.now.rows.first + part.now.rows.count) outcome.new }
+    ensures room { KeepsRoom outcome.old outcome.new }
 {
     let tally = &part.tally;
     outcome.add(
@@ -182,7 +192,8 @@ fn add_part(outcome: &mut Outcome, page: &Page, part: &Part)
 pub fn add_parts(outcome: &mut Outcome, page: &Page, parts: &[Part])
     requires plates { HasPlates page.now 0 outcome.old }
     requires parts { AreCountedParts page.now parts.now }
-    ensures { HasRows page.now (height page.now) outcome.new }
+    ensures rows { HasRows page.now (height page.now) outcome.new }
+    ensures room { KeepsRoom outcome.old outcome.new }
 {
     for i in 0..parts.len() {
         add_part(outcome, page, &parts[i]);

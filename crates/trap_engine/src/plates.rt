@@ -1,13 +1,14 @@
 // The plates of the result, each read out of a table's cells: by the reader of each, side by side with the others, or from the
 // closed table.
-ghost use Rattle.std.specs.Prelude.{◌≡◌, ℕ, ◌+◌, ◌*◌, ◌<◌, ◌≤◌, length, slice_index_or, false, true};
+ghost use Rattle.std.specs.Prelude.{◌≡◌, ℕ, ◌+◌, ◌*◌, ◌<◌, ◌≤◌, length, slice_index_or, vec_capacity, false, true};
 ghost use Rattle.band_claims.specs.Seating.{Seats};
 ghost use Rattle.band_claims.specs.Sheets.{IsFit};
 ghost use Rattle.band_pieces.specs.Finished.{IsFinished};
 ghost use Rattle.page_model.specs.Bands.{pieces_of};
 ghost use Rattle.page_model.specs.Page.{height, plates, width};
-ghost use Rattle.strip_engine.specs.Standing.{IsTrappedTo};
+ghost use Rattle.strip_engine.specs.Standing.{IsTrappedTo, KeepsRoom};
 ghost use Rattle.strip_engine.specs.Tallies.{HasPlates, HasTallies};
+ghost use Rattle.trap_engine.specs.Memory.{KeepsWorks};
 ghost use Rattle.trap_engine.specs.Taking.{ArePlateWorks, AreSeatedWorks, AreTakenPlates, IsPlateWork, IsTakenPlate};
 
 use band_claims::{Closed, Reader, Shared};
@@ -66,7 +67,8 @@ fn take_by_reader(shared: &Shared, page: &Page, c: u32, work: &mut PlateWork)
     requires plate { c < plates page.now }
     requires seat { Seats shared.now work.old.reader }
     requires work { IsPlateWork page.now c work.old }
-    ensures { IsPlateWork page.now c work.new }
+    ensures work { IsPlateWork page.now c work.new }
+    ensures room { vec_capacity work.new.row ≡ vec_capacity work.old.row }
 {
     if work.done {
         return;
@@ -99,7 +101,8 @@ pub fn take_by_readers<R: Threads + Sync>(
     requires some { 1 ≤ threads }
     requires seats { AreSeatedWorks shared.now works.old }
     requires works { ArePlateWorks page.now works.old }
-    ensures { ArePlateWorks page.now works.new }
+    ensures works { ArePlateWorks page.now works.new }
+    ensures room { KeepsWorks works.old works.new }
 {
     let _few = page.plates();
     thread::for_each_mut(
@@ -112,7 +115,8 @@ pub fn take_by_readers<R: Threads + Sync>(
             requires few { plates page.now ≤ 16 }
             requires seat { Seats shared.now work.now.reader }
             requires work { IsPlateWork page.now c work.now }
-            ensures { IsPlateWork page.entry.now c work.exit.now }
+            ensures work { IsPlateWork page.entry.now c work.exit.now }
+            ensures room { vec_capacity work.exit.now.row ≡ vec_capacity work.entry.now.row }
         { take_by_reader(shared, page, c as u32, work) },
     );
 }
@@ -132,7 +136,8 @@ fn take_left(closed: &Closed, page: &Page, c: u32, work: &mut PlateWork)
     requires finished { IsFinished page.now closed.now }
     requires plate { c < plates page.now }
     requires work { IsPlateWork page.now c work.old }
-    ensures { IsTakenPlate page.now c work.new.plane work.new.changed }
+    ensures taken { IsTakenPlate page.now c work.new.plane work.new.changed }
+    ensures room { vec_capacity work.new.row ≡ vec_capacity work.old.row }
 {
     if work.done {
         return;
@@ -154,7 +159,8 @@ fn take_left(closed: &Closed, page: &Page, c: u32, work: &mut PlateWork)
 pub fn take_those_left(closed: &Closed, page: &Page, works: &mut [PlateWork])
     requires finished { IsFinished page.now closed.now }
     requires works { ArePlateWorks page.now works.old }
-    ensures { AreTakenPlates page.now works.new }
+    ensures works { AreTakenPlates page.now works.new }
+    ensures room { KeepsWorks works.old works.new }
 {
     for c in 0..page.plates() {
         take_left(closed, page, c, &mut works[c as usize]);
@@ -165,7 +171,8 @@ pub fn take_those_left(closed: &Closed, page: &Page, works: &mut [PlateWork])
 pub fn put_works(outcome: &mut Outcome, page: &Page, works: Vec<PlateWork>)
     requires counted { HasTallies page.now 0 outcome.old }
     requires works { AreTakenPlates page.now works.items }
-    ensures { HasPlates page.now 0 outcome.new }
+    ensures plates { HasPlates page.now 0 outcome.new }
+    ensures room { KeepsRoom outcome.old outcome.new }
 {
     let mut works = works;
     while let Some(work) = works.pop() {

@@ -28,8 +28,8 @@ use strip_engine::Outcome;
 use strip_engine::memory::{filled, push};
 
 /// All the memory that trapping a page by workers takes: the shared table, the memory of each worker, the planes of
-/// the result and the counts. Contracts see the page that it was made for, the layout of its cells, and how many workers
-/// it has memory for.
+/// the result and the counts. Contracts see the page that it was made for, the layout of its cells, how many workers it
+/// has memory for, and in how many parts the page's rows are counted, each in a thread.
 #[derive(Drop)]
 pub struct TrapRoom {
     pub(crate) shared: Shared,
@@ -39,7 +39,7 @@ pub struct TrapRoom {
     pub(crate) spare: Scratch,
     // one for each plate
     pub(crate) works: Vec<PlateWork>,
-    // the page's rows, one for each worker
+    // the page's rows, one part for each worker at most
     pub(crate) parts: Vec<Part>,
     pub(crate) outcome: Outcome,
 }
@@ -54,6 +54,7 @@ impl Model for TrapRoom {
       page = record { value = r.shared.sheet.page.value };
       layout = r.shared.sheet.layout;
       workers = length r.scratches.items;
+      parts = length r.parts.items;
     } };
 
     ghost invariant = { λ r. IsRoom r.shared r.pass r.scratches.items r.spare r.works.items
@@ -80,7 +81,7 @@ fn scratches_of(
     requires bands { AreBands bands.now }
     requires rows { bands.now.rows ≡ height page.now }
     requires reach { bands.now.reach2 ≡ page_reach page.now }
-    ensures made { IfOk result (λ scratches. All (λ scratch. scratch
+    ensures made { IfOk result (λ scratches. All (λ scratch. scratch.layout
         ≡ record { bands = bands.now; width = width page.now; plates = plates page.now })
         scratches.items) }
     ensures count { IfOk result (λ scratches. vec_len scratches ≡ count) }
@@ -153,8 +154,8 @@ fn works_of(
     Ok(works.into_vec())
 }
 
-/// The table of a page with its first pass, and an outcome with no row of the page taken in. For more than one worker they
-/// are made side by side: most of that time the system is at work on fresh memory.
+/// The table of a page with its first pass, and an outcome with no row of the page taken in. Where more than one worker is used
+/// they are made side by side: most of that time the system is at work on fresh memory.
 fn table_and_outcome<R: Threads + Sync>(
     rt: &R,
     alloc: Global,
@@ -208,13 +209,14 @@ impl TrapRoom {
         ensures page { IfOk result (λ room. room.page.value ≡ page.now) }
         ensures band { IfOk result (λ room. room.layout.bands.height ≡ band) }
         ensures workers { IfOk result (λ room. room.workers ≡ min workers room.layout.bands.count) }
+        ensures few_parts { IfOk result (λ room. room.parts ≤ room.workers) }
     {
         let bands = Bands::new(page.height(), band, page.reach2());
         let layout = Layout::new(page.width(), page.plates(), &bands);
-        let (shared, mut pass, mut outcome) = table_and_outcome(rt, alloc, page, &layout, workers)?;
         let count = workers_for(&bands, workers);
+        let (shared, mut pass, mut outcome) = table_and_outcome(rt, alloc, page, &layout, count)?;
         let works = works_of(alloc, page, &shared, &mut pass, &mut outcome.planes)?;
-        let parts = parts_of(alloc, page, &shared, &mut pass, page.height() / count + 1)?;
+        let parts = parts_of(alloc, page, &shared, &mut pass, count)?;
         Ok(TrapRoom {
             shared,
             pass,

@@ -5,8 +5,9 @@ ghost use Rattle.page_model.specs.Counts.{page_counts};
 ghost use Rattle.page_model.specs.Limits.{most_band_height, most_workers};
 ghost use Rattle.page_model.specs.Page.{height};
 ghost use Rattle.page_model.specs.Tints.{trapped_planes};
-ghost use Rattle.strip_engine.specs.Standing.{HasRows};
+ghost use Rattle.strip_engine.specs.Standing.{HasRows, KeepsRoom};
 ghost use Rattle.strip_engine.specs.Tallies.{HasPlates, HasTallies};
+ghost use Rattle.trap_engine.specs.Memory.{KeepsParts, KeepsWorks};
 ghost use Rattle.trap_engine.specs.Parts.{AreParts, AreSeatedParts};
 ghost use Rattle.trap_engine.specs.Receipts.{IsWholeReceipt};
 ghost use Rattle.trap_engine.specs.Taking.{ArePlateWorks, AreSeatedWorks};
@@ -43,6 +44,9 @@ fn take_side_by_side<R: Threads + Sync>(
         × HasTallies page.now 0 outcome.new) }
     ensures none { IfNone result (HasPlates page.now 0 outcome.new) }
     ensures parts { AreParts page.now parts.new }
+    ensures left_room { IfSome result (λ left. KeepsWorks works.items left.items) }
+    ensures parts_room { KeepsParts parts.old parts.new }
+    ensures outcome_room { KeepsRoom outcome.old outcome.new }
 {
     let mut works = works;
     take_by_readers(rt, shared, page, parts.len(), &mut works);
@@ -67,7 +71,9 @@ fn take_rest(
         × HasTallies page.now 0 outcome.old) }
     requires none { IfNone left (HasPlates page.now 0 outcome.old) }
     requires parts { AreParts page.now parts.old }
-    ensures { HasRows page.now (height page.now) outcome.new }
+    ensures rows { HasRows page.now (height page.now) outcome.new }
+    ensures parts_room { KeepsParts parts.old parts.new }
+    ensures outcome_room { KeepsRoom outcome.old outcome.new }
 {
     if let Some(mut works) = left {
         take_those_left(closed, page, &mut works);

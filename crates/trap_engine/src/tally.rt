@@ -5,6 +5,7 @@ ghost use Rattle.page_model.specs.Bands.{pieces_of};
 ghost use Rattle.page_model.specs.Page.{height, width};
 ghost use Rattle.page_model.specs.Zones.{AreZones};
 ghost use Rattle.strip_engine.specs.Standing.{AreMarks, AreTrappedTo};
+ghost use Rattle.trap_engine.specs.Memory.{KeepsTally};
 ghost use Rattle.trap_engine.specs.Taking.{HasCounted};
 
 use band_pieces::{CellSource, read_marks, read_zones};
@@ -50,7 +51,8 @@ fn count_row(page: &Page, planes: &[Plane], first: u32, y: u32, tally: &mut Tall
     requires zones { AreZones page.now y tally.old.zones.items }
     requires marks { AreMarks page.now y tally.old.marks.items }
     requires tally { HasCounted page.now first y tally.old }
-    ensures { HasCounted page.now first (y + 1) tally.new }
+    ensures tally { HasCounted page.now first (y + 1) tally.new }
+    ensures room { KeepsTally tally.old tally.new }
 {
     let _valid = page.plates();
     tally.edges += edges_in(&tally.marks);
@@ -86,6 +88,7 @@ fn take_row<S, C: CellSource<S>>(
     requires tally { HasCounted page.now first y tally.old }
     ensures seat { seat.new ≡ seat.old }
     ensures tally { HasCounted page.now first (y + 1) tally.new }
+    ensures room { KeepsTally tally.old tally.new }
 {
     let rows = Rows { first: y, count: 1 };
     read_zones(source, seat, page, layout, rows, &mut tally.zones);
@@ -112,6 +115,7 @@ pub fn take_rows<S, C: CellSource<S>>(
     requires tally { HasCounted page.now rows.first rows.first tally.old }
     ensures seat { seat.new ≡ seat.old }
     ensures tally { HasCounted page.now rows.first (rows.first + rows.count) tally.new }
+    ensures room { KeepsTally tally.old tally.new }
 {
     for k in 0..rows.count {
         take_row(

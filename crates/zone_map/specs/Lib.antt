@@ -1,3 +1,4 @@
+pub mod Room
 pub mod Spots
 pub mod Subpaths
 pub mod Tallies

@@ -49,7 +49,7 @@ fn cover(page: &Page, z: u32, y: u32, out: &mut [u8], ups: &mut [u32], downs: &m
 pub fn zone_row(page: &Page, y: u32, out: &mut [u8], spans: &mut SpanBuf)
     requires row { y < height page.now }
     requires out { length out.old ≡ width page.now }
-    requires spans { spans.old ≡ width page.now }
+    requires spans { spans.old.wide ≡ width page.now }
     ensures zones { AreZones page.now y out.new }
     ensures spans { spans.new ≡ spans.old }
 {

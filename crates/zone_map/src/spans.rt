@@ -8,7 +8,7 @@ use std::alloc::Global;
 use std::marker::Model;
 
 /// Room for the work on a row: how many segments of a path cross it upwards, and how many downwards, with so many samples
-/// left of the crossing. Contracts see it as the width of the rows that it was made for.
+/// left of the crossing. Contracts see the width of the rows that it was made for, and how much memory it has.
 #[derive(Drop)]
 pub struct SpanBuf {
     pub(crate) width: u32,
@@ -17,11 +17,16 @@ pub struct SpanBuf {
 }
 
 impl Model for SpanBuf {
-    ghost use Rattle.std.specs.Prelude.{◌≡◌, ◌+◌, ◌<◌, ◌^◌, ℕ, length};
+    ghost use Rattle.std.specs.Prelude.{◌≡◌, ◌+◌, length, vec_capacity};
+    ghost use Rattle.zone_map.specs.Room.{Room};
 
-    ghost Value = { ℕ };
+    ghost Value = { Room };
 
-    ghost view = { λ s. s.width };
+    ghost view = { λ s. record {
+      wide = s.width;
+      ups = vec_capacity s.ups;
+      downs = vec_capacity s.downs;
+    } };
 
     ghost invariant = { λ s. (length s.ups.items ≡ s.width + 1)
         × (length s.downs.items ≡ s.width + 1) };
@@ -30,7 +35,7 @@ impl Model for SpanBuf {
 impl SpanBuf {
     /// Room for rows of so many samples.
     pub fn new(alloc: Global, width: u32) -> Result<SpanBuf, OutOfMemory>
-        ensures { IfOk result (λ spans. spans ≡ width) }
+        ensures { IfOk result (λ spans. spans.wide ≡ width) }
     {
         let places = width as usize + 1;
         let Ok(ups) = vec![in alloc; 0u32; places] else {

@@ -4,6 +4,7 @@ use Rattle.std.specs.Prelude.{◌==◌}
 use Rattle.band_claims.specs.Rule.{piece_word}
 use Rattle.band_claims.specs.Views.{one_if}
 use Rattle.band_claims.specs.declared.sheet.Sheet.{Sheet}
+use Rattle.band_pieces.specs.Room.{Memory}
 use Rattle.band_pieces.proofs.Finishing.{alone_once, cells_all, finished_more, finished_none}
 use Rattle.band_pieces.proofs.alone.finish_alone.Goals as goal
 
@@ -21,7 +22,7 @@ pub finish_piece-requires-clause-page : goal.finish_piece-requires-clause-page
 finish_piece-requires-clause-page c = let e = c.loop-piece.invariant.closed.sheet in subst (λ (z : Sheet). c.args.page.now ≡ z.page.value) (sym e) c.requires.page
 
 pub finish_piece-requires-clause-scratch : goal.finish_piece-requires-clause-scratch
-finish_piece-requires-clause-scratch c = let e = c.loop-piece.invariant.closed.sheet in c.loop-piece.invariant.scratch ∙ (c.requires.scratch ∙ ap (λ z. z.layout) (sym e))
+finish_piece-requires-clause-scratch c = let e = c.loop-piece.invariant.closed.sheet in ap (λ (s : Memory). s.layout) c.loop-piece.invariant.scratch ∙ (c.requires.scratch ∙ ap (λ z. z.layout) (sym e))
 
 pub finish_piece-requires-clause-piece : goal.finish_piece-requires-clause-piece
 finish_piece-requires-clause-piece c = let e = c.loop-piece.invariant.closed.sheet in subst (λ (z : Sheet). c.loop-piece.piece < pieces_of z.layout.bands) (sym e) (omega (arith, c.loop-piece-test.true, c.loop-piece.invariant.end))

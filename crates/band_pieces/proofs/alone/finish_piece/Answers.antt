@@ -21,7 +21,7 @@ pub fill_piece-requires-clause-piece : goal.fill_piece-requires-clause-piece
 fill_piece-requires-clause-piece c = subst (λ (z : Layout). c.args.piece < pieces_of z.bands) (sym c.requires.scratch) c.requires.piece
 
 pub fill_piece-requires-clause-known : goal.fill_piece-requires-clause-known
-fill_piece-requires-clause-known c n need = needs_known c.args.closed.now c.args.scratch.now c.args.piece n c.sheet-whole.ensures.fits c.requires.scratch c.requires.piece c.requires.earlier c.requires.cells need
+fill_piece-requires-clause-known c n need = needs_known c.args.closed.now c.args.scratch.now.layout c.args.piece n c.sheet-whole.ensures.fits c.requires.scratch c.requires.piece c.requires.earlier c.requires.cells need
 
 pub set_done-requires-clause-piece : goal.set_done-requires-clause-piece
 set_done-requires-clause-piece c = subst (λ (z : Sheet). c.args.piece < pieces_of z.layout.bands) (sym c.fill_piece.ensures.filled.sheet) c.requires.piece

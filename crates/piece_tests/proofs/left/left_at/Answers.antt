@@ -2,6 +2,7 @@ use Rattle.std.proofs.Common.{sym, ap, ◌∙◌, subst, arith}
 use Rattle.band_claims.specs.declared.sheet.Sheet.{Sheet}
 use Rattle.band_claims.specs.Sheets.{IsFit}
 use Rattle.band_claims.specs.Views.{times}
+use Rattle.band_pieces.specs.Room.{Memory}
 use Rattle.band_pieces.proofs.Finishing.{has_cells}
 use Rattle.piece_tests.proofs.left.left_at.Goals as goal
 
@@ -9,7 +10,7 @@ pub finish_alone-requires-clause-page : goal.finish_alone-requires-clause-page
 finish_alone-requires-clause-page c = c.requires.page ∙ ap (λ (z : Sheet). z.page.value) (sym c.close_all-closed.ensures.sheet)
 
 pub finish_alone-requires-clause-scratch : goal.finish_alone-requires-clause-scratch
-finish_alone-requires-clause-scratch c = c.make_first-made.ensures.scratch ∙ (c.requires.scratch ∙ ap (λ (z : Sheet). z.layout) (sym c.close_all-closed.ensures.sheet))
+finish_alone-requires-clause-scratch c = ap (λ (s : Memory). s.layout) c.make_first-made.ensures.scratch ∙ (c.requires.scratch ∙ ap (λ (z : Sheet). z.layout) (sym c.close_all-closed.ensures.sheet))
 
 pub finish_alone-requires-clause-published : goal.finish_alone-requires-clause-published
 finish_alone-requires-clause-published c i l = c.close_all-closed.ensures.done i (omega (arith, l, ap (times i) c.close_all-closed.ensures.published))

@@ -3,13 +3,14 @@ use Rattle.std.specs.Prelude.{slice_index_or}
 use Rattle.std.proofs.lemmas.List.Elements.{All-append}
 use Rattle.page_model.specs.Page.{plates, width}
 use Rattle.row_cells.specs.Layouts.{Layout}
+use Rattle.band_pieces.specs.Room.{Memory}
 use Rattle.piece_tests.proofs.made.scratches.Goals as goal
 
-one : (want x : Layout) → x ≡ want → All (λ (z : Layout). z ≡ want) (x ∷ [])
-one want x e k d l = subst (λ (i : ℕ). slice_index_or (x ∷ []) i d ≡ want) (let z : 0 ≡ k = omega (arith, l) in z) e
+one : (want : Layout) (x : Memory) → x.layout ≡ want → All (λ (z : Memory). z.layout ≡ want) (x ∷ [])
+one want x e k d l = subst (λ (i : ℕ). (slice_index_or (x ∷ []) i d).layout ≡ want) (let z : 0 ≡ k = omega (arith, l) in z) e
 
-more : (want x : Layout) (xs ys : List Layout) → ys ≡ xs ++ x ∷ [] → x ≡ want → All (λ (z : Layout). z ≡ want) xs → All (λ (z : Layout). z ≡ want) ys
-more want x xs ys e is all = subst (All (λ (z : Layout). z ≡ want)) (sym e) (All-append (λ (z : Layout). z ≡ want) xs (x ∷ []) all (one want x is))
+more : (want : Layout) (x : Memory) (xs ys : List Memory) → ys ≡ xs ++ x ∷ [] → x.layout ≡ want → All (λ (z : Memory). z.layout ≡ want) xs → All (λ (z : Memory). z.layout ≡ want) ys
+more want x xs ys e is all = subst (All (λ (z : Memory). z.layout ≡ want)) (sym e) (All-append (λ (z : Memory). z.layout ≡ want) xs (x ∷ []) all (one want x is))
 
 pub loop-k-preserved : goal.loop-k-preserved
 loop-k-preserved c =

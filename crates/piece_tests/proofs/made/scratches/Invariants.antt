@@ -5,5 +5,5 @@ use Rattle.piece_tests.proofs.made.scratches.Given as goal
 abbrev pub invariant-loop-k : goal.invariant-loop-k
 invariant-loop-k l = record {
   count : length l.all ≡ l._k;
-  layout : All (λ scratch. scratch ≡ record { bands = l.bands; width = width l.page; plates = plates l.page }) l.all;
+  layout : All (λ scratch. scratch.layout ≡ record { bands = l.bands; width = width l.page; plates = plates l.page }) l.all;
 }

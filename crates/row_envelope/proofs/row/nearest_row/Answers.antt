@@ -1,5 +1,6 @@
-use Rattle.std.proofs.Common.{arith, ◌∙◌, sym}
+use Rattle.std.proofs.Common.{ap, arith, ◌∙◌, sym}
 use Rattle.std.proofs.lemmas.Bool.{eqb-true}
+use Rattle.row_envelope.specs.Room.{Room}
 use Rattle.row_envelope.proofs.HullLemmas.{nearest_none, few_arms}
 use Rattle.row_envelope.proofs.row.nearest_row.Goals as goal
 
@@ -10,16 +11,16 @@ pub raised-held-requires-clause-few : goal.raised-held-requires-clause-few
 raised-held-requires-clause-few g c = omega (arith, few_arms c.args.arms.now c.args.width c.requires.some c.requires.order c.requires.inside)
 
 pub raised-held-requires-clause-places : goal.raised-held-requires-clause-places
-raised-held-requires-clause-places g c = (let few = few_arms c.args.arms.now c.args.width c.requires.some c.requires.order c.requires.inside in omega (arith, few, c.as_mut_slice-places.ensures.len, c.hull.view_is, c.requires.hull))
+raised-held-requires-clause-places g c = (let few = few_arms c.args.arms.now c.args.width c.requires.some c.requires.order c.requires.inside in omega (arith, few, c.as_mut_slice-places.ensures.len, ap (λ (r : Room). r.columns) c.hull.view_is, c.requires.hull))
 
 pub raised-held-requires-clause-starts : goal.raised-held-requires-clause-starts
-raised-held-requires-clause-starts g c = (let few = few_arms c.args.arms.now c.args.width c.requires.some c.requires.order c.requires.inside in omega (arith, few, c.as_mut_slice-starts.ensures.len, c.hull.view_is, c.hull.invariant, c.requires.hull))
+raised-held-requires-clause-starts g c = (let few = few_arms c.args.arms.now c.args.width c.requires.some c.requires.order c.requires.inside in omega (arith, few, c.as_mut_slice-starts.ensures.len, ap (λ (r : Room). r.columns) c.hull.view_is, c.hull.invariant, c.requires.hull))
 
 pub spread-requires-clause-places : goal.spread-requires-clause-places
-spread-requires-clause-places g c = (let few = few_arms c.args.arms.now c.args.width c.requires.some c.requires.order c.requires.inside in omega (arith, few, c.raised-held.ensures.hull.few, c.raised-held.ensures.places, c.as_mut_slice-places.ensures.len, c.hull.view_is, c.requires.hull))
+spread-requires-clause-places g c = (let few = few_arms c.args.arms.now c.args.width c.requires.some c.requires.order c.requires.inside in omega (arith, few, c.raised-held.ensures.hull.few, c.raised-held.ensures.places, c.as_mut_slice-places.ensures.len, ap (λ (r : Room). r.columns) c.hull.view_is, c.requires.hull))
 
 pub spread-requires-clause-starts : goal.spread-requires-clause-starts
-spread-requires-clause-starts g c = (let few = few_arms c.args.arms.now c.args.width c.requires.some c.requires.order c.requires.inside in omega (arith, few, c.raised-held.ensures.hull.few, c.raised-held.ensures.starts, c.as_mut_slice-starts.ensures.len, c.hull.view_is, c.hull.invariant, c.requires.hull))
+spread-requires-clause-starts g c = (let few = few_arms c.args.arms.now c.args.width c.requires.some c.requires.order c.requires.inside in omega (arith, few, c.raised-held.ensures.hull.few, c.raised-held.ensures.starts, c.as_mut_slice-starts.ensures.len, ap (λ (r : Room). r.columns) c.hull.view_is, c.hull.invariant, c.requires.hull))
 
 pub returns-clause-cost : goal.returns-clause-cost
 returns-clause-cost g c = omega (arith, c.raised-held.ensures.cost, few_arms c.args.arms.now c.args.width c.requires.some c.requires.order c.requires.inside)

@@ -7,6 +7,6 @@ abbrev pub invariant-loop-k : goal.invariant-loop-k
 invariant-loop-k l = record {
   end : l.k-end ≡ l.rows.count;
   long : length l.out ≡ l.rows.count * width l.page;
-  spans : l.spans ≡ width l.page;
+  spans : l.spans ≡ l.initial.spans;
   done : (j o : ℕ) → j < l.k → o < width l.page → slice_index l.out (j * width l.page + o) ≡ zone_value l.page (l.rows.first + j) o;
 }

@@ -2,4 +2,4 @@ use Rattle.std.proofs.Common.{◌≡◌}
 use Rattle.rule_tests.proofs.zones.expect_rows.Given as goal
 
 abbrev pub invariant-loop-y : goal.invariant-loop-y
-invariant-loop-y g l = l.spans ≡ 8
+invariant-loop-y g l = l.spans.wide ≡ 8

@@ -1,9 +1,10 @@
-use Rattle.std.proofs.Common.{◌<◌, ◌∙◌, ap, arith, inl, inr, length, refl, sym}
+use Rattle.std.proofs.Common.{◌<◌, ◌∙◌, ap, arith, inl, inr, length, refl, subst, sym}
 use Rattle.std.specs.Prelude.{slice_set}
 use Rattle.std.proofs.lemmas.Bool.{cases_eq}
 use Rattle.std.proofs.lemmas.List.{get_or-set_other, get_or-set_same, get_or_read, length-set}
-use Rattle.trap_engine.proofs.PartLemmas.{cover_kept}
+use Rattle.trap_engine.proofs.PartLemmas.{cover_kept, one_kept}
 use Rattle.trap_engine.specs.declared.parts.Part.{Part}
+use Rattle.trap_engine.specs.Memory.{KeepsTally}
 use Rattle.trap_engine.proofs.parts.count_those_left.Goals as goal
 
 pub loop-i-preserved : goal.loop-i-preserved
@@ -16,6 +17,7 @@ loop-i-preserved c =
         | inl e ↦ rw (e, get_or-set_same parts k one d within) (c.count_left.ensures.rows ∙ ap (λ (p : Part). p.rows) (sym c.index-parts-i.is ∙ get_or_read parts k c.index-parts-i.result within c.index-parts-i.is d))
         | inr ne ↦ rw (get_or-set_other parts k j one d ne) refl
       ]) v.cover;
+      room = one_kept c.args.parts.now parts k one within (λ d. subst (λ (p : Part). KeepsTally p.tally one.tally) (sym c.index-parts-i.is ∙ get_or_read parts k c.index-parts-i.result within c.index-parts-i.is d) c.count_left.ensures.room) v.room;
       done = λ j d l m. elim (cases_eq j k) [
         | inl e ↦ rw (e, get_or-set_same parts k one d within) c.count_left.ensures.part
         | inr ne ↦ rw (get_or-set_other parts k j one d ne) (v.done j d (omega (arith, l, ne)) (omega (arith, m, length-set parts k one)))

@@ -1,4 +1,4 @@
-use Rattle.std.proofs.Common.{◌≡◌, ◌-◌, ◌≤◌, None}
+use Rattle.std.proofs.Common.{◌≡◌, ◌+◌, ◌-◌, ◌*◌, ◌/◌, ◌<◌, ◌≤◌, None, length}
 use Rattle.band_claims.specs.Seating.{Seats}
 use Rattle.page_model.specs.Page.{height}
 use Rattle.trap_engine.specs.Parts.{AreOfSize, AreSeatedParts}
@@ -12,7 +12,10 @@ invariant-loop-first l = record {
   pass : l.pass ≡ l.initial.pass;
   laid : AreLaid l.page l.first l.parts;
   seats : AreSeatedParts l.shared l.parts;
+  each : l.size ≡ l.height / l.most + 1;
   size : AreOfSize l.page l.size l.parts;
+  even : l.first < l.height → length l.parts * l.size ≡ l.first;
+  few : length l.parts * l.size < l.height + l.size;
 }
 
 abbrev pub decreases-loop-first : goal.decreases-loop-first

@@ -1,12 +1,12 @@
 use Rattle.std.proofs.Common.{◌≡◌, ◌≤◌, ◌-◌, All}
 use Rattle.std.specs.Prelude.{vec_len}
 use Rattle.page_model.specs.Page.{plates, width}
-use Rattle.row_cells.specs.Layouts.{Layout}
+use Rattle.band_pieces.specs.Room.{Memory}
 use Rattle.trap_engine.proofs.room.scratches_of.Given as goal
 
 abbrev pub invariant-loop-alloc : goal.invariant-loop-alloc
 invariant-loop-alloc l = record {
-  made : All (λ (scratch : Layout). scratch ≡ record { bands = l.bands; width = width l.page; plates = plates l.page }) l.scratches.items;
+  made : All (λ (scratch : Memory). scratch.layout ≡ record { bands = l.bands; width = width l.page; plates = plates l.page }) l.scratches.items;
   few : vec_len l.scratches ≤ l.count;
 }
 

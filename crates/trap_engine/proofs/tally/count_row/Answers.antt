@@ -3,8 +3,8 @@ use Rattle.std.proofs.lemmas.List.{with_items_is}
 use Rattle.trap_engine.proofs.TakeLemmas.{part_edges, part_few}
 use Rattle.trap_engine.proofs.tally.count_row.Goals as goal
 
-pub returns : goal.returns
-returns c =
+pub returns-clause-tally : goal.returns-clause-tally
+returns-clause-tally c =
     let tally = c.args.tally.now in let old = c.requires.tally in
     record {
       zones = old.zones;

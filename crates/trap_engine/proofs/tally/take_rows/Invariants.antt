@@ -1,4 +1,5 @@
 use Rattle.std.proofs.Common.{◌≡◌, ◌+◌}
+use Rattle.trap_engine.specs.Memory.{KeepsTally}
 use Rattle.trap_engine.specs.Taking.{HasCounted}
 use Rattle.trap_engine.proofs.tally.take_rows.Given as goal
 
@@ -6,5 +7,6 @@ abbrev pub invariant-loop-k : goal.invariant-loop-k
 invariant-loop-k g l = record {
   end : l.k-end ≡ l.rows.count;
   seat : l.seat ≡ l.initial.seat;
+  room : KeepsTally l.initial.tally l.tally;
   tally : HasCounted l.page l.rows.first (l.rows.first + l.k) l.tally;
 }

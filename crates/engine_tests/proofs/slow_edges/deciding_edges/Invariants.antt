@@ -1,7 +1,7 @@
 use Rattle.std.proofs.Common.{◌≡◌, ◌*◌, ◌-◌, All}
 use Rattle.page_model.specs.Edges.{IsEdge}
 use Rattle.page_model.specs.Page.{width}
-use Rattle.engine_tests.proofs.slow_traps.deciding_edges.Given as goal
+use Rattle.engine_tests.proofs.slow_edges.deciding_edges.Given as goal
 
 abbrev pub invariant-loop-x2 : goal.invariant-loop-x2
 invariant-loop-x2 l = record { end : l.x2-end ≡ 2 * width l.page - 1; edges : All (IsEdge l.page) l.edges }
