@@ -1,5 +1,7 @@
 -- A board: each piece's state and each cell's word; and what an event makes of it.
-use Rattle.std.specs.Prelude.{◌≡◌, ℕ, ◌+◌, ◌<◌, Bool, true, false, ◌&&◌, not, nat_lt, nat_le, ◌==◌, List, length, slice_index, slice_index_or, slice_set, replicate, Option, Some, None, if◌then◌else◌}
+use Rattle.std.specs.Prelude.{◌≡◌, ℕ, ◌+◌, ◌<◌, Bool, true, false, ◌&&◌, not, nat_lt, nat_le, ◌==◌}
+use Rattle.std.specs.Prelude.{List, length, slice_index, slice_index_or, slice_set, replicate}
+use Rattle.std.specs.Prelude.{Option, Some, None, if◌then◌else◌}
 use Rattle.lists.specs.Words.{any_below}
 use Rattle.band_board.specs.declared.state.State.{State}
 use Rattle.band_board.specs.declared.state.State.TheVariants.{Free, Claimed, Done as IsDone}
@@ -44,7 +46,8 @@ is_done board i = state_done (state_at board i)
 
 -- some need of piece i is not done
 unfoldable pub lacks_in : Shape → List State → ℕ → Bool
-lacks_in k states i = any_below (λ n. k.needs i n && not (state_done (slice_index_or states n Free))) k.pieces
+lacks_in k states i =
+    any_below (λ n. k.needs i n && not (state_done (slice_index_or states n Free))) k.pieces
 
 abbrev pub lacks : Shape → Board → ℕ → Bool
 lacks k board i = lacks_in k board.states i
@@ -58,7 +61,9 @@ has_empty k board i = empty_in k board.cells i
 
 -- cell j is one of a claimed piece
 unfoldable pub hand_in : Shape → List State → ℕ → Bool
-hand_in k states j = any_below (λ i. state_claimed (slice_index_or states i Free) && (nat_le (k.start i) j && nat_lt j (k.start i + k.size i))) k.pieces
+hand_in k states j = any_below
+    (λ i. state_claimed (slice_index_or states i Free)
+    && (nat_le (k.start i) j && nat_lt j (k.start i + k.size i))) k.pieces
 
 abbrev pub in_hand : Shape → Board → ℕ → Bool
 in_hand k board j = hand_in k board.states j

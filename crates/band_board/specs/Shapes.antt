@@ -1,4 +1,5 @@
--- What a board reads of the work to be done: how many pieces and cells there are, which cells a piece has, and what it needs.
+-- What a board reads of the work to be done: how many pieces and cells there are, which cells a
+-- piece has, and what it needs.
 use Rattle.std.specs.Prelude.{◌≡◌, ℕ, ◌+◌, ◌<◌, ◌≤◌, Bool, true}
 
 pub record Shape : Type 0 where

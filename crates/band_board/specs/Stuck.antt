@@ -10,4 +10,5 @@ pub record IsReady (k : Shape) (board : Board) (f : ℕ) : Type 0 where
   pub needs : (n : ℕ) → k.needs f n ≡ true → is_done board n ≡ true
 
 abbrev pub NeverStuck : Shape → Type 0
-NeverStuck k = (board : Board) → ((i : ℕ) → i < k.pieces → is_claimed board i ≡ false) → (i : ℕ) → i < k.pieces → is_done board i ≡ false → (f : ℕ) × IsReady k board f
+NeverStuck k = (board : Board) → ((i : ℕ) → i < k.pieces → is_claimed board i ≡ false) → (i : ℕ)
+    → i < k.pieces → is_done board i ≡ false → (f : ℕ) × IsReady k board f

@@ -1,5 +1,7 @@
--- The words of a table, read as a board: first a word for each piece, 0 free, 1 claimed and 2 done, and then the cells.
-use Rattle.std.specs.Prelude.{◌≡◌, ℕ, zero, suc, ◌+◌, ◌<◌, ◌≤◌, List, length, slice_index, slice_set}
+-- The words of a table, read as a board: first a word for each piece, 0 free, 1 claimed and 2
+-- done, and then the cells.
+use Rattle.std.specs.Prelude.{◌≡◌, ℕ, zero, suc, ◌+◌, ◌<◌, ◌≤◌, List, length, slice_index}
+use Rattle.std.specs.Prelude.{slice_set}
 use Rattle.lists.specs.Words.{list_below}
 use Rattle.band_board.specs.declared.event.Event.{Event}
 use Rattle.band_board.specs.declared.event.Event.TheVariants.{Claim, Put, Done}
@@ -19,7 +21,11 @@ state_of (suc zero) = Claimed
 state_of (suc (suc n)) = IsDone
 
 abbrev pub board_of : Shape → List ℕ → Board
-board_of k words = record { states = list_below (λ i. state_of (slice_index words i)) k.pieces; cells = list_below (λ j. slice_index words (k.pieces + j)) k.cells }
+board_of k words =
+    record {
+      states = list_below (λ i. state_of (slice_index words i)) k.pieces;
+      cells = list_below (λ j. slice_index words (k.pieces + j)) k.cells;
+    }
 
 -- the words with an event's one change
 abbrev pub rewritten : Shape → List ℕ → Event → List ℕ

@@ -214,9 +214,9 @@ one_alone f [] id v at none = absurd (some-ne-none v (sym at))
 one_alone f (x ∷ xs) zero v at none =
     let same : f x ≡ f v = ap f (some-injective x v at) in
     let rest = all_none f xs (λ j d e. none (suc j) d (λ z. omega (arith, z)) e) in omega (arith, same, rest) where
-  all_none : (f : View → ℕ) (views : List View) → ((j : ℕ) (d : View) → get_elem? views j ≡ some d → f d ≡ 0) → total f views ≡ 0
-  all_none f [] none = refl
-  all_none f (x ∷ xs) none = let here = none 0 x refl in let rest = all_none f xs (λ j d e. none (suc j) d e) in omega (arith, here, rest)
+      all_none : (f : View → ℕ) (views : List View) → ((j : ℕ) (d : View) → get_elem? views j ≡ some d → f d ≡ 0) → total f views ≡ 0
+      all_none f [] none = refl
+      all_none f (x ∷ xs) none = let here = none 0 x refl in let rest = all_none f xs (λ j d e. none (suc j) d e) in omega (arith, here, rest)
 one_alone f (x ∷ xs) (suc id) v at none =
     let here = none 0 x (λ z. omega (arith, z)) refl in
     let rest = one_alone f xs id v at (λ j d ne e. none (suc j) d (λ z. ne (omega (arith, z))) e) in omega (arith, here, rest)

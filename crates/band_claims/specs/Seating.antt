@@ -17,7 +17,9 @@ word_of k piece o = k.pieces + (k.start piece + o)
 
 -- the pass carries the number of its piece and of the word that it fills next
 abbrev pub Carries : View → ℕ → ℕ → Type 0
-Carries v piece next = MatchOption v.held (Unit {0}) (λ i. (piece ≡ i) × MatchOption v.sheet (Unit {0}) (λ key. (i < (shape_of key).pieces) × (next ≡ word_of (shape_of key) i v.filled)))
+Carries v piece next = MatchOption v.held (Unit {0})
+    (λ i. (piece ≡ i) × MatchOption v.sheet (Unit {0})
+    (λ key. (i < (shape_of key).pieces) × (next ≡ word_of (shape_of key) i v.filled)))
 
 -- a table, and what it was told when it was made
 pub record OpenTable : Type 0 where

@@ -6,7 +6,8 @@ abbrev pub power : ℕ → ℕ
 power zero = 1
 power (suc n) = 2 * power n
 
--- A share is a list of depths: depth d is what d halvings leave of the whole. In how many parts it is cut by halving the whole n times:
+-- A share is a list of depths: depth d is what d halvings leave of the whole. In how many parts
+-- it is cut by halving the whole n times:
 abbrev pub part_of : ℕ → ℕ → ℕ
 part_of n zero = power n
 part_of zero (suc d) = 0

@@ -8,7 +8,8 @@ use Rattle.band_claims.specs.Sheets.{cell}
 
 -- n is the defined value of the cell whose word has this number
 abbrev pub Cell : Option Sheet → ℕ → ℕ → Type 0
-Cell sheet word n = MatchOption sheet (Unit {0}) (λ key. n ≡ cell key (word - pieces_of key.layout.bands))
+Cell sheet word n =
+    MatchOption sheet (Unit {0}) (λ key. n ≡ cell key (word - pieces_of key.layout.bands))
 
 -- what the rule says of a view, read with the view's own sheet
 abbrev pub Fair : View → Type 0

@@ -1,5 +1,6 @@
 -- What a pass knows, and how each kind of step changes it.
-use Rattle.std.specs.Prelude.{◌≡◌, ◌≢◌, ◌⊎◌, ℕ, ◌+◌, ◌<◌, ◌≤◌, ◌==◌, Bool, true, false, List, [], ◌∷◌, ◌++◌, Option, Some, None, if◌then◌else◌}
+use Rattle.std.specs.Prelude.{◌≡◌, ◌≢◌, ◌⊎◌, ℕ, ◌+◌, ◌<◌, ◌≤◌, ◌==◌, Bool, true, false, List, []}
+use Rattle.std.specs.Prelude.{◌∷◌, ◌++◌, Option, Some, None, if◌then◌else◌}
 use Rattle.page_model.specs.declared.bands.Bands.{Bands}
 use Rattle.band_graph.specs.Needs.{is_need}
 use Rattle.band_claims.specs.declared.sheet.Sheet.{Sheet}
@@ -45,39 +46,138 @@ abbrev pub look : ℕ → ℕ → Look
 look i n = record { piece = i; word = n }
 
 abbrev pub newcomer : Sheet → View
-newcomer key = record { sheet = Some key; held = None; filled = 0; published = []; seen = []; looked = []; told = []; share = 0 ∷ [] }
+newcomer key =
+    record {
+      sheet = Some key;
+      held = None;
+      filled = 0;
+      published = [];
+      seen = [];
+      looked = [];
+      told = [];
+      share = 0 ∷ [];
+    }
 
 abbrev pub spent : View
-spent = record { sheet = None; held = None; filled = 0; published = []; seen = []; looked = []; told = []; share = [] }
+spent =
+    record {
+      sheet = None;
+      held = None;
+      filled = 0;
+      published = [];
+      seen = [];
+      looked = [];
+      told = [];
+      share = [];
+    }
 
 -- a load of the word of piece i that found n
 abbrev pub looked_at : ℕ → ℕ → View → View
-looked_at i n v = record { sheet = v.sheet; held = v.held; filled = v.filled; published = v.published; seen = (if n == 2 then v.seen ++ i ∷ [] else v.seen); looked = v.looked ++ look i n ∷ []; told = v.told ++ look i n ∷ []; share = v.share }
+looked_at i n v =
+    record {
+      sheet = v.sheet;
+      held = v.held;
+      filled = v.filled;
+      published = v.published;
+      seen = (if n == 2 then v.seen ++ i ∷ [] else v.seen);
+      looked = v.looked ++ look i n ∷ [];
+      told = v.told ++ look i n ∷ [];
+      share = v.share;
+    }
 
 -- an exchange of the word of piece i, from 0 to 1, that found n
 abbrev pub claimed : ℕ → ℕ → View → View
 claimed i n v =
-    if n == 0 then record { sheet = v.sheet; held = Some i; filled = 0; published = v.published; seen = v.seen; looked = []; told = v.told ++ look i 1 ∷ []; share = v.share }
-    else record { sheet = v.sheet; held = v.held; filled = v.filled; published = v.published; seen = v.seen; looked = v.looked ++ look i n ∷ []; told = v.told ++ look i n ∷ []; share = v.share }
+    if n == 0 then record {
+      sheet = v.sheet;
+      held = Some i;
+      filled = 0;
+      published = v.published;
+      seen = v.seen;
+      looked = [];
+      told = v.told ++ look i 1 ∷ [];
+      share = v.share;
+    }
+    else record {
+      sheet = v.sheet;
+      held = v.held;
+      filled = v.filled;
+      published = v.published;
+      seen = v.seen;
+      looked = v.looked ++ look i n ∷ [];
+      told = v.told ++ look i n ∷ [];
+      share = v.share;
+    }
 
 -- a store of the next cell
 abbrev pub put : View → View
-put v = record { sheet = v.sheet; held = v.held; filled = v.filled + 1; published = v.published; seen = v.seen; looked = v.looked; told = v.told; share = v.share }
+put v =
+    record {
+      sheet = v.sheet;
+      held = v.held;
+      filled = v.filled + 1;
+      published = v.published;
+      seen = v.seen;
+      looked = v.looked;
+      told = v.told;
+      share = v.share;
+    }
 
 -- a store of 2 in the word of piece i
 abbrev pub finished : ℕ → View → View
-finished i v = record { sheet = v.sheet; held = None; filled = 0; published = v.published ++ i ∷ []; seen = v.seen; looked = []; told = v.told ++ look i 2 ∷ []; share = v.share }
+finished i v =
+    record {
+      sheet = v.sheet;
+      held = None;
+      filled = 0;
+      published = v.published ++ i ∷ [];
+      seen = v.seen;
+      looked = [];
+      told = v.told ++ look i 2 ∷ [];
+      share = v.share;
+    }
 
--- a view whose seat is split: it keeps half of its share, or all where the new seat is to read alone
+-- a view whose seat is split: it keeps half of its share, or all where the new seat is to read
+-- alone
 abbrev pub parted : Bool → View → View
-parted works v = record { sheet = v.sheet; held = v.held; filled = v.filled; published = v.published; seen = v.seen; looked = v.looked; told = v.told; share = (if works then halved v.share else v.share) }
+parted works v =
+    record {
+      sheet = v.sheet;
+      held = v.held;
+      filled = v.filled;
+      published = v.published;
+      seen = v.seen;
+      looked = v.looked;
+      told = v.told;
+      share = (if works then halved v.share else v.share);
+    }
 
 -- the new seat's
 abbrev pub branched : Bool → View → View
-branched works v = record { sheet = v.sheet; held = None; filled = 0; published = []; seen = v.seen ++ v.published; looked = []; told = v.told; share = (if works then halved v.share else []) }
+branched works v =
+    record {
+      sheet = v.sheet;
+      held = None;
+      filled = 0;
+      published = [];
+      seen = v.seen ++ v.published;
+      looked = [];
+      told = v.told;
+      share = (if works then halved v.share else []);
+    }
 
 abbrev pub joined : View → View → View
-joined v w = record { sheet = v.sheet; held = v.held; filled = v.filled; published = v.published ++ w.published; seen = v.seen ++ w.seen; looked = v.looked; told = v.told; share = v.share ++ w.share }
+joined v w =
+    record {
+      sheet = v.sheet;
+      held = v.held;
+      filled = v.filled;
+      published = v.published ++ w.published;
+      seen = v.seen ++ w.seen;
+      looked = v.looked;
+      told = v.told;
+      share = v.share ++ w.share;
+    }
 
 -- w is v after some loads of pieces' words
 pub record Looks (v w : View) : Type 0 where
@@ -104,7 +204,8 @@ pub record Won (bands : Bands) (piece : ℕ) (v w : View) : Type 0 where
 
 -- why a claim fails: the last look found a need that is not done, or the piece itself not free
 abbrev pub Cause : Bands → ℕ → Look → Type 0
-Cause bands piece last = ((is_need bands piece last.piece ≡ true) × (last.word ≢ 2)) ⊎ ((last.piece ≡ piece) × (last.word ≢ 0))
+Cause bands piece last = ((is_need bands piece last.piece ≡ true) × (last.word ≢ 2))
+    ⊎ ((last.piece ≡ piece) × (last.word ≢ 0))
 
 pub record Lost (bands : Bands) (piece : ℕ) (v w : View) : Type 0 where
   pub looks : Looks v w

@@ -5,4 +5,11 @@ use Rattle.row_cells.specs.Places.{piece_count, cells_of, first_cell_of, cell_to
 use Rattle.band_board.specs.Shapes.{Shape}
 
 abbrev pub shape_of : Layout → Shape
-shape_of layout = record { pieces = piece_count layout; cells = cells_of layout; start = first_cell_of layout; size = cell_total layout; needs = is_need layout.bands }
+shape_of layout =
+    record {
+      pieces = piece_count layout;
+      cells = cells_of layout;
+      start = first_cell_of layout;
+      size = cell_total layout;
+      needs = is_need layout.bands;
+    }

@@ -13,7 +13,8 @@ use Rattle.page_model.specs.Bands.{first_row, phase_of, band_of}
 use Rattle.row_cells.specs.Layouts.{Layout}
 use Rattle.row_cells.specs.Packing.{packed}
 use Rattle.row_cells.specs.Layouts.{IsLayout}
-use Rattle.row_cells.specs.Places.{per_row, bits_of, lanes_of, value_total, first_cell_of, piece_of_cell}
+use Rattle.row_cells.specs.Places.{per_row, bits_of, lanes_of, value_total, first_cell_of}
+use Rattle.row_cells.specs.Places.{piece_of_cell}
 
 -- the layout is that of the page, in bands for its height and reach
 pub record IsFor (page : PageParts) (layout : Layout) : Type 0 where
@@ -24,23 +25,27 @@ pub record IsFor (page : PageParts) (layout : Layout) : Type 0 where
   pub tall : layout.bands.rows ≡ height page
   pub reach : layout.bands.reach2 ≡ page_reach page
 
--- The value of a phase at place o of row y of the page: the zone of sample o, its two marks, the answer of doubled column o, and the new tint of plate o / width at column o % width.
+-- The value of a phase at place o of row y of the page: the zone of sample o, its two marks, the
+-- answer of doubled column o, and the new tint of plate o / width at column o % width.
 unfoldable pub row_value : PageParts → ℕ → ℕ → ℕ → ℕ
 row_value page zero y o = zone_of page (record { x = o; y = y })
 row_value page (suc zero) y o = mark page y o
 row_value page (suc (suc zero)) y o = column_answer page (page_reach page) o y
-row_value page (suc (suc (suc phase))) y o = new page (record { x = o % width page; y = y }) (o / width page)
+row_value page (suc (suc (suc phase))) y o =
+    new page (record { x = o % width page; y = y }) (o / width page)
 
 -- the row and the place in it of value k of a piece; values stand row by row
 abbrev pub row_of : Layout → ℕ → ℕ → ℕ
-row_of layout i k = first_row layout.bands (band_of layout.bands i) + k / per_row layout (phase_of layout.bands i)
+row_of layout i k =
+    first_row layout.bands (band_of layout.bands i) + k / per_row layout (phase_of layout.bands i)
 
 abbrev pub place_of : Layout → ℕ → ℕ → ℕ
 place_of layout i k = k % per_row layout (phase_of layout.bands i)
 
 -- value k of piece i
 abbrev pub value : PageParts → Layout → ℕ → ℕ → ℕ
-value page layout i k = row_value page (phase_of layout.bands i) (row_of layout i k) (place_of layout i k)
+value page layout i k =
+    row_value page (phase_of layout.bands i) (row_of layout i k) (place_of layout i k)
 
 -- the values of cell o of a piece: so many as there are lanes, or what is left
 abbrev pub cut : (ℕ → ℕ) → ℕ → ℕ → ℕ → List ℕ
@@ -51,7 +56,8 @@ unfoldable pub cell_of : Layout → (ℕ → ℕ → ℕ) → ℕ → ℕ
 cell_of layout values j =
     let i = piece_of_cell layout j in
     let phase = phase_of layout.bands i in
-    1 + packed (bits_of phase) (cut (values i) (lanes_of phase) (value_total layout i) (j - first_cell_of layout i))
+    1 + packed (bits_of phase)
+    (cut (values i) (lanes_of phase) (value_total layout i) (j - first_cell_of layout i))
 
 -- cell j of the page
 abbrev pub cell : PageParts → Layout → ℕ → ℕ

@@ -11,7 +11,9 @@ use Rattle.band_claims.specs.Sheets.{cell, shape_of, IsFit}
 use Rattle.band_claims.specs.Views.{one_if, times}
 use Rattle.band_workers.specs.Accounts.{IsAccounted}
 
--- The table as the passes left it: steps of the eight kinds led there from its opening, what the receipt tells of the last pass is what a seat knew then, and made alone were just the pieces that were not done.
+-- The table as the passes left it: steps of the eight kinds led there from its opening, what the
+-- receipt tells of the last pass is what a seat knew then, and made alone were just the pieces
+-- that were not done.
 pub record WasLeft (receipt : Receipt) : Type 0 where
   pub kinds : List Kind
   pub left : State (Unit {0}) View
@@ -23,14 +25,20 @@ pub record WasLeft (receipt : Receipt) : Type 0 where
   pub seen : view.seen ≡ receipt.seen
   pub looked : view.looked ≡ receipt.looked
   pub told : view.told ≡ receipt.told
-  pub alone : (i : ℕ) → times i receipt.alone ≡ one_if (nat_lt i (shape_of receipt.sheet).pieces && not (piece_word left.words i == 2))
+  pub alone : (i : ℕ) → times i receipt.alone
+      ≡ one_if (nat_lt i (shape_of receipt.sheet).pieces && not (piece_word left.words i == 2))
 
--- Every piece is done and every cell is the defined one, of that page; each piece was made once, by a pass that published it or alone; each piece is accounted for; and the passes' part was a run.
+-- Every piece is done and every cell is the defined one, of that page; each piece was made once,
+-- by a pass that published it or alone; each piece is accounted for; and the passes' part was a
+-- run.
 pub record IsFinished (page : PageParts) (receipt : Receipt) : Type 0 where
   pub fit : IsFit receipt.sheet
   pub same_page : receipt.sheet.page.value ≡ page
   pub done : (i : ℕ) → i < (shape_of receipt.sheet).pieces → piece_word receipt.words i ≡ 2
-  pub cells : (j : ℕ) → j < (shape_of receipt.sheet).cells → cell_word (shape_of receipt.sheet) receipt.words j ≡ cell receipt.sheet j
-  pub once : (i : ℕ) → times i receipt.published + times i receipt.alone ≡ one_if (nat_lt i (shape_of receipt.sheet).pieces)
+  pub cells : (j : ℕ) → j < (shape_of receipt.sheet).cells
+      → cell_word (shape_of receipt.sheet) receipt.words j ≡ cell receipt.sheet j
+  pub once : (i : ℕ) → times i receipt.published + times i receipt.alone
+      ≡ one_if (nat_lt i (shape_of receipt.sheet).pieces)
   pub run : WasLeft receipt
-  pub accounted : (i : ℕ) → i < (shape_of receipt.sheet).pieces → IsAccounted receipt.sheet.layout.bands run.view i
+  pub accounted : (i : ℕ) → i < (shape_of receipt.sheet).pieces
+      → IsAccounted receipt.sheet.layout.bands run.view i

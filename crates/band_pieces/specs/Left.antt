@@ -19,17 +19,24 @@ pub record FoundUndone (receipt : Receipt) (piece : ℕ) : Type 0 where
 
 -- of a piece that no pass had claimed when the table was closed, a need was found not done
 abbrev pub LeftForNeeds : Type 0
-LeftForNeeds = (page : PageParts) (receipt : Receipt) → (f : IsFinished page receipt) → (i : ℕ) → i < (shape_of receipt.sheet).pieces → piece_word f.run.left.words i ≡ 0 → FoundUndone receipt i
+LeftForNeeds = (page : PageParts) (receipt : Receipt) → (f : IsFinished page receipt) → (i : ℕ)
+    → i < (shape_of receipt.sheet).pieces → piece_word f.run.left.words i ≡ 0
+    → FoundUndone receipt i
 
 -- so each piece that needs no other was claimed by a pass
 abbrev pub FirstAreClaimed : Type 0
-FirstAreClaimed = (page : PageParts) (receipt : Receipt) → (f : IsFinished page receipt) → (i : ℕ) → i < (shape_of receipt.sheet).pieces → ((n : ℕ) → is_need receipt.sheet.layout.bands i n ≢ true) → piece_word f.run.left.words i ≢ 0
+FirstAreClaimed = (page : PageParts) (receipt : Receipt) → (f : IsFinished page receipt) → (i : ℕ)
+    → i < (shape_of receipt.sheet).pieces
+    → ((n : ℕ) → is_need receipt.sheet.layout.bands i n ≢ true) → piece_word f.run.left.words i ≢ 0
 
--- the looks that a receipt tells of end what its last pass was told, in which of two words of one piece the later one is no less
+-- the looks that a receipt tells of end what its last pass was told, in which of two words of
+-- one piece the later one is no less
 pub record TellsTruly (receipt : Receipt) : Type 0 where
   pub earlier : List Look
   pub looks : receipt.told ≡ earlier ++ receipt.looked
-  pub rise : (before mid after : List Look) (shown later : Look) → receipt.told ≡ before ++ shown ∷ (mid ++ later ∷ after) → later.piece ≡ shown.piece → shown.word ≤ later.word
+  pub rise : (before mid after : List Look) (shown later : Look)
+      → receipt.told ≡ before ++ shown ∷ (mid ++ later ∷ after) → later.piece ≡ shown.piece
+      → shown.word ≤ later.word
 
 abbrev pub LooksAreTold : Type 0
 LooksAreTold = (page : PageParts) (receipt : Receipt) → IsFinished page receipt → TellsTruly receipt

@@ -6,4 +6,8 @@ use Rattle.page_model.specs.Bands.{band_of, first_row, rows_in}
 
 -- the rows of the band of a piece
 abbrev pub rows_of_piece : Bands → ℕ → Rows
-rows_of_piece bands piece = record { first = first_row bands (band_of bands piece); count = rows_in bands (band_of bands piece) }
+rows_of_piece bands piece =
+    record {
+      first = first_row bands (band_of bands piece);
+      count = rows_in bands (band_of bands piece);
+    }

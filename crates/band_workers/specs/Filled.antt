@@ -9,12 +9,23 @@ use Rattle.row_cells.specs.Places.{lanes_of, value_total}
 
 -- the view with so many cells of its piece filled
 abbrev pub filled_to : ℕ → View → View
-filled_to n v = record { sheet = v.sheet; held = v.held; filled = n; published = v.published; seen = v.seen; looked = v.looked; told = v.told; share = v.share }
+filled_to n v =
+    record {
+      sheet = v.sheet;
+      held = v.held;
+      filled = n;
+      published = v.published;
+      seen = v.seen;
+      looked = v.looked;
+      told = v.told;
+      share = v.share;
+    }
 
 -- all values of the piece over the undivided page, in their order
 pub record AreValues (sheet : Sheet) (piece : ℕ) (values : List ℕ) : Type 0 where
   pub long : length values ≡ value_total sheet.layout piece
-  pub each : (k : ℕ) → k < length values → slice_index values k ≡ value sheet.page.value sheet.layout piece k
+  pub each : (k : ℕ) → k < length values
+      → slice_index values k ≡ value sheet.page.value sheet.layout piece k
 
 -- cell o of a piece is made of so many of its values, from number first on
 pub record IsCut (layout : Layout) (piece o phase first count : ℕ) : Type 0 where

@@ -148,11 +148,7 @@ fn add_column(
 }
 
 /// All deciding edges of the page.
-pub fn deciding_edges(
-    alloc: Global,
-    page: &Page,
-    zones: &[u8],
-) -> Result<List<EdgeAt>, OutOfMemory>
+pub fn deciding_edges(alloc: Global, page: &Page, zones: &[u8]) -> Result<List<EdgeAt>, OutOfMemory>
     requires zones { zones.now ≡ sample_zones page.now }
     ensures { IfOk result (All (IsEdge page.now)) }
 {

@@ -40,7 +40,10 @@ pub fn slow_marks(alloc: Global, page: &Page, zones: &[u8]) -> Result<List<u8>, 
     let edges = deciding_edges(alloc, page, zones)?;
     let mut marks = List::new(alloc);
     for k in 0..samples_of(page) {
-        push(&mut marks, marks_at(page, sample_of(page, k), edges.as_slice()))?;
+        push(
+            &mut marks,
+            marks_at(page, sample_of(page, k), edges.as_slice()),
+        )?;
     }
     Ok(marks)
 }

@@ -9,10 +9,28 @@ pub record DiskState : Type 0 where
   pub faults : ℕ
 
 abbrev pub disk_tray_of : DiskState → TrayState
-disk_tray_of d = record { tells = false; file = λ name. None; begun = d.is_open; left = []; asked = None; faults = d.faults }
+disk_tray_of d =
+    record {
+      tells = false;
+      file = λ name. None;
+      begun = d.is_open;
+      left = [];
+      asked = None;
+      faults = d.faults;
+    }
 
 abbrev pub disk_rack_of : DiskState → RackState
-disk_rack_of d = record { tells = false; file = λ name. None; told = []; is_open = d.is_open; current = []; asked = None; finished = None; faults = d.faults }
+disk_rack_of d =
+    record {
+      tells = false;
+      file = λ name. None;
+      told = [];
+      is_open = d.is_open;
+      current = [];
+      asked = None;
+      finished = None;
+      faults = d.faults;
+    }
 
 abbrev pub fresh_disk : DiskState
 fresh_disk = record { is_open = false; faults = 0 }

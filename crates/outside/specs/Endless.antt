@@ -12,7 +12,15 @@ pub record EndlessState : Type 0 where
 
 -- what it means as a tray: it tells no bytes and no names, and has no fault
 abbrev pub endless_tray_of : EndlessState → TrayState
-endless_tray_of e = record { tells = false; file = λ name. None; begun = e.begun; left = []; asked = None; faults = 0 }
+endless_tray_of e =
+    record {
+      tells = false;
+      file = λ name. None;
+      begun = e.begun;
+      left = [];
+      asked = None;
+      faults = 0;
+    }
 
 -- the next bytes, so many
 abbrev pub next_bytes : EndlessState → ℕ → List ℕ

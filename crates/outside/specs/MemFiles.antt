@@ -1,5 +1,6 @@
 -- Files that lie in memory.
-use Rattle.std.specs.Prelude.{◌≢◌, ℕ, Bool, false, ◌==◌, ◌&&◌, nat_lt, if◌then◌else◌, List, [], drop, Option, Some, None, slice_index_or, AllPairs}
+use Rattle.std.specs.Prelude.{◌≢◌, ℕ, Bool, false, ◌==◌, ◌&&◌, nat_lt, if◌then◌else◌, List, []}
+use Rattle.std.specs.Prelude.{drop, Option, Some, None, slice_index_or, AllPairs}
 use Rattle.std.specs.List.{position}
 use Rattle.std.specs.Str.{bytes_eq}
 use Rattle.outside.specs.declared.mem_file.MemFile.{MemFile}

@@ -1,5 +1,7 @@
 -- What a rack in memory is, and what its calls do.
-use Rattle.std.specs.Prelude.{◌≡◌, ℕ, ◌+◌, ◌<◌, Bool, true, false, IsTrue, min, List, [], length, Option, Some, None, is_ok, is_err, not, Result, IfOk, OnOk, OnErr, IsSome}
+use Rattle.std.specs.Prelude.{◌≡◌, ℕ, ◌+◌, ◌<◌, Bool, true, false, IsTrue, min, List, [], length}
+use Rattle.std.specs.Prelude.{Option, Some, None, is_ok, is_err, not, Result, IfOk, OnOk, OnErr}
+use Rattle.std.specs.Prelude.{IsSome}
 use Rattle.outside.specs.declared.shelf.RackFile.{RackFile}
 use Rattle.outside.specs.Counts.{one_more, is_listed}
 use Rattle.outside.specs.Shelf.{files_of, name_of}
@@ -38,10 +40,25 @@ rack_of m = record {
 
 -- no file, no text, and no call yet
 abbrev pub fresh_rack : ℕ → ℕ → List ℕ → MemRackState
-fresh_rack grain room fails = record { done = []; current = None; told = []; is_open = false; grain = grain; room = room; fails = fails; calls = 0; asked = Some []; finished = Some []; faults = 0 }
+fresh_rack grain room
+    fails = record {
+      done = [];
+      current = None;
+      told = [];
+      is_open = false;
+      grain = grain;
+      room = room;
+      fails = fails;
+      calls = 0;
+      asked = Some [];
+      finished = Some [];
+      faults = 0;
+    }
 
--- A call counts, and it counts as a fault exactly where it fails. It fails where its number is listed.
-pub record CountsRack {T E : Type 0} (before after : MemRackState) (result : Result T E) : Type 0 where
+-- A call counts, and it counts as a fault exactly where it fails. It fails where its number is
+-- listed.
+pub record CountsRack {T E : Type 0} (before after : MemRackState)
+    (result : Result T E) : Type 0 where
   pub grain : after.grain ≡ before.grain
   pub fails : after.fails ≡ before.fails
   pub calls : after.calls ≡ one_more before.calls
@@ -53,9 +70,11 @@ pub record CountsRack {T E : Type 0} (before after : MemRackState) (result : Res
 abbrev pub most_taken : MemRackState → ℕ → ℕ
 most_taken m len = min (min len m.grain) m.room
 
--- `write` takes as many bytes as the piece, the grain and the room allow, and fails where a piece that isn't empty meets
+-- `write` takes as many bytes as the piece, the grain and the room allow, and fails where a
+-- piece that isn't empty meets
 -- no room. An empty piece fails only by the call's number.
-pub record WritesMem {E : Type 0} (piece : List ℕ) (before after : MemRackState) (result : Result ℕ E) : Type 0 where
+pub record WritesMem {E : Type 0} (piece : List ℕ) (before after : MemRackState)
+    (result : Result ℕ E) : Type 0 where
   pub counts : CountsRack before after result
   pub full : before.room ≡ 0 → 0 < length piece → IsTrue (is_err result)
   pub empty : length piece ≡ 0 → is_ok result ≡ not (is_listed before.fails before.calls)
@@ -64,19 +83,22 @@ pub record WritesMem {E : Type 0} (piece : List ℕ) (before after : MemRackStat
   pub kept : OnErr result (after.room ≡ before.room)
 
 -- `finish` fails exactly where its number is listed.
-pub record FinishesMem {T E : Type 0} (before after : MemRackState) (result : Result T E) : Type 0 where
+pub record FinishesMem {T E : Type 0} (before after : MemRackState)
+    (result : Result T E) : Type 0 where
   pub counts : CountsRack before after result
   pub exact : is_ok result ≡ not (is_listed before.fails before.calls)
   pub room : after.room ≡ before.room
 
 -- A `tell` that fails appends nothing. An empty text fails only by the call's number.
-pub record TellsMem {T E : Type 0} (text : List ℕ) (before after : MemRackState) (result : Result T E) : Type 0 where
+pub record TellsMem {T E : Type 0} (text : List ℕ) (before after : MemRackState)
+    (result : Result T E) : Type 0 where
   pub counts : CountsRack before after result
   pub room : after.room ≡ before.room
   pub empty : length text ≡ 0 → is_ok result ≡ not (is_listed before.fails before.calls)
   pub kept : OnErr result (after.told ≡ before.told)
 
-pub record CreatesMem {T E : Type 0} (before after : MemRackState) (result : Result T E) : Type 0 where
+pub record CreatesMem {T E : Type 0} (before after : MemRackState)
+    (result : Result T E) : Type 0 where
   pub counts : CountsRack before after result
   pub room : after.room ≡ before.room
 

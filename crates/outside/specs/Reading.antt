@@ -3,7 +3,8 @@ use Rattle.std.specs.Prelude.{◌≡◌, ℕ, ◌≤◌, IsTrue, List, ◌++◌,
 use Rattle.outside.specs.Tray.{TrayState, KeepsTray}
 
 -- The first bytes of the file of that name were taken: all of them, or so many where it has more.
-pub record TakesFront (name : List ℕ) (most : ℕ) (before after : TrayState) (bytes : List ℕ) : Type 0 where
+pub record TakesFront (name : List ℕ) (most : ℕ) (before after : TrayState)
+    (bytes : List ℕ) : Type 0 where
   pub all : List ℕ
   pub found : before.file name ≡ Some all
   pub taken : bytes ≡ take most all
@@ -17,7 +18,8 @@ pub record TakesAtMost (most : ℕ) (bytes : List ℕ) (after : TrayState) : Typ
 
 -- A front of the file of that name was taken, of at most so many bytes.
 abbrev pub TakesFew : List ℕ → ℕ → TrayState → TrayState → Type 0
-TakesFew name most before after = (all : List ℕ) × (before.file name ≡ Some all) × TakesAtMost most all after
+TakesFew name most before after =
+    (all : List ℕ) × (before.file name ≡ Some all) × TakesAtMost most all after
 
 -- These bytes were taken off what was left of the file that is begun.
 pub record Takes (bytes : List ℕ) (before after : TrayState) : Type 0 where

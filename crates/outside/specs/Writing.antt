@@ -1,14 +1,18 @@
 -- What it means to write on in the open file, and to write a whole file.
-use Rattle.std.specs.Prelude.{◌≡◌, ◌⊎◌, ℕ, IsTrue, IsFalse, List, [], ◌∷◌, ◌++◌, take, Option, Result, OnOk, OnErr}
+use Rattle.std.specs.Prelude.{◌≡◌, ◌⊎◌, ℕ, IsTrue, IsFalse, List, [], ◌∷◌, ◌++◌, take, Option}
+use Rattle.std.specs.Prelude.{Result, OnOk, OnErr}
 use Rattle.outside.specs.Causes.{Rose, RoseOnce, Asks}
 use Rattle.outside.specs.Rack.{RackState, KeepsRack, FinishesFile, put}
 
 -- Whatever bytes the current file has, the piece is put behind them.
 abbrev pub Grows : List ℕ → RackState → RackState → Type 0
-Grows piece before after = (bytes : List ℕ) (files : List ℕ → Option (List ℕ)) → before.file ≡ put before.current bytes files → after.file ≡ put before.current (bytes ++ piece) files
+Grows piece before after = (bytes : List ℕ) (files : List ℕ → Option (List ℕ))
+    → before.file ≡ put before.current bytes files
+    → after.file ≡ put before.current (bytes ++ piece) files
 
 -- The piece is written whole at the end of the open file, or a front of it and a fault.
-pub record WritesOn {T E : Type 0} (piece : List ℕ) (before after : RackState) (result : Result T E) : Type 0 where
+pub record WritesOn {T E : Type 0} (piece : List ℕ) (before after : RackState)
+    (result : Result T E) : Type 0 where
   pub keeps : KeepsRack before after
   pub asked : after.asked ≡ before.asked
   pub told : IsTrue before.tells → after.told ≡ before.told
@@ -21,13 +25,17 @@ pub record WritesOn {T E : Type 0} (piece : List ℕ) (before after : RackState)
   pub cause : OnErr result (Rose before.faults after.faults)
   pub once : OnErr result (RoseOnce before.faults after.faults)
 
--- The file is not written whole. Where it was created it is still open, and a front of its bytes stands under its name;
+-- The file is not written whole. Where it was created it is still open, and a front of its bytes
+-- stands under its name;
 -- where it could not be created no file is open, and all files are as they were.
 abbrev pub BreaksFile : List ℕ → List ℕ → (List ℕ → Option (List ℕ)) → RackState → Type 0
-BreaksFile name bytes files after = (IsFalse after.is_open × (after.file ≡ files)) ⊎ (IsTrue after.is_open × ((k : ℕ) × (after.file ≡ put name (take k bytes) files)))
+BreaksFile name bytes files after = (IsFalse after.is_open × (after.file ≡ files))
+    ⊎ (IsTrue after.is_open × ((k : ℕ) × (after.file ≡ put name (take k bytes) files)))
 
--- The rest of the open file is written, and the file is finished. Where that fails it is open still.
-pub record FillsFile {T E : Type 0} (bytes : List ℕ) (before after : RackState) (result : Result T E) : Type 0 where
+-- The rest of the open file is written, and the file is finished. Where that fails it is open
+-- still.
+pub record FillsFile {T E : Type 0} (bytes : List ℕ) (before after : RackState)
+    (result : Result T E) : Type 0 where
   pub keeps : KeepsRack before after
   pub asked : after.asked ≡ before.asked
   pub told : IsTrue before.tells → after.told ≡ before.told
@@ -42,7 +50,8 @@ pub record FillsFile {T E : Type 0} (bytes : List ℕ) (before after : RackState
   pub once : OnErr result (RoseOnce before.faults after.faults)
 
 -- All bytes stand under the name, and everything else is as it was.
-pub record WritesFile {T E : Type 0} (name bytes : List ℕ) (before after : RackState) (result : Result T E) : Type 0 where
+pub record WritesFile {T E : Type 0} (name bytes : List ℕ) (before after : RackState)
+    (result : Result T E) : Type 0 where
   pub keeps : KeepsRack before after
   pub asked : Asks before.asked after.asked (name ∷ [])
   pub told : IsTrue before.tells → after.told ≡ before.told

@@ -1,5 +1,6 @@
 -- The page that a job and plates make.
-use Rattle.std.specs.Prelude.{◌≡◌, ℕ, Bool, ◌≤◌, length, List, Option, Some, None, Result, Ok, Err, map, filter, find, is_none, if◌then◌else◌, All}
+use Rattle.std.specs.Prelude.{◌≡◌, ℕ, Bool, ◌≤◌, length, List, Option, Some, None, Result, Ok, Err}
+use Rattle.std.specs.Prelude.{map, filter, find, is_none, if◌then◌else◌, All}
 use Rattle.std.specs.List.{list_any, position}
 use Rattle.std.specs.Str.{bytes_eq}
 use Rattle.job_reader.specs.declared.job.Job.{Job}
@@ -37,7 +38,8 @@ ink_of details name = ink_or (detail_of details name) (plain_ink name)
 
 -- a zone, with the limits of the plates' names alone
 abbrev pub zone_for : List (List ℕ) → Zone → Zone
-zone_for names zone = record zone { limits = filter (λ (l : Limit). list_any (λ n. bytes_eq n l.name) names) zone.limits }
+zone_for names zone = record zone
+    { limits = filter (λ (l : Limit). list_any (λ n. bytes_eq n l.name) names) zone.limits }
 
 -- the parts of the page of these planes, in the order of the names
 abbrev pub parts_of_planes : Job → List Plane → List (List ℕ) → PageParts
@@ -58,7 +60,8 @@ some_enabled job = list_any (λ (z : Zone). z.params.enabled) job.zones
 
 -- the first plate whose name has no details, where some zone is enabled
 abbrev pub without_details : Job → List (List ℕ) → Option ℕ
-without_details job names = if some_enabled job then position (λ name. is_none (detail_of job.details name)) names else None
+without_details job names =
+    if some_enabled job then position (λ name. is_none (detail_of job.details name)) names else None
 
 -- the page of these parts, or its fault
 abbrev pub faulted : PageParts → Option PageFault → Result PageParts Refusal

@@ -1,5 +1,6 @@
 -- What it means to read a job and plates, and to make a page of them.
-use Rattle.std.specs.Prelude.{◌≡◌, ◌⊎◌, ℕ, ◌<◌, ◌+◌, IsTrue, List, [], ◌∷◌, length, take, Option, Some, None, Result, Ok, Err}
+use Rattle.std.specs.Prelude.{◌≡◌, ◌⊎◌, ℕ, ◌<◌, ◌+◌, IsTrue, List, [], ◌∷◌, length, take, Option}
+use Rattle.std.specs.Prelude.{Some, None, Result, Ok, Err}
 use Rattle.outside.specs.Causes.{Rose, Asks, AsksFront}
 use Rattle.outside.specs.Tray.{TrayState, KeepsTray}
 use Rattle.job_reader.specs.declared.job.Job.{Job}
@@ -9,11 +10,15 @@ use Rattle.page_model.specs.Conditions.{IsPage}
 use Rattle.page_model.specs.Page.{plates}
 use Rattle.pgm_plates.specs.declared.plate.Plate.{Plate as PlateRead}
 use Rattle.trap_report.specs.declared.refusal.Refusal.{Refusal}
-use Rattle.trap_report.specs.declared.refusal.Refusal.TheVariants.{Usage, Job as JobRefusal, NoDetails, Plate, Page, Read, Write, Memory}
-use Rattle.page_gather.specs.Inputs.{Sources, Holds, AreRead, PlateFails, Makes, one_page, read_files, name_at}
+use Rattle.trap_report.specs.declared.refusal.Refusal.TheVariants.{Usage, Job as JobRefusal}
+use Rattle.trap_report.specs.declared.refusal.Refusal.TheVariants.{NoDetails, Plate, Page, Read}
+use Rattle.trap_report.specs.declared.refusal.Refusal.TheVariants.{Write, Memory}
+use Rattle.page_gather.specs.Inputs.{Sources, Holds, AreRead, PlateFails, Makes, one_page}
+use Rattle.page_gather.specs.Inputs.{read_files, name_at}
 use Rattle.page_gather.specs.Steps.{IsFaultless, PassesNoFault, PlateInHand, ReadsJob, TakesJob}
 
--- The read of a plate failed: the job and the plates before it are read, and of its own bytes those that were taken have no fault but an early end.
+-- The read of a plate failed: the job and the plates before it are read, and of its own bytes
+-- those that were taken have no fault but an early end.
 pub record PlateBreaks (source : Sources) (plate : ℕ) (before after : TrayState) : Type 0 where
   pub known : plate < length source.inputs
   pub job : Job
@@ -35,25 +40,41 @@ files_to source (Plate plate fault) = take (plate + 2) (read_files source)
 files_to source (Read (Some plate)) = take (plate + 2) (read_files source)
 files_to source other = read_files source
 
--- What the answer says of the files' bytes, where they are told, and of the names that were handed out.
+-- What the answer says of the files' bytes, where they are told, and of the names that were
+-- handed out.
 abbrev pub AnswersPage : Sources → TrayState → TrayState → Result PageParts Refusal → Type 0
-AnswersPage source before after (Ok page) = (plates page ≡ length source.inputs) × Asks before.asked after.asked (read_files source) × (IsTrue before.tells → Makes one_page before.file source (Ok page))
-AnswersPage source before after (Err (JobRefusal fault)) = Asks before.asked after.asked (files_to source (JobRefusal fault)) × (IsTrue before.tells → Holds before.file source.job (λ bytes. job_of bytes ≡ Err fault))
-AnswersPage source before after (Err (NoDetails plate)) = Asks before.asked after.asked (files_to source (NoDetails plate)) × (IsTrue before.tells → Makes one_page before.file source (Err (NoDetails plate)))
-AnswersPage source before after (Err (Plate plate fault)) = Asks before.asked after.asked (files_to source (Plate plate fault)) × (IsTrue before.tells → PlateFails one_page before.file source plate fault)
-AnswersPage source before after (Err (Page fault)) = Asks before.asked after.asked (files_to source (Page fault)) × (IsTrue before.tells → Makes one_page before.file source (Err (Page fault)))
-AnswersPage source before after (Err (Read None)) = Rose before.faults after.faults × Asks before.asked after.asked (files_to source (Read None))
-AnswersPage source before after (Err (Read (Some plate))) = Rose before.faults after.faults × Asks before.asked after.asked (files_to source (Read (Some plate))) × PlateBreaks source plate before after
+AnswersPage source before after (Ok page) = (plates page ≡ length source.inputs)
+    × Asks before.asked after.asked (read_files source)
+    × (IsTrue before.tells → Makes one_page before.file source (Ok page))
+AnswersPage source before after (Err (JobRefusal fault)) = Asks before.asked after.asked
+    (files_to source (JobRefusal fault))
+    × (IsTrue before.tells → Holds before.file source.job (λ bytes. job_of bytes ≡ Err fault))
+AnswersPage source before after (Err (NoDetails plate)) = Asks before.asked after.asked
+    (files_to source (NoDetails plate))
+    × (IsTrue before.tells → Makes one_page before.file source (Err (NoDetails plate)))
+AnswersPage source before after (Err (Plate plate fault)) = Asks before.asked after.asked
+    (files_to source (Plate plate fault))
+    × (IsTrue before.tells → PlateFails one_page before.file source plate fault)
+AnswersPage source before after (Err (Page fault)) = Asks before.asked after.asked
+    (files_to source (Page fault))
+    × (IsTrue before.tells → Makes one_page before.file source (Err (Page fault)))
+AnswersPage source before after (Err (Read None)) =
+    Rose before.faults after.faults × Asks before.asked after.asked (files_to source (Read None))
+AnswersPage source before after (Err (Read (Some plate))) = Rose before.faults after.faults
+    × Asks before.asked after.asked (files_to source (Read (Some plate)))
+    × PlateBreaks source plate before after
 AnswersPage source before after (Err Memory) = Unit {0}
 AnswersPage source before after (Err Usage) = ⊥
 AnswersPage source before after (Err (Write file)) = ⊥
 
 -- No more was taken of the file that is in hand than is owed, be it the job or a plate.
 abbrev pub InHand : Sources → TrayState → TrayState → Type 0
-InHand source before after = TakesJob source.job before after ⊎ PlateInHand source.inputs before after
+InHand source before after =
+    TakesJob source.job before after ⊎ PlateInHand source.inputs before after
 
 -- The job and the plates are read, and the page is made of them.
-pub record Gathers (source : Sources) (before after : TrayState) (result : Result PageParts Refusal) : Type 0 where
+pub record Gathers (source : Sources) (before after : TrayState)
+    (result : Result PageParts Refusal) : Type 0 where
   pub keeps : KeepsTray before after
   pub asked : AsksFront before.asked after.asked (read_files source)
   pub in_hand : InHand source before after
@@ -62,12 +83,15 @@ pub record Gathers (source : Sources) (before after : TrayState) (result : Resul
 
 -- The page is gathered; or there was no memory for the names of its files, and none was begun.
 abbrev pub ReadsPage : Sources → TrayState → TrayState → Result PageParts Refusal → Type 0
-ReadsPage source before after result = ((after ≡ before) × (result ≡ Err Memory)) ⊎ Gathers source before after result
+ReadsPage source before after result =
+    ((after ≡ before) × (result ≡ Err Memory)) ⊎ Gathers source before after result
 
 -- A page, and the one that the job and the plates make, where the tray tells their bytes.
 abbrev pub IsMade : Sources → TrayState → PageParts → Type 0
-IsMade source tray page = IsPage page × (IsTrue tray.tells → Makes one_page tray.file source (Ok page))
+IsMade source tray page =
+    IsPage page × (IsTrue tray.tells → Makes one_page tray.file source (Ok page))
 
 -- Behind a job that was read, the rest of the page is read.
 abbrev pub GathersRest : Sources → Job → TrayState → TrayState → Result PageParts Refusal → Type 0
-GathersRest source job between after result = (before : TrayState) → ReadsJob source.job before between (Ok job) → Gathers source before after result
+GathersRest source job between after result = (before : TrayState)
+    → ReadsJob source.job before between (Ok job) → Gathers source before after result

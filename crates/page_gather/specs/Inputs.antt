@@ -1,5 +1,6 @@
 -- What a page is read from, and what the bytes of its files give.
-use Rattle.std.specs.Prelude.{◌≡◌, ℕ, ◌<◌, List, [], ◌∷◌, length, slice_index_or, Option, Some, Result, Ok}
+use Rattle.std.specs.Prelude.{◌≡◌, ℕ, ◌<◌, List, [], ◌∷◌, length, slice_index_or, Option, Some}
+use Rattle.std.specs.Prelude.{Result, Ok}
 use Rattle.job_reader.specs.declared.job.Job.{Job}
 use Rattle.job_reader.specs.Jobs.{job_of}
 use Rattle.page_model.specs.declared.parts.PageParts.{PageParts}
@@ -52,17 +53,21 @@ abbrev pub Holds : (List ℕ → Option (List ℕ)) → List ℕ → (List ℕ �
 Holds files name Fact = (bytes : List ℕ) × (files name ≡ Some bytes) × Fact bytes
 
 -- The first files of these names, so many, spell these plates.
-pub record AreRead (spelling : Spelling) (files : List ℕ → Option (List ℕ)) (names : List (List ℕ)) (count : ℕ) (plates : List Plate) : Type 0 where
+pub record AreRead (spelling : Spelling) (files : List ℕ → Option (List ℕ)) (names : List (List ℕ))
+    (count : ℕ) (plates : List Plate) : Type 0 where
   pub all : length plates ≡ count
-  pub each : (k : ℕ) → k < count → Holds files (name_at names k) (λ bytes. spelling.plate bytes (plate_at plates k))
+  pub each : (k : ℕ) → k < count
+      → Holds files (name_at names k) (λ bytes. spelling.plate bytes (plate_at plates k))
 
 -- The job and all plates are read.
-pub record Inputs (spelling : Spelling) (files : List ℕ → Option (List ℕ)) (source : Sources) (job : Job) (plates : List Plate) : Type 0 where
+pub record Inputs (spelling : Spelling) (files : List ℕ → Option (List ℕ)) (source : Sources)
+    (job : Job) (plates : List Plate) : Type 0 where
   pub job_read : Holds files source.job (λ bytes. spelling.job bytes ≡ Ok job)
   pub plates_read : AreRead spelling files source.inputs (length source.inputs) plates
 
 -- The job is read, and the plates before this one; it has this fault.
-pub record PlateFails (spelling : Spelling) (files : List ℕ → Option (List ℕ)) (source : Sources) (plate : ℕ) (fault : PlateFault) : Type 0 where
+pub record PlateFails (spelling : Spelling) (files : List ℕ → Option (List ℕ)) (source : Sources)
+    (plate : ℕ) (fault : PlateFault) : Type 0 where
   pub job : Job
   pub plates : List Plate
   pub job_read : Holds files source.job (λ bytes. spelling.job bytes ≡ Ok job)
@@ -71,5 +76,7 @@ pub record PlateFails (spelling : Spelling) (files : List ℕ → Option (List �
   pub broken : Holds files (name_at source.inputs plate) (λ bytes. spelling.fault bytes fault)
 
 -- what the job and the plates make: a page, or its refusal
-abbrev pub Makes : Spelling → (List ℕ → Option (List ℕ)) → Sources → Result PageParts Refusal → Type 0
-Makes spelling files source made = (job : Job) × (plates : List Plate) × Inputs spelling files source job plates × (assembly job plates source.names ≡ made)
+abbrev pub Makes : Spelling → (List ℕ → Option (List ℕ)) → Sources → Result PageParts Refusal
+    → Type 0
+Makes spelling files source made = (job : Job) × (plates : List Plate)
+    × Inputs spelling files source job plates × (assembly job plates source.names ≡ made)

@@ -2,7 +2,8 @@
 use Rattle.std.specs.Prelude.{true}
 use Rattle.page_model.specs.declared.parts.TrapParams.{TrapParams}
 
--- in ten-thousandths: traps of a quarter of a point, and the shares and densities of PLRM3's section 6.3
+-- in ten-thousandths: traps of a quarter of a point, and the shares and densities of PLRM3's
+-- section 6.3
 abbrev pub usual_params : TrapParams
 usual_params = record {
   trap_width = 2500;

@@ -16,14 +16,20 @@ abbrev pub targets : List (List ℕ) → List ℕ → Targets
 targets outputs report = record { outputs = outputs; report = report }
 
 -- What the answer says where the page is put out.
-abbrev pub AnswersPut : ℕ → Targets → PageParts → RackState → RackState → Result Receipt Refusal → Type 0
-AnswersPut band target page before after (Ok receipt) = IsWholeReceipt page band receipt × WritesAll (outcome target page) before after × Asks before.asked after.asked (written_names target) × FinishesAll (written_names target) before after
-AnswersPut band target page before after (Err (Write file)) = Breaks (length target.outputs) (outcome target page) file before after
+abbrev pub AnswersPut : ℕ → Targets → PageParts → RackState → RackState → Result Receipt Refusal
+    → Type 0
+AnswersPut band target page before after (Ok receipt) = IsWholeReceipt page band receipt
+    × WritesAll (outcome target page) before after
+    × Asks before.asked after.asked (written_names target)
+    × FinishesAll (written_names target) before after
+AnswersPut band target page before after (Err (Write file)) =
+    Breaks (length target.outputs) (outcome target page) file before after
 AnswersPut band target page before after (Err Memory) = after ≡ before
 AnswersPut band target page before after (Err other) = ⊥
 
 -- A page is trapped in bands of so many rows, and its files are written.
-pub record PutsOut (band : ℕ) (target : Targets) (page : PageParts) (before after : RackState) (result : Result Receipt Refusal) : Type 0 where
+pub record PutsOut (band : ℕ) (target : Targets) (page : PageParts) (before after : RackState)
+    (result : Result Receipt Refusal) : Type 0 where
   pub valid : IsPage page
   pub keeps : KeepsRack before after
   pub told : IsTrue before.tells → after.told ≡ before.told

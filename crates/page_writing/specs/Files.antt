@@ -10,15 +10,18 @@ pub record Written : Type 0 where
   pub name : List ℕ
   pub bytes : List ℕ
 
--- each plane as a plate in its canonical spelling, under its file's name, as far as there are names and planes
+-- each plane as a plate in its canonical spelling, under its file's name, as far as there are
+-- names and planes
 abbrev pub plate_files : List (List ℕ) → List Plane → List Written
 plate_files [] planes = []
 plate_files (output ∷ outputs) [] = []
-plate_files (output ∷ outputs) (plane ∷ planes) = record { name = output; bytes = spelled (plate_of plane) } ∷ plate_files outputs planes
+plate_files (output ∷ outputs) (plane ∷ planes) =
+    record { name = output; bytes = spelled (plate_of plane) } ∷ plate_files outputs planes
 
 -- all files of a page in the order in which they are written: the plates, and then the report
 abbrev pub page_files : List (List ℕ) → List Plane → List ℕ → List ℕ → List Written
-page_files outputs planes report text = plate_files outputs planes ++ record { name = report; bytes = text } ∷ []
+page_files outputs planes report text =
+    plate_files outputs planes ++ record { name = report; bytes = text } ∷ []
 
 -- the names of these files
 abbrev pub names_of : List Written → List (List ℕ)

@@ -1,5 +1,6 @@
 -- What it means to write files one after another, and all files of a page.
-use Rattle.std.specs.Prelude.{◌≡◌, ℕ, ◌<◌, IsTrue, IsFalse, List, [], ◌∷◌, ◌++◌, length, Option, Some, None, Result, Ok, Err}
+use Rattle.std.specs.Prelude.{◌≡◌, ℕ, ◌<◌, IsTrue, IsFalse, List, [], ◌∷◌, ◌++◌, length, Option}
+use Rattle.std.specs.Prelude.{Some, None, Result, Ok, Err}
 use Rattle.outside.specs.Causes.{Rose, RoseOnce, Asks, AsksFront}
 use Rattle.outside.specs.Rack.{RackState, KeepsRack}
 use Rattle.outside.specs.Writing.{BreaksFile}
@@ -23,8 +24,10 @@ pub record WritesAll (files : List Written) (before after : RackState) : Type 0 
   -- no fault was passed over
   pub well : after.faults ≡ before.faults
 
--- The rack has a fault at file k: the earlier ones stand whole and are finished; of this one a front of its bytes, and it
--- is open still, or nothing is changed, exactly where it could not be created. None of the later ones is begun.
+-- The rack has a fault at file k: the earlier ones stand whole and are finished; of this one a
+-- front of its bytes, and it
+-- is open still, or nothing is changed, exactly where it could not be created. None of the later
+-- ones is begun.
 pub record BreaksAt (files : List Written) (k : ℕ) (before after : RackState) : Type 0 where
   pub earlier : List Written
   pub file : Written
@@ -33,7 +36,8 @@ pub record BreaksAt (files : List Written) (k : ℕ) (before after : RackState) 
   pub place : length earlier ≡ k
   pub asked : Asks before.asked after.asked (names_of earlier ++ file.name ∷ [])
   pub finished : FinishesAll (names_of earlier) before after
-  pub part : IsTrue before.tells → BreaksFile file.name file.bytes (put_all earlier before.file) after
+  pub part : IsTrue before.tells
+      → BreaksFile file.name file.bytes (put_all earlier before.file) after
   pub cause : Rose before.faults after.faults
 
 -- The plate of that number breaks, of so many; or, without a number, the report behind them.
@@ -42,7 +46,8 @@ Breaks plates files (Some k) before after = (k < plates) × BreaksAt files k bef
 Breaks plates files None before after = BreaksAt files plates before after
 
 -- by the answer, where so many of the files are plates and the last is the report
-abbrev pub AnswersWriting : {T : Type 0} → ℕ → List Written → RackState → RackState → Result T Refusal → Type 0
+abbrev pub AnswersWriting : {T : Type 0} → ℕ → List Written → RackState → RackState
+    → Result T Refusal → Type 0
 AnswersWriting plates files before after (Ok x) = WritesAll files before after
 AnswersWriting plates files before after (Err (Write file)) = Breaks plates files file before after
 AnswersWriting plates files before after (Err other) = ⊥
@@ -53,21 +58,26 @@ FailsOnce before after (Err (Write file)) = RoseOnce before.faults after.faults
 FailsOnce before after other = Unit {0}
 
 -- The plates and then the report are written. No text is told.
-pub record WritesPage {T : Type 0} (outputs : List (List ℕ)) (planes : List Plane) (report text : List ℕ) (before after : RackState) (result : Result T Refusal) : Type 0 where
+pub record WritesPage {T : Type 0} (outputs : List (List ℕ)) (planes : List Plane)
+    (report text : List ℕ) (before after : RackState) (result : Result T Refusal) : Type 0 where
   pub keeps : KeepsRack before after
   pub told : IsTrue before.tells → after.told ≡ before.told
   pub asked : AsksFront before.asked after.asked (outputs ++ report ∷ [])
-  pub answer : AnswersWriting (length outputs) (page_files outputs planes report text) before after result
+  pub answer : AnswersWriting (length outputs)
+      (page_files outputs planes report text) before after result
   pub once : FailsOnce before after result
 
 -- by the answer, where so many files are all plates
-abbrev pub AnswersPlates : {T : Type 0} → ℕ → List Written → RackState → RackState → Result T Refusal → Type 0
+abbrev pub AnswersPlates : {T : Type 0} → ℕ → List Written → RackState → RackState
+    → Result T Refusal → Type 0
 AnswersPlates plates files before after (Ok x) = WritesAll files before after
-AnswersPlates plates files before after (Err (Write (Some k))) = (k < plates) × BreaksAt files k before after
+AnswersPlates plates files before after (Err (Write (Some k))) =
+    (k < plates) × BreaksAt files k before after
 AnswersPlates plates files before after (Err other) = ⊥
 
 -- The plates are written. No text is told.
-pub record WritesPlates {T : Type 0} (outputs : List (List ℕ)) (planes : List Plane) (before after : RackState) (result : Result T Refusal) : Type 0 where
+pub record WritesPlates {T : Type 0} (outputs : List (List ℕ)) (planes : List Plane)
+    (before after : RackState) (result : Result T Refusal) : Type 0 where
   pub keeps : KeepsRack before after
   pub told : IsTrue before.tells → after.told ≡ before.told
   pub asked : AsksFront before.asked after.asked outputs

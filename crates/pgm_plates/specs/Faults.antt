@@ -1,8 +1,13 @@
--- The faults of bytes that are no plate file. Each has a moment, the number of bytes that decide it, and the fault of the least moment is told.
-use Rattle.std.specs.Prelude.{◌≡◌, ◌⊎◌, ℕ, ◌+◌, ◌*◌, ◌<◌, ◌≤◌, IsFalse, List, [], ◌∷◌, ◌++◌, length, take}
+-- The faults of bytes that are no plate file. Each has a moment, the number of bytes that decide
+-- it, and the fault of the least moment is told.
+use Rattle.std.specs.Prelude.{◌≡◌, ◌⊎◌, ℕ, ◌+◌, ◌*◌, ◌<◌, ◌≤◌, IsFalse, List, [], ◌∷◌, ◌++◌, length}
+use Rattle.std.specs.Prelude.{take}
 use Rattle.pgm_plates.specs.declared.plate.Plate.{Plate}
 use Rattle.pgm_plates.specs.declared.plate.PlateFault.{PlateFault}
-use Rattle.pgm_plates.specs.declared.plate.PlateFault.TheVariants.{BadMagic, BadHeader, SideRange, TooManySamples, MaxvalRange, SampleAboveMaxval, Truncated, TrailingBytes}
+use Rattle.pgm_plates.specs.declared.plate.PlateFault.TheVariants.{BadMagic, BadHeader, SideRange}
+use Rattle.pgm_plates.specs.declared.plate.PlateFault.TheVariants.{TooManySamples, MaxvalRange}
+use Rattle.pgm_plates.specs.declared.plate.PlateFault.TheVariants.{SampleAboveMaxval, Truncated}
+use Rattle.pgm_plates.specs.declared.plate.PlateFault.TheVariants.{TrailingBytes}
 use Rattle.pgm_plates.specs.Header.{is_digit, IsGap, IsNumber, Numbers, IsHeader, IsShape, IsBegun}
 use Rattle.page_model.specs.Limits.{most_samples, most_maxval}
 use Rattle.pgm_plates.specs.Limits.{most_header}
@@ -22,7 +27,9 @@ pub record Breaks (bytes : List ℕ) (at : ℕ) : Type 0 where
   pub unended : HoldsNoHeader front
   pub broken : IsBegun bytes → ⊥
 
--- The bytes end with a number of the header, whose first digit is at that place, and with one byte more, which ends the number and may stand there. The earlier numbers are told from the last to the first.
+-- The bytes end with a number of the header, whose first digit is at that place, and with one
+-- byte more, which ends the number and may stand there. The earlier numbers are told from the
+-- last to the first.
 pub record EndsNumber (bytes : List ℕ) (at number : ℕ) (earlier : List ℕ) : Type 0 where
   pub front : List ℕ
   pub gap : List ℕ
@@ -38,9 +45,12 @@ pub record EndsNumber (bytes : List ℕ) (at number : ℕ) (earlier : List ℕ) 
 
 -- The number that ends before the last of these bytes is out of range.
 abbrev pub NumberFault : List ℕ → PlateFault → Type 0
-NumberFault bytes (SideRange at) = (side : ℕ) × (earlier : List ℕ) × EndsNumber bytes at side earlier × (length earlier < 2) × (IsSide side → ⊥)
-NumberFault bytes (TooManySamples at) = (width height : ℕ) × EndsNumber bytes at height (width ∷ []) × IsSide width × IsSide height × (most_samples < width * height)
-NumberFault bytes (MaxvalRange at) = (width height maxval : ℕ) × EndsNumber bytes at maxval (height ∷ width ∷ []) × ((maxval ≡ 0) ⊎ (most_maxval < maxval))
+NumberFault bytes (SideRange at) = (side : ℕ) × (earlier : List ℕ)
+    × EndsNumber bytes at side earlier × (length earlier < 2) × (IsSide side → ⊥)
+NumberFault bytes (TooManySamples at) = (width height : ℕ) × EndsNumber bytes at height (width ∷ [])
+    × IsSide width × IsSide height × (most_samples < width * height)
+NumberFault bytes (MaxvalRange at) = (width height maxval : ℕ)
+    × EndsNumber bytes at maxval (height ∷ width ∷ []) × ((maxval ≡ 0) ⊎ (most_maxval < maxval))
 NumberFault bytes other = ⊥
 
 -- A header, some of its samples, and then one above the maxval, which begins at that place.
@@ -70,7 +80,8 @@ pub record EndsBehindRaster (bytes : List ℕ) (at : ℕ) : Type 0 where
   pub whole : bytes ≡ header ++ raster maxval samples ++ last ∷ []
   pub place : length (header ++ raster maxval samples) ≡ at
 
--- These are as many bytes as a header may have, which begin one and hold none, and no number that ends with them is out of range.
+-- These are as many bytes as a header may have, which begin one and hold none, and no number
+-- that ends with them is out of range.
 pub record EndsTooLong (bytes : List ℕ) : Type 0 where
   pub long : length bytes ≡ most_header
   pub begun : IsBegun bytes
@@ -80,13 +91,15 @@ pub record EndsTooLong (bytes : List ℕ) : Type 0 where
 -- The last of these bytes decides the fault.
 abbrev pub Decides : List ℕ → PlateFault → Type 0
 Decides bytes (BadMagic at) = (at < 2) × Breaks bytes at
-Decides bytes (BadHeader at) = ((2 ≤ at) × Breaks bytes at) ⊎ ((at ≡ most_header) × EndsTooLong bytes)
+Decides bytes (BadHeader at) =
+    ((2 ≤ at) × Breaks bytes at) ⊎ ((at ≡ most_header) × EndsTooLong bytes)
 Decides bytes (SampleAboveMaxval at) = EndsAboveMaxval bytes at
 Decides bytes (TrailingBytes at) = EndsBehindRaster bytes at
 Decides bytes (Truncated at) = ⊥
 Decides bytes fault = NumberFault bytes fault
 
--- The bytes end before they are a whole plate; this is decided by their end, behind the last of them.
+-- The bytes end before they are a whole plate; this is decided by their end, behind the last of
+-- them.
 pub record EndsEarly (bytes : List ℕ) (moment at : ℕ) : Type 0 where
   pub place : at ≡ length bytes
   pub late : moment ≡ length bytes + 1

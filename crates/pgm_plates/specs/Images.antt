@@ -1,10 +1,14 @@
 -- What the reader of one image among others does. No public clause cites this file.
-use Rattle.std.specs.Prelude.{◌≡◌, ℕ, ◌*◌, ◌<◌, ◌≤◌, ◌^◌, List, length, Option, Some, None, Result, Ok, Err}
+use Rattle.std.specs.Prelude.{◌≡◌, ℕ, ◌*◌, ◌<◌, ◌≤◌, ◌^◌, List, length, Option, Some, None, Result}
+use Rattle.std.specs.Prelude.{Ok, Err}
 use Rattle.outside.specs.Tray.{TrayState}
 use Rattle.outside.specs.Reading.{Takes}
 use Rattle.pgm_plates.specs.declared.plate.Plate.{Plate}
 use Rattle.pgm_plates.specs.declared.plate.PlateFault.{PlateFault}
-use Rattle.pgm_plates.specs.declared.plate.PlateFault.TheVariants.{BadMagic, BadHeader, SideRange, TooManySamples, MaxvalRange, SampleAboveMaxval, Truncated, TrailingBytes}
+use Rattle.pgm_plates.specs.declared.plate.PlateFault.TheVariants.{BadMagic, BadHeader, SideRange}
+use Rattle.pgm_plates.specs.declared.plate.PlateFault.TheVariants.{TooManySamples, MaxvalRange}
+use Rattle.pgm_plates.specs.declared.plate.PlateFault.TheVariants.{SampleAboveMaxval, Truncated}
+use Rattle.pgm_plates.specs.declared.plate.PlateFault.TheVariants.{TrailingBytes}
 use Rattle.pgm_plates.specs.declared.plate.PlateRefusal.{PlateRefusal}
 use Rattle.pgm_plates.specs.declared.plate.PlateRefusal.TheVariants.{Fault, ReadFault, OutOfMemory}
 use Rattle.pgm_plates.specs.Plates.{IsPlateFile}
@@ -30,8 +34,10 @@ IsNearRefusal OutOfMemory = Unit {0}
 
 -- One image is taken, of so many bytes, or there is none.
 abbrev pub ReadsImage : TrayState → TrayState → Result (Option (Plate × ℕ)) PlateRefusal → Type 0
-ReadsImage before after (Ok (Some read)) = (image : List ℕ) × Takes image before after × IsPlateFile image read.0 × (length image ≡ read.1) × AreFew image
-ReadsImage before after (Ok None) = (nothing : List ℕ) × Takes nothing before after × (length nothing ≡ 0) × AtEnd before after
+ReadsImage before after (Ok (Some read)) = (image : List ℕ) × Takes image before after
+    × IsPlateFile image read.0 × (length image ≡ read.1) × AreFew image
+ReadsImage before after (Ok None) =
+    (nothing : List ℕ) × Takes nothing before after × (length nothing ≡ 0) × AtEnd before after
 ReadsImage before after (Err refusal) = Answers before after (Err refusal)
 
 -- So many images were taken, of so many bytes together.
@@ -46,7 +52,8 @@ pub record Passed (before now : TrayState) (count size : ℕ) : Type 0 where
   pub small : size ≤ count * 2 ^ 30
 
 -- Some bytes are taken, which the answer fits.
-pub record PageAnswers (page : ℕ) (before after : TrayState) (result : Result (Option Plate) PlateRefusal) : Type 0 where
+pub record PageAnswers (page : ℕ) (before after : TrayState)
+    (result : Result (Option Plate) PlateRefusal) : Type 0 where
   pub bytes : List ℕ
   pub takes : Takes bytes before after
   pub few : AreFewOfPage page bytes

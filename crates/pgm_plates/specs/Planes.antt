@@ -1,4 +1,5 @@
--- Planes, whose tints are the samples of plates turned round: 0 is no ink, and a sample of 0 is black.
+-- Planes, whose tints are the samples of plates turned round: 0 is no ink, and a sample of 0 is
+-- black.
 use Rattle.std.specs.Prelude.{ℕ, ◌-◌, if◌then◌else◌, List, map}
 use Rattle.page_model.specs.declared.parts.Plane.{Plane}
 use Rattle.pgm_plates.specs.declared.plate.Plate.{Plate}
@@ -6,11 +7,23 @@ use Rattle.pgm_plates.specs.declared.writing.Image.{Image}
 
 -- the tints of a plate
 abbrev pub plane_of : Plate → Plane
-plane_of plate = record { width = plate.width; height = plate.height; maxval = plate.maxval; tints = map (λ s. plate.maxval - s) plate.samples }
+plane_of plate =
+    record {
+      width = plate.width;
+      height = plate.height;
+      maxval = plate.maxval;
+      tints = map (λ s. plate.maxval - s) plate.samples;
+    }
 
 -- the plate that has a plane's tints
 abbrev pub plate_of : Plane → Plate
-plate_of plane = record { width = plane.width; height = plane.height; maxval = plane.maxval; samples = map (λ t. plane.maxval - t) plane.tints }
+plate_of plane =
+    record {
+      width = plane.width;
+      height = plane.height;
+      maxval = plane.maxval;
+      samples = map (λ t. plane.maxval - t) plane.tints;
+    }
 
 -- the sample that a value of an image is
 abbrev pub sample_in : Image → ℕ → ℕ
@@ -22,4 +35,10 @@ samples_in image values = map (sample_in image) values
 
 -- the plate of an image
 abbrev pub plate_in : Image → Plate
-plate_in image = record { width = image.width; height = image.height; maxval = image.maxval; samples = samples_in image image.values.now }
+plate_in image =
+    record {
+      width = image.width;
+      height = image.height;
+      maxval = image.maxval;
+      samples = samples_in image image.values.now;
+    }

@@ -1,12 +1,14 @@
 -- What the parts of the reader do. No public clause cites this file.
-use Rattle.std.specs.Prelude.{◌≡◌, ℕ, ◌+◌, ◌*◌, ◌<◌, ◌≤◌, List, [], ◌∷◌, ◌++◌, length, take, slice_index, Result, Ok, Err}
+use Rattle.std.specs.Prelude.{◌≡◌, ℕ, ◌+◌, ◌*◌, ◌<◌, ◌≤◌, List, [], ◌∷◌, ◌++◌, length, take}
+use Rattle.std.specs.Prelude.{slice_index, Result, Ok, Err}
 use Rattle.std.specs.List.{All}
 use Rattle.outside.specs.Causes.{Rose}
 use Rattle.outside.specs.Tray.{TrayState}
 use Rattle.outside.specs.Reading.{Takes}
 use Rattle.pgm_plates.specs.declared.header.Header.{Header}
 use Rattle.pgm_plates.specs.declared.plate.Plate.{Plate}
-use Rattle.pgm_plates.specs.declared.plate.PlateFault.TheVariants.{SampleAboveMaxval, Truncated, TrailingBytes}
+use Rattle.pgm_plates.specs.declared.plate.PlateFault.TheVariants.{SampleAboveMaxval, Truncated}
+use Rattle.pgm_plates.specs.declared.plate.PlateFault.TheVariants.{TrailingBytes}
 use Rattle.pgm_plates.specs.declared.plate.PlateRefusal.{PlateRefusal}
 use Rattle.pgm_plates.specs.declared.plate.PlateRefusal.TheVariants.{Fault, ReadFault, OutOfMemory}
 use Rattle.pgm_plates.specs.Header.{IsHeader}
@@ -67,32 +69,45 @@ pub record IsAbove (maxval count : ℕ) (bytes : List ℕ) (place : ℕ) : Type 
 
 -- What a refusal in a raster of so many samples says, which begins at that place of the file.
 abbrev pub RasterRefused : ℕ → ℕ → ℕ → TrayState → TrayState → PlateRefusal → Type 0
-RasterRefused maxval count start before after (Fault (SampleAboveMaxval at)) = (bytes : List ℕ) × (place : ℕ) × Takes bytes before after × IsAbove maxval count bytes place × (at ≡ start + place)
-RasterRefused maxval count start before after (Fault (Truncated at)) = (bytes : List ℕ) × Takes bytes before after × IsPart maxval count bytes × (length bytes < count * sample_size maxval) × (at ≡ start + length bytes) × AtEnd before after
-RasterRefused maxval count start before after ReadFault = (bytes : List ℕ) × Takes bytes before after × IsPart maxval count bytes × Rose before.faults after.faults
-RasterRefused maxval count start before after OutOfMemory = (bytes : List ℕ) × Takes bytes before after × (length bytes ≤ count * sample_size maxval)
+RasterRefused maxval count start before after (Fault (SampleAboveMaxval at)) = (bytes : List ℕ)
+    × (place : ℕ) × Takes bytes before after × IsAbove maxval count bytes place
+    × (at ≡ start + place)
+RasterRefused maxval count start before after (Fault (Truncated at)) = (bytes : List ℕ)
+    × Takes bytes before after × IsPart maxval count bytes
+    × (length bytes < count * sample_size maxval) × (at ≡ start + length bytes) × AtEnd before after
+RasterRefused maxval count start before after ReadFault = (bytes : List ℕ)
+    × Takes bytes before after × IsPart maxval count bytes × Rose before.faults after.faults
+RasterRefused maxval count start before after OutOfMemory =
+    (bytes : List ℕ) × Takes bytes before after × (length bytes ≤ count * sample_size maxval)
 RasterRefused maxval count start before after other = ⊥
 
 -- All samples are taken.
-pub record RasterTaken (maxval count : ℕ) (before after : TrayState) (samples : List ℕ) : Type 0 where
+pub record RasterTaken (maxval count : ℕ) (before after : TrayState)
+    (samples : List ℕ) : Type 0 where
   pub takes : Takes (raster maxval samples) before after
   pub fit : Fit maxval samples
   pub all : length samples ≡ count
 
-abbrev pub ReadsPiece : ℕ → ℕ → ℕ → TrayState → TrayState → Result (Unit {0}) PlateRefusal → List ℕ → Type 0
-ReadsPiece maxval count start before after (Ok done) samples = RasterTaken maxval count before after samples
-ReadsPiece maxval count start before after (Err refusal) samples = RasterRefused maxval count start before after refusal
+abbrev pub ReadsPiece : ℕ → ℕ → ℕ → TrayState → TrayState → Result (Unit {0}) PlateRefusal → List ℕ
+    → Type 0
+ReadsPiece maxval count start before after (Ok done) samples =
+    RasterTaken maxval count before after samples
+ReadsPiece maxval count start before after (Err refusal) samples =
+    RasterRefused maxval count start before after refusal
 
 -- what is found behind the raster
 abbrev pub EndsFile : ℕ → TrayState → TrayState → Result (Unit {0}) PlateRefusal → Type 0
 EndsFile at before after (Ok done) = Takes [] before after × AtEnd before after
-EndsFile at before after (Err (Fault (TrailingBytes place))) = (last : ℕ) × Takes (last ∷ []) before after × (place ≡ at)
+EndsFile at before after (Err (Fault (TrailingBytes place))) =
+    (last : ℕ) × Takes (last ∷ []) before after × (place ≡ at)
 EndsFile at before after (Err ReadFault) = Takes [] before after × Rose before.faults after.faults
 EndsFile at before after (Err other) = ⊥
 
 abbrev pub ReadsRaster : ℕ → ℕ → ℕ → TrayState → TrayState → Result (List ℕ) PlateRefusal → Type 0
-ReadsRaster maxval count start before after (Ok samples) = RasterTaken maxval count before after samples
-ReadsRaster maxval count start before after (Err refusal) = RasterRefused maxval count start before after refusal
+ReadsRaster maxval count start before after (Ok samples) =
+    RasterTaken maxval count before after samples
+ReadsRaster maxval count start before after (Err refusal) =
+    RasterRefused maxval count start before after refusal
 
 -- the bytes of samples, and a byte of one more or none
 pub record IsDecoded (maxval : ℕ) (bytes samples : List ℕ) : Type 0 where

@@ -1,5 +1,6 @@
 -- What it means to read a plate from the file of a name.
-use Rattle.std.specs.Prelude.{◌≡◌, ◌⊎◌, ℕ, ◌+◌, ◌*◌, ◌≤◌, IsTrue, List, [], ◌∷◌, ◌++◌, length, take, Some, Result, Ok, Err}
+use Rattle.std.specs.Prelude.{◌≡◌, ◌⊎◌, ℕ, ◌+◌, ◌*◌, ◌≤◌, IsTrue, List, [], ◌∷◌, ◌++◌, length, take}
+use Rattle.std.specs.Prelude.{Some, Result, Ok, Err}
 use Rattle.outside.specs.Causes.{Rose, Asks}
 use Rattle.outside.specs.Tray.{TrayState, KeepsTray}
 use Rattle.pgm_plates.specs.declared.plate.Plate.{Plate}
@@ -27,7 +28,8 @@ pub record IsWithinPlate (bytes : List ℕ) : Type 0 where
   pub is_header : IsHeader (take count bytes) width height maxval
   pub few : length bytes ≤ count + width * height * sample_size maxval + 1
 
--- No more bytes than these are owed: as many as a header may have, where they hold none; else the header, the raster and one byte.
+-- No more bytes than these are owed: as many as a header may have, where they hold none; else
+-- the header, the raster and one byte.
 abbrev pub AreFew : List ℕ → Type 0
 AreFew bytes = ((length bytes ≤ most_header) × HoldsNoHeader bytes) ⊎ IsWithinPlate bytes
 
@@ -37,12 +39,16 @@ AtEnd before after = IsTrue before.tells → after.left ≡ []
 
 -- What the answer says of the bytes that were taken.
 abbrev pub AnswersPlate : List ℕ → TrayState → TrayState → Result Plate PlateRefusal → Type 0
-AnswersPlate bytes before after (Ok plate) = IsTrue after.begun × IsPlateFile bytes plate × AtEnd before after
-AnswersPlate bytes before after (Err (Fault fault)) = IsTrue after.begun × IsFault bytes fault × (IsTruncated fault → AtEnd before after)
-AnswersPlate bytes before after (Err ReadFault) = Rose before.faults after.faults × ((fault : PlateFault) → IsFault bytes fault → IsTruncated fault)
+AnswersPlate bytes before after (Ok plate) =
+    IsTrue after.begun × IsPlateFile bytes plate × AtEnd before after
+AnswersPlate bytes before after (Err (Fault fault)) =
+    IsTrue after.begun × IsFault bytes fault × (IsTruncated fault → AtEnd before after)
+AnswersPlate bytes before after (Err ReadFault) = Rose before.faults after.faults
+    × ((fault : PlateFault) → IsFault bytes fault → IsTruncated fault)
 AnswersPlate bytes before after (Err OutOfMemory) = IsTrue after.begun
 
--- No fault of the tray is passed over: the count stays at each answer but a read fault, and but a sample above the maxval,
+-- No fault of the tray is passed over: the count stays at each answer but a read fault, and but
+-- a sample above the maxval,
 -- which may be among the bytes that came before a failed read.
 abbrev pub KeepsCount : {T : Type 0} → TrayState → TrayState → Result T PlateRefusal → Type 0
 KeepsCount before after (Err ReadFault) = Unit {0}
@@ -50,11 +56,13 @@ KeepsCount before after (Err (Fault (SampleAboveMaxval at))) = Unit {0}
 KeepsCount before after other = after.faults ≡ before.faults
 
 -- The file of that name is begun, and some bytes are taken off its front, which the answer fits.
-pub record ReadsPlate (name : List ℕ) (before after : TrayState) (result : Result Plate PlateRefusal) : Type 0 where
+pub record ReadsPlate (name : List ℕ) (before after : TrayState)
+    (result : Result Plate PlateRefusal) : Type 0 where
   pub keeps : KeepsTray before after
   pub asked : Asks before.asked after.asked (name ∷ [])
   pub bytes : List ℕ
-  pub taken : IsTrue after.begun → IsTrue before.tells → before.file name ≡ Some (bytes ++ after.left)
+  pub taken : IsTrue after.begun → IsTrue before.tells
+      → before.file name ≡ Some (bytes ++ after.left)
   pub few : AreFew bytes
   pub answer : AnswersPlate bytes before after result
   pub count : KeepsCount before after result

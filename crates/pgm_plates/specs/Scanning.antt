@@ -1,5 +1,7 @@
 -- What the reader of a header knows, byte by byte. No public clause cites this file.
-use Rattle.std.specs.Prelude.{◌≡◌, ℕ, ◌+◌, ◌*◌, ◌-◌, ◌<◌, ◌≤◌, min, Bool, ◌&&◌, nat_lt, nat_le, if◌then◌else◌, List, [], ◌∷◌, ◌++◌, length, take, Option, Some, None, Result, Ok, Err}
+use Rattle.std.specs.Prelude.{◌≡◌, ℕ, ◌+◌, ◌*◌, ◌-◌, ◌<◌, ◌≤◌, min, Bool, ◌&&◌, nat_lt, nat_le}
+use Rattle.std.specs.Prelude.{if◌then◌else◌, List, [], ◌∷◌, ◌++◌, length, take, Option, Some, None}
+use Rattle.std.specs.Prelude.{Result, Ok, Err}
 use Rattle.pgm_plates.specs.declared.stand.Stand.{Stand}
 use Rattle.pgm_plates.specs.declared.stand.Stand.TheVariants.{Start, Digits, Ended}
 use Rattle.pgm_plates.specs.declared.header.Sides.{Sides}
@@ -7,7 +9,8 @@ use Rattle.pgm_plates.specs.declared.header.Sides.TheVariants.{Neither, Width, B
 use Rattle.pgm_plates.specs.declared.header.Scan.{Scan}
 use Rattle.pgm_plates.specs.declared.header.Header.{Header}
 use Rattle.pgm_plates.specs.declared.plate.PlateFault.{PlateFault}
-use Rattle.pgm_plates.specs.declared.plate.PlateFault.TheVariants.{BadMagic, BadHeader, SideRange, TooManySamples, MaxvalRange}
+use Rattle.pgm_plates.specs.declared.plate.PlateFault.TheVariants.{BadMagic, BadHeader, SideRange}
+use Rattle.pgm_plates.specs.declared.plate.PlateFault.TheVariants.{TooManySamples, MaxvalRange}
 use Rattle.pgm_plates.specs.Header.{IsGap, IsNumber, Numbers}
 use Rattle.page_model.specs.Limits.{most_side, most_samples, most_maxval}
 use Rattle.pgm_plates.specs.Plates.{IsSide}
@@ -27,8 +30,11 @@ side_test n = nat_lt 0 n && nat_le n most_side
 -- what is wrong with a number whose first digit is at that place, behind these sides
 abbrev pub number_fault : Sides → ℕ → ℕ → Option PlateFault
 number_fault Neither n at = if side_test n then None else Some (SideRange at)
-number_fault (Width w) n at = if side_test n then (if nat_le (w * n) most_samples then None else Some (TooManySamples at)) else Some (SideRange at)
-number_fault (Both w h) n at = if nat_lt 0 n && nat_le n most_maxval then None else Some (MaxvalRange at)
+number_fault (Width w) n at = if side_test n
+    then (if nat_le (w * n) most_samples then None else Some (TooManySamples at))
+    else Some (SideRange at)
+number_fault (Both w h) n at =
+    if nat_lt 0 n && nat_le n most_maxval then None else Some (MaxvalRange at)
 
 -- the sides behind one number more
 abbrev pub sides_then : Sides → ℕ → Sides
@@ -49,10 +55,24 @@ judged (Some fault) scan = Err fault
 
 -- from one stand to another, by the byte b at that place
 abbrev pub entered : Stand → Stand → Scan → ℕ → ℕ → Result Scan PlateFault
-entered Digits Digits scan b at = Ok (record { stand = Digits; sides = scan.sides; number = digit_more scan.number b; first = scan.first })
-entered from Digits scan b at = Ok (record { stand = Digits; sides = scan.sides; number = digit_more 0 b; first = at })
-entered Digits to scan b at = judged (number_fault scan.sides scan.number scan.first) (record { stand = to; sides = sides_then scan.sides scan.number; number = scan.number; first = scan.first })
-entered from to scan b at = Ok (record { stand = to; sides = scan.sides; number = scan.number; first = scan.first })
+entered Digits Digits scan b at = Ok
+    (record {
+      stand = Digits;
+      sides = scan.sides;
+      number = digit_more scan.number b;
+      first = scan.first;
+    })
+entered from Digits scan b at =
+    Ok (record { stand = Digits; sides = scan.sides; number = digit_more 0 b; first = at })
+entered Digits to scan b at = judged (number_fault scan.sides scan.number scan.first)
+    (record {
+      stand = to;
+      sides = sides_then scan.sides scan.number;
+      number = scan.number;
+      first = scan.first;
+    })
+entered from to scan b at =
+    Ok (record { stand = to; sides = scan.sides; number = scan.number; first = scan.first })
 
 abbrev pub stepped : Option Stand → Scan → ℕ → ℕ → Result Scan PlateFault
 stepped None scan b at = Err (header_fault at)
@@ -78,8 +98,10 @@ pub record AtNumber (bytes : List ℕ) (at number : ℕ) (earlier : List ℕ) : 
 
 -- what the fields of a scan stand for
 abbrev pub Fits : Stand → Scan → List ℕ → List ℕ → Type 0
-Fits Digits scan ns bytes = (n : ℕ) × (ns ≡ n ∷ past scan.sides) × (scan.number ≡ min n 1000000) × AtNumber bytes scan.first n (past scan.sides)
-Fits Ended scan ns bytes = (w h : ℕ) × (scan.sides ≡ Both w h) × (ns ≡ scan.number ∷ h ∷ w ∷ []) × (0 < scan.number) × (scan.number ≤ most_maxval)
+Fits Digits scan ns bytes = (n : ℕ) × (ns ≡ n ∷ past scan.sides) × (scan.number ≡ min n 1000000)
+    × AtNumber bytes scan.first n (past scan.sides)
+Fits Ended scan ns bytes = (w h : ℕ) × (scan.sides ≡ Both w h) × (ns ≡ scan.number ∷ h ∷ w ∷ [])
+    × (0 < scan.number) × (scan.number ≤ most_maxval)
 Fits other scan ns bytes = ns ≡ past scan.sides
 
 abbrev pub InRange : Sides → Type 0

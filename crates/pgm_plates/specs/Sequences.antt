@@ -1,10 +1,14 @@
 -- Plate files that stand one directly behind the other, and what it means to read one of them.
-use Rattle.std.specs.Prelude.{◌≡◌, ℕ, ◌+◌, ◌<◌, ◌≤◌, IsTrue, List, [], ◌∷◌, ◌++◌, length, Option, Some, None, Result, Ok, Err}
+use Rattle.std.specs.Prelude.{◌≡◌, ℕ, ◌+◌, ◌<◌, ◌≤◌, IsTrue, List, [], ◌∷◌, ◌++◌, length, Option}
+use Rattle.std.specs.Prelude.{Some, None, Result, Ok, Err}
 use Rattle.outside.specs.Causes.{Rose, Asks}
 use Rattle.outside.specs.Tray.{TrayState, KeepsTray}
 use Rattle.pgm_plates.specs.declared.plate.Plate.{Plate}
 use Rattle.pgm_plates.specs.declared.plate.PlateFault.{PlateFault}
-use Rattle.pgm_plates.specs.declared.plate.PlateFault.TheVariants.{BadMagic, BadHeader, SideRange, TooManySamples, MaxvalRange, SampleAboveMaxval, Truncated, TrailingBytes}
+use Rattle.pgm_plates.specs.declared.plate.PlateFault.TheVariants.{BadMagic, BadHeader, SideRange}
+use Rattle.pgm_plates.specs.declared.plate.PlateFault.TheVariants.{TooManySamples, MaxvalRange}
+use Rattle.pgm_plates.specs.declared.plate.PlateFault.TheVariants.{SampleAboveMaxval, Truncated}
+use Rattle.pgm_plates.specs.declared.plate.PlateFault.TheVariants.{TrailingBytes}
 use Rattle.pgm_plates.specs.declared.plate.PlateRefusal.{PlateRefusal}
 use Rattle.pgm_plates.specs.declared.plate.PlateRefusal.TheVariants.{Fault, ReadFault, OutOfMemory}
 use Rattle.pgm_plates.specs.Faults.{IsFault}
@@ -14,7 +18,8 @@ use Rattle.pgm_plates.specs.Reading.{AreFew, AtEnd, IsTruncated, KeepsCount}
 -- The bytes are plate files of these plates, one directly behind the other.
 abbrev pub IsSequence : List ℕ → List Plate → Type 0
 IsSequence bytes [] = bytes ≡ []
-IsSequence bytes (plate ∷ plates) = (image later : List ℕ) × (bytes ≡ image ++ later) × IsPlateFile image plate × IsSequence later plates
+IsSequence bytes (plate ∷ plates) = (image later : List ℕ) × (bytes ≡ image ++ later)
+    × IsPlateFile image plate × IsSequence later plates
 
 -- At most so many plate files stand at the front of the bytes, and these others behind them.
 pub record StandsBehind (bytes : List ℕ) (most : ℕ) (image : List ℕ) : Type 0 where
@@ -24,7 +29,8 @@ pub record StandsBehind (bytes : List ℕ) (most : ℕ) (image : List ℕ) : Typ
   pub few : length plates ≤ most
   pub whole : bytes ≡ front ++ image
 
--- No more bytes than these are owed where the plate of that number is asked for: at most so many plate files, and of the
+-- No more bytes than these are owed where the plate of that number is asked for: at most so many
+-- plate files, and of the
 -- one in hand no more than of a file of one plate.
 abbrev pub AreFewOfPage : ℕ → List ℕ → Type 0
 AreFewOfPage page bytes = (image : List ℕ) × StandsBehind bytes page image × AreFew image
@@ -47,19 +53,29 @@ IsOfImage (Truncated at) = 0 < at
 IsOfImage other = Unit {0}
 
 -- What the answer says of the bytes that were taken, where the plate of that number is asked for.
-abbrev pub AnswersPage : ℕ → List ℕ → TrayState → TrayState → Result (Option Plate) PlateRefusal → Type 0
-AnswersPage page bytes before after (Ok (Some plate)) = IsTrue after.begun × (image : List ℕ) × (s : StandsBehind bytes page image) × (length s.plates ≡ page) × IsPlateFile image plate
-AnswersPage page bytes before after (Ok None) = IsTrue after.begun × StandsBehind bytes page [] × AtEnd before after
-AnswersPage page bytes before after (Err (Fault fault)) = IsTrue after.begun × (image : List ℕ) × (s : StandsBehind bytes page image) × (found : PlateFault) × IsFault image found × IsOfImage found × (fault ≡ further (length s.front) found) × (IsTruncated found → AtEnd before after)
-AnswersPage page bytes before after (Err ReadFault) = Rose before.faults after.faults × (image : List ℕ) × StandsBehind bytes page image × ((fault : PlateFault) → IsFault image fault → IsTruncated fault)
+abbrev pub AnswersPage : ℕ → List ℕ → TrayState → TrayState → Result (Option Plate) PlateRefusal
+    → Type 0
+AnswersPage page bytes before after (Ok (Some plate)) = IsTrue after.begun × (image : List ℕ)
+    × (s : StandsBehind bytes page image) × (length s.plates ≡ page) × IsPlateFile image plate
+AnswersPage page bytes before after (Ok None) =
+    IsTrue after.begun × StandsBehind bytes page [] × AtEnd before after
+AnswersPage page bytes before after (Err (Fault fault)) = IsTrue after.begun × (image : List ℕ)
+    × (s : StandsBehind bytes page image) × (found : PlateFault) × IsFault image found
+    × IsOfImage found × (fault ≡ further (length s.front) found)
+    × (IsTruncated found → AtEnd before after)
+AnswersPage page bytes before after (Err ReadFault) = Rose before.faults after.faults
+    × (image : List ℕ) × StandsBehind bytes page image
+    × ((fault : PlateFault) → IsFault image fault → IsTruncated fault)
 AnswersPage page bytes before after (Err OutOfMemory) = IsTrue after.begun
 
 -- The file of that name is begun, and some bytes are taken off its front, which the answer fits.
-pub record ReadsPage (name : List ℕ) (page : ℕ) (before after : TrayState) (result : Result (Option Plate) PlateRefusal) : Type 0 where
+pub record ReadsPage (name : List ℕ) (page : ℕ) (before after : TrayState)
+    (result : Result (Option Plate) PlateRefusal) : Type 0 where
   pub keeps : KeepsTray before after
   pub asked : Asks before.asked after.asked (name ∷ [])
   pub bytes : List ℕ
-  pub taken : IsTrue after.begun → IsTrue before.tells → before.file name ≡ Some (bytes ++ after.left)
+  pub taken : IsTrue after.begun → IsTrue before.tells
+      → before.file name ≡ Some (bytes ++ after.left)
   pub few : AreFewOfPage page bytes
   pub answer : AnswersPage page bytes before after result
   pub count : KeepsCount before after result

@@ -75,7 +75,8 @@ pub record RefusedInput (words : List (List ℕ)) (tray tray' : TrayState) (rack
       → (status ≡ status_of refusal) ⊎ (status ≡ out_of_memory)
 
 -- Status 5 comes only where the tray's count rose. The names handed to `begin` are a prefix of
--- those of the job and the plates, and the line names the last of them; what was read before it has no
+-- those of the job and the plates, and the line names the last of them; what was read before it
+-- has no
 -- fault. At every status no more was taken of the file in hand than is owed, and status 7
 -- passes no fault over.
 pub record ReadFault (words : List (List ℕ)) (tray tray' : TrayState) (rack rack' : RackState)

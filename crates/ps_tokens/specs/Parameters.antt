@@ -1,7 +1,8 @@
 -- The trapping parameters: their names in a job, and their ranges in ten-thousandths.
 use Rattle.std.specs.Prelude.{ℕ, List, codes}
 use Rattle.ps_tokens.specs.declared.parameters.Key.{Key}
-use Rattle.ps_tokens.specs.declared.parameters.Key.TheVariants.{TrapWidth, BlackWidth, BlackColorLimit}
+use Rattle.ps_tokens.specs.declared.parameters.Key.TheVariants.{TrapWidth, BlackWidth}
+use Rattle.ps_tokens.specs.declared.parameters.Key.TheVariants.{BlackColorLimit}
 use Rattle.ps_tokens.specs.declared.parameters.Key.TheVariants.{BlackDensityLimit, StepLimit}
 use Rattle.ps_tokens.specs.declared.parameters.Key.TheVariants.{SlidingTrapLimit, TrapColorScaling}
 use Rattle.ps_tokens.specs.declared.parameters.Key.TheVariants.{Enabled, Trapping}

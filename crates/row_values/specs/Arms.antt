@@ -1,3 +1,4 @@
+-- The arms of a row: for each column with an answer its edge.
 use Rattle.std.specs.Prelude.{◌≡◌, ℕ, ◌+◌, ◌-◌, ◌*◌, ◌<◌, ◌≤◌, List, length, slice_index, Option}
 use Rattle.std.specs.Option.{option_map}
 use Rattle.page_model.specs.declared.parts.EdgeAt.{EdgeAt}
@@ -32,11 +33,14 @@ pub record StandsAt (columns : List ℕ) (count x2 : ℕ) : Type 0 where
   pub same : slice_index columns place ≡ x2
 
 -- the first places hold the arms of the first n columns that have a code, in their order
-pub record AreArms (codes : List ℕ) (n : ℕ) (arms : List ArmModel) (columns : List ℕ) (count : ℕ) : Type 0 where
+pub record AreArms (codes : List ℕ) (n : ℕ) (arms : List ArmModel) (columns : List ℕ)
+    (count : ℕ) : Type 0 where
   pub few : count ≤ n
   pub each : (k : ℕ) → k < count → HasArm codes n (arm_at arms k) (slice_index columns k)
   pub rising : (j k : ℕ) → j < k → k < count → slice_index columns j < slice_index columns k
   pub all : (x2 : ℕ) → x2 < n → 1 ≤ slice_index codes x2 → StandsAt columns count x2
 
 abbrev pub edge_at_place : List ℕ → ℕ → List ℕ → Option ℕ → Option EdgeAt
-edge_at_place codes y columns place = option_map (λ (k : ℕ). coded_edge y (slice_index columns k) (slice_index codes (slice_index columns k))) place
+edge_at_place codes y columns place = option_map
+    (λ (k : ℕ). coded_edge y (slice_index columns k) (slice_index codes (slice_index columns k)))
+    place

@@ -6,7 +6,8 @@ use Rattle.row_envelope.specs.Room.{Room as HullRoom}
 use Rattle.zone_map.specs.Room.{Room as SpanRoom}
 
 -- the samples of a row and the plates that a workspace was made for, and how much memory it has:
--- for arms, for their columns, for the place of each sample's nearest arm, for tints, for crossings and
+-- for arms, for their columns, for the place of each sample's nearest arm, for tints, for
+-- crossings and
 -- for the hull
 pub record Room : Type 0 where
   pub wide : ℕ

@@ -12,7 +12,8 @@ use Rattle.page_model.specs.Zones.{zone_of}
 -- a list with so many items a row has the values of these rows, each by its row and its place in it
 pub record HoldsRows (wide : ℕ) (value : ℕ → ℕ → ℕ) (rows : Rows) (items : List ℕ) : Type 0 where
   pub long : length items ≡ rows.count * wide
-  pub each : (k o : ℕ) → k < rows.count → o < wide → slice_index items (k * wide + o) ≡ value (rows.first + k) o
+  pub each : (k o : ℕ) → k < rows.count → o < wide
+      → slice_index items (k * wide + o) ≡ value (rows.first + k) o
 
 -- the zone of each sample
 abbrev pub zone_value : PageParts → ℕ → ℕ → ℕ

@@ -3,7 +3,8 @@ use Rattle.std.specs.Prelude.{◌≡◌, ℕ, ◌+◌, Bool, ◌&&◌, ◌==◌,
 use Rattle.page_model.specs.declared.parts.At.{At}
 use Rattle.page_model.specs.declared.parts.PageParts.{PageParts}
 use Rattle.lists.specs.Words.{sum_below}
-use Rattle.page_model.specs.Counts.{deciding_edges, plate_changed, plate_changes, sample_changes, zone_changed, zone_samples}
+use Rattle.page_model.specs.Counts.{deciding_edges, plate_changed, plate_changes, sample_changes}
+use Rattle.page_model.specs.Counts.{zone_changed, zone_samples}
 use Rattle.page_model.specs.Deciding.{lower_mark, right_mark}
 use Rattle.page_model.specs.Page.{height, width}
 use Rattle.page_model.specs.Zones.{zone_of}

@@ -5,7 +5,9 @@ use Rattle.page_model.specs.declared.parts.Plane.{Plane}
 use Rattle.page_model.specs.declared.parts.Vertex.{Vertex}
 use Rattle.page_model.specs.declared.parts.Zone.{Zone}
 use Rattle.page_model.specs.Conditions.{Agrees, IsInk, IsZone}
-use Rattle.page_model.specs.Limits.{most_coordinate, most_maxval, most_plates, most_reach, most_resolution, most_samples, most_side, most_vertices_in_all, most_zones}
+use Rattle.page_model.specs.Limits.{most_coordinate, most_maxval, most_plates, most_reach}
+use Rattle.page_model.specs.Limits.{most_resolution, most_samples, most_side, most_vertices_in_all}
+use Rattle.page_model.specs.Limits.{most_zones}
 use Rattle.page_model.specs.Page.{height, params_at, path_at, plates, width}
 use Rattle.page_model.specs.Reach.{zone_reach}
 use Rattle.sheet_windows.specs.declared.cuts.Cut.{Cut}

@@ -1,3 +1,5 @@
+-- What the engine of one thread works over: the zones and marks of all samples, and room for a
+-- row of tints.
 use Rattle.std.specs.Prelude.{◌≡◌, ◌*◌, length}
 use Rattle.page_model.specs.declared.parts.PageParts.{PageParts}
 use Rattle.page_model.specs.Page.{plates, width}

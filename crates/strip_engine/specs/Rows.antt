@@ -1,3 +1,4 @@
+-- Some rows out of a list that has as many items for each row.
 use Rattle.std.specs.Prelude.{◌≡◌, ℕ, ◌+◌, ◌-◌, ◌*◌, ◌<◌, List, length, slice_index}
 
 -- of a list with w items for each row, the rows from one on and before another

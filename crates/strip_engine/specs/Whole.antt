@@ -1,3 +1,4 @@
+-- The zones and marks of all samples of a page, row by row.
 use Rattle.std.specs.Prelude.{ℕ, List, ◌/◌, ◌%◌}
 use Rattle.page_model.specs.declared.parts.PageParts.{PageParts}
 use Rattle.page_model.specs.Deciding.{mark}

@@ -1,5 +1,6 @@
 -- What is known of a sheet that is trapped strip by strip.
-use Rattle.std.specs.Prelude.{◌≡◌, ℕ, ◌*◌, ◌<◌, ◌++◌, List, [], length, map, slice_index, slice_index_or}
+use Rattle.std.specs.Prelude.{◌≡◌, ℕ, ◌*◌, ◌<◌, ◌++◌, List, [], length, map, slice_index}
+use Rattle.std.specs.Prelude.{slice_index_or}
 use Rattle.page_model.specs.declared.parts.PageParts.{PageParts}
 use Rattle.lists.specs.Words.{list_below}
 use Rattle.page_model.specs.Counts.{deciding_edges, plate_changed, zone_changed, zone_samples}

@@ -1,5 +1,6 @@
 -- What a call does.
-use Rattle.std.specs.Prelude.{◌≡◌, ◌≢◌, ◌⊎◌, ℕ, min, List, ◌++◌, ◌*◌, ◌≤◌, All, length, take, drop, Result, Ok, Err}
+use Rattle.std.specs.Prelude.{◌≡◌, ◌≢◌, ◌⊎◌, ℕ, min, List, ◌++◌, ◌*◌, ◌≤◌, All, length, take, drop}
+use Rattle.std.specs.Prelude.{Result, Ok, Err}
 use Rattle.page_model.specs.declared.parts.PageParts.{PageParts}
 use Rattle.page_model.specs.Conditions.{IsPlane}
 use Rattle.page_model.specs.Counts.{page_counts}

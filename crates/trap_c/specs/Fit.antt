@@ -1,5 +1,6 @@
 -- What the arguments of a call have to be, and what the tints have to be.
-use Rattle.std.specs.Prelude.{◌≡◌, ℕ, ◌*◌, ◌<◌, ◌≤◌, Bool, ◌==◌, ◌&&◌, nat_le, nat_lt, if◌then◌else◌, List, length, slice_index, Option, Some, None}
+use Rattle.std.specs.Prelude.{◌≡◌, ℕ, ◌*◌, ◌<◌, ◌≤◌, Bool, ◌==◌, ◌&&◌, nat_le, nat_lt}
+use Rattle.std.specs.Prelude.{if◌then◌else◌, List, length, slice_index, Option, Some, None}
 use Rattle.std.specs.List.{position}
 use Rattle.lists.specs.Words.{first_some}
 use Rattle.page_model.specs.declared.parts.Plane.{Plane}

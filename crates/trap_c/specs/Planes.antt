@@ -1,5 +1,6 @@
 -- The planes that lie in the samples of a call: rows one after the other, the first plane first.
-use Rattle.std.specs.Prelude.{◌≡◌, ℕ, zero, suc, ◌+◌, ◌*◌, ◌%◌, ◌≤◌, List, [], ◌++◌, slice_index, slice_range}
+use Rattle.std.specs.Prelude.{◌≡◌, ℕ, zero, suc, ◌+◌, ◌*◌, ◌%◌, ◌≤◌, List, [], ◌++◌, slice_index}
+use Rattle.std.specs.Prelude.{slice_range}
 use Rattle.page_model.specs.declared.parts.Plane.{Plane}
 use Rattle.lists.specs.Words.{list_below}
 use Rattle.trap_c.specs.declared.layout.Layout.{Layout}

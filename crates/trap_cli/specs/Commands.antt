@@ -12,7 +12,8 @@ inputs_of plates = map (λ (p : PlateNames). p.input) plates
 
 -- the files that are read, with the plates' names
 abbrev pub sources_of : PageWords → Sources
-sources_of page = record { job = page.job; names = names_of page.plates; inputs = inputs_of page.plates }
+sources_of page =
+    record { job = page.job; names = names_of page.plates; inputs = inputs_of page.plates }
 
 -- the rows of a band in which a sample page is trapped
 abbrev pub sample_band : ℕ

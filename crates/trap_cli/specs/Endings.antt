@@ -1,5 +1,6 @@
 -- How the steps of a command end.
-use Rattle.std.specs.Prelude.{◌≡◌, ◌⊎◌, ℕ, ◌*◌, ◌≤◌, IsTrue, true, List, ◌++◌, length, take, Option, Some, None, Result, Ok, Err}
+use Rattle.std.specs.Prelude.{◌≡◌, ◌⊎◌, ℕ, ◌*◌, ◌≤◌, IsTrue, true, List, ◌++◌, length, take, Option}
+use Rattle.std.specs.Prelude.{Some, None, Result, Ok, Err}
 use Rattle.band_claims.specs.Receipt.{Receipt}
 use Rattle.outside.specs.Causes.{Rose, Asks, AsksFront}
 use Rattle.outside.specs.Tray.{TrayState, KeepsTray}
@@ -20,19 +21,28 @@ use Rattle.trap_report.specs.declared.refusal.Refusal.TheVariants.{Usage, Page, 
 use Rattle.trap_report.specs.Report.{report_of}
 use Rattle.trap_report.specs.Statuses.{done, not_written}
 use Rattle.trap_report.specs.Telling.{KeepsFiles, Refuses}
-use Rattle.trap_words.specs.Words.{PageWords, SampleWords, begins_with_page, command_of, Page as page_command, Sample as sample_command}
+use Rattle.trap_words.specs.Words.{PageWords, SampleWords, begins_with_page, command_of}
+use Rattle.trap_words.specs.Words.{Page as page_command, Sample as sample_command}
 use Rattle.page_output.specs.declared.outcome.Outcome.{Outcome}
 use Rattle.trap_cli.specs.Commands.{sample_band, sources_of, targets_of}
 use Rattle.verdicts.specs.Verdicts.{Targets, outcome, written_names}
 
 -- What the answer says where the page is read first.
-abbrev pub AnswersCommand : ℕ → Sources → Targets → TrayState → TrayState → RackState → RackState → Result Receipt Refusal → Type 0
-AnswersCommand band source target tray tray' rack rack' (Ok receipt) = (page : PageParts) × IsMade source tray page × IsWholeReceipt page band receipt × Asks tray.asked tray'.asked (read_files source) × WritesAll (outcome target page) rack rack' × Asks rack.asked rack'.asked (written_names target) × FinishesAll (written_names target) rack rack'
-AnswersCommand band source target tray tray' rack rack' (Err (Write file)) = (page : PageParts) × IsMade source tray page × Breaks (length target.outputs) (outcome target page) file rack rack'
-AnswersCommand band source target tray tray' rack rack' (Err refusal) = AnswersPage source tray tray' (Err refusal) × (rack' ≡ rack)
+abbrev pub AnswersCommand : ℕ → Sources → Targets → TrayState → TrayState → RackState → RackState
+    → Result Receipt Refusal → Type 0
+AnswersCommand band source target tray tray' rack rack' (Ok receipt) = (page : PageParts)
+    × IsMade source tray page × IsWholeReceipt page band receipt
+    × Asks tray.asked tray'.asked (read_files source) × WritesAll (outcome target page) rack rack'
+    × Asks rack.asked rack'.asked (written_names target)
+    × FinishesAll (written_names target) rack rack'
+AnswersCommand band source target tray tray' rack rack' (Err (Write file)) = (page : PageParts)
+    × IsMade source tray page × Breaks (length target.outputs) (outcome target page) file rack rack'
+AnswersCommand band source target tray tray' rack rack' (Err refusal) =
+    AnswersPage source tray tray' (Err refusal) × (rack' ≡ rack)
 
 -- A page is read and put out.
-pub record CarriesOut (band : ℕ) (source : Sources) (target : Targets) (tray tray' : TrayState) (rack rack' : RackState) (result : Result Receipt Refusal) : Type 0 where
+pub record CarriesOut (band : ℕ) (source : Sources) (target : Targets) (tray tray' : TrayState)
+    (rack rack' : RackState) (result : Result Receipt Refusal) : Type 0 where
   pub tray_keeps : KeepsTray tray tray'
   pub in_hand : (tray' ≡ tray) ⊎ InHand source tray tray'
   pub count : PassesNoFault tray tray' result
@@ -45,11 +55,14 @@ pub record CarriesOut (band : ℕ) (source : Sources) (target : Targets) (tray t
 
 -- the status; the receipt where the work is done, and else the line of the refusal
 abbrev pub Closes : Result Receipt Refusal → RackState → RackState → ℕ → Option Receipt → Type 0
-Closes (Ok closed) before after status receipt = (after ≡ before) × (status ≡ done) × (receipt ≡ Some closed)
-Closes (Err refusal) before after status receipt = Refuses refusal before after status × (receipt ≡ None)
+Closes (Ok closed) before after status receipt =
+    (after ≡ before) × (status ≡ done) × (receipt ≡ Some closed)
+Closes (Err refusal) before after status receipt =
+    Refuses refusal before after status × (receipt ≡ None)
 
 -- A page is read and put out, and the command is closed.
-pub record EndsPage (band : ℕ) (source : Sources) (target : Targets) (tray tray' : TrayState) (rack rack' : RackState) (status : ℕ) (receipt : Option Receipt) : Type 0 where
+pub record EndsPage (band : ℕ) (source : Sources) (target : Targets) (tray tray' : TrayState)
+    (rack rack' : RackState) (status : ℕ) (receipt : Option Receipt) : Type 0 where
   pub result : Result Receipt Refusal
   pub between : RackState
   pub carried : CarriesOut band source target tray tray' rack between result
@@ -57,7 +70,8 @@ pub record EndsPage (band : ℕ) (source : Sources) (target : Targets) (tray tra
 
 -- There is a receipt, and it is the whole one of the page in bands of so many rows.
 abbrev pub HasReceipt : PageParts → ℕ → Option Receipt → Type 0
-HasReceipt page band receipt = (closed : Receipt) × (receipt ≡ Some closed) × IsWholeReceipt page band closed
+HasReceipt page band receipt =
+    (closed : Receipt) × (receipt ≡ Some closed) × IsWholeReceipt page band closed
 
 -- the sample page of the words
 abbrev pub sample_of : SampleWords → PageParts
@@ -73,26 +87,45 @@ IsSmall words = 4 * words.width * words.height ≤ most_samples
 
 -- what is made of a sample page
 abbrev pub MakesReport : SampleWords → Result Outcome Refusal → Type 0
-MakesReport words (Ok made) = IsSmall words × (made.report ≡ sample_report words) × IsWholeReceipt (sample_of words) sample_band made.receipt
+MakesReport words (Ok made) = IsSmall words × (made.report ≡ sample_report words)
+    × IsWholeReceipt (sample_of words) sample_band made.receipt
 MakesReport words (Err (Page TooManySamples)) = IsSmall words → ⊥
 MakesReport words (Err Memory) = IsSmall words
 MakesReport words (Err other) = ⊥
 
 -- A command of a sample page: its report is told, whole or in part, or it is refused.
-pub data AnswersSample (words : SampleWords) (rack rack' : RackState) (status : ℕ) (receipt : Option Receipt) : Type 0 where
-  told : IsSmall words → status ≡ done → rack'.faults ≡ rack.faults → (IsTrue rack.tells → rack'.told ≡ rack.told ++ sample_report words) → HasReceipt (sample_of words) sample_band receipt → AnswersSample words rack rack' status receipt
-  told_in_part : IsSmall words → status ≡ not_written → Rose rack.faults rack'.faults → (IsTrue rack.tells → (count : ℕ) × (rack'.told ≡ rack.told ++ take count (sample_report words))) → receipt ≡ None → AnswersSample words rack rack' status receipt
-  too_many : (IsSmall words → ⊥) → Refuses (Page TooManySamples) rack rack' status → receipt ≡ None → AnswersSample words rack rack' status receipt
-  no_memory : IsSmall words → Refuses Memory rack rack' status → receipt ≡ None → AnswersSample words rack rack' status receipt
+pub data AnswersSample (words : SampleWords) (rack rack' : RackState) (status : ℕ)
+    (receipt : Option Receipt) : Type 0 where
+  told : IsSmall words → status ≡ done → rack'.faults ≡ rack.faults
+      → (IsTrue rack.tells → rack'.told ≡ rack.told ++ sample_report words)
+      → HasReceipt (sample_of words) sample_band receipt
+      → AnswersSample words rack rack' status receipt
+  told_in_part : IsSmall words → status ≡ not_written → Rose rack.faults rack'.faults
+      → (IsTrue rack.tells
+      → (count : ℕ) × (rack'.told ≡ rack.told ++ take count (sample_report words))) → receipt ≡ None
+      → AnswersSample words rack rack' status receipt
+  too_many : (IsSmall words → ⊥) → Refuses (Page TooManySamples) rack rack' status → receipt ≡ None
+      → AnswersSample words rack rack' status receipt
+  no_memory : IsSmall words → Refuses Memory rack rack' status → receipt ≡ None
+      → AnswersSample words rack rack' status receipt
 
 -- A sample page is carried out: no file is touched.
-pub record EndsSample (words : SampleWords) (rack rack' : RackState) (status : ℕ) (receipt : Option Receipt) : Type 0 where
+pub record EndsSample (words : SampleWords) (rack rack' : RackState) (status : ℕ)
+    (receipt : Option Receipt) : Type 0 where
   pub files : KeepsFiles rack rack'
   pub answer : AnswersSample words rack rack' status receipt
 
--- The words of a command are carried out. Want of memory for the words comes only where `page` is the first of them.
-pub data Ends (words : List (List ℕ)) (tray tray' : TrayState) (rack rack' : RackState) (status : ℕ) (receipt : Option Receipt) : Type 0 where
-  no_memory : begins_with_page words ≡ true → tray' ≡ tray → Refuses Memory rack rack' status → receipt ≡ None → Ends words tray tray' rack rack' status receipt
-  no_command : command_of words ≡ None → tray' ≡ tray → Refuses Usage rack rack' status → receipt ≡ None → Ends words tray tray' rack rack' status receipt
-  page : (page : PageWords) → command_of words ≡ Some (page_command page) → EndsPage page.band (sources_of page) (targets_of page) tray tray' rack rack' status receipt → Ends words tray tray' rack rack' status receipt
-  sample : (sample : SampleWords) → command_of words ≡ Some (sample_command sample) → tray' ≡ tray → EndsSample sample rack rack' status receipt → Ends words tray tray' rack rack' status receipt
+-- The words of a command are carried out. Want of memory for the words comes only where `page`
+-- is the first of them.
+pub data Ends (words : List (List ℕ)) (tray tray' : TrayState) (rack rack' : RackState) (status : ℕ)
+    (receipt : Option Receipt) : Type 0 where
+  no_memory : begins_with_page words ≡ true → tray' ≡ tray → Refuses Memory rack rack' status
+      → receipt ≡ None → Ends words tray tray' rack rack' status receipt
+  no_command : command_of words ≡ None → tray' ≡ tray → Refuses Usage rack rack' status
+      → receipt ≡ None → Ends words tray tray' rack rack' status receipt
+  page : (page : PageWords) → command_of words ≡ Some (page_command page)
+      → EndsPage page.band (sources_of page) (targets_of page) tray tray' rack rack' status receipt
+      → Ends words tray tray' rack rack' status receipt
+  sample : (sample : SampleWords) → command_of words ≡ Some (sample_command sample) → tray' ≡ tray
+      → EndsSample sample rack rack' status receipt
+      → Ends words tray tray' rack rack' status receipt

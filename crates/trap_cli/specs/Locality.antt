@@ -15,16 +15,21 @@ use Rattle.page_gather.specs.Inputs.{plate_at}
 use Rattle.pgm_plates.specs.declared.plate.Plate.{Plate as PlateRead}
 use Rattle.pgm_plates.specs.Planes.{plate_of}
 
--- The edge is at most so far from the sample, in ten-thousandths of a point at the page's resolution; both sides are squared.
+-- The edge is at most so far from the sample, in ten-thousandths of a point at the page's
+-- resolution; both sides are squared.
 abbrev pub IsUpTo : PageParts → At → EdgeAt → ℕ → Type 0
 IsUpTo page p e width = d2 p e * square half_sample ≤ square (width * page.resolution)
 
--- The sample's edge traps up to its place: at most the trap width of the sample's zone away, or, at a black edge, at most that width times the black width.
+-- The sample's edge traps up to its place: at most the trap width of the sample's zone away, or,
+-- at a black edge, at most that width times the black width.
 pub record IsNear (page : PageParts) (p : At) (e : EdgeAt) : Type 0 where
   pub decides : decider page p ≡ Some e
   pub is_within : within page p e ≡ true
-  pub plain : black page (params_at page (zone_of page p)) e ≡ false → IsUpTo page p e ((params_at page (zone_of page p)).trap_width * scale)
-  pub at_black : black page (params_at page (zone_of page p)) e ≡ true → IsUpTo page p e ((params_at page (zone_of page p)).trap_width * (params_at page (zone_of page p)).black_width)
+  pub plain : black page (params_at page (zone_of page p)) e ≡ false
+      → IsUpTo page p e ((params_at page (zone_of page p)).trap_width * scale)
+  pub at_black : black page (params_at page (zone_of page p)) e ≡ true
+      → IsUpTo page p e ((params_at page (zone_of page p)).trap_width
+      * (params_at page (zone_of page p)).black_width)
 
 -- the sample of that number in a plate, row by row
 abbrev pub sample_in : PlateRead → ℕ → ℕ
@@ -36,5 +41,9 @@ plate_after page c = plate_of (trapped_plane page c)
 
 -- The plates that were read change only near edges of the page that they make: by plate and sample.
 pub record ChangesNearEdges (page : PageParts) (read : List PlateRead) : Type 0 where
-  pub changed : (c k : ℕ) → c < plates page → k < samples page → sample_in (plate_after page c) k ≢ sample_in (plate_at read c) k → (e : EdgeAt) × IsNear page (sample_at page k) e
-  pub kept : (c k : ℕ) → c < plates page → k < samples page → ((e : EdgeAt) → IsNear page (sample_at page k) e → ⊥) → sample_in (plate_after page c) k ≡ sample_in (plate_at read c) k
+  pub changed : (c k : ℕ) → c < plates page → k < samples page
+      → sample_in (plate_after page c) k ≢ sample_in (plate_at read c) k
+      → (e : EdgeAt) × IsNear page (sample_at page k) e
+  pub kept : (c k : ℕ) → c < plates page → k < samples page
+      → ((e : EdgeAt) → IsNear page (sample_at page k) e → ⊥)
+      → sample_in (plate_after page c) k ≡ sample_in (plate_at read c) k

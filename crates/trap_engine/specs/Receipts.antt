@@ -1,3 +1,4 @@
+-- The receipt of a page: its closed table, all work done, in bands of some height.
 use Rattle.std.specs.Prelude.{◌≡◌, ℕ}
 use Rattle.page_model.specs.declared.parts.PageParts.{PageParts}
 use Rattle.band_claims.specs.Receipt.{Receipt}

@@ -23,9 +23,12 @@ pub record RoomView : Type 0 where
   pub workers : ℕ
   pub parts : ℕ
 
--- a table with its first pass, which holds nothing and has all shares; the memory of some workers and
--- of the caller, made for the table; and for the table's page the works of its plates and the parts of
--- its rows, at most as many as workers, each with a seat of the table to read by, and an outcome with
+-- a table with its first pass, which holds nothing and has all shares; the memory of some
+-- workers and
+-- of the caller, made for the table; and for the table's page the works of its plates and the
+-- parts of
+-- its rows, at most as many as workers, each with a seat of the table to read by, and an outcome
+-- with
 -- nothing in it
 pub record IsRoom (shared : OpenTable) (pass : Seating) (scratches : List Memory) (spare : Memory)
     (works : List PlateWork) (parts : List Part) (outcome : Outcome) : Type 0 where

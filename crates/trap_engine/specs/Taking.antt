@@ -14,7 +14,8 @@ use Rattle.trap_engine.specs.declared.tally.Tally.{Tally}
 -- the plane has all new tints of plate c, and so many of its samples change
 pub record IsTakenPlate (page : PageParts) (c : ℕ) (plane : Plane) (changed : ℕ) : Type 0 where
   pub trapped : IsTrappedTo page c (height page * width page) plane
-  pub counted : changed ≡ count_below (λ k. plate_changes page c (sample_at page k)) (height page * width page)
+  pub counted : changed
+      ≡ count_below (λ k. plate_changes page c (sample_at page k)) (height page * width page)
 
 -- plate c is taken where the work is done, and is a copy of the page's where it is not
 pub record IsPlateWork (page : PageParts) (c : ℕ) (work : PlateWork) : Type 0 where
@@ -25,12 +26,14 @@ pub record IsPlateWork (page : PageParts) (c : ℕ) (work : PlateWork) : Type 0 
 -- the works of all plates
 pub record ArePlateWorks (page : PageParts) (works : List PlateWork) : Type 0 where
   pub count : length works ≡ plates page
-  pub each : (c : ℕ) (d : PlateWork) → c < plates page → IsPlateWork page c (slice_index_or works c d)
+  pub each : (c : ℕ) (d : PlateWork) → c < plates page
+      → IsPlateWork page c (slice_index_or works c d)
 
 -- and all plates are taken
 pub record AreTakenPlates (page : PageParts) (works : List PlateWork) : Type 0 where
   pub count : length works ≡ plates page
-  pub each : (c : ℕ) (d : PlateWork) → c < plates page → IsTakenPlate page c (slice_index_or works c d).plane (slice_index_or works c d).changed
+  pub each : (c : ℕ) (d : PlateWork) → c < plates page
+      → IsTakenPlate page c (slice_index_or works c d).plane (slice_index_or works c d).changed
 
 -- each has a seat of this table
 abbrev pub AreSeatedWorks : OpenTable → List PlateWork → Type 0
@@ -41,4 +44,5 @@ pub record HasCounted (page : PageParts) (first to : ℕ) (tally : Tally) : Type
   pub zones : length tally.zones.items ≡ width page
   pub marks : length tally.marks.items ≡ width page
   pub changes : length tally.changes.items ≡ width page
-  pub counted : AreRowsCounted page first to tally.zone_samples.items tally.zone_changed.items tally.edges
+  pub counted : AreRowsCounted page first to tally.zone_samples.items tally.zone_changed.items
+      tally.edges

@@ -1,7 +1,8 @@
 -- The trapping parameters by their keys: each key's field of a page's parameters, once.
 use Rattle.std.specs.Prelude.{ℕ, Bool, true, false, List, [], ◌∷◌}
 use Rattle.ps_tokens.specs.declared.parameters.Key.{Key}
-use Rattle.ps_tokens.specs.declared.parameters.Key.TheVariants.{TrapWidth, BlackWidth, BlackColorLimit}
+use Rattle.ps_tokens.specs.declared.parameters.Key.TheVariants.{TrapWidth, BlackWidth}
+use Rattle.ps_tokens.specs.declared.parameters.Key.TheVariants.{BlackColorLimit}
 use Rattle.ps_tokens.specs.declared.parameters.Key.TheVariants.{BlackDensityLimit, StepLimit}
 use Rattle.ps_tokens.specs.declared.parameters.Key.TheVariants.{SlidingTrapLimit, TrapColorScaling}
 use Rattle.ps_tokens.specs.declared.parameters.Key.TheVariants.{Enabled, Trapping}

@@ -1,17 +1,35 @@
 -- The line and the status of each refusal.
 use Rattle.std.specs.Prelude.{ℕ, List, [], ◌++◌, Some, None, codes, decimal}
 use Rattle.page_model.specs.declared.page.PageFault.{PageFault}
-use Rattle.page_model.specs.declared.page.PageFault.TheVariants.{SizeDiffers, MaxvalDiffers, TooManySamples as PageTooLarge, ReachTooWide}
+use Rattle.page_model.specs.declared.page.PageFault.TheVariants.{SizeDiffers, MaxvalDiffers}
+use Rattle.page_model.specs.declared.page.PageFault.TheVariants.{TooManySamples as PageTooLarge}
+use Rattle.page_model.specs.declared.page.PageFault.TheVariants.{ReachTooWide}
 use Rattle.pgm_plates.specs.declared.plate.PlateFault.{PlateFault}
-use Rattle.pgm_plates.specs.declared.plate.PlateFault.TheVariants.{BadMagic, BadHeader, SideRange, TooManySamples, MaxvalRange, SampleAboveMaxval, Truncated, TrailingBytes}
+use Rattle.pgm_plates.specs.declared.plate.PlateFault.TheVariants.{BadMagic, BadHeader, SideRange}
+use Rattle.pgm_plates.specs.declared.plate.PlateFault.TheVariants.{TooManySamples, MaxvalRange}
+use Rattle.pgm_plates.specs.declared.plate.PlateFault.TheVariants.{SampleAboveMaxval, Truncated}
+use Rattle.pgm_plates.specs.declared.plate.PlateFault.TheVariants.{TrailingBytes}
 use Rattle.ps_tokens.specs.declared.faults.FaultKind.{FaultKind}
-use Rattle.ps_tokens.specs.declared.faults.FaultKind.TheVariants.{JobTooLong, BadToken, NumberTooLarge, Unclosed, Unmatched, OddDictionary, KeyNotName, NameInside, TooDeep, UnknownOperator, WrongOperands, WrongKind, OutOfRange, NotDictionary, MissingKey, WrongType, BadDensity, BadKind, BadResolution, NoCurrentPoint, CoordinateRange, TooManyVertices, TooManyZones, NoPageDevice, NoShowpage, AfterShowpage}
+use Rattle.ps_tokens.specs.declared.faults.FaultKind.TheVariants.{JobTooLong, BadToken}
+use Rattle.ps_tokens.specs.declared.faults.FaultKind.TheVariants.{NumberTooLarge, Unclosed}
+use Rattle.ps_tokens.specs.declared.faults.FaultKind.TheVariants.{Unmatched, OddDictionary}
+use Rattle.ps_tokens.specs.declared.faults.FaultKind.TheVariants.{KeyNotName, NameInside, TooDeep}
+use Rattle.ps_tokens.specs.declared.faults.FaultKind.TheVariants.{UnknownOperator, WrongOperands}
+use Rattle.ps_tokens.specs.declared.faults.FaultKind.TheVariants.{WrongKind, OutOfRange}
+use Rattle.ps_tokens.specs.declared.faults.FaultKind.TheVariants.{NotDictionary, MissingKey}
+use Rattle.ps_tokens.specs.declared.faults.FaultKind.TheVariants.{WrongType, BadDensity, BadKind}
+use Rattle.ps_tokens.specs.declared.faults.FaultKind.TheVariants.{BadResolution, NoCurrentPoint}
+use Rattle.ps_tokens.specs.declared.faults.FaultKind.TheVariants.{CoordinateRange, TooManyVertices}
+use Rattle.ps_tokens.specs.declared.faults.FaultKind.TheVariants.{TooManyZones, NoPageDevice}
+use Rattle.ps_tokens.specs.declared.faults.FaultKind.TheVariants.{NoShowpage, AfterShowpage}
 use Rattle.ps_tokens.specs.declared.faults.JobFault.{JobFault}
 use Rattle.ps_tokens.specs.Parameters.{name_of}
 use Rattle.trap_report.specs.declared.refusal.Refusal.{Refusal}
-use Rattle.trap_report.specs.declared.refusal.Refusal.TheVariants.{Usage, Job, NoDetails, Plate, Page, Read, Write, Memory}
+use Rattle.trap_report.specs.declared.refusal.Refusal.TheVariants.{Usage, Job, NoDetails, Plate}
+use Rattle.trap_report.specs.declared.refusal.Refusal.TheVariants.{Page, Read, Write, Memory}
 use Rattle.trap_report.specs.Report.{line}
-use Rattle.trap_report.specs.Statuses.{usage, job_refused, page_refused, not_read, not_written, out_of_memory}
+use Rattle.trap_report.specs.Statuses.{usage, job_refused, page_refused, not_read, not_written}
+use Rattle.trap_report.specs.Statuses.{out_of_memory}
 
 -- the name of a kind of fault; where a parameter is named too, a space stands behind it
 abbrev pub kind_name : FaultKind → List ℕ
@@ -50,7 +68,9 @@ named_key other = []
 
 -- the line of a job's fault: its kind, the parameter where it names one, and its place
 abbrev pub job_line : JobFault → List ℕ
-job_line fault = line (codes "job: " ++ kind_name fault.kind ++ named_key fault.kind ++ codes " at " ++ decimal fault.at)
+job_line fault = line
+    (codes "job: " ++ kind_name fault.kind ++ named_key fault.kind ++ codes " at "
+    ++ decimal fault.at)
 
 -- the name of a plate's fault
 abbrev pub plate_fault_name : PlateFault → List ℕ
@@ -76,7 +96,9 @@ plate_fault_place (TrailingBytes at) = at
 
 -- the line of a plate's fault: the plate, the kind and the place
 abbrev pub plate_fault_line : ℕ → PlateFault → List ℕ
-plate_fault_line plate fault = line (codes "plate " ++ decimal plate ++ codes ": " ++ plate_fault_name fault ++ codes " at " ++ decimal (plate_fault_place fault))
+plate_fault_line plate fault = line
+    (codes "plate " ++ decimal plate ++ codes ": " ++ plate_fault_name fault ++ codes " at "
+    ++ decimal (plate_fault_place fault))
 
 -- the line of a page's fault
 abbrev pub page_fault_line : PageFault → List ℕ
@@ -87,7 +109,8 @@ page_fault_line (ReachTooWide zone) = line (codes "page: ReachTooWide zone " ++ 
 
 -- the line that a refusal tells
 abbrev pub line_of : Refusal → List ℕ
-line_of Usage = line (codes "usage: trap page [--workers N] [--band B] JOB REPORT NAME:IN:OUT ... | trap sample NUMBER WIDTH HEIGHT WORKERS")
+line_of Usage = line
+    (codes "usage: trap page [--workers N] [--band B] JOB REPORT NAME:IN:OUT ... | trap sample NUMBER WIDTH HEIGHT WORKERS")
 line_of (Job fault) = job_line fault
 line_of (NoDetails plate) = line (codes "job: NoDetails for plate " ++ decimal plate)
 line_of (Plate plate fault) = plate_fault_line plate fault

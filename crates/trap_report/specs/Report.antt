@@ -11,11 +11,15 @@ line text = text ++ 10 ∷ []
 
 -- the sides, the maxval and the number of plates
 abbrev pub page_line : PageParts → List ℕ
-page_line page = line (codes "page " ++ decimal (width page) ++ codes " " ++ decimal (height page) ++ codes " " ++ decimal (maxval page) ++ codes " plates " ++ decimal (plates page))
+page_line page = line
+    (codes "page " ++ decimal (width page) ++ codes " " ++ decimal (height page) ++ codes " "
+    ++ decimal (maxval page) ++ codes " plates " ++ decimal (plates page))
 
 -- a zone, how many samples lie in it, and how many of these changed
 abbrev pub zone_line : ℕ → ℕ → ℕ → List ℕ
-zone_line zone samples changed = line (codes "zone " ++ decimal zone ++ codes " samples " ++ decimal samples ++ codes " changed " ++ decimal changed)
+zone_line zone samples changed = line
+    (codes "zone " ++ decimal zone ++ codes " samples " ++ decimal samples ++ codes " changed "
+    ++ decimal changed)
 
 -- how many edges decide
 abbrev pub edges_line : ℕ → List ℕ
@@ -28,17 +32,20 @@ plate_line name changed = line (codes "plate " ++ name ++ codes " changed " ++ d
 -- the lines of the zones below n
 abbrev pub zone_lines : Counts → ℕ → List ℕ
 zone_lines counts zero = []
-zone_lines counts (suc n) = zone_lines counts n ++ zone_line n (slice_index counts.zone_samples n) (slice_index counts.zone_changed n)
+zone_lines counts (suc n) = zone_lines counts n
+    ++ zone_line n (slice_index counts.zone_samples n) (slice_index counts.zone_changed n)
 
 -- the lines of the plates below n
 abbrev pub plate_lines : PageParts → Counts → ℕ → List ℕ
 plate_lines page counts zero = []
-plate_lines page counts (suc n) = plate_lines page counts n ++ plate_line (ink_at page n).name (slice_index counts.plate_changed n)
+plate_lines page counts (suc n) = plate_lines page counts n
+    ++ plate_line (ink_at page n).name (slice_index counts.plate_changed n)
 
 -- the whole report
 abbrev pub report_of : PageParts → Counts → List ℕ
 report_of page counts =
-    line (codes "trap report") ++ page_line page ++ zone_lines counts (length page.zones) ++ edges_line counts.edges ++ plate_lines page counts (plates page) ++ line (codes "end")
+    line (codes "trap report") ++ page_line page ++ zone_lines counts (length page.zones)
+    ++ edges_line counts.edges ++ plate_lines page counts (plates page) ++ line (codes "end")
 
 -- one count for each zone and each plate
 pub record AreCounts (page : PageParts) (counts : Counts) : Type 0 where

@@ -6,21 +6,26 @@ use Rattle.outside.specs.Rack.{RackState, KeepsRack}
 use Rattle.trap_report.specs.declared.refusal.Refusal.{Refusal}
 use Rattle.trap_report.specs.Refusals.{line_of, status_of}
 
--- The text is told whole; or a front of it, and the rack's count of faults rose from that number on.
+-- The text is told whole; or a front of it, and the rack's count of faults rose from that number
+-- on.
 abbrev pub IsTold : List ℕ → ℕ → RackState → RackState → Type 0
-IsTold text since before after = (after.told ≡ before.told ++ text) ⊎ (Rose since after.faults × ((count : ℕ) × (after.told ≡ before.told ++ take count text)))
+IsTold text since before after = (after.told ≡ before.told ++ text)
+    ⊎ (Rose since after.faults × ((count : ℕ) × (after.told ≡ before.told ++ take count text)))
 
 -- The text is told and nothing else: whole, unless the rack has a fault.
 abbrev pub TellsText : List ℕ → RackState → RackState → Type 0
 TellsText text before after = IsTrue before.tells → IsTold text before.faults before after
 
--- The same behind a failed write: whole, unless the rack has a second fault behind that of the write.
+-- The same behind a failed write: whole, unless the rack has a second fault behind that of the
+-- write.
 abbrev pub TellsBehindFault : List ℕ → RackState → RackState → Type 0
-TellsBehindFault text before after = (since : ℕ) × Rose before.faults since × (IsTrue before.tells → IsTold text since before after)
+TellsBehindFault text before after =
+    (since : ℕ) × Rose before.faults since × (IsTrue before.tells → IsTold text since before after)
 
 -- The same after a failed write: whole, unless a further call failed than the one of the write.
 abbrev pub TellsAfterFault : List ℕ → RackState → RackState → Type 0
-TellsAfterFault text before after = IsTrue before.tells → IsTold text (one_more before.faults) before after
+TellsAfterFault text before after =
+    IsTrue before.tells → IsTold text (one_more before.faults) before after
 
 -- No file is created, changed, opened or finished.
 pub record KeepsFiles (before after : RackState) : Type 0 where

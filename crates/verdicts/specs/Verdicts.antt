@@ -27,20 +27,29 @@ written_names target = target.outputs ++ target.report ∷ []
 
 -- what becomes of a page: its trapped planes as plates, and the report of what changed
 abbrev pub outcome : Targets → PageParts → List Written
-outcome target page = page_files target.outputs (trapped_planes page) target.report (report_of page (page_counts page))
+outcome target page = page_files target.outputs (trapped_planes page) target.report
+    (report_of page (page_counts page))
 
--- The job is judged first, then each plate in order, then what they make. Where a file that this comes to is not there, there is no verdict.
+-- The job is judged first, then each plate in order, then what they make. Where a file that this
+-- comes to is not there, there is no verdict.
 abbrev pub IsVerdict : Spelling → (List ℕ → Option (List ℕ)) → Sources → Targets → Verdict → Type 0
-IsVerdict spelling files source target (Refused (Job fault)) = Holds files source.job (λ bytes. spelling.job bytes ≡ Err fault)
-IsVerdict spelling files source target (Refused (Plate plate fault)) = PlateFails spelling files source plate fault
-IsVerdict spelling files source target (Refused (NoDetails plate)) = Makes spelling files source (Err (NoDetails plate))
-IsVerdict spelling files source target (Refused (Page fault)) = Makes spelling files source (Err (Page fault))
+IsVerdict spelling files source target (Refused (Job fault)) =
+    Holds files source.job (λ bytes. spelling.job bytes ≡ Err fault)
+IsVerdict spelling files source target (Refused (Plate plate fault)) =
+    PlateFails spelling files source plate fault
+IsVerdict spelling files source target (Refused (NoDetails plate)) =
+    Makes spelling files source (Err (NoDetails plate))
+IsVerdict spelling files source target (Refused (Page fault)) =
+    Makes spelling files source (Err (Page fault))
 IsVerdict spelling files source target (Refused other) = ⊥
-IsVerdict spelling files source target (Out written) = (page : PageParts) × Makes spelling files source (Ok page) × (written ≡ outcome target page)
+IsVerdict spelling files source target (Out written) =
+    (page : PageParts) × Makes spelling files source (Ok page) × (written ≡ outcome target page)
 
 -- No two verdicts stand on the same files.
 abbrev pub OneVerdict : Spelling → Type 0
-OneVerdict spelling = (files : List ℕ → Option (List ℕ)) (source : Sources) (target : Targets) (one two : Verdict) → IsVerdict spelling files source target one → IsVerdict spelling files source target two → one ≡ two
+OneVerdict spelling = (files : List ℕ → Option (List ℕ)) (source : Sources) (target : Targets)
+    (one two : Verdict) → IsVerdict spelling files source target one
+    → IsVerdict spelling files source target two → one ≡ two
 
 -- There is a file of that name, of bytes.
 abbrev pub IsFile : (List ℕ → Option (List ℕ)) → List ℕ → Type 0
@@ -48,4 +57,7 @@ IsFile files name = Holds files name (λ bytes. All (λ b. b < 256) bytes)
 
 -- Where the job and all plates are among the files, a verdict stands.
 abbrev pub SomeVerdict : Spelling → Type 0
-SomeVerdict spelling = (files : List ℕ → Option (List ℕ)) (source : Sources) (target : Targets) → IsFile files source.job → ((k : ℕ) → k < length source.inputs → IsFile files (name_at source.inputs k)) → (verdict : Verdict) × IsVerdict spelling files source target verdict
+SomeVerdict spelling = (files : List ℕ → Option (List ℕ)) (source : Sources) (target : Targets)
+    → IsFile files source.job
+    → ((k : ℕ) → k < length source.inputs → IsFile files (name_at source.inputs k))
+    → (verdict : Verdict) × IsVerdict spelling files source target verdict

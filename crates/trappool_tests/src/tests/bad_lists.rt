@@ -183,7 +183,10 @@ fn first_out(alloc: Global, list: &[u8], plate: u32) -> Option<String> {
 fn a_line_gives_the_file_of_each_plate(rt: HostRuntime) -> Result<(), Fail> {
     for (plate, wanted) in [(0, Some("a0")), (1, Some("b0")), (2, None)] {
         let found = first_out(rt.alloc(), ONE, plate);
-        assert!(rt; found.as_ref().map(|name| name.as_str()) == wanted, "{plate}");
+        assert!(rt;
+            found.as_ref().map(|name| name.as_str()) == wanted,
+            "{plate}"
+        );
     }
     Ok(())
 }
