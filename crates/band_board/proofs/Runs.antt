@@ -142,10 +142,13 @@ taken_stays k board (Claim n) w l t i f =
     let other : i ≢ n = (λ e. clash _ two.0 (sym (ap (is_free board) e) ∙ f)) in
     (ap state_free (elsewhere k board w n i Claimed other) ∙ f, rw (ne_eqb i n other) refl)
 taken_stays k board (Put j v) w l t i f = (f, refl)
-taken_stays k board (Done n) w l t i f = (elim (cases_eq i n) [
-  | inl e ↦ ap (is_free (set_state board n IsDone)) e ∙ ap state_free (here k board w n IsDone l)
-  | inr ne ↦ ap state_free (elsewhere k board w n i IsDone ne) ∙ f
-], refl)
+taken_stays k board (Done n) w l t i f = (
+  elim (cases_eq i n) [
+    | inl e ↦ ap (is_free (set_state board n IsDone)) e ∙ ap state_free (here k board w n IsDone l)
+    | inr ne ↦ ap state_free (elsewhere k board w n i IsDone ne) ∙ f
+  ],
+  refl,
+)
 
 never_claimed : (k : Shape) (recipe : Board → ℕ → ℕ) (board : Board) (events : List Event) → IsBoard k board → IsRun k recipe board events → (i : ℕ) → is_free board i ≡ false → times_claimed i events ≡ 0
 never_claimed k recipe board [] w r i f = refl
