@@ -1,13 +1,12 @@
 -- Shares: what cutting them finer, halving and joining make of their parts, and who has published where one pass has the whole.
-use Rattle.std.proofs.Common.{◌≡◌, ◌≢◌, ℕ, Bool, true, false, zero, suc, ◌+◌, ◌*◌, ◌≤◌, ◌<◌, List, [], ◌∷◌, ◌++◌, length, set, refl, sym, ap, ◌∙◌, subst, inl, inr, arith}
-use Rattle.std.proofs.lemmas.Bool.{cases_eq}
+use Rattle.std.proofs.Common.{◌≡◌, ◌≢◌, ℕ, Bool, true, false, zero, suc, ◌+◌, ◌*◌, ◌≤◌, List, [], ◌∷◌, ◌++◌, length, set, refl, sym, ap, ◌∙◌, subst, inl, inr, arith}
 use mathlib.Core.Option.{some, some-injective, some-ne-none}
 use lib.ListN.{get_elem?}
 use Rattle.band_claims.specs.declared.view.View.{View}
 use Rattle.band_claims.specs.Shares.{power, part_of, parts_of, IsCutBy, halved, IsWhole, SameShare}
 use Rattle.band_claims.specs.Views.{total, parted, branched, joined, spent}
 use Rattle.band_claims.specs.Rule.{parts, AreOneWhole}
-use Rattle.band_claims.proofs.Totals.{total_set, total_snoc, one_of, two_of, set_there}
+use Rattle.band_claims.proofs.Totals.{total_set, total_snoc, two_of}
 use Rattle.atomic_table.proofs.Lists.{at_set, at_snoc, set_else}
 
 pub part_finer : (n d : ℕ) → d ≤ n → part_of (suc n) d ≡ 2 * part_of n d
@@ -208,15 +207,16 @@ others_none views id v at h w j d ne e =
     let both = two_of (parts n) views id j v d ne at e in let all = x.all in let mine : parts n v ≡ power n = y.all in
     no_parts n d.share (x.cut j d e) (omega (arith, both, all, mine))
 
+all_none : (f : View → ℕ) (views : List View) → ((j : ℕ) (d : View) → get_elem? views j ≡ some d → f d ≡ 0) → total f views ≡ 0
+all_none f [] none = refl
+all_none f (x ∷ xs) none = let here = none 0 x refl in let rest = all_none f xs (λ j d e. none (suc j) d e) in omega (arith, here, rest)
+
 -- a sum of which one view alone has a part
 pub one_alone : (f : View → ℕ) (views : List View) (id : ℕ) (v : View) → get_elem? views id ≡ some v → ((j : ℕ) (d : View) → j ≢ id → get_elem? views j ≡ some d → f d ≡ 0) → total f views ≡ f v
 one_alone f [] id v at none = absurd (some-ne-none v (sym at))
 one_alone f (x ∷ xs) zero v at none =
     let same : f x ≡ f v = ap f (some-injective x v at) in
-    let rest = all_none f xs (λ j d e. none (suc j) d (λ z. omega (arith, z)) e) in omega (arith, same, rest) where
-      all_none : (f : View → ℕ) (views : List View) → ((j : ℕ) (d : View) → get_elem? views j ≡ some d → f d ≡ 0) → total f views ≡ 0
-      all_none f [] none = refl
-      all_none f (x ∷ xs) none = let here = none 0 x refl in let rest = all_none f xs (λ j d e. none (suc j) d e) in omega (arith, here, rest)
+    let rest = all_none f xs (λ j d e. none (suc j) d (λ z. omega (arith, z)) e) in omega (arith, same, rest)
 one_alone f (x ∷ xs) (suc id) v at none =
     let here = none 0 x (λ z. omega (arith, z)) refl in
     let rest = one_alone f xs id v at (λ j d ne e. none (suc j) d (λ z. ne (omega (arith, z))) e) in omega (arith, here, rest)

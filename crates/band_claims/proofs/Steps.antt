@@ -1,5 +1,5 @@
 -- The eight kinds of step keep the rule of the table of a page.
-use Rattle.std.proofs.Common.{false, ◌&&◌, nat_lt, replicate, [], ◌∷◌, ◌++◌, set, Bool, inl, inr, ne_eqb, ◌≡◌, ℕ, ◌+◌, ◌-◌, ◌^◌, ◌<◌, ◌≤◌, ◌==◌, true, List, length, refl, sym, ap, ◌∙◌, subst, arith, Option, Some, None, get_or}
+use Rattle.std.proofs.Common.{◌&&◌, nat_lt, replicate, [], ◌∷◌, ◌++◌, set, Bool, inl, inr, ne_eqb, ◌≡◌, ℕ, ◌+◌, ◌-◌, ◌^◌, ◌<◌, ◌≤◌, ◌==◌, true, List, length, refl, sym, ap, ◌∙◌, subst, arith, Option, Some, None, get_or}
 use Rattle.std.specs.Prelude.{MatchOption}
 use prog.Atomic.{either}
 use Rattle.std.proofs.lemmas.List.{set-get_or}

@@ -1,5 +1,5 @@
 -- A closed table of a page on which all work is done.
-use Rattle.std.specs.Prelude.{◌≡◌, ℕ, ◌+◌, ◌<◌, ◌≤◌, ◌==◌, ◌&&◌, not, nat_lt, List}
+use Rattle.std.specs.Prelude.{◌≡◌, ℕ, ◌+◌, ◌<◌, ◌==◌, ◌&&◌, not, nat_lt, List}
 use Rattle.atomic_table.specs.Table.{State}
 use Rattle.page_model.specs.declared.parts.PageParts.{PageParts}
 use Rattle.band_claims.specs.declared.view.View.{View}
