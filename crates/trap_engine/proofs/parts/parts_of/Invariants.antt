@@ -1,5 +1,4 @@
-use Rattle.std.proofs.Common.{◌≡◌, ◌+◌, ◌-◌, ◌*◌, ◌/◌, ◌<◌, ◌≤◌, None, length}
-use Rattle.band_claims.specs.Seating.{Seats}
+use Rattle.std.proofs.Common.{◌≡◌, ◌+◌, ◌-◌, ◌*◌, ◌/◌, ◌<◌, ◌≤◌, length}
 use Rattle.page_model.specs.Page.{height}
 use Rattle.trap_engine.specs.Parts.{AreOfSize, AreSeatedParts}
 use Rattle.trap_engine.proofs.PartLemmas.{AreLaid}

@@ -3,7 +3,6 @@ use Rattle.std.proofs.lemmas.Bool.{cases_eq, false≢true}
 use Rattle.std.proofs.lemmas.List.{get_or-set_other, get_or_append_left, get_or_push, length-append, length-set}
 use Rattle.std.proofs.lemmas.List.Elements.{All-append, All-cons}
 use Rattle.std.proofs.lemmas.Option.{get_or_from_slice_get}
-use Rattle.band_claims.specs.declared.view.View.{View}
 use Rattle.page_model.specs.Planes.{no_plane, plane_at}
 use Rattle.trap_engine.specs.declared.plates.PlateWork.{PlateWork}
 use Rattle.band_claims.specs.Seating.{Seats}

@@ -1,6 +1,5 @@
-use Rattle.std.proofs.Common.{◌≡◌, ℕ, ◌<◌, ◌≤◌, None, length}
+use Rattle.std.proofs.Common.{◌≡◌, ℕ, ◌<◌, ◌≤◌, length}
 use Rattle.std.specs.Prelude.{slice_index_or}
-use Rattle.band_claims.specs.Seating.{Seats}
 use Rattle.page_model.specs.Page.{plates}
 use Rattle.page_model.specs.Planes.{plane_at}
 use Rattle.strip_engine.specs.Standing.{IsTrappedTo}
