@@ -1,5 +1,5 @@
 -- The clauses of the top call, by how the run of the words ended.
-use Rattle.std.proofs.Common.{◌≡◌, ◌≢◌, ◌⊎◌, ℕ, suc, ◌<◌, ◌≤◌, List, [], ◌∷◌, ◌++◌, length, take, All, Option, Some, None, Result, Ok, Err, Bool, IsTrue, IsFalse, inl, inr, refl, sym, ap, ◌∙◌, subst, arith}
+use Rattle.std.proofs.Common.{◌≡◌, ◌≢◌, ◌⊎◌, ℕ, suc, ◌<◌, ◌≤◌, List, [], ◌++◌, length, take, All, Option, Some, None, Result, Ok, Err, Bool, IsTrue, IsFalse, inl, inr, refl, sym, ap, ◌∙◌, subst, arith}
 use Rattle.std.proofs.lemmas.List.Elements.{All-cons}
 use Rattle.outside.specs.Causes.{Rose, RoseOnce, Asks, AsksFront}
 use Rattle.outside.specs.Tray.{TrayState}
@@ -11,14 +11,14 @@ use Rattle.page_model.specs.Conditions.{IsPage}
 use Rattle.page_run.specs.Clauses.{Mean, Whole, EveryPage, FailsToRead, FailsToWrite, KeepsPages, Success, Usage, RefusesPages, RefusedInput, ReadFault, WriteFault, LeavesPages, FaultLine, Completeness}
 use Rattle.page_run.specs.Endings.{AnswersRun, BreaksRun, Closes, EndsRun, EndsWords, Written, stop_reads}
 use Rattle.page_run.specs.Text.{usage_line}
-use Rattle.page_writing.specs.Files.{Written as File, names_of, put_all}
+use Rattle.page_writing.specs.Files.{Written as File, put_all}
 use Rattle.page_writing.specs.Writing.{FinishesAll}
 use Rattle.page_writing.proofs.Told.{breaks_cause, file_breaks, line_after}
 use Rattle.page_run.specs.InHand.{InHand}
 use Rattle.page_run.specs.Words.{RunWords, order_of, sources_of, targets_of}
 use Rattle.traprun_verdicts.specs.declared.stop.RunStop.{RunStop}
 use Rattle.traprun_verdicts.specs.declared.stop.RunStop.TheVariants as stops
-use Rattle.traprun_verdicts.specs.Pages.{AreMade, run_files, run_names, run_reads, target_at}
+use Rattle.traprun_verdicts.specs.Pages.{run_files, run_names, run_reads, target_at}
 use Rattle.traprun_verdicts.specs.RunVerdicts.{RunVerdict, AllEnd, HasPages, IsRunVerdict, status_of_verdict}
 use Rattle.traprun_verdicts.specs.RunVerdicts.RunVerdict.{Stopped, Out}
 use Rattle.traprun_verdicts.specs.Stops.{RefusesRun, line_of_stop, status_of_stop}

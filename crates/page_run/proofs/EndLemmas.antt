@@ -1,9 +1,8 @@
 -- The plates' files, looked at after the last page one after another.
-use Rattle.std.proofs.Common.{◌≡◌, ℕ, ◌<◌, ◌+◌, List, [], ◌∷◌, length, take, Option, Some, None, Result, Ok, Err, IsTrue, inl, inr, refl, ◌∙◌, subst, arith, below_more}
-use Rattle.std.proofs.lemmas.List.{take_all}
+use Rattle.std.proofs.Common.{◌≡◌, ℕ, ◌<◌, ◌+◌, List, [], ◌∷◌, length, take, Option, Some, None, Result, Ok, Err, IsTrue, inr, refl, ◌∙◌, below_more}
 use Rattle.outside.specs.Causes.{Asks}
 use Rattle.outside.specs.Tray.{TrayState, KeepsTray}
-use Rattle.outside.proofs.Names.{asks_none, asks_front}
+use Rattle.outside.proofs.Names.{asks_front}
 use Rattle.outside.proofs.Steps.{kept_tray, rose_before}
 use Rattle.page_gather.specs.Inputs.{Holds, name_at}
 use Rattle.page_gather.proofs.PlateLemmas.{held_before}
@@ -50,15 +49,6 @@ pub record EndedSoFar (pages : ℕ) (names : List (List ℕ)) (k : ℕ) (a b : T
   pub calm : b.faults ≡ a.faults
   pub ended : IsTrue a.tells → (p : ℕ) → p < k → Holds a.file (name_at names p) (HasNoImage pages)
 
-pub none_looked : (pages : ℕ) (names : List (List ℕ)) (a : TrayState) → EndedSoFar pages names 0 a a
-none_looked pages names a = record {
-  keeps = record { tells = refl; file = refl; faults = omega arith };
-  in_hand = inl refl;
-  asked = asks_none a.asked;
-  calm = refl;
-  ended = λ tells p within. absurd (omega arith);
-}
-
 module _ (pages : ℕ) (names : List (List ℕ)) (k : ℕ) (a b c : TrayState) (within : k < length names) (looked : EndedSoFar pages names k a b) where
   in_hand_by : TakesImage pages (name_at names k) b c → MayHold names pages a c
   in_hand_by takes = inr (held_from pages names k a b c within looked.keeps takes)
@@ -91,13 +81,3 @@ module _ (pages : ℕ) (names : List (List ℕ)) (k : ℕ) (a b c : TrayState) (
 
   pub look_stopped : (stop : RunStop) → ExpectsOneEnd pages k (name_at names k) b c (Err stop) → ExpectsEnd pages names a c (Err stop)
   look_stopped stop looks = record { keeps = kept_tray a b c looked.keeps looks.keeps; in_hand = in_hand_by looks.takes; answer = stopped_by stop looks.asked looks.answer }
-
--- all of them end
-pub all_ended : (pages : ℕ) (names : List (List ℕ)) (k : ℕ) (a b : TrayState) → k ≡ length names → EndedSoFar pages names k a b → ExpectsEnd pages names a b (Ok tt)
-all_ended pages names k a b every looked =
-    let done : EndedSoFar pages names (length names) a b = subst (λ (n : ℕ). EndedSoFar pages names n a b) every looked in
-    record {
-      keeps = done.keeps;
-      in_hand = done.in_hand;
-      answer = all.ended refl done.calm (subst (λ (l : List (List ℕ)). Asks a.asked b.asked l) (take_all (length names) names (omega arith)) done.asked) done.ended;
-    }

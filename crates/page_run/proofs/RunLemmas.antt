@@ -6,16 +6,12 @@ use Rattle.outside.specs.Rack.{RackState}
 use Rattle.outside.proofs.Names.{asks_then}
 use Rattle.outside.proofs.Steps.{kept_tray, rose_before}
 use Rattle.page_gather.specs.Inputs.{Sources, Holds, name_at}
-use Rattle.page_gather.specs.Steps.{PassesNoFault, TakesJob}
+use Rattle.page_gather.specs.Steps.{TakesJob}
 use Rattle.page_gather.proofs.PlateLemmas.{held_before}
 use Rattle.page_model.specs.declared.parts.PageParts.{PageParts}
 use Rattle.page_run.specs.Endings.{AnswersRun, PagesDone, Runs, RunsFrom}
 use Rattle.page_run.proofs.PageLemmas.{front_more, hold_more, no_page_done}
 use Rattle.pgm_plates.specs.declared.plate.Plate.{Plate as PlateRead}
-use Rattle.pgm_plates.specs.declared.plate.PlateFault.{PlateFault}
-use Rattle.pgm_plates.specs.declared.plate.PlateFault.TheVariants.{BadMagic, BadHeader, SideRange, TooManySamples, MaxvalRange, SampleAboveMaxval, Truncated, TrailingBytes}
-use Rattle.pgm_plates.specs.declared.plate.PlateRefusal.TheVariants.{Fault}
-use Rattle.pgm_plates.specs.Reading.{KeepsCount}
 use Rattle.job_pages.specs.declared.run.RunRefusal.{RunRefusal}
 use Rattle.job_pages.specs.Runs.{count_of}
 use Rattle.page_run.specs.Gathering.{OpensJob, IsJobOf, JobOpened}

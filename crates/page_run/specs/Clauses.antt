@@ -201,7 +201,7 @@ pub record Completeness (words : List (List ℕ)) (tray tray' : TrayState) (rack
       ((k : ℕ) → k < length (sources_of order).inputs →
       IsFile tray.file (name_at (sources_of order).inputs k)) →
       ¬ Rose tray.faults tray'.faults → ¬ Rose rack.faults rack'.faults →
-      (verdict : RunVerdict) × IsRunVerdict tray.file (sources_of order) (targets_of order) verdict
-      ×
+      (verdict : RunVerdict) ×
+      IsRunVerdict tray.file (sources_of order) (targets_of order) verdict ×
       ((status ≡ status_of_verdict verdict) ⊎ (status ≡ out_of_memory))
   pub statuses : (status ≡ done) ⊎ ((usage ≤ status) × (status ≤ out_of_memory))
