@@ -14,7 +14,7 @@ BIN ?=
 
 PROGRAMS := trap trapset traprun presscheck trappool
 BUILT := $(foreach one,$(PROGRAMS),$(wildcard $(if $(BIN),$(BIN)/$(one),crates/$(one)/out/$(one))))
-COMMANDS := plates trap tiff look all farm farm.sbatch watch slurm-here press
+COMMANDS := check plates trap tiff look proof all farm farm.sbatch watch slurm-here press trapper
 PAGES1 := $(wildcard man/*.1)
 PAGES5 := $(wildcard man/*.5)
 COMPLETIONS := $(wildcard press/completion/*)
@@ -34,18 +34,23 @@ built:
 
 install: built
 	install -d $(DESTDIR)$(PREFIX)/bin $(DESTDIR)$(PRESS)/lib $(DESTDIR)$(MAN)/man1 $(DESTDIR)$(MAN)/man5 \
-	  $(DESTDIR)$(COMPLETION) $(DESTDIR)$(DOC)
+	  $(DESTDIR)$(PRESS)/inks $(DESTDIR)$(PRESS)/presets $(DESTDIR)$(COMPLETION) $(DESTDIR)$(DOC)
 	install -m 755 $(BUILT) $(DESTDIR)$(PREFIX)/bin
 	install -m 755 $(COMMANDS:%=press/%) $(DESTDIR)$(PRESS)
-	install -m 644 press/lib/press.py press/lib/press.sh $(DESTDIR)$(PRESS)/lib
+	install -m 644 press/lib/*.py press/lib/press.sh press/lib/proof.css press/lib/proof.js $(DESTDIR)$(PRESS)/lib
+	install -m 644 press/inks/*.inks $(DESTDIR)$(PRESS)/inks
+	install -m 644 press/presets/*.preset $(DESTDIR)$(PRESS)/presets
 	ln -sf ../lib/trap/press/press $(DESTDIR)$(PREFIX)/bin/press
+	ln -sf ../lib/trap/press/trapper $(DESTDIR)$(PREFIX)/bin/trapper
+	@for one in $(filter-out $(notdir $(BUILT)),$(PROGRAMS)); do \
+	  echo "make: the program $$one is not built and not installed; its page of the manual is" >&2; done
 	install -m 644 $(PAGES1) $(DESTDIR)$(MAN)/man1
 	install -m 644 $(PAGES5) $(DESTDIR)$(MAN)/man5
 	install -m 644 $(COMPLETIONS) $(DESTDIR)$(COMPLETION)
-	install -m 644 README.md docs/JOBS.md docs/PRESS.md $(DESTDIR)$(DOC)
+	install -m 644 README.md docs/JOBS.md docs/PRESS.md docs/FARM.md $(DESTDIR)$(DOC)
 
 uninstall:
-	rm -f $(PROGRAMS:%=$(DESTDIR)$(PREFIX)/bin/%) $(DESTDIR)$(PREFIX)/bin/press
+	rm -f $(PROGRAMS:%=$(DESTDIR)$(PREFIX)/bin/%) $(DESTDIR)$(PREFIX)/bin/press $(DESTDIR)$(PREFIX)/bin/trapper
 	rm -rf $(DESTDIR)$(PREFIX)/lib/trap $(DESTDIR)$(DOC)
 	rm -f $(PAGES1:man/%=$(DESTDIR)$(MAN)/man1/%) $(PAGES5:man/%=$(DESTDIR)$(MAN)/man5/%)
 	rm -f $(COMPLETIONS:press/completion/%=$(DESTDIR)$(COMPLETION)/%)
@@ -59,4 +64,4 @@ deb: built
 lint:
 	cd man && ! mandoc -Tlint *.[15] 2>/dev/null | grep -v 'referenced manual not found'
 	if command -v shellcheck >/dev/null; then \
-	  shellcheck -x -e SC2015 press/farm press/farm.sbatch press/watch press/slurm-here press/press press/*.sh press/lib/deb-control tools/prove tools/launch; fi
+	  shellcheck -x -e SC2015 press/farm.sbatch press/slurm-here press/press press/*.sh press/lib/deb-control tools/prove tools/launch; fi

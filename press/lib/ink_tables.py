@@ -180,7 +180,7 @@ class Inks:
         for key, (number, _) in self.table.items():
             if key not in self.met:
                 same = [name for name in self.met if folded(name) == folded(key)]
-                like = f" (is {press.shown(same[0])} meant?)" if same else ""
+                like = f" (is {press.shown(min(same))} meant?)" if same else ""
                 yield f"{self.path}: line {number}: no colorant is called {press.shown(key)}{like}", self.path
 
 

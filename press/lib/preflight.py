@@ -23,7 +23,7 @@ FAULT, WARNING, NOTE = "fault", "warning", "note"
 OPTIONS = {"--dpi": "one", "--box": "one", "--density": "each", "--kind": "each", "--inks": "one", "--zones": "one",
            "--icc": "one", "--trap-images": "flag", **trap_words.OPTIONS}
 # A page is drawn small in about so many samples, and at no more than so many pixels per inch.
-SMALL_SAMPLES, SMALL_DPI = 500_000, 72
+SMALL_SAMPLES, SMALL_DPI, LEAST_DPI = 500_000, 72, 10
 # What a page takes, as measured on a page of A4 at 600 pixels per inch in four inks (docs/PRESS.md says how): seconds a
 # sample of one processor from PDF to TIFF files; bytes a sample in trap's table; and of trapsheet's memory, whatever the size.
 SECONDS_A_SAMPLE, TABLE_BYTES, SHEET_BYTES = 8e-8, 12, 400_000_000
@@ -82,8 +82,8 @@ def most_dpi(size, inked, longest, most):
 class Preflight:
     """The findings of a PDF. `name` is what it is called, `scratch` a folder with it as in.pdf."""
 
-    def __init__(self, name, plan, scratch, seconds=None):
-        self.name, self.plan, self.scratch, self.seconds = name, plan, scratch, seconds
+    def __init__(self, name, plan, scratch, seconds=None, place="."):
+        self.name, self.plan, self.scratch, self.seconds, self.place = name, plan, scratch, seconds, place
         self.findings, self.sheets, self.said = [], [], set()
         self.inks = plan.inks(name)
         self.with_sheets = sheets_are_there()
@@ -210,18 +210,16 @@ class Preflight:
 
     def look_at_page(self, page):
         """A page drawn small: what Ghostscript says of it, its inks, and what it takes."""
-        if self.pages.get(page) is None:
-            self.add("pdf", FAULT, page, "Ghostscript cannot read the page", press.PDF)
-            return
-        folder = tempfile.mkdtemp(dir=self.scratch)
-        os.symlink("../in.pdf", os.path.join(folder, "in.pdf"))
+        folder, known = tempfile.mkdtemp(dir=self.scratch), self.pages.get(page) is not None
+        os.symlink(os.path.realpath(os.path.join(self.scratch, "in.pdf")), os.path.join(folder, "in.pdf"))
         try:
-            dpi = self.small_dpi(page)
+            dpi = self.small_dpi(page) if known else LEAST_DPI
             found, told = separations.separate(self.name, folder, page, dpi, self.plan.box, self.plan.icc, self.seconds)
-            separations.to_pgm(folder, found, folder)
             self.tell_of_ghostscript(page, told)
-            self.look_at_inks(page, found, folder)
-            self.look_at_images(page)
+            if known:
+                separations.to_pgm(folder, found, folder)
+                self.look_at_inks(page, found, folder)
+                self.look_at_images(page)
         except Refusal as refusal:
             line = refusal.line.removeprefix(f"{self.name}: page {page}: ")
             self.add("pdf", FAULT, page, line, refusal.status)
@@ -247,7 +245,9 @@ class Preflight:
             if one.name not in press.PROCESS and technical and one in inked:
                 self.look_at_knock_out(page, one, details, plates, [other for other in inked if other is not one])
         width, height, samples = self.judge_size(page, max(1, len(inked)))
-        self.sheets.append(self.needs(page, width, height, len(found), max(1, len(inked)), samples))
+        needs = self.needs(page, width, height, len(found), max(1, len(inked)), samples)
+        self.sheets.append(needs)
+        self.judge_room(page, needs)
 
     def look_at_knock_out(self, page, one, details, plates, others):
         """Whether a technical ink leaves a hole in the inks that lie around it."""
@@ -265,6 +265,20 @@ class Preflight:
         memory = SHEET_BYTES if whole else samples * TABLE_BYTES
         return Sheet(page, width, height, inks, inked, samples, round(samples * SECONDS_A_SAMPLE + 1, 1), memory,
                      width * height * (inks + inked))
+
+    def judge_room(self, page, needs):
+        """Whether the machine has what the page takes."""
+        place = self.place
+        while not os.path.isdir(place):
+            place = os.path.dirname(os.path.abspath(place))
+        told = os.statvfs(place)
+        if needs.disk > told.f_bavail * told.f_frsize:
+            self.add("disk", WARNING, page, f"the page takes about {press.size_text(needs.disk)} of disk, and there are "
+                     f"{press.size_text(told.f_bavail * told.f_frsize)}")
+        memory = os.sysconf("SC_PAGE_SIZE") * os.sysconf("SC_PHYS_PAGES")
+        if needs.memory > memory:
+            self.add("memory", WARNING, page, f"the page takes about {press.size_text(needs.memory)} of memory, and the machine has "
+                     f"{press.size_text(memory)}")
 
     def look_at_images(self, page):
         if self.plan.options["--trap-images"]:
@@ -303,10 +317,26 @@ def knocked_out(technical, others):
     return bin(hole & (around << 1 | around >> 1 | around << row | around >> row)).count("1")
 
 
-def level_line(name, one):
-    """A finding as a line, without the command's name."""
-    where = f"{name}: page {one.page}: " if one.page else f"{name}: "
-    return f"{where}{one.level}: {one.kind}: {one.text}"
+def page_ranges(pages):
+    """Pages as people read them: 1-3, 7."""
+    parts = []
+    for page in sorted(pages):
+        if parts and parts[-1][1] == page - 1:
+            parts[-1][1] = page
+        else:
+            parts.append([page, page])
+    return ", ".join(str(first) if first == last else f"{first}-{last}" for first, last in parts)
+
+
+def lines_of(name, findings):
+    """The findings as lines, without the command's name: what is said of several pages in one line."""
+    together = {}
+    for one in findings:
+        together.setdefault((one.level, one.kind, one.text), []).append(one.page)
+    for (level, kind, text), pages in together.items():
+        several = "pages" if len(pages) > 1 else "page"
+        where = f"{name}: " if None in pages else f"{name}: {several} {page_ranges(pages)}: "
+        yield f"{where}{level}: {kind}: {text}"
 
 
 def refusal_for(name, findings, strict):

@@ -59,8 +59,11 @@ class Refusal(Exception):
         self.status, self.line = status, line
 
 
+NAMED = []
+
+
 def command_name():
-    return "press-" + os.path.basename(sys.argv[0])
+    return NAMED[0] if NAMED else "press-" + os.path.basename(sys.argv[0])
 
 
 def clean(text):
@@ -89,8 +92,10 @@ def stop(number, _):
     sys.exit(128 + number)
 
 
-def run_command(main, text):
-    """Calls main with the words, and ends with its status. `text` is what --help prints."""
+def run_command(main, text, name=None):
+    """Calls main with the words, and ends with its status. `text` is what --help prints; `name` is how the command is called
+    where it is not one of press."""
+    NAMED.extend([name] if name else [])
     words = sys.argv[1:]
     for stream in (sys.stdout, sys.stderr):
         # A file's name may be no UTF-8.
@@ -99,7 +104,7 @@ def run_command(main, text):
         # One that is ignored from the start, as by nohup, stays so.
         if signal.getsignal(number) != signal.SIG_IGN:
             signal.signal(number, stop)
-    if "--help" in words or "-h" in words:
+    if not name and ("--help" in words or "-h" in words):
         print(text.strip() + "\n\n" + STATUSES, end="")
         sys.exit(0)
     try:
@@ -332,7 +337,7 @@ def temporary_name():
     return f".press-{os.getpid()}-{socket.gethostname()}-"
 
 
-LEFT_OVER = re.compile(r"\.press-(\d+)-(.*)-[a-z0-9_]{8}(\.[^.]*)?")
+LEFT_OVER = re.compile(r"\.press-(\d+)-(.*)-[a-z0-9_]{8,10}(\.[^.]*)?")
 
 
 def sweep(folder):

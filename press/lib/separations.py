@@ -28,9 +28,9 @@ def separate(path, scratch, page, dpi, box, icc=None, seconds=None):
         if not os.path.lexists(inside):
             os.symlink(os.path.abspath(icc), inside)
         profile = ["-sOutputICCProfile=output.icc", "--permit-file-read=output.icc"]
-    done = sources.ghostscript(scratch, ["-dBATCH", "-dPDFSTOPONERROR", "-sDEVICE=tiffsep", f"-r{dpi}", "-dMaxSpots=60",
-                                         "-dPrintSpotCMYK", f"-dFirstPage={page}", f"-dLastPage={page}", "-sOutputFile=page.tif",
-                                         *BOXES[box], *profile, "in.pdf"], seconds)
+    words = ["-dBATCH", "-dPDFSTOPONERROR", "-sDEVICE=tiffsep", f"-r{dpi}", "-dMaxSpots=60", "-dPrintSpotCMYK",
+             f"-dFirstPage={page}", f"-dLastPage={page}", "-sOutputFile=page.tif", *BOXES[box], *profile, "in.pdf"]
+    done = sources.ghostscript(scratch, words, seconds, f"{path}: page {page}: ")
     if done.returncode != 0:
         raise Refusal(press.PDF, f"{path}: page {page}: Ghostscript cannot read it: {sources.complaint(done)}")
     text = done.stdout + b"\n" + done.stderr

@@ -50,7 +50,7 @@ def need_regular(path):
         raise Refusal(press.INPUT, f"{path}: {fault.strerror}")
 
 
-def ghostscript(scratch, words, seconds=None):
+def ghostscript(scratch, words, seconds=None, where=""):
     """Runs Ghostscript in the scratch folder, for so many seconds at most. What it may be told by GS_OPTIONS, trapping of its
     own among it, is kept out; its own temporary files stand in the scratch folder too."""
     outside = {name: value for name, value in os.environ.items() if name not in ("GS_OPTIONS", "GS_DEVICE")}
@@ -60,7 +60,7 @@ def ghostscript(scratch, words, seconds=None):
         try:
             told, complained = child.communicate(timeout=seconds)
         except subprocess.TimeoutExpired:
-            raise Refusal(press.PDF, f"Ghostscript is at it for more than {seconds} s (--time)")
+            raise Refusal(press.PDF, f"{where}Ghostscript is at it for more than {seconds} s (--time)")
     if child.returncode != 0:
         press.need_room(scratch, "Ghostscript drew")
     return subprocess.CompletedProcess(words, child.returncode, told, complained)
@@ -100,7 +100,7 @@ def open_source(path, scratch, seconds=None):
                                  "-sColorConversionStrategy=LeaveColorUnchanged", "-dAutoFilterColorImages=false",
                                  "-dColorImageFilter=/FlateEncode", "-dAutoFilterGrayImages=false", "-dGrayImageFilter=/FlateEncode",
                                  "-dDownsampleColorImages=false", "-dDownsampleGrayImages=false", "-dDownsampleMonoImages=false",
-                                 "-sOutputFile=in.pdf", "in.ps"], seconds)
+                                 "-sOutputFile=in.pdf", "in.ps"], seconds, f"{path}: ")
     if done.returncode != 0 or not os.path.exists(inside):
         raise Refusal(press.PDF, f"{path}: Ghostscript cannot convert the PostScript: {complaint(done)}")
     os.remove(given)
@@ -112,6 +112,9 @@ def pages_of(path, scratch, first=1, last=999_999):
     code = TELL_PAGES.replace("FIRST", str(first)).replace("LAST", str(last))
     done = ghostscript(scratch, ["-q", "-dNODISPLAY", "--permit-file-read=in.pdf", "-c", code])
     count = re.search(rb"^pages (\d+)$", done.stdout, re.MULTILINE)
+    if kind_of(need_regular(os.path.join(scratch, "in.pdf"))) is None and count is None:
+        raise Refusal(press.PDF, f"{path}: it begins neither as a PDF nor as PostScript, and Ghostscript cannot read it: "
+                      f"{complaint(done)}")
     if done.returncode != 0 or count is None or int(count.group(1)) == 0:
         raise Refusal(press.PDF, f"{path}: Ghostscript cannot read it: {complaint(done)}")
     pages = {}
