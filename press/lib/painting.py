@@ -203,14 +203,19 @@ def thickened(numpy, where, times):
     return out
 
 
+def need_profile(path):
+    """That a file is the profile of a press with four inks."""
+    from PIL import ImageCms
+    try:
+        space = ImageCms.getOpenProfile(path).profile.xcolor_space.strip()
+    except (OSError, ImageCms.PyCMSError) as fault:
+        raise press.Refusal(press.INPUT, f"{path}: {getattr(fault, 'strerror', None) or fault}")
+    if space != "CMYK":
+        raise press.Refusal(press.INPUT, f"{path}: no profile of a press with four inks")
+
+
 def converted(image, numpy, picture, profile):
     """A picture of cyan, magenta, yellow and black as red, green and blue by the press's profile."""
     from PIL import ImageCms
-    try:
-        press_profile = ImageCms.getOpenProfile(profile)
-        if press_profile.profile.xcolor_space.strip() != "CMYK":
-            raise press.Refusal(press.INPUT, f"{profile}: no profile of a press with four inks")
-        inks = image.fromarray(numpy.ascontiguousarray(picture), "CMYK")
-        return numpy.asarray(ImageCms.profileToProfile(inks, press_profile, ImageCms.createProfile("sRGB"), outputMode="RGB"))
-    except (OSError, ImageCms.PyCMSError) as fault:
-        raise press.Refusal(press.INPUT, f"{profile}: {fault}")
+    inks = image.fromarray(numpy.ascontiguousarray(picture), "CMYK")
+    return numpy.asarray(ImageCms.profileToProfile(inks, profile, ImageCms.createProfile("sRGB"), outputMode="RGB"))
