@@ -15,7 +15,11 @@ KINDS = {"CutContour": "Transparent", "Stanzlinie": "Transparent", "Découpe": "
          "Varnish_Gloss": "Transparent", "UV Lack": "Transparent", "White opaque": "Transparent", "Deckweiß": "Transparent",
          "Gold Foil": "OpaqueIgnore", "Heißfolie Silber": "OpaqueIgnore", "Silver": "Opaque", "PANTONE 877 C": "Opaque",
          "PANTONE 185 C": "Normal", "Warm Red": "Normal", "100% (matt)": "Normal", "Coca Cola Red": "Normal", "Cyan": "Normal",
-         "Goldgelb": "Normal", "Dark Blue": "Normal", "Whisky": "Normal"}
+         "Goldgelb": "Normal", "Dark Blue": "Normal", "Whisky": "Normal", "MuddyBlack": "Normal", "Glanzlack": "Transparent"}
+# Words for colours that print, none of which is technical.
+COLORS = """black noir schwarz nero negro preto zwart svart czarny red rot rouge rosso rojo vermelho rood blue blau bleu blu azul blauw green
+grün vert verde groen yellow gelb jaune giallo amarillo amarelo geel orange violet lila purple brown braun marron bruin grey gray grau gris
+grigio pink rosa turquoise türkis beige creme cream navy teal lime olive maroon ivory coral amber mint rust sand sky wine""".split()
 
 
 def density(color):
@@ -38,6 +42,8 @@ def main():
     for name, kind in KINDS.items():
         found = inks.details(name.encode(), name, None)
         assert found.kind == kind, f"{name}: {found}"
+    for name in COLORS + [f"{one} 2" for one in COLORS] + [f"Dark{one.title()}" for one in COLORS]:
+        assert inks.details(name.encode(), name, None).kind == "Normal", name
 
 
 main()
