@@ -1,4 +1,5 @@
-# Installs what was built, and packs it. Programs are not built here: that is done by ./trap, or by rt.
+# Installs what was built or released, and packs it. Programs are not built here: that is done by ./trap, or by rt. What is not
+# built is taken from the release, where that was made of these very sources.
 #
 #   make install PREFIX=/usr/local   the programs, the press commands, the manual pages, and completion for bash
 #   make uninstall PREFIX=/usr/local
@@ -14,8 +15,13 @@ DESTDIR ?=
 BIN ?=
 
 PROGRAMS := trap trapset traprun presscheck trappool
+ifeq ($(BIN)$(wildcard crates/trap/out/trap),)
+  ifneq ($(filter install deb,$(MAKECMDGOALS)),)
+    BIN := $(if $(shell tools/release --unpack trap 2>&1),out/release)
+  endif
+endif
 BUILT := $(foreach one,$(PROGRAMS),$(wildcard $(if $(BIN),$(BIN)/$(one),crates/$(one)/out/$(one))))
-COMMANDS := plates trap tiff look all farm farm.sbatch watch slurm-here press
+COMMANDS := check plates trap tiff look proof all farm farm.sbatch watch slurm-here press trapper
 PAGES1 := $(wildcard man/*.1)
 PAGES5 := $(wildcard man/*.5)
 COMPLETIONS := $(wildcard press/completion/*)
@@ -39,19 +45,24 @@ library:
 	library/build
 
 built:
-	@$(if $(filter trap,$(notdir $(BUILT))),:,echo "make: the program trap is not built (run ./trap once)" >&2; exit 1)
+	@$(if $(filter trap,$(notdir $(BUILT))),:,echo "make: the program trap is not built, and the release is not of these sources (run ./trap once)" >&2; exit 1)
 
 install: built $(if $(LIBRARY),install-library install-headers)
 	install -d $(DESTDIR)$(PREFIX)/bin $(DESTDIR)$(PRESS)/lib $(DESTDIR)$(MAN)/man1 $(DESTDIR)$(MAN)/man5 \
-	  $(DESTDIR)$(COMPLETION) $(DESTDIR)$(DOC)
+	  $(DESTDIR)$(PRESS)/inks $(DESTDIR)$(PRESS)/presets $(DESTDIR)$(COMPLETION) $(DESTDIR)$(DOC)
 	install -m 755 $(BUILT) $(DESTDIR)$(PREFIX)/bin
 	install -m 755 $(COMMANDS:%=press/%) $(DESTDIR)$(PRESS)
-	install -m 644 press/lib/press.py press/lib/press.sh $(DESTDIR)$(PRESS)/lib
+	install -m 644 press/lib/*.py press/lib/press.sh press/lib/proof.css press/lib/proof.js $(DESTDIR)$(PRESS)/lib
+	install -m 644 press/inks/*.inks $(DESTDIR)$(PRESS)/inks
+	install -m 644 press/presets/*.preset $(DESTDIR)$(PRESS)/presets
 	ln -sf ../lib/trap/press/press $(DESTDIR)$(PREFIX)/bin/press
+	ln -sf ../lib/trap/press/trapper $(DESTDIR)$(PREFIX)/bin/trapper
+	@for one in $(filter-out $(notdir $(BUILT)),$(PROGRAMS)); do \
+	  echo "make: the program $$one is not built and not installed; its page of the manual is" >&2; done
 	install -m 644 $(PAGES1) $(DESTDIR)$(MAN)/man1
 	install -m 644 $(PAGES5) $(DESTDIR)$(MAN)/man5
 	install -m 644 $(COMPLETIONS) $(DESTDIR)$(COMPLETION)
-	install -m 644 README.md docs/JOBS.md docs/PRESS.md docs/LIBRARY.md $(DESTDIR)$(DOC)
+	install -m 644 README.md docs/JOBS.md docs/PRESS.md docs/FARM.md docs/LIBRARY.md CHANGELOG.md $(DESTDIR)$(DOC)
 
 # The shared object, for programs that are linked with it.
 install-library:
@@ -70,7 +81,7 @@ install-headers:
 uninstall:
 	rm -f $(DESTDIR)$(LIBDIR)/libtrap.so.1 $(DESTDIR)$(LIBDIR)/libtrap.so $(DESTDIR)$(LIBDIR)/libtrap.a
 	rm -f $(DESTDIR)$(LIBDIR)/pkgconfig/trap.pc $(DESTDIR)$(INCLUDEDIR)/trap.h
-	rm -f $(PROGRAMS:%=$(DESTDIR)$(PREFIX)/bin/%) $(DESTDIR)$(PREFIX)/bin/press
+	rm -f $(PROGRAMS:%=$(DESTDIR)$(PREFIX)/bin/%) $(DESTDIR)$(PREFIX)/bin/press $(DESTDIR)$(PREFIX)/bin/trapper
 	rm -rf $(DESTDIR)$(PREFIX)/lib/trap $(DESTDIR)$(DOC)
 	rm -f $(PAGES1:man/%=$(DESTDIR)$(MAN)/man1/%) $(PAGES5:man/%=$(DESTDIR)$(MAN)/man5/%)
 	rm -f $(COMPLETIONS:press/completion/%=$(DESTDIR)$(COMPLETION)/%)
@@ -90,5 +101,5 @@ deb: built
 lint:
 	cd man && ! mandoc -Tlint *.[15] 2>/dev/null | grep -v 'referenced manual not found'
 	if command -v shellcheck >/dev/null; then \
-	  shellcheck -x -e SC2015 press/farm press/farm.sbatch press/watch press/slurm-here press/press press/*.sh press/lib/deb-control tools/prove tools/launch \
-	  library/build check/library.sh examples/library/run.sh; fi
+	  shellcheck -x -e SC2015 press/farm.sbatch press/slurm-here press/press press/*.sh press/lib/deb-control tools/prove tools/launch \
+	  tools/release tools/stamp test library/build check/library.sh examples/library/run.sh; fi

@@ -6,9 +6,10 @@
 #
 #     sbatch --array=1-$(press/plates --count IN.pdf) press/farm.sbatch IN.pdf OUT [option of press/all ...]
 #
-# The commands are looked for in the folder that the variable PRESS names; where it is not set, in the folder press of the one
-# that sbatch was called in; or else the installed command `press` is taken. IN.pdf, OUT and the commands must have the same
-# paths on all nodes. A page that failed is done again by its number: --array=3,17.
+# The proof sheet of all pages is made behind them, by press/proof OUT. The commands are looked for in the folder that the
+# variable PRESS names; where it is not set, in the folder press of the one that sbatch was called in; or else the installed
+# command `press` is taken. IN.pdf, OUT and the commands must have the same paths on all nodes. A page that failed is done again
+# by its number: --array=3,17.
 
 set -u
 press=${PRESS:-${SLURM_SUBMIT_DIR:-.}/press}

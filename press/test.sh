@@ -1,7 +1,7 @@
 #!/usr/bin/env bash
 # Tries the press commands: every refusal has its status and its one line and leaves no output, and odd pages go through. It
 # works in press/tests/out, installs nothing, and says what it skips. With a word or more, runs these parts alone: words inputs
-# outputs folders tools plates pages stopped traps watch pictures.
+# outputs folders tools plates pages stopped traps watch pictures check inks images sources living trapper proof tiffs.
 
 set -eu
 here=$(cd "$(dirname "$0")" && pwd)
@@ -33,7 +33,7 @@ refused() {
 # goes COMMAND ..: the command ends with 0, and tells no line but warnings.
 goes() {
   "$@" >../told 2>../line || wrong "$* failed: $(cat ../line)"
-  ! grep -v ': warning: ' ../line || wrong "$* told something"
+  ! grep -v ': \(warning\|note\): ' ../line || wrong "$* told something"
   [ -z "$(find . -name '.press-*')" ] || wrong "$* left something over"
   tried=$((tried + 1))
 }
@@ -55,7 +55,7 @@ as_tiffsep() {
   (cd ../gs && gs -q -dSAFER -dBATCH -dNOPAUSE -sDEVICE=tiffsep -r600 -dMaxSpots=60 -dFirstPage=1 -dLastPage=1 \
     -sOutputFile=page.tif - <"$OLDPWD/$pdf")
   goes "$here/tiff" --untrapped --name page "$folder" ../tiffs
-  cmp <(ls ../gs) <(ls ../tiffs) || wrong "$stem: other files than tiffsep's"
+  cmp <(ls ../gs) <(ls --ignore='*.png' ../tiffs) || wrong "$stem: other files than tiffsep's"
   for file in ../gs/*\(*; do
     cmp <("$here/tests/tiff_tags.py" "$file") <("$here/tests/tiff_tags.py" "../tiffs/${file##*/}") || wrong "$stem: $file"
     cmp <(plane "$file") <(plane "../tiffs/${file##*/}") || wrong "$stem: $file"
@@ -64,18 +64,19 @@ as_tiffsep() {
 
 try_words() {
   local one
-  for one in plates trap tiff look all farm watch slurm-here press; do
+  for one in plates trap tiff look all farm watch check proof slurm-here press; do
     "$here/$one" --help >../told || wrong "$one --help"
-    grep -q '^Usage: ' ../told && grep -q '^  9  ' ../told || wrong "$one --help tells: $(cat ../told)"
+    grep -q '^Usage: ' ../told && grep -q '^  10 ' ../told || wrong "$one --help tells: $(cat ../told)"
     tried=$((tried + 1))
   done
-  for one in "plates two.pdf new" "trap two" "tiff two new" "look two new.png" "all two.pdf new" "farm two.pdf new" "watch hot"; do
+  for one in "plates two.pdf new" "trap two" "tiff two new" "look two new.png" "all two.pdf new" "farm two.pdf new" "watch hot" \
+    "check two.pdf" "proof two"; do
     # shellcheck disable=SC2086
     set -- $one
     refused 2 "press-$1: unknown option --dip \(see press-$1 --help\)" "$here/$1" --dip=600 "${@:2}"
     refused 2 "press-$1: unknown option -x \(see press-$1 --help\)" "$here/$1" "${@:2}" -x
     refused 2 "press-$1: a word too many: much \(see press-$1 --help\)" "$here/$1" "${@:2}" much
-    refused 2 "press-$1: (IN.pdf|DIR) is missing \(see press-$1 --help\)" "$here/$1"
+    refused 2 "press-$1: (IN|IN.pdf|DIR) is missing \(see press-$1 --help\)" "$here/$1"
   done
   refused 2 "press-plates: --dpi needs a value .*" "$here/plates" two.pdf new --dpi
   refused 2 "press-plates: --dpi is a whole number from 1 to 10000, and not '0' .*" "$here/plates" two.pdf new --dpi 0
@@ -111,7 +112,7 @@ try_inputs() {
   refused 4 "press-plates: none.inks: No such file or directory" "$here/plates" two.pdf new --inks none.inks
   refused 4 "press-plates: none.zones: No such file or directory" "$here/plates" two.pdf new --zones none.zones
   refused 7 "press-plates: many.pdf: page 1: 17 colorants, .*" "$here/plates" many.pdf new
-  refused 7 "press-plates: wide.pdf: page 1: 16667 by 17 samples, .*" "$here/plates" wide.pdf new
+  refused 7 "press-plates: wide.pdf: page 1: 16667 by 17 samples, .* \(at most 589 pixels per inch fit here\)" "$here/plates" wide.pdf new
   refused 4 "press-watch: none: No such directory" "$here/watch" none
 }
 
@@ -157,7 +158,8 @@ try_folders() {
   # Plates that hold nothing on the disk, of more samples than a page may have.
   cp -r two large
   for one in large/*.pgm; do printf 'P5\n16000 4000\n255\n' >"$one" && truncate -s 64000018 "$one"; done
-  refused 7 "press-trap: large: 16000 by 4000 samples in 3 plates with ink are 192000000, .* 160000000 .*" "$here/trap" large
+  refused 7 "press-trap: large: 16000 by 4000 samples in 3 plates with ink are 192000000, .* 160000000, .* 547 pixels per inch fit .*" \
+    "$here/trap" large
   cp -r two jobless && rm jobless/page.job
   refused 4 "press-trap: jobless/page.job: No such file" "$here/trap" jobless
   refused 4 "press-tiff: two: not trapped yet .*" "$here/tiff" two new
@@ -194,7 +196,7 @@ try_plates() {
   # Names that a job cannot have are spelled otherwise, each in its own way, and the table keeps both.
   for name in PANTONE_185_C PANTONE_185_C_2 100___matt_ Gr__n _dash a_b tab_here '#5'; do
     [ -f "odd/$name.pgm" ] || wrong "odd.pdf: no plate $name"
-    grep -qF "     /$name << /NeutralDensity 0.98 >>" odd/page.job || wrong "odd.pdf: $name is not in the job"
+    grep -qE "^     /$name << /NeutralDensity 0.(98|78) >>  % " odd/page.job || wrong "odd.pdf: $name is not in the job"
   done
   grep -q $'^colorant\t100___matt_\t.*\t100%25 (matt)\t100% (matt)$' odd/colorants.txt || wrong "odd.pdf: the table"
   [ "$(find odd -name 'x*.pgm' -printf %f)" = "$(printf 'x%.0s' {1..64}).pgm" ] || wrong "odd.pdf: the long name"
@@ -206,7 +208,8 @@ try_plates() {
   grep -qF '/Gold_Foil << /NeutralDensity 1.1 /ColorantType /OpaqueIgnore >>' inks/page.job || wrong "inks: --kind"
   goes "$here/plates" two.pdf inks --force --kind "Silver=Transparent"
   grep -q 'no colorant of the page is called Silver' ../line || wrong "inks: no warning of an ink that is not there"
-  [ "$(grep -c 'is a guess' ../line)" = 2 ] || wrong "inks: no warning of a guess"
+  [ "$(grep -c 'Warm Red is not told; 0.98 is a guess' ../line)" = 1 ] || wrong "inks: no warning of a guess"
+  [ "$(grep -c 'Gold Foil is a technical ink by its name, and is taken as OpaqueIgnore' ../line)" = 1 ] || wrong "inks: no warning of a kind"
   # Files that stand beside the PDF.
   mkdir beside && cp two.pdf told.inks beside/ && mv beside/told.inks beside/two.inks
   echo '<< /TrapWidth 1 >> settrapparams' >beside/two.zones && echo 'newpath' >beside/two.1.zones
@@ -214,7 +217,7 @@ try_plates() {
   cmp <(tail -n 8 beside/page/page.job) <(printf '%s\n' '' '% From two.zones:' '<< /TrapWidth 1 >> settrapparams' '' \
     '% From two.1.zones:' newpath '' showpage) || wrong "beside: the job"
   # Ghostscript's own options are kept out.
-  GS_OPTIONS="-dTrapX=8 -dTrapY=8 -dDownScaleFactor=2" goes "$here/plates" two.pdf options
+  GS_OPTIONS="-dTrapX=8 -dTrapY=8 -dDownScaleFactor=2" goes "$here/plates" two.pdf options --kind "Gold Foil=Normal"
   diff -r two options || wrong "GS_OPTIONS reached Ghostscript"
   # A font that the PDF lacks is told.
   sed 's/Helvetica-Bold/FancyFont-Bold/' "$top/examples/label/label.pdf" >font.pdf
@@ -233,7 +236,7 @@ try_pages() {
   if ! there mandoc; then skip "manual pages" mandoc; return; fi
   (cd "$top/man" && ! mandoc -Tlint ./*.[15] 2>/dev/null | grep -v 'referenced manual not found') || wrong "manual pages"
   local one
-  for one in plates trap tiff look all farm watch; do [ -s "$top/man/press-$one.1" ] || wrong "no manual page of press-$one"; done
+  for one in plates trap tiff look all farm watch check proof; do [ -s "$top/man/press-$one.1" ] || wrong "no manual page of press-$one"; done
   tried=$((tried + 1))
 }
 
@@ -262,41 +265,59 @@ works_here() {
 }
 
 try_stopped() {
-  stopped "$here/plates" --dpi 4000 "$top/examples/label/label.pdf" stopped
+  local label=$top/examples/label/label.pdf
+  mkdir -p tmp && export TMPDIR=$PWD/tmp
+  stopped "$here/plates" --dpi 4000 "$label" stopped
   [ ! -e stopped ] || wrong "stopped: a folder is left"
-  [ "$built" = yes ] || return 0
-  stopped "$here/all" --dpi 4000 "$top/examples/label/label.pdf" stopped
-  if there parallel; then stopped "$here/farm" --dpi 4000 "$top/examples/label/label.pdf" stopped; fi
-  rm -rf stopped
+  if [ "$built" = yes ]; then
+    stopped "$here/all" --quiet --dpi 1800 "$label" stopped
+    if there parallel; then stopped "$here/farm" --quiet --dpi 1800 "$label" stopped; fi
+  fi
+  [ -z "$(ls tmp)" ] || wrong "stopped: something is left among the temporary files: $(ls tmp)"
+  unset TMPDIR
+  rm -rf stopped tmp
 }
 
 # What is put into a hot folder while it is watched, and lay there before; names with anything in them.
+ended() { grep -c ': done: \|: failed: ' ../told; }
+
 try_watch() {
   if ! there inotifywait; then skip watch inotifywait; return; fi
   [ "$built" = yes ] || return 0
   # shellcheck disable=SC2016
-  local watcher name names=('$(touch ran).pdf' ' "b]".pdf' '*.PDF')
+  local watcher name status=0 names=('$(touch ran).pdf' ' "b]".pdf' '*.PDF')
   mkdir hot/done && cp two.pdf hot/first.pdf
   # A file that another process has open to write since before.
   exec 7>hot/open.pdf
   head -c 300 two.pdf >&7
-  "$here/watch" --settle 1 hot >../told 2>../line 7>&- &
+  "$here/watch" --settle 1 --lenient --dpi 300 hot >../told 2>../line 7>&- &
   watcher=$!
   # shellcheck disable=SC2064
   trap "kill $watcher 2>/dev/null" EXIT
   for _ in {1..300}; do ! grep -q watching ../line || break; sleep 0.1; done
   grep -q watching ../line || { skip watch "$(tail -n 1 ../line): inotify"; kill "$watcher"; return; }
+  # One watch a folder.
+  "$here/watch" hot >../told2 2>../line2 || status=$?
+  [ "$status" = 8 ] && grep -q "^press-watch: hot: another run is at work here (process $watcher on .*: press-watch)$" ../line2 ||
+    wrong "watch: a second one: $status, $(cat ../line2)"
   for name in "${names[@]}"; do cp two.pdf "hot/$name"; done
-  cp text.pdf hot/ && mkdir hot/folder.pdf
-  for _ in {1..300}; do [ "$(wc -l <../told)" -lt 5 ] || break; sleep 0.5; done
+  cp text.pdf drawn.eps hot/ && mkdir hot/folder.pdf && mkfifo hot/pipe.pdf && ln -s ../two.pdf hot/link.pdf
+  : >hot/writing.part
+  for _ in {1..400}; do [ "$(ended)" -lt 10 ] || break; sleep 0.5; done
   [ -e hot/open.pdf ] || wrong "watch: a file was taken that is open to write"
   tail -c +301 two.pdf >&7
   exec 7>&-
-  for _ in {1..300}; do [ "$(wc -l <../told)" -lt 6 ] || break; sleep 0.5; done
+  for _ in {1..300}; do [ "$(ended)" -lt 11 ] || break; sleep 0.5; done
   for name in first.pdf open.pdf "${names[@]}"; do
     cmp two.pdf "hot/done/${name%.*}/$name" && [ -d "hot/done/${name%.*}/page-001/trapped" ] || wrong "watch: $name: $(cat ../told)"
   done
+  [ -d hot/done/drawn/page-001/trapped ] || wrong "watch: no EPS is taken: $(cat ../told)"
+  grep -q '^resolution.300$' hot/done/first/page-001/colorants.txt || wrong "watch: --dpi 300"
   grep -q 'Ghostscript cannot read it' hot/failed/text/why.txt || wrong "watch: $(cat ../told)"
+  grep -q 'a link: ' hot/failed/link/why.txt && grep -q 'a folder' hot/failed/folder/why.txt &&
+    grep -q 'no regular file' hot/failed/pipe/why.txt && grep -q 'no page' hot/failed/note/why.txt && [ -e hot/writing.part ] ||
+    wrong "watch: what is no page: $(cat ../told)"
+  ! grep -vE '^[0-9]{4}-[0-9]{2}-[0-9]{2} [0-9:]{8} .*: (taken$|done: |failed: )' ../told || wrong "watch: the log: $(cat ../told)"
   [ ! -e ran ] && [ ! -e hot/ran ] || wrong "watch: a file's name was run"
   # One that is at work when it is stopped.
   cp "$top/examples/label/label.pdf" hot/slow.pdf
@@ -305,7 +326,9 @@ try_watch() {
   wait "$watcher" || wrong "watch: it was stopped and ended with $?"
   trap - EXIT
   [ -f hot/slow.pdf ] && [ -z "$(find hot -name '.press-*')" ] && [ ! -e hot/done/slow ] || wrong "watch: what was at work is lost"
-  rm -r hot/done hot/failed hot/*.pdf
+  for _ in {1..100}; do works_here || break; sleep 0.1; done
+  ! works_here || wrong "watch: something goes on"
+  rm -r hot/done hot/failed hot/*.pdf hot/writing.part
   tried=$((tried + 1))
 }
 
@@ -324,18 +347,26 @@ try_traps() {
     wrong "gray.pdf: a plate of gray alone was changed"
   # The job's fault is told by its file and line, and an earlier result stays.
   cp -r two fault && sed -i 's/showpage/<< \/TrapWidth 0 >> settrapparams\n&/' fault/page.job
-  refused 9 'press-trap: fault/page.job: line 14: trap ended with 3: "job: OutOfRange TrapWidth at 453"' "$here/trap" fault
+  refused 9 'press-trap: fault/page.job: line 14: trap ended with 3: "job: OutOfRange TrapWidth at [0-9]*"' "$here/trap" fault
   # Pages that fail do not stop the others.
   cp three.pdf pages.pdf && echo 'gsave' >pages.2.zones
   local status=0
   "$here/all" --quiet pages.pdf pages >../told 2>../line || status=$?
   [ "$status" = 1 ] && [ "$(grep -c ': done: ' ../told)" = 2 ] || wrong "all: $status, $(cat ../told)"
-  grep -q '^page 2: failed: press-trap: pages/page-002.failed/page.job: line .*UnknownOperator' ../told || wrong "all: $(cat ../told)"
+  grep -q '^page 2: failed: press-check: pages.pdf: page 2: pages.2.zones: line 1: .*UnknownOperator' ../told || wrong "all: $(cat ../told)"
   [ -s pages/page-002.failed/why ] && [ ! -e pages/page-002 ] && [ -d pages/page-003/tiff ] || wrong "all: the folders"
   rm pages.2.zones
   goes "$here/all" --quiet --page 2 pages.pdf pages
   [ ! -e pages/page-002.failed ] && [ -d pages/page-002/tiff ] || wrong "all: a page that was done again"
   tried=$((tried + 1))
+  # What is too large for trap goes by trapsheet, where that is there.
+  if [ -x "$sheets" ]; then
+    mkdir ../sheets && ln -s "$(readlink -f "$sheets")" "$TRAP_BIN"/* ../sheets/
+    goes env TRAP_BIN="$PWD/../sheets" "$here/all" --quiet wide.pdf sheet
+    grep -q '^page 16667 17 255 plates 1$' sheet/page-001/trapped/report && rm -r sheet || wrong "traps: trapsheet"
+  else
+    skip sheets "the program trapsheet"
+  fi
   if ! there parallel; then skip farm parallel; return; fi
   refused 8 "press-farm: two.pdf: File exists" "$here/farm" two.pdf two.pdf
   echo 'gsave' >pages.2.zones
@@ -343,9 +374,10 @@ try_traps() {
   "$here/farm" pages.pdf farm >../told 2>../line || status=$?
   [ "$status" = 1 ] && [ ! -e farm/page-002 ] && [ -d farm/page-003 ] || wrong "farm: $status, $(cat ../line)"
   rm pages.2.zones
-  goes "$here/farm" --again pages.pdf farm
+  goes "$here/farm" --quiet --again pages.pdf farm
   cmp <(cut -c 1-12 ../told) <(echo 'page 2: done') || wrong "farm: --again did $(cat ../told)"
-  diff -r -x farm.log farm pages || wrong "farm: other bytes"
+  diff -r -x 'farm.*' -x proof.html farm pages || wrong "farm: other bytes"
+  refused 2 "press-farm: --again: the last run here had other words: none .*" "$here/farm" --again pages.pdf farm --dpi 300
 }
 
 try_pictures() {
@@ -367,6 +399,420 @@ try_pictures() {
   refused 2 "press-look: --traps, .* do not go together .*" "$here/look" two new.png --misregister 1,1 --traps
 }
 
+# told KIND TEXT: what press/check told last has a finding of this kind and level.
+told() { grep -qE "$1" ../told || wrong "check: no line '$1' in: $(cat ../told)"; }
+
+# What is looked at before anything is drawn.
+try_check() {
+  local one
+  goes "$here/check" --dpi 200 pair.pdf
+  told 'pair.pdf: warning: trap-width: TrapWidth 0.25 pt is 0.69 samples at 200 .*not trapped'
+  goes "$here/check" --dpi 100 pair.pdf
+  told 'trap-width: .*: nothing is trapped'
+  goes "$here/check" --dpi 290 pair.pdf
+  ! grep -q trap-width ../told || wrong "check: a width of a whole sample is called out: $(cat ../told)"
+  # Refused by box and resolution, before it is drawn.
+  SECONDS=0
+  refused 7 "press-plates: huge.pdf: page 1: 120000 by 120000 samples, and a side has at most 16384 \(at most 63 .*" "$here/plates" huge.pdf new
+  refused_but_told 1 'page 1: failed: press-check: huge.pdf: page 1: 120000 by .* \(at most 63 .*' "$here/all" --quiet huge.pdf huge
+  rm -r huge
+  [ "$SECONDS" -lt 30 ] || wrong "check: a page that is too large is drawn"
+  refused 5 "press-plates: twenty.pdf: page 1: Ghostscript .*" env PATH="$(slow_gs)" "$here/plates" --time 1 twenty.pdf new
+  # Zones: a fault at the file's own line, once; keys that nobody knows; a byte order mark.
+  printf '<< /TrapWidht 0.3 /HalftoneName null >> settrapparams\n' >keys.zones
+  goes "$here/check" pair.pdf --zones keys.zones
+  told 'pair.pdf: warning: unknown-key: keys.zones: line 1: unknown key /TrapWidht .*is /TrapWidth meant'
+  told 'unknown-key: keys.zones: line 1: /HalftoneName is an entry of PostScript'
+  refused_but_told 10 'pair.pdf: warning: unknown-key.*' "$here/check" --strict pair.pdf --zones keys.zones
+  printf '\n<< /TrapWidth 0.3mm >> settrapparams\n' >fault.zones
+  if [ "$built" = yes ]; then
+    for one in all farm; do
+      SECONDS=0
+      refused 9 'press-'"$one"': fault.zones: line 2: the program refuses it: "job: BadToken"' "$here/$one" twenty.pdf new --zones fault.zones
+    done
+  fi
+  printf '\357\273\277<< /TrapWidth 0.3 >> settrapparams\n' >mark.zones
+  goes "$here/check" pair.pdf --zones mark.zones
+  told 'warning: byte-order-mark: mark.zones: line 1'
+  [ "$built" = no ] || goes "$here/all" --quiet --no-proof pair.pdf mark --zones mark.zones
+  printf '\357\273\277Warm Red\t0.9\nwarm red\t0.8\nGold Foil\t-\tOpaqueIgnore\n' >strange.inks
+  goes "$here/check" two.pdf --inks strange.inks
+  told 'warning: byte-order-mark: strange.inks'
+  told 'warning: inks-line: strange.inks: line 2: no colorant is called warm red \(is Warm Red meant\?\)'
+  ! grep -q 'ink-density\|line 1: no' ../told || wrong "check: a table with a byte order mark is not read: $(cat ../told)"
+  # Fonts, boxes, repairs; and as JSON.
+  sed 's/Helvetica-Bold/FancyFont-Bold/' "$top/examples/label/label.pdf" >font.pdf
+  goes "$here/check" font.pdf
+  told 'font.pdf: pages 1-2: warning: font: the PDF lacks the font FancyFont-Bold; [^ ]* stands in its place'
+  [ "$(grep -c FancyFont ../told)" = 1 ] || wrong "check: a font is told twice: $(cat ../told)"
+  goes "$here/check" --box trim pair.pdf
+  told 'pair.pdf: page 1: warning: box: the page has no TrimBox'
+  goes "$here/check" --json damaged.pdf
+  python3 -c 'import json, sys
+told = json.load(open("../told"))
+assert [one["kind"] for one in told["findings"]] == ["repaired"] and told["takes"][0]["width"] == 1000, told'
+  refused_but_told 10 'damaged.pdf: page 1: warning: repaired: .*' "$here/check" --strict damaged.pdf
+  [ "$built" = yes ] || return 0
+  refused_but_told 1 'page 1: failed: press-check: damaged.pdf: .*\(--strict\)' "$here/all" --quiet --strict damaged.pdf damaged
+  rm -r damaged mark
+  goes "$here/all" --quiet --no-proof damaged.pdf damaged
+  rm -r damaged
+}
+
+# refused_but_told STATUS LINE COMMAND ..: the command ends with this status, and its first line on standard output matches.
+refused_but_told() {
+  local expected=$1 line=$2 status=0
+  shift 2
+  "$@" >../told 2>../line || status=$?
+  [ "$status" = "$expected" ] || wrong "$* ended with $status in place of $expected: $(cat ../told ../line)"
+  head -n 1 ../told | grep -qE -- "^$line\$" || wrong "$* told: $(cat ../told)"
+  tried=$((tried + 1))
+}
+
+# A PATH with a Ghostscript that never ends a page.
+slow_gs() {
+  mkdir -p ../slow
+  printf '#!/bin/sh\ncase "$*" in *tiffsep*) exec sleep 60 ;; *) exec /usr/bin/gs "$@" ;; esac\n' >../slow/gs
+  chmod +x ../slow/gs
+  printf '%s\n' "$PWD/../slow:$PATH"
+}
+
+# The library of inks, technical inks, a house's table, parameters by words, presets.
+try_inks() {
+  python3 "$here/tests/ink_library.py" || wrong "inks: the library's figures"
+  goes "$here/check" technical.pdf
+  told 'warning: ink-kind: CutContour is a technical ink by its name, and is taken as Transparent'
+  told 'warning: knock-out: CutContour .* knocks out'
+  told 'warning: ink-kind: UV-Lack .* Transparent'
+  told 'note: ink-library: the density of PANTONE Reflex Blue C is 1.64 by press/inks/spots.inks, line [0-9]+: look'
+  goes "$here/plates" technical.pdf technical
+  grep -q '/CutContour << /NeutralDensity .* /ColorantType /Transparent >>  % .*technical.inks' technical/page.job || wrong "inks: CutContour"
+  goes "$here/plates" --force technical.pdf technical --kind CutContour=Normal --width 0.1mm --black-width 2 --step 20% --slide 0.8 --scale 50%
+  grep -q '/CutContour << /NeutralDensity [0-9.]* >>' technical/page.job || wrong "inks: --kind Normal"
+  grep -q '   /TrapWidth 0.2835  *% 0.1mm: 2.36 samples at 600 pixels per inch (--width)' technical/page.job &&
+    grep -q '/BlackWidth 2 .*0.2 mm (--black-width)' technical/page.job && grep -q '/StepLimit 0.2 ' technical/page.job &&
+    grep -q '/SlidingTrapLimit 0.8 ' technical/page.job && grep -q '/TrapColorScaling 0.5 ' technical/page.job || wrong "inks: words"
+  [ "$(grep -c '<< /NeutralDensity .*  % .' technical/page.job)" = 7 ] || wrong "inks: a number of the job has no comment"
+  # A house's own table and presets.
+  printf 'CutContour\t0.5\tOpaque\n' >../house/house.inks
+  printf 'width 150um # measured\nscale 0.9\n' >../house/mine.preset
+  goes "$here/plates" --force technical.pdf technical --preset mine --scale 1
+  grep -q '/CutContour << /NeutralDensity 0.5 /ColorantType /Opaque >>  % house.inks, line 1' technical/page.job || wrong "inks: the house"
+  grep -q '/TrapWidth 0.4252 .*mine.preset, line 1' technical/page.job && grep -q '/TrapColorScaling 1 .*--scale' technical/page.job ||
+    wrong "inks: a preset of the house"
+  rm ../house/*
+  local one
+  for one in offset flexo gravure screen; do
+    goes "$here/plates" --force technical.pdf technical --preset "$one"
+    [ "$built" = no ] || goes "$here/trap" technical
+  done
+  refused 2 "press-plates: --preset: there is no web; there are flexo, gravure, offset, screen .*" "$here/plates" two.pdf new --preset web
+  for one in 0.1 0mm 1e3mm 200pt mm -1mm; do
+    refused 2 "press-plates: --width is a width with its unit, .*" "$here/plates" two.pdf new "--width=$one"
+  done
+  refused 2 "press-plates: --scale is a number from 0 to 1, .*" "$here/plates" two.pdf new --scale 2
+  refused 2 "press-plates: --step is a number from 0 to 100, .*" "$here/plates" two.pdf new --step 101%
+  rm -r technical
+}
+
+# changed FOLDER PART COUNT: whether so many samples ("none" or "some") of a part changed.
+changed() {
+  local count
+  count=$("$here/tests/changed_in.py" "$1" "$2")
+  if [ "$3" = none ]; then [ "$count" = 0 ]; else [ "$count" != 0 ]; fi || wrong "images: $1: $count samples changed in $2"
+}
+
+# Within images nothing is trapped, beside them as ever.
+try_images() {
+  if ! there mutool; then skip images mutool; return; fi
+  local path
+  path=$(without mutool)
+  goes env PATH="$path" "$here/check" photo.pdf
+  told 'warning: images: mutool is not there .*: images are not looked for'
+  [ "$built" = yes ] || return 0
+  for one in photo turned clipped; do
+    goes "$here/plates" "$one.pdf" "$one"
+    goes "$here/plates" --trap-images "$one.pdf" "$one-all"
+    goes "$here/trap" "$one"
+    goes "$here/trap" "$one-all"
+  done
+  changed photo 47,38,406,324 none
+  changed photo-all 47,38,406,324 some
+  changed photo 740,60,20,280 some
+  changed turned 38,47,324,406 none
+  changed turned-all 38,47,324,406 some
+  changed turned 60,740,280,20 some
+  # Within the round clip, well away from its border; outside the clip nothing is drawn.
+  changed clipped 190,140,120,120 none
+  changed clipped-all 190,140,120,120 some
+  # A zone of the owner's stays as it is, but for the image.
+  printf '<< /TrapWidth 0.5 >> settrapparams 0 0 moveto 60 0 rlineto 0 48 rlineto -60 0 rlineto settrapzone\n' >own.zones
+  goes "$here/plates" --force photo.pdf photo --zones own.zones
+  goes "$here/trap" photo
+  changed photo 51,42,398,316 none
+  changed photo 740,60,20,280 none
+  rm -r photo turned clipped photo-all turned-all clipped-all
+}
+
+# PostScript and EPS; separations of another RIP.
+try_sources() {
+  goes "$here/plates" drawn.eps drawn
+  grep -q 'note: drawn.eps: PostScript: Ghostscript made a PDF of it' ../line && [ -s drawn/Warm_Red.pgm ] || wrong "sources: EPS"
+  cmp <(head -c 15 drawn/Cyan.pgm) <(printf 'P5\n500 333\n255\n') || wrong "sources: the EPS's box"
+  cp drawn.eps drawn.ai && cp drawn.eps drawn.ps
+  [ "$built" = no ] || goes "$here/all" --quiet drawn.ai drawn2
+  [ "$built" = no ] || [ -d drawn2/page-001/tiff ] || wrong "sources: AI"
+  printf '%%!PS\n/nothing { unknown } loop' >wrong.ps
+  refused 5 "press-plates: wrong.ps: Ghostscript cannot convert the PostScript: .+" "$here/plates" wrong.ps new
+  mkfifo pipe.pdf
+  refused 4 "press-plates: pipe.pdf: no regular file" "$here/plates" pipe.pdf new
+  refused 4 "press-all: pipe.pdf: no regular file" "$here/all" pipe.pdf new
+  rm pipe.pdf
+  # TIFF separations, of 8 and 16 bits, of both polarities: the plates are those that they were made of.
+  goes "$here/tiff" --untrapped --name sep two seps
+  local tiffs=() name wide=() turned=()
+  for name in Cyan Magenta Yellow Black 'Gold Foil' 'Warm Red'; do
+    tiffs+=(--tiff "$name=seps/sep($name).tif")
+    tifftopnm -quiet "seps/sep($name).tif" | pamdepth -quiet 65535 | pamtotiff -quiet -xresolution=600 -yresolution=600 \
+      -resolutionunit=inch >"seps/wide($name).tif"
+    wide+=(--tiff "$name=seps/wide($name).tif")
+    tifftopnm -quiet "seps/sep($name).tif" | pamtotiff -quiet -miniswhite -xresolution=600 -yresolution=600 -resolutionunit=inch \
+      >"seps/white($name).tif"
+    turned+=(--tiff "$name=seps/white($name).tif")
+  done
+  goes "$here/plates" "${tiffs[@]}" again --kind "Gold Foil=OpaqueIgnore"
+  goes "$here/plates" "${turned[@]}" white --kind "Gold Foil=OpaqueIgnore"
+  for name in Cyan Gold_Foil Warm_Red; do
+    cmp "two/$name.pgm" "again/$name.pgm" && cmp "two/$name.pgm" "white/$name.pgm" || wrong "sources: the plate $name"
+  done
+  goes "$here/plates" "${wide[@]}" wide --kind "Gold Foil=OpaqueIgnore" --width 0.2mm
+  cmp <(head -c 18 wide/Cyan.pgm) <(printf 'P5\n1000 400\n65535\n') || wrong "sources: 16 bits"
+  for name in seps/sep\(*.tif; do tifftopnm -quiet "$name" | pnminvert | pamtotiff -quiet >"${name/sep(/turned(}"; done
+  goes "$here/plates" --inverted "${tiffs[@]//seps\/sep/seps/turned}" inverted --dpi 600 --kind "Gold Foil=OpaqueIgnore"
+  cmp two/Cyan.pgm inverted/Cyan.pgm || wrong "sources: --inverted"
+  if [ "$built" = yes ]; then
+    goes "$here/trap" wide
+    goes "$here/tiff" wide wide/tiff
+    cmp <(tifftopnm -quiet "wide/tiff/wide-1(Cyan).tif" | tail -c 800000) <(tail -c 800000 wide/trapped/Cyan.pgm) || wrong "sources: 16 bits out"
+  fi
+  refused 7 "press-plates: two.pdf: no TIFF file" "$here/plates" --tiff Cyan=two.pdf new
+  refused 2 "press-plates: --tiff is NAME=FILE, .*" "$here/plates" --tiff Cyan new
+  refused 2 "press-plates: .*turned\(Cyan\).tif does not say its resolution .*" "$here/plates" --tiff "Cyan=seps/turned(Cyan).tif" new
+  rm -rf drawn drawn2 again white wide inverted seps wrong.ps drawn.ai drawn.ps
+}
+
+# killed FOLDER COMMAND ..: the command is killed outright while Ghostscript is at work in the folder. Nothing of it goes on.
+killed() {
+  local child folder=$1
+  shift
+  "$@" >../told 2>../line &
+  child=$!
+  for _ in {1..600}; do
+    [ -z "$(find "$folder" -path '*/.press-*' -name scratch 2>/dev/null)" ] && kill -0 "$child" 2>/dev/null || break
+    sleep 0.1
+  done
+  kill -9 "$child" || wrong "$* ended before it was killed: $(cat ../line)"
+  wait "$child" || true
+  for _ in {1..200}; do works_here || break; sleep 0.1; done
+  ! works_here || wrong "$* was killed, and a tool of it goes on"
+  tried=$((tried + 1))
+}
+
+# Locks, what killed runs leave, links, a full disk, names that would move a terminal's cursor, pages by numbers.
+try_living() {
+  local label=$top/examples/label/label.pdf status=0 child one
+  if [ "$built" = no ]; then skip living "the program trap"; return; fi
+  mkdir -p tmp && export TMPDIR=$PWD/tmp
+  # One run a folder.
+  "$here/all" --quiet --dpi 1800 "$label" busy >../told3 2>../line3 &
+  child=$!
+  for _ in {1..600}; do ! works_here gs || break; sleep 0.1; done
+  "$here/all" --quiet two.pdf busy >../told2 2>../line2 || status=$?
+  [ "$status" = 8 ] && grep -q "^press-all: busy: another run is at work here (process $child on .*: press-all)$" ../line2 ||
+    wrong "living: two runs: $status, $(cat ../line2)"
+  status=0
+  if there parallel; then
+    "$here/farm" --quiet two.pdf busy --lenient >../told2 2>../line2 || status=$?
+    [ "$status" = 8 ] && grep -q "another run is at work here" ../line2 || wrong "living: farm beside a run: $status, $(cat ../line2)"
+  fi
+  kill "$child" && wait "$child" || true
+  [ ! -e busy/.press-lock ] || wrong "living: a lock is left"
+  # What a killed run leaves is swept by the next; nothing of it goes on.
+  killed busy "$here/all" --quiet --dpi 1800 "$label" busy
+  [ -n "$(find busy -name '.press-*')" ] || wrong "living: nothing was left to sweep"
+  goes "$here/all" --quiet --no-proof pair.pdf busy
+  if there parallel; then
+    killed busy "$here/farm" --quiet --dpi 1800 "$label" busy
+    goes "$here/farm" --quiet --no-proof pair.pdf busy
+  fi
+  if there inotifywait; then
+    cp "$label" hot/big.pdf
+    killed hot "$here/watch" --settle 0 --dpi 1800 --lenient hot
+    rm -rf hot/big.pdf hot/done hot/failed
+    find hot -name '.press-*' -prune -exec rm -rf {} +
+  fi
+  rm -rf busy tmp/*
+  unset TMPDIR
+  # A link in a page's place, and a folder that is another's.
+  mkdir -p linked elsewhere && cp two/colorants.txt elsewhere/ && ln -s ../elsewhere linked/page-001
+  refused_but_told 1 'page 1: failed: press-all: linked/page-001: is a link, and press/all did not make it: .*' \
+    "$here/all" --quiet --no-proof pair.pdf linked
+  [ -e elsewhere/colorants.txt ] || wrong "living: what a link leads to is gone"
+  rm -r linked elsewhere
+  # A disk that is full, told by its name.
+  if mkdir -p small && mount -t tmpfs -o size=1m none small 2>/dev/null; then
+    status=0
+    "$here/plates" two.pdf small/page --dpi 1200 >../told 2>../line || status=$?
+    umount small
+    [ "$status" = 8 ] && grep -q '^press-plates: .*No space left on device' ../line || wrong "living: a full disk: $status, $(cat ../line)"
+  else
+    skip "a full disk" "leave to mount a small one"
+  fi
+  rmdir small
+  env TMPDIR=/nonexistent "$here/plates" --force two.pdf spare >../told 2>../line || wrong "living: no TMPDIR: $(cat ../line)"
+  # Names: what would colour a terminal or break a line is spelled out.
+  one=$(printf 'bad\033[31m\nred.pdf')
+  cp pair.pdf "$one"
+  goes "$here/check" "$one"
+  ! grep -q "$(printf '\033')" ../told && [ "$(wc -l <../told)" = 1 ] && grep -qF 'bad\x1b[31m\x0ared.pdf: page 1: ' ../told || wrong "living: names"
+  # Pages.
+  goes "$here/all" --quiet --no-proof --page 2-3,5 twenty.pdf pages20
+  cmp <(ls pages20) <(printf 'page-%s\n' 002 003 005) || wrong "living: --page 2-3,5"
+  refused 2 "press-all: --page is a whole number from 3 to 999999, and not '2' .*" "$here/all" --page 3-2 twenty.pdf new
+  if there parallel; then
+    goes "$here/farm" --quiet --lenient --no-proof --page 4,6 twenty.pdf pages20 --dpi 200
+    [ "$(grep -c 'warning: .*0.69 samples' ../line)" = 1 ] || wrong "living: a warning is not told once: $(cat ../line)"
+    refused 10 "press-farm: twenty.pdf: TrapWidth 0.25 pt is 0.69 samples .* \(--strict\)" first_warning "$here/farm" --quiet twenty.pdf pages20 --dpi 200
+    "$here/farm" --lenient --no-proof --page 4-5 twenty.pdf pages20 >../told 2>../line || wrong "living: farm: $(cat ../line)"
+    grep -qE '^press-farm: twenty.pdf: 1 of 2 pages, .* left' ../line || wrong "living: farm tells no progress: $(cat ../line)"
+  fi
+  # What is kept.
+  goes "$here/all" --quiet --tiff-only pair.pdf thin
+  [ -z "$(find thin -name '*.pgm')" ] && [ -s "thin/page-001/tiff/pair-1(Cyan).tif" ] && [ -s thin/proof.html ] &&
+    grep -q ' of disk$' ../told || wrong "living: --tiff-only: $(find thin)"
+  rm -r pages20 thin spare
+}
+
+# A command's refusal without the warnings before it.
+first_warning() { "$@" 2> >(grep -v ': warning: ' >&2); }
+
+# The program by its second name.
+try_trapper() {
+  local plates=(Cyan:two/Cyan.pgm:c.out Warm_Red:two/Warm_Red.pgm:r.out) name=trapper
+  "$here/trapper" --help | grep -q '^Usage: trapper page' || wrong "trapper --help"
+  if [ "$built" = no ]; then skip trapper "the program trap"; return; fi
+  "$here/trapper" --version | grep -q '^trapper: the program ' || wrong "trapper --version"
+  goes "$here/trapper" page two/page.job rep "${plates[@]}"
+  "$TRAP_BIN/trap" page two/page.job rep2 Cyan:two/Cyan.pgm:c2.out Warm_Red:two/Warm_Red.pgm:r2.out
+  cmp rep rep2 && cmp c.out c2.out && cmp r.out r2.out || wrong "trapper: other bytes than trap's"
+  # A plate in its own place.
+  cp two/Cyan.pgm own.pgm
+  goes "$here/trapper" page --workers 2 --band=16 two/page.job rep Cyan:own.pgm:own.pgm Warm_Red:two/Warm_Red.pgm:r.out
+  cmp own.pgm c.out || wrong "trapper: IN as OUT"
+  # A program that is killed at its work leaves the plate as it was.
+  # shellcheck disable=SC2016
+  mkdir -p ../killed && printf '#!/bin/sh\nfor one; do :; done; echo half >"${one##*:}"; kill -9 $$\n' >../killed/trap && chmod +x ../killed/trap
+  cp two/Cyan.pgm own.pgm
+  refused 137 "trapper: trap ended with -9" env TRAP_BIN="$PWD/../killed" "$here/trapper" page two/page.job rep Cyan:own.pgm:own.pgm
+  cmp own.pgm two/Cyan.pgm || wrong "trapper: a plate is gone"
+  refused 2 "$name: unknown command pages .*" "$here/trapper" pages
+  refused 2 "$name: --workers is a whole number from 1 to 64, and not '65' .*" "$here/trapper" page --workers 65 two/page.job rep "${plates[@]}"
+  refused 2 "$name: the ink Cyan stands there twice .*" "$here/trapper" page two/page.job rep Cyan:a:b Cyan:c:d
+  refused 2 "$name: 'Cy an' in 'Cy an:a:b' is no name of an ink: .*" "$here/trapper" page two/page.job rep "Cy an:a:b"
+  refused 2 "$name: 'Cyan:a' is not NAME:IN:OUT, .*" "$here/trapper" page two/page.job rep Cyan:a
+  refused 2 "$name: REPORT is missing .*" "$here/trapper" page two/page.job
+  refused 2 "$name: the OUT of Warm_Red, ./c.out, and the OUT of Cyan, c.out, are one file .*" \
+    "$here/trapper" page two/page.job rep Cyan:two/Cyan.pgm:c.out Warm_Red:two/Warm_Red.pgm:./c.out
+  ln -sf c.out link.out
+  refused 2 "$name: the OUT of Warm_Red, link.out, and the OUT of Cyan, c.out, are one file .*" \
+    "$here/trapper" page two/page.job rep Cyan:two/Cyan.pgm:c.out Warm_Red:two/Warm_Red.pgm:link.out
+  refused 1 "$name: 'Cyan:#E9.pgm:q' is not UTF-8" "$here/trapper" page two/page.job rep "$(printf 'Cyan:\351.pgm:q')"
+  printf '%%!PS\ngsave\n' >faulty.job
+  refused 3 "$name: faulty.job: line 2: job: UnknownOperator at 5" "$here/trapper" page faulty.job rep "${plates[@]}"
+  refused 4 "$name: two.pdf \(Cyan\): plate 0: .*" "$here/trapper" page two/page.job rep Cyan:two.pdf:c.out
+  refused 5 "$name: none.pgm: No such file or directory: read fault: plate 0" "$here/trapper" page two/page.job rep Cyan:none.pgm:c.out
+  refused 6 "$name: none/c.out: No such file or directory: write fault: plate 0" "$here/trapper" page two/page.job rep Cyan:two/Cyan.pgm:none/c.out
+  refused 8 "$name: the program trap is not there: .*" env TRAP_BIN=/none "$here/trapper" page two/page.job rep "${plates[@]}"
+  rm -f ./*.out own.pgm rep rep2 faulty.job
+}
+
+# The proof sheet, and pictures out of register by no more than the traps close.
+try_proof() {
+  if [ "$built" = no ] || [ "$pictures" != yes ]; then skip proof "the program trap, or NumPy or Pillow"; return; fi
+  goes "$here/all" --quiet --dpi 600 pair.pdf proofed --width 0.1mm
+  local sheet=proofed/proof.html
+  for one in 'Proof of pair.pdf' 'class="slider"' 'Out of register' 'still bares' '<h3>Inks' '<h3>The job' 'TrapWidth 0.2835' 'data:image/png;base64,'; do
+    grep -qF "$one" "$sheet" || wrong "proof: no $one"
+  done
+  ! grep -qE '(src|href)="?(https?:)?//' "$sheet" || wrong "proof: it asks for something of a network"
+  python3 - <<'PYTHON' || wrong "proof: the report as JSON: $(cat proofed/page-001/trapped/report.json)"
+import json
+told = json.load(open("proofed/page-001/trapped/report.json"))
+assert told["samples_changed"] > 0 and told["edges"] > 0 and {ink["name"] for ink in told["inks"]} == {"Cyan", "Magenta", "Yellow", "Black"}
+# A trap of two samples closes what plates of a sample off open between two colours.
+assert told["misregister"]["radius"] == 1 and told["misregister"]["bared_before"] > 0 == told["misregister"]["bared_after"], told
+PYTHON
+  # The usual shifts part no two plates by more than a trap is wide.
+  python3 - "$here/lib" <<'PYTHON' || wrong "proof: the usual shifts"
+import sys
+sys.path.insert(0, sys.argv[1])
+import painting, press
+page = press.Page("proofed/page-001")
+shifts, width = painting.usual_shifts(page), painting.trap_width(page)
+assert 2 < width < 3 and max(((a - c) ** 2 + (b - d) ** 2) ** 0.5 for a, b in shifts for c, d in shifts) in (1, 2), shifts
+PYTHON
+  goes "$here/proof" proofed/page-001
+  [ -s proofed/page-001/proof.html ] || wrong "proof: of a page alone"
+  refused 6 "press-proof: hot: no plates here, .*" "$here/proof" hot
+  refused 4 "press-proof: none: No such file or directory" "$here/proof" none
+  # Where a browser is there, its script is run: the parts are drawn.
+  if there chromium; then
+    chromium --headless --no-sandbox --disable-gpu --virtual-time-budget=8000 --dump-dom "file://$PWD/$sheet" >../dom 2>../dom.err || true
+    grep -q 'data-drawn="yes"' ../dom && grep -q '2 across, 0 down, in samples' ../dom || wrong "proof: in a browser: $(head -c 2000 ../dom.err)"
+  else
+    skip "the proof in a browser" chromium
+  fi
+  rm -r proofed
+}
+
+# The TIFF file of all inks, as the usual tools read it, and the picture in RGB.
+try_tiffs() {
+  local file=tiffs/all.tif
+  goes "$here/tiff" --untrapped --name all two tiffs
+  tifftopnm -quiet "$file" >all.ppm && [ "$(head -c 15 all.ppm)" = "$(printf 'P6\n1000 400\n255')" ] || wrong "tiffs: netpbm"
+  if there tiffinfo; then
+    [ "$(tiffinfo "$file" | grep -c '^=== TIFF directory')" = 3 ] && tiffinfo "$file" | grep -q 'PageName: Gold Foil' &&
+      tiffinfo "$file" | grep -q 'PageName: Warm Red' && ! tiffinfo "$file" 2>&1 | grep -qi 'warning\|extra' || wrong "tiffs: libtiff"
+  else
+    skip "libtiff's tools" tiffinfo
+  fi
+  if there identify; then
+    [ "$(identify -format '%[colorspace] %A %l\n' "$file")" = "$(printf 'CMYK False \nGray False Gold Foil\nGray False Warm Red\n')" ] ||
+      wrong "tiffs: ImageMagick: $(identify -format '%[colorspace] %A %l\n' "$file")"
+  else
+    skip ImageMagick identify
+  fi
+  if there vips; then
+    [ "$(vipsheader -f bands "$file") $(vipsheader -f interpretation "$file")" = "4 ((VipsInterpretation) VIPS_INTERPRETATION_CMYK)" ] ||
+      wrong "tiffs: vips"
+  fi
+  # A page of it is the plate: 0 is no ink there.
+  [[ $("$here/tests/tiff_tags.py" "$file") == *"polarity [5]"* ]] || wrong "tiffs: polarity"
+  goes "$here/tiff" --untrapped --channels --name all two channels
+  [[ $("$here/tests/tiff_tags.py" channels/all.tif) == *"extra channels [0, 0]"* ]] || wrong "tiffs: --channels"
+  if [ "$pictures" = yes ]; then
+    [ -s tiffs/all.png ] || wrong "tiffs: no picture"
+    goes "$here/tiff" --untrapped --name all two profiled --icc /usr/share/color/icc/ghostscript/default_cmyk.icc
+    ! cmp -s tiffs/all.png profiled/all.png || wrong "tiffs: --icc draws nothing else"
+    refused 4 "press-tiff: /usr/share/color/icc/ghostscript/srgb.icc: no profile of a press with four inks" \
+      "$here/tiff" --untrapped two new2 --icc /usr/share/color/icc/ghostscript/srgb.icc
+    rm -r profiled
+  fi
+  goes "$here/plates" pair.pdf profiled --icc /usr/share/color/icc/ghostscript/default_cmyk.icc
+  refused 4 "press-plates: none.icc: No such file or directory" "$here/plates" pair.pdf new --icc none.icc
+  rm -r tiffs channels profiled all.ppm
+}
+
 for one in gs tifftopnm pamtotiff python3; do
   there "$one" || { skip "all tests" "$one"; exit 0; }
 done
@@ -375,14 +821,17 @@ python=$(python3 -c 'import sys; print(sys.executable)')
 PATH=$(dirname "$python"):$PATH
 rm -rf "$out"
 mkdir -p "$out/work" "$out/programs"
-# The programs that are built. Nothing here may begin to build one, which takes long, as their launchers would where the
-# sources are newer.
-if [ -z "${TRAP_BIN-}" ]; then
-  for one in trap presscheck; do
-    [ ! -x "$top/crates/$one/out/$one" ] || ln -s "$top/crates/$one/out/$one" "$out/programs/"
+# The programs that are built, or those of TRAP_BIN. Nothing here builds one. trapsheet is left out: what it takes is tried by itself.
+for one in trap presscheck; do
+  for place in "${TRAP_BIN:+$TRAP_BIN/$one}" "$top/crates/$one/out/$one"; do
+    if [ -n "$place" ] && [ -x "$place" ]; then ln -s "$(readlink -f "$place")" "$out/programs/$one"; break; fi
   done
-  export TRAP_BIN=$out/programs
-fi
+done
+sheets=${TRAP_BIN:-$top/crates/trapsheet/out}/trapsheet
+export TRAP_BIN=$out/programs
+# No house's own inks and presets but those that a test makes.
+mkdir "$out/house"
+export PRESS_HOUSE=$out/house
 built=yes
 [ -x "$TRAP_BIN/trap" ] || built=no
 cd "$out/work"
@@ -391,8 +840,9 @@ printf 'Gold\t1\nno ink\n' >bad.inks
 mkdir hot && echo stays >hot/note
 pictures=no
 ! python3 -c 'import numpy, PIL' 2>/dev/null && ! /usr/bin/python3 -c 'import numpy, PIL' 2>/dev/null || pictures=yes
-goes "$here/plates" two.pdf two
+goes "$here/plates" two.pdf two --kind "Gold Foil=Normal"
 parts=("$@")
-((${#parts[@]} > 0)) || parts=(words inputs outputs folders tools plates pages stopped traps watch pictures)
+((${#parts[@]} > 0)) || parts=(words inputs outputs folders tools plates pages stopped traps watch pictures check inks images sources living \
+  trapper proof tiffs)
 for part in "${parts[@]}"; do "try_$part"; done
 printf 'press/test.sh: %d commands ended as they should\n' "$tried"

@@ -1,20 +1,27 @@
 """What the press commands share.
 
 Their words, messages and statuses; the tools and programs that they run; outputs that stand whole under their names or not
-at all; plate files; and the folder of a page, which press/plates makes and the other commands read.
+at all, and locks; plate files; and the folder of a page, which press/plates makes and the other commands read.
 """
 import contextlib
+import ctypes
+import errno
+import fcntl
+import mmap
 import os
 import re
 import shutil
 import signal
+import socket
+import stat
 import subprocess
 import sys
 import tempfile
+import time
 from collections import namedtuple
 
 # The statuses, one for each kind of refusal. They stand in press(1) and in each command's --help.
-PAGES_FAILED, USAGE, NO_TOOL, INPUT, PDF, NO_PLATES, PLATES, OUTPUT, PROGRAM = 1, 2, 3, 4, 5, 6, 7, 8, 9
+PAGES_FAILED, USAGE, NO_TOOL, INPUT, PDF, NO_PLATES, PLATES, OUTPUT, PROGRAM, WARNED = 1, 2, 3, 4, 5, 6, 7, 8, 9, 10
 STATUSES = """Status:
   0  done
   1  some page failed; the others stand (all, farm)
@@ -24,19 +31,24 @@ STATUSES = """Status:
   5  Ghostscript cannot read the PDF, or the PDF has no such page
   6  the folder has no plates
   7  the plates make no page: two sizes, too many colorants or samples
-  8  an output cannot be written, or stands in the way
-  9  a program of traps refused the page; its line is told
+  8  an output cannot be written, stands in the way, or another run is at work there
+  9  a program of traps refuses the page or its job; its line is told
+  10 the preflight warns of something, and --strict is given
 """
 
 MOST_PLATES, LONGEST_SIDE, MOST_SAMPLES, LONGEST_NAME = 16, 16_384, 160_000_000, 64
+# The sides of a sheet, which the program trapsheet traps window by window.
+LONGEST_SHEET_SIDE = 262_144
 PROCESS = {"Cyan": (0.61, (100, 0, 0, 0)), "Magenta": (0.76, (0, 100, 0, 0)), "Yellow": (0.16, (0, 0, 100, 0)),
            "Black": (1.70, (0, 0, 0, 100))}
 KINDS = ("Normal", "Transparent", "Opaque", "OpaqueIgnore")
-TABLE, JOB, TRAPPED, REPORT, CHECK = "colorants.txt", "page.job", "trapped", "report", "check"
+TABLE, JOB, TRAPPED, REPORT, CHECK, JSON = "colorants.txt", "page.job", "trapped", "report", "check", "report.json"
+LOCK = ".press-lock"
 HERE = os.path.dirname(os.path.dirname(os.path.realpath(__file__)))
 
 # Where a tool comes from, for the message that it is not there.
-PACKAGES = {"gs": "ghostscript", "tifftopnm": "netpbm", "pamtotiff": "netpbm", "numpy": "python3-numpy", "PIL": "python3-pil"}
+PACKAGES = {"gs": "ghostscript", "tifftopnm": "netpbm", "pamtotiff": "netpbm", "pnminvert": "netpbm", "mutool": "mupdf-tools",
+            "parallel": "parallel", "inotifywait": "inotify-tools", "numpy": "python3-numpy", "PIL": "python3-pil"}
 
 
 class Refusal(Exception):
@@ -47,12 +59,27 @@ class Refusal(Exception):
         self.status, self.line = status, line
 
 
+NAMED = []
+
+
 def command_name():
-    return "press-" + os.path.basename(sys.argv[0])
+    return NAMED[0] if NAMED else "press-" + os.path.basename(sys.argv[0])
+
+
+def clean(text):
+    """A text for a terminal or a log: what would move the cursor, colour it or break the line is spelled out."""
+    return "".join(char if char.isprintable() or 0xDC80 <= ord(char) <= 0xDCFF else
+                   "".join(f"\\x{byte:02x}" for byte in char.encode("utf-8", "surrogateescape")) for char in text)
+
+
+WARNED_OF = set()
 
 
 def warn(line):
-    print(f"{command_name()}: warning: {line}", file=sys.stderr, flush=True)
+    """A warning, once."""
+    if line not in WARNED_OF:
+        WARNED_OF.add(line)
+        print(clean(f"{command_name()}: warning: {line}"), file=sys.stderr, flush=True)
 
 
 STOPS = (signal.SIGINT, signal.SIGTERM, signal.SIGHUP)
@@ -65,8 +92,10 @@ def stop(number, _):
     sys.exit(128 + number)
 
 
-def run_command(main, text):
-    """Calls main with the words, and ends with its status. `text` is what --help prints."""
+def run_command(main, text, name=None):
+    """Calls main with the words, and ends with its status. `text` is what --help prints; `name` is how the command is called
+    where it is not one of press."""
+    NAMED.extend([name] if name else [])
     words = sys.argv[1:]
     for stream in (sys.stdout, sys.stderr):
         # A file's name may be no UTF-8.
@@ -75,18 +104,19 @@ def run_command(main, text):
         # One that is ignored from the start, as by nohup, stays so.
         if signal.getsignal(number) != signal.SIG_IGN:
             signal.signal(number, stop)
-    if "--help" in words or "-h" in words:
+    if not name and ("--help" in words or "-h" in words):
         print(text.strip() + "\n\n" + STATUSES, end="")
         sys.exit(0)
     try:
         status = main(words)
     except Refusal as refusal:
-        print(f"{command_name()}: {refusal.line}", file=sys.stderr)
+        print(clean(f"{command_name()}: {refusal.line}"), file=sys.stderr)
         status = refusal.status
     except BrokenPipeError:
         status = OUTPUT
     except OSError as fault:
-        print(f"{command_name()}: {fault.filename or 'write'}: {fault.strerror}", file=sys.stderr)
+        named = os.fsdecode(fault.filename) if isinstance(fault.filename, (str, bytes)) else "write"
+        print(clean(f"{command_name()}: {named}: {fault.strerror or fault}"), file=sys.stderr)
         status = OUTPUT
     sys.exit(status)
 
@@ -147,17 +177,45 @@ def whole_number(text, least, most, what):
     raise usage(f"{what} is a whole number from {least} to {most}, and not '{text}'")
 
 
+def number(text, least, most, what):
+    """A number with a point or without, as a job may have it."""
+    if re.fullmatch(r"\d{1,7}(\.\d*)?|\.\d+", text or "") and least <= float(text) <= most:
+        return float(text)
+    raise usage(f"{what} is a number from {least:g} to {most:g}, and not '{text}'")
+
+
+def page_numbers(texts):
+    """The pages that --page asks for, each as K, J-K, or several of these with commas between them."""
+    pages = set()
+    for part in ",".join(texts).split(",") if texts else []:
+        first, dash, last = part.partition("-")
+        first = whole_number(first, 1, 999_999, "--page")
+        last = whole_number(last, first, 999_999, "--page") if dash else first
+        pages.update(range(first, last + 1))
+    return sorted(pages)
+
+
 # Tools and programs
+
+C_LIBRARY = ctypes.CDLL(None, use_errno=True)
+SET_PARENT_DEATH_SIGNAL = 1
+
 
 @contextlib.contextmanager
 def running(words, **how):
-    """A tool that runs beside the block. It is stopped, and waited for, where the block is left before it has ended."""
+    """A tool that runs beside the block. It is stopped, and waited for, where the block is left before it has ended. Where
+    this process is killed outright, the kernel stops the tool."""
     how = {"stdin": subprocess.DEVNULL, "stdout": subprocess.PIPE, "stderr": subprocess.PIPE, **how}
     # A signal that comes while the tool starts is heeded when it is known.
     before = signal.pthread_sigmask(signal.SIG_BLOCK, STOPS)
     child = None
+
+    def prepare():
+        C_LIBRARY.prctl(SET_PARENT_DEATH_SIGNAL, signal.SIGTERM)
+        signal.pthread_sigmask(signal.SIG_SETMASK, before)
+
     try:
-        child = subprocess.Popen(words, preexec_fn=lambda: signal.pthread_sigmask(signal.SIG_SETMASK, before), **how)
+        child = subprocess.Popen(words, preexec_fn=prepare, **how)
         signal.pthread_sigmask(signal.SIG_SETMASK, before)
         yield child
     finally:
@@ -188,7 +246,25 @@ def convert(works):
         told = [" ".join(child.communicate()[1].decode("utf-8", "replace").split()) for child in children]
     for (words, _, end), child, text in zip(works, children, told):
         if child.returncode != 0:
+            need_room(os.path.dirname(end) or ".", f"{words[0]} wrote {shown(os.fsencode(os.path.basename(end)))}")
             raise Refusal(OUTPUT, f"{shown(os.fsencode(os.path.basename(end)))}: {text or words[0] + ' failed'}")
+
+
+PROBE_BYTES = 1 << 18
+
+
+def need_room(folder, what):
+    """Refuses with the system's own reason where the folder takes no more: what tools say of a full disk is mostly another
+    thing."""
+    try:
+        with tempfile.TemporaryFile(prefix=temporary_name(), dir=folder) as file:
+            file.write(b"\1" * PROBE_BYTES)
+            file.flush()
+            os.fsync(file.fileno())
+    except OSError as fault:
+        if fault.errno in (errno.ENOSPC, errno.EDQUOT, errno.EFBIG, errno.EROFS, errno.EIO):
+            place = os.fsdecode(folder)
+            raise Refusal(OUTPUT, f"{place}: {os.strerror(fault.errno)} (while {what})")
 
 
 def tool(name):
@@ -202,24 +278,35 @@ def is_program(path):
     return os.path.isfile(path) and os.access(path, os.X_OK)
 
 
-def program(name):
-    """The program of that name: in the folder TRAP_BIN where that is set; else in the repository, whose launcher builds it where
-    need be; else what was installed beside these commands; else what is on the PATH."""
+def program(name, build=False):
+    """The program of that name: in the folder TRAP_BIN where that is set; else in the repository, where it is built; else what
+    was installed beside these commands; else what is on the PATH. A repository's launcher builds it only where that is asked
+    for, since that takes long."""
     where, top = os.environ.get("TRAP_BIN"), os.path.dirname(HERE)
     if where:
         if is_program(os.path.join(where, name)):
             return os.path.abspath(os.path.join(where, name))
         raise Refusal(NO_TOOL, f"the program {name} is not there: no {os.path.join(where, name)}")
-    built = os.path.join(top, "crates", name, "out", name)
-    if os.path.isdir(os.path.join(top, "crates", name)) and is_program(os.path.join(top, name)):
+    built, launcher = os.path.join(top, "crates", name, "out", name), os.path.join(top, name)
+    in_repository = os.path.isdir(os.path.join(top, "crates", name)) and is_program(launcher)
+    if in_repository and build:
         # Without words the launcher builds the program where need be, saying so, and the program ends at once with its usage.
-        done = run_tool([os.path.join(top, name)], stdout=subprocess.DEVNULL, stderr=None)
+        done = run_tool([launcher], stdout=subprocess.DEVNULL, stderr=None)
         if done.returncode != USAGE:
             raise Refusal(NO_TOOL, f"the program {name} could not be built")
     for place in (built, os.path.join(os.path.dirname(os.path.dirname(top)), "bin", name), shutil.which(name)):
         if place and is_program(place):
             return place
+    if in_repository:
+        raise Refusal(NO_TOOL, f"the program {name} is not built yet: {launcher} does it, which takes some twenty minutes; or "
+                      f"TRAP_BIN names the folder of one that is built")
     raise Refusal(NO_TOOL, f"the program {name} is not there")
+
+
+def large_pages():
+    """The environment in which a program is run: it may ask for large pages of memory, which come in less time. What the user
+    has set stands."""
+    return {"GLIBC_TUNABLES": "glibc.malloc.hugetlb=1", **os.environ}
 
 
 def pictures():
@@ -245,13 +332,79 @@ def umasked(mode):
     return mode & ~mask
 
 
+def temporary_name():
+    """How the name of something begins that this process has not made whole yet: the process's number and the machine."""
+    return f".press-{os.getpid()}-{socket.gethostname()}-"
+
+
+LEFT_OVER = re.compile(r"\.press-(\d+)-(.*)-[a-z0-9_]{8,10}(\.[^.]*)?")
+
+
+def sweep(folder):
+    """Clears away what runs of this machine left in the folder that were killed."""
+    try:
+        with os.scandir(folder) as entries:
+            found = [(entry, LEFT_OVER.fullmatch(entry.name)) for entry in entries]
+    except OSError:
+        return
+    for entry, name in found:
+        if name is None or name.group(2) != socket.gethostname() or os.path.exists(f"/proc/{name.group(1)}"):
+            continue
+        if entry.is_dir(follow_symlinks=False):
+            shutil.rmtree(entry.path, ignore_errors=True)
+        else:
+            with contextlib.suppress(OSError):
+                os.remove(entry.path)
+
+
+LOCK_TRIES, LOCK_WAIT = 10, 0.1
+
+
+@contextlib.contextmanager
+def locked(path, place, shared=False):
+    """Holds a lock, a file with the number of the process in it, for as long as the block runs. The system lets go of it
+    where the process ends in any way. Another run that holds it is told by its line."""
+    how = fcntl.LOCK_SH if shared else fcntl.LOCK_EX
+    handle = None
+    for attempt in range(LOCK_TRIES):
+        handle = os.open(path, os.O_RDWR | os.O_CREAT | os.O_CLOEXEC, umasked(0o666))
+        try:
+            fcntl.flock(handle, how | fcntl.LOCK_NB)
+            with contextlib.suppress(OSError):
+                if os.path.samestat(os.fstat(handle), os.stat(path)):
+                    break
+        except BlockingIOError:
+            # Whoever takes a lock's file away holds it for a moment.
+            time.sleep(LOCK_WAIT)
+            if attempt == LOCK_TRIES - 1:
+                who = os.pread(handle, 1000, 0).decode("utf-8", "replace").strip() or "its process is not told"
+                os.close(handle)
+                raise Refusal(OUTPUT, f"{place}: another run is at work here ({who})")
+        except OSError as fault:
+            warn(f"{place}: no lock can be held here ({fault.strerror}): see to it that one run alone is at work")
+            break
+        os.close(handle)
+    os.truncate(handle, 0)
+    os.pwrite(handle, f"process {os.getpid()} on {socket.gethostname()}: {command_name()}\n".encode(), 0)
+    try:
+        yield
+    finally:
+        # The last one takes the file away.
+        with contextlib.suppress(OSError):
+            fcntl.flock(handle, fcntl.LOCK_EX | fcntl.LOCK_NB)
+            os.remove(path)
+        os.close(handle)
+
+
 @contextlib.contextmanager
 def whole_file(final):
     """A path beside `final` to write to. It takes the name `final` where the block ends well, and is removed elsewhere."""
+    parent = os.path.dirname(final) or "."
     try:
         if os.path.isdir(final):
             raise Refusal(OUTPUT, f"{final}: Is a directory")
-        handle, path = tempfile.mkstemp(prefix=".press-", suffix=os.path.splitext(final)[1], dir=os.path.dirname(final) or ".")
+        sweep(parent)
+        handle, path = tempfile.mkstemp(prefix=temporary_name(), suffix=os.path.splitext(final)[1], dir=parent)
         os.close(handle)
     except OSError as fault:
         raise Refusal(OUTPUT, f"{final}: {fault.strerror}")
@@ -269,7 +422,8 @@ def folder_beside(final, inside=False):
     """A folder beside `final`, or inside it, that is removed when the block ends, unless it was renamed."""
     parent = final if inside else os.path.dirname(os.path.abspath(final))
     try:
-        path = tempfile.mkdtemp(prefix=".press-", dir=parent)
+        sweep(parent)
+        path = tempfile.mkdtemp(prefix=temporary_name(), dir=parent)
     except OSError as fault:
         raise Refusal(OUTPUT, f"{final}: {fault.strerror}")
     os.chmod(path, umasked(0o777))
@@ -282,7 +436,7 @@ def folder_beside(final, inside=False):
 def put_folder(made, final):
     """Gives a folder its final name, in place of one that stands there."""
     if os.path.isdir(final):
-        old = tempfile.mkdtemp(prefix=".press-", dir=os.path.dirname(os.path.abspath(final)))
+        old = tempfile.mkdtemp(prefix=temporary_name(), dir=os.path.dirname(os.path.abspath(final)))
         os.rename(final, os.path.join(old, "old"))
         os.rename(made, final)
         shutil.rmtree(old, ignore_errors=True)
@@ -313,17 +467,23 @@ def plate_head(path):
 
 
 def plate_samples(path):
-    """The raster's bytes."""
-    start = plate_head(path).start
+    """The raster's bytes, as the file has them: no more of it is in memory than is looked at."""
+    head = plate_head(path)
     with open(path, "rb") as file:
-        file.seek(start)
-        return file.read()
+        return memoryview(mmap.mmap(file.fileno(), 0, access=mmap.ACCESS_READ))[head.start:]
+
+
+BLOCK_BYTES = 1 << 22
 
 
 def is_blank(path):
     """Whether a plate has no ink anywhere."""
+    head = plate_head(path)
+    paper = bytes([255]) if head.maxval == 255 else head.maxval.to_bytes(1 if head.maxval < 256 else 2, "big")
     samples = plate_samples(path)
-    return plate_head(path).maxval == 255 and samples.count(b"\xff") == len(samples)
+    block = paper * (BLOCK_BYTES // len(paper))
+    return all(bytes(samples[at:at + BLOCK_BYTES]) == block[:min(BLOCK_BYTES, len(samples) - at)]
+               for at in range(0, len(samples), BLOCK_BYTES))
 
 
 # Names
@@ -418,3 +578,31 @@ class Page:
             if head[:3] != self.head[:3]:
                 raise Refusal(PLATES, f"{self.plate(one, True)}: {head.width} by {head.height} samples of maxval {head.maxval}, "
                               f"and the page has {self.head.width} by {self.head.height} of {self.head.maxval}")
+
+
+def report_of(text):
+    """What a report of the program tells: its zones, edges, and how many samples of each plate changed."""
+    zones, plates, edges = [], {}, 0
+    for line in text.splitlines():
+        words = line.split()
+        if words[:1] == ["zone"]:
+            zones.append({"zone": int(words[1]), "samples": int(words[3]), "changed": int(words[5])})
+        elif words[:1] == ["plate"]:
+            plates[words[1]] = int(words[3])
+        elif words[:1] == ["edges"]:
+            edges = int(words[1])
+    return {"zones": zones, "plates": plates, "edges": edges}
+
+
+def disk_use(folder):
+    """The bytes that a folder takes, a file of two names once."""
+    seen = {}
+    for place, _, files in os.walk(folder):
+        for file in files:
+            told = os.lstat(os.path.join(place, file))
+            seen[told.st_dev, told.st_ino] = told.st_blocks * 512
+    return sum(seen.values())
+
+
+def size_text(count):
+    return f"{count / 1e9:.2f} GB" if count >= 1e9 else f"{count / 1e6:.1f} MB"
