@@ -2,7 +2,7 @@ ghost use Rattle.std.specs.Prelude.{◌≡◌, ◌+◌, ◌-◌, ◌*◌, ◌/�
 ghost use Rattle.lists.specs.Words.{square};
 ghost use Rattle.page_model.specs.Limits.{half_sample, most_black_width, most_resolution, most_trap_width, scale};
 
-use page_model::bounds::{HALF_SAMPLE, SCALE};
+use page_model::bounds::HALF_SAMPLE;
 
 /// The part of the full tint that a trapped sample gets, from the densities of its tints and of its full tints.
 pub fn scaled_tint(full: u16, here: u64, there: u64, scaling: u32) -> u16
@@ -13,13 +13,12 @@ pub fn scaled_tint(full: u16, here: u64, there: u64, scaling: u32) -> u16
     ensures { result ≡ (full * (here * scale + scaling * (there - here))) / (there * scale) }
 {
     if there < 1 << 34 {
-        let light = here * u64::from(SCALE) + u64::from(scaling) * (there - here);
-        let value = u64::from(full) * light / (there * u64::from(SCALE));
+        let light = here * 10_000 + u64::from(scaling) * (there - here);
+        let value = u64::from(full) * light / (there * 10_000);
         return value as u16;
     }
-    let light = u128::from(here) * u128::from(SCALE)
-        + u128::from(scaling) * u128::from(there - here);
-    let value = u128::from(full) * light / (u128::from(there) * u128::from(SCALE));
+    let light = u128::from(here) * 10_000 + u128::from(scaling) * u128::from(there - here);
+    let value = u128::from(full) * light / (u128::from(there) * 10_000);
     value as u16
 }
 
