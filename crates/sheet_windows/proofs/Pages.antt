@@ -108,6 +108,30 @@ any_default [] k d e l = absurd (omega (arith, l))
 any_default (x ∷ xs) zero d e l = refl
 any_default (x ∷ xs) (suc k) d e l = any_default xs k d e (omega (arith, l))
 
+-- what a page may be made of, a sheet may be made of
+pub parts_of_sheet : (page : PageParts) → IsParts page → IsSheetParts page
+parts_of_sheet page is = record {
+  some_plates = is.some_plates;
+  few_plates = is.few_plates;
+  one_ink_each = is.one_ink_each;
+  some_zones = is.some_zones;
+  few_zones = is.few_zones;
+  planes_in_range = λ k d l. (let p = is.planes_in_range k d l in record {
+    some_width = p.some_width;
+    some_height = p.some_height;
+    some_maxval = p.some_maxval;
+    maxval_fits = p.maxval_fits;
+    full = p.full;
+    below = p.below;
+  });
+  inks_in_range = is.inks_in_range;
+  zones_in_range = is.zones_in_range;
+  zone_0 = is.zone_0;
+  few_vertices = is.few_vertices;
+  fine = is.fine;
+  resolved = is.resolved;
+}
+
 -- a sheet within the limits of a page is a page
 pub sheet_is_page : (sheet : PageParts) → IsSheet sheet → width sheet ≤ most_side → height sheet ≤ most_side → width sheet * height sheet * plates sheet ≤ most_samples → IsPage sheet
 sheet_is_page sheet ok narrow low few = record {

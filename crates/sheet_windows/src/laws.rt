@@ -2,14 +2,14 @@
 
 ghost use Rattle.std.specs.Prelude.{◌*◌, ◌≤◌, ℕ, List, length};
 ghost use Rattle.page_model.specs.declared.parts.PageParts.{PageParts};
-ghost use Rattle.page_model.specs.Conditions.{IsPage};
+ghost use Rattle.page_model.specs.Conditions.{IsPage, IsParts};
 ghost use Rattle.page_model.specs.Limits.{most_samples, most_side};
 ghost use Rattle.page_model.specs.Page.{height, plates, width};
 ghost use Rattle.sheet_windows.specs.declared.cuts.Cut.{Cut};
 ghost use Rattle.sheet_windows.specs.Areas.{CountsBySamples};
 ghost use Rattle.sheet_windows.specs.declared.spans.Ruler.{Ruler};
 ghost use Rattle.sheet_windows.specs.Plans.{AreRulers, PlanLaw};
-ghost use Rattle.sheet_windows.specs.Sheets.{IsNearSheet, IsSheet, IsSmall};
+ghost use Rattle.sheet_windows.specs.Sheets.{IsNearSheet, IsSheet, IsSheetParts, IsSmall};
 ghost use Rattle.sheet_windows.specs.declared.spans.Span.{Span};
 ghost use Rattle.sheet_windows.specs.Spans.{IsSpan};
 ghost use Rattle.sheet_windows.specs.Strips.{StripLaw};
@@ -30,6 +30,11 @@ pub fn window_law()
 pub fn window_page_law()
     ensures { (sheet : PageParts) (cut : Cut) → IsSheet sheet → IsNearSheet sheet
         → IsCut sheet cut → IsSmall sheet cut → IsPage (window sheet cut) }
+{}
+
+/// A sheet may be made of whatever a page may be made of.
+pub fn parts_law()
+    ensures { (page : PageParts) → IsParts page → IsSheetParts page }
 {}
 
 /// A sheet within the limits of a page is a page.

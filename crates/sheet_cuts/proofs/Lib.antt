@@ -1,0 +1,4 @@
+pub mod StepLemmas
+pub mod FarLemmas
+pub mod SizeLemmas
+pub mod FaultLemmas

@@ -1,0 +1,65 @@
+-- Sizes: what is within the limits of a page, and how much fits a window.
+use Rattle.std.proofs.Common.{◌≡◌, ◌⊎◌, ℕ, ◌+◌, ◌*◌, ◌/◌, ◌<◌, ◌≤◌, false, nat_lt, ◌||◌, inl, inr, min, max, arith, subst, ap, sym, ◌∙◌, mul-le-mul, div-mul-le_self}
+use Rattle.std.proofs.lemmas.Bool.{cases_lt, ltb-false, or_parts}
+use Rattle.page_model.specs.declared.parts.PageParts.{PageParts}
+use Rattle.page_model.specs.Conditions.{IsPage}
+use Rattle.page_model.specs.Limits.{most_samples, most_side}
+use Rattle.page_model.specs.Page.{height, plates, width}
+use Rattle.sheet_cuts.specs.Refusals.{is_large}
+use Rattle.sheet_windows.specs.Sheets.{IsSheet}
+use Rattle.sheet_windows.proofs.Pages.{sheet_is_page}
+
+pub page_from_sheet : (sheet : PageParts) → IsSheet sheet → is_large sheet ≡ false → IsPage sheet
+page_from_sheet sheet is small =
+    let one = or_parts (nat_lt most_side (width sheet)) (nat_lt most_side (height sheet) || nat_lt most_samples (width sheet * height sheet * plates sheet)) small in
+    let two = or_parts (nat_lt most_side (height sheet)) (nat_lt most_samples (width sheet * height sheet * plates sheet)) one.1 in
+    sheet_is_page sheet is (let a = ltb-false _ _ one.0 in omega (arith, a)) (let a = ltb-false _ _ two.0 in omega (arith, a)) (let a = ltb-false _ _ two.1 in omega (arith, a))
+
+-- what is a share of so many is not more than they are
+pub share : (most part n : ℕ) → n ≤ most / part → n * part ≤ most
+share most part n l =
+    let a : n * part ≤ most / part * part = mul-le-mul l (omega arith) in
+    let b = div-mul-le_self most part in
+    omega (arith, a, b)
+
+-- a window that is as small as may be has few samples
+pub least_few : (room plates : ℕ) → room ≤ 2304 → plates ≤ 16 → room * room * plates ≤ 160000000
+least_few room plates small few =
+    let a : room * room ≤ 2304 * 2304 = mul-le-mul small small in
+    let b : room * room * plates ≤ 2304 * 2304 * 16 = mul-le-mul a few in
+    omega (arith, b)
+
+-- what the greater of a number and of a lesser one is bounded by
+pub bounded : (r x other room w q : ℕ) → r ≡ max x other → x ≡ min w q → other ≡ room → r ≤ max room q
+bounded r x other room w q a b c = omega (arith, a, b, c)
+
+in_order : (a b c : ℕ) → a * b * c ≡ b * (a * c)
+in_order a b c = grind arith
+
+grouped : (a b c : ℕ) → a * b * c ≡ a * (b * c)
+grouped a b c = grind arith
+
+-- so many rows, with the least columns, have few samples
+pub rows_few : (room plates r q : ℕ) → room ≤ 2304 → plates ≤ 16 → q ≡ 160000000 / (room * plates) → r ≤ max room q → room * r * plates ≤ 160000000
+rows_few room plates r q small few e l = elim (cases_lt room r) [
+  | inl more ↦ (let m : r ≤ q = omega (arith, l, more) in
+      let t = share 160000000 (room * plates) r (subst (λ (n : ℕ). r ≤ n) e m) in
+      let o = in_order room r plates in
+      omega (arith, t, o))
+  | inr less ↦ (let m : room * r ≤ room * room = mul-le-mul (omega arith) less in
+      let t : room * r * plates ≤ room * room * plates = mul-le-mul m (omega arith) in
+      let o = least_few room plates small few in
+      omega (arith, t, o))
+]
+
+-- so many columns, with these rows, have few samples
+pub columns_few : (room rows plates samples r q : ℕ) → room * rows * plates ≤ 160000000 → samples ≤ 160000000 → q ≡ samples / (rows * plates) → r ≤ max room q → r * rows * plates ≤ 160000000
+columns_few room rows plates samples r q least few e l = elim (cases_lt room r) [
+  | inl more ↦ (let m : r ≤ q = omega (arith, l, more) in
+      let t = share samples (rows * plates) r (subst (λ (n : ℕ). r ≤ n) e m) in
+      let o = grouped r rows plates in
+      omega (arith, t, o, few))
+  | inr less ↦ (let m : r * rows ≤ room * rows = mul-le-mul less (omega arith) in
+      let t : r * rows * plates ≤ room * rows * plates = mul-le-mul m (omega arith) in
+      omega (arith, t, least))
+]

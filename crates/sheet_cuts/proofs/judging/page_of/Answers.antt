@@ -1,0 +1,11 @@
+use Rattle.std.proofs.Common.{sym, ◌∙◌}
+use Rattle.page_model.proofs.FaultLemmas.{faultless}
+use Rattle.lists.proofs.FirstSome.{some_is_none}
+use Rattle.sheet_cuts.proofs.SizeLemmas.{page_from_sheet}
+use Rattle.sheet_cuts.proofs.judging.page_of.Goals as goal
+
+pub new-requires : goal.new-requires
+new-requires c = (page_from_sheet c.args.sheet c.requires.sheet c.requires.small).parts
+
+pub unreachable-requires : goal.unreachable-requires
+unreachable-requires c = some_is_none c.in-Err.field-0.0 (sym c.in-Err.ensures.fault ∙ faultless _ (page_from_sheet c.args.sheet c.requires.sheet c.requires.small))

@@ -1,0 +1,49 @@
+// Rulers within a budget.
+
+ghost use Rattle.std.specs.Prelude.{◌≡◌, ◌⊎◌, ◌+◌, ◌*◌, ◌<◌, ◌≤◌, ◌^◌, max, length, None};
+ghost use Rattle.page_model.specs.Limits.{most_plates, most_samples, most_side};
+
+use page_model::bounds::{MOST_SAMPLES, MOST_SIDE};
+
+/// How large a window may be: its rows, and its samples in all plates together. Where that leaves
+/// no room for a halo on each side and a step beside, a window has just that room.
+#[derive(Clone, Copy, Debug, Drop, PartialEq, Eq)]
+pub struct Budget {
+    pub rows: u32,
+    pub samples: u64,
+}
+
+/// How many rows a window has at most, with so much room at least in each direction.
+pub fn most_rows(room: u32, plates: u32, budget: &Budget) -> u32
+    requires some_room { 1 ≤ room }
+    requires small_room { room ≤ 2304 }
+    requires some_plates { 1 ≤ plates }
+    requires few_plates { plates ≤ most_plates }
+    ensures room { room ≤ result }
+    ensures low { result ≤ most_side }
+    ensures few_samples { room * result * plates ≤ most_samples }
+    ensures budget { result ≤ max room budget.now.rows }
+{
+    let fit = MOST_SAMPLES / (u64::from(room) * u64::from(plates));
+    u64::from(budget.rows.min(MOST_SIDE))
+        .min(fit)
+        .max(u64::from(room)) as u32
+}
+
+/// How many columns a window of so many rows has at most.
+pub fn most_columns(room: u32, rows: u32, plates: u32, budget: &Budget) -> u32
+    requires some_room { 1 ≤ room }
+    requires small_room { room ≤ 2304 }
+    requires some_rows { 1 ≤ rows }
+    requires few_rows { rows ≤ most_side }
+    requires some_plates { 1 ≤ plates }
+    requires few_plates { plates ≤ most_plates }
+    requires few_samples { room * rows * plates ≤ most_samples }
+    ensures room { room ≤ result }
+    ensures narrow { result ≤ most_side }
+    ensures few_samples { result * rows * plates ≤ most_samples }
+    ensures budget { (result ≡ room) ⊎ (result * rows * plates ≤ budget.now.samples) }
+{
+    let fit = budget.samples.min(MOST_SAMPLES) / (u64::from(rows) * u64::from(plates));
+    u64::from(MOST_SIDE).min(fit).max(u64::from(room)) as u32
+}

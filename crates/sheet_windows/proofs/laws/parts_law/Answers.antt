@@ -1,0 +1,5 @@
+use Rattle.sheet_windows.proofs.Pages.{parts_of_sheet}
+use Rattle.sheet_windows.proofs.laws.parts_law.Goals as goal
+
+pub returns : goal.returns
+returns c = λ page is. parts_of_sheet page is
