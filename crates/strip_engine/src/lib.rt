@@ -19,3 +19,4 @@ pub use changes::{count_changed, note_taken};
 pub use counting::{count_zones, edges_in};
 pub use outcome::Outcome;
 pub use planes::put_plate_row;
+pub use sums::add_counts;

@@ -5,3 +5,5 @@
 pub mod strip;
 pub mod tints;
 pub mod whole;
+mod window;
+pub mod works;

@@ -1,62 +1,26 @@
-ghost use Rattle.std.specs.Prelude.{◌≡◌, ◌<◌, ◌≤◌, ◌+◌, ◌*◌, IfOk, OnOk, map, length};
-ghost use Rattle.page_model.specs.Page.{height, width};
-ghost use Rattle.page_model.specs.Tints.{trapped_planes};
-ghost use Rattle.sheet_windows.specs.Plans.{AreRulers, AreSmall, tile_of};
+// A strip of a sheet: all windows of some rows.
+
+ghost use Rattle.std.specs.Prelude.{◌≡◌, ◌<◌, ◌≤◌, ◌+◌, ◌*◌, All, IfOk, OnOk, map, length};
+ghost use Rattle.page_model.specs.Page.{width};
+ghost use Rattle.sheet_windows.specs.Plans.{AreRulers, AreSmall};
 ghost use Rattle.sheet_windows.specs.Spans.{AreSpans, IsSpan};
-ghost use Rattle.sheet_windows.specs.Windows.{window};
-ghost use Rattle.strip_tiles.specs.Strips.{planes_of};
+ghost use Rattle.strip_tiles.specs.Strips.{IsSomeSpan, planes_of};
+ghost use Rattle.strip_tiles.specs.Works.{IsDoneWork, IsNewWork, columns_of};
 ghost use Rattle.tile_counts.specs.Growth.{AddsArea, HasRooms};
 
+use crate::works::{take_works, trap_works, works_of};
 use lists::list::List;
 use page_model::parts::{OutOfMemory, PlaneList};
-use sheet_windows::cuts::Cut;
 use sheet_windows::spans::{Ruler, Span};
 use std::alloc::Global;
-use strip_engine::memory::push;
+use std::thread::Threads;
 use tile_counts::counts::SheetCounts;
-use tile_counts::tile::trap_tile;
 use window_pages::sheet::Sheet;
 
-/// Traps the window of these columns and rows, and adds what is counted in its core.
-fn trap_window(
-    alloc: Global,
-    sheet: &Sheet,
-    across: &Ruler,
-    down: &Ruler,
-    column: &Span,
-    row: &Span,
-    left: u32,
-    at: u32,
-    counts: &mut SheetCounts,
-) -> Result<PlaneList, OutOfMemory>
-    requires rulers { AreRulers sheet.now across.now down.now }
-    requires small { AreSmall sheet.now across.now down.now }
-    requires column { IsSpan across.now left column.now }
-    requires row { IsSpan down.now at row.now }
-    requires room { HasRooms sheet.now (column.now.core * row.now.core) counts.old }
-    ensures planes { IfOk result (λ planes. planes ≡ planes_of sheet.now row.now column.now) }
-    ensures counts { OnOk result (AddsArea sheet.now left at column.now.core row.now.core
-        counts.old counts.new) }
-{
-    let _valid = sheet.width();
-    let cut = Cut {
-        left: column.from,
-        top: row.from,
-        width: column.wide,
-        height: row.wide,
-    };
-    let core = Cut {
-        left: column.skip,
-        top: row.skip,
-        width: column.core,
-        height: row.core,
-    };
-    let page = sheet.window(alloc, &cut)?;
-    trap_tile(alloc, &page, &core, counts)
-}
-
-/// Traps the windows of a strip, column after column, and adds what is counted in the strip.
-pub fn trap_strip(
+/// Traps the windows of a strip side by side, by so many workers, and adds what is counted in the strip.
+/// Nothing that it gives depends on the workers.
+pub fn trap_strip<H: Threads + Sync>(
+    rt: &H,
     alloc: Global,
     sheet: &Sheet,
     across: &Ruler,
@@ -64,8 +28,10 @@ pub fn trap_strip(
     columns: &[Span],
     row: &Span,
     at: u32,
+    workers: usize,
     counts: &mut SheetCounts,
 ) -> Result<List<PlaneList>, OutOfMemory>
+    requires some_workers { 1 ≤ workers }
     requires rulers { AreRulers sheet.now across.now down.now }
     requires small { AreSmall sheet.now across.now down.now }
     requires columns { AreSpans across.now 0 columns.now (width sheet.now) }
@@ -76,13 +42,7 @@ pub fn trap_strip(
     ensures counts { OnOk result (AddsArea sheet.now 0 at (width sheet.now) row.now.core
         counts.old counts.new) }
 {
-    let _valid = sheet.width();
-    let mut tiles = List::new(alloc);
-    let mut left = 0;
-    for column in columns {
-        let planes = trap_window(alloc, sheet, across, down, column, row, left, at, counts)?;
-        push(&mut tiles, planes)?;
-        left += column.core;
-    }
-    Ok(tiles)
+    let mut works = works_of(alloc, sheet, across, columns)?;
+    trap_works(rt, sheet, across, down, row, at, workers, &mut works);
+    take_works(alloc, sheet, across, row, at, works, counts)
 }

@@ -1,6 +1,6 @@
 // A whole sheet, strip by strip.
 
-ghost use Rattle.std.specs.Prelude.{◌≡◌, ◌<◌, ◌≤◌, ◌+◌, ◌*◌, ◌++◌, [], ℕ, All, IfOk, OnOk, map, length, replicate, slice_index_or, slice_set};
+ghost use Rattle.std.specs.Prelude.{◌≡◌, ◌<◌, ◌≤◌, ◌+◌, ◌*◌, ◌++◌, [], ℕ, All, IfOk, OnOk, map, length, slice_index_or, slice_set};
 ghost use Rattle.page_model.specs.Page.{height, plates, width};
 ghost use Rattle.page_model.specs.Tints.{new_tints};
 ghost use Rattle.sheet_windows.specs.Plans.{AreRulers, AreSmall, tile_of};
@@ -12,11 +12,13 @@ ghost use Rattle.tile_counts.specs.Growth.{AddsArea, HasRooms};
 
 use crate::strip::trap_strip;
 use crate::tints::strip_tints;
+use crate::works::no_sheet_counts;
 use lists::list::List;
 use page_model::parts::{OutOfMemory, PlaneList, Tints};
 use sheet_windows::spans::{Ruler, Span, spans_of};
 use std::alloc::Global;
-use strip_engine::memory::{no_counts, push};
+use std::thread::Threads;
+use strip_engine::memory::push;
 use tile_counts::counts::SheetCounts;
 use window_pages::sheet::Sheet;
 
@@ -71,22 +73,6 @@ fn add_strip(
     Ok(())
 }
 
-/// No counts yet.
-fn no_sheet_counts(alloc: Global, sheet: &Sheet) -> Result<SheetCounts, OutOfMemory>
-    ensures { IfOk result (λ counts.
-        (counts.zone_samples.items ≡ replicate (length sheet.now.zones) 0)
-        × (counts.zone_changed.items ≡ replicate (length sheet.now.zones) 0)
-        × (counts.plate_changed.items ≡ replicate (plates sheet.now) 0)
-        × (counts.edges ≡ 0)) }
-{
-    Ok(SheetCounts {
-        zone_samples: no_counts(alloc, sheet.zones() as usize)?,
-        zone_changed: no_counts(alloc, sheet.zones() as usize)?,
-        plate_changed: no_counts(alloc, sheet.plates() as usize)?,
-        edges: 0,
-    })
-}
-
 /// An empty list of tints for each plate.
 fn no_tints(alloc: Global, sheet: &Sheet) -> Result<List<Tints>, OutOfMemory>
     ensures { IfOk result (λ out. AreTintsTo sheet.now 0 out) }
@@ -101,12 +87,15 @@ fn no_tints(alloc: Global, sheet: &Sheet) -> Result<List<Tints>, OutOfMemory>
 /// Traps a sheet of any sides, window by window, by rulers for its columns and rows. The tints,
 /// for each plate `width * height`, rows from the top, and the counts are those of the undivided
 /// sheet, wherever it is cut. It refuses nothing but for out of memory.
-pub fn trap_sheet(
+pub fn trap_sheet<H: Threads + Sync>(
+    rt: &H,
     alloc: Global,
     sheet: &Sheet,
     across: &Ruler,
     down: &Ruler,
+    workers: usize,
 ) -> Result<TrappedSheet, OutOfMemory>
+    requires some_workers { 1 ≤ workers }
     requires rulers { AreRulers sheet.now across.now down.now }
     requires small { AreSmall sheet.now across.now down.now }
     requires across { IsRuler across.now }
@@ -123,6 +112,7 @@ pub fn trap_sheet(
     let mut at = 0;
     for row in rows.as_slice() {
         let tiles = trap_strip(
+            rt,
             alloc,
             sheet,
             across,
@@ -130,6 +120,7 @@ pub fn trap_sheet(
             columns.as_slice(),
             row,
             at,
+            workers,
             &mut counts,
         )?;
         add_strip(

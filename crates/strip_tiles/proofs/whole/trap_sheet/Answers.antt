@@ -6,13 +6,13 @@ use Rattle.sheet_windows.specs.Spans.{AreSpans}
 use Rattle.strip_tiles.specs.Strips.{IsSomeSpan}
 use Rattle.strip_tiles.specs.Whole.{AreTintsTo}
 use Rattle.strip_tiles.proofs.Walking.{next_span, spans_end, spans_order}
-use Rattle.strip_tiles.proofs.Wholes.{AreNone, all_counted, all_some, all_tints, none_room, rows_add, some_span, strip_added, strip_room}
+use Rattle.strip_tiles.proofs.Wholes.{all_counted, all_some, all_tints, none_room, rows_add, some_span, strip_added, strip_room}
 use Rattle.tile_counts.specs.Growth.{AddsArea}
 use Rattle.tile_counts.proofs.Growing.{area_none}
 use Rattle.strip_tiles.proofs.whole.trap_sheet.Goals as goal
 
 pub loop-row-init : goal.loop-row-init
-loop-row-init c =
+loop-row-init g c =
     let sheet = c.args.sheet.now in
     let rows = c.as_slice-row-items.result.now in
     record {
@@ -22,7 +22,7 @@ loop-row-init c =
     }
 
 pub trap_strip-requires-clause-row : goal.trap_strip-requires-clause-row
-trap_strip-requires-clause-row c =
+trap_strip-requires-clause-row g c = λ κs alive.
     let sheet = c.args.sheet.now in
     let rows = c.as_slice-row-items.result.now in
     let none : Span = record { from = 0; wide = 0; skip = 0; core = 0 } in
@@ -30,24 +30,23 @@ trap_strip-requires-clause-row c =
     next.0
 
 pub trap_strip-requires-clause-room : goal.trap_strip-requires-clause-room
-trap_strip-requires-clause-room c =
+trap_strip-requires-clause-room g c = λ κs alive.
     let sheet = c.args.sheet.now in
     let rows = c.as_slice-row-items.result.now in
     let none : Span = record { from = 0; wide = 0; skip = 0; core = 0 } in
     let next = next_span c.args.down.now rows c.loop-row.row-index c.loop-row.at (height sheet) none c.loop-row-test.true c.loop-row.invariant.spans in
     let core : ℕ = (get_or rows c.loop-row.row-index none).core in
     let inside : c.loop-row.at + core ≤ height sheet = spans_order c.args.down.now (drop (c.loop-row.row-index + 1) rows) (c.loop-row.at + core) (height sheet) next.1 in
-    let z = c.in_ok-counts.ensures in
-    let empty : AreNone sheet c.in_ok-counts.counts = record { zone_samples = z.0; zone_changed = z.1; plate_changed = z.2; edges = z.3 } in
+    let empty = c.in_ok-counts.ensures in
     let valid = c.width-valid.ensures.valid in
     strip_room sheet (width sheet) c.loop-row.at core (height sheet) c.in_ok-counts.counts c.loop-row.counts (none_room sheet c.in_ok-counts.counts empty valid.narrow valid.low) c.loop-row.invariant.counts inside
 
 pub add_strip-requires-clause-columns : goal.add_strip-requires-clause-columns
-add_strip-requires-clause-columns c =
+add_strip-requires-clause-columns g c =
     subst (λ (xs : List Span). All (IsSomeSpan c.args.across.now) xs) (sym c.as_slice-in-loop-row-2.ensures.value) (all_some c.args.across.now c.in_ok-columns.columns.items 0 c.args.across.now.side c.in_ok-columns.ensures)
 
 pub add_strip-requires-clause-row : goal.add_strip-requires-clause-row
-add_strip-requires-clause-row c =
+add_strip-requires-clause-row g c =
     let sheet = c.args.sheet.now in
     let rows = c.as_slice-row-items.result.now in
     let none : Span = record { from = 0; wide = 0; skip = 0; core = 0 } in
@@ -55,11 +54,11 @@ add_strip-requires-clause-row c =
     some_span c.args.down.now c.loop-row.at (get_or rows c.loop-row.row-index none) next.0
 
 pub add_strip-requires-clause-plates : goal.add_strip-requires-clause-plates
-add_strip-requires-clause-plates c =
+add_strip-requires-clause-plates g c =
     c.loop-row.invariant.tints.count
 
 pub overflow_add-at : goal.overflow_add-at
-overflow_add-at c =
+overflow_add-at g c =
     let sheet = c.args.sheet.now in
     let rows = c.as_slice-row-items.result.now in
     let none : Span = record { from = 0; wide = 0; skip = 0; core = 0 } in
@@ -71,7 +70,7 @@ overflow_add-at c =
     omega (arith, inside, low)
 
 pub loop-row-preserved : goal.loop-row-preserved
-loop-row-preserved c =
+loop-row-preserved g c =
     let sheet = c.args.sheet.now in
     let rows = c.as_slice-row-items.result.now in
     let none : Span = record { from = 0; wide = 0; skip = 0; core = 0 } in
@@ -90,17 +89,16 @@ loop-row-preserved c =
     }
 
 pub returns-clause-tints : goal.returns-clause-tints
-returns-clause-tints c =
+returns-clause-tints g c =
     let sheet = c.args.sheet.now in
     let end : c.loop-row.at ≡ height sheet = spans_end c.args.down.now c.as_slice-row-items.result.now c.loop-row.row-index c.loop-row.at (height sheet) c.loop-row-test.false c.loop-row.invariant.spans in
     (λ p l. all_tints sheet c.loop-row.tints p l (subst (λ (n : ℕ). AreTintsTo sheet n c.loop-row.tints) end c.loop-row.invariant.tints))
 
 pub returns-clause-counts : goal.returns-clause-counts
-returns-clause-counts c =
+returns-clause-counts g c =
     let sheet = c.args.sheet.now in
     let end : c.loop-row.at ≡ height sheet = spans_end c.args.down.now c.as_slice-row-items.result.now c.loop-row.row-index c.loop-row.at (height sheet) c.loop-row-test.false c.loop-row.invariant.spans in
-    let z = c.in_ok-counts.ensures in
-    let empty : AreNone sheet c.in_ok-counts.counts = record { zone_samples = z.0; zone_changed = z.1; plate_changed = z.2; edges = z.3 } in
+    let empty = c.in_ok-counts.ensures in
     let wide : 1 ≤ width sheet = (let a = c.requires.across.some_side in let b = c.requires.rulers.wide in omega (arith, a, b)) in
     let tall : 1 ≤ height sheet = (let a = c.requires.down.some_side in let b = c.requires.rulers.tall in omega (arith, a, b)) in
     all_counted sheet c.in_ok-counts.counts c.loop-row.counts wide tall empty (subst (λ (n : ℕ). AddsArea sheet 0 0 (width sheet) n c.in_ok-counts.counts c.loop-row.counts) end c.loop-row.invariant.counts)

@@ -5,7 +5,7 @@ use Rattle.sheet_windows.specs.Plans.{tile_of}
 use Rattle.sheet_windows.proofs.PlanLemmas.{plan_law}
 use Rattle.strip_tiles.proofs.Adding.{tile_adds}
 use Rattle.tile_counts.specs.Growth.{AddsArea}
-use Rattle.strip_tiles.proofs.strip.trap_window.Goals as goal
+use Rattle.strip_tiles.proofs.window.trap_window.Goals as goal
 
 on_ok : {T E : Type 0} (P Q : Type 0) (r : Result T E) → (P → Q) → OnOk r P → OnOk r Q
 on_ok P Q (Ok x) f h = f h
