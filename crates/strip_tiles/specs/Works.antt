@@ -1,5 +1,6 @@
 -- The windows of a strip while they are trapped side by side.
-use Rattle.std.specs.Prelude.{◌≡◌, ℕ, ◌+◌, ◌<◌, ◌^◌, List, length, map, replicate, slice_index, IfSome}
+use Rattle.std.specs.Prelude.{◌≡◌, ℕ, ◌+◌, ◌<◌, ◌^◌, List, length, map, replicate, slice_index}
+use Rattle.std.specs.Prelude.{IfSome}
 use Rattle.page_model.specs.declared.parts.PageParts.{PageParts}
 use Rattle.page_model.specs.declared.parts.Plane.{Plane}
 use Rattle.page_model.specs.Page.{plates}
@@ -18,7 +19,8 @@ pub record AreNone (sheet : PageParts) (counts : SheetCounts) : Type 0 where
   pub edges : counts.edges ≡ 0
 
 -- what is counted in an area of a sheet, and nothing else
-pub record HasArea (sheet : PageParts) (left top wide rows : ℕ) (counts : SheetCounts) : Type 0 where
+pub record HasArea (sheet : PageParts) (left top wide rows : ℕ)
+    (counts : SheetCounts) : Type 0 where
   pub before : SheetCounts
   pub none : AreNone sheet before
   pub adds : AddsArea sheet left top wide rows before counts
@@ -29,7 +31,8 @@ pub record IsNewWork (sheet : PageParts) (across : Ruler) (work : WindowWork) : 
   pub none : AreNone sheet work.counts
 
 -- its planes, and what is counted in its core, of which the first row is row `at` of the sheet
-pub record HasWindow (sheet : PageParts) (row : Span) (at : ℕ) (work : WindowWork) (planes : List Plane)
+pub record HasWindow (sheet : PageParts) (row : Span) (at : ℕ) (work : WindowWork)
+    (planes : List Plane)
     : Type 0 where
   pub planes_are : planes ≡ planes_of sheet row work.column
   pub counts : HasArea sheet (work.column.from + work.column.skip) at work.column.core row.core
