@@ -1,5 +1,6 @@
 ghost use Rattle.std.specs.Prelude.{◌≡◌, ◌≤◌, IfOk, None};
 ghost use Rattle.band_claims.specs.Seating.{Seats};
+ghost use Rattle.band_claims.specs.Views.{newcomer};
 ghost use Rattle.page_model.specs.Bands.{AreBands};
 ghost use Rattle.page_model.specs.Page.{height as height_of, plates, width};
 ghost use Rattle.page_model.specs.Reach.{page_reach};
@@ -38,6 +39,7 @@ pub fn table(alloc: Global, page: &Page, bands: &Bands) -> Result<(Shared, Pass)
     requires reach { bands.now.reach2 ≡ page_reach page.now }
     ensures pass { IfOk result (λ t. Seats t.0 t.1) }
     ensures idle { IfOk result (λ t. t.1.view.held ≡ None) }
+    ensures new { IfOk result (λ t. t.1.view ≡ newcomer t.0.sheet) }
     ensures page { IfOk result (λ t. t.0.sheet.page.value ≡ page.now) }
     ensures layout { IfOk result (λ t. t.0.sheet.layout
         ≡ record { bands = bands.now; width = width page.now; plates = plates page.now }) }
