@@ -392,6 +392,9 @@ try_pictures() {
   [ -d two/trapped ] || return 0
   goes "$here/look" two traps.png --traps
   [ "$(wc -l <../told)" = 10 ] && grep -q '^most traps: --part ' ../told || wrong "look: the table: $(cat ../told)"
+  goes "$here/look" two small.png --traps --shrink 5
+  goes "$here/look" two most.png --part most:300x200
+  refused 2 "press-look: a picture is a PNG file, and 'new.jpg' has another name .*" "$here/look" two new.jpg
   goes "$here/look" two register.png --misregister 0,0 -2,1 "Warm Red=3,-1" --part most
   goes "$here/look" two usual.png --misregister
   refused 2 "press-look: --misregister: no plate .* Silver .*" "$here/look" two new.png --misregister Silver=1,1

@@ -135,6 +135,20 @@ class Painter:
         out[where] = added
         return out
 
+    def traps_made_small(self, part, times):
+        """The same made small: a point has an ink's colour where some sample of it has more of that ink."""
+        numpy, (left, top, width, height) = self.numpy, part
+        planes = [(old[top:top + height, left:left + width], new[top:top + height, left:left + width])
+                  for old, new in zip(self.before, self.after)]
+        gray = self.laid_over([mean_of(numpy, old, times) for old, _ in planes]).mean(axis=2, dtype="f4")
+        out = numpy.repeat((205 + gray * 50 / 255).astype("u1")[:, :, None], 3, axis=2)
+        for light, (old, new) in zip(self.lights, planes):
+            rows, columns = height // times * times, width // times * times
+            if rows and columns:
+                marks = (new < old)[:rows, :columns].reshape(rows // times, times, columns // times, times).any(axis=(1, 3))
+                out[marks] = light
+        return out
+
     @functools.cached_property
     def changed(self):
         """Where some plate was changed."""
@@ -143,11 +157,11 @@ class Painter:
             out |= old != new
         return out
 
-    def most(self):
-        """The part in which most samples changed, looked for in steps of 8 samples."""
+    def most(self, wide=MOST_WIDTH, high=MOST_HEIGHT):
+        """The part of that size in which most samples changed, looked for in steps of 8 samples."""
         numpy = self.numpy
         height, width = self.before[0].shape
-        wide, high = min(MOST_WIDTH, width), min(MOST_HEIGHT, height)
+        wide, high = min(wide, width), min(high, height)
         sums = numpy.zeros((height + 1, width + 1), dtype="i4")
         sums[1:, 1:] = self.changed.cumsum(axis=0, dtype="i4").cumsum(axis=1, dtype="i4")
         counts = (sums[high:, wide:] - sums[:-high, wide:] - sums[high:, :-wide] + sums[:-high, :-wide])[::8, ::8]

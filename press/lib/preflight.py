@@ -24,9 +24,9 @@ OPTIONS = {"--dpi": "one", "--box": "one", "--density": "each", "--kind": "each"
            "--icc": "one", "--trap-images": "flag", **trap_words.OPTIONS}
 # A page is drawn small in about so many samples, and at no more than so many pixels per inch.
 SMALL_SAMPLES, SMALL_DPI, LEAST_DPI = 500_000, 72, 10
-# What a page takes, as measured on a page of A4 at 600 pixels per inch in four inks (docs/PRESS.md says how): seconds a
-# sample of one processor from PDF to TIFF files; bytes a sample in trap's table; and of trapsheet's memory, whatever the size.
-SECONDS_A_SAMPLE, TABLE_BYTES, SHEET_BYTES = 8e-8, 12, 400_000_000
+# What a page takes, as measured on pages of a label and of A4 (docs/FARM.md): seconds of a processor from PDF to proof, for a
+# page and for a sample; bytes a sample in trap's table; and of trapsheet's memory, whatever the size.
+SECONDS_A_PAGE, SECONDS_A_SAMPLE, TABLE_BYTES, SHEET_BYTES = 2.5, 1e-7, 12, 400_000_000
 # From which tint on a sample has ink, and below which it has none, where one ink knocks out others: full ink is 0.
 MUCH, LITTLE = 127, 250
 KNOCK_OUT_SAMPLES = 3
@@ -263,7 +263,7 @@ class Preflight:
         """What a page takes: processor seconds, memory, and disk for plates before and after and TIFF files."""
         whole = samples > press.MOST_SAMPLES or max(width, height) > press.LONGEST_SIDE
         memory = SHEET_BYTES if whole else samples * TABLE_BYTES
-        return Sheet(page, width, height, inks, inked, samples, round(samples * SECONDS_A_SAMPLE + 1, 1), memory,
+        return Sheet(page, width, height, inks, inked, samples, round(samples * SECONDS_A_SAMPLE + SECONDS_A_PAGE, 1), memory,
                      width * height * (inks + inked))
 
     def judge_room(self, page, needs):

@@ -287,20 +287,42 @@ def program(name, build=False):
         if is_program(os.path.join(where, name)):
             return os.path.abspath(os.path.join(where, name))
         raise Refusal(NO_TOOL, f"the program {name} is not there: no {os.path.join(where, name)}")
-    built, launcher = os.path.join(top, "crates", name, "out", name), os.path.join(top, name)
-    in_repository = os.path.isdir(os.path.join(top, "crates", name)) and is_program(launcher)
+    built, released = os.path.join(top, "crates", name, "out", name), os.path.join(top, "out", "release", name)
+    in_repository = os.path.isdir(os.path.join(top, "crates", name)) and is_program(os.path.join(top, name))
     if in_repository and build:
         # Without words the launcher builds the program where need be, saying so, and the program ends at once with its usage.
-        done = run_tool([launcher], stdout=subprocess.DEVNULL, stderr=None)
+        done = run_tool([os.path.join(top, name)], stdout=subprocess.DEVNULL, stderr=None)
         if done.returncode != USAGE:
             raise Refusal(NO_TOOL, f"the program {name} could not be built")
-    for place in (built, os.path.join(os.path.dirname(os.path.dirname(top)), "bin", name), shutil.which(name)):
+    if in_repository and not is_fresh(built, top) and not is_fresh(released, top):
+        # The release is taken where it was made of these very sources.
+        release = os.path.join(top, "tools", "release")
+        if is_program(release):
+            run_tool([release, "--unpack", name])
+    fresh = [place for place in (built, released) if in_repository and is_fresh(place, top)]
+    for place in (*fresh, os.path.join(os.path.dirname(os.path.dirname(top)), "bin", name), shutil.which(name)):
         if place and is_program(place):
             return place
+    if in_repository and is_program(built):
+        warn(f"the program {name} is older than its sources (./{name} builds it)")
+        return built
     if in_repository:
-        raise Refusal(NO_TOOL, f"the program {name} is not built yet: {launcher} does it, which takes some twenty minutes; or "
-                      f"TRAP_BIN names the folder of one that is built")
+        raise Refusal(NO_TOOL, f"the program {name} is not built yet: {os.path.join(top, name)} does it, which takes some twenty "
+                      f"minutes; or TRAP_BIN names the folder of one that is built")
     raise Refusal(NO_TOOL, f"the program {name} is not there")
+
+
+def is_fresh(path, top):
+    """Whether a program of the repository is there, and not older than any text that it may be made of."""
+    if not is_program(path):
+        return False
+    made = os.path.getmtime(path)
+    for crate in os.scandir(os.path.join(top, "crates")):
+        for part in ("src", "specs", "proofs"):
+            for place, _, files in os.walk(os.path.join(crate.path, part)):
+                if any(os.path.getmtime(os.path.join(place, file)) > made for file in files):
+                    return False
+    return True
 
 
 def large_pages():
