@@ -126,7 +126,9 @@ try_outputs() {
   refused 8 "press-all: two.pdf: File exists" "$here/all" two.pdf two.pdf
   if [ "$pictures" = yes ]; then
     refused 8 "press-look: none/new.png: No such file or directory" "$here/look" --untrapped two none/new.png
-    refused 8 "press-look: hot: Is a directory" "$here/look" --untrapped two hot
+    mkdir folder.png
+    refused 8 "press-look: folder.png: Is a directory" "$here/look" --untrapped two folder.png
+    rmdir folder.png
   fi
 }
 

@@ -24,6 +24,7 @@ OPTIONS = {"--dpi": "one", "--box": "one", "--density": "each", "--kind": "each"
            "--icc": "one", "--trap-images": "flag", **trap_words.OPTIONS}
 # A page is drawn small in about so many samples, and at no more than so many pixels per inch.
 SMALL_SAMPLES, SMALL_DPI, LEAST_DPI = 500_000, 72, 10
+MOST_PAGES = 999_999
 # What a page takes, as measured on pages of a label and of A4 (docs/FARM.md): seconds of a processor from PDF to proof, for a
 # page and for a sample; bytes a sample in trap's table; and of trapsheet's memory, whatever the size.
 SECONDS_A_PAGE, SECONDS_A_SAMPLE, TABLE_BYTES, SHEET_BYTES = 2.5, 1e-7, 12, 400_000_000
@@ -100,7 +101,8 @@ class Preflight:
 
     def look_at_file(self, asked):
         """Everything that is known without drawing, for the pages that are asked for or all. Answers these pages' numbers."""
-        self.count, self.pages = sources.pages_of(self.name, self.scratch)
+        first, last = (asked[0], asked[-1]) if asked else (1, MOST_PAGES)
+        self.count, self.pages = sources.pages_of(self.name, self.scratch, first, last)
         pages = asked or list(range(1, self.count + 1))
         for page in pages:
             if page > self.count:
@@ -131,9 +133,6 @@ class Preflight:
             self.add("size", FAULT, page, f"{len(info.spots) + len(press.PROCESS)} colorants, and a job has at most "
                      f"{press.MOST_PLATES}", press.PLATES)
         self.judge_size(page, 1)
-        for font, embedded in info.fonts:
-            if not embedded and not separations.STANDARD_FONT.fullmatch(font):
-                self.add("font", WARNING, page, f"the PDF lacks the font {font}; another one stands in its place")
 
     def judge_size(self, page, inked):
         """A fault where the page is more than can be trapped. Answers how many samples it has in so many plates."""
@@ -172,7 +171,8 @@ class Preflight:
         self.judge_job(page, statements, last)
 
     def judge_job(self, page, statements, where):
-        source = press.Source(b"in.pdf", page, self.plan.dpi)
+        # Pages of the same inks and zones have the same job here, which is judged once.
+        source = press.Source(b"in.pdf", 0, self.plan.dpi)
         spots = self.pages[page].spots if self.pages.get(page) else []
         found = [separations.Found(name.encode(), b"", None, name) for name in press.PROCESS]
         for spot in spots[:press.MOST_PLATES - len(found)]:
@@ -231,7 +231,6 @@ class Preflight:
             self.add("repaired", WARNING, page, "Ghostscript finds faults in the PDF, and goes on as well as it can: " +
                      "; ".join(told.repairs))
         for font, taken in told.fonts:
-            self.findings = [one for one in self.findings if one[:3] != ("font", WARNING, page) or f"font {font};" not in one.text]
             self.add("font", WARNING, page, f"the PDF lacks the font {font}; {taken} stands in its place")
 
     def look_at_inks(self, page, found, folder):

@@ -107,7 +107,7 @@ def open_source(path, scratch, seconds=None):
     return True
 
 
-def pages_of(path, scratch, first=1, last=999_999):
+def pages_of(path, scratch, first, last):
     """How many pages in.pdf has, and what is known of those from the first to the last."""
     code = TELL_PAGES.replace("FIRST", str(first)).replace("LAST", str(last))
     done = ghostscript(scratch, ["-q", "-dNODISPLAY", "--permit-file-read=in.pdf", "-c", code])
