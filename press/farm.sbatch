@@ -10,13 +10,37 @@
 # variable PRESS names; where it is not set, in the folder press of the one that sbatch was called in; or else the installed
 # command `press` is taken. IN.pdf, OUT and the commands must have the same paths on all nodes. A page that failed is done again
 # by its number: --array=3,17.
+#
+# Where PRESS_LOCAL names a folder on the node's own disk, the page is made there, and put into OUT when it is done: with
+# --tiff-only its plates then never go over the network.
 
 set -u
 press=${PRESS:-${SLURM_SUBMIT_DIR:-.}/press}
+page=$SLURM_ARRAY_TASK_ID
 if [ -x "$press/all" ]; then
-  exec "$press/all" --page "$SLURM_ARRAY_TASK_ID" --quiet "$@"
+  all=("$press/all")
 elif command -v press >/dev/null; then
-  exec press all --page "$SLURM_ARRAY_TASK_ID" --quiet "$@"
+  all=(press all)
+else
+  echo "farm.sbatch: no press commands in $press, and no command press: set PRESS to their folder" >&2
+  exit 3
 fi
-echo "farm.sbatch: no press commands in $press, and no command press: set PRESS to their folder" >&2
-exit 3
+[ -n "${PRESS_LOCAL-}" ] || exec "${all[@]}" --page "$page" --quiet "$@"
+
+# IN.pdf and OUT come first here.
+in=$1 out=$2
+shift 2
+work=$(mktemp -d "$PRESS_LOCAL/press-XXXXXX") || exit 8
+trap 'rm -rf "$work"' EXIT
+trap 'exit 143' TERM
+"${all[@]}" --page "$page" --quiet "$in" "$work/out" "$@" &
+wait $!
+status=$?
+# What came of the page takes the place of what an earlier run made of it.
+made=("$work"/out/page-*)
+[ -d "${made[0]}" ] || exit "$status"
+final=$out/$(basename "${made[0]}") beside=$out/.press-$$-$(hostname)-$(printf '%08d' "$page")
+mkdir -p "$out" && cp -r "${made[0]}" "$beside" || { rm -rf "$beside"; exit 8; }
+rm -rf "$final" "${final%.failed}" "${final%.failed}.failed"
+mv -T "$beside" "$final" || exit 8
+exit "$status"

@@ -369,6 +369,13 @@ try_traps() {
   else
     skip sheets "the program trapsheet"
   fi
+  # A task of a cluster's array, without the cluster: on the shared disk, and on one of the node's own.
+  goes env SLURM_ARRAY_TASK_ID=2 PRESS="$here" "$here/farm.sbatch" pages.pdf array
+  mkdir local
+  goes env SLURM_ARRAY_TASK_ID=2 PRESS="$here" PRESS_LOCAL="$PWD/local" "$here/farm.sbatch" pages.pdf own --tiff-only
+  cmp <(ls array own/page-002/tiff) <(printf '%s\n' array: page-002 '' own/page-002/tiff: 'pages-2(Black).tif' 'pages-2(Cyan).tif' \
+    'pages-2(Magenta).tif' 'pages-2(Yellow).tif' pages-2.png pages-2.tif) || wrong "farm.sbatch: $(find array own)"
+  [ -z "$(ls local)" ] && rm -r array own local || wrong "farm.sbatch: something is left on the node's disk"
   if ! there parallel; then skip farm parallel; return; fi
   refused 8 "press-farm: two.pdf: File exists" "$here/farm" two.pdf two.pdf
   echo 'gsave' >pages.2.zones
