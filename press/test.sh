@@ -711,9 +711,9 @@ first_warning() { "$@" 2> >(grep -v ': warning: ' >&2); }
 # The program by its second name.
 try_trapper() {
   local plates=(Cyan:two/Cyan.pgm:c.out Warm_Red:two/Warm_Red.pgm:r.out) name=trapper
-  "$here/trapper" --help | grep -q '^Usage: trapper page' || wrong "trapper --help"
+  "$here/trapper" --help >../told && grep -q '^Usage: trapper page' ../told || wrong "trapper --help"
   if [ "$built" = no ]; then skip trapper "the program trap"; return; fi
-  "$here/trapper" --version | grep -q '^trapper: the program ' || wrong "trapper --version"
+  [[ $("$here/trapper" --version) == "trapper: the program "* ]] || wrong "trapper --version"
   goes "$here/trapper" page two/page.job rep "${plates[@]}"
   "$TRAP_BIN/trap" page two/page.job rep2 Cyan:two/Cyan.pgm:c2.out Warm_Red:two/Warm_Red.pgm:r2.out
   cmp rep rep2 && cmp c.out c2.out && cmp r.out r2.out || wrong "trapper: other bytes than trap's"

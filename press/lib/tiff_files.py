@@ -5,6 +5,7 @@ import urllib.parse
 from collections import namedtuple
 
 import press
+import sources
 from press import Refusal
 
 Head = namedtuple("Head", "width height bits polarity channels dpi")
@@ -55,7 +56,6 @@ def values_of(file, order, kind, count, field):
 
 def separation_head(path):
     """The head of a file that is one plate."""
-    import sources
     sources.need_regular(path)
     head = head_of(path)
     if head is None:
