@@ -835,7 +835,7 @@ rm -rf "$out"
 mkdir -p "$out/work" "$out/programs"
 # The programs that are built, or those of TRAP_BIN. Nothing here builds one. trapsheet is left out: what it takes is tried by itself.
 for one in trap presscheck; do
-  for place in "${TRAP_BIN:+$TRAP_BIN/$one}" "$top/crates/$one/out/$one"; do
+  for place in "${TRAP_BIN:+$TRAP_BIN/$one}" "$top/crates/$one/out/$one" "$top/out/release/$one"; do
     if [ -n "$place" ] && [ -x "$place" ]; then ln -s "$(readlink -f "$place")" "$out/programs/$one"; break; fi
   done
 done
