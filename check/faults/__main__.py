@@ -18,11 +18,19 @@ from .cases import CASES
 SHOWN = 5
 
 
+def said_by(trial):
+    """What was wrong with a trial, or nothing."""
+    try:
+        return trial[1]()
+    except OSError as error:
+        return "the trial itself failed: %s" % error
+
+
 def tried(name, trials, side):
     """Runs the trials. How many there were, and those that went wrong."""
     trials = list(trials)
     with ThreadPoolExecutor(side) as workers:
-        found = list(workers.map(lambda trial: trial[1](), trials))
+        found = list(workers.map(said_by, trials))
     wrong = [(about, said) for (about, _), said in zip(trials, found) if said]
     print("%s: %d trials, %d wrong" % (name, len(trials), len(wrong)))
     for about, said in wrong[:SHOWN]:
@@ -33,12 +41,14 @@ def tried(name, trials, side):
     return len(trials), len(wrong)
 
 
-def groups(names, library, is_short):
+def groups(names, room, is_short):
     """The trials of the programs that are built, by what they try."""
+    library = runs.library_in(room)
     for name in names:
         if not runs.program_of(name):
             print("%s: skipped, it is not built" % name)
             continue
+        runs.copy_for_all(name, room)
         for case in CASES:
             if case.program == name:
                 yield "%s %s" % (name, " ".join(case.words)), Trials(case, library, is_short).all()
@@ -57,7 +67,7 @@ def main():
     names = asked.programs or list(dict.fromkeys(case.program for case in CASES))
     count = bad = 0
     with tempfile.TemporaryDirectory() as room:
-        for name, trials in groups(names, runs.library_in(room), asked.short):
+        for name, trials in groups(names, room, asked.short):
             made, wrong = tried(name, trials, asked.side)
             count, bad = count + made, bad + wrong
     for what, why in places.skipped():

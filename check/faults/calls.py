@@ -10,6 +10,8 @@ ERRORS = {
     "look": [errno.EIO, errno.EACCES],
     "probe": [errno.EIO, errno.EACCES, errno.EROFS, errno.ENOMEM],
     "create": [errno.EIO, errno.ENOSPC, errno.EDQUOT, errno.EACCES, errno.EROFS],
+    "truncate": [errno.EIO, errno.ENOSPC],
+    "link": [errno.EIO, errno.EACCES],
     "mode": [errno.EIO, errno.EPERM],
     "write": [errno.EIO, errno.ENOSPC, errno.EDQUOT, errno.EFBIG, errno.ENOMEM],
     "sync": [errno.EIO, errno.ENOSPC, errno.EDQUOT],
@@ -102,9 +104,12 @@ class Trials:
         self.case, self.library, self.is_short = case, library, is_short
         self.plain, _ = runs.with_faults(case, library, "")
         self.before = before_of(case)
-        if self.plain.status != 0 or {name for _, name in renamed(self.plain)} != set(case.writes):
+        if self.plain.status != 0 or {name for _, name in renamed(self.plain)} != set(case.writes) - set(case.links):
             raise SystemExit("check/faults: a plain run of %s %s ends with %s, or not all that it does is seen"
                              % (case.program, " ".join(case.words), self.plain.status))
+        for number, name in renamed(self.plain):
+            if self.plain.calls[number - 2].name != "sync" or runs.final_of(self.plain.calls[number - 2].file) != name:
+                raise SystemExit("check/faults: %s is not written through before it takes its name" % name)
 
     def all(self):
         """All trials, each as a text that says what it does and a call that says what was wrong."""

@@ -6,8 +6,9 @@ from refused import PAIR, SET, TWICE, ZONES, job, plate
 OLD = b"what stood here before\n"
 
 # A program's words; the files before, by their names, and those of them that are outputs; for each input and for each output
-# what is told of a fault of it. A list of jobs has for each name the number of its line, and a run how many pages it has.
-Case = namedtuple("Case", "program words files old reads writes lines pages", defaults=({}, 0))
+# what is told of a fault of it. A list of jobs has for each name the number of its line, and a run how many pages it has. Links
+# have what they lead to.
+Case = namedtuple("Case", "program words files old reads writes lines pages links", defaults=({}, 0, {}))
 
 INPUTS = {"job": "job", "Cyan": "plate 0", "Magenta": "plate 1", "list": "list", "set": "set"}
 OUTPUTS = {"c.out": "plate 0", "m.out": "plate 1", "report": "report", "set": "set"}
@@ -61,6 +62,9 @@ CASES = [
     TRAP,
     case("trap", ["page", "--workers", "2", "--band", "1", "job", "out/report", "Cyan:Cyan:Cyan"], ZONES, [],
          writes={"Cyan": "write fault: plate 0\n", "out/report": "write fault: report\n"}),
+    case("trap", PAGE, PAIR, ["c.out", "m.out", "report"], ["report"], links={"c.out": "link", "link": "out/c"},
+         writes={"c.out": "write fault: plate 0\n", "link": "write fault: plate 0\n", "out/c": "write fault: plate 0\n",
+                 "m.out": "write fault: plate 1\n", "report": "write fault: report\n"}),
     case("trap", ["sample", "0", "16", "8", "2"], {}, []),
     TRAPS,
     APPLY,

@@ -26,7 +26,7 @@ class Place:
         self.plain = plain_of(case)
         order = list(case.writes)
         self.earlier = set(order[:order.index(name)]) if name in order else set()
-        self.room = tempfile.mkdtemp()
+        self.room = tempfile.mkdtemp(dir=runs.ROOM)
         self.folder = os.path.join(self.room, "case")
         os.mkdir(self.folder)
         runs.fill(self.folder, case)

@@ -21,15 +21,11 @@ def as_nobody(place):
     if not shutil.which("setpriv"):
         skip("rights that are missing", "this is root, and there is no setpriv")
         return None
-    # A copy stands where every user may run it.
-    program = os.path.join(place.room, "program")
-    shutil.copy(runs.program_of(place.case.program), program)
-    os.chmod(program, 0o755)
     os.chmod(place.room, 0o755)
     for folder, _, names in os.walk(place.folder):
         for name in ["."] + names:
-            os.chown(os.path.join(folder, name), NOBODY, NOBODY)
-    return ["setpriv", "--reuid", str(NOBODY), "--regid", str(NOBODY), "--clear-groups"], program
+            os.lchown(os.path.join(folder, name), NOBODY, NOBODY)
+    return ["setpriv", "--reuid", str(NOBODY), "--regid", str(NOBODY), "--clear-groups"], runs.copies[place.case.program]
 
 
 def refused_as_nobody(place, path, mode):

@@ -14,14 +14,28 @@ PROGRAMS = os.environ.get("CHECK_PROGRAMS")
 Call = namedtuple("Call", "number name file length")
 Ended = namedtuple("Ended", "status told files calls")
 
+# Cases stand in memory where that can be had, since each file is written through.
+ROOM = "/dev/shm" if os.access("/dev/shm", os.W_OK | os.X_OK) else None
+
 BESIDE = re.compile(r"(^|.*/)\.(.*)\.trap-[0-9]+")
 KEPT_MODE = 0o640
+
+# Copies of programs, by their names.
+copies = {}
 
 
 def program_of(name):
     """The built program, or None."""
     file = os.path.join(PROGRAMS, name) if PROGRAMS else os.path.join(CRATES, name, "out", name)
     return os.path.realpath(file) if os.path.isfile(file) else None
+
+
+def copy_for_all(name, room):
+    """Copies the built program there, where users without rights can run it."""
+    os.chmod(room, 0o755)
+    copies[name] = os.path.join(room, name)
+    shutil.copy(program_of(name), copies[name])
+    os.chmod(copies[name], 0o755)
 
 
 def library_in(room):
@@ -72,6 +86,8 @@ def fill(folder, case):
         with open(path, "wb") as file:
             file.write(data)
         os.chmod(path, KEPT_MODE if name in case.old else 0o644)
+    for name, to in case.links.items():
+        os.symlink(to, os.path.join(folder, name))
 
 
 def start(case, folder, faults="", library=None, log=None, before=(), program=None, **more):
@@ -110,7 +126,7 @@ def calls_in(log):
 
 def with_faults(case, library, faults, is_logged=True):
     """How a run with these faults ends, in a new folder; and what a second run without a fault comes to in the same folder."""
-    with tempfile.TemporaryDirectory() as room:
+    with tempfile.TemporaryDirectory(dir=ROOM) as room:
         folder, log = os.path.join(room, "case"), os.path.join(room, "log") if is_logged else None
         os.mkdir(folder)
         fill(folder, case)
@@ -121,7 +137,7 @@ def with_faults(case, library, faults, is_logged=True):
 
 def room_for(case):
     """A new folder with the case's files."""
-    folder = tempfile.mkdtemp()
+    folder = tempfile.mkdtemp(dir=ROOM)
     fill(folder, case)
     return folder
 
