@@ -215,7 +215,7 @@ def the_input(place):
     whole = {**{one: (before.get(one), place.plain.files[one]) for one in place.plain.files}, place.name: (to,),
              name: (before[name], (0o644, place.data()))}
     bad = [one for one in ended.files if ended.files[one] not in whole.get(one, ())]
-    return "" if ended.status == 4 and not bad else "status %s, not whole: %s" % (ended.status, ", ".join(bad))
+    return "" if ended.status in (0, 4) and not bad else "status %s, not whole: %s" % (ended.status, ", ".join(bad))
 
 
 def a_missing_input(place):

@@ -3,6 +3,7 @@ import os
 import shutil
 import subprocess
 import tempfile
+import time
 
 from . import runs
 from .calls import differs
@@ -126,6 +127,14 @@ class Disk:
             except OSError:
                 file.truncate(max(0, size - pages * PAGE_SIZE))
 
+    def made_read_only(self):
+        """It is busy while a process that another trial begins has yet the files that this one wrote."""
+        for _ in range(100):
+            if subprocess.run(["mount", "-o", "remount,ro", self.folder], capture_output=True).returncode == 0:
+                return True
+            time.sleep(0.05)
+        return False
+
     def judged(self):
         """Runs the case. The files before the first that has no room are new, and the others as they were."""
         plain, before = plain_of(self.case), runs.held(self.folder)
@@ -172,7 +181,8 @@ def a_read_only_disk(case):
     with Disk(case) as disk:
         if not disk.is_there:
             return ""
-        subprocess.run(["mount", "-o", "remount,ro", disk.folder], check=True)
+        if not disk.made_read_only():
+            return "the disk could not be made read-only"
         wrong, status = disk.judged()
         return wrong or ("" if status in (6, 9) else "status %s" % status)
 

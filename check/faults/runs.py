@@ -107,7 +107,7 @@ def end(running, folder, calls=()):
     except subprocess.TimeoutExpired:
         running.kill()
         running.communicate()
-        return Ended("no end within a minute", b"", held(folder), calls)
+        return Ended("none within a minute", "", held(folder), calls)
     return Ended(running.returncode, (told or b"").decode("utf-8", "replace"), held(folder), calls)
 
 
