@@ -11,7 +11,7 @@ import sys
 import tempfile
 from concurrent.futures import ThreadPoolExecutor
 
-from . import disks, places, runs
+from . import places, runs, trials
 from .calls import Trials
 from .cases import CASES
 
@@ -26,19 +26,19 @@ def said_by(trial):
         return "the trial itself failed: %s" % error
 
 
-def tried(name, trials, side):
-    """Runs the trials. How many there were, and those that went wrong."""
-    trials = list(trials)
+def tried(name, group, side):
+    """Runs the trials of a group. How many there were, and how many went wrong."""
+    group = list(group)
     with ThreadPoolExecutor(side) as workers:
-        found = list(workers.map(said_by, trials))
-    wrong = [(about, said) for (about, _), said in zip(trials, found) if said]
-    print("%s: %d trials, %d wrong" % (name, len(trials), len(wrong)))
+        found = list(workers.map(said_by, group))
+    wrong = [(about, said) for (about, _), said in zip(group, found) if said]
+    print("%s: %d trials, %d wrong" % (name, len(group), len(wrong)))
     for about, said in wrong[:SHOWN]:
         print("  %s: %s" % (about, said))
     if len(wrong) > SHOWN:
         print("  and %d more" % (len(wrong) - SHOWN))
     sys.stdout.flush()
-    return len(trials), len(wrong)
+    return len(group), len(wrong)
 
 
 def groups(names, room, is_short):
@@ -52,7 +52,7 @@ def groups(names, room, is_short):
         for case in CASES:
             if case.program == name:
                 yield "%s %s" % (name, " ".join(case.words)), Trials(case, library, is_short).all()
-        yield "%s, where the disk stands in the way" % name, disks.trials(name, is_short)
+        yield "%s, where the disk stands in the way" % name, trials.all_of(name, is_short)
 
 
 def main():
@@ -67,8 +67,8 @@ def main():
     names = asked.programs or list(dict.fromkeys(case.program for case in CASES))
     count = bad = 0
     with tempfile.TemporaryDirectory() as room:
-        for name, trials in groups(names, room, asked.short):
-            made, wrong = tried(name, trials, asked.side)
+        for name, group in groups(names, room, asked.short):
+            made, wrong = tried(name, group, asked.side)
             count, bad = count + made, bad + wrong
     for what, why in places.skipped():
         print("skipped: %s: %s" % (what, why))

@@ -76,6 +76,7 @@ CASES = [
 # The same page by another job, and another set, for two runs into the same names.
 OTHER_JOB = job("/TrapWidth 2 /Enabled false")
 OTHER_SET = b"trap set\npage 6 1 255 plates 2\nrun 0 3 2 9 9\nend\n"
+TWICE_OTHER = TWICE["job"].replace(b"/TrapWidth 2", b"/TrapWidth 2 /Enabled false")
 BEGINNINGS = {"job": OTHER_JOB, "set": OTHER_SET}
 
 
@@ -87,13 +88,11 @@ def other_of(one):
         one = one._replace(files={**one.files, "other": data})
         return one, one._replace(words=["other" if word == name else word for word in one.words])
     text = one.files["list"].replace(b"b.m:b.m ", b"b.m:b.m.out ")
-    files = {**one.files, "list": text, "other.job": OTHER_JOB, "other": text.replace(b"a.job", b"other.job").replace(b"b.job", b"other.job")}
+    other = text.replace(b"a.job", b"other.job").replace(b"b.job", b"other.job")
+    files = {**one.files, "list": text, "other.job": OTHER_JOB, "other": other}
     writes = {"b.m.out" if name == "b.m" else name: line for name, line in one.writes.items()}
     one = one._replace(files=files, writes=writes)
     return one, one._replace(words=["2", "other"])
-
-
-TWICE_OTHER = TWICE["job"].replace(b"/TrapWidth 2", b"/TrapWidth 2 /Enabled false")
 
 
 def larger(one):
@@ -118,4 +117,5 @@ def named(report, is_right):
 
 NAMES = [named("r" * 200, True), named("r" * 201, True), named("r" * 255, True), named("r" * 256, False), named("report/", False),
          named("out/..", False), named(".", False), named("./" * 1500 + "report", True), named("./" * 2045 + "report", False),
-         named("job/report", False), named("out//report", True)]
+         named("job/report", False),
+         named("out//report", True), named("/dev/full", False)]

@@ -26,7 +26,7 @@ def some(choices, is_short):
     return choices if not is_short or len(choices) < 3 else [choices[0], choices[-1]]
 
 
-def trials(program, is_short):
+def all_of(program, is_short):
     """All trials of a program, each as a text that says what it does and a call that says what was wrong."""
     for case in CASES:
         if case.program != program:
