@@ -3,4 +3,7 @@
 # faults.sh [PROGRAM ..] [--short] [--side N]
 set -eu
 here=$(cd "$(dirname "$(readlink -f "$0")")" && pwd)
-PYTHONPATH=$here exec python3 -m faults "$@"
+export PYTHONPATH=$here
+# The disks that it mounts are seen by no one else, and are gone with it.
+if unshare --mount true 2>/dev/null; then exec unshare --mount python3 -m faults "$@"; fi
+exec python3 -m faults "$@"
