@@ -40,11 +40,11 @@ fn ends_so(
 }
 
 // From which call of the tray on a failed one is told so: each file is begun by a call and read to its end by a last one. The
-// job takes four reads of a grain, each plate eleven for the bytes of its header and one for its samples.
+// job takes five reads of a grain, each plate eleven for the bytes of its header and one for its samples.
 const LINES: [(u64, &str); 3] = [
     (0, "read fault: job\n"),
-    (6, "read fault: plate 0\n"),
-    (20, "read fault: plate 1\n"),
+    (7, "read fault: plate 0\n"),
+    (21, "read fault: plate 1\n"),
 ];
 
 // What is told where that call of the tray fails.
@@ -60,7 +60,7 @@ fn line_at(call: u64) -> &'static str {
 
 #[test]
 fn each_read_fails_in_turn(rt: HostRuntime) -> Result<(), Fail> {
-    for call in 0..34u64 {
+    for call in 0..35u64 {
         let case = Failing {
             of_tray: Some(call),
             ..USUAL
@@ -69,7 +69,7 @@ fn each_read_fails_in_turn(rt: HostRuntime) -> Result<(), Fail> {
         assert!(rt; ends_so(&rt, rt.alloc(), case, 5, line)?, "call {call}");
     }
     let case = Failing {
-        of_tray: Some(34),
+        of_tray: Some(35),
         ..USUAL
     };
     assert!(rt; ends_so(&rt, rt.alloc(), case, 0, TOLD)?);
