@@ -1,5 +1,5 @@
 # Installs what was built or released, and packs it. Programs are not built here: that is done by ./trap, or by rt. What is not
-# built is taken from the release, where that was made of these very sources.
+# built, or is older than its sources, is taken from the release, where that was made of these very sources.
 #
 #   make install PREFIX=/usr/local   the programs, the press commands, the manual pages, and completion for bash
 #   make uninstall PREFIX=/usr/local
@@ -8,25 +8,26 @@
 #   make lint                        the manual pages by mandoc, the shell's scripts by shellcheck where it is there
 #
 # A program comes in as soon as it is built, and a page of man/ as soon as it is there. With BIN=DIR the programs are taken from
-# that folder.
+# that folder. In PREFIX/bin stands a script for each, which gives it large pages of memory (tools/installed).
 
 PREFIX ?= /usr/local
 DESTDIR ?=
 BIN ?=
 
-PROGRAMS := trap trapset traprun presscheck trappool
-ifeq ($(BIN)$(wildcard crates/trap/out/trap),)
-  ifneq ($(filter install deb,$(MAKECMDGOALS)),)
-    BIN := $(if $(shell tools/release --unpack trap 2>&1),out/release)
-  endif
+PROGRAMS := trap trapset traprun presscheck trappool trapsheet
+ifneq ($(BIN),)
+  BUILT := $(wildcard $(PROGRAMS:%=$(BIN)/%))
+else ifneq ($(filter install deb built,$(MAKECMDGOALS)),)
+  BUILT := $(foreach one,$(PROGRAMS),$(shell tools/launch --there $(one)))
 endif
-BUILT := $(foreach one,$(PROGRAMS),$(wildcard $(if $(BIN),$(BIN)/$(one),crates/$(one)/out/$(one))))
 COMMANDS := check plates trap tiff look proof all farm farm.sbatch watch slurm-here press trapper
 PAGES1 := $(wildcard man/*.1)
 PAGES5 := $(wildcard man/*.5)
 COMPLETIONS := $(wildcard press/completion/*)
 
-PRESS := $(PREFIX)/lib/trap/press
+OWN := $(PREFIX)/lib/trap
+PRESS := $(OWN)/press
+VERSION := $(shell cat VERSION)
 MAN := $(PREFIX)/share/man
 COMPLETION := $(PREFIX)/share/bash-completion/completions
 DOC := $(PREFIX)/share/doc/trap
@@ -48,9 +49,11 @@ built:
 	@$(if $(filter trap,$(notdir $(BUILT))),:,echo "make: the program trap is not built, and the release is not of these sources (run ./trap once)" >&2; exit 1)
 
 install: built $(if $(LIBRARY),install-library install-headers)
-	install -d $(DESTDIR)$(PREFIX)/bin $(DESTDIR)$(PRESS)/lib $(DESTDIR)$(MAN)/man1 $(DESTDIR)$(MAN)/man5 \
-	  $(DESTDIR)$(PRESS)/inks $(DESTDIR)$(PRESS)/presets $(DESTDIR)$(COMPLETION) $(DESTDIR)$(DOC)
-	install -m 755 $(BUILT) $(DESTDIR)$(PREFIX)/bin
+	install -d $(DESTDIR)$(PREFIX)/bin $(DESTDIR)$(OWN)/programs $(DESTDIR)$(PRESS)/lib $(DESTDIR)$(MAN)/man1 \
+	  $(DESTDIR)$(MAN)/man5 $(DESTDIR)$(PRESS)/inks $(DESTDIR)$(PRESS)/presets $(DESTDIR)$(COMPLETION) $(DESTDIR)$(DOC)
+	install -m 755 $(BUILT) $(DESTDIR)$(OWN)/programs
+	for one in $(notdir $(BUILT)); do install -m 755 tools/installed $(DESTDIR)$(PREFIX)/bin/$$one || exit 1; done
+	install -m 644 VERSION $(DESTDIR)$(OWN)
 	install -m 755 $(COMMANDS:%=press/%) $(DESTDIR)$(PRESS)
 	install -m 644 press/lib/*.py press/lib/press.sh press/lib/proof.css press/lib/proof.js $(DESTDIR)$(PRESS)/lib
 	install -m 644 press/inks/*.inks $(DESTDIR)$(PRESS)/inks
@@ -75,7 +78,7 @@ install-headers:
 	install -m 644 library/out/libtrap.a $(DESTDIR)$(LIBDIR)
 	ln -sf libtrap.so.1 $(DESTDIR)$(LIBDIR)/libtrap.so
 	install -m 644 library/trap.h $(DESTDIR)$(INCLUDEDIR)
-	sed 's|@PREFIX@|$(PREFIX)|; s|@LIBDIR@|$(LIBDIR)|; s|@INCLUDEDIR@|$(INCLUDEDIR)|' library/trap.pc.in \
+	sed 's|@PREFIX@|$(PREFIX)|; s|@LIBDIR@|$(LIBDIR)|; s|@INCLUDEDIR@|$(INCLUDEDIR)|; s|@VERSION@|$(VERSION)|' library/trap.pc.in \
 	  >$(DESTDIR)$(LIBDIR)/pkgconfig/trap.pc
 
 uninstall:
@@ -95,11 +98,14 @@ deb: built
 	$(if $(LIBRARY),$(MAKE) --no-print-directory install-headers DESTDIR=$(CURDIR)/out/deb-dev $(DEB_PLACES))
 	$(if $(LIBRARY),install -d out/deb-dev/usr/share/doc/libtrap-dev/examples)
 	$(if $(LIBRARY),install -m 644 docs/LIBRARY.md out/deb-dev/usr/share/doc/libtrap-dev)
-	$(if $(LIBRARY),install -m 644 examples/library/page.c out/deb-dev/usr/share/doc/libtrap-dev/examples)
+	$(if $(LIBRARY),install -m 644 examples/library/page.c examples/library/bands.c examples/library/rip.c examples/library/plates.h \
+	  out/deb-dev/usr/share/doc/libtrap-dev/examples)
 	$(if $(LIBRARY),press/lib/deb-control --dev out/deb-dev && dpkg-deb --build --root-owner-group out/deb-dev out)
 
 lint:
-	cd man && ! mandoc -Tlint *.[15] 2>/dev/null | grep -v 'referenced manual not found'
+	cd man && ! mandoc -Tlint *.[15] 2>/dev/null | grep -v 'referenced manual not found\|operating system explicitly specified'
+	! grep -L '^\.Os trap $(VERSION)$$\|^\.TH .*"trap $(VERSION)"' man/*.[15] | grep .
+	if command -v pandoc >/dev/null; then tools/pages --check; fi
 	if command -v shellcheck >/dev/null; then \
 	  shellcheck -x -e SC2015 press/farm.sbatch press/slurm-here press/press press/*.sh press/lib/deb-control tools/prove tools/launch \
-	  tools/release tools/stamp test library/build check/library.sh examples/library/run.sh; fi
+	  tools/release tools/stamp tools/pages tools/installed tools/test-launch test library/build check/library.sh examples/library/run.sh; fi

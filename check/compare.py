@@ -25,7 +25,7 @@ from slow.outside import Held
 
 HERE = os.path.dirname(os.path.abspath(__file__))
 TOP = os.path.dirname(HERE)
-LONGEST_RUN = 60
+LONGEST_RUN = 180
 
 # What a run leaves: its status, what is told, and the files by name.
 Outcome = namedtuple("Outcome", "status told files")

@@ -33,6 +33,8 @@ LINES = {
                 "page #: plate #: Ends", *WHOLE_JOB_LINES, *PLATE_LINES[:7],
                 *("page #: " + line for line in [*JOB_LINES, *PLATE_LINES[:7], *PAGE_LINES, READ_LINES[1], *WRITE_LINES]
                   if line not in WHOLE_JOB_LINES)],
+    "trapsheet": ["", "usage", "untold", "sheet: Far in zone #", "sheet: Uncut",
+                  *(line for line in GATHER_LINES if "TooManySamples" not in line), *WRITE_LINES],
     "presscheck": ["result", "usage", "untold", *GATHER_LINES],
     "trappool": ["usage", "untold", "read fault: list", "list: BadLine #", "job #: done",
                  *("job #: " + line for line in [*GATHER_LINES, *WRITE_LINES])],

@@ -198,6 +198,23 @@ int fstat(int file, struct stat *to) {
   return fails(what) ? -1 : done(what, BELOW(int, "fstat", int, struct stat *)(file, to));
 }
 
+/* The programs begin a file again by it, and ask for no place. */
+off_t lseek(int file, off_t to, int from) {
+  const char *name = name_of(file);
+  if (!name)
+    return BELOW(off_t, "lseek", int, off_t, int)(file, to, from);
+  const char *what = next("seek", name, 0);
+  return fails(what) ? -1 : done(what, BELOW(off_t, "lseek", int, off_t, int)(file, to, from));
+}
+
+int lchown(const char *path, uid_t owner, gid_t group) {
+  int (*below)(const char *, uid_t, gid_t) = BELOW(int, "lchown", const char *, uid_t, gid_t);
+  if (!is_own(path))
+    return below(path, owner, group);
+  const char *what = next("owner", path, 0);
+  return fails(what) ? -1 : done(what, below(path, owner, group));
+}
+
 static int look_at(const char *real, int folder, const char *path, void *to, int flags) {
   int (*below)(int, const char *, void *, int) = BELOW(int, real, int, const char *, void *, int);
   const char *name = *path ? (is_own(path) ? path : NULL) : name_of(folder);

@@ -1,15 +1,18 @@
 #!/usr/bin/env python3
 """Compares the library with the slow program, through Python: library.py COUNT SEED.
 
-Each case is a call of an export with memory of its own, guards before and after each buffer, and arguments of which some do not
-fit: the status, the text, its length, the samples, the gaps between rows and the guards have to be as the slow program says. Where
-the arguments fit, the package's own calls have to give the same. The library is the one that TRAP_LIBRARY names, or
+Each case is a page by the call of a page, and then a window of that page by the call of a window, with memory of its own, guards
+before and after each buffer, and arguments of which some do not fit: the status, the text, its length, the samples, the gaps between
+rows and the guards have to be as the slow program says. Of a window it looks at the whole page, and takes what lies in the core.
+Where the arguments fit, the package's own calls have to give the same. The library is the one that TRAP_LIBRARY names, or
 library/out/libtrap.so.1.
 """
 import array
 import ctypes
+import math
 import os
 import random
+import re
 import sys
 from collections import Counter, namedtuple
 
@@ -25,15 +28,19 @@ from slow.plates import Plate  # noqa: E402
 from slow.refusals import Refusal  # noqa: E402
 from slow.reports import report  # noqa: E402
 from slow.rule import rule_of  # noqa: E402
-from trapping._library import export  # noqa: E402
+from trapping._library import Place, export  # noqa: E402
 
 GUARD = b"\xa5" * 64
 DELIMITERS = b"()<>[]{}/%"
 MOST_SIDE, MOST_SAMPLES = 16_384, 160_000_000
+MOST_SHEET_SIDE = 262_144
+MOST_COORDINATE = 10 ** 10  # a million points
 MOST = {"B": 255, "H": 65_535}
 
 # The arguments of a call: the type of the samples as arrays have it, and the room for the text.
 Call = namedtuple("Call", "job names numbers width height step maxval code room")
+# Where a window stands on its sheet, and its core within it.
+Stands = namedtuple("Stands", "sheet_width sheet_height left top core_left core_top core_width core_height")
 # What a call gives.
 Answer = namedtuple("Answer", "status text numbers")
 
@@ -105,23 +112,25 @@ def content(memory):
     return raw[size:-size] if raw[:size] == GUARD == raw[-size:] else None
 
 
-def found(call):
-    """What the export gives: the status, what stands in the text's buffer, its length, and the samples."""
+def found(call, stands=None):
+    """What the export gives: the status, what stands in the text's buffer, its length, and the samples. It is that of a window
+    where it is told how that stands."""
     samples = guarded(array.array(call.code, call.numbers).tobytes())
     text, length = guarded(b"\0" * call.room), ctypes.c_size_t(77)
-    status = export("trap_planes8" if call.code == "B" else "trap_planes16")(
+    place = () if stands is None else (ctypes.byref(Place(*stands)),)
+    status = export("trap_%s%d" % ("planes" if stands is None else "window", 8 if call.code == "B" else 16))(
         call.job, len(call.job), call.names, len(call.names), ctypes.addressof(samples) + len(GUARD), len(call.numbers),
-        call.width, call.height, call.step, call.maxval, ctypes.addressof(text) + len(GUARD), call.room, ctypes.byref(length))
+        call.width, call.height, call.step, call.maxval, *place, ctypes.addressof(text) + len(GUARD), call.room, ctypes.byref(length))
     after = array.array(call.code)
     after.frombytes(content(samples) or b"")
     return status, content(text), length.value, list(after)
 
 
-def is_right(call, answer):
+def is_right(call, answer, stands=None):
     """Whether the export gives the answer."""
     text = answer.text.encode("latin-1")
     put = text[:call.room] + b"\0" * (call.room - len(text))
-    return found(call) == (answer.status, put, len(text), answer.numbers)
+    return found(call, stands) == (answer.status, put, len(text), answer.numbers)
 
 
 def by_package(call, planes_apart):
@@ -186,6 +195,188 @@ def made(rng):
     return spoiled(call, rng) if rng.random() < 0.14 else call
 
 
+# Windows
+
+def is_on_sheet(call, stands):
+    """Whether a window lies on its sheet, and its core in the window."""
+    return (stands.left + call.width <= stands.sheet_width <= MOST_SHEET_SIDE
+            and stands.top + call.height <= stands.sheet_height <= MOST_SHEET_SIDE
+            and stands.core_left + stands.core_width <= call.width and stands.core_top + stands.core_height <= call.height)
+
+
+def halo_of(job):
+    """How far a window goes on beyond its core."""
+    widest = max([zone.params["TrapWidth"] * max(zone.params["BlackWidth"], 10_000) * job.resolution // (36 * 10 ** 8)
+                  for zone in job.zones if zone.params["Enabled"]], default=0)
+    return max(1, (widest + 1) // 2)
+
+
+def is_wide(call, stands, halo):
+    """Whether a window goes on so far on each side that is no border of the sheet."""
+    return ((stands.left == 0 or stands.core_left >= halo) and (stands.top == 0 or stands.core_top >= halo)
+            and (stands.left + call.width == stands.sheet_width or stands.core_left + stands.core_width + halo <= call.width)
+            and (stands.top + call.height == stands.sheet_height or stands.core_top + stands.core_height + halo <= call.height))
+
+
+def corner(call, stands):
+    """How many columns the window's lower left corner stands from the sheet's, and how many rows."""
+    return stands.left, stands.sheet_height - stands.top - call.height
+
+
+def step_of(resolution):
+    return resolution // math.gcd(resolution, 720_000)
+
+
+def far_zone(job, call, stands):
+    """The first zone with a vertex too far from the window's corner, or None."""
+    right, up = [720_000 * side // job.resolution if job.resolution else 0 for side in corner(call, stands)]
+    for number, zone in enumerate(job.zones):
+        if any(abs(x - right) > MOST_COORDINATE or abs(y - up) > MOST_COORDINATE for path in zone.path for x, y in path):
+            return number
+    return None
+
+
+def judged_window(call, stands):
+    """Raises the refusal that a window's call ends with, if any."""
+    name = unfit(call) or (None if is_on_sheet(call, stands) else "Place")
+    if name:
+        raise Refusal("call: %s" % name, 2)
+    job = judged_job(call.job)
+    has_step = len(job.zones) == 1 or all(side % step_of(job.resolution) == 0 for side in corner(call, stands))
+    if not (is_wide(call, stands, halo_of(job)) and has_step):
+        raise Refusal("call: Place", 2)
+    far = far_zone(job, call, stands)
+    if far is not None:
+        raise Refusal("sheet: Far in zone %d" % far, 4)
+    page_of(call)
+
+
+def core_report(rule, planes, samples):
+    """The report of these samples of a sheet."""
+    page = rule.page
+    deciding = set(rule.deciding)
+    changed = {(x, y): [planes[c][y * page.width + x] != page.planes[c][y * page.width + x] for c in page.plates] for x, y in samples}
+    lines = ["trap report", "page %d %d %d plates %d" % (page.width, page.height, page.maxval, len(page.plates))]
+    for zone in range(len(page.zones)):
+        own = [sample for sample in samples if rule.zone(sample) == zone]
+        lines.append("zone %d samples %d changed %d" % (zone, len(own), sum(any(changed[sample]) for sample in own)))
+    lines.append("edges %d" % sum(((2 * x + 1, 2 * y) in deciding) + ((2 * x, 2 * y + 1) in deciding) for x, y in samples))
+    for plate in page.plates:
+        lines.append("plate %s changed %d" % (page.names[plate], sum(changed[sample][plate] for sample in samples)))
+    return "".join(line + "\n" for line in [*lines, "end"])
+
+
+def wanted_window(sheet, call, stands):
+    """What has to come out of a window of a sheet; None where it is a window of another sheet."""
+    try:
+        judged_window(call, stands)
+    except Refusal as refusal:
+        return Answer(refusal.status, refusal.line + "\n", call.numbers)
+    if not is_same_sheet(sheet, call, stands):
+        return None
+    rule = rule_of(page_of(sheet))
+    planes = rule.new_planes()
+    after, samples = list(call.numbers), []
+    for y in range(stands.core_top, stands.core_top + stands.core_height):
+        for x in range(stands.core_left, stands.core_left + stands.core_width):
+            samples.append((stands.left + x, stands.top + y))
+            for c, plane in enumerate(planes):
+                after[(c * call.height + y) * call.step + x] = plane[(stands.top + y) * sheet.width + stands.left + x]
+    return Answer(0, core_report(rule, planes, samples), after)
+
+
+def span(rng, side, halo, step, is_down):
+    """Of a side: where a window begins and how long it is, where its core begins in it and how long that is. The halo is wide enough,
+    and the window's left or lower end is at the step."""
+    first = rng.randrange(side)
+    core = rng.randint(1, side - first) if rng.random() < 0.7 else 1
+    start = max(0, first - halo - rng.choice([0, 0, 1, 3]))
+    end = min(side, first + core + halo + rng.choice([0, 0, 1, 3]))
+    if is_down:
+        end = side - (side - end) // step * step
+    else:
+        start -= start % step
+    return start, end - start, first - start, core
+
+
+def window_of(sheet, rng):
+    """A window of a sheet, mostly one that fits, and how it stands."""
+    try:
+        job = judged_job(sheet.job)
+        halo, step = halo_of(job), step_of(job.resolution) if len(job.zones) > 1 else 1
+    except Refusal:
+        halo, step = 1, 1
+    kind = rng.random()
+    halo = max(0, halo - 1) if kind < 0.05 else halo
+    step = 1 if kind > 0.95 else step
+    left, width, core_left, core_width = span(rng, sheet.width, halo, step, False)
+    top, height, core_top, core_height = span(rng, sheet.height, halo, step, True)
+    stands = Stands(sheet.width, sheet.height, left, top, core_left, core_top, core_width, core_height)
+    row = width + rng.choice([0, 0, 1, 5])
+    gap = [rng.randrange(MOST[sheet.code] + 1) for _ in range(row - width)]
+    numbers = []
+    for c in range(len(sheet.names.split(b"\n"))):
+        for y in range(top, top + height):
+            at = (c * sheet.height + y) * sheet.step + left
+            numbers += sheet.numbers[at:at + width] + gap
+    call = sheet._replace(numbers=numbers, width=width, height=height, step=row,
+                          room=rng.choice([65536, 65536, 65536, 0, 1, 10, 40, rng.randrange(300)]))
+    if 0.05 <= kind < 0.1:
+        name = rng.choice(Stands._fields)
+        number = rng.choice([0, getattr(stands, name) + 1, max(0, getattr(stands, name) - 1), MOST_SHEET_SIDE + 1, 2 ** 32 - 1])
+        stands = stands._replace(**{name: number})
+    return (spoiled(call, rng) if 0.1 <= kind < 0.14 else call), stands
+
+
+def is_same_sheet(sheet, call, stands):
+    """Whether the window's samples are those that the sheet has there: what was spoiled may stand elsewhere."""
+    if (stands.sheet_width, stands.sheet_height) != (sheet.width, sheet.height) or call.maxval != sheet.maxval:
+        return False
+    names = call.names.split(b"\n")
+    return call.names == sheet.names and all(
+        call.numbers[(c * call.height + y) * call.step + x]
+        == sheet.numbers[(c * sheet.height + stands.top + y) * sheet.step + stands.left + x]
+        for c in range(len(names)) for y in range(call.height) for x in range(call.width))
+
+
+def window_by_package(call, stands):
+    """What the package's call gives."""
+    stack = array.array(call.code, call.numbers)
+    try:
+        told = trapping.trap_window(call.job, call.names.decode("latin-1").split("\n"), stack, sheet=stands[:2], at=stands[2:4],
+                                    core=stands[4:], maxval=call.maxval, width=call.width, height=call.height, step=call.step)
+    except trapping.Refusal as refusal:
+        return Answer(refusal.status, refusal.line + "\n", list(stack))
+    return Answer(0, told.text, list(stack))
+
+
+def halo_faults(sheet):
+    """What differs of the call that tells the halo."""
+    try:
+        answer = halo_of(judged_job(sheet.job))
+    except Refusal as refusal:
+        answer = refusal.line
+    try:
+        told = trapping.halo(sheet.job)
+    except trapping.Refusal as refusal:
+        told = refusal.line
+    if told != answer:
+        yield "trap_halo, which gives %s," % told
+
+
+def window_faults(sheet, rng, kinds):
+    """What differs of a window of a sheet, in words and with what has to come."""
+    call, stands = window_of(sheet, rng)
+    answer = wanted_window(sheet, call, stands)
+    if answer is None:
+        return
+    kinds["window: %s" % (answer.text.strip() if answer.status == 2 else "status %d" % answer.status)] += 1
+    if not is_right(call, answer, stands):
+        yield "the export of a window", answer
+    if unfit(call) is None and window_by_package(call, stands) != answer:
+        yield "trap_window", answer
+
+
 def faults(call, answer):
     """What differs, in words."""
     if not is_right(call, answer):
@@ -197,15 +388,47 @@ def faults(call, answer):
             yield "trap"
 
 
+def sheet_of(call):
+    """The call as a sheet, where it can be one: its arguments fit, and it makes a page or its job has a fault."""
+    if unfit(call) is not None:
+        return None
+    numbers = list(call.numbers)
+    for c in range(len(call.names.split(b"\n"))):
+        for at in places(call, c):
+            numbers[at] = min(numbers[at], call.maxval)
+    return call._replace(numbers=numbers)
+
+
+def version_faults():
+    """What tells another version than the repository's file."""
+    with open(os.path.join(TOP, "VERSION"), encoding="ascii") as file:
+        numbers = tuple(int(word) for word in file.read().strip().split("."))
+    with open(os.path.join(TOP, "library", "trap.h"), encoding="ascii") as file:
+        told = int(re.search(r"^#define TRAP_VERSION (\d+)", file.read(), re.M)[1])
+    if trapping.library_version() != numbers:
+        yield "trap_version"
+    if (told // 10000, told // 100 % 100, told % 100) != numbers:
+        yield "TRAP_VERSION"
+
+
 def main(count, seed):
     different, kinds = 0, Counter()
+    for name in version_faults():
+        different += 1
+        print("%s is not that of VERSION" % name)
     for number in range(count):
-        call = made(random.Random("%s %d" % (seed, number)))
+        rng = random.Random("%s %d" % (seed, number))
+        call = made(rng)
         answer = wanted(call)
         kinds[answer.text.split(" at ")[0].strip() if answer.status == 2 else "status %d" % answer.status] += 1
-        for fault in faults(call, answer):
+        wrong = [(fault, answer) for fault in faults(call, answer)]
+        sheet = sheet_of(call)
+        if sheet is not None:
+            wrong += window_faults(sheet, rng, kinds)
+            wrong += [(fault, answer) for fault in halo_faults(sheet)]
+        for fault, told in wrong:
             different += 1
-            print("case %d of seed %s: %s differs from status %d, %s" % (number, seed, fault, answer.status, answer.text.strip()))
+            print("case %d of seed %s: %s differs from status %d, %s" % (number, seed, fault, told.status, told.text.strip()))
     print("library: %s" % ", ".join("%s %d" % pair for pair in sorted(kinds.items())))
     print("%d cases, %d different" % (count, different))
     return 1 if different else 0

@@ -1,6 +1,7 @@
 #!/usr/bin/env bash
-# Tries the library beside the slow program and under the eyes of Valgrind and AddressSanitizer: library.sh COUNT SEED [--short].
-# With --short the runs under Valgrind are left out. It says what it skips where a tool is not there.
+# Tries the library beside the slow program and under the eyes of Valgrind, AddressSanitizer and ThreadSanitizer: library.sh COUNT
+# SEED [--short]. The sanitizers see the C programs, each request for memory and each lock, and not what the library itself reads and
+# writes; Valgrind sees all. With --short the runs under Valgrind are left out. It says what it skips where a tool is not there.
 set -eu
 here=$(cd "$(dirname "$0")" && pwd)
 top=$(dirname "$here")
@@ -30,7 +31,8 @@ fi
 
 compiled refused "$library/libtrap.a" -Wl,--wrap=malloc,--wrap=realloc,--wrap=free
 "$out/refused"
-compiled threads -pthread -L"$library" -ltrap "-Wl,-rpath,$library"
+shared=(-pthread -L"$library" -ltrap "-Wl,-rpath,$library")
+compiled threads "${shared[@]}"
 "$out/threads"
 
 # The page of the poster, whose files are written as they have to be.
@@ -44,12 +46,39 @@ plates() {
 words=()
 plates
 page() { "$@" "$top/examples/poster/poster.job" "$out/report" "${words[@]}" && cmp "$out/report" "$top/examples/poster/expected/report"; }
-"$CC" -std=c99 -D_POSIX_C_SOURCE=200809L -O1 -g -fsanitize=address,undefined -I"$top/library" -o "$out/page.asan" \
-  "$top/examples/library/page.c" "$library/libtrap.a" 2>"$out/told" || skip "AddressSanitizer" "the compiler has none"
-if [ -x "$out/page.asan" ]; then
-  page "$out/page.asan"
-  page "$out/page.asan" -8
-  echo "library: AddressSanitizer finds nothing on the poster"
+
+# The sanitizers of older compilers fail now and then where the kernel scatters addresses widely: they run without that, where it may be had.
+steady=(setarch -R)
+"${steady[@]}" true 2>/dev/null || steady=()
+
+# sanitized NAME SANITIZERS FILE WORD ..: a program with these sanitizers; or a line, where the compiler has none.
+sanitized() {
+  "$CC" -std=c99 -D_POSIX_C_SOURCE=200809L -O1 -g "-fsanitize=$2" -I"$top/library" -o "$out/$1" "$3" "${@:4}" 2>"$out/told" ||
+    { skip "$1" "the compiler has no $2"; return 1; }
+}
+
+if sanitized page.asan address,undefined "$top/examples/library/page.c" "$library/libtrap.a" &&
+  sanitized bands.asan address,undefined "$top/examples/library/bands.c" "$library/libtrap.a" -pthread; then
+  page "${steady[@]}" "$out/page.asan"
+  page "${steady[@]}" "$out/page.asan" -8
+  page "${steady[@]}" "$out/bands.asan"
+  echo "library: AddressSanitizer finds nothing on the poster, as a page and band by band"
+fi
+if flags=$("$top/examples/library/libgs-flags"); then
+  # shellcheck disable=SC2086
+  if sanitized rip.asan address,undefined "$top/examples/library/rip.c" "$library/libtrap.a" $flags; then
+    mkdir "$out/ripped"
+    # Ghostscript's library lets some memory go only with the process.
+    ASAN_OPTIONS=detect_leaks=0 "${steady[@]}" "$out/rip.asan" "$top/examples/label/label.pdf" 150 525x350 \
+      "$top/examples/library/label.job" "$out/ripped" >"$out/told"
+    echo "library: AddressSanitizer finds nothing in the RIP over Ghostscript's library"
+  fi
+else
+  skip "the RIP" "libgs and its headers (libgs-dev) are not there"
+fi
+if sanitized threads.tsan thread "$here/library/threads.c" "${shared[@]}"; then
+  "${steady[@]}" "$out/threads.tsan" >"$out/told"
+  echo "library: ThreadSanitizer finds nothing between eight threads in the shared object"
 fi
 
 [ "${3:-}" != --short ] || exit 0
@@ -58,7 +87,9 @@ if ! there valgrind; then
   exit 0
 fi
 "$CC" -std=c99 -D_POSIX_C_SOURCE=200809L -O2 -g -I"$top/library" -o "$out/page" "$top/examples/library/page.c" "$library/libtrap.a"
+"$CC" -std=c99 -D_POSIX_C_SOURCE=200809L -O2 -g -I"$top/library" -o "$out/bands" -pthread "$top/examples/library/bands.c" "$library/libtrap.a"
 page valgrind -q --error-exitcode=9 --leak-check=full "$out/page" -8
-echo "library: Valgrind finds nothing on the poster"
+page valgrind -q --error-exitcode=9 --leak-check=full "$out/bands"
+echo "library: Valgrind finds nothing on the poster, as a page and band by band"
 valgrind -q --tool=helgrind --error-exitcode=9 "$out/threads" 16
 echo "library: Valgrind's helgrind finds nothing between eight threads"

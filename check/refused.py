@@ -1,7 +1,7 @@
 #!/usr/bin/env python3
 """Refuses each allocation of a run in turn, on small pages, by a library that is preloaded into the built programs.
 
-refused.py [PROGRAM ..]     (trap, presscheck, trapset, traprun and trappool where none is named; what is not built is skipped)
+refused.py [PROGRAM ..]     (all of them where none is named; what is not built is skipped)
 
 Every such run has to end with the status, the text and the files of the run without a refusal, or with 7, the line
 `out of memory` (none where the words themselves found no room), and the files as they were before. It needs a C compiler (cc).
@@ -69,6 +69,7 @@ CASES = {
     ],
     "traprun": [(["2", "1", "job", "report", *outs(TWICE)], TWICE)],
     "trappool": [(["2", "list"], {**PAIR, "list": b"job report Cyan:Cyan:c.out Magenta:Magenta:m.out\n"})],
+    "trapsheet": [(["2", "job", "report", *outs(SHOP)], SHOP)],
 }
 
 
@@ -96,7 +97,7 @@ def outcome(program, words, files, number, library, mark):
             with open(os.path.join(folder, name), "wb") as file:
                 file.write(data)
         surroundings = {"LD_PRELOAD": library, "REFUSE": str(number), "REFUSED": mark}
-        ran = subprocess.run([program, *words], cwd=folder, env=surroundings, capture_output=True, timeout=60)
+        ran = subprocess.run([program, *words], cwd=folder, env=surroundings, capture_output=True, timeout=180)
         return ran.returncode, ran.stdout, held(folder)
 
 

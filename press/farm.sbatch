@@ -6,15 +6,21 @@
 #
 #     sbatch --array=1-$(press/plates --count IN.pdf) press/farm.sbatch IN.pdf OUT [option of press/all ...]
 #
-# The proof sheet of all pages is made behind them, by press/proof OUT. The commands are looked for in the folder that the
+# The proof sheet of all pages is made after them, by press/proof OUT. The commands are looked for in the folder that the
 # variable PRESS names; where it is not set, in the folder press of the one that sbatch was called in; or else the installed
 # command `press` is taken. IN.pdf, OUT and the commands must have the same paths on all nodes. A page that failed is done again
 # by its number: --array=3,17.
 #
 # Where PRESS_LOCAL names a folder on the node's own disk, the page is made there, and put into OUT when it is done: with
 # --tiff-only its plates then never go over the network.
+#
+#     press/farm.sbatch --help
 
 set -u
+name=farm.sbatch
+case ${1-} in -h | --help) sed -n '5,/^$/{s/^# \{0,1\}//;p}' "$0"; exit 0 ;; esac
+[ -n "${SLURM_ARRAY_TASK_ID-}" ] || { echo "$name: it is run by sbatch, as an array job (see $name --help)" >&2; exit 2; }
+(($# >= 2)) || { echo "$name: IN.pdf or OUT is missing (see $name --help)" >&2; exit 2; }
 press=${PRESS:-${SLURM_SUBMIT_DIR:-.}/press}
 page=$SLURM_ARRAY_TASK_ID
 if [ -x "$press/all" ]; then
@@ -22,7 +28,7 @@ if [ -x "$press/all" ]; then
 elif command -v press >/dev/null; then
   all=(press all)
 else
-  echo "farm.sbatch: no press commands in $press, and no command press: set PRESS to their folder" >&2
+  echo "$name: no press commands in $press, and no command press: set PRESS to their folder" >&2
   exit 3
 fi
 [ -n "${PRESS_LOCAL-}" ] || exec "${all[@]}" --page "$page" --quiet "$@"

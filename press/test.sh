@@ -22,6 +22,8 @@ refused() {
   shift 2
   before=$(state)
   "$@" >../told 2>../line || status=$?
+  # Where no picture can be made, that is told of before the line.
+  [ "$pictures" = yes ] || sed -i '/: no picture in RGB is made$/d' ../line
   [ "$status" = "$expected" ] || wrong "$* ended with $status in place of $expected: $(cat ../line)"
   [ ! -s ../told ] || wrong "$* told: $(cat ../told)"
   [ "$(wc -l <../line)" = 1 ] || wrong "$* told more than a line: $(cat ../line)"
@@ -67,7 +69,10 @@ try_words() {
   for one in plates trap tiff look all farm watch check proof slurm-here press; do
     "$here/$one" --help >../told || wrong "$one --help"
     grep -q '^Usage: ' ../told && grep -q '^  10 ' ../told || wrong "$one --help tells: $(cat ../told)"
-    tried=$((tried + 1))
+    "$here/$one" --version >../told || wrong "$one --version"
+    [ "$(cat ../told)" = "press-${one#press} (trap) $(cat "$top/VERSION")" ] || [ "$(cat ../told)" = "press (trap) $(cat "$top/VERSION")" ] ||
+      wrong "$one --version tells: $(cat ../told)"
+    tried=$((tried + 2))
   done
   for one in "plates two.pdf new" "trap two" "tiff two new" "look two new.png" "all two.pdf new" "farm two.pdf new" "watch hot" \
     "check two.pdf" "proof two"; do
@@ -96,6 +101,11 @@ try_words() {
   refused 2 "press-watch: --settle is a whole number .*" "$here/watch" hot --settle soon
   refused 2 "press: no command print .*" "$here/press" print
   refused 2 "press-slurm-here: start or stop, .*" "$here/slurm-here" restart hot
+  # Completion of words, in a shell of its own.
+  bash -c '. "$1"; complete_words() { COMP_WORDS=("$@"); COMP_CWORD=$(($# - 1)); _press press "${@: -1}" "${@: -2:1}"; }
+    complete_words press check --js && [ "${COMPREPLY[*]}" = --json ] && complete_words press slurm-here st && [ "${COMPREPLY[*]}" = "start stop" ] &&
+    complete_words press plates --kind Gold = Opa && [ "${COMPREPLY[*]}" = "Opaque OpaqueIgnore" ]' - "$here/completion/press" || wrong "completion"
+  refused 2 "farm.sbatch: it is run by sbatch, .*" "$here/farm.sbatch" two.pdf new
 }
 
 try_inputs() {
@@ -111,6 +121,13 @@ try_inputs() {
   refused 5 "press-all: two.pdf: there is no page 2: it has 1" "$here/all" two.pdf new --page 2
   refused 4 "press-plates: none.inks: No such file or directory" "$here/plates" two.pdf new --inks none.inks
   refused 4 "press-plates: none.zones: No such file or directory" "$here/plates" two.pdf new --zones none.zones
+  refused 4 "press-plates: -: No such file or directory" "$here/plates" - new
+  # Tables and zones as spreadsheets and old systems save them.
+  printf '\377\376W\0' >wide.inks && cp wide.inks wide.zones && printf 'Warm Red\t0.9\nGr\374n\t0.5\n' >latin.inks
+  refused 4 "press-plates: wide.inks: in UTF-16: save it as UTF-8" "$here/plates" two.pdf new --inks wide.inks
+  refused 4 "press-plates: wide.zones: in UTF-16: save it as UTF-8" "$here/plates" two.pdf new --zones wide.zones
+  refused 4 "press-plates: latin.inks: line 2: not UTF-8: save it as UTF-8" "$here/plates" two.pdf new --inks latin.inks
+  rm wide.inks wide.zones latin.inks
   refused 7 "press-plates: many.pdf: page 1: 17 colorants, .*" "$here/plates" many.pdf new
   refused 7 "press-plates: wide.pdf: page 1: 16667 by 17 samples, .* \(at most 589 pixels per inch fit here\)" "$here/plates" wide.pdf new
   refused 4 "press-watch: none: No such directory" "$here/watch" none
@@ -186,6 +203,14 @@ try_tools() {
     env PYTHONPATH="$PWD/../no" PRESS_PYTHON=tried "$here/look" --untrapped two new.png
   mkdir ../bare-bin && printf '#!/bin/sh\n' >../bare-bin/trap && chmod +x ../bare-bin/trap
   refused 3 "press-trap: the program presscheck is not there: .*" env TRAP_BIN="$PWD/../bare-bin" "$here/trap" two --check 1
+  # A repository without built programs: none is built, and what to do is told.
+  mkdir -p ../fresh/crates/trap ../fresh/press && cp -r "$here/trap" "$here/lib" ../fresh/press/
+  # shellcheck disable=SC2016
+  printf '#!/bin/sh\ntouch "${0%%/*}/ran"\nexit 2\n' >../fresh/trap && chmod +x ../fresh/trap
+  path=$(without trap)
+  refused 3 "press-trap: the program trap is not built yet: [^ ]*/fresh/trap does it, .*; or TRAP_BIN names .*" \
+    env -u TRAP_BIN PATH="$path" ../fresh/press/trap two
+  [ ! -e ../fresh/ran ] || wrong "tools: a program was built without being asked for"
 }
 
 try_plates() {
@@ -233,12 +258,24 @@ try_plates() {
   rm -r inks beside options
 }
 
-# The manual pages. Those of other packages that they speak of need not be there.
+# Each command has --help, whose words stand in its page of the manual or in those that it names; and the pages lint. Pages of other
+# packages that they speak of need not be there.
 try_pages() {
+  local one page option named
+  for one in "$here"/*; do
+    [ -f "$one" ] && [ -x "$one" ] || continue
+    page=press-${one##*/}
+    case ${one##*/} in test.sh | try.sh) continue ;; farm.sbatch) page=press-farm ;; press | trapper) page=${one##*/} ;; esac
+    [ -s "$top/man/$page.1" ] || wrong "pages: no page of ${one##*/}"
+    "$one" --help >../told 2>../line && [ -s ../told ] && [ ! -s ../line ] || wrong "pages: ${one##*/} --help"
+    mapfile -t named < <(sed -n "s|^\.Xr \(press[a-z-]*\) 1.*|$top/man/\1.1|p" "$top/man/$page.1" | sort -u)
+    while read -r option; do
+      cat "$top/man/$page.1" "${named[@]}" | grep -qE -- "(^|[^a-z-])-{1,2}${option#--}([^a-z-]|$)" || wrong "pages: $page has no $option"
+    done < <(grep -oE -- '--[a-z][a-z-]*[a-z]' ../told | grep -vxE -- '--(help|version|sshlogin)' | sort -u)
+    tried=$((tried + 1))
+  done
   if ! there mandoc; then skip "manual pages" mandoc; return; fi
-  (cd "$top/man" && ! mandoc -Tlint ./*.[15] 2>/dev/null | grep -v 'referenced manual not found') || wrong "manual pages"
-  local one
-  for one in plates trap tiff look all farm watch check proof; do [ -s "$top/man/press-$one.1" ] || wrong "no manual page of press-$one"; done
+  (cd "$top/man" && ! mandoc -Tlint ./*.[15] 2>/dev/null | grep -v 'referenced manual not found\|operating system explicitly specified') || wrong "manual pages"
   tried=$((tried + 1))
 }
 
@@ -251,7 +288,7 @@ stopped() {
   kill "$child" || wrong "$* ended before it was stopped: $(cat ../line)"
   wait "$child" || status=$?
   [ "$status" = 143 ] || wrong "$* was stopped, and its status is $status"
-  for _ in {1..100}; do works_here || break; sleep 0.1; done
+  for _ in {1..600}; do works_here || break; sleep 0.1; done
   ! works_here || wrong "$* was stopped, and a tool of it goes on"
   [ -z "$(find . -name '.press-*' -o -name 'page-*')" ] || wrong "$* was stopped, and something is left"
   tried=$((tried + 1))
@@ -296,7 +333,7 @@ try_watch() {
   watcher=$!
   # shellcheck disable=SC2064
   trap "kill $watcher 2>/dev/null" EXIT
-  for _ in {1..300}; do ! grep -q watching ../line || break; sleep 0.1; done
+  for _ in {1..600}; do ! grep -q watching ../line || break; sleep 0.1; done
   grep -q watching ../line || { skip watch "$(tail -n 1 ../line): inotify"; kill "$watcher"; return; }
   # One watch a folder.
   "$here/watch" hot >../told2 2>../line2 || status=$?
@@ -305,11 +342,11 @@ try_watch() {
   for name in "${names[@]}"; do cp two.pdf "hot/$name"; done
   cp text.pdf drawn.eps hot/ && mkdir hot/folder.pdf && mkfifo hot/pipe.pdf && ln -s ../two.pdf hot/link.pdf
   : >hot/writing.part
-  for _ in {1..400}; do [ "$(ended)" -lt 10 ] || break; sleep 0.5; done
+  for _ in {1..1800}; do [ "$(ended)" -lt 10 ] || break; sleep 0.5; done
   [ -e hot/open.pdf ] || wrong "watch: a file was taken that is open to write"
   tail -c +301 two.pdf >&7
   exec 7>&-
-  for _ in {1..300}; do [ "$(ended)" -lt 11 ] || break; sleep 0.5; done
+  for _ in {1..600}; do [ "$(ended)" -lt 11 ] || break; sleep 0.5; done
   for name in first.pdf open.pdf "${names[@]}"; do
     cmp two.pdf "hot/done/${name%.*}/$name" && [ -d "hot/done/${name%.*}/page-001/trapped" ] || wrong "watch: $name: $(cat ../told)"
   done
@@ -323,14 +360,26 @@ try_watch() {
   [ ! -e ran ] && [ ! -e hot/ran ] || wrong "watch: a file's name was run"
   # One that is at work when it is stopped.
   cp "$top/examples/label/label.pdf" hot/slow.pdf
-  for _ in {1..300}; do [ -z "$(find hot -path '*/.press-*' -name scratch)" ] || break; sleep 0.1; done
+  for _ in {1..600}; do [ -z "$(find hot -path '*/.press-*' -name scratch)" ] || break; sleep 0.1; done
   kill "$watcher"
   wait "$watcher" || wrong "watch: it was stopped and ended with $?"
   trap - EXIT
   [ -f hot/slow.pdf ] && [ -z "$(find hot -name '.press-*')" ] && [ ! -e hot/done/slow ] || wrong "watch: what was at work is lost"
-  for _ in {1..100}; do works_here || break; sleep 0.1; done
+  for _ in {1..600}; do works_here || break; sleep 0.1; done
   ! works_here || wrong "watch: something goes on"
-  rm -r hot/done hot/failed hot/*.pdf hot/writing.part
+  # What is warned of is refused where nobody says otherwise.
+  rm hot/slow.pdf && cp damaged.pdf hot/
+  # What an earlier watch told must be gone before it is looked for.
+  : >../told
+  "$here/watch" --settle 0 hot >../told 2>../line &
+  watcher=$!
+  # shellcheck disable=SC2064
+  trap "kill $watcher 2>/dev/null" EXIT
+  for _ in {1..300}; do [ "$(ended)" -lt 1 ] || break; sleep 0.5; done
+  kill "$watcher" && wait "$watcher" || wrong "watch: it was stopped and ended with $?"
+  trap - EXIT
+  grep -q 'damaged.pdf: .*Ghostscript finds faults .* (--strict)$' hot/failed/damaged/why.txt || wrong "watch: a damaged file is taken: $(cat ../told)"
+  rm -r hot/done hot/failed hot/writing.part
   tried=$((tried + 1))
 }
 
@@ -423,12 +472,15 @@ try_check() {
   told 'trap-width: .*: nothing is trapped'
   goes "$here/check" --dpi 290 pair.pdf
   ! grep -q trap-width ../told || wrong "check: a width of a whole sample is called out: $(cat ../told)"
-  # Refused by box and resolution, before it is drawn.
-  SECONDS=0
-  refused 7 "press-plates: huge.pdf: page 1: 120000 by 120000 samples, and a side has at most 16384 \(at most 63 .*" "$here/plates" huge.pdf new
-  refused_but_told 1 'page 1: failed: press-check: huge.pdf: page 1: 120000 by .* \(at most 63 .*' "$here/all" --quiet huge.pdf huge
+  # Refused by box and resolution, before it is drawn: a Ghostscript that draws nothing is not waited for.
+  refused 7 "press-plates: huge.pdf: page 1: 120000 by 120000 samples, and a side has at most 16384 \(at most 63 .*" \
+    env PATH="$(slow_gs)" "$here/plates" --time 20 huge.pdf new
+  refused_but_told 1 'page 1: failed: press-check: huge.pdf: page 1: 120000 by .* \(at most 63 .*' \
+    env PATH="$(slow_gs)" "$here/all" --time 20 --quiet huge.pdf huge
   rm -r huge
-  [ "$SECONDS" -lt 30 ] || wrong "check: a page that is too large is drawn"
+  # A page whose inks are known is told its size once.
+  "$here/check" --dpi 3000 pair.pdf >../told 2>../line || true
+  [ "$(grep -c ': fault: size: ' ../told)" -le 1 ] || wrong "check: a size is told twice: $(cat ../told)"
   refused 5 "press-plates: twenty.pdf: page 1: Ghostscript .*" env PATH="$(slow_gs)" "$here/plates" --time 1 twenty.pdf new
   # Zones: a fault at the file's own line, once; keys that nobody knows; a byte order mark.
   printf '<< /TrapWidht 0.3 /HalftoneName null >> settrapparams\n' >keys.zones
@@ -459,6 +511,16 @@ try_check() {
   [ "$(grep -c FancyFont ../told)" = 1 ] || wrong "check: a font is told twice: $(cat ../told)"
   goes "$here/check" --box trim pair.pdf
   told 'pair.pdf: page 1: warning: box: the page has no TrimBox'
+  goes "$here/check" cropped.pdf
+  told 'cropped.pdf: page 1: warning: box: what lies outside the CropBox is not drawn, and the BleedBox does: --box bleed draws that'
+  refused_but_told 5 'sizeless.pdf: page 1: warning: box: the page tells no size that can be read.*' "$here/check" sizeless.pdf
+  goes "$here/check" --box bleed cropped.pdf
+  ! grep -q ': box: ' ../told || wrong "check: a box that is drawn is called out: $(cat ../told)"
+  # Names that are another's but for a little.
+  goes "$here/check" spellings.pdf --density cyan=0.6
+  told 'warning: process-name: cyan is a spot with a plate of its own, and is called like a process ink: is Cyan meant'
+  told 'warning: ink-twice: (WARM RED and Warm Red|Warm Red and WARM RED) are two plates'
+  ! grep -q 'inks-line\|of cyan is not told' ../told || wrong "check: an ink of another spelling is not known: $(cat ../told)"
   goes "$here/check" --json damaged.pdf
   python3 -c 'import json, sys
 told = json.load(open("../told"))
@@ -542,7 +604,7 @@ try_images() {
   goes env PATH="$path" "$here/check" photo.pdf
   told 'warning: images: mutool is not there .*: images are not looked for'
   [ "$built" = yes ] || return 0
-  for one in photo turned clipped; do
+  for one in photo turned clipped pattern; do
     goes "$here/plates" "$one.pdf" "$one"
     goes "$here/plates" --trap-images "$one.pdf" "$one-all"
     goes "$here/trap" "$one"
@@ -563,7 +625,11 @@ try_images() {
   goes "$here/trap" photo
   changed photo 51,42,398,316 none
   changed photo 740,60,20,280 none
-  rm -r photo turned clipped photo-all turned-all clipped-all
+  # A pattern that has an image in it.
+  changed pattern 100,50,380,300 none
+  changed pattern-all 100,50,380,300 some
+  changed pattern 740,60,20,280 some
+  rm -r photo turned clipped pattern photo-all turned-all clipped-all pattern-all
 }
 
 # PostScript and EPS; separations of another RIP.
@@ -571,9 +637,16 @@ try_sources() {
   goes "$here/plates" drawn.eps drawn
   grep -q 'note: drawn.eps: PostScript: Ghostscript made a PDF of it' ../line && [ -s drawn/Warm_Red.pgm ] || wrong "sources: EPS"
   cmp <(head -c 15 drawn/Cyan.pgm) <(printf 'P5\n500 333\n255\n') || wrong "sources: the EPS's box"
+  # An EPS that tells its box at its end.
+  sed 's/BoundingBox: 0 0 60 40/BoundingBox: (atend)/' drawn.eps >later.eps && printf '%%%%Trailer\n%%%%BoundingBox: 0 0 60 40\n%%%%EOF\n' >>later.eps
+  goes "$here/plates" later.eps later
+  cmp <(head -c 15 later/Cyan.pgm) <(printf 'P5\n500 333\n255\n') || wrong "sources: the box at the EPS's end"
   cp drawn.eps drawn.ai && cp drawn.eps drawn.ps
   [ "$built" = no ] || goes "$here/all" --quiet drawn.ai drawn2
   [ "$built" = no ] || [ -d drawn2/page-001/tiff ] || wrong "sources: AI"
+  # PostScript with a driver's words for the printer around it.
+  { printf '\033%%-12345X@PJL ENTER LANGUAGE = POSTSCRIPT\r\n'; cat drawn.eps; printf '\004\033%%-12345X'; } >driver.ps
+  [ "$("$here/plates" --count driver.ps)" = 1 ] || wrong "sources: PostScript of a driver"
   printf '%%!PS\n/nothing { unknown } loop' >wrong.ps
   refused 5 "press-plates: wrong.ps: Ghostscript cannot convert the PostScript: .+" "$here/plates" wrong.ps new
   mkfifo pipe.pdf
@@ -610,7 +683,7 @@ try_sources() {
   refused 7 "press-plates: two.pdf: no TIFF file" "$here/plates" --tiff Cyan=two.pdf new
   refused 2 "press-plates: --tiff is NAME=FILE, .*" "$here/plates" --tiff Cyan new
   refused 2 "press-plates: .*turned\(Cyan\).tif does not say its resolution .*" "$here/plates" --tiff "Cyan=seps/turned(Cyan).tif" new
-  rm -rf drawn drawn2 again white wide inverted seps wrong.ps drawn.ai drawn.ps
+  rm -rf drawn drawn2 again white wide inverted seps wrong.ps drawn.ai drawn.ps driver.ps later later.eps
 }
 
 # killed FOLDER COMMAND ..: the command is killed outright while Ghostscript is at work in the folder. Nothing of it goes on.
@@ -625,7 +698,7 @@ killed() {
   done
   kill -9 "$child" || wrong "$* ended before it was killed: $(cat ../line)"
   wait "$child" || true
-  for _ in {1..200}; do works_here || break; sleep 0.1; done
+  for _ in {1..600}; do works_here || break; sleep 0.1; done
   ! works_here || wrong "$* was killed, and a tool of it goes on"
   tried=$((tried + 1))
 }
@@ -671,11 +744,17 @@ try_living() {
     "$here/all" --quiet --no-proof pair.pdf linked
   [ -e elsewhere/colorants.txt ] || wrong "living: what a link leads to is gone"
   rm -r linked elsewhere
+  mkdir -p way/page-001 && : >way/page-001/mine
+  refused_but_told 1 'page 1: failed: press-all: way/page-001: stands in the way, and press/all did not make it' \
+    "$here/all" --quiet --no-proof pair.pdf way
+  [ -e way/page-001/mine ] && rm -r way || wrong "living: a folder of another's is gone"
   # A disk that is full, told by its name.
   if mkdir -p small && mount -t tmpfs -o size=1m none small 2>/dev/null; then
+    (refused_but_told 1 'page 1: failed: press-check: two.pdf: page 1: the page takes about .* of disk, and there are .*' \
+      "$here/all" --quiet --no-proof two.pdf small/out) || { umount small; exit 1; }
     status=0
     "$here/plates" two.pdf small/page --dpi 1200 >../told 2>../line || status=$?
-    umount small
+    umount small || umount -l small
     [ "$status" = 8 ] && grep -q '^press-plates: .*No space left on device' ../line || wrong "living: a full disk: $status, $(cat ../line)"
   else
     skip "a full disk" "leave to mount a small one"
@@ -687,6 +766,10 @@ try_living() {
   cp pair.pdf "$one"
   goes "$here/check" "$one"
   ! grep -q "$(printf '\033')" ../told && [ "$(wc -l <../told)" = 1 ] && grep -qF 'bad\x1b[31m\x0ared.pdf: page 1: ' ../told || wrong "living: names"
+  one=$(printf 'Gr\374n.pdf')
+  cp pair.pdf "$one"
+  goes "$here/all" --quiet --no-proof "$one" latin
+  [ -s "latin/page-001/tiff/${one%.pdf}-1(Cyan).tif" ] && rm -r latin || wrong "living: a name in Latin-1: $(find latin)"
   # Pages.
   goes "$here/all" --quiet --no-proof --page 2-3,5 twenty.pdf pages20
   cmp <(ls pages20) <(printf 'page-%s\n' 002 003 005) || wrong "living: --page 2-3,5"
@@ -697,6 +780,12 @@ try_living() {
     refused 10 "press-farm: twenty.pdf: TrapWidth 0.25 pt is 0.69 samples .* \(--strict\)" first_warning "$here/farm" --quiet twenty.pdf pages20 --dpi 200
     "$here/farm" --lenient --no-proof --page 4-5 twenty.pdf pages20 >../told 2>../line || wrong "living: farm: $(cat ../line)"
     grep -qE '^press-farm: twenty.pdf: 1 of 2 pages, .* left' ../line || wrong "living: farm tells no progress: $(cat ../line)"
+    # No more pages at once than there is memory for.
+    goes "$here/farm" --quiet --lenient --no-proof --jobs 1024 --page 1 twenty.pdf many
+    grep -qE 'memory for [0-9]+ pages at once, of [0-9.]+ MB each: --jobs 1024 is too many' ../line ||
+      (($(awk '/^MemAvailable/ { print $2 }' /proc/meminfo) > 300000000)) || wrong "living: no guard on memory: $(cat ../line)"
+    rm -r many
+    try_machines
   fi
   # What is kept.
   goes "$here/all" --quiet --tiff-only pair.pdf thin
@@ -705,15 +794,43 @@ try_living() {
   rm -r pages20 thin spare
 }
 
+# By a stand-in for ssh that does here what is to be done on the machine near, and cannot reach the machine down: a page of that
+# one fails and is named, and is done elsewhere afterwards.
+try_machines() {
+  local status=0
+  cat >../ssh <<'SSH'
+#!/usr/bin/env bash
+while [[ $1 == -* ]]; do case $1 in -o | -i | -p | -l | -S) shift 2 ;; *) shift ;; esac; done
+[ "$1" != down ] || { echo "ssh: down: no route" >&2; exit 255; }
+shift
+[ "$1" != -- ] || shift
+exec bash -c "$*"
+SSH
+  chmod +x ../ssh
+  PARALLEL_SSH=$PWD/../ssh "$here/farm" --quiet --lenient --no-proof --jobs 1 --hosts near,down --page 7-9 twenty.pdf far >../told 2>../line ||
+    status=$?
+  [ "$status" = 1 ] && grep -qx 'page [789]: failed: down was lost, or cannot be reached (--again does the page)' ../told ||
+    wrong "living: a machine that is lost: $status, $(cat ../told)"
+  PARALLEL_SSH=$PWD/../ssh goes "$here/farm" --again --quiet --lenient --no-proof --jobs 1 --hosts near --page 7-9 twenty.pdf far
+  cmp <(find far -maxdepth 1 -name 'page-*' -printf '%f\n' | sort) <(printf 'page-%s\n' 007 008 009) || wrong "living: pages of a lost machine"
+  rm -r far
+  tried=$((tried + 1))
+}
+
 # A command's refusal without the warnings before it.
-first_warning() { "$@" 2> >(grep -v ': warning: ' >&2); }
+first_warning() {
+  local status=0
+  "$@" 2>../warned || status=$?
+  grep -v ': warning: ' ../warned >&2 || true
+  return $status
+}
 
 # The program by its second name.
 try_trapper() {
   local plates=(Cyan:two/Cyan.pgm:c.out Warm_Red:two/Warm_Red.pgm:r.out) name=trapper
   "$here/trapper" --help >../told && grep -q '^Usage: trapper page' ../told || wrong "trapper --help"
   if [ "$built" = no ]; then skip trapper "the program trap"; return; fi
-  [[ $("$here/trapper" --version) == "trapper: the program "* ]] || wrong "trapper --version"
+  [[ $("$here/trapper" --version) == "trapper (trap) $(cat "$top/VERSION"): the program "* ]] || wrong "trapper --version"
   goes "$here/trapper" page two/page.job rep "${plates[@]}"
   "$TRAP_BIN/trap" page two/page.job rep2 Cyan:two/Cyan.pgm:c2.out Warm_Red:two/Warm_Red.pgm:r2.out
   cmp rep rep2 && cmp c.out c2.out && cmp r.out r2.out || wrong "trapper: other bytes than trap's"
@@ -721,6 +838,12 @@ try_trapper() {
   cp two/Cyan.pgm own.pgm
   goes "$here/trapper" page --workers 2 --band=16 two/page.job rep Cyan:own.pgm:own.pgm Warm_Red:two/Warm_Red.pgm:r.out
   cmp own.pgm c.out || wrong "trapper: IN as OUT"
+  # A file that is replaced stays its owner's.
+  if [ "$(id -u)" = 0 ]; then
+    chown 12345:23456 own.pgm && chmod 640 own.pgm
+    goes "$here/trapper" page two/page.job rep Cyan:two/Cyan.pgm:own.pgm Warm_Red:two/Warm_Red.pgm:r.out
+    [ "$(stat -c '%u %g %a' own.pgm)" = "12345 23456 640" ] || wrong "trapper: the owner is $(stat -c '%u %g %a' own.pgm)"
+  fi
   # A program that is killed at its work leaves the plate as it was.
   # shellcheck disable=SC2016
   mkdir -p ../killed && printf '#!/bin/sh\nfor one; do :; done; echo half >"${one##*:}"; kill -9 $$\n' >../killed/trap && chmod +x ../killed/trap
@@ -738,6 +861,10 @@ try_trapper() {
   ln -sf c.out link.out
   refused 2 "$name: the OUT of Warm_Red, link.out, and the OUT of Cyan, c.out, are one file .*" \
     "$here/trapper" page two/page.job rep Cyan:two/Cyan.pgm:c.out Warm_Red:two/Warm_Red.pgm:link.out
+  ln -s . same
+  refused 2 "$name: the OUT of Warm_Red, same/new.out, and the OUT of Cyan, new.out, are one file .*" \
+    "$here/trapper" page two/page.job rep Cyan:two/Cyan.pgm:new.out Warm_Red:two/Warm_Red.pgm:same/new.out
+  rm same
   refused 1 "$name: 'Cyan:#E9.pgm:q' is not UTF-8" "$here/trapper" page two/page.job rep "$(printf 'Cyan:\351.pgm:q')"
   printf '%%!PS\ngsave\n' >faulty.job
   refused 3 "$name: faulty.job: line 2: job: UnknownOperator at 5" "$here/trapper" page faulty.job rep "${plates[@]}"
@@ -779,7 +906,11 @@ PYTHON
   refused 4 "press-proof: none: No such file or directory" "$here/proof" none
   # Where a browser is there, its script is run: the parts are drawn.
   if there chromium; then
-    chromium --headless --no-sandbox --disable-gpu --virtual-time-budget=8000 --dump-dom "file://$PWD/$sheet" >../dom 2>../dom.err || true
+    # A browser that does not come up on a busy machine is begun again.
+    for _ in 1 2 3; do
+      chromium --headless --no-sandbox --disable-gpu --virtual-time-budget=8000 --dump-dom "file://$PWD/$sheet" >../dom 2>../dom.err || true
+      ! grep -q 'data-drawn="yes"' ../dom || break
+    done
     grep -q 'data-drawn="yes"' ../dom && grep -q '2 across, 0 down, in samples' ../dom || wrong "proof: in a browser: $(head -c 2000 ../dom.err)"
   else
     skip "the proof in a browser" chromium
@@ -854,7 +985,14 @@ pictures=no
 ! python3 -c 'import numpy, PIL' 2>/dev/null && ! /usr/bin/python3 -c 'import numpy, PIL' 2>/dev/null || pictures=yes
 goes "$here/plates" two.pdf two --kind "Gold Foil=Normal"
 parts=("$@")
-((${#parts[@]} > 0)) || parts=(words inputs outputs folders tools plates pages stopped traps watch pictures check inks images sources living \
-  trapper proof tiffs)
+if ((${#parts[@]} == 0)); then
+  parts=(words inputs outputs)
+  more=(folders tools plates pages stopped traps watch pictures check inks images sources living trapper proof tiffs)
+  if [ "$pictures" = yes ]; then
+    parts+=("${more[@]}")
+  else
+    printf 'press/test.sh: %s: skipped, Python has no numpy or no PIL\n' "${more[*]}"
+  fi
+fi
 for part in "${parts[@]}"; do "try_$part"; done
 printf 'press/test.sh: %d commands ended as they should\n' "$tried"

@@ -1,7 +1,7 @@
 #!/usr/bin/env bash
 # Runs the whole way on the label of examples/label, and looks at what comes out of it. It installs nothing: what is not there
 # is skipped with a word. What it makes stands in press/out. With a word or more, runs these parts alone: label tiffsep all
-# pictures farm watch slurm.
+# pictures farm watch slurm; and worst, which is run by its word alone.
 
 set -eu
 here=$(cd "$(dirname "$0")" && pwd)
@@ -152,7 +152,7 @@ try_watch() {
   watcher=$!
   # shellcheck disable=SC2064
   trap "kill $watcher 2>/dev/null" EXIT
-  for _ in {1..50}; do ! grep -q watching "$out/watch.err" || break; sleep 0.2; done
+  for _ in {1..300}; do ! grep -q watching "$out/watch.err" || break; sleep 0.2; done
   if ! grep -q watching "$out/watch.err"; then
     say "watch: skipped, inotifywait does not watch here: $(tail -n 1 "$out/watch.err")"
     kill "$watcher" 2>/dev/null || true
@@ -177,21 +177,48 @@ try_watch() {
 try_slurm() {
   PATH=$PATH:/usr/sbin
   have slurm sbatch slurmctld slurmd munged && [ -d "$out/label/page-001" ] || return 0
-  if ! "$here/slurm-here" start "$out/slurm" >"$out/slurm.told" 2>&1; then
+  if ! "$here/slurm-here" start "$out/slurm" 2 >"$out/slurm.told" 2>&1; then
     say "slurm: skipped, it does not start here: $(tail -n 1 "$out/slurm.told")"
     return 0
   fi
   trap '"$here/slurm-here" stop "$out/slurm"' EXIT
   export SLURM_CONF=$out/slurm/slurm.conf
-  local status=0
-  PRESS=$here timeout 900 sbatch --wait --array=1-2 --output="$out/slurm/page-%a.out" "$here/farm.sbatch" "$label/label.pdf" "$out/array" "${check[@]}" ||
-    status=$?
+  local status=0 nodes
+  # A task takes all processors of a node, so each of the two nodes has one.
+  PRESS=$here timeout 900 sbatch --wait --array=1-2 --cpus-per-task="$(nproc)" --output="$out/slurm/page-%a.out" "$here/farm.sbatch" \
+    "$label/label.pdf" "$out/array" "${check[@]}" || status=$?
+  nodes=$(scontrol show job 2>/dev/null | grep -oE '[^a-zA-Z]NodeList=node[0-9]+' | sort -u | wc -l)
   "$here/slurm-here" stop "$out/slurm"
   trap - EXIT
   cat "$out"/slurm/page-*.out
   [ "$status" = 0 ] || wrong "slurm: the array job failed"
+  # On a busy machine the first task may be done before the second one is given out.
+  [ "$nodes" = 2 ] || say "slurm: $nodes of 2 nodes had a task"
   same_pages "$out/array" slurm
   say "slurm: an array job of two tasks has the bytes of press/all"
+}
+
+# Files like the worst that a shop is sent, each with the status that press/tests/worst_files.py tells of it; the proof sheets are for
+# eyes, as pictures too where a browser is there. By its own word alone, since it takes a while.
+try_worst() {
+  have worst gs tifftopnm pamtotiff python3 && have_program worst || return 0
+  local name status what got count=0 pages
+  "$here/tests/worst_files.py" "$out/worst" >"$out/worst.list"
+  while IFS=$'\t' read -r name status what; do
+    got=0 pages=$out/pages/$name
+    mkdir -p "$pages"
+    (cd "$out/worst" && "$here/all" --quiet --dpi "${WORST_DPI:-300}" "$name" "$pages/all") >"$pages/told" 2>"$pages/line" </dev/null || got=$?
+    if [ "$got" != "$status" ] || grep -q Traceback "$pages/told" "$pages/line"; then
+      cat "$pages/told" "$pages/line"
+      wrong "worst: $name, $what: it ended with $got and not with $status"
+    fi
+    if there chromium && [ -s "$pages/all/proof.html" ]; then
+      chromium --headless --no-sandbox --disable-gpu --hide-scrollbars --virtual-time-budget=6000 --window-size=1130,5000 \
+        --screenshot="$pages/proof.png" "file://$pages/all/proof.html" >"$pages/browser" 2>&1 </dev/null || true
+    fi
+    count=$((count + 1))
+  done <"$out/worst.list"
+  say "worst: $count files ended as they should; their pages and proof sheets stand in $out/pages, to be looked at"
 }
 
 parts=("$@")

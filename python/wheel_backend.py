@@ -3,8 +3,9 @@ import base64
 import hashlib
 import os
 import zipfile
+from typing import Any, Iterator, Optional, Tuple
 
-NAME, VERSION = "trapping", "1.0"
+NAME, VERSION = "trapping", "0.9.0"
 INFO = "%s-%s.dist-info" % (NAME, VERSION)
 HERE = os.path.dirname(os.path.abspath(__file__))
 
@@ -26,7 +27,7 @@ Tag: py3-none-any
 """ % NAME
 
 
-def package_files():
+def package_files() -> Iterator[Tuple[str, bytes]]:
     """The files of the package, each with what it holds."""
     folder = os.path.join(HERE, NAME)
     for name in sorted(os.listdir(folder)):
@@ -35,14 +36,14 @@ def package_files():
                 yield NAME + "/" + name, file.read()
 
 
-def info_files():
+def info_files() -> Iterator[Tuple[str, bytes]]:
     """The files that tell pip of the package."""
     with open(os.path.join(HERE, "README.md"), "rb") as file:
         yield INFO + "/METADATA", METADATA.encode() + file.read()
     yield INFO + "/WHEEL", WHEEL.encode()
 
 
-def build_wheel(wheel_directory, config_settings=None, metadata_directory=None):
+def build_wheel(wheel_directory: str, config_settings: Any = None, metadata_directory: Optional[str] = None) -> str:
     """Writes the wheel into the folder, and gives its name."""
     name = "%s-%s-py3-none-any.whl" % (NAME, VERSION)
     record = []
@@ -56,6 +57,6 @@ def build_wheel(wheel_directory, config_settings=None, metadata_directory=None):
     return name
 
 
-def build_sdist(sdist_directory, config_settings=None):
+def build_sdist(sdist_directory: str, config_settings: Any = None) -> str:
     """There is none: the package is installed from the repository."""
     raise NotImplementedError("trapping is installed from its repository")

@@ -22,8 +22,8 @@ def said_by(trial):
     """What was wrong with a trial, or nothing."""
     try:
         return trial[1]()
-    except OSError as error:
-        return "the trial itself failed: %s" % error
+    except Exception as error:  # pylint: disable=broad-except
+        return "the trial itself failed: %r" % error
 
 
 def tried(name, group, side):
@@ -52,7 +52,7 @@ def groups(names, room, is_short):
         for case in CASES:
             if case.program == name:
                 yield "%s %s" % (name, " ".join(case.words)), Trials(case, library, is_short).all()
-        yield "%s, where the disk stands in the way" % name, trials.all_of(name, is_short)
+        yield "%s, where the disk stands in the way" % name, trials.all_of(name, library, is_short)
 
 
 def main():
@@ -64,6 +64,8 @@ def main():
     if not shutil.which("cc"):
         print("check/faults: skipped, there is no C compiler")
         return 0
+    # What is made anew has the rights that this leaves.
+    os.umask(0o022)
     names = asked.programs or list(dict.fromkeys(case.program for case in CASES))
     count = bad = 0
     with tempfile.TemporaryDirectory() as room:

@@ -7,6 +7,7 @@ from . import runs
 ERRORS = {
     "open": [errno.EIO, errno.EACCES, errno.EMFILE, errno.ENOMEM],
     "read": [errno.EIO, errno.ESTALE],
+    "seek": [errno.EIO],
     "look": [errno.EIO, errno.EACCES],
     "probe": [errno.EIO, errno.EACCES, errno.EROFS, errno.ENOMEM],
     "create": [errno.EIO, errno.ENOSPC, errno.EDQUOT, errno.EACCES, errno.EROFS],
@@ -27,6 +28,8 @@ UNNOTICED = {
     "read": [errno.EINTR, "short"], "write": [errno.EINTR, "short"], "tell": [errno.EINTR, "short"], "close": [errno.EIO],
 }
 
+READING = "open", "read", "seek"
+
 IN_ALL = ["1+open=again,1+read=again,1+probe=again,1+create=again,1+write=again,1+sync=again,1+tell=again",
           "1+read=short,1+write=short,1+tell=short"]
 
@@ -45,13 +48,30 @@ def told_before(plain, number):
     return plain.told[:sum(call.length for call in plain.calls if call.name == "tell" and call.number < number)]
 
 
+def is_look_at_input(plain, call):
+    """Whether a file that was opened to be read is looked at, which is done to read ahead and to keep it where it is a regular one."""
+    before = plain.calls[call.number - 2]
+    return call.name == "look" and before.name == "open" and before.file == call.file
+
+
+def errors_of(case, plain, call):
+    """The errors of this call that are told, and what goes unnoticed."""
+    told, unnoticed = ERRORS[call.name], UNNOTICED.get(call.name, [])
+    if is_look_at_input(plain, call):
+        return [], told
+    if call.name == "open" and case.pages and call.file != "job":
+        # The files that are kept are closed for it.
+        return [error for error in told if error != errno.EMFILE], [*unnoticed, errno.EMFILE]
+    return told, unnoticed
+
+
 def line_of(case, plain, call):
     """The status and what is told where this call of reading or writing fails."""
-    if call.name not in ("open", "read"):
+    if call.name not in READING:
         return 6, case.writes[runs.final_of(call.file)]
     line = case.reads[call.file]
     if case.pages and call.file != "job":
-        page = sum(one.name == "open" and one.file == call.file and one.number <= call.number for one in plain.calls) - 1
+        page = sum(one.name in ("open", "seek") and one.file == call.file and one.number <= call.number for one in plain.calls) - 1
         line = "page %d: %s" % (page, line) if page < case.pages else line
     return 5, line
 
@@ -122,13 +142,14 @@ class Trials:
 
     def of_errors(self, call):
         about = "%d %s %s" % (call.number, call.name, call.file)
-        for what in self.some(ERRORS[call.name], call):
+        told, unnoticed = errors_of(self.case, self.plain, call)
+        for what in self.some(told, call):
             yield "%s: %s" % (about, word_of(what)), lambda what=what: self.noticed(call, what)
         if not self.is_short and ERRORS[call.name]:
             yield about + ": EIO, and in all that follows", lambda: self.lost(call)
         if call.name == "write":
             yield about + ": ENOSPC, and in each write that follows", lambda: self.full(call)
-        for what in self.some(UNNOTICED.get(call.name, []), call):
+        for what in self.some(unnoticed, call):
             if what != "short" or call.length > 1:
                 yield "%s: %s" % (about, word_of(what)), lambda what=what: self.unnoticed("%d=%s" % (call.number, what))
 
@@ -170,7 +191,8 @@ class Trials:
         """All calls fail from this one on."""
         ended, left = without_beside(self.run("%d+any=%d" % (call.number, errno.EIO))[0])
         new = {name for number, name in renamed(self.plain) if number < call.number}
-        status = 5 if call.name in ("open", "read") and (call.file == "list" or not self.case.lines) else 6
+        is_read = call.name in READING or is_look_at_input(self.plain, call)
+        status = 5 if is_read and (call.file == "list" or not self.case.lines) else 6
         told = told_before(self.plain, call.number)
         return differs(ended, status, told, files_of(self.case, self.plain, self.before, new)) or (
             "" if left <= 1 else "%d files are left" % left)

@@ -54,9 +54,10 @@ APPLY = case("trapset", ["apply", "set", "Cyan:c.out", "Magenta:m.out"],
              {"Cyan": PAIR["Cyan"], "Magenta": PAIR["Magenta"], "set": SET}, ["c.out", "m.out"], ["m.out"])
 RUN = run_case()
 POOL = pool_case()
+SHEET = case("trapsheet", ["2", *PAGE[1:]], PAIR, ["c.out", "m.out", "report"], ["c.out", "report"])
 
 # These write files in ways that a place on the disk can stand in the way of.
-WRITING = [TRAP, TRAPS, APPLY, RUN, POOL]
+WRITING = [TRAP, TRAPS, APPLY, RUN, POOL, SHEET]
 
 CASES = [
     TRAP,
@@ -71,6 +72,7 @@ CASES = [
     RUN,
     case("presscheck", ["1", "job", "Cyan:Cyan", "Magenta:Magenta"], PAIR, []),
     POOL,
+    SHEET,
 ]
 
 # The same page by another job, and another set, for two runs into the same names.

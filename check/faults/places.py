@@ -1,10 +1,12 @@
 """Places on a disk that stand in the way of a run: folders, links, devices, pipes, rights, a full disk, and another run."""
 import os
+import select
 import tempfile
 import threading
 
 from . import runs
 from .calls import before_of, differs
+from .cases import OLD
 
 _skipped = {}
 
@@ -185,6 +187,38 @@ def standard_output(place):
     return wrong or ("" if parts[1] and parts[0] + parts[2] == place.plain.told else "told %r" % ended.told)
 
 
+def standard_output_into_a_file(place, mode="wb"):
+    """Where standard output is a regular file, what stands in it stays, and what is written comes after it."""
+    place.link("/dev/stdout")
+    path = os.path.join(place.room, "told")
+    with open(path, mode, buffering=0) as file:
+        file.write(OLD)
+        ended = runs.run(place.case, place.folder, stdout=file)
+    with open(path, "rb") as file:
+        told = file.read()
+    files = {**place.plain.files, place.name: "/dev/stdout"}
+    parts = told[len(OLD):].partition(place.data())
+    is_right = told.startswith(OLD) and parts[1] and parts[0] + parts[2] == place.plain.told.encode()
+    return differs(ended, 0, "", files) or ("" if is_right else "the file holds %r" % told)
+
+
+def standard_output_onto_a_file(place):
+    return standard_output_into_a_file(place, "ab")
+
+
+def a_file_that_is_open(place):
+    """A file that the program was given open is written after what it holds."""
+    with open(os.path.join(place.room, "open"), "wb+", buffering=0) as file:
+        file.write(OLD)
+        to = "/proc/self/fd/%d" % file.fileno()
+        place.link(to)
+        ended = runs.run(place.case, place.folder, pass_fds=[file.fileno()])
+        file.seek(0)
+        held = file.read()
+    wrong = differs(ended, 0, place.plain.told, {**place.plain.files, place.name: to})
+    return wrong or ("" if held == OLD + place.data() else "the file holds %r" % held)
+
+
 def a_pipe(place):
     """A reader of a pipe gets the whole file."""
     place.remove()
@@ -198,24 +232,16 @@ def a_pipe(place):
     reader = threading.Thread(target=read, daemon=True)
     reader.start()
     wrong = place.written({place.name: "special"})
-    reader.join(10)
+    reader.join(60)
     return wrong or ("" if got == [place.data()] else "the reader got %r" % got)
 
 
 def the_input(place):
-    """The output is a link to a plate that is read."""
+    """The output is a link to a plate that is read, to the end, and only then replaced, or meanwhile by its name alone."""
     name = "Cyan" if "Cyan" in place.case.files else "a.c"
     to = os.path.relpath(name, os.path.dirname(place.name) or ".")
     place.link(to)
-    if not place.case.pages:
-        return place.written({place.name: to, name: (0o644, place.data())})
-    # A run reads its plates again for each page, so what it finds then is refused; each file is yet whole.
-    before = runs.held(place.folder)
-    ended = runs.run(place.case, place.folder)
-    whole = {**{one: (before.get(one), place.plain.files[one]) for one in place.plain.files}, place.name: (to,),
-             name: (before[name], (0o644, place.data()))}
-    bad = [one for one in ended.files if ended.files[one] not in whole.get(one, ())]
-    return "" if ended.status in (0, 4) and not bad else "status %s, not whole: %s" % (ended.status, ", ".join(bad))
+    return place.written({place.name: to, name: (0o644, place.data())})
 
 
 def a_missing_input(place):
@@ -249,11 +275,15 @@ def no_reader(case):
     folder, (reader, writer) = runs.room_for(case), os.pipe()
     os.close(reader)
     try:
-        running = runs.start(case, folder, stdout=writer)
-        os.close(writer)
-        status = runs.end(running, folder).status
+        # A process that another trial begins may have the reader's end for a moment.
+        gone = select.poll()
+        gone.register(writer, 0)
+        if not gone.poll(60_000):
+            return "the pipe has a reader yet"
+        status = runs.run(case, folder, stdout=writer).status
         return "" if status == 6 else "status %s" % status
     finally:
+        os.close(writer)
         runs.clear(folder)
 
 

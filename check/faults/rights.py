@@ -1,4 +1,5 @@
 """Rights that are missing, as a user that is not root; disks that are full or read-only; and another run at the same time."""
+import errno
 import os
 import shutil
 import subprocess
@@ -47,6 +48,47 @@ def a_file_that_may_not_be_written(place):
     return refused_as_nobody(place, place.path, 0o440)
 
 
+OTHER, OTHER_GROUP, OTHER_MODE = 12345, 23456, 0o6754
+
+
+def owned(place):
+    """The owner, the group and the mode of the output."""
+    told = os.stat(place.path)
+    return told.st_uid, told.st_gid, told.st_mode & 0o7777
+
+
+def a_file_of_another(place, wanted=(OTHER, OTHER_GROUP, OTHER_MODE), **how):
+    """A file that is replaced keeps its owner, its group and its rights, those to run as its owner too."""
+    if os.getuid() != 0:
+        skip("files of other owners", "this is not root")
+        return ""
+    place.make(place.name, b"kept")
+    os.chown(place.path, OTHER, OTHER_GROUP)
+    os.chmod(place.path, OTHER_MODE)
+    ended = runs.run(place.case, place.folder, **how)
+    files = {**place.plain.files, place.name: (wanted[2] & 0o777, place.data())}
+    wrong = differs(ended, 0, place.plain.told, files)
+    return wrong or ("" if owned(place) == wanted else "owner, group, mode are %s" % (owned(place),))
+
+
+def an_owner_that_may_not_be_given(place, library):
+    """The file is whoever's ran the program, and no program runs by it as its owner."""
+    return a_file_of_another(place, (os.getuid(), os.getgid(), OTHER_MODE & 0o777), library=library, faults="1+owner=%d" % errno.EPERM)
+
+
+def a_file_of_another_as_nobody(place):
+    """Who may write a file and not give it away becomes its owner."""
+    way = as_nobody(place)
+    if not way or os.getuid() != 0:
+        return ""
+    place.make(place.name, b"kept", 0o2666)
+    os.chown(place.path, OTHER, OTHER_GROUP)
+    os.chmod(place.path, 0o2666)
+    ended = runs.run(place.case, place.folder, before=way[0], program=way[1])
+    wrong = differs(ended, 0, place.plain.told, {**place.plain.files, place.name: (0o666, place.data())})
+    return wrong or ("" if owned(place) == (NOBODY, NOBODY, 0o666) else "owner, group, mode are %s" % (owned(place),))
+
+
 def a_folder_that_may_not_be_changed(case):
     """The files in it may be written, and yet none begun beside them. Those in another folder are written."""
     with Place(case, next(iter(case.writes))) as place:
@@ -87,12 +129,10 @@ def a_folder_without_rights(case):
             return ""
         before = [*way[0], "sh", "-c", 'chmod 0 . && exec "$@"', "sh"]
         try:
-            running = runs.start(case, place.folder, before=before, program=way[1])
-            told, _ = running.communicate(timeout=60)
+            status, told = runs.status_and_told(runs.start(case, place.folder, before=before, program=way[1]))
         finally:
             os.chmod(place.folder, 0o755)
-        ended = runs.Ended(running.returncode, told.decode(), runs.held(place.folder), [])
-        return differs(ended, 5, case.reads[first], place.before)
+        return differs(runs.Ended(status, told, runs.held(place.folder), []), 5, case.reads[first], place.before)
 
 
 class Disk:
@@ -129,10 +169,10 @@ class Disk:
 
     def made_read_only(self):
         """It is busy while a process that another trial begins has yet the files that this one wrote."""
-        for _ in range(100):
+        for _ in range(600):
             if subprocess.run(["mount", "-o", "remount,ro", self.folder], capture_output=True).returncode == 0:
                 return True
-            time.sleep(0.05)
+            time.sleep(0.1)
         return False
 
     def judged(self):
@@ -197,12 +237,12 @@ def two_at_once(case, count):
         folder = runs.room_for(one)
         try:
             running = [runs.start(which, folder) for which in (one, two)]
-            ended = [runs.end(which, folder) for which in running]
+            statuses = [runs.status_and_told(which)[0] for which in running]
+            files = runs.held(folder)
         finally:
             runs.clear(folder)
-        files = ended[1].files
         bad = [name for name in one.writes if files.get(name, (0, b""))[1] not in [end.files[name][1] for end in plain]]
         bad += [name for name in files if runs.is_beside(name)]
-        if bad or [end.status for end in ended] != [0, 0]:
-            return "statuses %s, files that are not whole, or left: %s" % ([end.status for end in ended], ", ".join(bad))
+        if bad or statuses != [0, 0]:
+            return "statuses %s, files that are not whole, or left: %s" % (statuses, ", ".join(bad))
     return ""

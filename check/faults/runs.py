@@ -17,6 +17,9 @@ Ended = namedtuple("Ended", "status told files calls")
 # Cases stand in memory where that can be had, since each file is written through.
 ROOM = "/dev/shm" if os.access("/dev/shm", os.W_OK | os.X_OK) else None
 
+# How many seconds a run may take. Each takes milliseconds where nothing else is at work.
+LONGEST_RUN = 180
+
 BESIDE = re.compile(r"(^|.*/)\.(.*)\.trap-[0-9]+")
 KEPT_MODE = 0o640
 
@@ -101,14 +104,19 @@ def start(case, folder, faults="", library=None, log=None, before=(), program=No
     return subprocess.Popen([*before, program or program_of(case.program), *case.words], cwd=folder, env=surroundings, **options)
 
 
-def end(running, folder, calls=()):
+def status_and_told(running):
+    """Waits for the end of a run, and not too long."""
     try:
-        told, _ = running.communicate(timeout=60)
+        told, _ = running.communicate(timeout=LONGEST_RUN)
     except subprocess.TimeoutExpired:
         running.kill()
         running.communicate()
-        return Ended("none within a minute", "", held(folder), calls)
-    return Ended(running.returncode, (told or b"").decode("utf-8", "replace"), held(folder), calls)
+        return "none within %d seconds" % LONGEST_RUN, ""
+    return running.returncode, (told or b"").decode("utf-8", "replace")
+
+
+def end(running, folder):
+    return Ended(*status_and_told(running), held(folder), [])
 
 
 def run(case, folder, **how):

@@ -7,7 +7,8 @@ RACES, SHORT_RACES = 40, 6
 OUTPUT_WAYS = [
     places.a_folder, places.a_link, places.a_link_by_its_whole_path, places.a_link_to_nothing, places.a_link_into_no_folder,
     places.a_link_to_itself, places.another_name, places.a_name_that_is_taken, places.a_device_that_is_full,
-    places.standard_output, places.a_pipe, places.the_input, rights.a_file_that_may_not_be_written,
+    places.standard_output, places.standard_output_into_a_file, places.standard_output_onto_a_file, places.a_file_that_is_open,
+    places.a_pipe, places.the_input, rights.a_file_that_may_not_be_written, rights.a_file_of_another, rights.a_file_of_another_as_nobody,
 ]
 INPUT_WAYS = [places.a_missing_input, places.a_folder_to_read, places.a_pipe_to_read, rights.an_unreadable_input]
 
@@ -26,13 +27,13 @@ def some(choices, is_short):
     return choices if not is_short or len(choices) < 3 else [choices[0], choices[-1]]
 
 
-def all_of(program, is_short):
+def all_of(program, library, is_short):
     """All trials of a program, each as a text that says what it does and a call that says what was wrong."""
     for case in CASES:
         if case.program != program:
             continue
         if case in WRITING:
-            yield from of_outputs(case, is_short)
+            yield from of_outputs(case, library, is_short)
             yield from of_disks(case, is_short)
         yield from of_inputs(case, is_short)
         if places.plain_of(case).told:
@@ -41,11 +42,13 @@ def all_of(program, is_short):
         yield "name %s" % case.words[2][:20], lambda case=case, is_right=is_right: places.named(case, is_right)
 
 
-def of_outputs(case, is_short):
+def of_outputs(case, library, is_short):
     # What stands in place of an output that is an input too could not be read.
     for name in some([name for name in case.writes if name not in case.files], is_short):
         for way in OUTPUT_WAYS:
             yield about(way, name), lambda way=way, name=name: at(way, case, name)
+        way = rights.an_owner_that_may_not_be_given
+        yield about(way, name), lambda way=way, name=name: at(lambda place: way(place, library), case, name)
 
 
 def of_inputs(case, is_short):

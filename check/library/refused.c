@@ -1,4 +1,4 @@
-/* refused: traps a small page with each request for memory refused in turn. Each call has to answer TRAP_MEMORY, say so and leave the
+/* refused: traps a small page, and then a window, with each request for memory refused in turn. Each call has to answer TRAP_MEMORY, say so and leave the
  * samples as they were, until one has all that it asks for; and what was taken is always given back. It is linked with
  * --wrap=malloc, --wrap=realloc and --wrap=free. */
 #include <stdio.h>
@@ -10,6 +10,10 @@
 enum { WIDTH = 12, HEIGHT = 5, PLANES = 2, SAMPLES = PLANES * WIDTH * HEIGHT, MOST = 100000 };
 
 static long asked, refused = -1, held;
+
+/* Where the window stands, on a sheet of twice its width; 0 for a page. */
+static const struct trap_place window = {2 * WIDTH, HEIGHT, 0, 0, 0, 0, WIDTH - 6, HEIGHT};
+static const struct trap_place *place;
 
 void *__real_malloc(size_t size);
 void *__real_realloc(void *old, size_t size);
@@ -44,8 +48,11 @@ static int judged(const uint16_t *before) {
   size_t text_len = 0;
   memcpy(samples, before, sizeof samples);
   asked = held = 0;
-  trap_status status = trap_planes16((const uint8_t *)job, sizeof job - 1, (const uint8_t *)"Cyan\nMagenta", 12, samples, SAMPLES,
-                                     WIDTH, HEIGHT, WIDTH, 255, text, sizeof text, &text_len);
+  const uint8_t *told = (const uint8_t *)job, *names = (const uint8_t *)"Cyan\nMagenta";
+  trap_status status = place ? trap_window16(told, sizeof job - 1, names, 12, samples, SAMPLES, WIDTH, HEIGHT, WIDTH, 255, place, text,
+                                             sizeof text, &text_len)
+                             : trap_planes16(told, sizeof job - 1, names, 12, samples, SAMPLES, WIDTH, HEIGHT, WIDTH, 255, text,
+                                             sizeof text, &text_len);
   if (held) return printf("request %ld refused: %ld blocks were not given back\n", refused, held), 2;
   if (status == TRAP_DONE) return asked == refused && memcmp(samples, before, sizeof samples) ? 1 : 2;
   int is_right = status == TRAP_MEMORY && text_len == 14 && !memcmp(text, "out of memory\n", 14) && !memcmp(samples, before, sizeof samples);
@@ -53,13 +60,20 @@ static int judged(const uint16_t *before) {
   return is_right ? 0 : 2;
 }
 
-int main(void) {
-  uint16_t before[SAMPLES];
-  for (int k = 0; k < SAMPLES; k++) before[k] = (k % WIDTH < WIDTH / 2) == (k < SAMPLES / 2) ? 255 : 0;
+/* 0 where each request is refused as it has to be, by the calls of one kind. */
+static int all_refused(const uint16_t *before, const char *kind) {
   for (refused = 0; refused < MOST; refused++) {
     int answer = judged(before);
     if (answer == 2) return 1;
-    if (answer == 1) return printf("library: %ld requests for memory, each refused in turn, as it has to be\n", refused), 0;
+    if (answer == 1) return printf("library: %s: %ld requests for memory, each refused in turn, as it has to be\n", kind, refused), 0;
   }
   return 1;
+}
+
+int main(void) {
+  uint16_t before[SAMPLES];
+  for (int k = 0; k < SAMPLES; k++) before[k] = (k % WIDTH < 4) == (k < SAMPLES / 2) ? 255 : 0;
+  int is_wrong = all_refused(before, "a page");
+  place = &window;
+  return all_refused(before, "a window") | is_wrong;
 }

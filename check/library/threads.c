@@ -1,4 +1,5 @@
-/* threads [PAGES]: eight threads trap pages at once, each its own, by both calls; each page has to come out as it does alone. */
+/* threads [PAGES]: eight threads trap pages at once, each its own, by the calls of a page and of a window; each has to come out as
+ * it does alone. */
 #include <pthread.h>
 #include <stdio.h>
 #include <stdlib.h>
@@ -34,20 +35,37 @@ static void draw(uint16_t *samples, unsigned page) {
   }
 }
 
-/* Even pages are held as 16-bit numbers, odd ones as bytes. */
-static void trap_page(struct answer *answer, int page) {
-  draw(answer->samples, page);
-  const uint8_t *told = (const uint8_t *)job, *listed = (const uint8_t *)names;
-  if (page % 2 == 0) {
-    answer->status = trap_planes16(told, sizeof job - 1, listed, sizeof names - 1, answer->samples, SAMPLES, WIDTH, HEIGHT, WIDTH, 255,
-                                   answer->text, sizeof answer->text, &answer->text_len);
-    return;
-  }
+static const uint8_t *const told = (const uint8_t *)job, *const listed = (const uint8_t *)names;
+
+static trap_status by_words(struct answer *answer, const struct trap_place *place) {
+  if (!place)
+    return trap_planes16(told, sizeof job - 1, listed, sizeof names - 1, answer->samples, SAMPLES, WIDTH, HEIGHT, WIDTH, 255,
+                         answer->text, sizeof answer->text, &answer->text_len);
+  return trap_window16(told, sizeof job - 1, listed, sizeof names - 1, answer->samples, SAMPLES, WIDTH, HEIGHT, WIDTH, 255, place,
+                       answer->text, sizeof answer->text, &answer->text_len);
+}
+
+static trap_status by_bytes(struct answer *answer, const struct trap_place *place) {
   uint8_t bytes[SAMPLES];
   for (int k = 0; k < SAMPLES; k++) bytes[k] = (uint8_t)answer->samples[k];
-  answer->status = trap_planes8(told, sizeof job - 1, listed, sizeof names - 1, bytes, SAMPLES, WIDTH, HEIGHT, WIDTH, 255, answer->text,
-                                sizeof answer->text, &answer->text_len);
+  trap_status status =
+      place ? trap_window8(told, sizeof job - 1, listed, sizeof names - 1, bytes, SAMPLES, WIDTH, HEIGHT, WIDTH, 255, place,
+                           answer->text, sizeof answer->text, &answer->text_len)
+            : trap_planes8(told, sizeof job - 1, listed, sizeof names - 1, bytes, SAMPLES, WIDTH, HEIGHT, WIDTH, 255, answer->text,
+                           sizeof answer->text, &answer->text_len);
   for (int k = 0; k < SAMPLES; k++) answer->samples[k] = bytes[k];
+  return status;
+}
+
+/* Even pages are held as 16-bit numbers, odd ones as bytes. Of each four, two are windows of a sheet, with the halo that is told. */
+static void trap_page(struct answer *answer, int page) {
+  draw(answer->samples, page);
+  uint32_t halo = 0;
+  answer->status = trap_halo(told, sizeof job - 1, &halo, answer->text, sizeof answer->text, &answer->text_len);
+  if (answer->status) return;
+  struct trap_place window = {1000, 1000, 300, 400, halo, halo, WIDTH - 2 * halo, HEIGHT - 2 * halo};
+  const struct trap_place *place = page / 2 % 2 ? &window : 0;
+  answer->status = page % 2 ? by_bytes(answer, place) : by_words(answer, place);
 }
 
 static void *walk(void *first) {

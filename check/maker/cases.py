@@ -206,7 +206,7 @@ def traprun(rng):
     name = rng.choice(inputs)
     if rng.random() < 0.12 and name in files:
         files[name] = rng.choice([b"", files[name] * 2, *(files[name] + more for more in MORE_BYTES)])
-    # With a page's number behind it the name of a device would be that of a new file outside the folder.
+    # With a page's number after it the name of a device would be that of a new file outside the folder.
     report, *written = (name.replace(FULL, "full") for name in [output_name(rng, "report"), *outputs(rng, inputs)])
     plain = [one for one in [report, *written] if "/" not in one and len(one) < 100]
     if rng.random() < 0.03 and plain:
@@ -228,7 +228,7 @@ def like_an_output(rng, files, inputs, written):
     return inputs
 
 
-# What may stand behind the images of a plate file: whole plates, and ones with a fault.
+# What may stand after the images of a plate file: whole plates, and ones with a fault.
 MORE_BYTES = [b"P5 1 1 1 \1", b"P", b"\n", b"P5x", b"P5 0 1 1\n", b"P5 16384 16384 1\n", b"P5 1 1 0\n",
               b"P5 1 1 9\n\n", b"P5 2 1 9\n\1"]
 
@@ -298,4 +298,29 @@ def large_case():
     return Case("trap", words, files, False)
 
 
-MAKERS = {"trap": trap, "trapset": trapset, "traprun": traprun, "presscheck": presscheck, "trappool": trappool}
+def trapsheet(rng):
+    """A page, now and then one whose plates are too wide for a page."""
+    files = {}
+    picture, job, inputs = one_page(rng, files)
+    if rng.random() < 0.03:
+        job, inputs = wide_sheet(rng, files, len(inputs))
+    report = rng.choice(inputs + [job]) if rng.random() < 0.02 else output_name(rng, "report")
+    words = [workers_word(rng), job, report, *joined(picture.names, inputs, outputs(rng, inputs))]
+    return with_bad_words(rng, words), files
+
+
+def wide_sheet(rng, files, count):
+    """Plates above a page's limits of a few rows or columns, and a job that traps nothing, some with a zone that is refused."""
+    side = rng.choice([16385, 16384, 20000, 262144, 262145])
+    width, height = rng.choice([(side, 1), (1, side), (side, 2)]) if side < 100000 else (side, 1)
+    resolution, far = rng.choice([(600, 288), (9973, 288), (600, 1000000), (72, 999000)])
+    zone = b"0 0 moveto %d 0 lineto 0 9 lineto settrapzone " % far if rng.random() < 0.7 else b""
+    files["sheet-job"] = (b"<< /HWResolution [%d %d] >> setpagedevice << /Enabled false >> settrapparams " % (resolution, resolution)
+                          + zone + b"showpage")
+    for plate in range(count):
+        files["s%d" % plate] = b"P5 %d %d 1\n" % (width, height) + bytes(rng.randrange(2) for _ in range(width * height))
+    return "sheet-job", ["s%d" % plate for plate in range(count)]
+
+
+MAKERS = {"trap": trap, "trapset": trapset, "traprun": traprun, "presscheck": presscheck, "trappool": trappool,
+          "trapsheet": trapsheet}

@@ -5,7 +5,7 @@ GAPS = [b" ", b"\n", b"\t", b"\r", b"\f", b"\0", b"\r\n", b"  ", b"% a comment\n
 
 
 def value(rng, number):
-    """A number in ten-thousandths, spelled in one of its ways. Digits behind the fourth are cut when it is read."""
+    """A number in ten-thousandths, spelled in one of its ways. Digits after the fourth are cut when it is read."""
     sign = "-" if number < 0 else rng.choice(["", "", "", "+"])
     whole, fraction = divmod(abs(number), 10000)
     digits = "%04d" % fraction

@@ -3,7 +3,7 @@
 It is written to be checked by reading, and not to be fast. Numbers of the rule are whole: parameters, densities and
 coordinates in ten-thousandths, places in samples or in half-samples. Want of memory is not a part of it.
 """
-from . import presscheck, trap, trappool, trapset, traprun
+from . import presscheck, trap, trappool, traprun, trapset, trapsheet
 from .outside import TellFault
 from .refusals import Refusal
 
@@ -13,6 +13,7 @@ PROGRAMS = {
     "traprun": traprun.run,
     "presscheck": presscheck.run,
     "trappool": trappool.run,
+    "trapsheet": trapsheet.run,
 }
 
 

@@ -6,7 +6,7 @@ then a plate of another size or maxval than plate 0, then too many samples, then
 from .entries import S, Ink
 from .jobs import LONGEST_JOB, job_of
 from .outside import ReadFault
-from .plates import MOST_SAMPLES, plate_of, tints_of
+from .plates import PAGE, plate_of, tints_of
 from .refusals import JobFault, PlateFault, job_refusal, no_details, page_refusal, plate_refusal, read_refusal
 
 WIDEST_REACH = 256
@@ -38,13 +38,13 @@ def zone_reach(zone, resolution):
     return zone.params["TrapWidth"] * factor * resolution // (36 * S * S)
 
 
-def assemble(job, plates, names):
+def assemble(job, plates, names, limits=PAGE):
     """The page, or its first refusal: a colorant without details, then plates and zones that make no page."""
     trapping = any(zone.params["Enabled"] for zone in job.zones)
     for number, name in enumerate(names):
         if trapping and name not in job.details:
             raise no_details(number)
-    judge_shapes(plates)
+    judge_shapes(plates, limits)
     for number, zone in enumerate(job.zones):
         if zone.params["Enabled"] and zone_reach(zone, job.resolution) > WIDEST_REACH:
             raise page_refusal("ReachTooWide zone %d" % number)
@@ -54,15 +54,15 @@ def assemble(job, plates, names):
                 inks, job.zones)
 
 
-def judge_shapes(plates):
-    """All plates have the sides and the maxval of plate 0, and together not too many samples."""
+def judge_shapes(plates, limits):
+    """All plates have the sides and the maxval of plate 0, and those of a page together not too many samples."""
     first = plates[0]
     for number, plate in enumerate(plates):
         if (plate.width, plate.height) != (first.width, first.height):
             raise page_refusal("SizeDiffers plate %d" % number)
         if plate.maxval != first.maxval:
             raise page_refusal("MaxvalDiffers plate %d" % number)
-    if first.width * first.height * len(plates) > MOST_SAMPLES:
+    if limits is PAGE and first.width * first.height * len(plates) > PAGE.samples:
         raise page_refusal("TooManySamples")
 
 
@@ -86,10 +86,10 @@ def judged_job(data):
         raise job_refusal(fault)
 
 
-def read_plate(outside, name, number):
+def read_plate(outside, name, number, limits=PAGE):
     data = read_file(outside, name, "plate %d" % number)
     try:
-        return plate_of(data)
+        return plate_of(data, limits)
     except PlateFault as fault:
         raise plate_refusal(number, fault)
 

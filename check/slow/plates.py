@@ -14,17 +14,21 @@ LONGEST_SIDE = 16384
 MOST_SAMPLES = 160000000
 GREATEST_MAXVAL = 65535
 
+# The limits of a plate: the samples of a side, and those of all.
+Limits = namedtuple("Limits", "side samples")
+PAGE, SHEET = Limits(LONGEST_SIDE, MOST_SAMPLES), Limits(262144, 262144 ** 2)
+
 Plate = namedtuple("Plate", "width height maxval samples")
 
 WHITE = b" \t\r\n\v\f"
 GAP_ITEM = re.compile(rb"[ \t\r\n\v\f]|#[^\r\n]*[\r\n]")
 DIGITS = re.compile(rb"[0-9]+")
 
-# A number of a header: its value, the place of its first digit, and the place behind its last.
+# A number of a header: its value, the place of its first digit, and the place after its last.
 Number = namedtuple("Number", "value first end")
 
 
-class Front:
+class Prefix:
     """How many bytes may begin a header (`reach`), the numbers among them, and whether they are a whole one.
 
     The numbers' values and the header's length are not looked at here.
@@ -39,7 +43,7 @@ class Front:
         return self.is_one_of(b"P") and self.is_one_of(b"5")
 
     def is_one_of(self, allowed):
-        """Whether the next byte is one of these. It then belongs to the front."""
+        """Whether the next byte is one of these. It then belongs to the prefix."""
         found = self.data[self.reach:self.reach + 1]
         if found and found in allowed:
             self.reach += 1
@@ -47,7 +51,7 @@ class Front:
         return False
 
     def is_gap(self):
-        """One item or more. A comment that does not end belongs to the front, up to the end of the bytes."""
+        """One item or more. A comment that does not end belongs to the prefix, up to the end of the bytes."""
         begun = self.reach
         while item := GAP_ITEM.match(self.data, self.reach):
             self.reach = item.end()
@@ -69,43 +73,43 @@ def value_of(digits):
     return int(digits.lstrip(b"0")[:12] or b"0")
 
 
-def header_faults(front):
+def header_faults(prefix, limits):
     """The faults of a header as (moment, kind, at): a moment is the number of bytes that decide the fault."""
-    reach = front.reach
-    if not front.whole and reach < len(front.data):
+    reach = prefix.reach
+    if not prefix.whole and reach < len(prefix.data):
         yield reach + 1, "BadMagic" if reach < 2 else "BadHeader", reach
-    for count, number in enumerate(front.numbers, 1):
-        # A number is judged with the byte behind it, where that byte may stand there.
+    for count, number in enumerate(prefix.numbers, 1):
+        # A number is judged with the byte after it, where that byte may stand there.
         if number.end < reach:
-            yield from number_fault([one.value for one in front.numbers[:count]], number.first, number.end + 1)
+            yield from number_fault([one.value for one in prefix.numbers[:count]], number.first, number.end + 1, limits)
     # A header that goes on beyond its limit; a number's fault of the same moment comes first.
-    if reach >= LONGEST_HEADER and not has_header(front):
+    if reach >= LONGEST_HEADER and not has_header(prefix):
         yield LONGEST_HEADER, "BadHeader", LONGEST_HEADER
 
 
-def has_header(front):
-    return front.whole and front.reach <= LONGEST_HEADER
+def has_header(prefix):
+    return prefix.whole and prefix.reach <= LONGEST_HEADER
 
 
-def number_fault(values, first, moment):
+def number_fault(values, first, moment, limits):
     """The fault of the last of a header's numbers that have been read."""
     value = values[-1]
-    if len(values) < 3 and not 1 <= value <= LONGEST_SIDE:
+    if len(values) < 3 and not 1 <= value <= limits.side:
         yield moment, "SideRange", first
-    elif len(values) == 2 and values[0] * value > MOST_SAMPLES:
+    elif len(values) == 2 and values[0] * value > limits.samples:
         yield moment, "TooManySamples", first
     elif len(values) == 3 and not 1 <= value <= GREATEST_MAXVAL:
         yield moment, "MaxvalRange", first
 
 
-def image(data):
+def image(data, limits=PAGE):
     """The plate that the bytes begin with, and how many bytes spell it; else the first fault that they have."""
-    front = Front(data)
-    faults = list(header_faults(front))
+    prefix = Prefix(data)
+    faults = list(header_faults(prefix, limits))
     plate, end = None, None
-    if has_header(front) and not faults:
-        width, height, maxval = (number.value for number in front.numbers)
-        start, size = front.reach, 1 if maxval < 256 else 2
+    if has_header(prefix) and not faults:
+        width, height, maxval = (number.value for number in prefix.numbers)
+        start, size = prefix.reach, 1 if maxval < 256 else 2
         samples = samples_of(data[start:start + width * height * size], size)
         for place, sample in enumerate(samples if max(samples, default=0) > maxval else ()):
             if sample > maxval:
@@ -127,9 +131,9 @@ def samples_of(raster, size):
     return [high << 8 | low for high, low in zip(raster[0::2], raster[1::2])]
 
 
-def plate_of(data):
+def plate_of(data, limits=PAGE):
     """The plate that a file spells, or its first fault."""
-    plate, end = image(data)
+    plate, end = image(data, limits)
     if end < len(data):
         raise PlateFault("TrailingBytes", end)
     return plate

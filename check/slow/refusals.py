@@ -49,6 +49,10 @@ def page_refusal(what):
     return Refusal("page: " + what, PAGE)
 
 
+def sheet_refusal(what):
+    return Refusal("sheet: " + what, PAGE)
+
+
 def read_refusal(what):
     return Refusal("read fault: " + what, READ)
 

@@ -33,7 +33,7 @@ class Rule:
         centre_x, centre_y = (2 * x + 1) * 36 * S, (2 * (self.page.height - y) - 1) * 36 * S
         resolution, total = self.page.resolution, 0
         for subpath in path:
-            # Each subpath is closed: behind the last vertex stands the first.
+            # Each subpath is closed: after the last vertex stands the first.
             for (a, b), (c, d) in zip(subpath, subpath[1:] + subpath[:1]):
                 x0, y0, x1, y1 = a * resolution, b * resolution, c * resolution, d * resolution
                 side = (x1 - x0) * (centre_y - y0) - (centre_x - x0) * (y1 - y0)

@@ -31,7 +31,7 @@ def tokens_of(job):
 
 
 def token_at(job, at):
-    """The token that begins at a place, and the place behind it."""
+    """The token that begins at a place, and the place after it."""
     bracket = BRACKET.match(job, at)
     if bracket:
         return Token(BRACKETS[bracket.group()], at, None), bracket.end()
@@ -51,7 +51,7 @@ def token_at(job, at):
 
 
 def literal_at(job, at):
-    """`/` and the regular bytes behind it. A `/` directly followed by another is none."""
+    """`/` and the regular bytes after it. A `/` directly followed by another is none."""
     name = RUN.match(job, at + 1)
     end = name.end() if name else at + 1
     if end == at + 1 and job[end:end + 1] == b"/":
@@ -60,7 +60,7 @@ def literal_at(job, at):
 
 
 def end_of_text(job, at):
-    """The place behind the parenthesis that matches the one at `at`; a backslash takes the next byte with it."""
+    """The place after the parenthesis that matches the one at `at`; a backslash takes the next byte with it."""
     depth, place = 0, at
     while place < len(job):
         byte = job[place:place + 1]
@@ -82,11 +82,11 @@ def run_token(run, at):
 
 
 def ten_thousandths(spelling, at):
-    """The value of a number in ten-thousandths: the digits behind the fourth are cut."""
-    sign, whole, behind, alone = spelling.groups()
+    """The value of a number in ten-thousandths: the digits after the fourth are cut."""
+    sign, whole, after, alone = spelling.groups()
     digits = (whole or b"0").lstrip(b"0") or b"0"
     if len(digits) > 7 or int(digits) > GREATEST_WHOLE:
         raise JobFault("NumberTooLarge", at)
-    fraction = (behind or alone or b"")[:4].ljust(4, b"0")
+    fraction = (after or alone or b"")[:4].ljust(4, b"0")
     value = int(digits) * 10000 + int(fraction)
     return -value if sign == b"-" else value

@@ -42,7 +42,7 @@ def page_command(words):
 def without_options(words):
     """The words that are no options. An option stands once at most, among the words before a `--`, with one number.
 
-    Before the `--`, a word that begins with a hyphen and is longer is an option; all words behind it are plain.
+    Before the `--`, a word that begins with a hyphen and is longer is an option; all words after it are plain.
     """
     plain, seen, rest = [], set(), list(words)
     while rest:

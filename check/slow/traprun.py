@@ -115,7 +115,7 @@ def page_text(data, page):
         if is_showpage(thing) and passed == page:
             return bytes(text[:end])
         statement = first, end
-        # Only the statements of earlier pages are blanked: those of this page come behind `page` many showpages.
+        # Only the statements of earlier pages are blanked: those of this page come after `page` many showpages.
         if passed < page and thing.value not in (b"setpagedevice", b"settrapparams"):
             text[slice(*statement)] = b" " * (end - statement[0])
         passed += is_showpage(thing)
@@ -124,7 +124,7 @@ def page_text(data, page):
 
 
 def read_image(outside, name, plate, page):
-    """The image of a page in a plate file, behind those of earlier pages; None where the file ends before it."""
+    """The image of a page in a plate file, after those of earlier pages; None where the file ends before it."""
     try:
         data = outside.read(name)
     except ReadFault:

@@ -2,7 +2,7 @@
 
 A set file is these lines, each ended by LF, with single spaces and numbers without leading zeros: `trap set`;
 `page W H M plates N`; for each run `run Y X L`, its row, first sample and length, and then a tint for each plate;
-`end`. Runs ascend by row and place, lie within the page and do not overlap. A line is bad where no set has it behind
+`end`. Runs ascend by row and place, lie within the page and do not overlap. A line is bad where no set has it after
 the lines before it. Whether the set is for the plates at hand is judged once its second line is known to be good.
 """
 import re
@@ -106,7 +106,7 @@ def runs_of(data, plates):
     lines = data.split(b"\n")
     shape, runs = None, []
     for number, line in enumerate(lines, 1):
-        # What stands behind the last line feed is no line, and a set that is cut lacks a line there.
+        # What stands after the last line feed is no line, and a set that is cut lacks a line there.
         if number == len(lines) or len(line) > LONGEST_LINE:
             bad_line(number)
         if number == 1:
@@ -137,7 +137,7 @@ def page_line(line):
 
 
 def run_line(line, shape, before):
-    """The run that a line tells, or None where it is none or does not stand behind the run before it."""
+    """The run that a line tells, or None where it is none or does not stand after the run before it."""
     if not re.fullmatch(rb"run " + NUMBER + rb"(?: " + NUMBER + rb")+", line):
         return None
     numbers = list(map(int, line.split(b" ")[1:]))

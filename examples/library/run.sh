@@ -23,7 +23,14 @@ compiled() {
   "$CC" -std=c99 -D_POSIX_C_SOURCE=200809L -O2 -Wall -Wextra -Werror -I$top/library -o "$out/$1" "$1.c" $library/libtrap.a "${@:2}"
 }
 
-# compare_rip: what the RIP traps in its raster, and what page.c makes of the plates that the RIP writes untrapped.
+# trap_files JOB REPORT NAME:IN:OUT ..: traps plates as files, by the program trap where it is there, else by page.c.
+# Of three names that are known the newest.
+# shellcheck disable=SC2012
+program=$(ls -t "${CHECK_PROGRAMS:-.}/trap" $top/crates/trap/out/trap $top/out/release/trap 2>/dev/null | head -n 1)
+by=${program:+trap}
+trap_files() { if [ -n "$program" ]; then "$program" page "$@"; else $out/page -8 "$@"; fi; }
+
+# compare_rip: what the RIP traps in its raster, and what becomes of the plates as files that the RIP writes untrapped.
 compare_rip() {
   local page plate words
   mkdir $out/rendered $out/ripped $out/paged
@@ -35,7 +42,7 @@ compare_rip() {
     for plate in Cyan Magenta Yellow Black Gold_Foil Label_Red; do
       [ ! -f "$out/rendered/$page-$plate.pgm" ] || words+=("$plate:$out/rendered/$page-$plate.pgm:$out/paged/$page-$plate.pgm")
     done
-    $out/page -8 label.job "$out/paged/$page.report" "${words[@]}"
+    trap_files label.job "$out/paged/$page.report" "${words[@]}"
   done
   diff -r $out/paged $out/ripped
   ! diff -rq $out/rendered $out/ripped >$out/told || { echo "examples/library: rip.c changed nothing" >&2; exit 1; }
@@ -55,6 +62,16 @@ for width in -8 ""; do
 done
 well "page.c gives the plates and the report of the poster, as bytes and as words"
 
+# The same page band by band, from four threads.
+compiled bands -pthread
+words=()
+for ink in "${inks[@]}"; do words+=("$ink:$out/plates/$ink.pgm:$out/trapped/$ink.pgm"); done
+$out/bands $top/examples/poster/poster.job $out/report "${words[@]}"
+cmp $out/report $top/examples/poster/expected/report
+for ink in "${inks[@]}"; do gzip -dc "$top/examples/poster/expected/$ink.pgm.gz" | cmp - $out/trapped/"$ink.pgm"; done
+rm $out/report $out/trapped/*
+well "bands.c gives them too, band by band from four threads"
+
 # The header is C++ too.
 if there c++; then
   echo '#include "trap.h"
@@ -66,14 +83,13 @@ else
 fi
 
 # Ghostscript's own raster.
-headers=${GHOSTSCRIPT_HEADERS:-/usr/include}
-if [ ! -f "$headers/ghostscript/iapi.h" ] || ! ldconfig -p | grep -q 'libgs\.so\.'; then
-  skip "rip.c" "libgs and its headers (libgs-dev) are not there"
-else
-  gs=$(ldconfig -p | sed -n 's/^\s*\(libgs\.so\.[0-9]*\) .*/\1/p' | head -n 1)
-  compiled rip -I"$headers" "-l:$gs"
+if flags=$(./libgs-flags); then
+  # shellcheck disable=SC2086
+  compiled rip $flags
   compare_rip
-  well "rip.c traps the two pages of the label in Ghostscript's own raster, as page.c does with its plates as files"
+  well "rip.c traps the two pages of the label in Ghostscript's own raster, as ${by:-page.c} does with its plates as files"
+else
+  skip "rip.c" "libgs and its headers (libgs-dev) are not there"
 fi
 
 if there python3; then

@@ -3,7 +3,8 @@
 set -eu
 cd "$(dirname "$0")"
 out=out
-mkdir -p "$out"
+rm -rf "$out"
+mkdir "$out"
 for run in 1 1 7; do
   ../../trap sample 7 2048 2048 "$run" > "$out/told"
   if [ -e "$out/first" ]; then

@@ -5,6 +5,8 @@ side are taken as one first. So edges at an image's border are the matter of the
 and no images here, and so is what has fewer than 64 samples of its own.
 """
 import re
+import subprocess
+import threading
 from collections import namedtuple
 
 import press
@@ -15,6 +17,9 @@ LEAST_SAMPLES, TOUCH, CURVE_STEPS, MOST_RECTS = 64, 0.05, 8, 3000
 LEAST_SLICE, MOST_SLICES, MOST_CROSSINGS = 1.0, 200, 200_000
 ATTRIBUTE = re.compile(r'(\w+)="([^"]*)"')
 NOTHING = Rect(0, 0, 0, 0)
+# So long mutool may be at a page where nobody says it.
+USUAL_SECONDS = 600
+UNREAD = "mutool cannot read the page, or is at it for too long: images are not looked for, and are trapped inside"
 
 
 def attributes(line):
@@ -29,19 +34,21 @@ def mapped(matrix, x, y):
 class Trace:
     """The trace of a page, read line by line: the images, each with the paths that clip it."""
 
-    def __init__(self, text):
+    def __init__(self):
         self.images, self.clips, self.depth = [], [], 0
-        self.path, self.matrix = None, None
-        for line in text.splitlines():
-            self.look_at(line.strip())
+        self.path, self.matrix, self.tiles = None, None, []
 
     def look_at(self, line):
         word = re.match(r"</?(\w+)", line)
         word = word.group(1) if word else ""
         if line.startswith("</"):
             self.end_path(word)
+            self.tiles = self.tiles[:-1] if word == "tile" else self.tiles
+        elif word == "tile":
+            self.tiles = self.tiles + [self.tile_of(line)]
         elif word in ("moveto", "lineto", "curveto", "closepath"):
-            self.add_point(word, attributes(line))
+            if self.path is not None and word != "closepath":
+                self.add_point(word, attributes(line))
         elif word == "pop_clip":
             self.clips = self.clips[:-1]
         elif word.startswith("clip_"):
@@ -62,10 +69,6 @@ class Trace:
         return [float(part) for part in parts] if len(parts) == 6 else [1, 0, 0, 1, 0, 0]
 
     def add_point(self, word, values):
-        if self.path is None:
-            return
-        if word == "closepath":
-            return
         if word == "moveto":
             self.path.append([])
         if not self.path:
@@ -83,12 +86,22 @@ class Trace:
             self.clips[-1] = [points for points in self.path if len(points) > 2]
             self.path = None
 
+    def tile_of(self, line):
+        """The corners of what a pattern covers."""
+        matrix, area = self.matrix_of(line), [float(part) for part in attributes(line).get("area", "").split()]
+        return corners_of(matrix, *(area if len(area) == 4 else (0, 0, 0, 0)))
+
     def add_image(self, line):
         values = attributes(line)
         if int(values.get("width", 0)) * int(values.get("height", 0)) >= LEAST_SAMPLES:
-            matrix = self.matrix_of(line)
-            quad = [mapped(matrix, x, y) for x, y in ((0, 0), (1, 0), (1, 1), (0, 1))]
-            self.images.append((quad, [clip for clip in self.clips if clip]))
+            # A pattern with an image in it is image as far as it goes.
+            quad = (self.tiles[:1] or [corners_of(self.matrix_of(line), 0, 0, 1, 1)])[0]
+            if quad not in [other for other, _ in self.images[-1:]]:
+                self.images.append((quad, [clip for clip in self.clips if clip]))
+
+
+def corners_of(matrix, left, lower, right, upper):
+    return [mapped(matrix, x, y) for x, y in ((left, lower), (right, lower), (right, upper), (left, upper))]
 
 
 def curve_point(points, t):
@@ -177,10 +190,10 @@ def sliced(shape, margin):
     return rects
 
 
-def places_of(text, margin):
+def places_of(trace, margin):
     """The places of a trace's images, and the rectangles around the images as they are, both in the trace's own points."""
     simple, shapes, bounds = [], [], []
-    for quad, clips in Trace(text).images:
+    for quad, clips in trace.images:
         rects = [rect_of(quad)] + [rect_of(clip[0]) if len(clip) == 1 else None for clip in clips]
         xs, ys = [x for x, _ in quad], [y for _, y in quad]
         whole = Rect(min(xs), min(ys), max(xs), max(ys))
@@ -215,12 +228,26 @@ def moved_to_page(rects, info, box):
     return out
 
 
-def find(scratch, page, info, box, margin):
+def trace_of(scratch, page, seconds):
+    """The trace of a page, or None where mutool does not come to its end, or not in time."""
+    trace = Trace()
+    with press.running([press.tool("mutool"), "trace", "in.pdf", str(page)], cwd=scratch, stderr=subprocess.DEVNULL) as child:
+        watch = threading.Timer(seconds or USUAL_SECONDS, child.terminate)
+        watch.start()
+        try:
+            for line in child.stdout:
+                trace.look_at(line.decode("utf-8", "replace").strip())
+            return trace if child.wait() == 0 else None
+        finally:
+            watch.cancel()
+
+
+def find(scratch, page, info, box, margin, seconds=None):
     """The places of a page's images where no trap comes, and the rectangles around the images; None where it cannot be said."""
-    done = press.run_tool([press.tool("mutool"), "trace", "in.pdf", str(page)], cwd=scratch)
-    if done.returncode != 0 or info is None:
+    trace = trace_of(scratch, page, seconds)
+    if trace is None or info is None:
         return None
-    places, bounds = places_of(done.stdout.decode("utf-8", "replace"), margin)
+    places, bounds = places_of(trace, margin)
     largest = sorted(moved_to_page(places, info, box), key=lambda one: (one.left - one.right) * (one.upper - one.lower))
     return largest[:MOST_RECTS], moved_to_page(bounds, info, box)
 

@@ -35,6 +35,24 @@ def kind_of(text, what):
     raise press.usage(f"{what}: a kind is {', '.join(press.KINDS[:-1])} or {press.KINDS[-1]}, and not '{text}'")
 
 
+def is_utf16(text):
+    return text.startswith((b"\xff\xfe", b"\xfe\xff"))
+
+
+def not_utf8(path):
+    """What a text is instead, and what is to be done."""
+    with open(path, "rb") as file:
+        text = file.read()
+    if is_utf16(text):
+        return "in UTF-16: save it as UTF-8"
+    for number, line in enumerate(text.split(b"\n"), 1):
+        try:
+            line.decode("utf-8")
+        except UnicodeDecodeError:
+            return f"line {number}: not UTF-8: save it as UTF-8"
+    return "not UTF-8"
+
+
 def table_lines(path):
     """The lines of a table that are no comment, with their numbers. A byte order mark is left aside."""
     try:
@@ -43,7 +61,7 @@ def table_lines(path):
         text = text[len(BYTE_ORDER_MARK):] if text.startswith(BYTE_ORDER_MARK) else text
         lines = text.decode("utf-8").splitlines()
     except (OSError, UnicodeDecodeError) as fault:
-        raise Refusal(press.INPUT, f"{path}: {getattr(fault, 'strerror', None) or 'not UTF-8'}")
+        raise Refusal(press.INPUT, f"{path}: {getattr(fault, 'strerror', None) or not_utf8(path)}")
     return [(number, line) for number, line in enumerate(lines, 1) if line.strip() and not line.startswith("#")]
 
 
@@ -57,7 +75,7 @@ def inks_of_file(path):
             raise press.usage(f"{place}: an ink is a name, a density and a kind, with tabs between them")
         density = None if parts[1] == "-" else density_of(parts[1], place)
         kind = kind_of(parts[2], place) if len(parts) == 3 else None
-        inks[parts[0].encode()] = number, Known(density, kind, f"{press.shown(os.fsencode(os.path.basename(path)))}, line {number}")
+        inks[parts[0].encode()] = number, Known(density, kind, f"{press.said(os.fsencode(os.path.basename(path)))}, line {number}")
     return inks
 
 
@@ -87,6 +105,14 @@ def folded(name):
     return " ".join(re.findall(r"[^\W_]+", text.casefold()))
 
 
+def process_meant(name):
+    """The process ink that a spot is called like: cyan, PROCESS CYAN, Pantone Process Cyan C."""
+    words = folded(name).split()
+    # PANTONE Yellow C is an ink of its own.
+    words = [word for word in words if word not in ("pantone", "process", "c", "u", "m")] if "process" in words else words
+    return {(one.lower(),): one for one in press.PROCESS}.get(tuple(words))
+
+
 class Shelf:
     """A table of the library: patterns of names, each with a density, a kind, and its source's key. The sources stand in the
     comments at its head."""
@@ -105,7 +131,7 @@ class Shelf:
         return next((known for pattern, known in self.entries if fnmatch.fnmatchcase(text, pattern)), None)
 
     def within(self, name):
-        """What is known of a name that has such words in it, one after another. A pattern behind = is the whole name."""
+        """What is known of a name that has such words in it, one after another. A pattern after = is the whole name."""
         words = folded(name).split()
         if not words or words[0] in SWATCH_BOOKS:
             return None
@@ -176,12 +202,12 @@ class Inks:
         """What was told of inks that no page has: of each a line, and whether a table said it."""
         for key in sorted(set(self.densities) | set(self.kinds)):
             if key not in self.met:
-                yield f"no colorant of the page is called {press.shown(key)}", None
+                yield f"no colorant of the page is called {press.said(key)}", None
         for key, (number, _) in self.table.items():
             if key not in self.met:
                 same = [name for name in self.met if folded(name) == folded(key)]
-                like = f" (is {press.shown(min(same))} meant?)" if same else ""
-                yield f"{self.path}: line {number}: no colorant is called {press.shown(key)}{like}", self.path
+                like = f" (is {press.said(min(same))} meant?)" if same else ""
+                yield f"{self.path}: line {number}: no colorant is called {press.said(key)}{like}", self.path
 
 
 def first_of(ranks, field):

@@ -8,7 +8,7 @@
   lost=1 hour=2                            so many machines are lost after so many hours
 
 A page is reckoned by its processor first and then moves its bytes, the server being shared among all that move theirs. Pages are taken
-in their order. What a lost machine was at is done again behind all others, as by farm --again. Tells when all is done, how busy
+in their order. What a lost machine was at is done again after all others, as by farm --again. Tells when all is done, how busy
 processors and server were, and what failed.
 """
 import heapq

@@ -172,7 +172,7 @@ class Painter:
         """Of each ink, how many samples of the part have more or less of it, how much paper that is, and how much was added."""
         resolution = self.page.source.resolution
         source = self.page.source
-        lines = [f"page {source.page} of {press.shown(source.pdf)} at {resolution} pixels per inch, part " + ",".join(map(str, part))]
+        lines = [f"page {source.page} of {press.said(source.pdf)} at {resolution} pixels per inch, part " + ",".join(map(str, part))]
         wide = max(len("ink"), max(len(one.name) for one in self.page.colorants))
         lines.append(f"{'ink':<{wide}} {'more':>9} {'less':>9} {'mm2':>9} {'added':>6}")
         for one, old, new in zip(self.page.colorants, self.before, self.after):

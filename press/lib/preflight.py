@@ -24,10 +24,10 @@ OPTIONS = {"--dpi": "one", "--box": "one", "--density": "each", "--kind": "each"
            "--icc": "one", "--trap-images": "flag", **trap_words.OPTIONS}
 # A page is drawn small in about so many samples, and at no more than so many pixels per inch.
 SMALL_SAMPLES, SMALL_DPI, LEAST_DPI = 500_000, 72, 10
-MOST_PAGES = 999_999
+MOST_PAGES, LEAST_LOOK = 999_999, 60
 # What a page takes, as measured on pages of a label and of A4 (docs/FARM.md): seconds of a processor from PDF to proof, for a
-# page and for a sample; bytes a sample in trap's table; and of trapsheet's memory, whatever the size.
-SECONDS_A_PAGE, SECONDS_A_SAMPLE, TABLE_BYTES, SHEET_BYTES = 2.5, 1e-7, 12, 400_000_000
+# page and for a sample; bytes a sample in trap's table; of trapsheet the bytes of its windows, and those a sample of the sheet that it keeps.
+SECONDS_A_PAGE, SECONDS_A_SAMPLE, TABLE_BYTES, WINDOW_BYTES, SHEET_BYTES = 2.5, 1e-7, 12, 400_000_000, 4
 # From which tint on a sample has ink, and below which it has none, where one ink knocks out others: full ink is 0.
 MUCH, LITTLE = 127, 250
 KNOCK_OUT_SAMPLES = 3
@@ -83,9 +83,9 @@ def most_dpi(size, inked, longest, most):
 class Preflight:
     """The findings of a PDF. `name` is what it is called, `scratch` a folder with it as in.pdf."""
 
-    def __init__(self, name, plan, scratch, seconds=None, place="."):
+    def __init__(self, name, plan, scratch, seconds=None, place=None):
         self.name, self.plan, self.scratch, self.seconds, self.place = name, plan, scratch, seconds, place
-        self.findings, self.sheets, self.said = [], [], set()
+        self.findings, self.sheets, self.said, self.too_large = [], [], set(), {}
         self.inks = plan.inks(name)
         self.with_sheets = sheets_are_there()
         self.count, self.pages = 0, {}
@@ -96,13 +96,16 @@ class Preflight:
         if found not in self.said:
             self.said.add(found)
             self.findings.append(found)
+        return found
 
     # The whole file
 
     def look_at_file(self, asked):
         """Everything that is known without drawing, for the pages that are asked for or all. Answers these pages' numbers."""
         first, last = (asked[0], asked[-1]) if asked else (1, MOST_PAGES)
-        self.count, self.pages = sources.pages_of(self.name, self.scratch, first, last)
+        # The limit is a page's, and this is of all pages.
+        limit = max(self.seconds, LEAST_LOOK) if self.seconds else None
+        self.count, self.pages = sources.pages_of(self.name, self.scratch, first, last, limit)
         pages = asked or list(range(1, self.count + 1))
         for page in pages:
             if page > self.count:
@@ -111,9 +114,12 @@ class Preflight:
         for page in pages:
             if self.pages.get(page) is not None:
                 self.look_at_box(page)
+            elif page not in self.pages:
+                self.add("box", WARNING, page, "the page tells no size that can be read, and Ghostscript takes one of its own: its inks and "
+                         "images are not looked at")
         for page in pages:
             self.look_at_statements(page)
-        if len(pages) == self.count and all(self.pages.values()):
+        if len(pages) == self.count and all(self.pages.get(page) for page in pages):
             self.look_at_strangers(pages)
         return pages
 
@@ -129,6 +135,12 @@ class Preflight:
         _, there = sources.box_of(info, plan.box)
         if not there:
             self.add("box", WARNING, page, f"the page has no {sources.BOX_NAMES[plan.box]}: the crop or media box is taken")
+        lost, beyond = sources.cut_off(info) if plan.box == "media" else (False, None)
+        if lost and sources.is_empty(info.boxes["CropBox"]):
+            self.add("box", WARNING, page, "the CropBox is empty: nothing of the page is drawn")
+        elif lost:
+            self.add("box", WARNING if beyond else NOTE, page, "what lies outside the CropBox is not drawn" +
+                     (f", and the {sources.BOX_NAMES[beyond]} does: --box {beyond} draws that" if beyond else ""))
         if len(info.spots) + len(press.PROCESS) > press.MOST_PLATES:
             self.add("size", FAULT, page, f"{len(info.spots) + len(press.PROCESS)} colorants, and a job has at most "
                      f"{press.MOST_PLATES}", press.PLATES)
@@ -141,12 +153,17 @@ class Preflight:
         samples = width * height * inked
         longest, most = (press.LONGEST_SHEET_SIDE, None) if self.with_sheets else (press.LONGEST_SIDE, press.MOST_SAMPLES)
         fits = f"at most {most_dpi(size, inked, longest, most)} pixels per inch fit here"
+        if page in self.too_large:
+            # What was said before the inks were known.
+            self.findings.remove(self.too_large[page])
+            self.said.remove(self.too_large.pop(page))
         if max(width, height) > longest:
-            self.add("size", FAULT, page, f"{width} by {height} samples, and a side has at most {longest} ({fits})", press.PLATES)
+            self.too_large[page] = self.add("size", FAULT, page, f"{width} by {height} samples, and a side has at most {longest} ({fits})",
+                                            press.PLATES)
         elif most and samples > most:
             least = "at least " if inked == 1 else ""
-            self.add("size", FAULT, page, f"{width} by {height} samples in {least}{inked} plates with ink are {samples}, and a page "
-                     f"has at most {most} ({fits})", press.PLATES)
+            self.too_large[page] = self.add("size", FAULT, page, f"{width} by {height} samples in {least}{inked} plates with ink are "
+                                            f"{samples}, and a page has at most {most} ({fits})", press.PLATES)
         return width, height, samples
 
     def look_at_statements(self, page):
@@ -236,6 +253,9 @@ class Preflight:
     def look_at_inks(self, page, found, folder):
         plates = {one.name: os.path.join(folder, one.name + ".pgm") for one in found}
         inked = [one for one in found if not press.is_blank(plates[one.name])]
+        if not inked:
+            self.add("blank", NOTE, page, "the page is blank: no plate has ink")
+        self.look_at_spellings(page, found)
         for one in found:
             details = self.inks.details(one.colorant, one.name, one.mixed)
             for kind, level, line in separations.ink_lines(one, details):
@@ -244,14 +264,23 @@ class Preflight:
             if one.name not in press.PROCESS and technical and one in inked:
                 self.look_at_knock_out(page, one, details, plates, [other for other in inked if other is not one])
         width, height, samples = self.judge_size(page, max(1, len(inked)))
-        needs = self.needs(page, width, height, len(found), max(1, len(inked)), samples)
+        needs = self.needs(page, width, height, len(found), len(inked), samples)
         self.sheets.append(needs)
         self.judge_room(page, needs)
+
+    def look_at_spellings(self, page, found):
+        """Spots whose names are one but for capitals, blanks or accents: mostly one ink in two spellings, which makes two plates."""
+        spots = [one.colorant for one in found if one.name not in press.PROCESS]
+        for k, one in enumerate(spots):
+            for other in spots[:k]:
+                if ink_tables.folded(one) and ink_tables.folded(one) == ink_tables.folded(other):
+                    self.add("ink-twice", WARNING, page, f"{press.said(other)} and {press.said(one)} are two plates, and may be one ink "
+                             f"in two spellings")
 
     def look_at_knock_out(self, page, one, details, plates, others):
         """Whether a technical ink leaves a hole in the inks that lie around it."""
         if knocked_out(plates[one.name], [plates[other.name] for other in others]) >= KNOCK_OUT_SAMPLES:
-            shown, trapped = press.shown(one.colorant), details.kind in ("Normal", "Opaque")
+            shown, trapped = press.said(one.colorant), details.kind in ("Normal", "Opaque")
             # Whoever told the kind knows the ink, as a foil on bare paper.
             level = NOTE if details.kind_from[0] in ("told", "house") else WARNING
             meaning = "and is trapped as any other ink" if trapped else "and the hole's edge is not trapped"
@@ -261,19 +290,20 @@ class Preflight:
     def needs(self, page, width, height, inks, inked, samples):
         """What a page takes: processor seconds, memory, and disk for plates before and after and TIFF files."""
         whole = samples > press.MOST_SAMPLES or max(width, height) > press.LONGEST_SIDE
-        memory = SHEET_BYTES if whole else samples * TABLE_BYTES
+        memory = WINDOW_BYTES + samples * SHEET_BYTES if whole else samples * TABLE_BYTES
         return Sheet(page, width, height, inks, inked, samples, round(samples * SECONDS_A_SAMPLE + SECONDS_A_PAGE, 1), memory,
                      width * height * (inks + inked))
 
     def judge_room(self, page, needs):
         """Whether the machine has what the page takes."""
-        place = self.place
+        place = self.place or "."
         while not os.path.isdir(place):
             place = os.path.dirname(os.path.abspath(place))
         told = os.statvfs(place)
         if needs.disk > told.f_bavail * told.f_frsize:
-            self.add("disk", WARNING, page, f"the page takes about {press.size_text(needs.disk)} of disk, and there are "
-                     f"{press.size_text(told.f_bavail * told.f_frsize)}")
+            # So much its plates take in any case. Where they will stand is known to a command that makes them.
+            self.add("disk", FAULT if self.place else WARNING, page, f"the page takes about {press.size_text(needs.disk)} of disk, and there are "
+                     f"{press.size_text(told.f_bavail * told.f_frsize)}", press.OUTPUT if self.place else press.WARNED)
         memory = os.sysconf("SC_PAGE_SIZE") * os.sysconf("SC_PHYS_PAGES")
         if needs.memory > memory:
             self.add("memory", WARNING, page, f"the page takes about {press.size_text(needs.memory)} of memory, and the machine has "
@@ -283,17 +313,18 @@ class Preflight:
         if self.plan.options["--trap-images"]:
             return
         try:
-            found = images.find(self.scratch, page, self.pages[page], self.plan.box, 0)
+            found = images.find(self.scratch, page, self.pages[page], self.plan.box, 0, self.seconds)
         except Refusal as refusal:
             self.add("images", WARNING, page, f"{refusal.line}: images are not looked for, and are trapped inside")
             return
         if found is None:
-            self.add("images", WARNING, page, "mutool cannot read the page: images are not looked for, and are trapped inside")
+            self.add("images", WARNING, page, images.UNREAD)
         elif found[1]:
             width, height = sources.size_of(self.pages[page], self.plan.box)
             largest = max((one.right - one.left) * (one.upper - one.lower) for one in found[1]) / width / height
-            self.add("images", NOTE, page, f"{len(found[1])} images, the largest over {100 * largest:.0f}% of the page: within them "
-                     f"nothing is trapped, line work that lies over them neither (--trap-images traps there)")
+            count = "an image" if len(found[1]) == 1 else f"{len(found[1])} images, the largest"
+            self.add("images", NOTE, page, f"{count} over {100 * largest:.0f}% of the page: within images nothing is trapped, line work "
+                     f"that lies over them neither (--trap-images traps there)")
 
 
 def mask_of(path, judge):

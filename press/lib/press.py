@@ -44,6 +44,7 @@ KINDS = ("Normal", "Transparent", "Opaque", "OpaqueIgnore")
 TABLE, JOB, TRAPPED, REPORT, CHECK, JSON = "colorants.txt", "page.job", "trapped", "report", "check", "report.json"
 LOCK = ".press-lock"
 HERE = os.path.dirname(os.path.dirname(os.path.realpath(__file__)))
+PROJECT = "trap"
 
 # Where a tool comes from, for the message that it is not there.
 PACKAGES = {"gs": "ghostscript", "tifftopnm": "netpbm", "pamtotiff": "netpbm", "pnminvert": "netpbm", "mutool": "mupdf-tools",
@@ -106,6 +107,9 @@ def run_command(main, text, name=None):
     if not name and ("--help" in words or "-h" in words):
         print(text.strip() + "\n\n" + STATUSES, end="")
         sys.exit(0)
+    if not name and words == ["--version"]:
+        print(f"{command_name()} ({PROJECT}) {version()}")
+        sys.exit(0)
     try:
         status = main(words)
     except Refusal as refusal:
@@ -118,6 +122,12 @@ def run_command(main, text, name=None):
         print(clean(f"{command_name()}: {named}: {fault.strerror or fault}"), file=sys.stderr)
         status = OUTPUT
     sys.exit(status)
+
+
+def version():
+    """The project's version, which stands beside the folder of these commands."""
+    with open(os.path.join(os.path.dirname(HERE), "VERSION"), encoding="ascii") as file:
+        return file.read().strip()
 
 
 # Words
@@ -245,8 +255,8 @@ def convert(works):
         told = [" ".join(child.communicate()[1].decode("utf-8", "replace").split()) for child in children]
     for (words, _, end), child, text in zip(works, children, told):
         if child.returncode != 0:
-            need_room(os.path.dirname(end) or ".", f"{words[0]} wrote {shown(os.fsencode(os.path.basename(end)))}")
-            raise Refusal(OUTPUT, f"{shown(os.fsencode(os.path.basename(end)))}: {text or words[0] + ' failed'}")
+            need_room(os.path.dirname(end) or ".", f"{words[0]} wrote {said(os.fsencode(os.path.basename(end)))}")
+            raise Refusal(OUTPUT, f"{said(os.fsencode(os.path.basename(end)))}: {text or words[0] + ' failed'}")
 
 
 PROBE_BYTES = 1 << 18
@@ -324,10 +334,13 @@ def is_fresh(path, top):
     return True
 
 
-def large_pages():
-    """The environment in which a program is run: it may ask for large pages of memory, which come in less time. What the user
-    has set stands."""
-    return {"GLIBC_TUNABLES": "glibc.malloc.hugetlb=1", **os.environ}
+def memory_of(program):
+    """The environment in which a program is run: it may ask for large pages of memory, which come in less time; and one with a shared
+    table takes all memory from one heap, where what was freed serves again. What the user has set stands."""
+    usual = "glibc.malloc.hugetlb=1"
+    if os.path.basename(program) in ("trap", "traprun", "trappool"):
+        usual += ":glibc.malloc.mmap_max=0"
+    return {"GLIBC_TUNABLES": usual, **os.environ}
 
 
 def pictures():
@@ -523,8 +536,17 @@ def job_name(colorant, taken):
 
 
 def shown(name):
-    """A name's bytes as the table and messages show them: #xx for each byte that is no printable ASCII character, and for #."""
+    """A name's bytes as the table has them: #xx for each byte that is no printable ASCII character, and for #."""
     return "".join(chr(byte) if 32 <= byte < 127 and byte != 35 else f"#{byte:02X}" for byte in name)
+
+
+def said(name):
+    """A name's bytes as people read them: what is printable of UTF-8 as it is, and #xx for each other byte, and for blanks at its
+    ends, which nobody would see."""
+    text = name.decode("utf-8", "surrogateescape")
+    first, last = len(text) - len(text.lstrip(" ")), len(text.rstrip(" "))
+    return "".join(char if char.isprintable() and first <= k < last else
+                   "".join(f"#{byte:02X}" for byte in char.encode("utf-8", "surrogateescape")) for k, char in enumerate(text))
 
 
 def meant(text):

@@ -19,3 +19,6 @@ help() {
   sed -n '2,/^$/{s/^# \{0,1\}//;p}' "$0"
   sed -n '/^STATUSES = /,/^"""/{s/^STATUSES = """//;/^"""/d;p}' "$here/lib/press.py"
 }
+
+# Prints the project's version, which stands beside the folder press.
+version() { printf '%s (trap) %s\n' "$name" "$(cat "$here/../VERSION")"; }

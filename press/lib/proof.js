@@ -35,13 +35,14 @@ function shiftOf(k, which, across, down) {
   return [[far(across), far(down)], [-near(across), -near(down)], [-near(down), near(across)], [near(down), -near(across)]][k % 4];
 }
 
-function draw(canvas, inks, which, across, down) {
+// The plates reach over the canvas by a margin on all sides.
+function draw(canvas, inks, margin, which, across, down) {
   const context = canvas.getContext("2d");
   context.globalCompositeOperation = "source-over";
   context.fillStyle = "#fff";
   context.fillRect(0, 0, canvas.width, canvas.height);
   context.globalCompositeOperation = "multiply";
-  inks.forEach((ink, k) => { if (ink) context.drawImage(ink, ...shiftOf(k, which, across, down)); });
+  inks.forEach((ink, k) => { if (ink) context.drawImage(ink, ...shiftOf(k, which, across, down).map(part => part - margin)); });
 }
 
 for (const page of document.querySelectorAll("section.page")) {
@@ -55,7 +56,7 @@ for (const page of document.querySelectorAll("section.page")) {
     const redraw = () => {
       controls.querySelector("output").textContent = `${across.value} across, ${down.value} down, in samples`;
       all.forEach((sides, at) => parts[at].querySelectorAll("canvas").forEach((canvas, side) =>
-        draw(canvas, sides[side], which.value, +across.value, +down.value)));
+        draw(canvas, sides[side], told.margin, which.value, +across.value, +down.value)));
     };
     which.onchange = across.oninput = down.oninput = redraw;
     redraw();

@@ -1,6 +1,7 @@
 """A page of a PDF as Ghostscript's tiffsep separates it, the colorants that were found, and the job for them."""
 import os
 import re
+import shlex
 import urllib.parse
 from collections import namedtuple
 
@@ -45,11 +46,11 @@ def found_in(path, scratch, page, text):
     """The colorants that tiffsep made files of: the process inks, and then the spots by their names."""
     told = re.findall(rb'%%SeparationColor: "(.*?)" 100% ink = (\d+) (\d+) (\d+) (\d+) CMYK', text, re.DOTALL)
     mixed = {name: tuple(round(int(part) * 100 / 32_760, 1) for part in parts) for name, *parts in told}
+    process = [name.encode() for name in press.PROCESS]
     suffixes = {}
     for file in os.listdir(os.fsencode(scratch)):
         if file.startswith(b"page(") and file.endswith(b").tif"):
-            suffixes[urllib.parse.unquote_to_bytes(file[5:-5])] = file[5:-5]
-    process = [name.encode() for name in press.PROCESS]
+            suffixes[colorant_in(urllib.parse.unquote_to_bytes(file[5:-5]), [*process, *mixed])] = file[5:-5]
     if any(name not in suffixes for name in process):
         raise Refusal(press.PDF, f"{path}: page {page}: Ghostscript made no page of it")
     found, names = [], []
@@ -58,6 +59,13 @@ def found_in(path, scratch, page, text):
         look = press.PROCESS[name.decode()][1] if name in process else mixed.get(name)
         found.append(Found(name, suffixes[name], look, names[-1]))
     return found
+
+
+def colorant_in(name, known):
+    """The colorant that a file is named for: tiffsep puts a number after a name that is another's but for its capitals."""
+    if name in known:
+        return name
+    return next((one for one in known if re.fullmatch(re.escape(one) + rb"\d+", name)), name)
 
 
 def to_pgm(scratch, found, folder):
@@ -73,12 +81,17 @@ def to_pgm(scratch, found, folder):
 
 def ink_lines(one, details):
     """What has to be said of an ink that nobody told everything of: the kind of warning, its level, and the line."""
-    shown = press.shown(one.colorant)
+    shown = press.said(one.colorant)
+    # Where the name cannot be typed, the job's spelling stands for it.
+    word = shlex.quote((shown if shown.encode() == one.colorant else one.name) + "=KIND")
     if details.kind_from[0] == "name":
         yield "ink-kind", "warning", (f"{shown} is a technical ink by its name, and is taken as {details.kind} "
-                                      f"({details.kind_from[1]}): say --kind {shown}=KIND, or a line of --inks")
+                                      f"({details.kind_from[1]}): say --kind {word}, or a line of --inks")
     elif details.kind_from[0] == "library" and details.kind != "Normal":
-        yield "ink-kind", "warning", f"{shown} is taken as {details.kind} ({details.kind_from[1]}): say --kind {shown}=KIND"
+        yield "ink-kind", "warning", f"{shown} is taken as {details.kind} ({details.kind_from[1]}): say --kind {word}"
+    if one.name not in press.PROCESS and ink_tables.process_meant(one.colorant):
+        yield "process-name", "warning", (f"{shown} is a spot with a plate of its own, and is called like a process ink: is "
+                                          f"{ink_tables.process_meant(one.colorant)} meant?")
     # Of a varnish or a foil the density counts for nothing.
     if details.kind not in ("Normal", "Opaque"):
         return
@@ -103,12 +116,12 @@ def said_of(details):
 
 def job_of(source, colorants, details, statements):
     """The job's bytes, a comment on each number, and of the statements that come from files the place in it."""
-    lines = ["%!PS", f"% Page {source.page} of {press.shown(source.pdf)}, with the inks that were found on it.",
+    lines = ["%!PS", f"% Page {source.page} of {press.said(source.pdf)}, with the inks that were found on it.",
              f"<< /HWResolution [{source.resolution} {source.resolution}]  % pixels per inch",
              "   /TrappingDetails << /Type 1001 /ColorantDetails <<"]
     for one, known in zip(colorants, details):
         kind = "" if one.kind == "Normal" else f" /ColorantType /{one.kind}"
-        spelled = "" if one.name.encode() == one.colorant else f"{press.shown(one.colorant)}: "
+        spelled = "" if one.name.encode() == one.colorant else f"{press.said(one.colorant)}: "
         lines.append(f"     /{one.name} << /NeutralDensity {one.density}{kind} >>  % {spelled}{said_of(known)}")
     lines += ["   >> >>", ">> setpagedevice", ""]
     text, parts = "\n".join(lines).encode() + b"\n", []
@@ -116,7 +129,7 @@ def job_of(source, colorants, details, statements):
         if path is None:
             text += statement
             continue
-        text += f"% From {press.shown(os.fsencode(os.path.basename(path)))}:\n".encode()
+        text += f"% From {press.said(os.fsencode(os.path.basename(path)))}:\n".encode()
         parts.append((path, len(text), statement))
         text += statement.rstrip(b"\n") + b"\n\n"
     return text + b"showpage\n", parts
@@ -132,6 +145,8 @@ def read_statements(paths):
                 text = file.read()
         except OSError as fault:
             raise Refusal(press.INPUT, f"{path}: {fault.strerror}")
+        if ink_tables.is_utf16(text):
+            raise Refusal(press.INPUT, f"{path}: in UTF-16: save it as UTF-8")
         mark = ink_tables.BYTE_ORDER_MARK
         found.append(Statement(path, text[len(mark):] if text.startswith(mark) else text))
     return found

@@ -13,8 +13,9 @@ from press import Refusal
 # A page's boxes in points, as left, lower, right, upper; how it is turned; what a point of it stands for; the names of its
 # spots, and of its fonts with whether the PDF has them.
 PageInfo = namedtuple("PageInfo", "boxes rotate unit spots fonts")
-Source = namedtuple("Source", "path shown pages converted")
-HEAD_BYTES = 2048
+ROUNDING = 0.01
+AT_END, BOX_AT_END = re.compile(rb"%%BoundingBox:[ \t]*\(atend\)"), re.compile(rb"(?<![^\r\n])%%BoundingBox:[ \t]*-?\d[^\r\n]*")
+HEAD_BYTES, PRINTER_WORDS = 2048, b"\x1b%-12345X"
 BOX_NAMES = {"media": "MediaBox", "crop": "CropBox", "bleed": "BleedBox", "trim": "TrimBox", "art": "ArtBox"}
 # Tells of each page a line each: boxes, rotation, unit, and the names of spots and fonts in hexadecimal.
 TELL_PAGES = """
@@ -78,12 +79,26 @@ def complaint(done):
 
 
 def kind_of(head):
-    """What a file is by its first bytes: pdf, ps, or None."""
+    """What a file is by its first bytes: pdf, ps, or None. A driver's words for the printer may stand before PostScript."""
+    if head.lstrip(b"\x04\r\n\t ").startswith(b"%!") or head.startswith(b"\xc5\xd0\xd3\xc6"):
+        return "ps"
     if b"%PDF-" in head[:1024]:
         return "pdf"
-    if head.lstrip(b"\x04").startswith(b"%!") or head.startswith(b"\xc5\xd0\xd3\xc6"):
-        return "ps"
-    return None
+    return "ps" if head.startswith(PRINTER_WORDS) and b"%!" in head else None
+
+
+def give_postscript(path, given):
+    """The PostScript under a plain name: the file itself, or, where it tells its box at its end, a copy that tells it in front, since
+    Ghostscript looks for it there alone."""
+    with open(path, "rb") as file:
+        told_later = AT_END.search(file.read(HEAD_BYTES))
+        text = told_later and told_later.string[:2] == b"%!" and told_later.string + file.read()
+    boxes = BOX_AT_END.findall(text) if text else []
+    if not boxes:
+        os.symlink(os.path.abspath(path), given)
+        return
+    with open(given, "wb") as out:
+        out.write(text[:told_later.start()] + boxes[-1] + text[told_later.end():])
 
 
 def open_source(path, scratch, seconds=None):
@@ -95,7 +110,7 @@ def open_source(path, scratch, seconds=None):
         os.symlink(os.path.abspath(path), inside)
         return False
     given = os.path.join(scratch, "in.ps")
-    os.symlink(os.path.abspath(path), given)
+    give_postscript(path, given)
     done = ghostscript(scratch, ["-q", "-dBATCH", "-sDEVICE=pdfwrite", "-dEPSCrop", "-dAutoRotatePages=/None",
                                  "-sColorConversionStrategy=LeaveColorUnchanged", "-dAutoFilterColorImages=false",
                                  "-dColorImageFilter=/FlateEncode", "-dAutoFilterGrayImages=false", "-dGrayImageFilter=/FlateEncode",
@@ -107,10 +122,11 @@ def open_source(path, scratch, seconds=None):
     return True
 
 
-def pages_of(path, scratch, first, last):
-    """How many pages in.pdf has, and what is known of those from the first to the last."""
+def pages_of(path, scratch, first, last, seconds=None):
+    """How many pages in.pdf has, and what is known of those from the first to the last: None where Ghostscript cannot read a page, and
+    nothing where it has no size."""
     code = TELL_PAGES.replace("FIRST", str(first)).replace("LAST", str(last))
-    done = ghostscript(scratch, ["-q", "-dNODISPLAY", "--permit-file-read=in.pdf", "-c", code])
+    done = ghostscript(scratch, ["-q", "-dNODISPLAY", "--permit-file-read=in.pdf", "-c", code], seconds, f"{path}: ")
     count = re.search(rb"^pages (\d+)$", done.stdout, re.MULTILINE)
     if kind_of(need_regular(os.path.join(scratch, "in.pdf"))) is None and count is None:
         raise Refusal(press.PDF, f"{path}: it begins neither as a PDF nor as PostScript, and Ghostscript cannot read it: "
@@ -120,7 +136,9 @@ def pages_of(path, scratch, first, last):
     pages = {}
     for block in re.split(rb"^page ", done.stdout, flags=re.MULTILINE)[1:]:
         lines = [line.split() for line in block.splitlines() if line]
-        pages[int(lines[0][0])] = page_info(lines[1:])
+        info = page_info(lines[1:])
+        if info is None or not is_empty(info.boxes.get("MediaBox", (0, 0, 0, 0))):
+            pages[int(lines[0][0])] = info
     return int(count.group(1)), pages
 
 
@@ -141,7 +159,7 @@ def page_info(lines):
             fonts.append((bytes.fromhex(values[0].decode()).decode("utf-8", "replace"), values[1] == b"true"))
         elif name == b"unread":
             return None
-    return PageInfo(boxes, rotate, unit, spots, fonts) if "MediaBox" in boxes else None
+    return PageInfo(boxes, rotate, unit, spots, fonts)
 
 
 def box_of(info, box):
@@ -155,6 +173,26 @@ def box_of(info, box):
     left, lower, right, upper = one or media
     within = max(left, media[0]), max(lower, media[1]), min(right, media[2]), min(upper, media[3])
     return (within if within[0] < within[2] and within[1] < within[3] else media), there
+
+
+def cut_off(info):
+    """Whether Ghostscript leaves a strip of the media box blank, what lies outside the crop box; and which box of a sheet that is cut
+    lies partly there: bleed, trim, or None."""
+    media, crop = info.boxes["MediaBox"], info.boxes.get("CropBox")
+    if crop is None or holds(crop, media):
+        return False, None
+    named = [(box, info.boxes.get(BOX_NAMES[box])) for box in ("bleed", "trim")]
+    return True, next((box for box, one in named if one and not holds(crop, one)), None)
+
+
+def holds(one, other):
+    """Whether a box holds another, but for rounding."""
+    return (one[0] <= other[0] + ROUNDING and one[1] <= other[1] + ROUNDING and one[2] >= other[2] - ROUNDING and
+            one[3] >= other[3] - ROUNDING)
+
+
+def is_empty(box):
+    return box[0] >= box[2] or box[1] >= box[3]
 
 
 def size_of(info, box):

@@ -105,14 +105,14 @@ def entry_bytes(kind, values):
 
 
 def directory(entries, start, following=0):
-    """The image file directory that stands at `start`, its values behind it, and the place of the next one."""
+    """The image file directory that stands at `start`, its values after it, and the place of the next one."""
     heads, values = b"", b""
-    behind = start + 2 + 12 * len(entries) + 4
+    after = start + 2 + 12 * len(entries) + 4
     for tag, kind, value in sorted(entries):
         count, data = entry_bytes(kind, value)
         if len(data) <= 4:
             heads += struct.pack("<HHI", tag, kind, count) + data.ljust(4, b"\0")
         else:
-            heads += struct.pack("<HHII", tag, kind, count, behind + len(values))
+            heads += struct.pack("<HHII", tag, kind, count, after + len(values))
             values += data + b"\0" * (len(data) % 2)
     return struct.pack("<H", len(entries)) + heads + struct.pack("<I", following) + values

@@ -29,7 +29,7 @@ def width_of(text, what):
 
 
 def share_of(text, what):
-    """A share of 1, or hundredths with a % behind."""
+    """A share of 1, or hundredths with a % after."""
     number, percent = (text[:-1], True) if text.endswith("%") else (text, False)
     return press.number(number, 0, 100 if percent else 1, what) / (100 if percent else 1)
 
@@ -62,7 +62,7 @@ def preset_values(name):
         with open(path, encoding="utf-8-sig") as file:
             lines = file.read().splitlines()
     except (OSError, UnicodeDecodeError) as fault:
-        raise Refusal(press.INPUT, f"{path}: {getattr(fault, 'strerror', None) or 'not UTF-8'}")
+        raise Refusal(press.INPUT, f"{path}: {getattr(fault, 'strerror', None) or ink_tables.not_utf8(path)}")
     for number, line in enumerate(lines, 1):
         words = line.partition("#")[0].split()
         if not words:
@@ -84,7 +84,7 @@ def values_of(options):
 
 
 def decimal(number):
-    """A number as a job has it: four digits behind the point."""
+    """A number as a job has it: four digits after the point."""
     return f"{number:.4f}".rstrip("0").rstrip(".") or "0"
 
 

@@ -3,16 +3,13 @@
 import os
 import sys
 
-
-def escaped(name):
-    return "".join(chr(byte) if chr(byte).isalnum() and byte < 128 else f"#{byte:02X}" for byte in name)
+sys.dont_write_bytecode = True
+from pdf_writer import Pdf, spaces
 
 
 def page(spots, content):
     """A page's spots, all of one look, and what is drawn."""
-    spaces = " ".join(f"/S{k} [/Separation /{escaped(name)} /DeviceCMYK << /FunctionType 2 /Domain [0 1] /C0 [0 0 0 0] "
-                      f"/C1 [0 .9 .8 .1] /N 1 >>]" for k, name in enumerate(spots))
-    return spaces, content.encode()
+    return spaces(spots), content
 
 
 def squares(spots, step=12):
@@ -26,30 +23,28 @@ def image():
     return b"".join(bytes((255, 0, 0, 0) if (x // 10 + y // 10) % 2 else (0, 255, 0, 0)) for y in range(20) for x in range(40))
 
 
-def pdf(path, pages, size=(120, 48), more="", picture=b""):
-    """A PDF. `more` stands in each page's dictionary; `picture` is one that a page may draw as /Im."""
-    things = [b"<< /Type /Catalog /Pages 2 0 R >>", b""]
-    kids, drawn = [], ""
-    if picture:
-        things.append(b"<< /Type /XObject /Subtype /Image /Width 40 /Height 20 /BitsPerComponent 8 /ColorSpace /DeviceCMYK "
-                      b"/Length %d >>\nstream\n" % len(picture) + picture + b"\nendstream")
-        drawn = "/XObject << /Im 3 0 R >>"
-    for spaces, content in pages:
-        things.append(f"<< /Length {len(content)} >>\nstream\n".encode() + content + b"\nendstream")
-        things.append(f"<< /Type /Page /Parent 2 0 R /MediaBox [0 0 {size[0]} {size[1]}] {more} /Contents {len(things)} 0 R "
-                      f"/Resources << /ColorSpace << {spaces} >> {drawn} >> >>".encode())
-        kids.append(f"{len(things)} 0 R")
-    things[1] = f"<< /Type /Pages /Kids [{' '.join(kids)}] /Count {len(kids)} >>".encode()
-    file, places = b"%PDF-1.5\n", []
-    for number, thing in enumerate(things, 1):
-        places.append(len(file))
-        file += f"{number} 0 obj\n".encode() + thing + b"\nendobj\n"
-    start = len(file)
-    file += f"xref\n0 {len(places) + 1}\n0000000000 65535 f \n".encode()
-    file += b"".join(f"{place:010d} 00000 n \n".encode() for place in places)
-    file += f"trailer << /Size {len(places) + 1} /Root 1 0 R >>\nstartxref\n{start}\n%%EOF\n".encode()
+def add_image(file):
+    return file.image("/Width 40 /Height 20 /BitsPerComponent 8 /ColorSpace /DeviceCMYK", image())
+
+
+def pdf(path, pages, size=(120, 48), more="", pictured=False):
+    """A PDF. `more` stands in each page's dictionary; where it is pictured, a page may draw the picture as /Im."""
+    file = Pdf()
+    drawn = f" /XObject << /Im {add_image(file)} >>" if pictured else ""
+    for resources, content in pages:
+        file.page(content, size, resources + drawn, more)
     with open(path, "wb") as out:
-        out.write(file)
+        out.write(file.bytes(version="1.5"))
+
+
+def patterned(path, pair):
+    """A pattern with a picture in it, and a pair of colours beside it."""
+    file = Pdf()
+    tile = file.stream(f"/Type /Pattern /PatternType 1 /PaintType 1 /TilingType 1 /BBox [0 0 25 20] /XStep 25 /YStep 20 "
+                       f"/Resources << /XObject << /Im {add_image(file)} >> >>", "q 25 0 0 20 0 0 cm /Im Do Q")
+    file.page("/Pattern cs /P scn 10 4 50 40 re f " + pair, resources=f"/Pattern << /P {tile} >>")
+    with open(path, "wb") as out:
+        out.write(file.bytes())
 
 
 ODD_NAMES = [b"PANTONE 185 C", b"PANTONE/185/C", b"100% (matt)", "Gr\u00fcn".encode(), b"-dash", b"a:b", b"x" * 100, b"tab\there", b"#5"]
@@ -68,13 +63,18 @@ def main():
     # Cyan beside magenta, with nothing else to be said of it.
     pair = "1 0 0 0 k 10 10 40 28 re f 0 1 0 0 k 50 10 40 28 re f"
     pdf(os.path.join(folder, "pair.pdf"), [page([], pair)])
+    pdf(os.path.join(folder, "cropped.pdf"), [page([], pair)], more="/CropBox [10 5 110 43] /BleedBox [5 0 115 48]")
+    pdf(os.path.join(folder, "sizeless.pdf"), [page([], pair)], (0, 0))
+    pdf(os.path.join(folder, "spellings.pdf"), [squares([b"cyan", b"Warm Red", b"WARM RED"])])
     pdf(os.path.join(folder, "twenty.pdf"), [page([], pair)] * 20, (60, 20))
     # A picture, and the pair of colours beside it; turned, and with another box.
-    content = "q 50 0 0 40 5 4 cm /Im Do Q 1 0 0 0 k 70 4 20 40 re f 0 1 0 0 k 90 4 20 40 re f"
-    pdf(os.path.join(folder, "photo.pdf"), [page([], content)], picture=image())
-    pdf(os.path.join(folder, "turned.pdf"), [page([], content)], more="/Rotate 90 /CropBox [0 0 118 46]", picture=image())
+    beside = "1 0 0 0 k 70 4 20 40 re f 0 1 0 0 k 90 4 20 40 re f"
+    content = "q 50 0 0 40 5 4 cm /Im Do Q " + beside
+    patterned(os.path.join(folder, "pattern.pdf"), beside)
+    pdf(os.path.join(folder, "photo.pdf"), [page([], content)], pictured=True)
+    pdf(os.path.join(folder, "turned.pdf"), [page([], content)], more="/Rotate 90 /CropBox [0 0 118 46]", pictured=True)
     round_clip = "q 30 44 m 50 24 l 30 4 l 10 24 l h W n 50 0 0 40 5 4 cm /Im Do Q"
-    pdf(os.path.join(folder, "clipped.pdf"), [page([], round_clip)], picture=image())
+    pdf(os.path.join(folder, "clipped.pdf"), [page([], round_clip)], pictured=True)
     # A die line that knocks out, a varnish, and a spot of a swatch book, on yellow.
     technical = "0 0 1 0 k 0 0 120 48 re f /S0 CS 1 SCN 2 w 10 10 50 28 re S /S1 cs 1 scn 70 10 20 28 re f /S2 cs 1 scn 95 10 20 28 re f"
     pdf(os.path.join(folder, "technical.pdf"), [page([b"CutContour", b"UV-Lack", b"PANTONE Reflex Blue C"], technical)])

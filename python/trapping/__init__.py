@@ -2,6 +2,10 @@
 
     report = trapping.trap(job, {"Cyan": cyan, "Magenta": magenta, "Yellow": yellow, "Black": black})
 
+A sheet of any size is trapped window by window:
+
+    report = trapping.trap_window(job, names, window, sheet=(24094, 17008), at=(0, 480), core=(0, 4, 2048, 512))
+
 A plane is a writable buffer of samples of one byte or of two: a NumPy array of uint8 or uint16, a bytearray, an array.array or a
 memoryview. 0 is no ink, `maxval` is full ink. Rows run from the top, samples in a row from the left.
 
@@ -11,6 +15,6 @@ from ._library import library_path
 from ._planes import Samples
 from ._refusal import Refusal
 from ._report import Report, Zone
-from ._trap import trap, trap_stack
+from ._trap import halo, library_version, trap, trap_stack, trap_window
 
-__all__ = ["Refusal", "Report", "Samples", "Zone", "library_path", "trap", "trap_stack"]
+__all__ = ["Refusal", "Report", "Samples", "Zone", "halo", "library_path", "library_version", "trap", "trap_stack", "trap_window"]

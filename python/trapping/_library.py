@@ -1,16 +1,34 @@
 """Finds the shared library, and declares what it exports."""
 import ctypes
 import os
-from typing import Callable, Dict
+from typing import Any, Callable, Dict
 
 NAME = "libtrap.so.1"
 
 _bytes = (ctypes.c_char_p, ctypes.c_size_t)
 _memory = (ctypes.c_void_p, ctypes.c_size_t)
 _told = (*_memory, ctypes.POINTER(ctypes.c_size_t))
-_ARGUMENTS = (*_bytes, *_bytes, *_memory, *[ctypes.c_uint32] * 4, *_told)
+_page = (*_bytes, *_bytes, *_memory, *[ctypes.c_uint32] * 4)
 
-_exports: Dict[str, Callable[..., int]] = {}
+
+class Place(ctypes.Structure):
+    """Where a window stands on its sheet, and its core: trap.h's struct trap_place."""
+
+    _fields_ = [(name, ctypes.c_uint32) for name in (
+        "sheet_width", "sheet_height", "left", "top", "core_left", "core_top", "core_width", "core_height")]
+
+
+_window = (*_page, ctypes.POINTER(Place), *_told)
+_ARGUMENTS = {
+    "trap_planes8": (*_page, *_told),
+    "trap_planes16": (*_page, *_told),
+    "trap_window8": _window,
+    "trap_window16": _window,
+    "trap_halo": (*_bytes, ctypes.POINTER(ctypes.c_uint32), *_told),
+    "trap_version": (),
+}
+
+_exports: Dict[str, Callable[..., int]] = {}  # of those that were called
 
 
 def library_path() -> str:
@@ -31,12 +49,10 @@ def _load() -> ctypes.CDLL:
 
 
 def export(name: str) -> Callable[..., int]:
-    """The export of that name, whose arguments are the job, the names, the samples, a layout's four numbers and the text. The
-    library is loaded at the first call."""
-    found = _exports.get(name)
-    if found is None:
-        found = getattr(_load(), name)
-        found.restype = ctypes.c_uint8
-        found.argtypes = _ARGUMENTS
+    """The export of that name, with the arguments that trap.h gives it. The library is loaded at the first call."""
+    if name not in _exports:
+        found: Any = getattr(_load(), name)
+        found.restype = ctypes.c_uint32 if name == "trap_version" else ctypes.c_uint8
+        found.argtypes = _ARGUMENTS[name]
         _exports[name] = found
-    return found
+    return _exports[name]

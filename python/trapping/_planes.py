@@ -30,7 +30,7 @@ class Memory(NamedTuple):
         """Whether no byte lies between one sample and the next."""
         return self.strides == _packed(self.shape, self.size)
 
-    def count(self) -> int:
+    def sample_count(self) -> int:
         """How many samples there are."""
         count = 1
         for side in self.shape:

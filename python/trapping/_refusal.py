@@ -1,6 +1,6 @@
 """What is raised where a call is refused."""
 import re
-from typing import Optional
+from typing import Any, Optional, Tuple
 
 CALL, JOB, PAGE, MEMORY = 2, 3, 4, 7
 _SUBJECTS = {CALL: "call", JOB: "job", PAGE: "page", MEMORY: "memory"}
@@ -12,7 +12,7 @@ class Refusal(Exception):
 
     line     what the library says, as "job: OutOfRange TrapWidth at 14"
     status   2 for arguments that do not fit, 3 for the job, 4 for the page, 7 where memory was refused
-    subject  what is refused: "call", "job", "page", "plate 1" or "memory"
+    subject  what is refused: "call", "job", "page", "plate 1", "sheet" or "memory"
     kind     the fault's name, as "OutOfRange"; docs/JOBS.md has those of a job
     detail   what the fault names beside it, as "TrapWidth", or None
     place    where it stands: a byte of the job, counted from 0, or a sample of the plate, row by row; None where it has no place
@@ -35,5 +35,5 @@ class Refusal(Exception):
         self.detail = parts["detail"] if parts else None
         self.place = int(parts["place"]) if parts and parts["place"] else None
 
-    def __reduce__(self):  # so that it goes through a pool of processes
+    def __reduce__(self) -> Tuple[Any, ...]:  # so that it goes through a pool of processes
         return type(self), (self.status, self.line)

@@ -1,8 +1,8 @@
-"""The calls that trap a page."""
+"""The calls that trap a page, or a window of a sheet."""
 import ctypes
-from typing import List, Mapping, Optional, Sequence, Union
+from typing import Any, List, Mapping, Optional, Sequence, Tuple, Union
 
-from ._library import export
+from ._library import Place, export
 from ._planes import Memory, Samples, Stack, memory_of, sides_of
 from ._refusal import Refusal
 from ._report import Report
@@ -53,20 +53,62 @@ def trap_stack(job: Job, names: Sequence[str], stack: Samples, *, maxval: Option
 
     For the rest as `trap`.
     """
+    memory, width, height, step = _stack(stack, width, height, step)
+    return _call(job, names, memory.address, memory.size, width, height, step, maxval, memory.sample_count())
+
+
+def _stack(stack: Samples, width: Optional[int], height: Optional[int], step: Optional[int]) -> Tuple[Memory, int, int, int]:
+    """Where the planes of a stack lie, the sides of each, and how many samples there are from row to row."""
     memory = memory_of(stack)
     if not memory.is_packed():
         raise TypeError("the planes of a stack have to lie one after the other, without gaps; a gap is told by width")
     if step is None:
         step = memory.shape[-1] if len(memory.shape) > 1 else width
     width, height = sides_of(memory, width, height)
-    return _call(job, names, memory.address, memory.size, width, height, step or width, maxval, memory.count())
+    return memory, width, height, step or width
+
+
+def trap_window(job: Job, names: Sequence[str], window: Samples, *, sheet: Tuple[int, int], at: Tuple[int, int] = (0, 0),
+                core: Tuple[int, int, int, int], maxval: Optional[int] = None, width: Optional[int] = None,
+                height: Optional[int] = None, step: Optional[int] = None) -> Report:
+    """Traps the core of a window of a sheet where it lies: what stands in it then is what the rule gives on the whole sheet,
+    whatever the sheet has beyond the window. All other samples are left alone.
+
+    window   the window's planes, one after the other, as `trap_stack` takes them: an array of planes by rows by columns
+    sheet    the sheet's columns and rows, up to 262,144 each
+    at       the window's first column and row on the sheet
+    core     the core's first column and row in the window, and how many columns and rows it has
+
+    On each side that is no border of the sheet the window goes on beyond its core by as many samples as `halo` tells. Gives the
+    core's part of the report: its numbers over the cores that make up a sheet add up to those of the sheet. For the rest as
+    `trap_stack`; a place that does not fit raises a Refusal of the kind "Place".
+    """
+    place = Place(*_numbers(*sheet, *at, *core))
+    memory, width, height, step = _stack(window, width, height, step)
+    return _call(job, names, memory.address, memory.size, width, height, step, maxval, memory.sample_count(), place)
+
+
+def halo(job: Job) -> int:
+    """How many rows and columns a window needs round its core, on each side that is no border of the sheet: half the reach of the
+    job's widest trap in whole samples, and one at least. Raises Refusal where the job has a fault."""
+    told, number = _job_bytes(job), ctypes.c_uint32(0)
+    text, length = ctypes.create_string_buffer(_TEXT_SIZE), ctypes.c_size_t(0)
+    status = export("trap_halo")(told, len(told), ctypes.byref(number), ctypes.addressof(text), _TEXT_SIZE, ctypes.byref(length))
+    _text(status, text, length)
+    return number.value
+
+
+def library_version() -> Tuple[int, int, int]:
+    """The version of the library that is loaded."""
+    number = export("trap_version")()
+    return number // 10000, number // 100 % 100, number % 100
 
 
 def _judge(name: str, memory: Memory, first: Memory, width: int, height: int) -> None:
     """Whether a plane is one of its page."""
     if memory.size != first.size:
         raise ValueError("plane %s has samples of %d bytes, and the first of %d" % (name, memory.size, first.size))
-    if memory.count() != width * height or len(memory.shape) > 2 or (len(memory.shape) == 2 and memory.shape != (height, width)):
+    if memory.sample_count() != width * height or len(memory.shape) > 2 or (len(memory.shape) == 2 and memory.shape != (height, width)):
         raise ValueError("plane %s is %r and no plane of %d rows by %d columns" % (name, memory.shape, height, width))
     if memory.strides[-1] != memory.size:
         raise ValueError("the samples of a row of plane %s have to lie one after the other" % name)
@@ -78,21 +120,36 @@ def _are_adjacent(planes: List[Memory], width: int, height: int) -> bool:
     return all(memory.is_packed() and memory.address == planes[0].address + c * plane for c, memory in enumerate(planes))
 
 
-def _call(job: Job, names: Sequence[str], address: int, size: int, width: int, height: int, step: int, maxval: Optional[int],
-          count: int) -> Report:
-    """Calls the library over samples in memory."""
-    if maxval is None:
-        maxval = 255 if size == 1 else 65535
-    for number in (width, height, step, maxval):
+def _numbers(*numbers: int) -> Tuple[int, ...]:
+    """The numbers, which a call takes in 32 bits; a ValueError where one is none."""
+    for number in numbers:
         if not 0 <= number < 1 << 32:
             raise ValueError("%d is no number of 32 bits" % number)
-    told = job.encode() if isinstance(job, str) else bytes(job)
+    return numbers
+
+
+def _job_bytes(job: Job) -> bytes:
+    return job.encode() if isinstance(job, str) else bytes(job)
+
+
+def _text(status: int, text: Any, length: Any) -> str:
+    """What a call told; a Refusal where it was refused."""
+    told = text.raw[:min(length.value, _TEXT_SIZE)].decode("ascii")
+    if status:
+        raise Refusal(status, told.rstrip("\n"))
+    return str(told)
+
+
+def _call(job: Job, names: Sequence[str], address: int, size: int, width: int, height: int, step: int, maxval: Optional[int],
+          count: int, place: Optional[Place] = None) -> Report:
+    """Calls the library over samples in memory: of a page, or of a window where a place is told."""
+    if maxval is None:
+        maxval = 255 if size == 1 else 65535
+    layout = _numbers(width, height, step, maxval)
+    told = _job_bytes(job)
     listed = "\n".join(names).encode()
     text, length = ctypes.create_string_buffer(_TEXT_SIZE), ctypes.c_size_t(0)
-    status = export("trap_planes%d" % (8 * size))(
-        told, len(told), listed, len(listed), address, count, width, height, step, maxval,
-        ctypes.addressof(text), _TEXT_SIZE, ctypes.byref(length))
-    answer = text.raw[:min(length.value, _TEXT_SIZE)].decode("ascii")
-    if status:
-        raise Refusal(status, answer.rstrip("\n"))
-    return Report(answer)
+    stands = () if place is None else (ctypes.byref(place),)
+    status = export("trap_%s%d" % ("planes" if place is None else "window", 8 * size))(
+        told, len(told), listed, len(listed), address, count, *layout, *stands, ctypes.addressof(text), _TEXT_SIZE, ctypes.byref(length))
+    return Report(_text(status, text, length))

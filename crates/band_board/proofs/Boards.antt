@@ -82,5 +82,5 @@ pub one_owner : (k : Shape) (i n j : ℕ) → IsShape k → Has k i j → Has k 
 one_owner k i n j ok a b = elim (cases_order n i) [
   | inl e ↦ e
   | inr (inl before) ↦ (let o = ok.in_order n i before a.piece in let x = b.below in let y = a.from in absurd (omega (arith, o, x, y)))
-  | inr (inr behind) ↦ (let o = ok.in_order i n behind b.piece in let x = a.below in let y = b.from in absurd (omega (arith, o, x, y)))
+  | inr (inr suffix) ↦ (let o = ok.in_order i n suffix b.piece in let x = a.below in let y = b.from in absurd (omega (arith, o, x, y)))
 ]

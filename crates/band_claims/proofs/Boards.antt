@@ -39,7 +39,7 @@ apart_in : (k : Shape) → IsShape k → (i j o p : ℕ) → i < k.pieces → j 
 apart_in k ok i j o p a b ne l m e = elim (cases_order i j) [
   | inl same ↦ ne (sym same)
   | inr (inl before) ↦ omega (arith, ok.in_order i j before b)
-  | inr (inr behind) ↦ omega (arith, ok.in_order j i behind a)
+  | inr (inr suffix) ↦ omega (arith, ok.in_order j i suffix a)
 ]
 
 module _ (k : Shape) (ok : IsShape k) (words : List ℕ) (wide : length words ≡ k.pieces + k.cells) where
@@ -121,7 +121,7 @@ module _ (k : Shape) (ok : IsShape k) (words : List ℕ) (wide : length words �
           piece = t.piece;
           is_claimed = piece_else i j n ne ∙ t.is_claimed;
           at_most = t.at_most;
-          front = λ o m e. t.front o m (sym (cell_stays i (k.start j + o) n l) ∙ e);
+          prefix = λ o m e. t.prefix o m (sym (cell_stays i (k.start j + o) n l) ∙ e);
           back = λ o m q. cell_stays i (k.start j + o) n l ∙ t.back o m q;
         }
 
@@ -132,7 +132,7 @@ module _ (k : Shape) (ok : IsShape k) (words : List ℕ) (wide : length words �
           piece = t.piece;
           is_claimed = piece_stays j (k.start i + o) n t.piece ∙ t.is_claimed;
           at_most = t.at_most;
-          front = λ h m e. t.front h m (sym (cell_else (k.start i + o) (k.start j + h) n (apart i j o h l t.piece ne p (omega (arith, m, t.at_most)))) ∙ e);
+          prefix = λ h m e. t.prefix h m (sym (cell_else (k.start i + o) (k.start j + h) n (apart i j o h l t.piece ne p (omega (arith, m, t.at_most)))) ∙ e);
           back = λ h m q. cell_else (k.start i + o) (k.start j + h) n (apart i j o h l t.piece ne p q) ∙ t.back h m q;
         }
 

@@ -93,7 +93,7 @@ module _ (k : Shape) (ok : IsShape k) (defined : ℕ → ℕ) (some_value : (j :
       let v = h.0 in let m = h.1 in let held = held_by k ok defined some_value key s r id i v m.sees m.holding in record {
         in_range = held.piece;
         fits = tt;
-        may = and_from (is_claimed (board_of k s.words) i) (not (has_empty k (board_of k s.words) i)) (claimed_on s i r held.piece held.is_claimed) (ap not (none_left k ok s.words r.wide i held.piece (λ o l. held.front o (let full = m.full in omega (arith, l, full)))));
+        may = and_from (is_claimed (board_of k s.words) i) (not (has_empty k (board_of k s.words) i)) (claimed_on s i r held.piece held.is_claimed) (ap not (none_left k ok s.words r.wide i held.piece (λ o l. held.prefix o (let full = m.full in omega (arith, l, full)))));
         change = ap (λ (z : St). z.words) h.2;
       }
   does s t (splits id works) r h = ap (λ (z : St). z.words) h.3

@@ -120,7 +120,7 @@ module _ (k : Shape) (ok : IsShape k) (defined : ℕ → ℕ) (some_value : (j :
             piece = l;
             is_claimed = here;
             at_most = omega arith;
-            front = λ o m. absurd (omega arith);
+            prefix = λ o m. absurd (omega arith);
             back = λ o _ m. cell_stays k ok s.words r.wide i (k.start i + o) 1 l ∙ free_cell k ok s.words r.wide defined r.sound i o l m free;
           };
           known = known_piece k ok s.words r.wide key i 1 l (omega (arith, free)) v t;
@@ -169,9 +169,9 @@ module _ (k : Shape) (ok : IsShape k) (defined : ℕ → ℕ) (some_value : (j :
             piece = h.piece;
             is_claimed = stays p h.piece ∙ h.is_claimed;
             at_most = omega (arith, room);
-            front = λ o m e. elim (cases_eq o v.filled) [
+            prefix = λ o m e. elim (cases_eq o v.filled) [
               | inl same ↦ omega (arith, cell_here k ok s.words r.wide c x inside, some_value c inside, ap (λ (z : ℕ). cell_word k (set s.words (k.pieces + c) x) (k.start p + z)) same, e)
-              | inr ne ↦ h.front o (omega (arith, m, ne)) (sym (cell_else k ok s.words r.wide c (k.start p + o) x (λ q. ne (omega (arith, q)))) ∙ e)
+              | inr ne ↦ h.prefix o (omega (arith, m, ne)) (sym (cell_else k ok s.words r.wide c (k.start p + o) x (λ q. ne (omega (arith, q)))) ∙ e)
             ];
             back = λ o m q. cell_else k ok s.words r.wide c (k.start p + o) x (λ z. omega (arith, z, m)) ∙ h.back o (omega (arith, m)) q;
           };
@@ -192,7 +192,7 @@ module _ (k : Shape) (ok : IsShape k) (defined : ℕ → ℕ) (some_value : (j :
       let nobody : total (publishes p) s.views ≡ 0 = omega (arith, r.once p l, other_zero (piece_word s.words p) 2 (λ e. omega (arith, h.is_claimed, e))) in record {
         wide = length-set s.words p 2 ∙ r.wide;
         states = states_piece k ok s.words r.wide r.states p 2 l (omega arith);
-        sound = sound_finish k ok s.words r.wide defined r.sound p l h.is_claimed (λ o m. h.front o (omega (arith, m, full)));
+        sound = sound_finish k ok s.words r.wide defined r.sound p l h.is_claimed (λ o m. h.prefix o (omega (arith, m, full)));
         seats = seats_after (set s.words p 2) s.views id w record {
           page = t.page;
           hand = tt;

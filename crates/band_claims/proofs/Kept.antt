@@ -17,7 +17,7 @@ pub record Holding (k : Shape) (words : List ℕ) (filled i : ℕ) : Type 0 wher
   pub piece : i < k.pieces
   pub is_claimed : piece_word words i ≡ 1
   pub at_most : filled ≤ k.size i
-  pub front : (o : ℕ) → o < filled → cell_word k words (k.start i + o) ≢ 0
+  pub prefix : (o : ℕ) → o < filled → cell_word k words (k.start i + o) ≢ 0
   pub back : (o : ℕ) → filled ≤ o → o < k.size i → cell_word k words (k.start i + o) ≡ 0
 
 -- what the words say of one view

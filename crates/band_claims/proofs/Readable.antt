@@ -75,7 +75,7 @@ module _ (k : Shape) (ok : IsShape k) (defined : ℕ → ℕ) (key : Sheet) (s :
       | inr ne ↦ absurd (omega (arith, one_of (holds i) s.views id v at, one_hand i v is, r.one_holder i f.piece, ap one_if (claimed_at i f.piece), other_zero (piece_word s.words i) 1 ne))
     ];
     at_most = f.at_most;
-    front = λ o m e. f.front o m (cell_is k s.words (k.start i + o) (omega (arith, m, f.at_most, ok.inside i f.piece)) ∙ e);
+    prefix = λ o m e. f.prefix o m (cell_is k s.words (k.start i + o) (omega (arith, m, f.at_most, ok.inside i f.piece)) ∙ e);
     back = λ o m q. sym (cell_is k s.words (k.start i + o) (omega (arith, q, ok.inside i f.piece))) ∙ f.back o m q;
   }
 
@@ -101,7 +101,7 @@ module _ (k : Shape) (ok : IsShape k) (defined : ℕ → ℕ) (key : Sheet) (s :
       let h : Holding k s.words v.filled i = rw is at t.hand in record {
         piece = h.piece;
         at_most = h.at_most;
-        front = λ o m e. h.front o m (sym (cell_is k s.words (k.start i + o) (omega (arith, m, h.at_most, ok.inside i h.piece))) ∙ e);
+        prefix = λ o m e. h.prefix o m (sym (cell_is k s.words (k.start i + o) (omega (arith, m, h.at_most, ok.inside i h.piece))) ∙ e);
         back = λ o m q. cell_is k s.words (k.start i + o) (omega (arith, q, ok.inside i h.piece)) ∙ h.back o m q;
       }
 

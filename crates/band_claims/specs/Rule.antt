@@ -29,7 +29,7 @@ Sees s id v = get_elem? s.views id ≡ some v
 pub record FirstFilled (k : Shape) (board : Board) (i n : ℕ) : Type 0 where
   pub piece : i < k.pieces
   pub at_most : n ≤ k.size i
-  pub front : (o : ℕ) → o < n → cell_at board (k.start i + o) ≢ 0
+  pub prefix : (o : ℕ) → o < n → cell_at board (k.start i + o) ≢ 0
   pub back : (o : ℕ) → n ≤ o → o < k.size i → cell_at board (k.start i + o) ≡ 0
 
 abbrev pub parts : ℕ → View → ℕ

@@ -24,7 +24,7 @@ pub record FillsUpTo (before after : Receipt) (piece n : ℕ) : Type 0 where
   pub alone : after.alone ≡ before.alone
   pub long : length after.words ≡ length before.words
   pub states : (i : ℕ) → i < (shape_of before.sheet).pieces → slice_index after.words i ≡ slice_index before.words i
-  pub front : (o : ℕ) → o < n → cell_word (shape_of before.sheet) after.words (first_cell_of before.sheet.layout piece + o) ≡ cell before.sheet (first_cell_of before.sheet.layout piece + o)
+  pub prefix : (o : ℕ) → o < n → cell_word (shape_of before.sheet) after.words (first_cell_of before.sheet.layout piece + o) ≡ cell before.sheet (first_cell_of before.sheet.layout piece + o)
   pub same : (j : ℕ) → (Has (shape_of before.sheet) piece j → ⊥) → cell_word (shape_of before.sheet) after.words j ≡ cell_word (shape_of before.sheet) before.words j
 
 pub filled_none : (r : Receipt) (piece : ℕ) → FillsUpTo r r piece 0
@@ -34,7 +34,7 @@ filled_none r piece = record {
   alone = refl;
   long = refl;
   states = λ i l. refl;
-  front = λ o l. absurd (omega (arith, l));
+  prefix = λ o l. absurd (omega (arith, l));
   same = λ j h. refl;
 }
 
@@ -45,9 +45,9 @@ filled_more before now after piece o fit wide has f s = record {
   alone = s.alone ∙ f.alone;
   long = ap length words ∙ (length-set now.words place value ∙ f.long);
   states = λ i l. other i (λ e. omega (arith, e, l)) ∙ f.states i l;
-  front = λ q l. elim (cases_eq q o) [
+  prefix = λ q l. elim (cases_eq q o) [
     | inl e ↦ rw e (ap (λ (ws : List ℕ). slice_index ws place) words ∙ get_or-set_same now.words place value 0 inside)
-    | inr ne ↦ other (pieces + (start + q)) (λ e. ne (omega (arith, e))) ∙ f.front q (omega (arith, l, ne))
+    | inr ne ↦ other (pieces + (start + q)) (λ e. ne (omega (arith, e))) ∙ f.prefix q (omega (arith, l, ne))
   ];
   same = λ j no. other (pieces + j) (λ e. no (subst (λ (z : ℕ). Has (shape_of before.sheet) piece z) (let t : start + o ≡ j = omega (arith, e) in t) has)) ∙ f.same j no;
 } where
@@ -92,4 +92,4 @@ filled_all before after piece n fit inside all f = record {
   here j h =
       let from = h.from in let below = h.below in let o : ℕ = j - first_cell_of before.sheet.layout piece in
       let e : first_cell_of before.sheet.layout piece + o ≡ j = omega (arith, from) in
-      subst (λ (z : ℕ). cell_word (shape_of before.sheet) after.words z ≡ cell before.sheet z) e (f.front o (omega (arith, from, below, all)))
+      subst (λ (z : ℕ). cell_word (shape_of before.sheet) after.words z ≡ cell before.sheet z) e (f.prefix o (omega (arith, from, below, all)))

@@ -19,7 +19,7 @@ use Rattle.row_values.specs.Rows.{HoldsAnswers, HoldsMarks, HoldsRows, HoldsTint
 use Rattle.band_workers.specs.Filled.{AreValues}
 use Rattle.band_pieces.specs.Spans.{rows_of_piece}
 
--- a front of a list that is long enough
+-- a prefix of a list that is long enough
 pub take_whole : (n : ℕ) (xs : List ℕ) → n ≤ length xs → n ≡ length (take n xs)
 take_whole n xs l = let t = length-take n xs in omega (arith, t, l)
 

@@ -12,6 +12,7 @@ use crate::fills::fill;
 use crate::sinks::CellSink;
 use band_claims::{Pass, Shared};
 use band_workers::Maker;
+use lists::memory::filled;
 use page_model::bands::Bands;
 use page_model::page::Page;
 use page_model::parts::OutOfMemory;
@@ -51,16 +52,6 @@ impl Model for Scratch {
         (vec_len s.answers) (vec_len s.tints) };
 }
 
-/// So many zeros.
-fn zeros<T: Copy + Drop>(alloc: Global, zero: T, count: u32) -> Result<Vec<T>, OutOfMemory>
-    ensures { IfOk result (λ items. vec_len items ≡ count) }
-{
-    match vec![in alloc; zero; count as usize] {
-        Ok(items) => Ok(items),
-        Err(_) => Err(OutOfMemory),
-    }
-}
-
 impl Scratch {
     /// The memory for the pieces of pages like this one, in these bands.
     pub fn new(alloc: Global, page: &Page, bands: &Bands) -> Result<Scratch, OutOfMemory>
@@ -76,10 +67,10 @@ impl Scratch {
         let near = (bands.height + bands.reach2 + 1).min(bands.rows);
         Ok(Scratch {
             layout,
-            zones: zeros(alloc, 0u8, below * layout.row_values(0))?,
-            marks: zeros(alloc, 0u8, near * layout.row_values(1))?,
-            answers: zeros(alloc, 0u16, band * layout.row_values(2))?,
-            tints: zeros(alloc, 0u16, band * layout.row_values(3))?,
+            zones: filled(alloc, 0u8, (below * layout.row_values(0)) as usize)?,
+            marks: filled(alloc, 0u8, (near * layout.row_values(1)) as usize)?,
+            answers: filled(alloc, 0u16, (band * layout.row_values(2)) as usize)?,
+            tints: filled(alloc, 0u16, (band * layout.row_values(3)) as usize)?,
             room: Workspace::new(alloc, page)?,
         })
     }

@@ -67,6 +67,6 @@ small sheet fit i o phase first count bits values vs are b k d l =
     let is = are.each k l ∙ are.all.each (first + k) (omega (arith, here, all)) in
     rw (b ∙ ap bits_of are.cut.same_phase, get_or_default vs k d 0 l) (subst (λ (z : ℕ). z < 2 ^ bits_of (phase_of sheet.layout.bands i)) (sym is) (fits sheet.page.value sheet.layout i (first + k) fit are.piece here))
 
--- the front of the 31 places
-pub front_of : (n : ℕ) → length {A = ℕ} (take n (replicate 31 0)) ≡ min n 31
-front_of n = length-take {A = ℕ} n (replicate 31 0)
+-- the prefix of the 31 places
+pub prefix_of : (n : ℕ) → length {A = ℕ} (take n (replicate 31 0)) ≡ min n 31
+prefix_of n = length-take {A = ℕ} n (replicate 31 0)

@@ -1,16 +1,17 @@
 // Small pages by chance, for tests: some plates of runs of few tints, inks of every kind, and two zones.
 
-ghost use Rattle.std.specs.Prelude.{◌≡◌, ◌≤◌, ◌<◌, [], All, IfOk, length, vec_len};
+ghost use Rattle.std.specs.Prelude.{◌≡◌, ◌≤◌, ◌<◌, [], All, length, vec_len};
 ghost use Rattle.page_model.specs.Conditions.{AreLimits, InRange, IsInk, IsParts, IsPath, IsPlane, IsVertex, IsZone};
 
-use crate::memory::{both, push};
+use crate::memory::{both, put};
 use lists::list::List;
 use page_model::page::Page;
 use page_model::parts::{
-    Ink, InkKind, InkList, Limit, LimitList, OutOfMemory, PageParts, Plane, PlaneList, TrapParams,
-    Vertex, VertexList, Zone,
+    Ink, InkKind, InkList, Limit, LimitList, PageParts, Plane, PlaneList, TrapParams, Vertex,
+    VertexList, Zone,
 };
 use std::alloc::Global;
+use std::process::Abort;
 
 /// What a page by chance is like.
 #[derive(Clone, Copy, Drop)]
@@ -92,49 +93,44 @@ fn next_tint(dice: &mut u64, last: u8, may_change: bool) -> u8 {
 }
 
 /// Few tints, each for some whole runs.
-fn some_tints(
-    alloc: Global,
-    dice: &mut u64,
-    count: usize,
-    run: u32,
-) -> Result<Vec<u16>, OutOfMemory>
+fn some_tints(rt: &impl Abort, alloc: Global, dice: &mut u64, count: usize, run: u32) -> Vec<u16>
     requires { 1 ≤ run }
-    ensures long { IfOk result (λ tints. vec_len tints ≡ count) }
-    ensures deep { IfOk result (λ tints. All (λ t. t ≤ 255) tints.items) }
+    ensures long { vec_len result ≡ count }
+    ensures deep { All (λ t. t ≤ 255) result.items }
 {
     let mut tints = Vec::new(alloc);
     let mut last = 0;
     for k in 0..count {
         last = next_tint(dice, last, k % run as usize == 0);
         if tints.push(u16::from(last)).is_err() {
-            return Err(OutOfMemory);
+            panic!(rt; "no memory")
         }
     }
-    Ok(tints)
+    tints
 }
 
-fn some_plane(alloc: Global, dice: &mut u64, shape: Shape) -> Result<Plane, OutOfMemory>
-    ensures { IfOk result IsPlane }
+fn some_plane(rt: &impl Abort, alloc: Global, dice: &mut u64, shape: Shape) -> Plane
+    ensures { IsPlane result }
 {
     let count = shape.width as usize * shape.height as usize;
-    let tints = some_tints(alloc, dice, count, shape.run)?;
-    Ok(Plane {
+    let tints = some_tints(rt, alloc, dice, count, shape.run);
+    Plane {
         width: shape.width,
         height: shape.height,
         maxval: 255,
         tints: List::from_vec(tints),
-    })
+    }
 }
 
-fn some_planes(alloc: Global, dice: &mut u64, shape: Shape) -> Result<PlaneList, OutOfMemory>
-    ensures count { IfOk result (λ planes. length planes ≡ shape.plates) }
-    ensures planes { IfOk result (λ planes. All IsPlane planes) }
+fn some_planes(rt: &impl Abort, alloc: Global, dice: &mut u64, shape: Shape) -> PlaneList
+    ensures count { length result ≡ shape.plates }
+    ensures planes { All IsPlane result }
 {
     let mut planes = List::new(alloc);
     for _c in 0..shape.plates {
-        push(&mut planes, some_plane(alloc, dice, shape)?)?;
+        put(rt, &mut planes, some_plane(rt, alloc, dice, shape));
     }
-    Ok(planes)
+    planes
 }
 
 fn some_kind(dice: &mut u64) -> InkKind {
@@ -158,28 +154,28 @@ fn some_density(dice: &mut u64) -> u32
     }
 }
 
-fn some_ink(alloc: Global, dice: &mut u64, letter: u8) -> Result<Ink, OutOfMemory>
-    ensures { IfOk result IsInk }
+fn some_ink(rt: &impl Abort, alloc: Global, dice: &mut u64, letter: u8) -> Ink
+    ensures { IsInk result }
 {
     let mut name = List::new(alloc);
-    push(&mut name, letter)?;
-    Ok(Ink {
+    put(rt, &mut name, letter);
+    Ink {
         name,
         density: some_density(dice),
         kind: some_kind(dice),
-    })
+    }
 }
 
-fn some_inks(alloc: Global, dice: &mut u64, count: u32) -> Result<InkList, OutOfMemory>
+fn some_inks(rt: &impl Abort, alloc: Global, dice: &mut u64, count: u32) -> InkList
     requires few { count ≤ 16 }
-    ensures count { IfOk result (λ inks. length inks ≡ count) }
-    ensures inks { IfOk result (λ inks. All IsInk inks) }
+    ensures count { length result ≡ count }
+    ensures inks { All IsInk result }
 {
     let mut inks = List::new(alloc);
     for c in 0..count {
-        push(&mut inks, some_ink(alloc, dice, b'A' + c as u8)?)?;
+        put(rt, &mut inks, some_ink(rt, alloc, dice, b'A' + c as u8));
     }
-    Ok(inks)
+    inks
 }
 
 fn some_step(dice: &mut u64) -> u32
@@ -241,15 +237,15 @@ fn some_params(dice: &mut u64, resolution: u32, reach2: u32) -> TrapParams
 }
 
 /// A step limit for the second ink.
-fn some_limits(alloc: Global, dice: &mut u64) -> Result<LimitList, OutOfMemory>
-    ensures { IfOk result AreLimits }
+fn some_limits(rt: &impl Abort, alloc: Global, dice: &mut u64) -> LimitList
+    ensures { AreLimits result }
 {
     let mut name = List::new(alloc);
-    push(&mut name, b'B')?;
+    put(rt, &mut name, b'B');
     let step = some_step(dice);
     let mut limits = List::new(alloc);
-    push(&mut limits, Limit { name, step })?;
-    Ok(limits)
+    put(rt, &mut limits, Limit { name, step });
+    limits
 }
 
 /// So many sides of a sample, in ten-thousandths of a point.
@@ -277,40 +273,41 @@ fn vertex(x: u32, y: u32, resolution: u32, starts: bool) -> Vertex
 }
 
 /// A rectangle that goes up from the page's second row from below, over some of its columns.
-fn some_path(alloc: Global, dice: &mut u64, shape: Shape) -> Result<VertexList, OutOfMemory>
-    ensures path { IfOk result IsPath }
-    ensures few { IfOk result (λ path. length path ≡ 4) }
+fn some_path(rt: &impl Abort, alloc: Global, dice: &mut u64, shape: Shape) -> VertexList
+    ensures path { IsPath result }
+    ensures few { length result ≡ 4 }
 {
     let left = roll(dice, u64::from(shape.width)) as u32;
     let right = roll(dice, u64::from(shape.width)) as u32;
     let high = 2 + roll(dice, u64::from(shape.height)) as u32;
     let mut path = List::new(alloc);
-    push(&mut path, vertex(left, 1, shape.resolution, true))?;
-    push(&mut path, vertex(right, 1, shape.resolution, false))?;
-    push(&mut path, vertex(right, high, shape.resolution, false))?;
-    push(&mut path, vertex(left, high, shape.resolution, false))?;
-    Ok(path)
+    put(rt, &mut path, vertex(left, 1, shape.resolution, true));
+    put(rt, &mut path, vertex(right, 1, shape.resolution, false));
+    put(rt, &mut path, vertex(right, high, shape.resolution, false));
+    put(rt, &mut path, vertex(left, high, shape.resolution, false));
+    path
 }
 
 /// A zone over a path, with a step limit and parameters by chance, that reaches so many half-samples where it is enabled.
 fn zone_over(
+    rt: &impl Abort,
     alloc: Global,
     dice: &mut u64,
     path: VertexList,
     resolution: u32,
     reach2: u32,
-) -> Result<Zone, OutOfMemory>
+) -> Zone
     requires path { IsPath path }
     requires resolved { 1 ≤ resolution }
     requires near { reach2 ≤ 256 }
-    ensures zone { IfOk result IsZone }
-    ensures path { IfOk result (λ zone. zone.path ≡ path) }
+    ensures zone { IsZone result }
+    ensures path { result.path ≡ path }
 {
-    Ok(Zone {
+    Zone {
         params: some_params(dice, resolution, reach2),
         path,
-        limits: some_limits(alloc, dice)?,
-    })
+        limits: some_limits(rt, alloc, dice),
+    }
 }
 
 /// The plates of a page, each with its ink.
@@ -325,10 +322,10 @@ struct Inked {
     ghost inks_in_range: { All IsInk inks },
 }
 
-fn some_inked(alloc: Global, dice: &mut u64, shape: Shape) -> Result<Inked, OutOfMemory> {
-    let planes = some_planes(alloc, dice, shape)?;
-    let inks = some_inks(alloc, dice, shape.plates)?;
-    Ok(Inked { planes, inks })
+fn some_inked(rt: &impl Abort, alloc: Global, dice: &mut u64, shape: Shape) -> Inked {
+    let planes = some_planes(rt, alloc, dice, shape);
+    let inks = some_inks(rt, alloc, dice, shape.plates);
+    Inked { planes, inks }
 }
 
 /// Two zones of a page: what no path covers, and one of four vertices.
@@ -342,54 +339,62 @@ struct Zoned {
     ghost over_is_small: { length over.path ≡ 4 },
 }
 
-fn path_zone(alloc: Global, dice: &mut u64, shape: Shape) -> Result<Zone, OutOfMemory>
-    ensures zone { IfOk result IsZone }
-    ensures path { IfOk result (λ zone. length zone.path ≡ 4) }
+fn path_zone(rt: &impl Abort, alloc: Global, dice: &mut u64, shape: Shape) -> Zone
+    ensures zone { IsZone result }
+    ensures path { length result.path ≡ 4 }
 {
-    let path = some_path(alloc, dice, shape)?;
-    zone_over(alloc, dice, path, shape.resolution, shape.reach2)
+    let path = some_path(rt, alloc, dice, shape);
+    zone_over(rt, alloc, dice, path, shape.resolution, shape.reach2)
 }
 
 /// The zone of the path reaches the farthest, and the rest less by chance.
-fn some_zoned(alloc: Global, dice: &mut u64, shape: Shape) -> Result<Zoned, OutOfMemory> {
+fn some_zoned(rt: &impl Abort, alloc: Global, dice: &mut u64, shape: Shape) -> Zoned {
     let less = roll(dice, u64::from(shape.reach2) + 1) as u32;
-    let rest = zone_over(alloc, dice, List::new(alloc), shape.resolution, less)?;
-    let over = path_zone(alloc, dice, shape)?;
-    Ok(Zoned { rest, over })
+    let rest = zone_over(rt, alloc, dice, List::new(alloc), shape.resolution, less);
+    let over = path_zone(rt, alloc, dice, shape);
+    Zoned { rest, over }
 }
 
 fn parts_of(
+    rt: &impl Abort,
     alloc: Global,
     resolution: u32,
     inked: Inked,
     zoned: Zoned,
-) -> Result<PageParts, OutOfMemory>
+) -> PageParts
     requires resolved { 1 ≤ resolution }
     requires fine { resolution ≤ 10000 }
-    ensures { IfOk result IsParts }
+    ensures { IsParts result }
 {
-    let zones = both(alloc, zoned.rest, zoned.over)?;
-    Ok(PageParts {
+    let zones = both(rt, alloc, zoned.rest, zoned.over);
+    PageParts {
         resolution,
         planes: inked.planes,
         inks: inked.inks,
         zones,
-    })
+    }
 }
 
 /// What a page by chance is made of.
-fn some_parts(alloc: Global, dice: &mut u64, shape: Shape) -> Result<PageParts, OutOfMemory>
-    ensures { IfOk result IsParts }
+fn some_parts(rt: &impl Abort, alloc: Global, dice: &mut u64, shape: Shape) -> PageParts
+    ensures { IsParts result }
 {
-    let inked = some_inked(alloc, dice, shape)?;
-    let zoned = some_zoned(alloc, dice, shape)?;
-    parts_of(alloc, shape.resolution, inked, zoned)
+    let inked = some_inked(rt, alloc, dice, shape);
+    let zoned = some_zoned(rt, alloc, dice, shape);
+    parts_of(rt, alloc, shape.resolution, inked, zoned)
+}
+
+/// The page of these parts.
+pub fn page_of(rt: &impl Abort, parts: PageParts) -> Page
+    requires { IsParts parts }
+{
+    match Page::new(parts) {
+        Ok(page) => page,
+        Err((_fault, _parts)) => panic!(rt; "a fault"),
+    }
 }
 
 /// A page by chance.
-pub fn some_page(alloc: Global, dice: &mut u64, shape: Shape) -> Result<Option<Page>, OutOfMemory> {
-    match Page::new(some_parts(alloc, dice, shape)?) {
-        Ok(page) => Ok(Some(page)),
-        Err((_fault, _parts)) => Ok(None),
-    }
+pub fn some_page(rt: &impl Abort, alloc: Global, dice: &mut u64, shape: Shape) -> Page {
+    page_of(rt, some_parts(rt, alloc, dice, shape))
 }

@@ -1,20 +1,21 @@
 // The deciding edges of a page, for tests: each point of the doubled grid is judged by itself, ink against ink, as the rule is
 // worded. Of the crates that the engine goes by nothing is used here; the zones of the samples are handed in.
 
-ghost use Rattle.std.specs.Prelude.{◌≡◌, ◌<◌, ◌≤◌, ◌+◌, ◌*◌, All, IfOk, OnOk, length};
+ghost use Rattle.std.specs.Prelude.{◌≡◌, ◌<◌, ◌≤◌, ◌+◌, ◌*◌, All, length};
 ghost use Rattle.page_model.specs.Edges.{IsEdge};
 ghost use Rattle.page_model.specs.Page.{InPage, plates, width};
 ghost use Rattle.page_model.specs.Zones.{zone_of};
 ghost use Rattle.strip_engine.specs.Whole.{sample_zones};
 
-use crate::memory::push;
+use crate::memory::put;
 use crate::reads::zone_number;
 use lists::list::List;
 use page_model::edges::{first_of, second_of};
 use page_model::laws::zone_law;
 use page_model::page::Page;
-use page_model::parts::{At, EdgeAt, InkKind, OutOfMemory};
+use page_model::parts::{At, EdgeAt, InkKind};
 use std::alloc::Global;
+use std::process::Abort;
 
 /// The zone of a sample, from the zones of all.
 #[tactic(auto, using(strip_engine::proofs::WholeLemmas::places))]
@@ -127,34 +128,28 @@ fn decides_at(page: &Page, zones: &[u8], e: EdgeAt) -> bool
 }
 
 /// Adds the deciding edges of a column of the doubled grid.
-fn add_column(
-    page: &Page,
-    zones: &[u8],
-    x2: u32,
-    edges: &mut List<EdgeAt>,
-) -> Result<(), OutOfMemory>
+fn add_column(rt: &impl Abort, page: &Page, zones: &[u8], x2: u32, edges: &mut List<EdgeAt>)
     requires zones { zones.now ≡ sample_zones page.now }
     requires column { x2 + 1 < 2 * width page.now }
     requires edges { All (IsEdge page.now) edges.old }
-    ensures { OnOk result (All (IsEdge page.now) edges.new) }
+    ensures { All (IsEdge page.now) edges.new }
 {
     for y2 in 0..2 * page.height() - 1 {
         let e = EdgeAt { x2, y2 };
         if (x2 + y2) % 2 == 1 && decides_at(page, zones, e) {
-            push(edges, e)?;
+            put(rt, edges, e);
         }
     }
-    Ok(())
 }
 
 /// All deciding edges of the page.
-pub fn deciding_edges(alloc: Global, page: &Page, zones: &[u8]) -> Result<List<EdgeAt>, OutOfMemory>
+pub fn deciding_edges(rt: &impl Abort, alloc: Global, page: &Page, zones: &[u8]) -> List<EdgeAt>
     requires zones { zones.now ≡ sample_zones page.now }
-    ensures { IfOk result (All (IsEdge page.now)) }
+    ensures { All (IsEdge page.now) result }
 {
     let mut edges = List::new(alloc);
     for x2 in 0..2 * page.width() - 1 {
-        add_column(page, zones, x2, &mut edges)?;
+        add_column(rt, page, zones, x2, &mut edges);
     }
-    Ok(edges)
+    edges
 }

@@ -5,12 +5,13 @@ ghost use Rattle.page_model.specs.Page.{InPage};
 ghost use Rattle.strip_engine.specs.Whole.{sample_zones};
 
 use crate::grid::{sample_of, samples_of};
-use crate::memory::push;
+use crate::memory::put;
 use crate::slow_edges::deciding_edges;
 use lists::list::List;
 use page_model::page::Page;
-use page_model::parts::{At, EdgeAt, OutOfMemory};
+use page_model::parts::{At, EdgeAt};
 use std::alloc::Global;
+use std::process::Abort;
 
 /// The marks of p: 1 for the edge to its right and 2 for the one below it.
 fn marks_at(page: &Page, p: At, edges: &[EdgeAt]) -> u8
@@ -34,16 +35,17 @@ fn marks_at(page: &Page, p: At, edges: &[EdgeAt]) -> u8
 }
 
 /// The marks of all samples, row by row.
-pub fn slow_marks(alloc: Global, page: &Page, zones: &[u8]) -> Result<List<u8>, OutOfMemory>
+pub fn slow_marks(rt: &impl Abort, alloc: Global, page: &Page, zones: &[u8]) -> List<u8>
     requires { zones.now ≡ sample_zones page.now }
 {
-    let edges = deciding_edges(alloc, page, zones)?;
+    let edges = deciding_edges(rt, alloc, page, zones);
+    marks_among(rt, alloc, page, edges.as_slice())
+}
+
+fn marks_among(rt: &impl Abort, alloc: Global, page: &Page, edges: &[EdgeAt]) -> List<u8> {
     let mut marks = List::new(alloc);
     for k in 0..samples_of(page) {
-        push(
-            &mut marks,
-            marks_at(page, sample_of(page, k), edges.as_slice()),
-        )?;
+        put(rt, &mut marks, marks_at(page, sample_of(page, k), edges));
     }
-    Ok(marks)
+    marks
 }

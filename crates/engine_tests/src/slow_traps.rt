@@ -1,21 +1,23 @@
 // The traps of a page by the whole rule, for tests: the decider of each sample is searched for among all deciding edges.
 
-ghost use Rattle.std.specs.Prelude.{◌≡◌, ◌<◌, All, IfOk, length};
+ghost use Rattle.std.specs.Prelude.{◌≡◌, ◌<◌, All, length};
 ghost use Rattle.std.specs.Option.{ForSome};
 ghost use Rattle.page_model.specs.Edges.{IsEdge};
 ghost use Rattle.page_model.specs.Page.{InPage, plates, samples};
 ghost use Rattle.strip_engine.specs.Whole.{sample_zones};
 
 use crate::grid::{sample_of, samples_of};
-use crate::memory::{filled, push};
+use crate::memory::{made, put};
 use crate::slow_edges::{deciding_edges, zone_among};
 use crate::zones::zones_of;
 use lists::list::List;
+use lists::memory::filled;
 use page_model::edges::squared_distance;
 use page_model::page::Page;
-use page_model::parts::{At, CountList, Counts, EdgeAt, OutOfMemory, Plane, PlaneList};
+use page_model::parts::{At, CountList, Counts, EdgeAt, Plane, PlaneList};
+use page_tally::Trapped;
 use std::alloc::Global;
-use strip_engine::Trapped;
+use std::process::Abort;
 use trap_color::trap_sample;
 
 /// Whether e is nearer to p than f is, or as near and further left, or above f in its column.
@@ -58,19 +60,24 @@ fn first_for(page: &Page, p: At, edges: &[EdgeAt]) -> Option<EdgeAt>
 
 /// The decider of each sample.
 fn slow_deciders(
+    rt: &impl Abort,
     alloc: Global,
     page: &Page,
     edges: &[EdgeAt],
-) -> Result<List<Option<EdgeAt>>, OutOfMemory>
+) -> List<Option<EdgeAt>>
     requires { All (IsEdge page.now) edges.now }
-    ensures count { IfOk result (λ deciders. length deciders ≡ samples page.now) }
-    ensures edges { IfOk result (All (λ decider. ForSome decider (IsEdge page.now))) }
+    ensures count { length result ≡ samples page.now }
+    ensures edges { All (λ decider. ForSome decider (IsEdge page.now)) result }
 {
     let mut deciders = List::new(alloc);
     for k in 0..samples_of(page) {
-        push(&mut deciders, first_for(page, sample_of(page, k), edges))?;
+        put(
+            rt,
+            &mut deciders,
+            first_for(page, sample_of(page, k), edges),
+        );
     }
-    Ok(deciders)
+    deciders
 }
 
 /// Writes the new tints of sample k, one for each plate.
@@ -89,47 +96,53 @@ fn trap_at(page: &Page, zones: &[u8], deciders: &[Option<EdgeAt>], k: usize, out
 
 /// Plate c after trapping.
 fn slow_plane(
+    rt: &impl Abort,
     alloc: Global,
     page: &Page,
     zones: &[u8],
     deciders: &[Option<EdgeAt>],
     c: u32,
-) -> Result<Plane, OutOfMemory>
+) -> Plane
     requires zones { zones.now ≡ sample_zones page.now }
     requires count { length deciders.now ≡ samples page.now }
     requires edges { All (λ decider. ForSome decider (IsEdge page.now)) deciders.now }
     requires plate { c < plates page.now }
 {
-    let mut out = filled(alloc, 0u16, page.plates() as usize)?;
+    let mut out = made(rt, filled(alloc, 0u16, page.plates() as usize));
     let mut tints = List::new(alloc);
     for k in 0..samples_of(page) {
         trap_at(page, zones, deciders, k, &mut out);
-        push(&mut tints, out[c as usize])?;
+        put(rt, &mut tints, out[c as usize]);
     }
-    Ok(Plane {
+    Plane {
         width: page.width(),
         height: page.height(),
         maxval: page.maxval(),
         tints,
-    })
+    }
 }
 
 /// All plates after trapping.
 fn slow_planes(
+    rt: &impl Abort,
     alloc: Global,
     page: &Page,
     zones: &[u8],
     deciders: &[Option<EdgeAt>],
-) -> Result<PlaneList, OutOfMemory>
+) -> PlaneList
     requires zones { zones.now ≡ sample_zones page.now }
     requires count { length deciders.now ≡ samples page.now }
     requires edges { All (λ decider. ForSome decider (IsEdge page.now)) deciders.now }
 {
     let mut planes = List::new(alloc);
     for c in 0..page.plates() {
-        push(&mut planes, slow_plane(alloc, page, zones, deciders, c)?)?;
+        put(
+            rt,
+            &mut planes,
+            slow_plane(rt, alloc, page, zones, deciders, c),
+        );
     }
-    Ok(planes)
+    planes
 }
 
 /// Whether some tint is not the one that p has on the page.
@@ -146,80 +159,138 @@ fn is_changed(page: &Page, p: At, tints: &[u16]) -> bool
 
 /// For each sample whether some plate changes there.
 fn slow_changes(
+    rt: &impl Abort,
     alloc: Global,
     page: &Page,
     zones: &[u8],
     deciders: &[Option<EdgeAt>],
-) -> Result<List<bool>, OutOfMemory>
+) -> List<bool>
     requires zones { zones.now ≡ sample_zones page.now }
     requires count { length deciders.now ≡ samples page.now }
     requires edges { All (λ decider. ForSome decider (IsEdge page.now)) deciders.now }
 {
-    let mut out = filled(alloc, 0u16, page.plates() as usize)?;
+    let mut out = made(rt, filled(alloc, 0u16, page.plates() as usize));
     let mut changes = List::new(alloc);
     for k in 0..samples_of(page) {
         trap_at(page, zones, deciders, k, &mut out);
-        push(&mut changes, is_changed(page, sample_of(page, k), &out))?;
+        put(rt, &mut changes, is_changed(page, sample_of(page, k), &out));
     }
-    Ok(changes)
+    changes
 }
 
 /// How many samples lie in each zone.
-fn slow_samples(alloc: Global, page: &Page, zones: &[u8]) -> Result<CountList, OutOfMemory> {
+fn slow_samples(rt: &impl Abort, alloc: Global, page: &Page, zones: &[u8]) -> CountList {
     let mut counts = List::new(alloc);
     for z in 0..page.zones() {
-        let count = zones.iter().filter(|zone| u32::from(**zone) == z).count();
-        push(&mut counts, count as u64)?;
+        put(rt, &mut counts, samples_in(zones, z));
     }
-    Ok(counts)
+    counts
+}
+
+fn samples_in(zones: &[u8], z: u32) -> u64 {
+    zones.iter().filter(|zone| u32::from(**zone) == z).count() as u64
 }
 
 /// How many samples of each zone change.
 fn slow_changed(
+    rt: &impl Abort,
     alloc: Global,
     page: &Page,
     zones: &[u8],
     changes: &[bool],
-) -> Result<CountList, OutOfMemory> {
+) -> CountList {
     let mut counts = List::new(alloc);
     for z in 0..page.zones() {
-        let both = zones.iter().zip(changes);
-        let count = both
-            .filter(|(zone, changed)| **changed && u32::from(**zone) == z)
-            .count();
-        push(&mut counts, count as u64)?;
+        put(rt, &mut counts, changed_in(zones, changes, z));
     }
-    Ok(counts)
+    counts
+}
+
+fn changed_in(zones: &[u8], changes: &[bool], z: u32) -> u64 {
+    let both = zones.iter().zip(changes);
+    both.filter(|(zone, changed)| **changed && u32::from(**zone) == z)
+        .count() as u64
 }
 
 /// How many tints of each plate change.
 fn slow_differences(
+    rt: &impl Abort,
     alloc: Global,
     before: &[Plane],
     after: &[Plane],
-) -> Result<CountList, OutOfMemory> {
+) -> CountList {
     let mut counts = List::new(alloc);
     for (old, new) in before.iter().zip(after) {
-        let both = old.tints.as_slice().iter().zip(new.tints.as_slice());
-        push(&mut counts, both.filter(|(a, b)| **a != **b).count() as u64)?;
+        put(
+            rt,
+            &mut counts,
+            differences(old.tints.as_slice(), new.tints.as_slice()),
+        );
     }
-    Ok(counts)
+    counts
+}
+
+fn differences(before: &[u16], after: &[u16]) -> u64 {
+    let both = before.iter().zip(after);
+    both.filter(|(a, b)| **a != **b).count() as u64
 }
 
 /// The planes and the counts of the page after trapping.
-pub fn slow_traps(alloc: Global, page: &Page) -> Result<Trapped, OutOfMemory> {
-    let zones = zones_of(alloc, page)?;
-    let edges = deciding_edges(alloc, page, zones.as_slice())?;
-    let deciders = slow_deciders(alloc, page, edges.as_slice())?;
-    let planes = slow_planes(alloc, page, zones.as_slice(), deciders.as_slice())?;
-    let changes = slow_changes(alloc, page, zones.as_slice(), deciders.as_slice())?;
+pub fn slow_traps(rt: &impl Abort, alloc: Global, page: &Page) -> Trapped {
+    let zones = zones_of(rt, alloc, page);
+    traps_by_zones(rt, alloc, page, zones.as_slice())
+}
+
+fn traps_by_zones(rt: &impl Abort, alloc: Global, page: &Page, zones: &[u8]) -> Trapped
+    requires { zones.now ≡ sample_zones page.now }
+{
+    let edges = deciding_edges(rt, alloc, page, zones);
+    traps_by_edges(rt, alloc, page, zones, edges.as_slice())
+}
+
+fn traps_by_edges(
+    rt: &impl Abort,
+    alloc: Global,
+    page: &Page,
+    zones: &[u8],
+    edges: &[EdgeAt],
+) -> Trapped
+    requires zones { zones.now ≡ sample_zones page.now }
+    requires edges { All (IsEdge page.now) edges.now }
+{
+    let deciders = slow_deciders(rt, alloc, page, edges);
+    traps_by_deciders(
+        rt,
+        alloc,
+        page,
+        zones,
+        deciders.as_slice(),
+        edges.len() as u64,
+    )
+}
+
+/// The same, where so many edges decide.
+fn traps_by_deciders(
+    rt: &impl Abort,
+    alloc: Global,
+    page: &Page,
+    zones: &[u8],
+    deciders: &[Option<EdgeAt>],
+    edges: u64,
+) -> Trapped
+    requires zones { zones.now ≡ sample_zones page.now }
+    requires count { length deciders.now ≡ samples page.now }
+    requires edges { All (λ decider. ForSome decider (IsEdge page.now)) deciders.now }
+{
+    let planes = slow_planes(rt, alloc, page, zones, deciders);
+    let changes = slow_changes(rt, alloc, page, zones, deciders);
     let counts = Counts {
-        zone_samples: slow_samples(alloc, page, zones.as_slice())?,
-        zone_changed: slow_changed(alloc, page, zones.as_slice(), changes.as_slice())?,
-        edges: edges.len() as u64,
-        plate_changed: slow_differences(alloc, page.planes().as_slice(), planes.as_slice())?,
+        zone_samples: slow_samples(rt, alloc, page, zones),
+        zone_changed: slow_changed(rt, alloc, page, zones, changes.as_slice()),
+        edges,
+        plate_changed: slow_differences(rt, alloc, page.planes().as_slice(), planes.as_slice()),
     };
-    Ok(Trapped { planes, counts })
+    Trapped { planes, counts }
 }
 
 fn same_plane(one: &Plane, two: &Plane) -> bool {

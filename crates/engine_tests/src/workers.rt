@@ -1,12 +1,13 @@
 // The page by workers at the shared table, against the page on one thread.
 ghost use Rattle.std.specs.Prelude.{◌≤◌};
 
+use crate::memory::made;
 use crate::random_pages::{some_page, some_shape};
 use crate::slow_traps::same_traps;
 use band_workers::OpenGate;
 use page_model::page::Page;
 use std::alloc::Global;
-use std::test::Fail;
+use std::process::Abort;
 use std::thread::Threads;
 use trap_engine::{Trapped, trap_alone, trap_page};
 
@@ -18,14 +19,16 @@ fn is_alike<R: Threads + Sync>(
     workers: u32,
     band: u32,
     alone: &Trapped,
-) -> Result<bool, Fail>
+) -> bool
     requires some_workers { 1 ≤ workers }
     requires few_workers { workers ≤ 64 }
     requires some_rows { 1 ≤ band }
     requires few_rows { band ≤ 4096 }
 {
-    let (trapped, _receipt) = trap_page(rt, alloc, page, workers, band, &OpenGate)?;
-    Ok(same_traps(&trapped, alone))
+    match trap_page(rt, alloc, page, workers, band, &OpenGate) {
+        Ok((trapped, _receipt)) => same_traps(&trapped, alone),
+        Err(_) => false,
+    }
 }
 
 /// Whether it does so in bands of any height.
@@ -35,16 +38,16 @@ fn is_alike_in_bands<R: Threads + Sync>(
     page: &Page,
     workers: u32,
     alone: &Trapped,
-) -> Result<bool, Fail>
+) -> bool
     requires some_workers { 1 ≤ workers }
     requires few_workers { workers ≤ 64 }
 {
     for band in [1, 2, 5, 64, 4096] {
-        if !is_alike(rt, alloc, page, workers, band, alone)? {
-            return Ok(false);
+        if !is_alike(rt, alloc, page, workers, band, alone) {
+            return false;
         }
     }
-    Ok(true)
+    true
 }
 
 /// Whether it does so by any number of workers.
@@ -53,13 +56,13 @@ fn is_alike_by_each<R: Threads + Sync>(
     alloc: Global,
     page: &Page,
     alone: &Trapped,
-) -> Result<bool, Fail> {
+) -> bool {
     for workers in [1, 2, 3, 7, 64] {
-        if !is_alike_in_bands(rt, alloc, page, workers, alone)? {
-            return Ok(false);
+        if !is_alike_in_bands(rt, alloc, page, workers, alone) {
+            return false;
         }
     }
-    Ok(true)
+    true
 }
 
 /// Whether trapping changes samples of each plate.
@@ -73,18 +76,27 @@ fn changes_each(trapped: &Trapped) -> bool {
 }
 
 /// Whether the page comes out by any workers as it does on one thread, and whether each of its plates changes.
-fn is_alike_by_workers<R: Threads + Sync>(
+fn is_alike_by_workers<R: Threads + Abort + Sync>(
     rt: &R,
     alloc: Global,
     page: &Page,
-) -> Result<(bool, bool), Fail> {
-    let alone = trap_alone(alloc, page)?;
-    let alike = is_alike_by_each(rt, alloc, page, &alone)?;
-    Ok((alike, changes_each(&alone)))
+) -> (bool, bool) {
+    let alone = made(rt, trap_alone(alloc, page));
+    (
+        is_alike_by_each(rt, alloc, page, &alone),
+        changes_each(&alone),
+    )
 }
 
-/// A page by chance of these sides.
-fn page_of(alloc: Global, seed: u64, width: u32, height: u32, reach2: u32) -> Result<Page, Fail>
+/// The same of a page by chance of these sides.
+fn is_alike_by_chance<R: Threads + Abort + Sync>(
+    rt: &R,
+    alloc: Global,
+    seed: u64,
+    width: u32,
+    height: u32,
+    reach2: u32,
+) -> (bool, bool)
     requires some_width { 1 ≤ width }
     requires narrow { width ≤ 2000 }
     requires some_height { 1 ≤ height }
@@ -93,11 +105,12 @@ fn page_of(alloc: Global, seed: u64, width: u32, height: u32, reach2: u32) -> Re
 {
     let mut dice = seed;
     let shape = some_shape(&mut dice, width, height, reach2);
-    Ok(some_page(alloc, &mut dice, shape)?.ok_or("a fault")?)
+    let page = some_page(rt, alloc, &mut dice, shape);
+    is_alike_by_workers(rt, alloc, &page)
 }
 
 #[test]
-fn traps_by_any_workers_as_alone(rt: HostRuntime) -> Result<(), Fail> {
+fn traps_by_any_workers_as_alone(rt: HostRuntime) {
     for (seed, width, height, reach2, changes) in [
         (4, 9, 23, 5, true),
         (2, 3, 40, 7, true),
@@ -105,9 +118,7 @@ fn traps_by_any_workers_as_alone(rt: HostRuntime) -> Result<(), Fail> {
         (2, 30, 130, 256, true),
         (2026, 1, 40, 0, false),
     ] {
-        let page = page_of(rt.alloc(), seed, width, height, reach2)?;
-        let alike = is_alike_by_workers(&rt, rt.alloc(), &page)?;
+        let alike = is_alike_by_chance(&rt, rt.alloc(), seed, width, height, reach2);
         assert!(rt; alike == (true, changes), "{seed}");
     }
-    Ok(())
 }

@@ -1,23 +1,41 @@
 use lists::list::List;
-use lists::names::{CallList, Name};
+use lists::memory::push;
+use lists::names::{CallList, Name, copied};
 use outside::distinct_names::have_distinct_names;
-use outside::mem_file::MemFile;
+use outside::mem_file::{FileList, MemFile};
 use outside::mem_tray::MemTray;
-use std::alloc::{AllocError, Global};
+use std::alloc::Global;
 use std::process::Abort;
 
-pub fn bytes_of(alloc: Global, text: &[u8]) -> Result<Name, AllocError> {
-    let bytes = text.to_vec(alloc)?;
-    Ok(List::from_vec(bytes))
+/// Stops the test where an answer is wrong, and names the row that it is of.
+pub fn judge(rt: &impl Abort, is_right: bool, row: &str, number: u64) {
+    assert!(rt; is_right, "{row}, {number}");
+}
+
+pub fn bytes_of(rt: &impl Abort, alloc: Global, text: &[u8]) -> Name {
+    copied(alloc, text).expect(rt, "no memory")
+}
+
+/// Adds the byte at the end.
+pub fn add(rt: &impl Abort, bytes: &mut Vec<u8>, byte: u8) {
+    assert!(rt; bytes.push(byte).is_ok(), "no memory");
+}
+
+/// Adds the word at the end.
+pub fn write(rt: &impl Abort, text: &mut String, word: &str) {
+    assert!(rt; text.push_str(word).is_ok(), "no memory");
 }
 
 /// The numbers of the calls that fail: this one, or none.
-pub fn only(alloc: Global, call: Option<u64>) -> Result<CallList, AllocError> {
-    let mut calls = Vec::new(alloc);
-    if let Some(number) = call {
-        calls.push(number)?;
+pub fn only(rt: &impl Abort, alloc: Global, call: Option<u64>) -> CallList {
+    match call {
+        Some(number) => one_call(rt, alloc, number),
+        None => List::new(alloc),
     }
-    Ok(List::from_vec(calls))
+}
+
+fn one_call(rt: &impl Abort, alloc: Global, number: u64) -> CallList {
+    List::from_vec(Vec::from_slice(alloc, &[number]).expect(rt, "no memory"))
 }
 
 /// How a tray in memory gives its bytes, and where it fails.
@@ -37,26 +55,46 @@ pub fn by(grain: usize) -> Way {
     }
 }
 
-/// A tray with these bytes under `one`, and with an empty file.
-pub fn tray_of(
+/// A file of that name and these bytes.
+pub fn file_of(
     rt: &impl Abort,
     alloc: Global,
+    name: &[u8],
     bytes: &[u8],
-    way: Way,
-) -> Result<MemTray, AllocError> {
-    let fails = only(alloc, way.call)?;
-    let mut files = Vec::new(alloc);
-    files.push(MemFile {
-        name: bytes_of(alloc, b"empty")?,
-        bytes: List::new(alloc),
-        fails_at: None,
-    })?;
-    files.push(MemFile {
-        name: bytes_of(alloc, b"one")?,
-        bytes: bytes_of(alloc, bytes)?,
-        fails_at: way.fails_at,
-    })?;
-    assert!(rt; have_distinct_names(&files));
-    assert!(rt; way.grain > 0);
-    Ok(MemTray::new(alloc, List::from_vec(files), way.grain, fails))
+    fails_at: Option<u64>,
+) -> MemFile {
+    MemFile {
+        name: bytes_of(rt, alloc, name),
+        bytes: bytes_of(rt, alloc, bytes),
+        fails_at,
+    }
+}
+
+/// Adds the file at the end.
+pub fn put(rt: &impl Abort, files: &mut FileList, file: MemFile) {
+    assert!(rt; push(files, file).is_ok(), "no memory");
+}
+
+fn files_of(rt: &impl Abort, alloc: Global, bytes: &[u8], fails_at: Option<u64>) -> FileList {
+    let mut files = List::new(alloc);
+    put(rt, &mut files, file_of(rt, alloc, b"empty", b"", None));
+    put(rt, &mut files, file_of(rt, alloc, b"one", bytes, fails_at));
+    files
+}
+
+fn tray_with(
+    rt: &impl Abort,
+    alloc: Global,
+    files: FileList,
+    grain: usize,
+    fails: CallList,
+) -> MemTray {
+    assert!(rt; grain > 0 && have_distinct_names(files.as_slice()));
+    MemTray::new(alloc, files, grain, fails)
+}
+
+/// A tray with these bytes under `one`, and with an empty file.
+pub fn tray_of(rt: &impl Abort, alloc: Global, bytes: &[u8], way: Way) -> MemTray {
+    let files = files_of(rt, alloc, bytes, way.fails_at);
+    tray_with(rt, alloc, files, way.grain, only(rt, alloc, way.call))
 }

@@ -2,6 +2,8 @@
 #![tactic(auto)]
 
 #[cfg(test)]
+mod bounds;
+#[cfg(test)]
 mod fixtures;
 #[cfg(test)]
 mod pages_read;
@@ -13,5 +15,9 @@ mod plates_written;
 mod racks;
 #[cfg(test)]
 mod real_files;
+#[cfg(test)]
+mod rows_read;
+#[cfg(test)]
+mod rows_written;
 #[cfg(test)]
 mod trays;

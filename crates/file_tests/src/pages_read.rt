@@ -1,30 +1,28 @@
-use crate::fixtures::{Way, by, tray_of};
+use crate::fixtures::{Way, by, judge, tray_of};
 use outside::mem_tray::MemTray;
 use pgm_plates::pages::read_page;
 use pgm_plates::plate::{PlateFault, PlateRefusal};
-use std::alloc::{AllocError, Global};
+use std::alloc::Global;
 use std::process::Abort;
-use std::test::Fail;
 
 // The width of the plate of that number, none where there is none, or why it is refused.
-fn width_by(alloc: Global, mut tray: MemTray, page: u32) -> Result<Option<u32>, PlateRefusal> {
-    match read_page(alloc, &mut tray, "one", page) {
+fn width_by(alloc: Global, tray: &mut MemTray, page: u32) -> Result<Option<u32>, PlateRefusal> {
+    match read_page(alloc, tray, "one", page) {
         Ok(Some(plate)) => Ok(Some(plate.width)),
         Ok(None) => Ok(None),
         Err(refusal) => Err(refusal),
     }
 }
 
-// Whether a file of these bytes gives that answer, by such a tray.
-fn gives(
+// The same of a file of these bytes, by such a tray.
+fn width_of(
     rt: &impl Abort,
     alloc: Global,
     (text, page): (&str, u32),
     way: Way,
-    want: Result<Option<u32>, PlateRefusal>,
-) -> Result<bool, AllocError> {
-    let tray = tray_of(rt, alloc, text.as_bytes(), way)?;
-    Ok(is_same(width_by(alloc, tray, page), want))
+) -> Result<Option<u32>, PlateRefusal> {
+    let mut tray = tray_of(rt, alloc, text.as_bytes(), way);
+    width_by(alloc, &mut tray, page)
 }
 
 fn is_same(
@@ -38,8 +36,8 @@ fn is_same(
     }
 }
 
-// A plate of 10 bytes and one of 15, alone, together, and with more behind them.
-const FILES: [((&str, u32), Result<Option<u32>, PlateFault>); 15] = [
+// A plate of 10 bytes and one of 15, alone, together, and with more after them.
+const FILES: &[((&str, u32), Result<Option<u32>, PlateFault>)] = &[
     (("", 0), Ok(None)),
     (("", 9), Ok(None)),
     (("P5 1 1 1 \x01", 0), Ok(Some(1))),
@@ -76,36 +74,58 @@ fn refused(want: Result<Option<u32>, PlateFault>) -> Result<Option<u32>, PlateRe
     }
 }
 
-#[test]
-fn the_plate_of_a_number_is_read(rt: HostRuntime) -> Result<(), Fail> {
-    for grain in [1, 4096] {
-        for (file, want) in FILES {
-            let is = gives(&rt, rt.alloc(), file, by(grain), refused(want))?;
-            assert!(rt; is, "{} of {}", file.1, file.0);
-        }
+fn judge_files(rt: &impl Abort, alloc: Global, grain: usize) {
+    for (file, want) in FILES {
+        let width = width_of(rt, alloc, *file, by(grain));
+        judge(
+            rt,
+            is_same(width, refused(*want)),
+            file.0,
+            u64::from(file.1),
+        );
     }
-    Ok(())
 }
 
 #[test]
-fn a_read_that_fails_behind_a_plate_is_no_fault_of_it(rt: HostRuntime) -> Result<(), Fail> {
-    let text = "P5 1 1 1 \x01P5 1 1 1 \x01";
+fn the_plate_of_a_number_is_read(rt: HostRuntime) {
+    judge_files(&rt, rt.alloc(), 1);
+    judge_files(&rt, rt.alloc(), 4096);
+}
+
+// Two plates of 10 bytes each.
+const TWO: &str = "P5 1 1 1 \x01P5 1 1 1 \x01";
+
+const BROKEN: Result<Option<u32>, PlateRefusal> = Err(PlateRefusal::ReadFault);
+
+// The answer for the second plate where reads fail from that place on.
+fn second_at(place: u64) -> Result<Option<u32>, PlateRefusal> {
+    if place < 20 { BROKEN } else { Ok(Some(1)) }
+}
+
+fn judge_page(
+    rt: &impl Abort,
+    alloc: Global,
+    place: u64,
+    page: u32,
+    want: Result<Option<u32>, PlateRefusal>,
+) {
+    let way = Way {
+        fails_at: Some(place),
+        ..by(4096)
+    };
+    judge(
+        rt,
+        is_same(width_of(rt, alloc, (TWO, page), way), want),
+        "a failing read at",
+        place,
+    );
+}
+
+#[test]
+fn a_read_that_fails_after_a_plate_is_no_fault_of_it(rt: HostRuntime) {
     for place in 10..21 {
-        let way = Way {
-            fails_at: Some(place),
-            ..by(4096)
-        };
-        let broken = Err(PlateRefusal::ReadFault);
-        assert!(rt;
-            gives(&rt, rt.alloc(), (text, 0), way, Ok(Some(1)))?,
-            "at {place}"
-        );
-        let want = if place < 20 { broken } else { Ok(Some(1)) };
-        assert!(rt; gives(&rt, rt.alloc(), (text, 1), way, want)?, "at {place}");
-        assert!(rt;
-            gives(&rt, rt.alloc(), (text, 2), way, broken)?,
-            "at {place}"
-        );
+        judge_page(&rt, rt.alloc(), place, 0, Ok(Some(1)));
+        judge_page(&rt, rt.alloc(), place, 1, second_at(place));
+        judge_page(&rt, rt.alloc(), place, 2, BROKEN);
     }
-    Ok(())
 }

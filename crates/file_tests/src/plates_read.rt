@@ -1,31 +1,37 @@
-use crate::fixtures::{Way, by, bytes_of, tray_of};
+use crate::fixtures::{Way, add, by, bytes_of, judge, tray_of, write};
 use outside::endless_tray::EndlessTray;
-use outside::mem_tray::MemTray;
+use outside::tray::Tray;
 use pgm_plates::plate::{PlateFault, PlateRefusal};
 use pgm_plates::reading::read_plate;
-use std::alloc::{AllocError, Global};
+use std::alloc::Global;
 use std::process::Abort;
-use std::test::Fail;
 
-fn refusal_by(alloc: Global, mut tray: MemTray) -> Option<PlateRefusal> {
-    read_plate(alloc, &mut tray, "one").err()
+fn refusal_by<T: Tray>(alloc: Global, tray: &mut T) -> Option<PlateRefusal> {
+    match read_plate(alloc, tray, "one") {
+        Ok(_) => None,
+        Err(refusal) => Some(refusal),
+    }
 }
 
 // What a file of these bytes is refused for, by such a tray.
-fn refusal_of(
-    rt: &impl Abort,
-    alloc: Global,
-    bytes: &[u8],
-    way: Way,
-) -> Result<Option<PlateRefusal>, AllocError> {
-    Ok(refusal_by(alloc, tray_of(rt, alloc, bytes, way)?))
+fn refusal_of(rt: &impl Abort, alloc: Global, bytes: &[u8], way: Way) -> Option<PlateRefusal> {
+    let mut tray = tray_of(rt, alloc, bytes, way);
+    refusal_by(alloc, &mut tray)
 }
 
-const fn fault(fault: PlateFault) -> Option<PlateRefusal> {
-    Some(PlateRefusal::Fault(fault))
+// Whether it is that fault.
+fn is_fault(refusal: Option<PlateRefusal>, want: PlateFault) -> bool {
+    match refusal {
+        Some(PlateRefusal::Fault(fault)) => fault == want,
+        _ => false,
+    }
 }
 
-const PLATES: [&str; 10] = [
+fn is_read_fault(refusal: Option<PlateRefusal>) -> bool {
+    matches!(refusal, Some(PlateRefusal::ReadFault))
+}
+
+const PLATES: &[&str] = &[
     "P5 6 1 255\n......",
     "P5\n#x\n006\t1\x0c255 ......",
     "P5#x\r6#y\n1 255\n......",
@@ -38,18 +44,22 @@ const PLATES: [&str; 10] = [
     "P5\x0b0000000000000000000001 1 1\r\x00",
 ];
 
-#[test]
-fn plate_files_are_read_by_any_grain(rt: HostRuntime) -> Result<(), Fail> {
-    for grain in [1, 2, 3, 4096] {
-        for text in PLATES {
-            let refusal = refusal_of(&rt, rt.alloc(), text.as_bytes(), by(grain))?;
-            assert!(rt; refusal.is_none(), "{text} by {grain}");
-        }
+fn judge_plates(rt: &impl Abort, alloc: Global, grain: usize) {
+    for text in PLATES {
+        let refusal = refusal_of(rt, alloc, text.as_bytes(), by(grain));
+        judge(rt, refusal.is_none(), text, grain as u64);
     }
-    Ok(())
 }
 
-const FAULTS: [(&str, PlateFault); 33] = [
+#[test]
+fn plate_files_are_read_by_any_grain(rt: HostRuntime) {
+    judge_plates(&rt, rt.alloc(), 1);
+    judge_plates(&rt, rt.alloc(), 2);
+    judge_plates(&rt, rt.alloc(), 3);
+    judge_plates(&rt, rt.alloc(), 4096);
+}
+
+const FAULTS: &[(&str, PlateFault)] = &[
     ("P2 6 1 255\n......", PlateFault::BadMagic(1)),
     ("p5 6 1 255\n......", PlateFault::BadMagic(0)),
     ("P56 1 255\n......", PlateFault::BadHeader(2)),
@@ -91,52 +101,62 @@ const FAULTS: [(&str, PlateFault); 33] = [
     ("P5 1 1 256 \x01\x00\x00", PlateFault::TrailingBytes(13)),
 ];
 
-#[test]
-fn the_first_fault_from_the_left_is_told(rt: HostRuntime) -> Result<(), Fail> {
-    for grain in [1, 2, 3, 4096] {
-        for (text, want) in FAULTS {
-            let refusal = refusal_of(&rt, rt.alloc(), text.as_bytes(), by(grain))?;
-            assert!(rt; refusal == fault(want), "{text} by {grain}");
-        }
+fn judge_faults(rt: &impl Abort, alloc: Global, grain: usize) {
+    for (text, want) in FAULTS {
+        let refusal = refusal_of(rt, alloc, text.as_bytes(), by(grain));
+        judge(rt, is_fault(refusal, *want), text, grain as u64);
     }
-    Ok(())
 }
 
-const CUT: [&str; 4] = [
+#[test]
+fn the_first_fault_from_the_left_is_told(rt: HostRuntime) {
+    judge_faults(&rt, rt.alloc(), 1);
+    judge_faults(&rt, rt.alloc(), 2);
+    judge_faults(&rt, rt.alloc(), 3);
+    judge_faults(&rt, rt.alloc(), 4096);
+}
+
+const CUT: &[&str] = &[
     "P5\n6 1\n255\n......",
     "P5\n#x\n006\t1\x0c255 ......",
     "P5#\r#\n1 #y\r1#z\n65535\t..",
     "P5 2 2 256\n\x01\x00\x00.\x00.\x00.",
 ];
 
-#[test]
-fn a_file_that_is_cut_is_truncated_there(rt: HostRuntime) -> Result<(), Fail> {
-    for text in CUT {
-        let bytes = text.as_bytes();
-        for count in 0..bytes.len() {
-            let refusal = refusal_of(&rt, rt.alloc(), &bytes[..count], by(4096))?;
-            let want = fault(PlateFault::Truncated(count as u64));
-            assert!(rt; refusal == want, "{text} to {count}");
-        }
+fn judge_cuts(rt: &impl Abort, alloc: Global, text: &str) {
+    for count in 0..text.len() {
+        let prefix = text.as_bytes().get(..count).unwrap_or(b"");
+        let refusal = refusal_of(rt, alloc, prefix, by(4096));
+        let want = PlateFault::Truncated(count as u64);
+        judge(rt, is_fault(refusal, want), text, count as u64);
     }
-    Ok(())
 }
+
+#[test]
+fn a_file_that_is_cut_is_truncated_there(rt: HostRuntime) {
+    for text in CUT {
+        judge_cuts(&rt, rt.alloc(), text);
+    }
+}
+
+// The words of a plate, each after a gap.
+const WORDS: &[&str] = &["1", "1", "255", "."];
 
 // A plate whose four gaps are a space, but for one of them.
-fn with_gap(alloc: Global, place: usize, gap: &str) -> Result<String, AllocError> {
-    let mut text = String::from_str(alloc, "P5")?;
-    for (number, word) in ["1", "1", "255", "."].iter().enumerate() {
-        text.push_str(if number == place { gap } else { " " })?;
-        text.push_str(word)?;
+fn with_gap(rt: &impl Abort, alloc: Global, place: usize, gap: &str) -> String {
+    let mut text = String::from_str(alloc, "P5").expect(rt, "no memory");
+    for (number, word) in WORDS.iter().enumerate() {
+        write(rt, &mut text, if number == place { gap } else { " " });
+        write(rt, &mut text, word);
     }
-    Ok(text)
+    text
 }
 
-const WHITESPACE: [&str; 6] = ["\t", "\n", "\x0b", "\x0c", "\r", " "];
+const WHITESPACE: &[&str] = &["\t", "\n", "\x0b", "\x0c", "\r", " "];
 
-const NO_GAPS: [&str; 7] = ["\x00", "\x08", "\x0e", "\x1f", "!", "%", "\x7f"];
+const NO_GAPS: &[&str] = &["\x00", "\x08", "\x0e", "\x1f", "!", "%", "\x7f"];
 
-const COMMENTS: [&str; 6] = [
+const COMMENTS: &[&str] = &[
     "#\n",
     "#\r",
     "#one#two\n",
@@ -150,53 +170,65 @@ fn refusal_with_gap(
     alloc: Global,
     place: usize,
     gap: &str,
-) -> Result<Option<PlateRefusal>, AllocError> {
-    let text = with_gap(alloc, place, gap)?;
+) -> Option<PlateRefusal> {
+    let text = with_gap(rt, alloc, place, gap);
     refusal_of(rt, alloc, text.as_bytes(), by(4096))
 }
 
-// Compares the answers to these gaps, each in place of that one.
-fn judge_gaps(
-    rt: &impl Abort,
-    alloc: Global,
-    place: usize,
-    gaps: &[&str],
-    want: Option<PlateRefusal>,
-) -> Result<(), AllocError> {
+// Looks whether these gaps, each in place of that one, give a plate.
+fn judge_gaps(rt: &impl Abort, alloc: Global, place: usize, gaps: &[&str]) {
     for gap in gaps {
-        assert!(rt;
-            refusal_with_gap(rt, alloc, place, *gap)? == want,
-            "{place}"
+        let refusal = refusal_with_gap(rt, alloc, place, gap);
+        judge(rt, refusal.is_none(), gap, place as u64);
+    }
+}
+
+// Looks whether they are no gaps, in a plate whose gap begins at that byte.
+fn judge_no_gaps(rt: &impl Abort, alloc: Global, place: usize, at: u64, gaps: &[&str]) {
+    for gap in gaps {
+        let refusal = refusal_with_gap(rt, alloc, place, gap);
+        judge(
+            rt,
+            is_fault(refusal, PlateFault::BadHeader(at)),
+            gap,
+            place as u64,
         );
     }
-    Ok(())
+}
+
+// The gaps begin at bytes 2, 4, 6 and 10.
+const GAPS: &[(usize, u64)] = &[(0, 2), (1, 4), (2, 6), (3, 10)];
+
+#[test]
+fn gaps_are_whitespace(rt: HostRuntime) {
+    for (place, at) in GAPS {
+        judge_gaps(&rt, rt.alloc(), *place, WHITESPACE);
+        judge_no_gaps(&rt, rt.alloc(), *place, *at, NO_GAPS);
+    }
 }
 
 #[test]
-fn gaps_are_whitespace_and_comments(rt: HostRuntime) -> Result<(), Fail> {
-    // The gaps begin at bytes 2, 4, 6 and 10.
-    for (place, at) in [(0, 2), (1, 4), (2, 6), (3, 10)] {
-        let bad = fault(PlateFault::BadHeader(at));
-        judge_gaps(&rt, rt.alloc(), place, WHITESPACE.as_slice(), None)?;
-        judge_gaps(&rt, rt.alloc(), place, NO_GAPS.as_slice(), bad)?;
-        let behind = if place < 3 { None } else { bad };
-        judge_gaps(&rt, rt.alloc(), place, COMMENTS.as_slice(), behind)?;
-    }
-    Ok(())
+fn gaps_but_the_last_are_comments(rt: HostRuntime) {
+    judge_gaps(&rt, rt.alloc(), 0, COMMENTS);
+    judge_gaps(&rt, rt.alloc(), 1, COMMENTS);
+    judge_gaps(&rt, rt.alloc(), 2, COMMENTS);
+    judge_no_gaps(&rt, rt.alloc(), 3, 10, COMMENTS);
 }
 
 // A file whose header has that many bytes, of which most are the spaces of its first gap.
-fn long_header(alloc: Global, count: usize, numbers: &str) -> Result<Vec<u8>, AllocError> {
-    let mut bytes = b"P5".to_vec(alloc)?;
-    let spaces = count.saturating_sub(2 + numbers.len());
-    for _ in 0..spaces {
-        bytes.push(b' ')?;
+fn long_header(rt: &impl Abort, alloc: Global, count: usize, numbers: &str) -> Vec<u8> {
+    let mut bytes = b"P5".to_vec(alloc).expect(rt, "no memory");
+    for _ in numbers.len() + 2..count {
+        add(rt, &mut bytes, b' ');
     }
-    bytes.extend_from_slice(numbers.as_bytes())?;
-    Ok(bytes)
+    assert!(rt;
+        bytes.extend_from_slice(numbers.as_bytes()).is_ok(),
+        "no memory"
+    );
+    bytes
 }
 
-const LONG: [(usize, &str, PlateFault); 9] = [
+const LONG: &[(usize, &str, PlateFault)] = &[
     (65_535, "1 1 1\n", PlateFault::Truncated(65_535)),
     (65_536, "1 1 1\n", PlateFault::Truncated(65_536)),
     (65_537, "1 1 1\n", PlateFault::BadHeader(65_536)),
@@ -213,21 +245,20 @@ fn refusal_of_long(
     alloc: Global,
     count: usize,
     numbers: &str,
-) -> Result<Option<PlateRefusal>, AllocError> {
-    let bytes = long_header(alloc, count, numbers)?;
+) -> Option<PlateRefusal> {
+    let bytes = long_header(rt, alloc, count, numbers);
     refusal_of(rt, alloc, &bytes, by(4096))
 }
 
 #[test]
-fn a_header_has_65536_bytes_at_most(rt: HostRuntime) -> Result<(), Fail> {
+fn a_header_has_65536_bytes_at_most(rt: HostRuntime) {
     for (count, numbers, want) in LONG {
-        let refusal = refusal_of_long(&rt, rt.alloc(), count, numbers)?;
-        assert!(rt; refusal == fault(want), "{count}, {numbers}");
+        let refusal = refusal_of_long(&rt, rt.alloc(), *count, numbers);
+        judge(&rt, is_fault(refusal, *want), numbers, *count as u64);
     }
-    Ok(())
 }
 
-const ENDLESS: [(&str, u8, PlateFault); 5] = [
+const ENDLESS: &[(&str, u8, PlateFault)] = &[
     ("P5", b' ', PlateFault::BadHeader(65_536)),
     ("P5#", b'#', PlateFault::BadHeader(65_536)),
     ("P5 1", b'1', PlateFault::BadHeader(65_536)),
@@ -240,29 +271,28 @@ const ENDLESS: [(&str, u8, PlateFault); 5] = [
 ];
 
 fn refusal_of_endless(
+    rt: &impl Abort,
     alloc: Global,
     head: &str,
     tail: u8,
-) -> Result<Option<PlateRefusal>, AllocError> {
-    let mut tray = EndlessTray::new(bytes_of(alloc, head.as_bytes())?, tail);
-    Ok(read_plate(alloc, &mut tray, "any").err())
+) -> Option<PlateRefusal> {
+    let mut tray = EndlessTray::new(bytes_of(rt, alloc, head.as_bytes()), tail);
+    refusal_by(alloc, &mut tray)
 }
 
 #[test]
-fn an_endless_file_is_read_no_further_than_it_decides(rt: HostRuntime) -> Result<(), Fail> {
+fn an_endless_file_is_read_no_further_than_it_decides(rt: HostRuntime) {
     for (head, tail, want) in ENDLESS {
-        let refusal = refusal_of_endless(rt.alloc(), head, tail)?;
-        assert!(rt; refusal == fault(want), "{head}");
+        let refusal = refusal_of_endless(&rt, rt.alloc(), head, *tail);
+        judge(&rt, is_fault(refusal, *want), head, u64::from(*tail));
     }
-    Ok(())
 }
 
 // It reads 160 MB.
 #[test]
-fn a_plate_may_have_160000000_samples(rt: HostRuntime) -> Result<(), Fail> {
-    let refusal = refusal_of_endless(rt.alloc(), "P5 16000 10000 1\n", 1)?;
-    assert!(rt; refusal == fault(PlateFault::TrailingBytes(160_000_017)));
-    Ok(())
+fn a_plate_may_have_160000000_samples(rt: HostRuntime) {
+    let refusal = refusal_of_endless(&rt, rt.alloc(), "P5 16000 10000 1\n", 1);
+    assert!(rt; is_fault(refusal, PlateFault::TrailingBytes(160_000_017)));
 }
 
 // What a plate is refused for whose reads from that place on, or whose call of that number, fail.
@@ -271,7 +301,7 @@ fn failing(
     alloc: Global,
     fails_at: Option<u64>,
     call: Option<u64>,
-) -> Result<Option<PlateRefusal>, AllocError> {
+) -> Option<PlateRefusal> {
     let way = Way {
         grain: 4096,
         fails_at,
@@ -280,67 +310,79 @@ fn failing(
     refusal_of(rt, alloc, b"P5\n6 1\n255\n\x00\x00\x00\xff\xff\xff", way)
 }
 
-fn read_fault(is_broken: bool) -> Option<PlateRefusal> {
-    if is_broken {
-        Some(PlateRefusal::ReadFault)
+// Whether it is a read fault, or, where the plate is whole, no refusal.
+fn is_read_so(refusal: Option<PlateRefusal>, is_whole: bool) -> bool {
+    if is_whole {
+        refusal.is_none()
     } else {
-        None
+        is_read_fault(refusal)
     }
 }
 
 #[test]
-fn a_read_that_fails_before_a_fault_is_a_read_fault(rt: HostRuntime) -> Result<(), Fail> {
+fn a_read_that_fails_before_a_fault_is_a_read_fault(rt: HostRuntime) {
     for place in 0..20 {
-        let refusal = failing(&rt, rt.alloc(), Some(place), None)?;
-        assert!(rt; refusal == read_fault(place < 18), "at {place}");
+        let refusal = failing(&rt, rt.alloc(), Some(place), None);
+        judge(&rt, is_read_so(refusal, place >= 18), "at", place);
     }
-    // `begin`, eleven reads for the header, one for the raster and one behind it.
-    for call in 0..16 {
-        let refusal = failing(&rt, rt.alloc(), None, Some(call))?;
-        assert!(rt; refusal == read_fault(call < 14), "call {call}");
-    }
-    Ok(())
 }
 
 #[test]
-fn a_sample_that_was_read_before_a_failure_is_judged(rt: HostRuntime) -> Result<(), Fail> {
-    let bytes = b"P5 6 1 1 \x01\x02\x00\x00\x00\x00";
-    let above = fault(PlateFault::SampleAboveMaxval(10));
-    for place in 9..16 {
-        let way = Way {
-            fails_at: Some(place),
-            ..by(4096)
-        };
-        let want = if place < 11 { read_fault(true) } else { above };
-        assert!(rt;
-            refusal_of(&rt, rt.alloc(), bytes, way)? == want,
-            "at {place}"
+fn a_call_that_fails_before_a_fault_is_a_read_fault(rt: HostRuntime) {
+    // `begin`, eleven reads for the header, one for the raster and one after it.
+    for call in 0..16 {
+        let refusal = failing(&rt, rt.alloc(), None, Some(call));
+        judge(&rt, is_read_so(refusal, call >= 14), "call", call);
+    }
+}
+
+// What a plate with a sample above its maxval is refused for whose reads fail from that place on.
+fn above_at(rt: &impl Abort, alloc: Global, place: u64) -> Option<PlateRefusal> {
+    let way = Way {
+        fails_at: Some(place),
+        ..by(4096)
+    };
+    refusal_of(rt, alloc, b"P5 6 1 1 \x01\x02\x00\x00\x00\x00", way)
+}
+
+#[test]
+fn a_sample_that_was_read_before_a_failure_is_judged(rt: HostRuntime) {
+    for place in 9..11 {
+        judge(
+            &rt,
+            is_read_fault(above_at(&rt, rt.alloc(), place)),
+            "at",
+            place,
         );
     }
-    Ok(())
+    for place in 11..16 {
+        let refusal = above_at(&rt, rt.alloc(), place);
+        judge(
+            &rt,
+            is_fault(refusal, PlateFault::SampleAboveMaxval(10)),
+            "at",
+            place,
+        );
+    }
 }
 
 // The header of a plate of 90,000 samples, so many of them, and one above the maxval.
-fn with_sample_above(alloc: Global, count: usize) -> Result<Vec<u8>, AllocError> {
-    let mut bytes = b"P5 300 300 9\n".to_vec(alloc)?;
+fn with_sample_above(rt: &impl Abort, alloc: Global, count: usize) -> Vec<u8> {
+    let mut bytes = b"P5 300 300 9\n".to_vec(alloc).expect(rt, "no memory");
     for _ in 0..count {
-        bytes.push(7)?;
+        add(rt, &mut bytes, 7);
     }
-    bytes.push(10)?;
-    Ok(bytes)
+    add(rt, &mut bytes, 10);
+    bytes
 }
 
-fn refusal_above(
-    rt: &impl Abort,
-    alloc: Global,
-    count: usize,
-) -> Result<Option<PlateRefusal>, AllocError> {
-    let bytes = with_sample_above(alloc, count)?;
+fn refusal_above(rt: &impl Abort, alloc: Global, count: usize) -> Option<PlateRefusal> {
+    let bytes = with_sample_above(rt, alloc, count);
     refusal_of(rt, alloc, &bytes, by(1000))
 }
 
 // By how many samples there are before the one that is above; the last row has one byte more than a plate.
-const ABOVE: [(usize, PlateFault); 5] = [
+const ABOVE: &[(usize, PlateFault)] = &[
     (0, PlateFault::SampleAboveMaxval(13)),
     (65_535, PlateFault::SampleAboveMaxval(65_548)),
     (65_536, PlateFault::SampleAboveMaxval(65_549)),
@@ -349,12 +391,9 @@ const ABOVE: [(usize, PlateFault); 5] = [
 ];
 
 #[test]
-fn a_sample_is_judged_in_each_piece(rt: HostRuntime) -> Result<(), Fail> {
+fn a_sample_is_judged_in_each_piece(rt: HostRuntime) {
     for (count, want) in ABOVE {
-        assert!(rt;
-            refusal_above(&rt, rt.alloc(), count)? == fault(want),
-            "{count}"
-        );
+        let refusal = refusal_above(&rt, rt.alloc(), *count);
+        judge(&rt, is_fault(refusal, *want), "samples", *count as u64);
     }
-    Ok(())
 }

@@ -1,10 +1,9 @@
-use crate::fixtures::only;
+use crate::fixtures::{judge, only};
 use outside::mem_rack::MemRack;
 use outside::rack::Rack;
 use outside::writing::write_file;
-use std::alloc::{AllocError, Global};
+use std::alloc::Global;
 use std::process::Abort;
-use std::test::Fail;
 
 // Whether the rack has these bytes under the name, or, where none are given, no such file.
 fn holds(rack: &MemRack, name: &str, want: Option<&[u8]>) -> bool {
@@ -15,106 +14,137 @@ fn holds(rack: &MemRack, name: &str, want: Option<&[u8]>) -> bool {
     }
 }
 
-fn ends_with(rack: MemRack, want: Option<&[u8]>) -> bool {
-    holds(&rack, "plate", want)
-}
-
 const WHOLE: &str = "P5 1 1 1\n.";
 
-// Writes `plate` by such a rack, and says whether it was written and whether the file then holds that front.
+fn is_written(rack: &mut MemRack, name: &str, text: &[u8]) -> bool {
+    match write_file(rack, name, text) {
+        Ok(()) => true,
+        Err(_) => false,
+    }
+}
+
+fn rack_of(rt: &impl Abort, alloc: Global, grain: usize, room: u64, call: Option<u64>) -> MemRack {
+    assert!(rt; grain > 0);
+    MemRack::new(alloc, grain, room, only(rt, alloc, call))
+}
+
+// Writes `plate`, and says whether it was written and whether the file then holds that prefix.
+fn writes(rack: &mut MemRack, prefix: Option<&[u8]>) -> (bool, bool) {
+    let is_written = is_written(rack, "plate", WHOLE.as_bytes());
+    (is_written, holds(rack, "plate", prefix))
+}
+
+// The same by such a rack.
 fn written(
     rt: &impl Abort,
     alloc: Global,
-    grain: usize,
-    room: u64,
+    (grain, room): (usize, u64),
     call: Option<u64>,
-    front: Option<usize>,
-) -> Result<(bool, bool), AllocError> {
-    let fails = only(alloc, call)?;
-    assert!(rt; grain > 0);
-    let mut rack = MemRack::new(alloc, grain, room, fails);
-    let is_written = write_file(&mut rack, "plate", WHOLE.as_bytes()).is_ok();
-    Ok((is_written, ends_with(rack, front_of(front))))
+    prefix: Option<usize>,
+) -> (bool, bool) {
+    let mut rack = rack_of(rt, alloc, grain, room, call);
+    writes(&mut rack, prefix_of(prefix))
 }
 
-fn front_of(count: Option<usize>) -> Option<&'static [u8]> {
+fn prefix_of(count: Option<usize>) -> Option<&'static [u8]> {
     match count {
         Some(count) => Some(&WHOLE.as_bytes()[..count.min(WHOLE.len())]),
         None => None,
     }
 }
 
-#[test]
-fn a_rack_without_room_holds_a_front(rt: HostRuntime) -> Result<(), Fail> {
-    for grain in [1, 3, 4096] {
-        for room in 0..12u64 {
-            let is = written(&rt, rt.alloc(), grain, room, None, Some(room as usize))?;
-            assert!(rt; is == (room >= 10, true), "room {room}");
-        }
+fn judge_rooms(rt: &impl Abort, alloc: Global, grain: usize) {
+    for room in 0..12u64 {
+        let is = written(rt, alloc, (grain, room), None, Some(room as usize));
+        judge(rt, is == (room >= 10, true), "room", room);
     }
-    Ok(())
 }
 
-// By pieces of 4 there are `create`, three writes and `finish`: the call that fails, and what the file then holds.
-const FAILING: [(u64, Option<usize>); 5] = [
-    (0, None),
-    (1, Some(0)),
-    (2, Some(4)),
-    (3, Some(8)),
-    (4, Some(10)),
+#[test]
+fn a_rack_without_room_holds_a_prefix(rt: HostRuntime) {
+    judge_rooms(&rt, rt.alloc(), 1);
+    judge_rooms(&rt, rt.alloc(), 3);
+    judge_rooms(&rt, rt.alloc(), 4096);
+}
+
+// By pieces of 4 there are `create`, three writes and `finish`: the call that fails, what the file then holds, and whether
+// it was written.
+const FAILING: &[(u64, Option<usize>, bool)] = &[
+    (0, None, false),
+    (1, Some(0), false),
+    (2, Some(4), false),
+    (3, Some(8), false),
+    (4, Some(10), false),
+    (5, Some(10), true),
 ];
 
 #[test]
-fn each_write_fails_in_turn(rt: HostRuntime) -> Result<(), Fail> {
-    for (call, front) in FAILING {
-        let is = written(&rt, rt.alloc(), 4, 100, Some(call), front)?;
-        assert!(rt; is == (false, true), "call {call}");
+fn each_write_fails_in_turn(rt: HostRuntime) {
+    for (call, prefix, is_written) in FAILING {
+        let is = written(&rt, rt.alloc(), (4, 100), Some(*call), *prefix);
+        judge(&rt, is == (*is_written, true), "call", *call);
     }
-    let is = written(&rt, rt.alloc(), 4, 100, Some(5), Some(10))?;
-    assert!(rt; is == (true, true));
-    Ok(())
 }
 
-// A rack of two files, the first written twice, and one text told of two, since the ninth call fails.
-fn rack_written_twice(rt: &impl Abort, alloc: Global) -> Result<MemRack, AllocError> {
-    let mut rack = MemRack::new(alloc, 2, 100, only(alloc, Some(8))?);
-    for (name, text) in [("one", "first"), ("two", "")] {
-        assert!(rt; write_file(&mut rack, name, text.as_bytes()).is_ok());
+fn is_told(rack: &mut MemRack, text: &[u8]) -> bool {
+    match rack.tell(text) {
+        Ok(()) => true,
+        Err(_) => false,
     }
-    assert!(rt; rack.tell(b"told").is_ok());
-    assert!(rt; rack.tell(b"lost").is_err());
-    assert!(rt; write_file(&mut rack, "one", b"second").is_ok());
-    Ok(rack)
+}
+
+// Writes two files, the first of them twice, and tells one text of two, since the ninth call fails.
+fn writes_twice(rack: &mut MemRack) -> bool {
+    is_written(rack, "one", b"first")
+        && is_written(rack, "two", b"")
+        && is_told(rack, b"told")
+        && !is_told(rack, b"lost")
+        && is_written(rack, "one", b"second")
 }
 
 fn tells(rack: &MemRack, want: &[u8]) -> bool {
     rack.told() == want
 }
 
-fn is_written_twice(rack: MemRack) -> bool {
-    holds(&rack, "one", Some(b"second"))
-        && holds(&rack, "two", Some(b""))
-        && holds(&rack, "three", None)
-        && tells(&rack, b"told")
+fn is_written_twice(rack: &MemRack) -> bool {
+    holds(rack, "one", Some(b"second"))
+        && holds(rack, "two", Some(b""))
+        && holds(rack, "three", None)
+        && tells(rack, b"told")
+}
+
+// Whether that is done, and whether the rack then holds it.
+fn writes_and_holds_twice(rack: &mut MemRack) -> (bool, bool) {
+    let is_done = writes_twice(rack);
+    (is_done, is_written_twice(rack))
+}
+
+fn written_twice(rt: &impl Abort, alloc: Global) -> (bool, bool) {
+    let mut rack = rack_of(rt, alloc, 2, 100, Some(8));
+    writes_and_holds_twice(&mut rack)
 }
 
 #[test]
-fn a_later_file_stands_in_place_of_an_earlier_one(rt: HostRuntime) -> Result<(), Fail> {
-    assert!(rt; is_written_twice(rack_written_twice(&rt, rt.alloc())?));
-    Ok(())
+fn a_later_file_stands_in_place_of_an_earlier_one(rt: HostRuntime) {
+    let (is_done, is_held) = written_twice(&rt, rt.alloc());
+    assert!(rt; is_done);
+    assert!(rt; is_held);
+}
+
+fn tells_both(rack: &mut MemRack) -> (bool, bool) {
+    let is_empty_told = is_told(rack, b"");
+    (is_empty_told, is_told(rack, b"text"))
 }
 
 // Tells an empty text and then a text, of which the call of that number fails.
-fn told_by(alloc: Global, call: u64) -> Result<(bool, bool), AllocError> {
-    let mut rack = MemRack::new(alloc, 1, 0, only(alloc, Some(call))?);
-    let is_empty_told = rack.tell(b"").is_ok();
-    Ok((is_empty_told, rack.tell(b"text").is_ok()))
+fn told_by(rt: &impl Abort, alloc: Global, call: u64) -> (bool, bool) {
+    let mut rack = rack_of(rt, alloc, 1, 0, Some(call));
+    tells_both(&mut rack)
 }
 
 #[test]
-fn a_text_needs_no_room_and_fails_by_its_number(rt: HostRuntime) -> Result<(), Fail> {
-    for (call, want) in [(0, (false, true)), (1, (true, false)), (2, (true, true))] {
-        assert!(rt; told_by(rt.alloc(), call)? == want, "call {call}");
+fn a_text_needs_no_room_and_fails_by_its_number(rt: HostRuntime) {
+    for (call, want) in &[(0, (false, true)), (1, (true, false)), (2, (true, true))] {
+        judge(&rt, told_by(&rt, rt.alloc(), *call) == *want, "call", *call);
     }
-    Ok(())
 }

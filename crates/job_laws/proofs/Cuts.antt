@@ -9,8 +9,8 @@ use Rattle.ps_tokens.specs.declared.object.Object.{Object}
 use Rattle.job_reader.specs.declared.operators.Operator.{Operator}
 use Rattle.job_reader.specs.Calls.{Statement}
 use Rattle.job_reader.specs.InForce.{is_by}
-use Rattle.job_laws.specs.Paths.{empties_path, behind_last, since_emptied}
-use Rattle.job_laws.specs.Zones.{is_settrapzone, before_each, zone_behind, zones_in_force}
+use Rattle.job_laws.specs.Paths.{empties_path, after_last, since_emptied}
+use Rattle.job_laws.specs.Zones.{is_settrapzone, before_each, zone_after, zones_in_force}
 
 -- whether a statement is by one of these operators
 abbrev stands : (Operator → Bool) → Statement → Bool
@@ -18,21 +18,21 @@ stands test s = is_by test s.call.operator
 
 -- The last one.
 
-none-behind : (test : Operator → Bool) (ss : List Statement) → All (λ (s : Statement). is_by test s.call.operator ≡ false) ss → behind_last test ss ≡ None
-none-behind test [] none = refl
-none-behind test (s ∷ ss) none =
+none-suffix : (test : Operator → Bool) (ss : List Statement) → All (λ (s : Statement). is_by test s.call.operator ≡ false) ss → after_last test ss ≡ None
+none-suffix test [] none = refl
+none-suffix test (s ∷ ss) none =
     let Not : Statement → Type 0 = λ s. is_by test s.call.operator ≡ false in
-    ap₂ (λ o b. option_or o (cond b (Some ss) None)) (none-behind test ss (All-tail Not s ss none)) (All-head Not s ss none)
+    ap₂ (λ o b. option_or o (cond b (Some ss) None)) (none-suffix test ss (All-tail Not s ss none)) (All-head Not s ss none)
 
-one-behind : (test : Operator → Bool) (before later : List Statement) (last : Statement) → is_by test last.call.operator ≡ true → All (λ (s : Statement). is_by test s.call.operator ≡ false) later → behind_last test (before ++ last ∷ later) ≡ Some later
-one-behind test [] later last is none = ap₂ (λ o b. option_or o (cond b (Some later) None)) (none-behind test later none) is
-one-behind test (b ∷ bs) later last is none = ap (λ o. option_or o (cond (is_by test b.call.operator) (Some (bs ++ last ∷ later)) None)) (one-behind test bs later last is none)
+one-suffix : (test : Operator → Bool) (before later : List Statement) (last : Statement) → is_by test last.call.operator ≡ true → All (λ (s : Statement). is_by test s.call.operator ≡ false) later → after_last test (before ++ last ∷ later) ≡ Some later
+one-suffix test [] later last is none = ap₂ (λ o b. option_or o (cond b (Some later) None)) (none-suffix test later none) is
+one-suffix test (b ∷ bs) later last is none = ap (λ o. option_or o (cond (is_by test b.call.operator) (Some (bs ++ last ∷ later)) None)) (one-suffix test bs later last is none)
 
 pub since-last : (before later : List Statement) (last : Statement) → is_by empties_path last.call.operator ≡ true → All (λ (s : Statement). is_by empties_path s.call.operator ≡ false) later → since_emptied (before ++ last ∷ later) ≡ later
-since-last before later last is none = ap (λ o. unwrap_or o (before ++ last ∷ later)) (one-behind empties_path before later last is none)
+since-last before later last is none = ap (λ o. unwrap_or o (before ++ last ∷ later)) (one-suffix empties_path before later last is none)
 
 pub since-start : (earlier : List Statement) → All (λ (s : Statement). is_by empties_path s.call.operator ≡ false) earlier → since_emptied earlier ≡ earlier
-since-start earlier none = ap (λ o. unwrap_or o earlier) (none-behind empties_path earlier none)
+since-start earlier none = ap (λ o. unwrap_or o earlier) (none-suffix empties_path earlier none)
 
 -- Each one.
 
@@ -55,8 +55,8 @@ at-one zone test start (b ∷ bs) later s is =
     ∙ ap (λ l. Some (zone l)) (append_assoc start (b ∷ []) bs)
 
 pub zone-at : (objects : List Object) (before later : List Statement) (s : Statement) → is_by is_settrapzone s.call.operator ≡ true
-    → slice_get (zones_in_force objects (before ++ s ∷ later)) (count_by (λ (s : Statement). is_by is_settrapzone s.call.operator) before) ≡ Some (zone_behind objects before)
-zone-at objects before later s is = at-one (zone_behind objects) is_settrapzone [] before later s is
+    → slice_get (zones_in_force objects (before ++ s ∷ later)) (count_by (λ (s : Statement). is_by is_settrapzone s.call.operator) before) ≡ Some (zone_after objects before)
+zone-at objects before later s is = at-one (zone_after objects) is_settrapzone [] before later s is
 
 chosen-length : (zone : List Statement → Zone) (b : Bool) (start : List Statement) (rest : List (List Statement)) (n : ℕ) → length (map zone rest) ≡ n → length (map zone (cond b (start ∷ rest) rest)) ≡ cond b 1 0 + n
 chosen-length zone true start rest n is = omega (arith, is)
@@ -69,4 +69,4 @@ each-counted zone test start (s ∷ ss) =
     ∙ sym (counted-cons test s ss)
 
 pub zones-counted : (objects : List Object) (earlier : List Statement) → length (zones_in_force objects earlier) ≡ count_by (λ (s : Statement). is_by is_settrapzone s.call.operator) earlier
-zones-counted objects earlier = each-counted (zone_behind objects) is_settrapzone [] earlier
+zones-counted objects earlier = each-counted (zone_after objects) is_settrapzone [] earlier

@@ -1,4 +1,4 @@
--- A job ends at its first `showpage`, behind statements without a fault; and where it has none, the first fault is told.
+-- A job ends at its first `showpage`, after statements without a fault; and where it has none, the first fault is told.
 use Rattle.std.proofs.Common.{◌≡◌, ℕ, ◌<◌, ◌≤◌, arith, append-nil, ⊎_elim, Bool, true, false, cond, List, [], ◌∷◌, ◌++◌, map, length, ◌==◌, ◌&&◌, ◌⊎◌, inl, inr, Option, Some, None, Result, Ok, Err, refl, sym, ap, subst, ◌∙◌, true≢false}
 use Rattle.std.specs.Prelude.{nat_lt}
 use Rattle.std.proofs.lemmas.Bool.Decides.{nat_tests}
@@ -62,7 +62,7 @@ record Shows (objects : List Object) (s : Statement) (o : Option Operator) (now 
   is : o ≡ Some ShowPage
   ends : job_shown objects s.from s.place s.call.at now ≡ Ok job
 
--- or the job goes on behind it
+-- or the job goes on after it
 record Passes (objects : List Object) (s : Statement) (o : Option Operator) (now : State) (rest : State → Result Job JobFault) (job : Job) : Type 0 where
   next : State
   is : is_by is_showpage o ≡ false

@@ -24,7 +24,7 @@ use Rattle.job_reader.specs.Starts.{nothing_read}
 use Rattle.job_reader.specs.Statements.{most_zones, most_vertices, fault, params_set, path_drawn, with_numbers, zone_of, zone_made, state_after, shown_fault, job_at, job_unless, job_shown}
 use Rattle.job_reader.proofs.InForce.{resolution-in_force, trapping-in_force, details-in_force, params-in_force, limits-in_force}
 use Rattle.job_reader.proofs.StateRanges.{IsState, state_after-leaves, nothing_read-state}
-use Rattle.job_laws.specs.Faults.{state_in_force, fault_of, at_operator, unless_wrong, drawing_fault, stroke_fault, fault_by, fault_behind, AreFaultless}
+use Rattle.job_laws.specs.Faults.{state_in_force, fault_of, at_operator, unless_wrong, drawing_fault, stroke_fault, fault_by, fault_after, AreFaultless}
 use Rattle.job_laws.proofs.Following.{going, after-push, path-in_force, zones-in_force}
 
 -- What a statement is refused with.
@@ -123,7 +123,7 @@ unless-err (Some other) made first is = cc
 pub ends-shown : (objects : List Object) (s : Statement) (now : State) (job : Job) → job_shown objects s.from s.place s.call.at now ≡ Ok job → (fault_in objects s (Some ShowPage) now ≡ None) × (job_at now ≡ job)
 ends-shown objects s now job is = unless-ok (shown_fault objects s.from s.place s.call.at now) (job_at now) job is
 
--- a refusal is the statement's, or one of those behind it
+-- a refusal is the statement's, or one of those after it
 pub record PassedOn (objects : List Object) (s : Statement) (o : Option Operator) (now : State) (rest : State → Result Job JobFault) (first : JobFault) : Type 0 where
   pub next : State
   pub goes : is_by is_showpage o ≡ false
@@ -174,8 +174,8 @@ state-in_force objects earlier now done =
     (params-in_force objects earlier now done) (limits-in_force objects earlier now done) (resolution-in_force objects earlier now done) (trapping-in_force objects earlier now done)
     (details-in_force objects earlier now done) (path-in_force objects earlier now done) zones (sym counted ∙ ap (sum_by (λ (z : Zone). length z.path)) zones)
 
--- the fault behind statements is that of the state that they leave
-pub fault-there : (objects : List Object) (earlier : List Statement) (s : Statement) (now : State) → after_all objects nothing_read earlier ≡ Ok now → fault_behind objects earlier s ≡ fault_in objects s s.call.operator now
+-- the fault after statements is that of the state that they leave
+pub fault-there : (objects : List Object) (earlier : List Statement) (s : Statement) (now : State) → after_all objects nothing_read earlier ≡ Ok now → fault_after objects earlier s ≡ fault_in objects s s.call.operator now
 fault-there objects earlier s now done = fault-in_force objects earlier s s.call.operator ∙ ap (fault_in objects s s.call.operator) (sym (state-in_force objects earlier now done))
 
 -- Statements without a fault.
@@ -184,14 +184,14 @@ fault-there objects earlier s now done = fault-in_force objects earlier s s.call
 abbrev Goes : Statement → Type 0
 Goes s = is_by is_showpage s.call.operator ≡ false
 
--- statements behind others, none of which has a fault or ends the job
+-- statements after others, none of which has a fault or ends the job
 abbrev Fine : List Object → List Statement → List Statement → Type 0
-Fine objects before ss = (front later : List Statement) (s : Statement) → ss ≡ front ++ s ∷ later → Goes s × (fault_behind objects (before ++ front) s ≡ None)
+Fine objects before ss = (prefix later : List Statement) (s : Statement) → ss ≡ prefix ++ s ∷ later → Goes s × (fault_after objects (before ++ prefix) s ≡ None)
 
 fine-tail : (objects : List Object) (before ss : List Statement) (s : Statement) → Fine objects before (s ∷ ss) → Fine objects (before ++ s ∷ []) ss
-fine-tail objects before ss s fine front later t cut =
-    let both = fine (s ∷ front) later t (ap (λ l. s ∷ l) cut) in
-    (both.0, ap (λ l. fault_behind objects l t) (append_assoc before (s ∷ []) front) ∙ both.1)
+fine-tail objects before ss s fine prefix later t cut =
+    let both = fine (s ∷ prefix) later t (ap (λ l. s ∷ l) cut) in
+    (both.0, ap (λ l. fault_after objects l t) (append_assoc before (s ∷ []) prefix) ∙ both.1)
 
 -- they are performed
 performed : (objects : List Object) (ss before : List Statement) (now : State) → after_all objects nothing_read before ≡ Ok now → Fine objects before ss → NoneShows ss × ((last : State) × (after_all objects now ss ≡ Ok last))
@@ -199,7 +199,7 @@ unfolding after_all
 performed objects [] before now done fine = (All-nil Goes, (now, refl))
 performed objects (s ∷ ss) before now done fine =
     let first = fine [] ss s refl in
-    let here : fault_in objects s s.call.operator now ≡ None = sym (fault-there objects before s now done) ∙ ap (λ l. fault_behind objects l s) (sym (append-nil before)) ∙ first.1 in
+    let here : fault_in objects s s.call.operator now ≡ None = sym (fault-there objects before s now done) ∙ ap (λ l. fault_after objects l s) (sym (append-nil before)) ∙ first.1 in
     let one = fine-goes objects s s.call.operator now first.0 here in
     let rest = performed objects ss (before ++ s ∷ []) one.0 (after-push objects before s nothing_read now one.0 done one.1) (fine-tail objects before ss s fine) in
     (All-cons Goes s ss first.0 rest.0, (rest.1.0, ap (λ r. going_on r (λ n. after_all objects n ss)) one.1 ∙ rest.1.1))
@@ -212,24 +212,24 @@ faultless-performed objects earlier fine = performed objects earlier [] nothing_
 split-head : (s t : Statement) (ss later : List Statement) → s ∷ ss ≡ t ∷ later → (s ≡ t) × (ss ≡ later)
 split-head s t ss later is = (cc, cc)
 
-none-cut : (front later : List Statement) (s : Statement) → [] ≡ front ++ s ∷ later → ⊥
+none-cut : (prefix later : List Statement) (s : Statement) → [] ≡ prefix ++ s ∷ later → ⊥
 none-cut [] later s is = cc
-none-cut (f ∷ front) later s is = cc
+none-cut (f ∷ prefix) later s is = cc
 
 performed-fine : (objects : List Object) (ss before : List Statement) (now last : State) → after_all objects nothing_read before ≡ Ok now → NoneShows ss → after_all objects now ss ≡ Ok last → Fine objects before ss
 unfolding after_all
-performed-fine objects [] before now last done none does front later t cut = absurd (none-cut front later t cut)
+performed-fine objects [] before now last done none does prefix later t cut = absurd (none-cut prefix later t cut)
 performed-fine objects (s ∷ ss) before now last done none does [] later t cut =
     let one = going (after_one objects s s.call.operator now) (λ n. after_all objects n ss) last does in
     let goes = All-head Goes s ss none in
-    let here : fault_behind objects before s ≡ None = fault-there objects before s now done ∙ goes-fine objects s s.call.operator now one.0 goes one.1 in
+    let here : fault_after objects before s ≡ None = fault-there objects before s now done ∙ goes-fine objects s s.call.operator now one.0 goes one.1 in
     let same = split-head s t ss later cut in
-    subst (λ (x : Statement). Goes x × (fault_behind objects (before ++ []) x ≡ None)) same.0 (goes, ap (λ l. fault_behind objects l s) (append-nil before) ∙ here)
-performed-fine objects (s ∷ ss) before now last done none does (f ∷ front) later t cut =
+    subst (λ (x : Statement). Goes x × (fault_after objects (before ++ []) x ≡ None)) same.0 (goes, ap (λ l. fault_after objects l s) (append-nil before) ∙ here)
+performed-fine objects (s ∷ ss) before now last done none does (f ∷ prefix) later t cut =
     let one = going (after_one objects s s.call.operator now) (λ n. after_all objects n ss) last does in
-    let same = split-head s f ss (front ++ t ∷ later) cut in
-    let rest = performed-fine objects ss (before ++ s ∷ []) one.0 last (after-push objects before s nothing_read now one.0 done one.1) (All-tail Goes s ss none) one.2 front later t same.1 in
-    (rest.0, ap (λ l. fault_behind objects l t) (sym (append_assoc before (s ∷ []) front ∙ ap (λ x. before ++ x ∷ front) same.0)) ∙ rest.1)
+    let same = split-head s f ss (prefix ++ t ∷ later) cut in
+    let rest = performed-fine objects ss (before ++ s ∷ []) one.0 last (after-push objects before s nothing_read now one.0 done one.1) (All-tail Goes s ss none) one.2 prefix later t same.1 in
+    (rest.0, ap (λ l. fault_after objects l t) (sym (append_assoc before (s ∷ []) prefix ∙ ap (λ x. before ++ x ∷ prefix) same.0)) ∙ rest.1)
 
 pub performed-faultless : (objects : List Object) (earlier : List Statement) (last : State) → NoneShows earlier → after_all objects nothing_read earlier ≡ Ok last → AreFaultless objects earlier
 unfolding after_all

@@ -1,4 +1,4 @@
--- The fault of a statement, by what is in force behind the statements before it, and the first
+-- The fault of a statement, by what is in force after the statements before it, and the first
 -- fault of all.
 use Rattle.std.specs.Prelude.{◌≡◌, ◌⊎◌, ℕ, ℤ, Bool, false, List, ◌∷◌, ◌++◌, length, sum_by}
 use Rattle.std.specs.Prelude.{slice_get, nat_le, nat_lt, ◌+◌, ◌==◌, ◌&&◌, ◌||◌, Option, Some, None}
@@ -23,7 +23,7 @@ use Rattle.job_reader.specs.Device.{device_set}
 use Rattle.job_reader.specs.InForce.{is_by, resolution_in_force, trapping_in_force}
 use Rattle.job_reader.specs.InForce.{details_in_force, params_in_force, limits_in_force}
 use Rattle.job_reader.specs.Operands.{is_one_dict, two_numbers}
-use Rattle.job_reader.specs.Statements.{most_zones, most_vertices, behind_fault, params_set}
+use Rattle.job_reader.specs.Statements.{most_zones, most_vertices, after_fault, params_set}
 use Rattle.job_laws.specs.Paths.{path_in_force}
 use Rattle.job_laws.specs.Zones.{zones_in_force}
 
@@ -32,7 +32,7 @@ abbrev pub vertices_in_force : List Object → List Statement → ℕ
 vertices_in_force objects earlier =
     sum_by (λ (z : Zone). length z.path) (zones_in_force objects earlier)
 
--- all that is in force behind statements
+-- all that is in force after statements
 abbrev pub state_in_force : List Object → List Statement → State
 state_in_force objects earlier = record {
   params = params_in_force objects earlier;
@@ -80,7 +80,7 @@ zone_fault objects earlier s =
     if nat_le most_zones (length (zones_in_force objects earlier)) then at_operator s TooManyZones
     else (if nat_lt most_vertices vertices then at_operator s TooManyVertices else None)
 
--- whether a page wants a resolution that ends behind statements: a zone is in force, or zone 0
+-- whether a page wants a resolution that ends after statements: a zone is in force, or zone 0
 -- is enabled
 abbrev pub wants_resolution : List Object → List Statement → Bool
 wants_resolution objects earlier =
@@ -88,12 +88,12 @@ wants_resolution objects earlier =
     || ((params_in_force objects earlier).enabled && trapping_in_force objects earlier)
 
 -- the fault of `showpage`: no resolution is in force where one is wanted, or an object stands
--- behind it
+-- after it
 abbrev pub showpage_fault : List Object → List Statement → Statement → Option JobFault
 showpage_fault objects earlier s =
     if (resolution_in_force objects earlier == 0) && wants_resolution objects earlier
     then at_operator s NoPageDevice
-    else behind_fault (slice_get objects (s.place + 1))
+    else after_fault (slice_get objects (s.place + 1))
 
 -- the fault of a statement by an operator, if it has one
 abbrev pub fault_by : List Object → List Statement → Statement → Option Operator → Option JobFault
@@ -123,18 +123,18 @@ fault_by objects earlier s (Some SetTrapZone) =
 fault_by objects earlier s (Some ShowPage) =
     unless_wrong s (s.from == s.place) (showpage_fault objects earlier s)
 
--- the fault of a statement behind others, if it has one
-abbrev pub fault_behind : List Object → List Statement → Statement → Option JobFault
-fault_behind objects earlier s = fault_by objects earlier s s.call.operator
+-- the fault of a statement after others, if it has one
+abbrev pub fault_after : List Object → List Statement → Statement → Option JobFault
+fault_after objects earlier s = fault_by objects earlier s s.call.operator
 
 -- The first fault.
 
--- none of these statements has a fault, by what is in force behind those before it, and none
+-- none of these statements has a fault, by what is in force after those before it, and none
 -- ends the job
 abbrev pub AreFaultless : List Object → List Statement → Type 0
 AreFaultless objects statements =
     (earlier later : List Statement) (s : Statement) → statements ≡ earlier ++ s ∷ later
-    → (is_by is_showpage s.call.operator ≡ false) × (fault_behind objects earlier s ≡ None)
+    → (is_by is_showpage s.call.operator ≡ false) × (fault_after objects earlier s ≡ None)
 
 -- a statement has this fault, and none before it has one
 pub record StandsFirst (objects : List Object) (statements : List Statement)
@@ -144,7 +144,7 @@ pub record StandsFirst (objects : List Object) (statements : List Statement)
   pub later : List Statement
   pub cut : statements ≡ earlier ++ s ∷ later
   pub none_before : AreFaultless objects earlier
-  pub has : fault_behind objects earlier s ≡ Some fault
+  pub has : fault_after objects earlier s ≡ Some fault
 
 -- no statement has a fault and none ends the job, of so many bytes
 pub record RunsOut (objects : List Object) (len : ℕ) (statements : List Statement)

@@ -1,4 +1,4 @@
--- The job that ends behind statements, told by what is in force there.
+-- The job that ends after statements, told by what is in force there.
 use Rattle.std.specs.Prelude.{◌≡◌, ◌⊎◌, ◌<◌, ◌≤◌, ℕ, List, [], ◌∷◌, ◌++◌, length, map, ◌==◌, ◌&&◌}
 use Rattle.std.specs.Prelude.{Some, None, Ok, Err}
 use Rattle.page_model.specs.declared.parts.Zone.{Zone}
@@ -15,7 +15,7 @@ use Rattle.job_reader.specs.Calls.{Statement, statements_of}
 use Rattle.job_reader.specs.InForce.{resolution_in_force, trapping_in_force, details_in_force}
 use Rattle.job_reader.specs.InForce.{params_in_force, limits_in_force}
 use Rattle.job_reader.specs.Statements.{under_trapping}
-use Rattle.job_laws.specs.Faults.{AreFaultless, IsFaultOf, fault_behind}
+use Rattle.job_laws.specs.Faults.{AreFaultless, IsFaultOf, fault_after}
 use Rattle.job_laws.specs.Zones.{zones_in_force}
 
 -- zone 0, which has no path: the parameters and the limits in force, enabled only where Trapping
@@ -32,7 +32,7 @@ zone_0_in_force objects earlier =
       limits = limits_in_force objects earlier;
     }
 
--- the job that `showpage` ends behind statements: the resolution and the details in force there,
+-- the job that `showpage` ends after statements: the resolution and the details in force there,
 -- and zone 0 before the zones
 -- that were made, each of which is enabled only where Trapping is true there
 pub record IsJobOf (objects : List Object) (earlier : List Statement) (job : Job) : Type 0 where
@@ -42,7 +42,7 @@ pub record IsJobOf (objects : List Object) (earlier : List Statement) (job : Job
       ∷ map (under_trapping (trapping_in_force objects earlier)) (zones_in_force objects earlier)
   pub details : job.details ≡ details_in_force objects earlier
 
--- statements end a job: the first `showpage` among them, behind statements without a fault and
+-- statements end a job: the first `showpage` among them, after statements without a fault and
 -- without one itself
 pub record EndJob (objects : List Object) (statements : List Statement) (job : Job) : Type 0 where
   pub earlier : List Statement
@@ -51,7 +51,7 @@ pub record EndJob (objects : List Object) (statements : List Statement) (job : J
   pub cut : statements ≡ earlier ++ show ∷ later
   pub none_before : AreFaultless objects earlier
   pub shows : show.call.operator ≡ Some ShowPage
-  pub fine : fault_behind objects earlier show ≡ None
+  pub fine : fault_after objects earlier show ≡ None
   pub is_job : IsJobOf objects earlier job
 
 -- a job that bytes spell: they are not too many, and the statements of their objects end it

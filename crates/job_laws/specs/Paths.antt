@@ -19,7 +19,7 @@ use Rattle.job_reader.specs.Operands.{two_numbers}
 
 -- Since when a path is drawn.
 
--- whether an operator is `newpath` or `settrapzone`, behind which the path is empty
+-- whether an operator is `newpath` or `settrapzone`, after which the path is empty
 abbrev pub empties_path : Operator → Bool
 empties_path SetPageDevice = false
 empties_path SetTrapParams = false
@@ -32,15 +32,15 @@ empties_path RelativeLineTo = false
 empties_path SetTrapZone = true
 empties_path ShowPage = false
 
--- the statements behind the last one that is by one of these operators, if one is
-abbrev pub behind_last : (Operator → Bool) → List Statement → Option (List Statement)
-behind_last test [] = None
-behind_last test (s ∷ ss) =
-    option_or (behind_last test ss) (if is_by test s.call.operator then Some ss else None)
+-- the statements after the last one that is by one of these operators, if one is
+abbrev pub after_last : (Operator → Bool) → List Statement → Option (List Statement)
+after_last test [] = None
+after_last test (s ∷ ss) =
+    option_or (after_last test ss) (if is_by test s.call.operator then Some ss else None)
 
 -- the statements since the path was emptied, all of them where it never was
 abbrev pub since_emptied : List Statement → List Statement
-since_emptied earlier = unwrap_or (behind_last empties_path earlier) earlier
+since_emptied earlier = unwrap_or (after_last empties_path earlier) earlier
 
 -- What is drawn since then.
 
@@ -73,7 +73,7 @@ abbrev pub drawn_on : List Object → Drawing → List Statement → Drawing
 drawn_on objects path statements =
     fold (λ d s. drawn_by objects s s.call.operator d) path statements
 
--- the path in force behind statements: what those draw, from nothing, that stand since it was
+-- the path in force after statements: what those draw, from nothing, that stand since it was
 -- emptied
 abbrev pub path_in_force : List Object → List Statement → Drawing
 path_in_force objects earlier = drawn_on objects nothing_drawn (since_emptied earlier)

@@ -40,15 +40,15 @@ before_each test before (s ∷ ss) =
     if is_by test s.call.operator then before ∷ before_each test (before ++ s ∷ []) ss
     else before_each test (before ++ s ∷ []) ss
 
--- the zone of a `settrapzone` behind statements: the path in force there, with the parameters
+-- the zone of a `settrapzone` after statements: the path in force there, with the parameters
 -- and the limits in force there
-abbrev pub zone_behind : List Object → List Statement → Zone
-zone_behind objects earlier = record {
+abbrev pub zone_after : List Object → List Statement → Zone
+zone_after objects earlier = record {
   params = params_in_force objects earlier;
   path = (path_in_force objects earlier).vertices;
   limits = limits_in_force objects earlier;
 }
 
--- the zones in force behind statements: that of each `settrapzone` among them, in their order
+-- the zones in force after statements: that of each `settrapzone` among them, in their order
 abbrev pub zones_in_force : List Object → List Statement → List Zone
-zones_in_force objects earlier = map (zone_behind objects) (before_each is_settrapzone [] earlier)
+zones_in_force objects earlier = map (zone_after objects) (before_each is_settrapzone [] earlier)

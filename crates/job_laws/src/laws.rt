@@ -13,16 +13,16 @@ ghost use Rattle.job_reader.specs.Starts.{nothing_read};
 ghost use Rattle.job_laws.specs.Jobs.{IsJobOf, EndJob, IsSpelledBy, IsFaultOfBytes};
 ghost use Rattle.job_laws.specs.Faults.{IsFaultOf};
 ghost use Rattle.job_laws.specs.Paths.{empties_path, since_emptied, path_in_force};
-ghost use Rattle.job_laws.specs.Zones.{is_settrapzone, zone_behind, zones_among, zones_in_force};
+ghost use Rattle.job_laws.specs.Zones.{is_settrapzone, zone_after, zones_among, zones_in_force};
 
-/// Behind statements without a fault the path is what those draw that stand since the last `newpath` or `settrapzone`.
+/// After statements without a fault the path is what those draw that stand since the last `newpath` or `settrapzone`.
 pub fn path_is_of_the_statements_since()
     ensures { (objects : List Object) (earlier : List Statement) (now : State)
         → after_all objects nothing_read earlier ≡ Ok now
         → now.path ≡ path_in_force objects earlier }
 {}
 
-/// Behind statements without a fault there is a zone for each `settrapzone`, of the path, the parameters and the limits in
+/// After statements without a fault there is a zone for each `settrapzone`, of the path, the parameters and the limits in
 /// force there.
 pub fn zones_are_those_in_force()
     ensures { (objects : List Object) (earlier : List Statement) (now : State)
@@ -30,7 +30,7 @@ pub fn zones_are_those_in_force()
         → now.zones ≡ zones_in_force objects earlier }
 {}
 
-/// The path and the zones are of statements cut where their definitions say: the path is drawn by what stands behind the
+/// The path and the zones are of statements cut where their definitions say: the path is drawn by what stands after the
 /// last statement that empties it, or by all where none does; and each `settrapzone` makes one zone, of what stands before
 /// it, whose place is the number of those before it.
 pub fn statements_are_cut_where_it_is_said()
@@ -44,7 +44,7 @@ pub fn statements_are_cut_where_it_is_said()
     ensures each { (objects : List Object) (before later : List Statement) (s : Statement)
         → is_by is_settrapzone s.call.operator ≡ true
         → slice_get (zones_in_force objects (before ++ s ∷ later)) (zones_among before)
-        ≡ Some (zone_behind objects before) }
+        ≡ Some (zone_after objects before) }
     ensures counted { (objects : List Object) (earlier : List Statement)
         → length (zones_in_force objects earlier) ≡ zones_among earlier }
 {}

@@ -12,11 +12,11 @@ use Rattle.std.specs.Str.{IsUtf8, is_utf8}
 use Rattle.job_list.specs.Apart.{IsCut}
 use Rattle.job_list.specs.Lines.{LineParts, is_lf, is_space, line_of, line_of_words}
 
-none_in_front : (xs : List ℕ) (i : ℕ) → i ≤ length xs → ((k : ℕ) → k < i → is_lf (get_or xs k 0) ≡ false) → list_any is_lf (take i xs) ≡ false
-none_in_front xs zero here none = refl
-none_in_front xs (suc i) here none =
+none_in_prefix : (xs : List ℕ) (i : ℕ) → i ≤ length xs → ((k : ℕ) → k < i → is_lf (get_or xs k 0) ≡ false) → list_any is_lf (take i xs) ≡ false
+none_in_prefix xs zero here none = refl
+none_in_prefix xs (suc i) here none =
     let first : i < length xs = omega arith in
-    let before : list_any is_lf (take i xs) ≡ false = none_in_front xs i (omega arith) (λ k h. none k (omega arith)) in
+    let before : list_any is_lf (take i xs) ≡ false = none_in_prefix xs i (omega arith) (λ k h. none k (omega arith)) in
     let item : is_lf (get_or xs i 0) ≡ false = none i (omega arith) in
     let grown : list_any is_lf (take (i + 1) xs) ≡ (list_any is_lf (take i xs) || is_lf (get_or xs i 0)) = list_any_more is_lf xs i 0 first in
     let same : suc i ≡ i + 1 = omega arith in
@@ -29,16 +29,16 @@ cut_there xs i is =
     let lf : get_or xs i 0 ≡ 10 = eqb-true (get_or xs i 0) 10 at.1 in
     let rest : take (length xs - (i + 1)) (drop (i + 1) xs) ≡ drop (i + 1) xs = take_all (length xs - (i + 1)) (drop (i + 1) xs) (omega (arith, length-drop (i + 1) xs)) in
     let one : suc i ≡ i + 1 = omega arith in
-    let behind : drop i xs ≡ 10 ∷ drop (i + 1) xs = drop-cons xs i 0 at.0 ∙ ap₂ (λ (a : ℕ) (b : List ℕ). a ∷ b) lf (ap (λ (n : ℕ). drop n xs) one) in (
-      sym (take-append-drop i xs) ∙ ap (λ (l : List ℕ). take i xs ++ l) (behind ∙ ap (λ (l : List ℕ). 10 ∷ l) (sym rest)),
-      none_in_front xs i (omega arith) at.2,
+    let suffix : drop i xs ≡ 10 ∷ drop (i + 1) xs = drop-cons xs i 0 at.0 ∙ ap₂ (λ (a : ℕ) (b : List ℕ). a ∷ b) lf (ap (λ (n : ℕ). drop n xs) one) in (
+      sym (take-append-drop i xs) ∙ ap (λ (l : List ℕ). take i xs ++ l) (suffix ∙ ap (λ (l : List ℕ). 10 ∷ l) (sym rest)),
+      none_in_prefix xs i (omega arith) at.2,
     )
 
-pub has_lf : (text behind : List ℕ) → list_any is_lf (text ++ 10 ∷ behind) ≡ true
-has_lf [] behind = refl
-has_lf (b ∷ text) behind =
-    let later = has_lf text behind in
-    elim (is_lf b) as (λ v. (v || list_any is_lf (text ++ 10 ∷ behind)) ≡ true) [ true ↦ refl | false ↦ later ]
+pub has_lf : (text suffix : List ℕ) → list_any is_lf (text ++ 10 ∷ suffix) ≡ true
+has_lf [] suffix = refl
+has_lf (b ∷ text) suffix =
+    let later = has_lf text suffix in
+    elim (is_lf b) as (λ v. (v || list_any is_lf (text ++ 10 ∷ suffix)) ≡ true) [ true ↦ refl | false ↦ later ]
 
 or_false : (a b : Bool) → (a || b) ≡ false → b ≡ false
 or_false true b is = absurd (cc)
@@ -80,7 +80,7 @@ none_at n m is = ltb-false n m (elim (nat_lt n m) as (λ v. cond v (Some n) None
 pub nowhere : (xs : List ℕ) → position is_lf xs ≡ None → list_any is_lf xs ≡ false
 nowhere xs is =
     let far : length xs ≤ position_or_len is_lf xs = none_at (position_or_len is_lf xs) (length xs) is in
-    let none = none_in_front xs (length xs) (omega arith) (λ k h. fails_before_first is_lf xs k 0 (omega arith)) in
+    let none = none_in_prefix xs (length xs) (omega arith) (λ k h. fails_before_first is_lf xs k 0 (omega arith)) in
     ap (list_any is_lf) (sym (take-length xs)) ∙ none
 
 -- What a line of UTF-8 means.

@@ -8,7 +8,7 @@ use Rattle.job_list.specs.Apart.{Follows, are_apart, is_new}
 use Rattle.job_list.specs.Lines.{LineParts, line_of}
 use Rattle.job_list.specs.Lists.{Begins, lines_of, one_more, text_of, written, written_by}
 
--- the jobs, and one job behind them
+-- the jobs, and one job after them
 abbrev with_last : Option (List LineParts) → Option LineParts → Option (List LineParts)
 with_last (Some lines) (Some line) = Some (lines ++ line ∷ [])
 with_last _ _ = None
@@ -60,7 +60,7 @@ longer : (texts : List (List ℕ)) (text : List ℕ) → length (text_of (texts 
 longer [] text = simp length-append (omega arith)
 longer (first ∷ texts) text = let later = longer texts text in simp length-append (omega arith)
 
--- texts that differ from one another, and others behind them
+-- texts that differ from one another, and others after them
 four : (a b c d e : Bool) → (not (a || b) && (c && (d && e))) ≡ ((not a && c) && (d && (not b && e)))
 four true b c d e = refl
 four false true true true e = refl
@@ -69,10 +69,10 @@ four false true false d e = refl
 four false false true d e = refl
 four false false false d e = refl
 
-pub apart_behind : (xs ys : List (List ℕ)) → are_distinct (xs ++ ys) ≡ (are_distinct xs && (are_distinct ys && are_apart xs ys))
-apart_behind [] ys = elim (are_distinct ys) as (λ v. v ≡ (v && true)) [ true ↦ refl | false ↦ refl ]
-apart_behind (x ∷ xs) ys =
-    ap₂ (λ (a b : Bool). not a && b) (list_any-append (bytes_eq x) xs ys) (apart_behind xs ys)
+pub apart_after : (xs ys : List (List ℕ)) → are_distinct (xs ++ ys) ≡ (are_distinct xs && (are_distinct ys && are_apart xs ys))
+apart_after [] ys = elim (are_distinct ys) as (λ v. v ≡ (v && true)) [ true ↦ refl | false ↦ refl ]
+apart_after (x ∷ xs) ys =
+    ap₂ (λ (a b : Bool). not a && b) (list_any-append (bytes_eq x) xs ys) (apart_after xs ys)
     ∙ four (list_any (bytes_eq x) xs) (list_any (bytes_eq x) ys) (are_distinct xs) (are_distinct ys) (are_apart xs ys)
 
 written_more : (lines : List LineParts) (line : LineParts) → written (lines ++ line ∷ []) ≡ written lines ++ written_by line
@@ -85,9 +85,9 @@ apart_by_lines (first ∷ lines) ys =
     list_all-append (λ text. not (list_any (bytes_eq text) ys)) (written_by first) (written lines)
     ∙ ap (λ (b : Bool). are_apart (written_by first) ys && b) (apart_by_lines lines ys)
 
-new_behind : (lines : List LineParts) (line : LineParts) → are_distinct (written (lines ++ line ∷ [])) ≡ (are_distinct (written lines) && is_new line lines)
-new_behind lines line =
-    ap are_distinct (written_more lines line) ∙ apart_behind (written lines) (written_by line)
+new_after : (lines : List LineParts) (line : LineParts) → are_distinct (written (lines ++ line ∷ [])) ≡ (are_distinct (written lines) && is_new line lines)
+new_after lines line =
+    ap are_distinct (written_more lines line) ∙ apart_after (written lines) (written_by line)
     ∙ ap (λ (b : Bool). are_distinct (written lines) && (are_distinct (written_by line) && b)) (apart_by_lines lines (written_by line))
 
 both : (a b : Bool) → a ≡ true → b ≡ true → (a && b) ≡ true
@@ -105,7 +105,7 @@ goes_on seen texts lines text line place good next =
       read = last_of texts text ∙ ap₂ with_last good.read next.read;
       few = simp length-append (omega (arith, next.few));
       short = omega (arith, longer texts text, next.short);
-      apart = new_behind lines line ∙ both (are_distinct (written lines)) (is_new line lines) good.apart next.new;
+      apart = new_after lines line ∙ both (are_distinct (written lines)) (is_new line lines) good.apart next.new;
     }
 
 -- If it goes on, then by a line that follows.
@@ -120,6 +120,6 @@ went_on seen texts lines more text place good next =
         few = omega (arith, next.few);
         short = omega (arith, longer texts text, next.short);
         new = second (are_distinct (written lines)) (is_new last.0 lines) good.apart
-            (sym (new_behind lines last.0) ∙ ap (λ (l : List LineParts). are_distinct (written l)) (sym last.2) ∙ next.apart);
+            (sym (new_after lines last.0) ∙ ap (λ (l : List LineParts). are_distinct (written l)) (sym last.2) ∙ next.apart);
       },
     )

@@ -7,7 +7,7 @@ use Rattle.job_list.specs.Apart.{IsCut, NextLine, Stands, are_apart, is_new}
 use Rattle.job_list.specs.Lines.{LineParts, is_lf, line_of}
 use Rattle.job_list.specs.Lists.{Begins, HasReading, IsBadLine, IsList, OneReading, lines_of, one_more, text_of, written, written_by}
 use Rattle.job_list.proofs.Cuts.{cut_there, line_without_lf, nowhere, one_cut}
-use Rattle.job_list.proofs.Going.{apart_behind, as_many}
+use Rattle.job_list.proofs.Going.{apart_after, as_many}
 use Rattle.job_list.proofs.Steps.{at_most, at_start, bad_line, judged, next_stands, no_line, none_left, too_long, too_many, whole_list}
 
 -- the first job and the later ones
@@ -18,11 +18,11 @@ more_is (Some line) None lines is = absurd (cc)
 more_is (Some line) (Some later) lines is = (line, later, refl, refl, cc)
 
 -- the jobs of the first texts
-front_read : (xs ys : List (List ℕ)) (lines : List LineParts) → lines_of (xs ++ ys) ≡ Some lines → (front : List LineParts) × (back : List LineParts) × (lines_of xs ≡ Some front) × (lines ≡ front ++ back)
-front_read [] ys lines is = ([], lines, refl, refl)
-front_read (x ∷ xs) ys lines is =
+prefix_read : (xs ys : List (List ℕ)) (lines : List LineParts) → lines_of (xs ++ ys) ≡ Some lines → (prefix : List LineParts) × (back : List LineParts) × (lines_of xs ≡ Some prefix) × (lines ≡ prefix ++ back)
+prefix_read [] ys lines is = ([], lines, refl, refl)
+prefix_read (x ∷ xs) ys lines is =
     let next = more_is (line_of x) (lines_of (xs ++ ys)) lines is in
-    let rest = front_read xs ys next.1 next.3 in
+    let rest = prefix_read xs ys next.1 next.3 in
     (next.0 ∷ rest.0, rest.1, ap₂ one_more next.2 rest.2, next.4 ∙ ap (λ (l : List LineParts). next.0 ∷ l) rest.3)
 
 text_append : (xs ys : List (List ℕ)) → text_of (xs ++ ys) ≡ text_of xs ++ text_of ys
@@ -37,17 +37,17 @@ first_true : (a b : Bool) → (a && b) ≡ true → a ≡ true
 first_true true b is = refl
 first_true false b is = is
 
--- What begins a list has a front that begins one.
-begins_front : (xs ys : List (List ℕ)) (lines : List LineParts) → Begins (xs ++ ys) lines → (front : List LineParts) × Begins xs front
-begins_front xs ys lines good =
-    let part = front_read xs ys lines good.read in (
+-- What begins a list has a prefix that begins one.
+begins_prefix : (xs ys : List (List ℕ)) (lines : List LineParts) → Begins (xs ++ ys) lines → (prefix : List LineParts) × Begins xs prefix
+begins_prefix xs ys lines good =
+    let part = prefix_read xs ys lines good.read in (
       part.0,
       record {
         read = part.2;
         few = let few = good.few in let count = length-append xs ys in omega arith;
         short = let short = good.short in let whole = ap length (text_append xs ys) in let count = length-append (text_of xs) (text_of ys) in omega arith;
         apart = first_true (are_distinct (written part.0)) (are_distinct (written part.1) && are_apart (written part.0) (written part.1))
-            (sym (apart_behind (written part.0) (written part.1)) ∙ ap are_distinct (sym (written_append part.0 part.1)) ∙ ap (λ (l : List LineParts). are_distinct (written l)) (sym part.3) ∙ good.apart);
+            (sym (apart_after (written part.0) (written part.1)) ∙ ap are_distinct (sym (written_append part.0 part.1)) ∙ ap (λ (l : List LineParts). are_distinct (written l)) (sym part.3) ∙ good.apart);
       },
     )
 
@@ -62,11 +62,11 @@ clean (text ∷ texts) lines is =
     let next = more_is (line_of text) (lines_of texts) lines is in
     (line_without_lf text next.0 next.2, clean texts next.1 next.3)
 
--- the second texts go on behind the first
+-- the second texts go on after the first
 abbrev GoesOn : List (List ℕ) → List (List ℕ) → List ℕ → List ℕ → Type 0
 GoesOn one two x y = (more : List (List ℕ)) × (two ≡ one ++ more) × (x ≡ text_of more ++ y)
 
--- of two ways to cut the same bytes one goes on behind the other
+-- of two ways to cut the same bytes one goes on after the other
 compared : (one two : List (List ℕ)) (x y : List ℕ) → AreClean one → AreClean two → text_of one ++ x ≡ text_of two ++ y → GoesOn one two x y ⊎ GoesOn two one y x
 compared [] two x y c d same = inl (two, refl, same)
 compared (t ∷ one) [] x y c d same = inr (t ∷ one, refl, sym same)
@@ -78,14 +78,14 @@ compared (t ∷ one) (u ∷ two) x y c d same =
       | inr on ↦ inr (on.0, ap₂ (λ (h : List ℕ) (l : List (List ℕ)). h ∷ l) cut.0 on.1, on.2)
     ]
 
--- Behind a list's first bad line no list goes on.
+-- After a list's first bad line no list goes on.
 module _ (bytes : List ℕ) (k : ℕ) (bad : IsBadLine bytes k) (texts : List (List ℕ)) (lines : List LineParts) (y : List ℕ) (good : Begins texts lines) where
   ends_there : (more : List (List ℕ)) → texts ≡ bad.texts ++ more → bad.rest ≡ text_of more ++ y → (texts ≡ bad.texts) × (bad.rest ≡ y)
   ends_there [] is rest = (is ∙ append-nil bad.texts, rest)
   ends_there (t ∷ more) is rest =
       let split : texts ≡ (bad.texts ++ t ∷ []) ++ more = is ∙ sym (append_assoc bad.texts (t ∷ []) more) in
-      let front = begins_front (bad.texts ++ t ∷ []) more lines (subst (λ (l : List (List ℕ)). Begins l lines) split good) in
-      absurd (bad.bad t (text_of more ++ y) front.0 (rest ∙ append_assoc t (10 ∷ text_of more) y) front.1)
+      let prefix = begins_prefix (bad.texts ++ t ∷ []) more lines (subst (λ (l : List (List ℕ)). Begins l lines) split good) in
+      absurd (bad.bad t (text_of more ++ y) prefix.0 (rest ∙ append_assoc t (10 ∷ text_of more) y) prefix.1)
 
 one_bad_line : (bytes : List ℕ) (j k : ℕ) → IsBadLine bytes j → IsBadLine bytes k → j ≡ k
 one_bad_line bytes j k one two =
@@ -138,27 +138,27 @@ one_list bytes xs ys one two =
 -- ## There is a reading
 
 abbrev Goes : ℕ → List LineParts → List ℕ → Type 0
-Goes seen lines rest = NextLine seen lines rest None ⊎ ((line : LineParts) × (behind : List ℕ) × NextLine seen lines rest (Some (line, behind)))
+Goes seen lines rest = NextLine seen lines rest None ⊎ ((line : LineParts) × (suffix : List ℕ) × NextLine seen lines rest (Some (line, suffix)))
 
 less : (a b : ℕ) → (a < b) ⊎ (b ≤ a)
 less a b = elim (ltb a b) as (λ (v : Bool). ltb a b ≡ v → (a < b) ⊎ (b ≤ a)) [ true ↦ λ e. inl (ltb-true a b e) | false ↦ λ e. inr (ltb-false a b e) ] refl
 
-module _ (seen : ℕ) (lines : List LineParts) (rest text behind : List ℕ) (cut : IsCut rest text behind) where
-  by_new : (line : LineParts) (b : Bool) → NextLine seen lines rest (cond b (Some (line, behind)) None) → Goes seen lines rest
-  by_new line true next = inr (line, behind, next)
+module _ (seen : ℕ) (lines : List LineParts) (rest text suffix : List ℕ) (cut : IsCut rest text suffix) where
+  by_new : (line : LineParts) (b : Bool) → NextLine seen lines rest (cond b (Some (line, suffix)) None) → Goes seen lines rest
+  by_new line true next = inr (line, suffix, next)
   by_new line false next = inl next
 
   by_line : length lines < 256 → seen + length text < 1048576 → (o : Option LineParts) → o ≡ line_of text → Goes seen lines rest
-  by_line few short None is = inl (no_line seen lines rest text behind cut is)
-  by_line few short (Some line) is = by_new line (is_new line lines) (judged seen lines rest text behind cut line is few short)
+  by_line few short None is = inl (no_line seen lines rest text suffix cut is)
+  by_line few short (Some line) is = by_new line (is_new line lines) (judged seen lines rest text suffix cut line is few short)
 
   goes_cut : Goes seen lines rest
   goes_cut = elim (less (length lines) 256) [
     | inl few ↦ elim (less (seen + length text) 1048576) [
       | inl short ↦ by_line few short (line_of text) refl
-      | inr long ↦ inl (too_long seen lines rest text behind cut long)
+      | inr long ↦ inl (too_long seen lines rest text suffix cut long)
     ]
-    | inr many ↦ inl (too_many seen lines rest text behind cut many)
+    | inr many ↦ inl (too_many seen lines rest text suffix cut many)
   ]
 
 goes_at : (seen : ℕ) (lines : List LineParts) (rest : List ℕ) (o : Option ℕ) → position is_lf rest ≡ o → Goes seen lines rest

@@ -8,14 +8,14 @@ use Rattle.job_list.proofs.Cuts.{has_lf, line_without_lf, one_cut}
 use Rattle.job_list.proofs.Going.{as_many, goes_on, text_more, went_on}
 
 pub none_left : (seen : ℕ) (lines : List LineParts) (rest : List ℕ) → list_any is_lf rest ≡ false → NextLine seen lines rest None
-none_left seen lines rest none text behind line same follows =
-    let other : list_any is_lf rest ≡ true = ap (list_any is_lf) same ∙ has_lf text behind in
+none_left seen lines rest none text suffix line same follows =
+    let other : list_any is_lf rest ≡ true = ap (list_any is_lf) same ∙ has_lf text suffix in
     absurd (cc)
 
-module _ (seen : ℕ) (lines : List LineParts) (rest text behind : List ℕ) (cut : IsCut rest text behind) where
+module _ (seen : ℕ) (lines : List LineParts) (rest text suffix : List ℕ) (cut : IsCut rest text suffix) where
   none_here : ((line : LineParts) → Follows seen lines text line → ⊥) → NextLine seen lines rest None
   none_here none other after line same follows =
-      let one = one_cut text other behind after cut.1 (line_without_lf other line follows.read) (sym cut.0 ∙ same) in
+      let one = one_cut text other suffix after cut.1 (line_without_lf other line follows.read) (sym cut.0 ∙ same) in
       none line (subst (λ (t : List ℕ). Follows seen lines t line) (sym one.0) follows)
 
   pub too_many : 256 ≤ length lines → NextLine seen lines rest None
@@ -27,7 +27,7 @@ module _ (seen : ℕ) (lines : List LineParts) (rest text behind : List ℕ) (cu
   pub no_line : None ≡ line_of text → NextLine seen lines rest None
   no_line none = none_here (λ line follows. let is = follows.read in absurd (cc))
 
-  by_new : (line : LineParts) → Some line ≡ line_of text → length lines < 256 → seen + length text < 1048576 → (b : Bool) → is_new line lines ≡ b → NextLine seen lines rest (cond b (Some (line, behind)) None)
+  by_new : (line : LineParts) → Some line ≡ line_of text → length lines < 256 → seen + length text < 1048576 → (b : Bool) → is_new line lines ≡ b → NextLine seen lines rest (cond b (Some (line, suffix)) None)
   by_new line is few short true new = (text, cut.0, record { read = sym is; few = few; short = omega arith; new = new })
   by_new line is few short false old = none_here (λ other follows.
       let read = follows.read in
@@ -35,7 +35,7 @@ module _ (seen : ℕ) (lines : List LineParts) (rest text behind : List ℕ) (cu
       let new : is_new line lines ≡ true = subst (λ (l : LineParts). is_new l lines ≡ true) (sym same) follows.new in
       absurd (cc))
 
-  pub judged : (line : LineParts) → Some line ≡ line_of text → length lines < 256 → seen + length text < 1048576 → NextLine seen lines rest (cond (is_new line lines) (Some (line, behind)) None)
+  pub judged : (line : LineParts) → Some line ≡ line_of text → length lines < 256 → seen + length text < 1048576 → NextLine seen lines rest (cond (is_new line lines) (Some (line, suffix)) None)
   judged line is few short = by_new line is few short (is_new line lines) refl
 
 -- How many bytes stand before what is left.
@@ -60,17 +60,17 @@ bad_line bytes lines rest number stands count there none = record {
   good = stands.good;
   place = sym (as_many stands.texts lines stands.good.read) ∙ count;
   there = there;
-  bad = λ text behind more same begins.
+  bad = λ text suffix more same begins.
       let last = went_on (length bytes - length rest) stands.texts lines more text (before bytes lines rest stands) stands.good begins in
-      none text behind last.0 same last.1;
+      none text suffix last.0 same last.1;
 }
 
-pub next_stands : (bytes : List ℕ) (lines : List LineParts) (rest : List ℕ) (line : LineParts) (behind : List ℕ) → Stands bytes lines rest → NextLine (length bytes - length rest) lines rest (Some (line, behind)) → Stands bytes (lines ++ line ∷ []) behind
-next_stands bytes lines rest line behind stands next =
+pub next_stands : (bytes : List ℕ) (lines : List LineParts) (rest : List ℕ) (line : LineParts) (suffix : List ℕ) → Stands bytes lines rest → NextLine (length bytes - length rest) lines rest (Some (line, suffix)) → Stands bytes (lines ++ line ∷ []) suffix
+next_stands bytes lines rest line suffix stands next =
     let text = next.0 in
     record {
       texts = stands.texts ++ text ∷ [];
-      whole = stands.whole ∙ ap (λ (r : List ℕ). text_of stands.texts ++ r) next.1 ∙ text_more stands.texts text behind;
+      whole = stands.whole ∙ ap (λ (r : List ℕ). text_of stands.texts ++ r) next.1 ∙ text_more stands.texts text suffix;
       good = goes_on (length bytes - length rest) stands.texts lines text line (before bytes lines rest stands) stands.good next.2;
     }
 

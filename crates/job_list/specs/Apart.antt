@@ -18,7 +18,7 @@ is_new line lines =
     are_distinct (written_by line)
     && list_all (λ e. are_apart (written_by e) (written_by line)) lines
 
--- A text follows these jobs, behind so many bytes.
+-- A text follows these jobs, after so many bytes.
 pub record Follows (seen : ℕ) (lines : List LineParts) (text : List ℕ)
     (line : LineParts) : Type 0 where
   pub read : line_of text ≡ Some line
@@ -28,9 +28,9 @@ pub record Follows (seen : ℕ) (lines : List LineParts) (text : List ℕ)
 
 -- The bytes are cut at their first LF.
 abbrev pub IsCut : List ℕ → List ℕ → List ℕ → Type 0
-IsCut bytes text behind = (bytes ≡ text ++ 10 ∷ behind) × (list_any is_lf text ≡ false)
+IsCut bytes text suffix = (bytes ≡ text ++ 10 ∷ suffix) × (list_any is_lf text ≡ false)
 
--- a job, and the bytes behind its line
+-- a job, and the bytes after its line
 abbrev pub next_in : Option (LineParts × Bor (List ℕ)) → Option (LineParts × List ℕ)
 next_in None = None
 next_in (Some next) = Some (next.0, next.1.now)
@@ -39,8 +39,8 @@ next_in (Some next) = Some (next.0, next.1.now)
 abbrev pub NextLine : ℕ → List LineParts → List ℕ → Option (LineParts × List ℕ) → Type 0
 NextLine seen lines rest (Some next) = (text : List ℕ) × (rest ≡ text ++ 10 ∷ next.1)
     × Follows seen lines text next.0
-NextLine seen lines rest None = (text behind : List ℕ) (line : LineParts)
-    → rest ≡ text ++ 10 ∷ behind → Follows seen lines text line → ⊥
+NextLine seen lines rest None = (text suffix : List ℕ) (line : LineParts)
+    → rest ≡ text ++ 10 ∷ suffix → Follows seen lines text line → ⊥
 
 -- How far the list is read: these lines, and what is left.
 pub record Stands (bytes : List ℕ) (lines : List LineParts) (rest : List ℕ) : Type 0 where

@@ -13,7 +13,7 @@ most_of_list = 1048576
 abbrev pub most_lines : ℕ
 most_lines = 256
 
--- these texts as lines, an LF behind each
+-- these texts as lines, an LF after each
 abbrev pub text_of : List (List ℕ) → List ℕ
 text_of [] = []
 text_of (text ∷ texts) = text ++ 10 ∷ text_of texts
@@ -50,7 +50,7 @@ IsList bytes lines = (texts : List (List ℕ)) × (bytes ≡ text_of texts) × (
     × Begins texts lines
 
 -- Line k is the first bad one: a list may begin with the k lines before it, and with no line more.
--- It is not the end behind the last line; but where there is no byte, line 0 is missing.
+-- It is not the end after the last line; but where there is no byte, line 0 is missing.
 pub record IsBadLine (bytes : List ℕ) (k : ℕ) : Type 0 where
   pub texts : List (List ℕ)
   pub lines : List LineParts
@@ -59,7 +59,7 @@ pub record IsBadLine (bytes : List ℕ) (k : ℕ) : Type 0 where
   pub good : Begins texts lines
   pub place : length texts ≡ k
   pub there : 0 < k → rest ≢ []
-  pub bad : (text behind : List ℕ) (more : List LineParts) → rest ≡ text ++ 10 ∷ behind
+  pub bad : (text suffix : List ℕ) (more : List LineParts) → rest ≡ text ++ 10 ∷ suffix
       → Begins (texts ++ text ∷ []) more → ⊥
 
 -- what the answer says

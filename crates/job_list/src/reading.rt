@@ -29,7 +29,7 @@ const MOST_LINES: usize = 256;
 /// names. No file that is written stands in the list twice. The form is this project's own.
 ///
 /// Else the first line that breaks the form is refused: a text without its LF is one, and so are the 257th line, the line that
-/// holds byte 1,048,576, counted from 0, and line 0 where there is no byte. Want of memory may come at any place.
+/// holds byte 1,048,576, counted from 0, and line 0 where there is no byte. Out of memory may come at any place.
 pub fn read_list(alloc: Global, bytes: &[u8]) -> Result<LineList, ListRefusal>
     ensures { ReadsList bytes.now result }
 {
@@ -40,8 +40,8 @@ pub fn read_list(alloc: Global, bytes: &[u8]) -> Result<LineList, ListRefusal>
             return Ok(lines);
         }
         match next_line(alloc, &lines, bytes.len() - rest.len(), rest) {
-            Ok(Some((line, behind))) => match lines.push(line) {
-                Ok(()) => rest = behind,
+            Ok(Some((line, suffix))) => match lines.push(line) {
+                Ok(()) => rest = suffix,
                 Err(_) => return Err(ListRefusal::OutOfMemory),
             },
             Ok(None) => return Err(ListRefusal::BadLine(number)),
@@ -51,14 +51,14 @@ pub fn read_list(alloc: Global, bytes: &[u8]) -> Result<LineList, ListRefusal>
     unreachable!()
 }
 
-// Whether the list ends here: a line stands before it, and nothing behind.
+// Whether the list ends here: a line stands before it, and nothing after.
 fn is_end(number: u32, rest: &[u8]) -> bool
     ensures { MatchBool result ((0 < number) × (rest.now ≡ [])) (0 < number → rest.now ≢ []) }
 {
     number > 0 && rest.is_empty()
 }
 
-// The line that comes next behind so many bytes and these lines, and what is behind it; `None` where it is a bad one.
+// The line that comes next after so many bytes and these lines, and what is after it; `None` where it is a bad one.
 fn next_line<'a>(
     alloc: Global,
     lines: &LineList,
@@ -69,7 +69,7 @@ fn next_line<'a>(
     ensures { IfOk result (λ next. NextLine seen lines.now rest.now
         (next_in next)) }
 {
-    let Some((text, behind)) = cut(rest) else {
+    let Some((text, suffix)) = cut(rest) else {
         return Ok(None);
     };
     if lines.len() >= MOST_LINES {
@@ -79,22 +79,22 @@ fn next_line<'a>(
         return Ok(None);
     }
     match read_line(alloc, text)? {
-        Some(line) => Ok(if_new(lines, line, behind)),
+        Some(line) => Ok(if_new(lines, line, suffix)),
         None => Ok(None),
     }
 }
 
-fn if_new<'a>(lines: &LineList, line: ListLine, behind: &'a [u8]) -> Option<(ListLine, &'a [u8])>
-    ensures { next_in result ≡ (if is_new line lines.now then Some (line, behind.now) else None) }
+fn if_new<'a>(lines: &LineList, line: ListLine, suffix: &'a [u8]) -> Option<(ListLine, &'a [u8])>
+    ensures { next_in result ≡ (if is_new line lines.now then Some (line, suffix.now) else None) }
 {
     if writes_only_new(lines.as_slice(), &line) {
-        Some((line, behind))
+        Some((line, suffix))
     } else {
         None
     }
 }
 
-// What stands before the first LF, and what stands behind it; `None` where there is none.
+// What stands before the first LF, and what stands after it; `None` where there is none.
 fn cut(bytes: &[u8]) -> Option<(&[u8], &[u8])>
     ensures { MatchOption result (list_any is_lf bytes.now ≡ false)
         (λ parts. IsCut bytes.now parts.0.now parts.1.now) }

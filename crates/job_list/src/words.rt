@@ -1,17 +1,16 @@
 // What the words of a line mean.
 
 ghost use Rattle.std.specs.Prelude.{◌≡◌, ◌≤◌, false, IfOk, IsTrue, length, map, string_bytes};
-ghost use Rattle.std.specs.List.{list_all, list_any, slice_split};
-ghost use Rattle.std.specs.Str.{bytes_eq};
-ghost use Rattle.plain_words.specs.Distinct.{are_distinct};
-ghost use Rattle.plain_words.specs.Parts.{is_plate as plate_test, parts_of};
+ghost use Rattle.std.specs.List.{list_any, slice_split};
+ghost use Rattle.plain_words.specs.Parts.{parts_of};
 ghost use Rattle.plain_words.specs.Plates.{names_of as names_meant};
 ghost use Rattle.job_list.specs.Lines.{are_plates as plates_test, is_lf, is_space, line_of, line_of_words as words_meant, line_with};
 
 use crate::line::ListLine;
 use lists::list::List;
 use lists::names::{NameList, OutOfMemory, copied};
-use plain_words::parts::{is_plate, plate_parts};
+use plain_words::parts::plate_parts;
+use plain_words::plates::{are_plates, have_distinct_names};
 use std::alloc::{AllocError, Global};
 
 // The job that a line's bytes mean; `None` where they are no line.
@@ -48,7 +47,7 @@ fn read_words(alloc: Global, words: &[&str]) -> Result<Option<ListLine>, OutOfMe
 {
     match words {
         [job, report, plates @ ..] => {
-            if !job.is_empty() && !report.is_empty() && are_plates(plates) {
+            if !job.is_empty() && !report.is_empty() && are_named_plates(plates) {
                 Ok(Some(line_of_parts(alloc, *job, *report, plates)?))
             } else {
                 Ok(None)
@@ -133,41 +132,9 @@ fn outs_of(alloc: Global, words: &[&str]) -> Result<Vec<String>, OutOfMemory>
 }
 
 // One to sixteen words NAME:IN:OUT, and no name twice.
-fn are_plates(words: &[&str]) -> bool
+fn are_named_plates(words: &[&str]) -> bool
     ensures value { result ≡ plates_test (map (λ w. w.now) words.now) }
     ensures count { IsTrue result → (1 ≤ length words.now) × (length words.now ≤ 16) }
 {
-    1 <= words.len() && words.len() <= 16 && are_all_plates(words) && have_distinct_names(words)
-}
-
-fn are_all_plates(words: &[&str]) -> bool
-    ensures { result ≡ list_all (λ w. plate_test (parts_of w)) (map (λ w. w.now) words.now) }
-{
-    match words {
-        [first, rest @ ..] => is_plate(plate_parts(*first)) && are_all_plates(rest),
-        [] => true,
-    }
-}
-
-// Whether no plate's name stands there twice.
-fn have_distinct_names(words: &[&str]) -> bool
-    ensures { result
-        ≡ are_distinct (names_meant (map parts_of (map (λ w. w.now) words.now))) }
-{
-    match words {
-        [first, rest @ ..] => {
-            !has_name(rest, plate_parts(*first).name) && have_distinct_names(rest)
-        }
-        [] => true,
-    }
-}
-
-fn has_name(words: &[&str], name: &str) -> bool
-    ensures { let names = names_meant (map parts_of (map (λ w. w.now) words.now)) in
-        result ≡ list_any (bytes_eq name.now) names }
-{
-    match words {
-        [first, rest @ ..] => name == plate_parts(*first).name || has_name(rest, name),
-        [] => false,
-    }
+    are_plates(words) && have_distinct_names(words)
 }

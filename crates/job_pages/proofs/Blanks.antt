@@ -3,7 +3,7 @@ use Rattle.std.proofs.Common.{◌≡◌, ℕ, suc, ◌<◌, ◌+◌, ◌-◌, mi
 use Rattle.std.specs.Prelude.{filter, fold, replicate, slice_index}
 use Rattle.std.proofs.lemmas.List.{drop_min, get_or-map, length-drop, length-take, take_min}
 use Rattle.job_pages.specs.declared.passages.Passage.{Passage}
-use Rattle.job_pages.specs.PageText.{blanked, bound, is_left_behind, spaces_for, text_in}
+use Rattle.job_pages.specs.PageText.{blanked, bound, is_left_after, spaces_for, text_in}
 use Rattle.job_pages.specs.Passages.{shows}
 
 -- the first bound
@@ -20,22 +20,22 @@ bound_next shown k i d within is =
 pub blanked_at : (text : List ℕ) (p : Passage) (from end : ℕ) → from ≡ min p.from (length text) → end ≡ min (max p.end p.from) (length text)
     → blanked text p ≡ take from text ++ replicate (end - from) 32 ++ drop end text
 blanked_at text p from end is also =
-    let front : take p.from text ≡ take from text = sym (take_min p.from text) ∙ ap (λ (n : ℕ). take n text) (sym is) in
+    let prefix : take p.from text ≡ take from text = sym (take_min p.from text) ∙ ap (λ (n : ℕ). take n text) (sym is) in
     let last : max p.from p.end ≡ max p.end p.from = omega arith in
     let back : drop (max p.from p.end) text ≡ drop end text = ap (λ (n : ℕ). drop n text) last ∙ sym (drop_min (max p.end p.from) text) ∙ ap (λ (n : ℕ). drop n text) (sym also) in
     let long : length (take (p.end - p.from) (drop p.from text)) ≡ end - from = omega (arith, length-take (p.end - p.from) (drop p.from text), length-drop p.from text, is, also) in
-    ap (λ (x : List ℕ). x ++ spaces_for (take (p.end - p.from) (drop p.from text)) ++ drop (max p.from p.end) text) front
+    ap (λ (x : List ℕ). x ++ spaces_for (take (p.end - p.from) (drop p.from text)) ++ drop (max p.from p.end) text) prefix
     ∙ ap (λ (n : ℕ). take from text ++ replicate n 32 ++ drop (max p.from p.end) text) long
     ∙ ap (λ (x : List ℕ). take from text ++ replicate (end - from) 32 ++ x) back
 
 -- the text of a page, its earlier statements blanked
 pub text_made : (passages shown : List Passage) (bytes made items : List ℕ) (start end k : ℕ) → shown ≡ filter shows passages
     → start ≡ slice_index (0 ∷ map (λ (p : Passage). p.end) shown) k → end ≡ slice_index (0 ∷ map (λ (p : Passage). p.end) shown) (k + 1)
-    → items ≡ take (min end (length bytes)) bytes → made ≡ fold blanked items (filter (is_left_behind start) passages)
+    → items ≡ take (min end (length bytes)) bytes → made ≡ fold blanked items (filter (is_left_after start) passages)
     → made ≡ text_in passages bytes k
-text_made passages shown bytes made items start end k all first last front blanks =
+text_made passages shown bytes made items start end k all first last prefix blanks =
     let begins : start ≡ bound passages k = first ∙ ap (λ (ps : List Passage). slice_index (0 ∷ map (λ (p : Passage). p.end) ps) k) all in
     let ends : end ≡ bound passages (k + 1) = last ∙ ap (λ (ps : List Passage). slice_index (0 ∷ map (λ (p : Passage). p.end) ps) (k + 1)) all in
-    let whole : items ≡ take (bound passages (k + 1)) bytes = front ∙ take_min end bytes ∙ ap (λ (n : ℕ). take n bytes) ends in
-    blanks ∙ ap (λ (n : ℕ). fold blanked items (filter (is_left_behind n) passages)) begins
-    ∙ ap (λ (t : List ℕ). fold blanked t (filter (is_left_behind (bound passages k)) passages)) whole
+    let whole : items ≡ take (bound passages (k + 1)) bytes = prefix ∙ take_min end bytes ∙ ap (λ (n : ℕ). take n bytes) ends in
+    blanks ∙ ap (λ (n : ℕ). fold blanked items (filter (is_left_after n) passages)) begins
+    ∙ ap (λ (t : List ℕ). fold blanked t (filter (is_left_after (bound passages k)) passages)) whole

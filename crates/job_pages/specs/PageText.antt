@@ -13,8 +13,8 @@ abbrev pub bound : List Passage → ℕ → ℕ
 bound passages k = slice_index (0 ∷ page_ends passages) k
 
 -- whether a statement of a page before this place sets nothing that stays in force
-abbrev pub is_left_behind : ℕ → Passage → Bool
-is_left_behind start p = not (stays p) && nat_le p.end start
+abbrev pub is_left_after : ℕ → Passage → Bool
+is_left_after start p = not (stays p) && nat_le p.end start
 
 -- as many spaces as there are bytes
 abbrev pub spaces_for : List ℕ → List ℕ
@@ -33,4 +33,4 @@ blanked text p =
 abbrev pub text_in : List Passage → List ℕ → ℕ → List ℕ
 text_in passages bytes k =
     fold blanked (take (bound passages (k + 1)) bytes)
-    (filter (is_left_behind (bound passages k)) passages)
+    (filter (is_left_after (bound passages k)) passages)

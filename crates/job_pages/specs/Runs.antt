@@ -10,7 +10,7 @@ use Rattle.ps_tokens.specs.Objects.{objects_of}
 use Rattle.ps_tokens.specs.Tokens.{tokens_of}
 use Rattle.job_reader.specs.declared.job.Job.{Job}
 use Rattle.job_reader.specs.Jobs.{job_of}
-use Rattle.job_reader.specs.Statements.{behind_fault}
+use Rattle.job_reader.specs.Statements.{after_fault}
 use Rattle.job_pages.specs.declared.passages.Passage.{Passage}
 use Rattle.job_pages.specs.declared.run.Run.{Run}
 use Rattle.job_pages.specs.declared.run.RunRefusal.{RunRefusal}
@@ -35,7 +35,7 @@ objects_in bytes = objects_by bytes (tokens_of bytes)
 -- last `showpage`
 abbrev pub end_fault : ℕ → List Object → Option Passage → Option JobFault
 end_fault len objects None = Some (record { kind = NoShowpage; at = len })
-end_fault len objects (Some p) = behind_fault (slice_get objects (p.place + 1))
+end_fault len objects (Some p) = after_fault (slice_get objects (p.place + 1))
 
 -- the last of these statements, if there is one
 abbrev pub last_of : List Passage → Option Passage
@@ -94,7 +94,7 @@ page_text bytes k = text_in (statements_in (run_of bytes)) bytes k
 abbrev pub page_job_of : List ℕ → ℕ → Result Job JobFault
 page_job_of bytes k = job_of (page_text bytes k)
 
--- A call gives what a definition does, unless memory is wanting.
+-- A call gives what a definition does, unless memory runs out.
 abbrev pub GivesRun : {X : Type 0} → Result X RunRefusal → Result X RunRefusal → Type 0
 GivesRun (Ok x) meant = meant ≡ Ok x
 GivesRun (Err OutOfMemory) meant = Unit {0}

@@ -3,7 +3,7 @@ ghost use Rattle.ps_tokens.specs.Limits.{longest_job};
 ghost use Rattle.ps_tokens.specs.Tokens.{Gives};
 ghost use Rattle.job_reader.specs.InRange.{IsJob};
 ghost use Rattle.job_reader.specs.Jobs.{job_of};
-ghost use Rattle.job_pages.specs.PageText.{blanked, is_left_behind, text_in};
+ghost use Rattle.job_pages.specs.PageText.{blanked, is_left_after, text_in};
 ghost use Rattle.job_pages.specs.Passages.{shows};
 ghost use Rattle.job_pages.specs.Runs.{HasPage, page_job_of};
 
@@ -74,7 +74,7 @@ fn bound(shown: &[Passage], k: usize) -> usize
 
 // Puts spaces in the place of the statements before a page that set nothing which stays in force.
 fn blank_earlier(text: &mut [u8], passages: &[Passage], start: usize)
-    ensures { text.new ≡ fold blanked text.old (filter (is_left_behind start) passages.now) }
+    ensures { text.new ≡ fold blanked text.old (filter (is_left_after start) passages.now) }
 {
     for passage in passages {
         if !passage.stays() && passage.end <= start {

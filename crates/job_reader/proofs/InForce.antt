@@ -150,7 +150,7 @@ limits-goes objects now next (Some place) is = sym (ap (λ r. result_unwrap_or r
 
 -- What is in force.
 
--- behind statements without a fault
+-- after statements without a fault
 module _ (objects : List Object) (earlier : List Statement) (now : State) (done : after_all objects nothing_read earlier ≡ Ok now) where
   pub resolution-in_force : now.resolution ≡ resolution_in_force objects earlier
   resolution-in_force =

@@ -24,7 +24,7 @@ use Rattle.job_reader.specs.Calls.{Statement, is_showpage, statements_of}
 use Rattle.job_reader.specs.InRange.{IsJob}
 use Rattle.job_reader.specs.Jobs.{then_job, statement_then, read_from, job_of_objects, job_of_tokens, job_of}
 use Rattle.job_reader.specs.Starts.{nothing_read}
-use Rattle.job_reader.specs.Statements.{behind_fault, fault, job_at, job_unless, state_after, job_shown, shown_fault, under_trapping, wants_device, zone_0}
+use Rattle.job_reader.specs.Statements.{after_fault, fault, job_at, job_unless, state_after, job_shown, shown_fault, under_trapping, wants_device, zone_0}
 use Rattle.job_reader.proofs.StateRanges.{IsState, nothing_read-state, state_after-leaves}
 
 -- a job that is made, or a fault
@@ -82,13 +82,13 @@ job_at-job now here neither =
       details = here.details;
     }
 
-made_if : (b : Bool) (at : ℕ) (o : Option Object) (now : State) → IsState now → ((now.resolution == 0) && wants_device now) ≡ b → Makes (job_unless (cond b (Some (record { kind = NoPageDevice; at = at })) (behind_fault o)) (job_at now))
+made_if : (b : Bool) (at : ℕ) (o : Option Object) (now : State) → IsState now → ((now.resolution == 0) && wants_device now) ≡ b → Makes (job_unless (cond b (Some (record { kind = NoPageDevice; at = at })) (after_fault o)) (job_at now))
 made_if true at o now here neither = λ job is. absurd (cc)
 made_if false at None now here neither = λ job is. let same : job_at now ≡ job = cc in subst (λ (j : Job). IsJob j) same (job_at-job now here neither)
 made_if false at (Some object) now here neither = λ job is. absurd (cc)
 
 alone_if : (b : Bool) (objects : List Object) (place at : ℕ) (now : State) → IsState now
-    → Makes (job_unless (cond b (cond ((now.resolution == 0) && wants_device now) (Some (record { kind = NoPageDevice; at = at })) (behind_fault (slice_get objects (place + 1)))) (Some (record { kind = WrongOperands; at = at }))) (job_at now))
+    → Makes (job_unless (cond b (cond ((now.resolution == 0) && wants_device now) (Some (record { kind = NoPageDevice; at = at })) (after_fault (slice_get objects (place + 1)))) (Some (record { kind = WrongOperands; at = at }))) (job_at now))
 alone_if true objects place at now here = made_if ((now.resolution == 0) && wants_device now) at (slice_get objects (place + 1)) now here refl
 alone_if false objects place at now here = λ job is. absurd (cc)
 

@@ -178,13 +178,13 @@ moveto-draws : (x y : ℤ) (d : Drawing) → IsDrawing d → Draws (moveto x y d
 moveto-draws x y d is after same = begun_at-drawing d.vertices (record { x = x; y = y }) after is.path same
 
 rmoveto-draws : (x y : ℤ) (d : Drawing) → IsDrawing d → Draws (rmoveto x y d)
-rmoveto-draws x y d is = from_pen-draws d.vertices d.pen (λ pen. begun_at d.vertices (offset_point pen.at x y)) is.pen (λ pen behind after same. begun_at-drawing d.vertices (offset_point pen.at x y) after is.path same)
+rmoveto-draws x y d is = from_pen-draws d.vertices d.pen (λ pen. begun_at d.vertices (offset_point pen.at x y)) is.pen (λ pen suffix after same. begun_at-drawing d.vertices (offset_point pen.at x y) after is.path same)
 
 lineto-draws : (x y : ℤ) (d : Drawing) → IsDrawing d → Draws (lineto x y d)
-lineto-draws x y d is = from_pen-draws d.vertices d.pen (λ pen. lined_to d.vertices pen (record { x = x; y = y })) is.pen (λ pen behind after same. lined_to-drawing d.vertices pen (record { x = x; y = y }) after is.path behind same)
+lineto-draws x y d is = from_pen-draws d.vertices d.pen (λ pen. lined_to d.vertices pen (record { x = x; y = y })) is.pen (λ pen suffix after same. lined_to-drawing d.vertices pen (record { x = x; y = y }) after is.path suffix same)
 
 rlineto-draws : (x y : ℤ) (d : Drawing) → IsDrawing d → Draws (rlineto x y d)
-rlineto-draws x y d is = from_pen-draws d.vertices d.pen (λ pen. lined_to d.vertices pen (offset_point pen.at x y)) is.pen (λ pen behind after same. lined_to-drawing d.vertices pen (offset_point pen.at x y) after is.path behind same)
+rlineto-draws x y d is = from_pen-draws d.vertices d.pen (λ pen. lined_to d.vertices pen (offset_point pen.at x y)) is.pen (λ pen suffix after same. lined_to-drawing d.vertices pen (offset_point pen.at x y) after is.path suffix same)
 
 -- Zones.
 

@@ -98,7 +98,7 @@ named_by test look s = if is_by test s.call.operator then look s.from else None
 abbrev pub last_naming : (Operator → Bool) → (ℕ → Option ℕ) → List Statement → Option ℕ
 last_naming test look earlier = last_or None (filter_map (named_by test look) earlier)
 
--- What is in force behind statements.
+-- What is in force after statements.
 
 -- the resolution that the last `setpagedevice` with HWResolution names, else 0
 abbrev pub resolution_in_force : List Object → List Statement → ℕ

@@ -138,10 +138,10 @@ job_at now =
 abbrev pub wants_device : State → Bool
 wants_device now = nat_lt 0 (length now.zones) || (now.params.enabled && now.trapping)
 
--- nothing may stand behind `showpage`
-abbrev pub behind_fault : Option Object → Option JobFault
-behind_fault None = None
-behind_fault (Some object) = Some (record { kind = AfterShowpage; at = object.at })
+-- nothing may stand after `showpage`
+abbrev pub after_fault : Option Object → Option JobFault
+after_fault None = None
+after_fault (Some object) = Some (record { kind = AfterShowpage; at = object.at })
 
 -- the fault of `showpage`, if it has one: its operands stand from one place to another, and it
 -- stands at an offset
@@ -149,7 +149,7 @@ unfoldable pub shown_fault : List Object → ℕ → ℕ → ℕ → State → O
 shown_fault objects from place at now =
     if from == place then (if (now.resolution == 0) && wants_device now
     then Some (record { kind = NoPageDevice; at = at })
-    else behind_fault (slice_get objects (place + 1)))
+    else after_fault (slice_get objects (place + 1)))
     else Some (record { kind = WrongOperands; at = at })
 
 -- the job, unless there is a fault

@@ -27,7 +27,7 @@ pub fn statements_go_on()
         → read_from objects len now (earlier ++ later) ≡ read_from objects len next later }
 {}
 
-/// Behind statements without a fault the page's entries are those of the last earlier `setpagedevice` that names them.
+/// After statements without a fault the page's entries are those of the last earlier `setpagedevice` that names them.
 pub fn page_device_is_of_the_last_that_names_it()
     ensures resolution { (objects : List Object) (earlier : List Statement) (now : State)
         → after_all objects nothing_read earlier ≡ Ok now
@@ -40,7 +40,7 @@ pub fn page_device_is_of_the_last_that_names_it()
         → now.details ≡ details_in_force objects earlier }
 {}
 
-/// Behind statements without a fault each parameter, and the step limits, are those of the last earlier `settrapparams`
+/// After statements without a fault each parameter, and the step limits, are those of the last earlier `settrapparams`
 /// that names them.
 pub fn trap_params_are_of_the_last_that_names_them()
     ensures params { (objects : List Object) (earlier : List Statement) (now : State)

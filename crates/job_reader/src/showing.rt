@@ -1,6 +1,6 @@
 ghost use Rattle.std.specs.Prelude.{◌≡◌, ◌∷◌, map, slice_get, IfOk};
 ghost use Rattle.ps_tokens.specs.Tokens.{Gives};
-ghost use Rattle.job_reader.specs.Statements.{job_shown, shown_fault, behind_fault, under_trapping, job_at, wants_device};
+ghost use Rattle.job_reader.specs.Statements.{job_shown, shown_fault, after_fault, under_trapping, job_at, wants_device};
 
 use crate::job::Job;
 use crate::state::State;
@@ -51,7 +51,7 @@ fn shown_fault(
                 at,
             })
         } else {
-            behind_fault(objects, place as usize + 1)
+            after_fault(objects, place as usize + 1)
         }
     } else {
         Some(JobFault {
@@ -61,9 +61,9 @@ fn shown_fault(
     }
 }
 
-// The fault of an object behind `showpage`.
-fn behind_fault(objects: &[Object], place: usize) -> Option<JobFault>
-    ensures { result ≡ behind_fault (slice_get objects.now place) }
+// The fault of an object after `showpage`.
+fn after_fault(objects: &[Object], place: usize) -> Option<JobFault>
+    ensures { result ≡ after_fault (slice_get objects.now place) }
 {
     match objects.get(place) {
         Some(object) => Some(JobFault {

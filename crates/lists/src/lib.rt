@@ -2,6 +2,7 @@
 #![tactic(auto)]
 
 pub mod list;
+pub mod memory;
 pub mod names;
 #[cfg(test)]
 mod tests;

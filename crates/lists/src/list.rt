@@ -75,7 +75,7 @@ impl<T> List<T> {
         self.items.as_slice().get(place)
     }
 
-    /// Adds the item at the end. Where memory is wanting it hands the item back and changes nothing.
+    /// Adds the item at the end. Where memory runs out it hands the item back and changes nothing.
     pub fn push(&mut self, item: T) -> Result<(), T>
         ensures pushed { MatchResult result (λ _. self.new ≡ self.old ++ item ∷ [])
             (λ back. (back ≡ item) × (self.new ≡ self.old)) }

@@ -4,7 +4,7 @@ ghost use Rattle.std.specs.Str.{bytes_eq};
 use crate::list::List;
 use std::alloc::Global;
 
-/// Want of memory, where that is the only refusal.
+/// Out of memory, where that is the only refusal.
 #[derive(Clone, Copy, Debug, Drop, PartialEq, Eq)]
 pub struct OutOfMemory;
 

@@ -1,6 +1,7 @@
 ghost use Rattle.std.specs.Prelude.{◌≡◌, ◌*◌, IfOk, vec_len};
 ghost use Rattle.misregister.specs.Sides.{Sides};
 
+use lists::memory::filled;
 use page_model::parts::OutOfMemory;
 use std::alloc::Global;
 use std::marker::Model;
@@ -34,15 +35,6 @@ impl Model for RiskBuf {
 
     ghost invariant = { λ b. (vec_len b.room.row ≡ b.width) × (vec_len b.room.until ≡ b.width)
         × (vec_len b.room.shades ≡ b.width * b.height) };
-}
-
-fn filled<T: Copy + Drop>(alloc: Global, item: T, count: usize) -> Result<Vec<T>, OutOfMemory>
-    ensures { IfOk result (λ items. vec_len items ≡ count) }
-{
-    match vec![in alloc; item; count] {
-        Ok(items) => Ok(items),
-        Err(_) => Err(OutOfMemory),
-    }
 }
 
 impl RiskBuf {

@@ -25,7 +25,7 @@ append_put name x piece files =
 pub grows_none : (piece : List ℕ) (state : RackState) → Grows (take 0 piece) state state
 grows_none piece state bytes files same = same ∙ ap (λ (b : List ℕ). put state.current b files) (sym (append-nil bytes))
 
--- Two pieces, one behind the other.
+-- Two pieces, one after the other.
 pub grows_then : (p q : List ℕ) (before mid after : RackState) → mid.current ≡ before.current → Grows p before mid → Grows q mid after → Grows (p ++ q) before after
 grows_then p q before mid after same first second bytes files start =
     let here : mid.file ≡ put before.current (bytes ++ p) files = first bytes files start in

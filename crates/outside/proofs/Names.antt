@@ -3,7 +3,7 @@ use Rattle.std.proofs.Common.{◌≡◌, ℕ, List, [], ◌∷◌, ◌++◌, tak
 use Rattle.std.proofs.Math.Seq.{take-append_seam}
 use Rattle.std.proofs.lemmas.Option.{same_Some}
 use Rattle.std.proofs.lemmas.List.{append_assoc, append-nil, take_all}
-use Rattle.outside.specs.Causes.{Asks, AsksFront}
+use Rattle.outside.specs.Causes.{Asks, AsksPrefix}
 
 -- no name
 pub asks_none : (a : Option (List (List ℕ))) → Asks a a []
@@ -11,7 +11,7 @@ asks_none None = tt
 asks_none (Some all) = (all, refl, sym (append-nil all))
 
 -- no name of some
-pub asks_none_of : (a : Option (List (List ℕ))) (names : List (List ℕ)) → AsksFront a a names
+pub asks_none_of : (a : Option (List (List ℕ))) (names : List (List ℕ)) → AsksPrefix a a names
 asks_none_of None names = tt
 asks_none_of (Some all) names = (all, 0, refl, sym (append-nil all))
 
@@ -24,17 +24,17 @@ asks_then a (Some mid) (Some all) xs ys one two =
     (one.0, one.1, two.2 ∙ ap (λ (l : List (List ℕ)). l ++ ys) (sym same ∙ one.2) ∙ append_assoc one.0 xs ys)
 
 -- the first so many of some names
-pub asks_front : (a b : Option (List (List ℕ))) (count : ℕ) (names : List (List ℕ)) → Asks a b (take count names) → AsksFront a b names
-asks_front a None count names some = tt
-asks_front a (Some all) count names some = (some.0, count, some.1, some.2)
+pub asks_prefix : (a b : Option (List (List ℕ))) (count : ℕ) (names : List (List ℕ)) → Asks a b (take count names) → AsksPrefix a b names
+asks_prefix a None count names some = tt
+asks_prefix a (Some all) count names some = (some.0, count, some.1, some.2)
 
--- names that others stand behind
-pub asks_before : (a b : Option (List (List ℕ))) (xs ys : List (List ℕ)) → Asks a b xs → AsksFront a b (xs ++ ys)
+-- names that others stand after
+pub asks_before : (a b : Option (List (List ℕ))) (xs ys : List (List ℕ)) → Asks a b xs → AsksPrefix a b (xs ++ ys)
 asks_before a None xs ys some = tt
 asks_before a (Some all) xs ys some = (some.0, length xs, some.1, some.2 ∙ ap (λ (l : List (List ℕ)). some.0 ++ l) (sym (take-append_seam xs ys)))
 
 -- all of them
-pub asks_all : (a b : Option (List (List ℕ))) (names : List (List ℕ)) → Asks a b names → AsksFront a b names
+pub asks_all : (a b : Option (List (List ℕ))) (names : List (List ℕ)) → Asks a b names → AsksPrefix a b names
 asks_all a None names some = tt
 asks_all a (Some all) names some = (some.0, length names, some.1, some.2 ∙ ap (λ (l : List (List ℕ)). some.0 ++ l) (sym (take_all (length names) names (omega arith))))
 
@@ -42,7 +42,7 @@ take_after : (x : List ℕ) (n : ℕ) (names : List (List ℕ)) → take (n + 1)
 take_after x n names = rw add-one refl
 
 -- one name, and then the first so many of others
-pub asks_first : (a m b : Option (List (List ℕ))) (x : List ℕ) (names : List (List ℕ)) → Asks a m (x ∷ []) → AsksFront m b names → AsksFront a b (x ∷ names)
+pub asks_first : (a m b : Option (List (List ℕ))) (x : List ℕ) (names : List (List ℕ)) → Asks a m (x ∷ []) → AsksPrefix m b names → AsksPrefix a b (x ∷ names)
 asks_first a m None x names one two = tt
 asks_first a None (Some all) x names one two = absurd (let e : None ≡ Some two.0 = two.2 in cc)
 asks_first a (Some mid) (Some all) x names one two =

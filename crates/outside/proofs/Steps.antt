@@ -127,7 +127,7 @@ write_failed piece rest done a b c e d keeps asked finished well told is_open cu
   once = once_before a.faults b.faults c.faults well wrote.fails.once;
 }
 
--- Two pieces, one behind the other.
+-- Two pieces, one after the other.
 pub writes_then : {T U E D : Type 0} (p q : List ℕ) (a b c : RackState) (x : T) (r : Result U D) → WritesOn {T = T} {E = E} p a b (Ok x) → WritesOn q b c r → WritesOn {T = U} {E = D} (p ++ q) a c r
 writes_then p q a b c x (Ok y) one two = record {
   keeps = kept_then a b c one.keeps two.keeps;
@@ -158,7 +158,7 @@ writes_then p q a b c x (Err e) one two = record {
   once = once_before a.faults b.faults c.faults one.well two.once;
 }
 
--- Where a piece fails, nothing of what comes behind it is written.
+-- Where a piece fails, nothing of what comes after it is written.
 pub writes_stopped : {T U E D : Type 0} (p q : List ℕ) (a b : RackState) (e : E) (d : D) → WritesOn {T = T} p a b (Err e) → WritesOn {T = U} (p ++ q) a b (Err d)
 writes_stopped p q a b e d one = record {
   keeps = one.keeps;
@@ -212,6 +212,6 @@ takes_read a b n buf read = record { keeps = read.keeps; asked = read.asked; beg
 -- what the buffer holds after a read of a part of it
 pub filled_more : (buf part : List ℕ) (done k n : ℕ) → done ≤ length buf → n ≤ length part → take done buf ++ take n part ≡ take (done + n) (put_mid done k buf part)
 filled_more buf part done k n le within =
-    let front : length (take done buf) ≡ done = length-take-le done buf le in
+    let prefix : length (take done buf) ≡ done = length-take-le done buf le in
     let e : take (length (take done buf) + n) (put_mid done k buf part) ≡ take done buf ++ take n (part ++ post_of done k buf) = take-append-add (take done buf) (part ++ post_of done k buf) n in
-    ap (λ (x : List ℕ). take done buf ++ x) (sym (take-append-le n part (post_of done k buf) within)) ∙ sym e ∙ ap (λ (m : ℕ). take (m + n) (put_mid done k buf part)) front
+    ap (λ (x : List ℕ). take done buf ++ x) (sym (take-append-le n part (post_of done k buf) within)) ∙ sym e ∙ ap (λ (m : ℕ). take (m + n) (put_mid done k buf part)) prefix

@@ -3,7 +3,7 @@ use Rattle.std.specs.Prelude.{ℕ, Bool, false, List, [], ◌++◌, drop, take, 
 use Rattle.outside.specs.Tray.{TrayState}
 
 pub record EndlessState : Type 0 where
-  -- the bytes with which each file begins, and the one that comes behind them without end
+  -- the bytes with which each file begins, and the one that comes after them without end
   pub head : List ℕ
   pub tail : ℕ
   pub begun : Bool

@@ -4,13 +4,13 @@ use Rattle.std.specs.Prelude.{Result, OnOk, OnErr}
 use Rattle.outside.specs.Causes.{Rose, RoseOnce, Asks}
 use Rattle.outside.specs.Rack.{RackState, KeepsRack, FinishesFile, put}
 
--- Whatever bytes the current file has, the piece is put behind them.
+-- Whatever bytes the current file has, the piece is put after them.
 abbrev pub Grows : List ℕ → RackState → RackState → Type 0
 Grows piece before after = (bytes : List ℕ) (files : List ℕ → Option (List ℕ))
     → before.file ≡ put before.current bytes files
     → after.file ≡ put before.current (bytes ++ piece) files
 
--- The piece is written whole at the end of the open file, or a front of it and a fault.
+-- The piece is written whole at the end of the open file, or a prefix of it and a fault.
 pub record WritesOn {T E : Type 0} (piece : List ℕ) (before after : RackState)
     (result : Result T E) : Type 0 where
   pub keeps : KeepsRack before after
@@ -25,7 +25,7 @@ pub record WritesOn {T E : Type 0} (piece : List ℕ) (before after : RackState)
   pub cause : OnErr result (Rose before.faults after.faults)
   pub once : OnErr result (RoseOnce before.faults after.faults)
 
--- The file is not written whole. Where it was created it is still open, and a front of its bytes
+-- The file is not written whole. Where it was created it is still open, and a prefix of its bytes
 -- stands under its name;
 -- where it could not be created no file is open, and all files are as they were.
 abbrev pub BreaksFile : List ℕ → List ℕ → (List ℕ → Option (List ℕ)) → RackState → Type 0

@@ -2,8 +2,9 @@ ghost use Rattle.std.specs.Prelude.{◌<◌, ◌≤◌, IfOk, length};
 
 use arrayvec::ArrayString;
 use std::fmt::InlineText;
-use std::fs::{OpenFile, OpenOptions, Permissions};
+use std::fs::{Metadata, OpenFile, OpenOptions, Permissions};
 use std::io::{ErrorKind, Write};
+use std::os::unix::fs::{MetadataExt, PermissionsExt, lchown};
 use std::path::Path;
 use std::rt::Files;
 use std::{fs, io};
@@ -21,14 +22,26 @@ const LONGEST: usize = 4096;
 // A longer name is not repeated in the name beside it, so that that one is none that a disk refuses.
 const LONG_NAME: usize = 200;
 
+// The rights to read, to write and to run: all but those by which a program takes its owner's or its group's.
+const PLAIN_RIGHTS: u32 = 0o777;
+
 // A path, for which no memory is wanted.
 type PathText = ArrayString<LONGEST>;
 
+// What a name means, where its links are followed.
+enum Place {
+    Disk(PathText),
+    // What this process has open: standard output, or another file, as /dev/fd/3.
+    StandardOutput,
+    Open,
+}
+
 // A file that is written. Until it is whole it stands beside its place, under a name of its own; where it is let go
-// before it is finished it is removed. What is no regular file is written in place.
-pub(crate) struct DiskFile<'a, R: Files + Alloc> {
+// before it is finished it is removed. What is no regular file is written in place, and standard output where it stands.
+pub(crate) struct DiskFile<'a, R: Files + Alloc + Print> {
     files: &'a R,
     file: R::File,
+    is_output: bool,
     beside: Option<Beside>,
     is_broken: bool,
 }
@@ -40,7 +53,7 @@ struct Beside {
     name: PathText,
 }
 
-impl<R: Files + Alloc> Drop for DiskFile<'_, R> {
+impl<R: Files + Alloc + Print> Drop for DiskFile<'_, R> {
     fn drop(self) {
         if let Some(beside) = &self.beside {
             let _gone = fs::remove_file(self.files, beside.written.as_str());
@@ -48,30 +61,21 @@ impl<R: Files + Alloc> Drop for DiskFile<'_, R> {
         let DiskFile {
             files: _,
             file: _file,
+            is_output: _,
             beside: _,
             is_broken: _,
         } = self;
     }
 }
 
-impl<'a, R: Files + Alloc> DiskFile<'a, R> {
+impl<'a, R: Files + Alloc + Print> DiskFile<'a, R> {
     // Begins an empty file for that name. What stands there is left as it is, and has to be such that it may be
     // written; a link is followed.
     pub(crate) fn create(files: &'a R, name: &str) -> io::Result<DiskFile<'a, R>> {
-        let Some(place) = place_of(files, name)? else {
-            return Ok(in_place(files, fs::create(files, name)?));
-        };
-        match OpenOptions::new().write(true).open(files, place.as_str()) {
-            Ok(old) => {
-                let metadata = old.metadata()?;
-                if metadata.is_file() {
-                    begin_beside(files, place, Some(metadata.permissions()))
-                } else {
-                    Ok(in_place(files, old))
-                }
-            }
-            Err(error) if error.kind() == ErrorKind::NotFound => begin_beside(files, place, None),
-            Err(error) => Err(error),
+        match place_of(files, name)? {
+            Place::Disk(place) => create_at(files, place),
+            Place::StandardOutput => Ok(in_place(files, opened_at_end(files, name)?, true)),
+            Place::Open => Ok(in_place(files, opened_at_end(files, name)?, false)),
         }
     }
 
@@ -81,7 +85,12 @@ impl<'a, R: Files + Alloc> DiskFile<'a, R> {
         ensures some { IfOk result (λ n. 0 < length piece.now → 0 < n) }
     {
         for _ in 0..TRIES {
-            match self.file.write(piece) {
+            let written = if self.is_output {
+                io::writer(self.files).write(piece)
+            } else {
+                self.file.write(piece)
+            };
+            match written {
                 Ok(count) if count > 0 || piece.is_empty() => return Ok(count),
                 Err(error) if error.kind() == ErrorKind::Interrupted => {}
                 _ => break,
@@ -106,28 +115,59 @@ impl<'a, R: Files + Alloc> DiskFile<'a, R> {
     }
 }
 
-fn in_place<R: Files + Alloc>(files: &R, file: R::File) -> DiskFile<'_, R> {
+// A file that is written where it stands.
+fn in_place<R: Files + Alloc + Print>(
+    files: &R,
+    file: R::File,
+    is_output: bool,
+) -> DiskFile<'_, R> {
     DiskFile {
         files,
         file,
+        is_output,
         beside: None,
         is_broken: false,
     }
 }
 
-// The file that the name means, where its links are followed; or none where they lead to what this process has open, as
-// /dev/stdout does. Memory is wanted for a link alone.
-fn place_of<R: Files + Alloc>(files: &R, name: &str) -> io::Result<Option<PathText>> {
+// What another has open may be a file with something in it, which stays.
+fn opened_at_end<R: Files>(files: &R, name: &str) -> io::Result<R::File> {
+    OpenOptions::new().append(true).open(files, name)
+}
+
+// Begins a file at its place, which what stands there has to allow.
+fn create_at<R: Files + Alloc + Print>(files: &R, place: PathText) -> io::Result<DiskFile<'_, R>> {
+    match OpenOptions::new().write(true).open(files, place.as_str()) {
+        Ok(old) => {
+            let metadata = old.metadata()?;
+            if metadata.is_file() {
+                begin_beside(files, place, Some(metadata))
+            } else {
+                Ok(in_place(files, old, false))
+            }
+        }
+        Err(error) if error.kind() == ErrorKind::NotFound => begin_beside(files, place, None),
+        Err(error) => Err(error),
+    }
+}
+
+// What the name means. Memory is wanted for a link alone.
+fn place_of<R: Files + Alloc>(files: &R, name: &str) -> io::Result<Place> {
     let mut place = path_text(name)?;
     for _ in 0..MOST_LINKS {
         let text = place.as_str();
+        if text == "/proc/self/fd/1" || text == "/dev/fd/1" {
+            return Ok(Place::StandardOutput);
+        }
         if text.starts_with("/proc/") || text.starts_with("/dev/fd/") {
-            return Ok(None);
+            return Ok(Place::Open);
         }
         match fs::symlink_metadata(files, text) {
             Ok(metadata) if metadata.is_symlink() => {}
-            Ok(_) => return Ok(Some(place)),
-            Err(error) if error.kind() == ErrorKind::NotFound => return Ok(Some(place)),
+            Ok(_) => return Ok(Place::Disk(place)),
+            Err(error) if error.kind() == ErrorKind::NotFound => {
+                return Ok(Place::Disk(place));
+            }
             Err(error) => return Err(error),
         }
         place = link_of(files, text)?;
@@ -151,10 +191,10 @@ fn path_text(text: &str) -> io::Result<PathText> {
 }
 
 // Begins a file beside its place, under the first name that nothing has.
-fn begin_beside<R: Files + Alloc>(
+fn begin_beside<R: Files + Alloc + Print>(
     files: &R,
     name: PathText,
-    permissions: Option<Permissions>,
+    old: Option<Metadata>,
 ) -> io::Result<DiskFile<'_, R>> {
     for number in 0..MOST_NAMES {
         let written = name_beside(name.as_str(), number)?;
@@ -167,11 +207,12 @@ fn begin_beside<R: Files + Alloc>(
                 let begun = DiskFile {
                     files,
                     file,
+                    is_output: false,
                     beside: Some(Beside { written, name }),
                     is_broken: false,
                 };
-                if let Some(permissions) = permissions {
-                    begun.file.set_permissions(permissions)?;
+                if let Some(old) = old {
+                    keep_rights(files, &begun.file, written.as_str(), &old)?;
                 }
                 return Ok(begun);
             }
@@ -180,6 +221,24 @@ fn begin_beside<R: Files + Alloc>(
         }
     }
     Err(io::Error::from(ErrorKind::AlreadyExists))
+}
+
+// Gives the file beside its place the owner, the group and the rights of the one that it replaces. Where the owner may not be
+// given, at least the group is, if that may be, and no more than plain rights are.
+fn keep_rights<R: Files>(
+    files: &R,
+    file: &R::File,
+    written: &str,
+    old: &Metadata,
+) -> io::Result<()> {
+    let new = file.metadata()?;
+    let mut mode = old.permissions().mode();
+    let is_other = new.uid() != old.uid() || new.gid() != old.gid();
+    if is_other && lchown(files, written, Some(old.uid()), Some(old.gid())).is_err() {
+        let _group = lchown(files, written, None, Some(old.gid()));
+        mode &= PLAIN_RIGHTS;
+    }
+    file.set_permissions(Permissions::from_mode(mode))
 }
 
 // The name of that number beside a file, in its folder.

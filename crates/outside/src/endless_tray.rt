@@ -69,8 +69,8 @@ impl Tray for EndlessTray {
             self.new ≡ record self.old { taken = taken } }
     {
         let count = (self.head.len() - self.taken).min(buf.len());
-        let (front, rest) = buf.split_at_mut(count);
-        front.copy_from_slice(&self.head.as_slice()[self.taken..self.taken + count]);
+        let (prefix, rest) = buf.split_at_mut(count);
+        prefix.copy_from_slice(&self.head.as_slice()[self.taken..self.taken + count]);
         rest.fill(self.tail);
         self.taken += count;
         Ok(buf.len())

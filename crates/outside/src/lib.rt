@@ -1,11 +1,13 @@
 //! Files and text of the world outside, by two traits, and what stands for them in memory and on a disk.
 #![tactic(auto)]
 
+mod ahead;
 mod disk_file;
 pub mod disk_rack;
 pub mod disk_tray;
 pub mod distinct_names;
 pub mod endless_tray;
+mod kept_inputs;
 mod mem_calls;
 pub mod mem_file;
 pub mod mem_rack;

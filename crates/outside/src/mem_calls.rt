@@ -7,7 +7,7 @@ use lists::list::List;
 use lists::names::Name;
 use std::alloc::Global;
 
-// Adds a name to earlier ones, and says whether they are still told: for want of memory they no longer are.
+// Adds a name to earlier ones, and says whether they are still told: for lack of memory they no longer are.
 pub(crate) fn note(alloc: Global, names: &mut List<Name>, is_told: bool, name: &[u8]) -> bool
     ensures { let before = cond is_told (Some names.old) None in
         let after = cond result (Some names.new) None in

@@ -60,7 +60,7 @@ impl MemRack {
     ghost use Rattle.outside.specs.MemRacks.{fresh_rack, rack_of};
 
     /// A rack with no file and no text. A call fails where its number, from 0 over `create`, `write`, `finish` and
-    /// `tell`, is in `fails`, where a piece that is not empty meets no room, or for want of memory.
+    /// `tell`, is in `fails`, where a piece that is not empty meets no room, or for lack of memory.
     pub fn new(alloc: Global, grain: usize, room: u64, fails: CallList) -> MemRack
         requires { 0 < grain }
         ensures { result ≡ fresh_rack grain room fails }

@@ -1,7 +1,7 @@
 ghost use Rattle.std.specs.Prelude.{◌≡◌, IsTrue, ◌∷◌, [], ◌++◌, ◌≤◌, ◌-◌, length, take, drop, IfOk, OnOk, IsErrOf};
 ghost use Rattle.outside.specs.Causes.{Rose, RoseOnce, Asks};
 ghost use Rattle.outside.specs.Tray.{KeepsTray};
-ghost use Rattle.outside.specs.Reading.{TakesFront, TakesAtMost, TakesFew};
+ghost use Rattle.outside.specs.Reading.{TakesPrefix, TakesAtMost, TakesFew};
 
 use crate::tray::{Failed, Tray};
 use lists::list::List;
@@ -31,7 +31,7 @@ pub fn read_file<T: Tray>(
     ensures keeps { KeepsTray (T.state tray.old) (T.state tray.new) }
     ensures asked { Asks (T.state tray.old).asked (T.state tray.new).asked (name.now ∷ []) }
     ensures taken { IfOk result (λ bytes. IsTrue (T.state tray.old).tells →
-        TakesFront name.now most (T.state tray.old) (T.state tray.new) bytes) }
+        TakesPrefix name.now most (T.state tray.old) (T.state tray.new) bytes) }
     ensures few { IsTrue (T.state tray.new).begun → IsTrue (T.state tray.old).tells →
         TakesFew name.now most (T.state tray.old) (T.state tray.new) }
     ensures well { OnOk result ((T.state tray.new).faults ≡ (T.state tray.old).faults) }

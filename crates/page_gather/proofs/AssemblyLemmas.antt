@@ -22,7 +22,8 @@ use Rattle.pgm_plates.specs.Plates.{IsPlate}
 use Rattle.job_reader.specs.InRange.{IsJob}
 use Rattle.page_gather.specs.Assembly.{CanAssemble, CanAssemblePlanes, parts_of_planes, detail_of, ink_of, ink_or, plain_ink, zone_for}
 
-plane_ok : (plate : Plate) → IsPlate plate → IsPlane (plane_of plate)
+-- the plane of a plate in range is in range
+pub plane_ok : (plate : Plate) → IsPlate plate → IsPlane (plane_of plate)
 plane_ok plate is = record {
   some_width = is.width.0;
   narrow = is.width.1;
@@ -44,10 +45,10 @@ found_ok : (details : List Ink) (name : List ℕ) → All IsInk details → (o :
 found_ok details name all None is = record { some_density = omega arith; most_density = omega arith }
 found_ok details name all (Some ink) is = picked details _ ink all (sym (find_at (λ (i : Ink). bytes_eq i.name name) details) ∙ is)
 
-ink_ok : (details : List Ink) (name : List ℕ) → All IsInk details → IsInk (ink_of details name)
+pub ink_ok : (details : List Ink) (name : List ℕ) → All IsInk details → IsInk (ink_of details name)
 ink_ok details name all = found_ok details name all (detail_of details name) refl
 
-zone_ok : (names : List (List ℕ)) (zone : Zone) → IsZone zone → IsZone (zone_for names zone)
+pub zone_ok : (names : List (List ℕ)) (zone : Zone) → IsZone zone → IsZone (zone_for names zone)
 zone_ok names zone is = record {
   params = is.params;
   path = is.path;
@@ -57,7 +58,7 @@ zone_ok names zone is = record {
   };
 }
 
-first_zone : (names : List (List ℕ)) (zones : List Zone) → 1 ≤ length zones → get_or (map (zone_for names) zones) 0 no_zone ≡ zone_for names (get_or zones 0 no_zone)
+pub first_zone : (names : List (List ℕ)) (zones : List Zone) → 1 ≤ length zones → get_or (map (zone_for names) zones) 0 no_zone ≡ zone_for names (get_or zones 0 no_zone)
 first_zone names [] some = absurd (omega arith)
 first_zone names (zone ∷ zones) some = refl
 
@@ -65,7 +66,7 @@ same_lengths : (names : List (List ℕ)) (zones : List Zone) → map (λ (z : Zo
 same_lengths names [] = refl
 same_lengths names (zone ∷ zones) = ap (λ (ns : List ℕ). length zone.path ∷ ns) (same_lengths names zones)
 
-sum_by-zones : (names : List (List ℕ)) (zones : List Zone) → sum_by (λ (z : Zone). length z.path) (map (zone_for names) zones) ≡ sum_by (λ (z : Zone). length z.path) zones
+pub sum_by-zones : (names : List (List ℕ)) (zones : List Zone) → sum_by (λ (z : Zone). length z.path) (map (zone_for names) zones) ≡ sum_by (λ (z : Zone). length z.path) zones
 sum_by-zones names zones = sym (sum-map (λ (z : Zone). length z.path) (map (zone_for names) zones)) ∙ ap sum (same_lengths names zones) ∙ sum-map (λ (z : Zone). length z.path) zones
 
 pub is_parts : (job : Job) (planes : List Plane) (names : List (List ℕ)) → IsJob job → CanAssemblePlanes planes names → IsParts (parts_of_planes job planes names)

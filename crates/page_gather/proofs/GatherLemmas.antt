@@ -1,9 +1,9 @@
 -- The page of a job and plates that are read.
 use Rattle.std.proofs.Common.{◌≡◌, ◌⊎◌, ℕ, ◌<◌, ◌≤◌, ◌+◌, List, [], ◌∷◌, ◌++◌, length, map, take, Option, Some, None, Result, Ok, Err, IsTrue, inl, inr, refl, sym, ap, ◌∙◌, subst, arith, suc}
 use Rattle.std.specs.Result.{MatchResult}
-use Rattle.outside.specs.Causes.{Asks, AsksFront}
+use Rattle.outside.specs.Causes.{Asks, AsksPrefix}
 use Rattle.outside.specs.Tray.{TrayState, KeepsTray}
-use Rattle.outside.proofs.Names.{asks_then, asks_all, asks_front, asks_first}
+use Rattle.outside.proofs.Names.{asks_then, asks_all, asks_prefix, asks_first}
 use Rattle.outside.proofs.Steps.{rose_before}
 use Rattle.job_reader.specs.declared.job.Job.{Job}
 use Rattle.job_reader.specs.Jobs.{job_of}
@@ -16,8 +16,8 @@ use Rattle.page_model.specs.Faults.{page_fault}
 use Rattle.page_model.specs.Page.{plates}
 use Rattle.pgm_plates.specs.Planes.{plane_of}
 use Rattle.std.proofs.lemmas.List.{length-map}
-use Rattle.trap_report.specs.declared.refusal.Refusal.{Refusal}
-use Rattle.trap_report.specs.declared.refusal.Refusal.TheVariants.{Usage, Job as JobRefusal, NoDetails, Plate, Page, Read, Write, Memory}
+use Rattle.refusals.specs.declared.refusal.Refusal.{Refusal}
+use Rattle.refusals.specs.declared.refusal.Refusal.TheVariants.{Usage, Job as JobRefusal, NoDetails, Plate, Page, Read, Write, Memory}
 use Rattle.page_gather.specs.Inputs.{Sources, Holds, AreRead, Inputs, Makes, one_page, read_files, name_at}
 use Rattle.page_gather.specs.Steps.{ReadsJob, AnswersJob, ReadsPlates, AnswersPlates, PassesNoFault, PlateInHand}
 use Rattle.page_gather.specs.Gathering.{Gathers, AnswersPage, InHand, ReadsPage}
@@ -38,8 +38,8 @@ answer_job source a b (Page fault) asked answer = absurd answer
 answer_job source a b (Read (Some plate)) asked answer = absurd answer
 answer_job source a b (Write file) asked answer = absurd answer
 
-one_of : (a b : Option (List (List ℕ))) (x : List ℕ) (rest : List (List ℕ)) → Asks a b (x ∷ []) → AsksFront a b (x ∷ rest)
-one_of a b x rest one = asks_front a b 1 (x ∷ rest) one
+one_of : (a b : Option (List (List ℕ))) (x : List ℕ) (rest : List (List ℕ)) → Asks a b (x ∷ []) → AsksPrefix a b (x ∷ rest)
+one_of a b x rest one = asks_prefix a b 1 (x ∷ rest) one
 
 pub job_refused : (source : Sources) (a b : TrayState) (refusal : Refusal) → ReadsJob source.job a b (Err refusal) → Gathers source a b (Err refusal)
 job_refused source a b refusal reads = record {
@@ -68,13 +68,13 @@ pub none_other : (o : Option ℕ) (parts : PageParts) (refusal : Refusal) → de
 none_other None parts refusal is = fault_alone parts (page_fault parts) refusal is
 none_other (Some plate) parts refusal is = let same : NoDetails plate ≡ refusal = cc in subst (λ (r : Refusal). NoneOther (Err r)) same tt
 
--- a front of the plates' files behind the job
+-- a prefix of the plates' files after the job
 asked_to : (source : Sources) (a b c : TrayState) (plate : ℕ) → Asks a.asked b.asked (source.job ∷ []) → Asks b.asked c.asked (take (plate + 1) source.inputs) → Asks a.asked c.asked (take (plate + 2) (read_files source))
 asked_to source a b c plate one two =
     let same : (source.job ∷ []) ++ take (plate + 1) source.inputs ≡ take (plate + 2) (read_files source) = sym (take_two source.job plate source.inputs) in
     subst (λ (l : List (List ℕ)). Asks a.asked c.asked l) same (asks_then a.asked b.asked c.asked (source.job ∷ []) (take (plate + 1) source.inputs) one two)
 
--- plates that were read behind the job, of the same tray
+-- plates that were read after the job, of the same tray
 read_before : (a b : TrayState) (names : List (List ℕ)) (count : ℕ) (plates : List PlateRead) → KeepsTray a b → AreRead one_page b.file names count plates → AreRead one_page a.file names count plates
 read_before a b names count plates keeps read = subst (λ (files : List ℕ → Option (List ℕ)). AreRead one_page files names count plates) keeps.file read
 
@@ -124,21 +124,21 @@ answer_plates source a b c job (Read None) keeps asked job_read answer = absurd 
 answer_plates source a b c job (Write file) keeps asked job_read answer = absurd answer
 
 -- the names that were handed out when a plate was refused
-front_of : (names : List (List ℕ)) (b c : TrayState) (refusal : Refusal) → AnswersPlates names b c (Err refusal) → AsksFront b.asked c.asked names
-front_of names b c (Plate plate fault) answer = asks_front b.asked c.asked (plate + 1) names answer.0.asked
-front_of names b c (Read (Some plate)) answer = asks_front b.asked c.asked (plate + 1) names answer.0.asked
-front_of names b c Memory answer = answer
-front_of names b c Usage answer = absurd answer
-front_of names b c (JobRefusal fault) answer = absurd answer
-front_of names b c (NoDetails plate) answer = absurd answer
-front_of names b c (Page fault) answer = absurd answer
-front_of names b c (Read None) answer = absurd answer
-front_of names b c (Write file) answer = absurd answer
+prefix_of : (names : List (List ℕ)) (b c : TrayState) (refusal : Refusal) → AnswersPlates names b c (Err refusal) → AsksPrefix b.asked c.asked names
+prefix_of names b c (Plate plate fault) answer = asks_prefix b.asked c.asked (plate + 1) names answer.0.asked
+prefix_of names b c (Read (Some plate)) answer = asks_prefix b.asked c.asked (plate + 1) names answer.0.asked
+prefix_of names b c Memory answer = answer
+prefix_of names b c Usage answer = absurd answer
+prefix_of names b c (JobRefusal fault) answer = absurd answer
+prefix_of names b c (NoDetails plate) answer = absurd answer
+prefix_of names b c (Page fault) answer = absurd answer
+prefix_of names b c (Read None) answer = absurd answer
+prefix_of names b c (Write file) answer = absurd answer
 
 pub plates_refused : (source : Sources) (a b c : TrayState) (job : Job) (refusal : Refusal) → 0 < length source.inputs → ReadsJob source.job a b (Ok job) → ReadsPlates source.inputs b c (Err refusal) → Gathers source a c (Err refusal)
 plates_refused source a b c job refusal some first next = record {
   keeps = kept a b c first.keeps next.keeps;
-  asked = asks_first a.asked b.asked c.asked source.job source.inputs first.asked (front_of source.inputs b c refusal next.answer);
+  asked = asks_first a.asked b.asked c.asked source.job source.inputs first.asked (prefix_of source.inputs b c refusal next.answer);
   in_hand = plate_in_hand source a b c first.keeps (next.few some);
   count = count_then (List PlateRead) PageParts a b c refusal first.count next.count;
   answer = answer_plates source a b c job refusal first.keeps first.asked first.answer.1 next.answer;
@@ -153,7 +153,7 @@ as_many : (parts page : PageParts) (o : Option PageFault) → faulted parts o �
 as_many parts page None is = let same : parts ≡ page = cc in ap plates (sym same)
 as_many parts page (Some fault) is = absurd (cc)
 
-plates_made : (o : Option ℕ) (parts page : PageParts) → detailed o parts ≡ Ok page → plates page ≡ plates parts
+pub plates_made : (o : Option ℕ) (parts page : PageParts) → detailed o parts ≡ Ok page → plates page ≡ plates parts
 plates_made None parts page is = as_many parts page (page_fault parts) is
 plates_made (Some plate) parts page is = absurd (cc)
 

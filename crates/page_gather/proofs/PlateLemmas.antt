@@ -5,7 +5,7 @@ use Rattle.std.proofs.lemmas.List.Elements.{All-append, All-cons}
 use Rattle.std.proofs.Math.Seq.{get_or-append_seam}
 use Rattle.outside.specs.Causes.{Asks}
 use Rattle.outside.specs.Tray.{TrayState, KeepsTray}
-use Rattle.outside.proofs.Names.{asks_none, asks_then, asks_front}
+use Rattle.outside.proofs.Names.{asks_none, asks_then, asks_prefix}
 use Rattle.outside.proofs.Steps.{rose_before}
 use Rattle.pgm_plates.specs.declared.plate.Plate.{Plate as PlateRead}
 use Rattle.pgm_plates.specs.declared.plate.PlateFault.{PlateFault}
@@ -15,8 +15,8 @@ use Rattle.pgm_plates.specs.Laws.{FilePlate, FileFault}
 use Rattle.pgm_plates.specs.Plates.{IsPlate, IsPlateFile}
 use Rattle.pgm_plates.specs.Faults.{IsFault}
 use Rattle.pgm_plates.specs.Reading.{ReadsPlate, KeepsCount}
-use Rattle.trap_report.specs.declared.refusal.Refusal.{Refusal}
-use Rattle.trap_report.specs.declared.refusal.Refusal.TheVariants.{Usage, Job as JobRefusal, NoDetails, Plate, Page, Read, Write, Memory}
+use Rattle.refusals.specs.declared.refusal.Refusal.{Refusal}
+use Rattle.refusals.specs.declared.refusal.Refusal.TheVariants.{Usage, Job as JobRefusal, NoDetails, Plate, Page, Read, Write, Memory}
 use Rattle.page_gather.specs.Inputs.{Spelling, Holds, AreRead, one_page, name_at, plate_at, no_plate}
 use Rattle.page_gather.specs.Steps.{ReadsOne, ReadsPlates, AnswersPlate, AnswersPlates, PassesNoFault, PlateInHand, Stops, TakesPlate, IsFaultless}
 
@@ -83,7 +83,7 @@ none_so_far names a = record {
 kept : (a b c : TrayState) → KeepsTray a b → KeepsTray b c → KeepsTray a c
 kept a b c one two = record { tells = two.tells ∙ one.tells; file = two.file ∙ one.file; faults = omega arith }
 
--- what is taken of a plate behind others, of the same files
+-- what is taken of a plate after others, of the same files
 in_hand : (names : List (List ℕ)) (k : ℕ) (a b c : TrayState) → k < length names → KeepsTray a b → TakesPlate (name_at names k) b c → PlateInHand names a c
 in_hand names k a b c within keeps few = (
   k,
@@ -95,7 +95,7 @@ in_hand names k a b c within keeps few = (
   },
 )
 
--- the count of faults behind plates that were read
+-- the count of faults after plates that were read
 pub count_then : (T U : Type 0) (a b c : TrayState) (refusal : Refusal) → b.faults ≡ a.faults → PassesNoFault {T = T} b c (Err refusal) → PassesNoFault {T = U} a c (Err refusal)
 count_then T U a b c (Read file) calm count = tt
 count_then T U a b c (Plate k (SampleAboveMaxval at)) calm count = tt
@@ -164,7 +164,7 @@ no_room names k a b c plates plate within so_far one = record {
   keeps = kept a b c so_far.keeps one.keeps;
   few = λ some. in_hand names k a b c within so_far.keeps one.few;
   count = one.count ∙ so_far.calm;
-  answer = asks_front a.asked c.asked (k + 1) names (asked_more names k a b c within so_far.asked one.asked);
+  answer = asks_prefix a.asked c.asked (k + 1) names (asked_more names k a b c within so_far.asked one.asked);
 }
 
 -- the same of an earlier tray, whose files and whose wish to tell them are the same
@@ -186,7 +186,7 @@ answer_refused names k a b c plates (Read (Some at)) within so_far keeps asked a
   rose_before a.faults b.faults c.faults so_far.keeps.faults answer.1,
   subst (λ (n : ℕ). IsFaultless (name_at names n) a c) (sym answer.0) (faultless_before a b c (name_at names k) so_far.keeps answer.2),
 )
-answer_refused names k a b c plates Memory within so_far keeps asked answer = asks_front a.asked c.asked (k + 1) names (asked_more names k a b c within so_far.asked asked)
+answer_refused names k a b c plates Memory within so_far keeps asked answer = asks_prefix a.asked c.asked (k + 1) names (asked_more names k a b c within so_far.asked asked)
 answer_refused names k a b c plates Usage within so_far keeps asked answer = absurd answer
 answer_refused names k a b c plates (JobRefusal fault) within so_far keeps asked answer = absurd answer
 answer_refused names k a b c plates (NoDetails at) within so_far keeps asked answer = absurd answer

@@ -16,8 +16,8 @@ use Rattle.page_model.specs.Faults.{page_fault}
 use Rattle.pgm_plates.specs.declared.plate.Plate.{Plate}
 use Rattle.pgm_plates.specs.Planes.{plane_of}
 use Rattle.pgm_plates.specs.Plates.{IsPlate}
-use Rattle.trap_report.specs.declared.refusal.Refusal.{Refusal}
-use Rattle.trap_report.specs.declared.refusal.Refusal.TheVariants.{NoDetails, Page}
+use Rattle.refusals.specs.declared.refusal.Refusal.{Refusal}
+use Rattle.refusals.specs.declared.refusal.Refusal.TheVariants.{NoDetails, Page}
 
 -- the details of a colorant's name, if the job has any
 abbrev pub detail_of : List Ink → List ℕ → Option Ink

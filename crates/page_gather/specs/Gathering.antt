@@ -1,7 +1,7 @@
 -- What it means to read a job and plates, and to make a page of them.
 use Rattle.std.specs.Prelude.{◌≡◌, ◌⊎◌, ℕ, ◌<◌, ◌+◌, IsTrue, List, [], ◌∷◌, length, take, Option}
 use Rattle.std.specs.Prelude.{Some, None, Result, Ok, Err}
-use Rattle.outside.specs.Causes.{Rose, Asks, AsksFront}
+use Rattle.outside.specs.Causes.{Rose, Asks, AsksPrefix}
 use Rattle.outside.specs.Tray.{TrayState, KeepsTray}
 use Rattle.job_reader.specs.declared.job.Job.{Job}
 use Rattle.job_reader.specs.Jobs.{job_of}
@@ -9,10 +9,10 @@ use Rattle.page_model.specs.declared.parts.PageParts.{PageParts}
 use Rattle.page_model.specs.Conditions.{IsPage}
 use Rattle.page_model.specs.Page.{plates}
 use Rattle.pgm_plates.specs.declared.plate.Plate.{Plate as PlateRead}
-use Rattle.trap_report.specs.declared.refusal.Refusal.{Refusal}
-use Rattle.trap_report.specs.declared.refusal.Refusal.TheVariants.{Usage, Job as JobRefusal}
-use Rattle.trap_report.specs.declared.refusal.Refusal.TheVariants.{NoDetails, Plate, Page, Read}
-use Rattle.trap_report.specs.declared.refusal.Refusal.TheVariants.{Write, Memory}
+use Rattle.refusals.specs.declared.refusal.Refusal.{Refusal}
+use Rattle.refusals.specs.declared.refusal.Refusal.TheVariants.{Usage, Job as JobRefusal}
+use Rattle.refusals.specs.declared.refusal.Refusal.TheVariants.{NoDetails, Plate, Page, Read}
+use Rattle.refusals.specs.declared.refusal.Refusal.TheVariants.{Write, Memory}
 use Rattle.page_gather.specs.Inputs.{Sources, Holds, AreRead, PlateFails, Makes, one_page}
 use Rattle.page_gather.specs.Inputs.{read_files, name_at}
 use Rattle.page_gather.specs.Steps.{IsFaultless, PassesNoFault, PlateInHand, ReadsJob, TakesJob}
@@ -32,7 +32,7 @@ abbrev pub BreaksReading : Sources → Option ℕ → TrayState → TrayState �
 BreaksReading source None before after = Unit {0}
 BreaksReading source (Some plate) before after = PlateBreaks source plate before after
 
--- the files that are begun where that refusal comes: none stands behind the one that is refused
+-- the files that are begun where that refusal comes: none stands after the one that is refused
 abbrev pub files_to : Sources → Refusal → List (List ℕ)
 files_to source (JobRefusal fault) = source.job ∷ []
 files_to source (Read None) = source.job ∷ []
@@ -76,7 +76,7 @@ InHand source before after =
 pub record Gathers (source : Sources) (before after : TrayState)
     (result : Result PageParts Refusal) : Type 0 where
   pub keeps : KeepsTray before after
-  pub asked : AsksFront before.asked after.asked (read_files source)
+  pub asked : AsksPrefix before.asked after.asked (read_files source)
   pub in_hand : InHand source before after
   pub count : PassesNoFault before after result
   pub answer : AnswersPage source before after result
@@ -91,7 +91,7 @@ abbrev pub IsMade : Sources → TrayState → PageParts → Type 0
 IsMade source tray page =
     IsPage page × (IsTrue tray.tells → Makes one_page tray.file source (Ok page))
 
--- Behind a job that was read, the rest of the page is read.
+-- After a job that was read, the rest of the page is read.
 abbrev pub GathersRest : Sources → Job → TrayState → TrayState → Result PageParts Refusal → Type 0
 GathersRest source job between after result = (before : TrayState)
     → ReadsJob source.job before between (Ok job) → Gathers source before after result

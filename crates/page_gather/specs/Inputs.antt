@@ -9,7 +9,7 @@ use Rattle.pgm_plates.specs.declared.plate.PlateFault.{PlateFault}
 use Rattle.pgm_plates.specs.Faults.{IsFault}
 use Rattle.pgm_plates.specs.Plates.{IsPlateFile}
 use Rattle.ps_tokens.specs.declared.faults.JobFault.{JobFault}
-use Rattle.trap_report.specs.declared.refusal.Refusal.{Refusal}
+use Rattle.refusals.specs.declared.refusal.Refusal.{Refusal}
 use Rattle.page_gather.specs.Assembly.{assembly}
 
 -- the job's file, and for each plate its colorant's name and its file

@@ -1,7 +1,7 @@
 -- The steps in which a page is read.
 use Rattle.std.specs.Prelude.{◌≡◌, ℕ, ◌<◌, ◌+◌, IsTrue, List, [], ◌∷◌, ◌++◌, length, take, All}
 use Rattle.std.specs.Prelude.{Some, None, Result, Ok, Err}
-use Rattle.outside.specs.Causes.{Rose, Asks, AsksFront}
+use Rattle.outside.specs.Causes.{Rose, Asks, AsksPrefix}
 use Rattle.outside.specs.Reading.{TakesFew}
 use Rattle.outside.specs.Tray.{TrayState, KeepsTray}
 use Rattle.job_reader.specs.declared.job.Job.{Job}
@@ -15,9 +15,9 @@ use Rattle.pgm_plates.specs.Plates.{IsPlate, IsPlateFile}
 use Rattle.pgm_plates.specs.Reading.{AreFew, IsTruncated}
 use Rattle.ps_tokens.specs.declared.faults.JobRefusal.{JobRefusal as JobRefusals}
 use Rattle.ps_tokens.specs.declared.faults.JobRefusal.TheVariants.{Fault, OutOfMemory}
-use Rattle.trap_report.specs.declared.refusal.Refusal.{Refusal}
-use Rattle.trap_report.specs.declared.refusal.Refusal.TheVariants.{Job as JobRefusal, Plate, Read}
-use Rattle.trap_report.specs.declared.refusal.Refusal.TheVariants.{Memory}
+use Rattle.refusals.specs.declared.refusal.Refusal.{Refusal}
+use Rattle.refusals.specs.declared.refusal.Refusal.TheVariants.{Job as JobRefusal, Plate, Read}
+use Rattle.refusals.specs.declared.refusal.Refusal.TheVariants.{Memory}
 use Rattle.page_gather.specs.Inputs.{Holds, AreRead, one_page, name_at}
 
 -- how many bytes are taken of a job at most: as many as it may have, and one
@@ -29,7 +29,7 @@ abbrev pub TakesJob : List ℕ → TrayState → TrayState → Type 0
 TakesJob name before after =
     IsTrue after.begun → IsTrue before.tells → TakesFew name most_of_job before after
 
--- Some bytes are taken off the front of the plate's file, no more than are owed.
+-- Some bytes are taken off the beginning of the plate's file, no more than are owed.
 pub record TakesPlate (name : List ℕ) (before after : TrayState) : Type 0 where
   pub bytes : List ℕ
   pub taken : IsTrue after.begun → IsTrue before.tells
@@ -62,7 +62,7 @@ pub record ReadsJob (name : List ℕ) (before after : TrayState)
   pub count : PassesNoFault before after result
   pub answer : AnswersJob name before after result
 
--- Some bytes were taken off the front of the plate's file that is in hand: but for an early end
+-- Some bytes were taken off the beginning of the plate's file that is in hand: but for an early end
 -- they have no fault.
 abbrev pub IsFaultless : List ℕ → TrayState → TrayState → Type 0
 IsFaultless name before after = IsTrue after.begun → IsTrue before.tells
@@ -106,7 +106,7 @@ AnswersPlates names before after (Err (Plate k fault)) = Stops names k before af
     × (IsTrue before.tells → Holds before.file (name_at names k) (λ bytes. IsFault bytes fault))
 AnswersPlates names before after (Err (Read (Some k))) = Stops names k before after
     × Rose before.faults after.faults × IsFaultless (name_at names k) before after
-AnswersPlates names before after (Err Memory) = AsksFront before.asked after.asked names
+AnswersPlates names before after (Err Memory) = AsksPrefix before.asked after.asked names
 AnswersPlates names before after (Err other) = ⊥
 
 -- Where a plate is in hand, no more is taken of it than is owed.

@@ -16,8 +16,8 @@ use page_model::parts::{
     DetailList, Ink, InkKind, InkList, Name, NameList, OutOfMemory, PageParts, PlaneList, ZoneList,
 };
 use pgm_plates::plate::Plate;
+use refusals::refusal::Refusal;
 use std::alloc::Global;
-use trap_report::refusal::Refusal;
 
 /// Plates, in the order of the words.
 pub type PlateList = List<Plate>;
@@ -26,7 +26,7 @@ pub type PlateList = List<Plate>;
 /// that name; each zone keeps the limits of the plates' names alone.
 ///
 /// Where some zone is enabled, the first plate without details is refused. Where none is, such a plate gets a density of
-/// 10,000 ten-thousandths and the kind Normal. Then come the faults of `Page::new`, and want of memory. A refusal hands
+/// 10,000 ten-thousandths and the kind Normal. Then come the faults of `Page::new`, and out of memory. A refusal hands
 /// nothing back. The rule is this project's own.
 pub fn assemble(
     alloc: Global,
@@ -71,8 +71,8 @@ pub fn assemble_planes(
     }
 }
 
-// The first plate whose name has no details, where some zone is enabled.
-fn without_details(job: &Job, names: &NameList) -> Option<u32>
+/// The first plate whose name has no details, where some zone is enabled.
+pub fn without_details(job: &Job, names: &NameList) -> Option<u32>
     requires { length names.now ≤ 16 }
     ensures { result ≡ plate_without job.now names.now }
 {
@@ -119,7 +119,8 @@ fn is_named(ink: &Ink, name: &[u8]) -> bool
     ink.name.as_slice() == name
 }
 
-fn parts_of(
+/// The parts that a job and planes make, in the order of the names.
+pub fn parts_of(
     alloc: Global,
     job: Job,
     planes: PlaneList,
@@ -142,7 +143,8 @@ fn parts_of(
     })
 }
 
-fn planes_of(alloc: Global, plates: PlateList) -> Result<PlaneList, OutOfMemory>
+/// The planes of these plates, each with the tints that its samples stand for.
+pub fn planes_of(alloc: Global, plates: PlateList) -> Result<PlaneList, OutOfMemory>
     requires { All IsPlate plates }
     ensures { IfOk result (λ planes. planes ≡ map plane_of plates) }
 {

@@ -10,15 +10,15 @@ use job_reader::job::Job;
 use lists::names::NameList;
 use outside::tray::Tray;
 use page_model::page::Page;
+use refusals::refusal::Refusal;
 use std::alloc::Global;
 use std::convert::AsStr;
-use trap_report::refusal::Refusal;
 
 /// Reads the job of that name and then each plate in the order of its file, to their ends, and makes the page of them. The
 /// names are those of the plates' colorants.
 ///
 /// It stops at the first refusal: a read that fails, the job's fault, a plate's fault, a plate without details, a fault of
-/// the page, or want of memory. No file is begun behind the one that is refused.
+/// the page, or out of memory. No file is begun after the one that is refused.
 pub fn gather<T: Tray, S: AsStr>(
     alloc: Global,
     tray: &mut T,
@@ -38,7 +38,7 @@ pub fn gather<T: Tray, S: AsStr>(
     }
 }
 
-// Reads the plates behind the job, and makes the page of both.
+// Reads the plates after the job, and makes the page of both.
 fn gather_plates<T: Tray, S: AsStr>(
     alloc: Global,
     tray: &mut T,

@@ -5,25 +5,25 @@ use job_reader::reader::read_job;
 use outside::reading::{ReadRefusal, read_file};
 use outside::tray::Tray;
 use ps_tokens::faults::JobRefusal;
+use refusals::refusal::Refusal;
 use std::alloc::Global;
-use trap_report::refusal::Refusal;
 
-// One byte more than a job may have.
-const MOST_JOB: u32 = 1_048_577;
+/// How many bytes of a job are read at most: one more than a job may have.
+pub const MOST_JOB: u32 = 1_048_577;
 
 /// Reads the job of that name: all of its bytes, or one more than a job may have, and never more. Its refusals are a read
-/// that fails, the job's fault, and want of memory.
+/// that fails, the job's fault, and out of memory.
 pub fn read_job_file<T: Tray>(alloc: Global, tray: &mut T, name: &str) -> Result<Job, Refusal>
     ensures { ReadsJob name.now (T.state tray.old) (T.state tray.new) result }
 {
     match read_file(alloc, tray, name, MOST_JOB) {
-        Ok(bytes) => judged(read_job(alloc, bytes.as_slice())),
+        Ok(bytes) => job_or_refusal(read_job(alloc, bytes.as_slice())),
         Err(ReadRefusal::ReadFault) => Err(Refusal::Read(None)),
         Err(ReadRefusal::OutOfMemory) => Err(Refusal::Memory),
     }
 }
 
-fn judged(read: Result<Job, JobRefusal>) -> Result<Job, Refusal>
+fn job_or_refusal(read: Result<Job, JobRefusal>) -> Result<Job, Refusal>
     ensures { Judges read result }
 {
     match read {

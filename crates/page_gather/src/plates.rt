@@ -7,12 +7,12 @@ use outside::tray::Tray;
 use pgm_plates::laws::{file_fault, file_plate};
 use pgm_plates::plate::{Plate, PlateRefusal};
 use pgm_plates::reading::read_plate;
+use refusals::refusal::Refusal;
 use std::alloc::Global;
 use std::convert::AsStr;
-use trap_report::refusal::Refusal;
 
 /// Reads the plates of these files in order, up to the first that is refused: by a read that fails, by a fault of the
-/// plate's file, or for want of memory. No file is begun behind it.
+/// plate's file, or for lack of memory. No file is begun after it.
 pub fn read_plates<T: Tray, S: AsStr>(
     alloc: Global,
     tray: &mut T,

@@ -149,6 +149,14 @@ impl Page {
         }
     }
 
+    /// What it is made of, handed back; nothing is copied.
+    pub fn into_parts(self) -> PageParts
+        ensures parts { result ≡ self }
+        ensures valid { IsPage result }
+    {
+        self.parts
+    }
+
     /// Samples in a row.
     pub fn width(&self) -> u32
         ensures value { result ≡ width self.now }

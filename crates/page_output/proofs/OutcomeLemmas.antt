@@ -7,33 +7,17 @@ use Rattle.outside.proofs.Names.{asks_none_of}
 use Rattle.page_model.specs.declared.parts.PageParts.{PageParts}
 use Rattle.page_model.specs.declared.parts.Plane.{Plane}
 use Rattle.page_model.specs.Conditions.{IsPage}
-use Rattle.page_model.specs.Counts.{page_counts, zone_samples, zone_changed, plate_changed}
-use Rattle.page_model.specs.Page.{plates}
-use Rattle.page_model.specs.Tints.{trapped_plane, trapped_planes}
+use Rattle.page_model.specs.Counts.{page_counts}
+use Rattle.page_model.specs.Tints.{trapped_planes}
 use Rattle.page_writing.specs.Files.{names_of}
 use Rattle.page_writing.specs.Writing.{WritesPage, AnswersWriting, FailsOnce, FinishesAll}
 use Rattle.page_writing.proofs.Steps.{page_names}
-use Rattle.lists.proofs.ListBelow.{length-list_below}
 use Rattle.trap_engine.specs.Receipts.{IsWholeReceipt}
-use Rattle.trap_report.specs.declared.refusal.Refusal.{Refusal}
-use Rattle.trap_report.specs.declared.refusal.Refusal.TheVariants.{Usage, Job, NoDetails, Plate, Page, Read, Write, Memory}
-use Rattle.trap_report.specs.Report.{AreCounts, report_of}
+use Rattle.refusals.specs.declared.refusal.Refusal.{Refusal}
+use Rattle.refusals.specs.declared.refusal.Refusal.TheVariants.{Usage, Job, NoDetails, Plate, Page, Read, Write, Memory}
+use Rattle.trap_report.specs.Report.{report_of}
 use Rattle.page_output.specs.Output.{AnswersPut, PutsOut}
 use Rattle.verdicts.specs.Verdicts.{Targets, outcome, written_names}
-
--- There is one count for each zone and each plate.
-pub counts_fit : (page : PageParts) → AreCounts page (page_counts page)
-unfolding page_counts
-counts_fit page = record {
-  zone_samples = length-list_below (zone_samples page) (length page.zones);
-  zone_changed = length-list_below (zone_changed page) (length page.zones);
-  plate_changed = length-list_below (plate_changed page) (plates page);
-}
-
--- A page has as many plates after trapping as before.
-pub as_many_planes : (page : PageParts) → length (trapped_planes page) ≡ plates page
-unfolding trapped_planes
-as_many_planes page = length-list_below (trapped_plane page) (plates page)
 
 -- what the answer of the writing becomes, where the page's receipt is handed out
 abbrev pub handed : Receipt → Result (Unit {0}) Refusal → Result Receipt Refusal

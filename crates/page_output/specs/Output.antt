@@ -1,14 +1,14 @@
 -- What it means to put a page out.
 use Rattle.std.specs.Prelude.{◌≡◌, ℕ, IsTrue, List, length, Result, Ok, Err}
 use Rattle.band_claims.specs.Receipt.{Receipt}
-use Rattle.outside.specs.Causes.{Asks, AsksFront}
+use Rattle.outside.specs.Causes.{Asks, AsksPrefix}
 use Rattle.outside.specs.Rack.{RackState, KeepsRack}
 use Rattle.page_model.specs.declared.parts.PageParts.{PageParts}
 use Rattle.page_model.specs.Conditions.{IsPage}
 use Rattle.page_writing.specs.Writing.{WritesAll, Breaks, FailsOnce, FinishesAll}
 use Rattle.trap_engine.specs.Receipts.{IsWholeReceipt}
-use Rattle.trap_report.specs.declared.refusal.Refusal.{Refusal}
-use Rattle.trap_report.specs.declared.refusal.Refusal.TheVariants.{Write, Memory}
+use Rattle.refusals.specs.declared.refusal.Refusal.{Refusal}
+use Rattle.refusals.specs.declared.refusal.Refusal.TheVariants.{Write, Memory}
 use Rattle.verdicts.specs.Verdicts.{Targets, outcome, written_names}
 
 -- the files of these names
@@ -33,6 +33,6 @@ pub record PutsOut (band : ℕ) (target : Targets) (page : PageParts) (before af
   pub valid : IsPage page
   pub keeps : KeepsRack before after
   pub told : IsTrue before.tells → after.told ≡ before.told
-  pub asked : AsksFront before.asked after.asked (written_names target)
+  pub asked : AsksPrefix before.asked after.asked (written_names target)
   pub answer : AnswersPut band target page before after result
   pub once : FailsOnce before after result

@@ -22,7 +22,7 @@ pub struct Outcome {
     pub receipt: Closed,
 }
 
-/// Traps a page by so many workers, in bands of so many rows, and reports what changed. The one refusal is want of memory.
+/// Traps a page by so many workers, in bands of so many rows, and reports what changed. The one refusal is out of memory.
 pub fn outcome_of<H: Threads + Sync, G: Gate + Sync>(
     rt: &H,
     alloc: Global,
@@ -40,11 +40,11 @@ pub fn outcome_of<H: Threads + Sync, G: Gate + Sync>(
     ensures receipt { IfOk result (λ o. IsWholeReceipt page.now band o.receipt) }
 {
     let (trapped, receipt) = trap_page(rt, alloc, page, workers, band, gate)?;
-    reported(alloc, page, trapped, receipt)
+    report_trapped(alloc, page, trapped, receipt)
 }
 
 // What was trapped, with the report of what changed.
-fn reported(
+fn report_trapped(
     alloc: Global,
     page: &Page,
     trapped: Trapped,

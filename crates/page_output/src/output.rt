@@ -10,10 +10,10 @@ use outside::rack::Rack;
 use page_model::laws::trapped_planes_law;
 use page_model::page::Page;
 use page_writing::writing::write_page;
+use refusals::refusal::Refusal;
 use std::alloc::Global;
 use std::convert::AsStr;
 use std::thread::Threads;
-use trap_report::refusal::Refusal;
 
 /// How a page is put out: by so many workers, from 1 to 64, in bands of so many rows, from 1 to 4,096; and the files that its
 /// plates, in their order, and its report are written into.

@@ -1,7 +1,7 @@
 -- The clauses of the top call, by how the run of the words ended.
 use Rattle.std.proofs.Common.{◌≡◌, ◌≢◌, ◌⊎◌, ℕ, suc, ◌<◌, ◌≤◌, List, [], ◌++◌, length, take, All, Option, Some, None, Result, Ok, Err, Bool, IsTrue, IsFalse, inl, inr, refl, sym, ap, ◌∙◌, subst, arith}
 use Rattle.std.proofs.lemmas.List.Elements.{All-cons}
-use Rattle.outside.specs.Causes.{Rose, RoseOnce, Asks, AsksFront}
+use Rattle.outside.specs.Causes.{Rose, RoseOnce, Asks, AsksPrefix}
 use Rattle.outside.specs.Tray.{TrayState}
 use Rattle.outside.specs.Rack.{RackState, KeepsRack}
 use Rattle.outside.proofs.Names.{asks_before, asks_none, asks_none_of}
@@ -16,28 +16,28 @@ use Rattle.page_writing.specs.Writing.{FinishesAll}
 use Rattle.page_writing.proofs.Told.{breaks_cause, file_breaks, line_after}
 use Rattle.page_run.specs.InHand.{InHand}
 use Rattle.page_run.specs.Words.{RunWords, order_of, sources_of, targets_of}
-use Rattle.traprun_verdicts.specs.declared.stop.RunStop.{RunStop}
-use Rattle.traprun_verdicts.specs.declared.stop.RunStop.TheVariants as stops
+use Rattle.traprun_verdicts.specs.declared.stop.TraprunError.{TraprunError}
+use Rattle.traprun_verdicts.specs.declared.stop.TraprunError.TheVariants as stops
 use Rattle.traprun_verdicts.specs.Pages.{run_files, run_names, run_reads, target_at}
 use Rattle.traprun_verdicts.specs.RunVerdicts.{RunVerdict, AllEnd, HasPages, IsRunVerdict, status_of_verdict}
 use Rattle.traprun_verdicts.specs.RunVerdicts.RunVerdict.{Stopped, Out}
 use Rattle.traprun_verdicts.specs.Stops.{RefusesRun, line_of_stop, status_of_stop}
 use Rattle.traprun_verdicts.proofs.RunLemmas.{one_run_verdict}
 use Rattle.traprun_verdicts.proofs.SomeRunLemmas.{some_run_verdict}
-use Rattle.trap_report.specs.declared.refusal.Refusal.TheVariants as refusals
+use Rattle.refusals.specs.declared.refusal.Refusal.TheVariants as refusals
 use Rattle.page_run.proofs.PageLemmas.{some_run_files}
-use Rattle.trap_report.specs.Refusals.{line_of}
-use Rattle.trap_report.specs.Telling.{KeepsFiles, TellsText, TellsAfterFault}
+use Rattle.refusals.specs.Refusals.{line_of}
+use Rattle.refusals.specs.Telling.{KeepsFiles, TellsText, TellsAfterFault}
 use Rattle.page_gather.specs.Inputs.{Sources, name_at}
 use Rattle.verdicts.specs.Verdicts.{IsFile, Targets, outcome}
 
 -- How a run of these words ended.
 data Ending (order : RunWords) (t t' : TrayState) (r r' : RackState) (status : ℕ) : Type 0 where
   done : status ≡ 0 → (t'.faults ≡ t.faults) × (r'.faults ≡ r.faults) → (pages : List PageParts) → Whole order t t' r r' pages → (IsTrue t.tells → HasPages t.file (sources_of order) (length pages) × AllEnd t.file (sources_of order) (length pages) (length (sources_of order).inputs)) → Asks t.asked t'.asked (run_reads (sources_of order) (suc (length pages))) → (IsTrue r.tells → r'.told ≡ r.told) → Ending order t t' r r' status
-  refused : (stop : RunStop) (pages : List PageParts) → (status ≡ 3) ⊎ (status ≡ 4) → RefusesPages order t t' r r' status stop pages → Ending order t t' r r' status
-  unread : (stop : RunStop) (pages : List PageParts) → status ≡ 5 → Rose t.faults t'.faults → status ≡ status_of_stop stop → Whole order t t' r r' pages → Asks t.asked t'.asked (stop_reads (sources_of order) (length pages) stop) → BreaksRun (sources_of order) (length pages) t t' stop → TellsText (line_of_stop stop) r r' → Ending order t t' r r' status
+  refused : (stop : TraprunError) (pages : List PageParts) → (status ≡ 3) ⊎ (status ≡ 4) → RefusesPages order t t' r r' status stop pages → Ending order t t' r r' status
+  unread : (stop : TraprunError) (pages : List PageParts) → status ≡ 5 → Rose t.faults t'.faults → status ≡ status_of_stop stop → Whole order t t' r r' pages → Asks t.asked t'.asked (stop_reads (sources_of order) (length pages) stop) → BreaksRun (sources_of order) (length pages) t t' stop → TellsText (line_of_stop stop) r r' → Ending order t t' r r' status
   unwritten : status ≡ 6 → Rose r.faults r'.faults → t'.faults ≡ t.faults → FailsToWrite order t t' r r' → Ending order t t' r r' status
-  no_memory : (pages : List PageParts) → status ≡ 7 → t'.faults ≡ t.faults → AsksFront t.asked t'.asked (run_reads (sources_of order) (suc (length pages))) → Whole order t t' r r' pages → TellsText (line_of_stop (stops.Whole refusals.Memory)) r r' → Ending order t t' r r' status
+  no_memory : (pages : List PageParts) → status ≡ 7 → t'.faults ≡ t.faults → AsksPrefix t.asked t'.asked (run_reads (sources_of order) (suc (length pages))) → Whole order t t' r r' pages → TellsText (line_of_stop (stops.Whole refusals.Memory)) r r' → Ending order t t' r r' status
 
 module _ (order : RunWords) (t t' : TrayState) (r m r' : RackState) (status : ℕ) (rack_keeps : KeepsRack r m) (told : IsTrue r.tells → m.told ≡ r.told) where
   abbrev source : Sources
@@ -46,12 +46,10 @@ module _ (order : RunWords) (t t' : TrayState) (r m r' : RackState) (status : �
   abbrev target : Targets
   target = targets_of order
 
-  -- a stop's line, seen from the rack as it was at first
-  line_from : (text : List ℕ) → TellsText text m r' → TellsText text r r'
-  line_from text line tells = elim (line (rack_keeps.tells ∙ tells)) [
-    | inl whole ↦ inl (whole ∙ ap (λ (x : List ℕ). x ++ text) (told tells))
-    | inr part ↦ inr (rose_before r.faults m.faults r'.faults rack_keeps.faults part.0, (part.1.0, part.1.1 ∙ ap (λ (x : List ℕ). x ++ take part.1.0 text) (told tells)))
-  ]
+  -- a stop's line, seen from the rack as it was at first, where no call failed before it
+  line_from : (text : List ℕ) → m.faults ≡ r.faults → TellsText text m r' → TellsText text r r'
+  line_from text calm (inl whole) = inl (whole.0 ∙ calm, λ tells. whole.1 (rack_keeps.tells ∙ tells) ∙ ap (λ (x : List ℕ). x ++ text) (told tells))
+  line_from text calm (inr part) = inr (subst (λ (n : ℕ). RoseOnce n r'.faults) calm part.0, λ tells. (let cut = part.1 (rack_keeps.tells ∙ tells) in (cut.0, cut.1 ∙ ap (λ (x : List ℕ). x ++ take cut.0 text) (told tells))))
 
   line_after_write : (text : List ℕ) → RoseOnce r.faults m.faults → TellsText text m r' → TellsAfterFault text r r'
   line_after_write text once line = line_after text r m r' told rack_keeps.tells once line
@@ -86,11 +84,11 @@ module _ (order : RunWords) (t t' : TrayState) (r m r' : RackState) (status : �
     in_hand = in_hand;
   }
 
-  closes_err : (result : Result (Unit {0}) RunStop) (stop : RunStop) → result ≡ Err stop → Closes result m r' status → RefusesRun stop m r' status
-  closes_err result stop is closed = subst (λ (x : Result (Unit {0}) RunStop). Closes x m r' status) is closed
+  closes_err : (result : Result (Unit {0}) TraprunError) (stop : TraprunError) → result ≡ Err stop → Closes result m r' status → RefusesRun stop m r' status
+  closes_err result stop is closed = subst (λ (x : Result (Unit {0}) TraprunError). Closes x m r' status) is closed
 
-  closes_ok : (result : Result (Unit {0}) RunStop) → result ≡ Ok tt → Closes result m r' status → (r' ≡ m) × (status ≡ 0)
-  closes_ok result is closed = subst (λ (x : Result (Unit {0}) RunStop). Closes x m r' status) is closed
+  closes_ok : (result : Result (Unit {0}) TraprunError) → result ≡ Ok tt → Closes result m r' status → (r' ≡ m) × (status ≡ 0)
+  closes_ok result is closed = subst (λ (x : Result (Unit {0}) TraprunError). Closes x m r' status) is closed
 
   ended_done : (pages : List PageParts) (u : TrayState) → Written source target t u r m pages → InHand source (length pages) t t' → t'.faults ≡ t.faults → Asks t.asked t'.asked (run_reads source (suc (length pages))) → (IsTrue t.tells → HasPages t.file source (length pages) × AllEnd t.file source (length pages) (length source.inputs)) → (r' ≡ m) × (status ≡ 0) → Ending order t t' r r' status
   ended_done pages u written in_hand calm asked ended closed =
@@ -99,16 +97,16 @@ module _ (order : RunWords) (t t' : TrayState) (r m r' : RackState) (status : �
       (record { valid = written.valid; made = written.made; files = subst (λ (x : RackState). IsTrue r.tells → x.file ≡ put_all (run_files target pages) r.file) same written.wrote.whole; shut = λ some. subst (λ (x : RackState). IsFalse x.is_open) same (written.wrote.shut (some_run_files target pages some)); created = subst (λ (x : RackState). Asks r.asked x.asked (run_names target (length pages))) same written.created; finished = subst (λ (x : RackState). FinishesAll (run_names target (length pages)) r x) same written.finished; in_hand = in_hand })
       ended asked (subst (λ (x : RackState). IsTrue r.tells → x.told ≡ r.told) same told)
 
-  ending_of : (result : Result (Unit {0}) RunStop) → AnswersRun source target t t' r m result → Closes result m r' status → Ending order t t' r r' status
+  ending_of : (result : Result (Unit {0}) TraprunError) → AnswersRun source target t t' r m result → Closes result m r' status → Ending order t t' r r' status
   ending_of result (AnswersRun.not_begun is same_tray same) closed =
       let refuses = closes_err result (stops.Whole refusals.Memory) is closed in
-      no_memory [] refuses.status_is (ap (λ (x : TrayState). x.faults) same_tray) (subst (λ (x : TrayState). AsksFront t.asked x.asked (run_reads source 1)) (sym same_tray) (asks_none_of t.asked (run_reads source 1))) (whole_none same (inr (inl same_tray)) refuses.files) (line_from _ refuses.line)
+      no_memory [] refuses.status_is (ap (λ (x : TrayState). x.faults) same_tray) (subst (λ (x : TrayState). AsksPrefix t.asked x.asked (run_reads source 1)) (sym same_tray) (asks_none_of t.asked (run_reads source 1))) (whole_none same (inr (inl same_tray)) refuses.files) (line_from _ (ap (λ (x : RackState). x.faults) same) refuses.line)
   ending_of result (AnswersRun.unread_job is same rose asked few) closed =
       let refuses = closes_err result (stops.Whole (refusals.Read None)) is closed in
-      unread (stops.Whole (refusals.Read None)) [] refuses.status_is rose refuses.status_is (whole_none same (inl few) refuses.files) asked refl (line_from _ refuses.line)
+      unread (stops.Whole (refusals.Read None)) [] refuses.status_is rose refuses.status_is (whole_none same (inl few) refuses.files) asked refl (line_from _ (ap (λ (x : RackState). x.faults) same) refuses.line)
   ending_of result (AnswersRun.no_job_memory is same calm asked few) closed =
       let refuses = closes_err result (stops.Whole refusals.Memory) is closed in
-      no_memory [] refuses.status_is calm (asks_before t.asked t'.asked (run_reads source 0) source.inputs asked) (whole_none same (inl few) refuses.files) (line_from _ refuses.line)
+      no_memory [] refuses.status_is calm (asks_before t.asked t'.asked (run_reads source 0) source.inputs asked) (whole_none same (inl few) refuses.files) (line_from _ (ap (λ (x : RackState). x.faults) same) refuses.line)
   ending_of result (AnswersRun.done pages u is written calm asked ended in_hand) closed = ended_done pages u written in_hand calm asked ended (closes_ok result is closed)
   ending_of result (AnswersRun.refused pages u stop is which written place count asked verdict in_hand) closed =
       let refuses = closes_err result stop is closed in
@@ -119,11 +117,11 @@ module _ (order : RunWords) (t t' : TrayState) (r m r' : RackState) (status : �
         place = place;
         begun = asked;
         count = count;
-        line = line_from _ refuses.line;
+        line = line_from _ written.wrote.well refuses.line;
       })
   ending_of result (AnswersRun.unread pages u stop is five written rose asked breaks in_hand) closed =
       let refuses = closes_err result stop is closed in
-      unread stop pages (refuses.status_is ∙ five) rose refuses.status_is (whole_then u pages written in_hand refuses.files) asked breaks (line_from _ refuses.line)
+      unread stop pages (refuses.status_is ∙ five) rose refuses.status_is (whole_then u pages written in_hand refuses.files) asked breaks (line_from _ written.wrote.well refuses.line)
   ending_of result (AnswersRun.unwritten pages u mid page file is written keeps wrote_keeps calm asked valid made breaks created once in_hand) closed =
       let refuses = closes_err result (stops.AtPage (length pages) (refusals.Write file)) is closed in
       let cause = breaks_cause (length target.outputs) (outcome (target_at target (length pages)) page) file mid m breaks in
@@ -146,7 +144,7 @@ module _ (order : RunWords) (t t' : TrayState) (r m r' : RackState) (status : �
       })
   ending_of result (AnswersRun.no_memory pages u is written calm asked in_hand) closed =
       let refuses = closes_err result (stops.Whole refusals.Memory) is closed in
-      no_memory pages refuses.status_is calm asked (whole_then u pages written in_hand refuses.files) (line_from _ refuses.line)
+      no_memory pages refuses.status_is calm asked (whole_then u pages written in_hand refuses.files) (line_from _ written.wrote.well refuses.line)
 
 module _ (words : List (List ℕ)) (t t' : TrayState) (r r' : RackState) (status : ℕ) where
   abbrev EndingOf : RunWords → Type 0
@@ -172,7 +170,7 @@ module _ (words : List (List ℕ)) (t t' : TrayState) (r r' : RackState) (status
     pub read : status ≡ 5 → Rose t.faults t'.faults
     pub wrote : status ≡ 6 → Rose r.faults r'.faults
     pub still : (status ≡ 6) ⊎ (status ≡ 7) → t'.faults ≡ t.faults
-    pub line : status ≢ 0 → status ≢ 6 → (stop : RunStop) × (status ≡ status_of_stop stop) × TellsText (line_of_stop stop) r r'
+    pub line : status ≢ 0 → status ≢ 6 → (stop : TraprunError) × (status ≡ status_of_stop stop) × TellsText (line_of_stop stop) r r'
     pub memory : status ≡ 7 → TellsText (line_of refusals.Memory) r r'
 
   statuses_of : (order : RunWords) → EndingOf order → Statuses order
@@ -275,7 +273,7 @@ module _ (words : List (List ℕ)) (t t' : TrayState) (r r' : RackState) (status
     files = λ none. (usage_always ended none).3.files;
   }
 
-  only_by : (order : RunWords) → EndingOf order → (status ≡ 3) ⊎ (status ≡ 4) → (stop : RunStop) × (pages : List PageParts) × RefusesPages order t t' r r' status stop pages
+  only_by : (order : RunWords) → EndingOf order → (status ≡ 3) ⊎ (status ≡ 4) → (stop : TraprunError) × (pages : List PageParts) × RefusesPages order t t' r r' status stop pages
   only_by order (refused stop pages which says) s = (stop, pages, says)
   only_by order (done is calm pages whole ended begun told) (inl s) = absurd (omega arith)
   only_by order (done is calm pages whole ended begun told) (inr s) = absurd (omega arith)
@@ -289,7 +287,7 @@ module _ (words : List (List ℕ)) (t t' : TrayState) (r r' : RackState) (status
   one_verdict : (order : RunWords) (v w : RunVerdict) → IsRunVerdict t.file (sources_of order) (targets_of order) v → IsRunVerdict t.file (sources_of order) (targets_of order) w → v ≡ w
   one_verdict order v w a b = one_run_verdict t.file (sources_of order) (targets_of order) v w a b
 
-  always_by : (order : RunWords) (stop : RunStop) → EndingOf order → IsTrue t.tells → IsRunVerdict t.file (sources_of order) (targets_of order) (Stopped stop) → ¬ Rose t.faults t'.faults → ¬ Rose r.faults r'.faults → (status ≡ status_of_stop stop) ⊎ (status ≡ 7)
+  always_by : (order : RunWords) (stop : TraprunError) → EndingOf order → IsTrue t.tells → IsRunVerdict t.file (sources_of order) (targets_of order) (Stopped stop) → ¬ Rose t.faults t'.faults → ¬ Rose r.faults r'.faults → (status ≡ status_of_stop stop) ⊎ (status ≡ 7)
   always_by order stop (done is calm pages whole ended begun told) tells judged still_tray still =
       let d : EveryPage order t t' r r' = every_page order pages whole ended begun told in
       let same : Out (run_files (targets_of order) pages) ≡ Stopped stop = one_verdict order (Out (run_files (targets_of order) pages)) (Stopped stop) (out_of order d tells) judged in
@@ -349,7 +347,7 @@ module _ (words : List (List ℕ)) (t t' : TrayState) (r r' : RackState) (status
     breaks = λ order means s. broken_by order (order_ending order means ended) s;
   }
 
-  kept : (order : RunWords) (pages : List PageParts) → Whole order t t' r r' pages → (status ≡ 7 → AsksFront t.asked t'.asked (run_reads (sources_of order) (suc (length pages)))) → KeepsPages order t t' r r' status
+  kept : (order : RunWords) (pages : List PageParts) → Whole order t t' r r' pages → (status ≡ 7 → AsksPrefix t.asked t'.asked (run_reads (sources_of order) (suc (length pages)))) → KeepsPages order t t' r r' status
   kept order pages whole begun = record { pages = pages; whole = whole; begun = begun }
 
   left_by : (order : RunWords) → EndingOf order → status ≢ 6 → KeepsPages order t t' r r' status
@@ -363,7 +361,7 @@ module _ (words : List (List ℕ)) (t t' : TrayState) (r r' : RackState) (status
   pub leaves_pages : EndsWords words t t' r r' status → LeavesPages words t t' r r' status
   leaves_pages ended order means other = left_by order (order_ending order means ended) other
 
-  line_by : EndsWords words t t' r r' status → status ≢ 0 → status ≢ 2 → status ≢ 6 → (stop : RunStop) × (status ≡ status_of_stop stop) × TellsText (line_of_stop stop) r r'
+  line_by : EndsWords words t t' r r' status → status ≢ 0 → status ≢ 2 → status ≢ 6 → (stop : TraprunError) × (status ≡ status_of_stop stop) × TellsText (line_of_stop stop) r r'
   line_by (EndsWords.no_run none same refuses) some words_mean other = absurd (words_mean refuses.status_is)
   line_by (EndsWords.run order also ended) some words_mean other = (statuses_of order (ending order ended)).line some other
 

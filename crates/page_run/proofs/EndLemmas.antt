@@ -2,7 +2,7 @@
 use Rattle.std.proofs.Common.{◌≡◌, ℕ, ◌<◌, ◌+◌, List, [], ◌∷◌, length, take, Option, Some, None, Result, Ok, Err, IsTrue, inr, refl, ◌∙◌, below_more}
 use Rattle.outside.specs.Causes.{Asks}
 use Rattle.outside.specs.Tray.{TrayState, KeepsTray}
-use Rattle.outside.proofs.Names.{asks_front}
+use Rattle.outside.proofs.Names.{asks_prefix}
 use Rattle.outside.proofs.Steps.{kept_tray, rose_before}
 use Rattle.page_gather.specs.Inputs.{Holds, name_at}
 use Rattle.page_gather.proofs.PlateLemmas.{held_before}
@@ -14,10 +14,10 @@ use Rattle.page_run.specs.InHand.{MayHold, TakesImage}
 use Rattle.page_run.specs.Reading.{AnswersEnds, AnswersOneEnd, EndStops, ExpectsOneEnd, ExpectsEnd}
 use Rattle.page_run.specs.Reading.{AnswersEnds as all, AnswersOneEnd as one}
 use Rattle.page_run.proofs.ImageLemmas.{asked_more, count_then, fault_count, has_fault, has_image, has_none, held_from, takes_image, unbroken, unbroken_before}
-use Rattle.traprun_verdicts.specs.declared.stop.RunStop.{RunStop}
-use Rattle.traprun_verdicts.specs.declared.stop.RunStop.TheVariants.{Whole, Extra}
+use Rattle.traprun_verdicts.specs.declared.stop.TraprunError.{TraprunError}
+use Rattle.traprun_verdicts.specs.declared.stop.TraprunError.TheVariants.{Whole, Extra}
 use Rattle.traprun_verdicts.specs.Images.{HasImage, HasImageFault, HasNoImage}
-use Rattle.trap_report.specs.declared.refusal.Refusal.TheVariants.{Plate, Read, Memory}
+use Rattle.refusals.specs.declared.refusal.Refusal.TheVariants.{Plate, Read, Memory}
 
 pub look_ended : (k plate : ℕ) (name : List ℕ) (a b : TrayState) → ReadsPage name k a b (Ok None) → ExpectsOneEnd k plate name a b (Ok tt)
 look_ended k plate name a b reads = record { keeps = reads.keeps; asked = reads.asked; takes = takes_image name k a b _ reads; answer = one.ended refl reads.count (has_none name k a b reads) }
@@ -61,10 +61,10 @@ module _ (pages : ℕ) (names : List (List ℕ)) (k : ℕ) (a b c : TrayState) (
     calm = calm ∙ looked.calm;
     ended = λ tells. below_more (λ (p : ℕ). Holds a.file (name_at names p) (HasNoImage pages)) k (looked.ended tells) (held_before a b (name_at names k) (HasNoImage pages) looked.keeps held tells);
   }
-  more_by asked keeps takes (one.extra is calm held) = absurd (let e : ◌≡◌ {A = Result (Unit {0}) RunStop} (Ok tt) (Err (Extra k)) = is in cc)
-  more_by asked keeps takes (one.fails fault is count held) = absurd (let e : ◌≡◌ {A = Result (Unit {0}) RunStop} (Ok tt) (Err (Whole (Plate k fault))) = is in cc)
-  more_by asked keeps takes (one.unread is rose held) = absurd (let e : ◌≡◌ {A = Result (Unit {0}) RunStop} (Ok tt) (Err (Whole (Read (Some k)))) = is in cc)
-  more_by asked keeps takes (one.no_memory is calm) = absurd (let e : ◌≡◌ {A = Result (Unit {0}) RunStop} (Ok tt) (Err (Whole Memory)) = is in cc)
+  more_by asked keeps takes (one.extra is calm held) = absurd (let e : ◌≡◌ {A = Result (Unit {0}) TraprunError} (Ok tt) (Err (Extra k)) = is in cc)
+  more_by asked keeps takes (one.fails fault is count held) = absurd (let e : ◌≡◌ {A = Result (Unit {0}) TraprunError} (Ok tt) (Err (Whole (Plate k fault))) = is in cc)
+  more_by asked keeps takes (one.unread is rose held) = absurd (let e : ◌≡◌ {A = Result (Unit {0}) TraprunError} (Ok tt) (Err (Whole (Read (Some k)))) = is in cc)
+  more_by asked keeps takes (one.no_memory is calm) = absurd (let e : ◌≡◌ {A = Result (Unit {0}) TraprunError} (Ok tt) (Err (Whole Memory)) = is in cc)
 
   pub more_looked : ExpectsOneEnd pages k (name_at names k) b c (Ok tt) → EndedSoFar pages names (k + 1) a c
   more_looked looks = more_by looks.asked looks.keeps looks.takes looks.answer
@@ -72,12 +72,12 @@ module _ (pages : ℕ) (names : List (List ℕ)) (k : ℕ) (a b c : TrayState) (
   stops : Asks b.asked c.asked (name_at names k ∷ []) → EndStops pages names k a c
   stops asked = record { known = within; asked = asked_more names k a b c within looked.asked asked; ended = looked.ended }
 
-  stopped_by : (stop : RunStop) → Asks b.asked c.asked (name_at names k ∷ []) → AnswersOneEnd pages k (name_at names k) b c (Err stop) → AnswersEnds pages names a c (Err stop)
-  stopped_by stop asked (one.ended is calm held) = absurd (let e : ◌≡◌ {A = Result (Unit {0}) RunStop} (Err stop) (Ok tt) = is in cc)
+  stopped_by : (stop : TraprunError) → Asks b.asked c.asked (name_at names k ∷ []) → AnswersOneEnd pages k (name_at names k) b c (Err stop) → AnswersEnds pages names a c (Err stop)
+  stopped_by stop asked (one.ended is calm held) = absurd (let e : ◌≡◌ {A = Result (Unit {0}) TraprunError} (Err stop) (Ok tt) = is in cc)
   stopped_by stop asked (one.extra is calm held) = all.extra k is (calm ∙ looked.calm) (stops asked) (held_before a b (name_at names k) (λ bytes. (another : PlateRead) × HasImage pages bytes another) looked.keeps held)
   stopped_by stop asked (one.fails fault is count held) = all.fails k fault is (count_then a b c fault looked.calm count) (stops asked) (held_before a b (name_at names k) (λ bytes. HasImageFault pages bytes fault) looked.keeps held)
   stopped_by stop asked (one.unread is rose held) = all.unread k is (rose_before a.faults b.faults c.faults looked.keeps.faults rose) (stops asked) (unbroken_before pages a b c (name_at names k) looked.keeps held)
-  stopped_by stop asked (one.no_memory is calm) = all.no_memory is (calm ∙ looked.calm) (asks_front a.asked c.asked (k + 1) names (asked_more names k a b c within looked.asked asked))
+  stopped_by stop asked (one.no_memory is calm) = all.no_memory is (calm ∙ looked.calm) (asks_prefix a.asked c.asked (k + 1) names (asked_more names k a b c within looked.asked asked))
 
-  pub look_stopped : (stop : RunStop) → ExpectsOneEnd pages k (name_at names k) b c (Err stop) → ExpectsEnd pages names a c (Err stop)
+  pub look_stopped : (stop : TraprunError) → ExpectsOneEnd pages k (name_at names k) b c (Err stop) → ExpectsEnd pages names a c (Err stop)
   look_stopped stop looks = record { keeps = kept_tray a b c looked.keeps looks.keeps; in_hand = in_hand_by looks.takes; answer = stopped_by stop looks.asked looks.answer }

@@ -1,18 +1,17 @@
 -- One page of a run: its job, the images of its plates, and what these make.
-use Rattle.std.proofs.Common.{◌≡◌, ◌⊎◌, ℕ, ◌≤◌, List, length, Option, Some, None, Result, Ok, Err, IsTrue, inl, inr, refl, sym, ap, ◌∙◌, subst, arith}
+use Rattle.std.proofs.Common.{◌≡◌, ◌⊎◌, ℕ, ◌≤◌, List, length, Some, Result, Ok, Err, IsTrue, inl, inr, refl, sym, ap, ◌∙◌, subst, arith}
 use Rattle.std.proofs.lemmas.List.{length-map}
 use Rattle.outside.specs.Causes.{Asks}
 use Rattle.outside.specs.Tray.{TrayState}
 use Rattle.outside.proofs.Names.{asks_all, asks_none, asks_none_of}
 use Rattle.job_reader.specs.declared.job.Job.{Job as JobRead}
-use Rattle.page_gather.specs.Assembly.{CanAssemble, assembly, assembled, detailed, faulted, without_details}
+use Rattle.page_gather.proofs.GatherLemmas.{plates_made}
+use Rattle.page_gather.specs.Assembly.{CanAssemble, assembly, assembled, without_details}
 use Rattle.page_gather.specs.Inputs.{Sources, Holds, AreRead, Makes}
 use Rattle.page_gather.specs.Steps.{PassesNoFault}
 use Rattle.page_gather.proofs.GatherLemmas.{NoneOther, none_other}
 use Rattle.job_pages.specs.Runs.{page_job_of}
-use Rattle.page_model.specs.declared.page.PageFault.{PageFault}
 use Rattle.page_model.specs.declared.parts.PageParts.{PageParts}
-use Rattle.page_model.specs.Faults.{page_fault}
 use Rattle.page_model.specs.Page.{plates}
 use Rattle.pgm_plates.specs.declared.plate.Plate.{Plate as PlateRead}
 use Rattle.pgm_plates.specs.declared.plate.PlateFault.{PlateFault}
@@ -28,14 +27,14 @@ use Rattle.page_run.specs.Gathering.{GathersPage, IsJobOf, StopsPage, job_stop}
 use Rattle.page_run.specs.Gathering.{StopsPage as stops}
 use Rattle.page_run.specs.Reading.{AnswersImages, ReadsImages}
 use Rattle.page_run.specs.Reading.{AnswersImages as all}
-use Rattle.traprun_verdicts.specs.declared.stop.RunStop.{RunStop}
-use Rattle.traprun_verdicts.specs.declared.stop.RunStop.TheVariants.{Whole, AtPage, Ends}
+use Rattle.traprun_verdicts.specs.declared.stop.TraprunError.{TraprunError}
+use Rattle.traprun_verdicts.specs.declared.stop.TraprunError.TheVariants.{Whole, AtPage, Ends}
 use Rattle.traprun_verdicts.specs.Images.{page_spelling}
 use Rattle.traprun_verdicts.specs.Stops.{stop_at}
-use Rattle.trap_report.specs.declared.refusal.Refusal.{Refusal}
-use Rattle.trap_report.specs.declared.refusal.Refusal.TheVariants.{Usage, Job, NoDetails, Plate, Page, Read, Write, Memory}
+use Rattle.refusals.specs.declared.refusal.Refusal.{Refusal}
+use Rattle.refusals.specs.declared.refusal.Refusal.TheVariants.{Usage, Job, NoDetails, Plate, Page, Read, Write, Memory}
 
-err_stop : {T : Type 0} → (s t : RunStop) → ◌≡◌ {A = Result T RunStop} (Err s) (Err t) → s ≡ t
+err_stop : {T : Type 0} → (s t : TraprunError) → ◌≡◌ {A = Result T TraprunError} (Err s) (Err t) → s ≡ t
 err_stop s t e = cc
 
 -- the count of faults where a plate is refused
@@ -48,15 +47,6 @@ plate_count k a b (TooManySamples at) count = count
 plate_count k a b (MaxvalRange at) count = count
 plate_count k a b (Truncated at) count = count
 plate_count k a b (TrailingBytes at) count = count
-
--- a page has as many plates as were put together
-as_many : (parts page : PageParts) (o : Option PageFault) → faulted parts o ≡ Ok page → plates page ≡ plates parts
-as_many parts page None is = let same : parts ≡ page = cc in ap plates (sym same)
-as_many parts page (Some fault) is = absurd (cc)
-
-plates_made : (o : Option ℕ) (parts page : PageParts) → detailed o parts ≡ Ok page → plates page ≡ plates parts
-plates_made None parts page is = as_many parts page (page_fault parts) is
-plates_made (Some plate) parts page is = absurd (cc)
 
 module _ (source : Sources) (bytes : List ℕ) (k : ℕ) (a b : TrayState) where
   -- the job of page k is refused, before a plate is read
@@ -85,8 +75,8 @@ module _ (source : Sources) (bytes : List ℕ) (k : ℕ) (a b : TrayState) where
     job_read : IsJobOf source bytes a → IsTrue a.tells → Holds a.file source.job (λ all. (page_spelling k).job all ≡ Ok job)
     job_read known tells = (bytes, known tells, given)
 
-    stopped_by : (stop : RunStop) → IsJobOf source bytes a → AnswersImages k source.inputs a b (Err stop) → StopsPage source k a b stop
-    stopped_by stop known (all.read ps is count ok calm asked read) = absurd (let e : ◌≡◌ {A = Result (List PlateRead) RunStop} (Err stop) (Ok ps) = is in cc)
+    stopped_by : (stop : TraprunError) → IsJobOf source bytes a → AnswersImages k source.inputs a b (Err stop) → StopsPage source k a b stop
+    stopped_by stop known (all.read ps is count ok calm asked read) = absurd (let e : ◌≡◌ {A = Result (List PlateRead) TraprunError} (Err stop) (Ok ps) = is in cc)
     stopped_by stop known (all.ends plate is calm at held) =
         stops.ends plate (err_stop stop (Ends k plate) is) calm at.asked
         (λ tells. record { job = job; plates = at.plates; job_read = job_read known tells; before = at.before_it tells; known = at.known; ended = held tells })
@@ -99,7 +89,7 @@ module _ (source : Sources) (bytes : List ℕ) (k : ℕ) (a b : TrayState) where
     stopped_by stop known (all.no_memory is calm asked) = stops.no_memory (err_stop stop (Whole Memory) is) calm asked
 
     -- an image is refused
-    pub images_refused : (stop : RunStop) → ReadsImages k source.inputs a b (Err stop) → GathersPage source bytes k a b (Err stop)
+    pub images_refused : (stop : TraprunError) → ReadsImages k source.inputs a b (Err stop) → GathersPage source bytes k a b (Err stop)
     images_refused stop reads = record { keeps = reads.keeps; in_hand = reads.in_hand; count = tt; answer = λ known. stopped_by stop known reads.answer }
 
     -- the images that were read
@@ -111,12 +101,12 @@ module _ (source : Sources) (bytes : List ℕ) (k : ℕ) (a b : TrayState) where
 
     all_read : (read : List PlateRead) → AnswersImages k source.inputs a b (Ok read) → AllRead read
     all_read read (all.read ps is count ok calm asked held) =
-        let same : ps ≡ read = (let e : ◌≡◌ {A = Result (List PlateRead) RunStop} (Ok read) (Ok ps) = is in cc) in
+        let same : ps ≡ read = (let e : ◌≡◌ {A = Result (List PlateRead) TraprunError} (Ok read) (Ok ps) = is in cc) in
         subst AllRead same (record { count = count; calm = calm; asked = asked; held = held })
-    all_read read (all.ends plate is calm at held) = absurd (let e : ◌≡◌ {A = Result (List PlateRead) RunStop} (Ok read) (Err (Ends k plate)) = is in cc)
-    all_read read (all.fails plate fault is count at held) = absurd (let e : ◌≡◌ {A = Result (List PlateRead) RunStop} (Ok read) (Err (AtPage k (Plate plate fault))) = is in cc)
-    all_read read (all.unread plate is rose at held) = absurd (let e : ◌≡◌ {A = Result (List PlateRead) RunStop} (Ok read) (Err (AtPage k (Read (Some plate)))) = is in cc)
-    all_read read (all.no_memory is calm asked) = absurd (let e : ◌≡◌ {A = Result (List PlateRead) RunStop} (Ok read) (Err (Whole Memory)) = is in cc)
+    all_read read (all.ends plate is calm at held) = absurd (let e : ◌≡◌ {A = Result (List PlateRead) TraprunError} (Ok read) (Err (Ends k plate)) = is in cc)
+    all_read read (all.fails plate fault is count at held) = absurd (let e : ◌≡◌ {A = Result (List PlateRead) TraprunError} (Ok read) (Err (AtPage k (Plate plate fault))) = is in cc)
+    all_read read (all.unread plate is rose at held) = absurd (let e : ◌≡◌ {A = Result (List PlateRead) TraprunError} (Ok read) (Err (AtPage k (Read (Some plate)))) = is in cc)
+    all_read read (all.no_memory is calm asked) = absurd (let e : ◌≡◌ {A = Result (List PlateRead) TraprunError} (Ok read) (Err (Whole Memory)) = is in cc)
 
     makes : (read : List PlateRead) (made : Result PageParts Refusal) → IsJobOf source bytes a → AllRead read → assembly job read source.names ≡ made → IsTrue a.tells → Makes (page_spelling k) a.file source made
     makes read made known reads is tells = (job, read, record { job_read = job_read known tells; plates_read = reads.held tells }, is)
@@ -139,22 +129,22 @@ module _ (source : Sources) (bytes : List ℕ) (k : ℕ) (a b : TrayState) where
     refused_by read (Write file) known every other is = absurd other
 
     -- what the job and the images make is refused, or there was no memory
-    pub page_refused : (read : List PlateRead) (refusal : Refusal) (stop : RunStop) → stop ≡ stop_at k refusal → ReadsImages k source.inputs a b (Ok read) → (refusal ≡ Memory) ⊎ (assembly job read source.names ≡ Err refusal) → GathersPage source bytes k a b (Err stop)
+    pub page_refused : (read : List PlateRead) (refusal : Refusal) (stop : TraprunError) → stop ≡ stop_at k refusal → ReadsImages k source.inputs a b (Ok read) → (refusal ≡ Memory) ⊎ (assembly job read source.names ≡ Err refusal) → GathersPage source bytes k a b (Err stop)
     page_refused read refusal stop same reads (inl memory) =
         let every = all_read read reads.answer in
         record { keeps = reads.keeps; in_hand = reads.in_hand; count = tt; answer = λ known. stops.no_memory (same ∙ ap (stop_at k) memory) every.calm (asks_all a.asked b.asked source.inputs every.asked) }
     page_refused read refusal stop same reads (inr is) =
         let every = all_read read reads.answer in
-        record { keeps = reads.keeps; in_hand = reads.in_hand; count = tt; answer = λ known. subst (λ (s : RunStop). StopsPage source k a b s) (sym same) (refused_by read refusal known every (none_other (without_details job source.names) (assembled job read source.names) refusal is) is) }
+        record { keeps = reads.keeps; in_hand = reads.in_hand; count = tt; answer = λ known. subst (λ (s : TraprunError). StopsPage source k a b s) (sym same) (refused_by read refusal known every (none_other (without_details job source.names) (assembled job read source.names) refusal is) is) }
 
 can_by : (k : ℕ) (inputs names : List (List ℕ)) (a b : TrayState) (read : List PlateRead) → 1 ≤ length inputs → length inputs ≤ 16 → length names ≡ length inputs → AnswersImages k inputs a b (Ok read) → CanAssemble read names
 can_by k inputs names a b read some few named (all.read ps is count ok calm asked held) =
-    let same : ps ≡ read = (let e : ◌≡◌ {A = Result (List PlateRead) RunStop} (Ok read) (Ok ps) = is in cc) in
+    let same : ps ≡ read = (let e : ◌≡◌ {A = Result (List PlateRead) TraprunError} (Ok read) (Ok ps) = is in cc) in
     subst (λ (x : List PlateRead). CanAssemble x names) same (record { some = omega (arith, count); few = omega (arith, count); named = named ∙ sym count; in_range = ok })
-can_by k inputs names a b read some few named (all.ends plate is calm at held) = absurd (let e : ◌≡◌ {A = Result (List PlateRead) RunStop} (Ok read) (Err (Ends k plate)) = is in cc)
-can_by k inputs names a b read some few named (all.fails plate fault is count at held) = absurd (let e : ◌≡◌ {A = Result (List PlateRead) RunStop} (Ok read) (Err (AtPage k (Plate plate fault))) = is in cc)
-can_by k inputs names a b read some few named (all.unread plate is rose at held) = absurd (let e : ◌≡◌ {A = Result (List PlateRead) RunStop} (Ok read) (Err (AtPage k (Read (Some plate)))) = is in cc)
-can_by k inputs names a b read some few named (all.no_memory is calm asked) = absurd (let e : ◌≡◌ {A = Result (List PlateRead) RunStop} (Ok read) (Err (Whole Memory)) = is in cc)
+can_by k inputs names a b read some few named (all.ends plate is calm at held) = absurd (let e : ◌≡◌ {A = Result (List PlateRead) TraprunError} (Ok read) (Err (Ends k plate)) = is in cc)
+can_by k inputs names a b read some few named (all.fails plate fault is count at held) = absurd (let e : ◌≡◌ {A = Result (List PlateRead) TraprunError} (Ok read) (Err (AtPage k (Plate plate fault))) = is in cc)
+can_by k inputs names a b read some few named (all.unread plate is rose at held) = absurd (let e : ◌≡◌ {A = Result (List PlateRead) TraprunError} (Ok read) (Err (AtPage k (Read (Some plate)))) = is in cc)
+can_by k inputs names a b read some few named (all.no_memory is calm asked) = absurd (let e : ◌≡◌ {A = Result (List PlateRead) TraprunError} (Ok read) (Err (Whole Memory)) = is in cc)
 
 -- images that were read can be put together with as many names
 pub can_assemble : (k : ℕ) (inputs names : List (List ℕ)) (a b : TrayState) (read : List PlateRead) → 1 ≤ length inputs → length inputs ≤ 16 → length names ≡ length inputs → ReadsImages k inputs a b (Ok read) → CanAssemble read names

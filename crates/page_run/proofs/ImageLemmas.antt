@@ -4,7 +4,7 @@ use Rattle.std.proofs.lemmas.List.{append_assoc, append-nil, get_or-map, take_al
 use Rattle.std.proofs.lemmas.List.Elements.{All-append, All-cons}
 use Rattle.outside.specs.Causes.{Asks}
 use Rattle.outside.specs.Tray.{TrayState, KeepsTray}
-use Rattle.outside.proofs.Names.{asks_none, asks_then, asks_front}
+use Rattle.outside.proofs.Names.{asks_none, asks_then, asks_prefix}
 use Rattle.outside.proofs.Steps.{kept_tray, rose_before}
 use Rattle.page_gather.specs.Inputs.{Holds, AreRead, name_at}
 use Rattle.page_gather.proofs.PlateLemmas.{held_before, read_more}
@@ -15,25 +15,25 @@ use Rattle.pgm_plates.specs.declared.plate.PlateRefusal.{PlateRefusal}
 use Rattle.pgm_plates.specs.declared.plate.PlateRefusal.TheVariants.{Fault, ReadFault}
 use Rattle.pgm_plates.specs.Plates.{IsPlate}
 use Rattle.pgm_plates.specs.Reading.{KeepsCount}
-use Rattle.pgm_plates.specs.Sequences.{IsSequence, ReadsPage, StandsBehind}
+use Rattle.pgm_plates.specs.Sequences.{IsSequence, ReadsPage, StandsAfter}
 use Rattle.pgm_plates.proofs.Facts.{fault_stays}
 use Rattle.page_run.specs.InHand.{MayHold, PlateInHand, TakesImage}
 use Rattle.page_run.specs.Reading.{AnswersImages, AnswersOneImage, IsUnbroken, ReadsImages, ReadsOneImage, StopsAt}
 use Rattle.page_run.specs.Reading.{AnswersImages as all, AnswersOneImage as one}
-use Rattle.traprun_verdicts.specs.declared.stop.RunStop.{RunStop}
-use Rattle.traprun_verdicts.specs.declared.stop.RunStop.TheVariants.{Whole, AtPage, Ends}
+use Rattle.traprun_verdicts.specs.declared.stop.TraprunError.{TraprunError}
+use Rattle.traprun_verdicts.specs.declared.stop.TraprunError.TheVariants.{Whole, AtPage, Ends}
 use Rattle.traprun_verdicts.specs.Images.{HasImage, HasImageFault, HasNoImage, page_spelling}
-use Rattle.traprun_verdicts.proofs.PrefixLemmas.{cut_or_not}
-use Rattle.trap_report.specs.declared.refusal.Refusal.TheVariants.{Plate, Read, Memory}
+use Rattle.pgm_plates.proofs.Facts.{cut_or_not}
+use Rattle.refusals.specs.declared.refusal.Refusal.TheVariants.{Plate, Read, Memory}
 
 -- what stands after plate files, where more is left of the file
-abbrev longer : (bytes image left : List ℕ) (k : ℕ) → StandsBehind bytes k image → StandsBehind (bytes ++ left) k (image ++ left)
+abbrev longer : (bytes image left : List ℕ) (k : ℕ) → StandsAfter bytes k image → StandsAfter (bytes ++ left) k (image ++ left)
 longer bytes image left k s = record {
-  front = s.front;
+  prefix = s.prefix;
   plates = s.plates;
   sequence = s.sequence;
   few = s.few;
-  whole = ap (λ (z : List ℕ). z ++ left) s.whole ∙ append_assoc s.front image left;
+  whole = ap (λ (z : List ℕ). z ++ left) s.whole ∙ append_assoc s.prefix image left;
 }
 
 all_taken : (file : Option (List ℕ)) (bytes left : List ℕ) → file ≡ Some (bytes ++ left) → left ≡ [] → file ≡ Some bytes
@@ -47,7 +47,7 @@ module _ (name : List ℕ) (k : ℕ) (a b : TrayState) where
     record {
       image = reads.answer.1;
       later = b.left;
-      front = longer reads.bytes reads.answer.1 b.left k reads.answer.2;
+      prefix = longer reads.bytes reads.answer.1 b.left k reads.answer.2;
       counted = reads.answer.3;
       is_image = reads.answer.4;
     },
@@ -59,10 +59,10 @@ module _ (name : List ℕ) (k : ℕ) (a b : TrayState) where
   pub has_none : ReadsPage name k a b (Ok None) → IsTrue a.tells → Holds a.file name (HasNoImage k)
   has_none reads tells =
       let s = reads.answer.1 in
-      let front : s.front ≡ reads.bytes = sym (s.whole ∙ append-nil s.front) in (
+      let prefix : s.prefix ≡ reads.bytes = sym (s.whole ∙ append-nil s.prefix) in (
         reads.bytes,
         all_taken (a.file name) reads.bytes b.left (reads.taken reads.answer.0 tells) (reads.answer.2 tells),
-        (s.plates, subst (λ (x : List ℕ). IsSequence x s.plates) front s.sequence, s.few),
+        (s.plates, subst (λ (x : List ℕ). IsSequence x s.plates) prefix s.sequence, s.few),
       )
 
   pub has_fault : (fault : PlateFault) → ReadsPage name k a b (Err (Fault fault)) → IsTrue a.tells → Holds a.file name (λ bytes. HasImageFault k bytes fault)
@@ -72,14 +72,14 @@ module _ (name : List ℕ) (k : ℕ) (a b : TrayState) where
         | inl cut ↦ (
           reads.bytes,
           all_taken (a.file name) reads.bytes b.left (reads.taken answer.0 tells) (answer.7 cut tells),
-          record { image = answer.1; front = answer.2; found = answer.3; is_fault = answer.4; of_image = answer.5; place = answer.6 },
+          record { image = answer.1; prefix = answer.2; found = answer.3; is_fault = answer.4; of_image = answer.5; place = answer.6 },
         )
         | inr whole ↦ (
           reads.bytes ++ b.left,
           reads.taken answer.0 tells,
           record {
             image = answer.1 ++ b.left;
-            front = longer reads.bytes answer.1 b.left k answer.2;
+            prefix = longer reads.bytes answer.1 b.left k answer.2;
             found = answer.3;
             is_fault = fault_stays answer.1 b.left answer.3 whole answer.4;
             of_image = answer.5;
@@ -186,8 +186,8 @@ input_of inputs k d within = sym (get_or-map (λ (f : Bor (List ℕ)). f.now) in
 pub at_input : (inputs : List (Bor (List ℕ))) (k : ℕ) (d : Bor (List ℕ)) (Fact : List ℕ → Type 0) → k < length inputs → Fact (get_or inputs k d).now → Fact (name_at (map (λ (f : Bor (List ℕ)). f.now) inputs) k)
 at_input inputs k d Fact within here = subst Fact (input_of inputs k d within) here
 
-err_same : {T U : Type 0} → (s t : RunStop) → ◌≡◌ {A = Result T RunStop} (Err s) (Err t) → ◌≡◌ {A = Result U RunStop} (Err s) (Err t)
-err_same s t e = let same : s ≡ t = cc in ap (λ (x : RunStop). Err x) same
+err_same : {T U : Type 0} → (s t : TraprunError) → ◌≡◌ {A = Result T TraprunError} (Err s) (Err t) → ◌≡◌ {A = Result U TraprunError} (Err s) (Err t)
+err_same s t e = let same : s ≡ t = cc in ap (λ (x : TraprunError). Err x) same
 
 module _ (page : ℕ) (names : List (List ℕ)) (k : ℕ) (a b c : TrayState) (plates : List PlateRead) (within : k < length names) (so_far : SoFar page names k a b plates) where
   in_hand_by : TakesImage page (name_at names k) b c → MayHold names page a c
@@ -195,7 +195,7 @@ module _ (page : ℕ) (names : List (List ℕ)) (k : ℕ) (a b c : TrayState) (p
 
   more_by : (plate : PlateRead) → Asks b.asked c.asked (name_at names k ∷ []) → KeepsTray b c → TakesImage page (name_at names k) b c → AnswersOneImage page k (name_at names k) b c (Ok plate) → SoFar page names (k + 1) a c (plates ++ plate ∷ [])
   more_by plate asked keeps takes (one.read image is ok calm held) =
-      let same : image ≡ plate = (let e : ◌≡◌ {A = Result PlateRead RunStop} (Ok plate) (Ok image) = is in cc) in
+      let same : image ≡ plate = (let e : ◌≡◌ {A = Result PlateRead TraprunError} (Ok plate) (Ok image) = is in cc) in
       record {
         keeps = kept_tray a b c so_far.keeps keeps;
         in_hand = in_hand_by takes;
@@ -205,10 +205,10 @@ module _ (page : ℕ) (names : List (List ℕ)) (k : ℕ) (a b c : TrayState) (p
         calm = calm ∙ so_far.calm;
         read = λ tells. read_more (page_spelling page) a.file names k plates plate (so_far.read tells) (held_before a b (name_at names k) (λ bytes. HasImage page bytes plate) so_far.keeps (λ there. subst (λ (p : PlateRead). Holds b.file (name_at names k) (λ bytes. HasImage page bytes p)) same (held there)) tells);
       }
-  more_by plate asked keeps takes (one.ends is calm held) = absurd (let e : ◌≡◌ {A = Result PlateRead RunStop} (Ok plate) (Err (Ends page k)) = is in cc)
-  more_by plate asked keeps takes (one.fails fault is count held) = absurd (let e : ◌≡◌ {A = Result PlateRead RunStop} (Ok plate) (Err (AtPage page (Plate k fault))) = is in cc)
-  more_by plate asked keeps takes (one.unread is rose held) = absurd (let e : ◌≡◌ {A = Result PlateRead RunStop} (Ok plate) (Err (AtPage page (Read (Some k)))) = is in cc)
-  more_by plate asked keeps takes (one.no_memory is calm) = absurd (let e : ◌≡◌ {A = Result PlateRead RunStop} (Ok plate) (Err (Whole Memory)) = is in cc)
+  more_by plate asked keeps takes (one.ends is calm held) = absurd (let e : ◌≡◌ {A = Result PlateRead TraprunError} (Ok plate) (Err (Ends page k)) = is in cc)
+  more_by plate asked keeps takes (one.fails fault is count held) = absurd (let e : ◌≡◌ {A = Result PlateRead TraprunError} (Ok plate) (Err (AtPage page (Plate k fault))) = is in cc)
+  more_by plate asked keeps takes (one.unread is rose held) = absurd (let e : ◌≡◌ {A = Result PlateRead TraprunError} (Ok plate) (Err (AtPage page (Read (Some k)))) = is in cc)
+  more_by plate asked keeps takes (one.no_memory is calm) = absurd (let e : ◌≡◌ {A = Result PlateRead TraprunError} (Ok plate) (Err (Whole Memory)) = is in cc)
 
   pub more_so_far : (plate : PlateRead) → ReadsOneImage page k (name_at names k) b c (Ok plate) → SoFar page names (k + 1) a c (plates ++ plate ∷ [])
   more_so_far plate reads = more_by plate reads.asked reads.keeps reads.takes reads.answer
@@ -216,20 +216,20 @@ module _ (page : ℕ) (names : List (List ℕ)) (k : ℕ) (a b c : TrayState) (p
   stops : Asks b.asked c.asked (name_at names k ∷ []) → StopsAt page names k a c
   stops asked = record { known = within; asked = asked_more names k a b c within so_far.asked asked; plates = plates; before_it = so_far.read }
 
-  stopped_by : (stop : RunStop) → Asks b.asked c.asked (name_at names k ∷ []) → KeepsTray b c → AnswersOneImage page k (name_at names k) b c (Err stop) → AnswersImages page names a c (Err stop)
-  stopped_by stop asked keeps (one.read image is ok calm held) = absurd (let e : ◌≡◌ {A = Result PlateRead RunStop} (Err stop) (Ok image) = is in cc)
+  stopped_by : (stop : TraprunError) → Asks b.asked c.asked (name_at names k ∷ []) → KeepsTray b c → AnswersOneImage page k (name_at names k) b c (Err stop) → AnswersImages page names a c (Err stop)
+  stopped_by stop asked keeps (one.read image is ok calm held) = absurd (let e : ◌≡◌ {A = Result PlateRead TraprunError} (Err stop) (Ok image) = is in cc)
   stopped_by stop asked keeps (one.ends is calm held) = all.ends k (err_same stop (Ends page k) is) (calm ∙ so_far.calm) (stops asked) (held_before a b (name_at names k) (HasNoImage page) so_far.keeps held)
   stopped_by stop asked keeps (one.fails fault is count held) = all.fails k fault (err_same stop (AtPage page (Plate k fault)) is) (count_then a b c fault so_far.calm count) (stops asked) (held_before a b (name_at names k) (λ bytes. HasImageFault page bytes fault) so_far.keeps held)
   stopped_by stop asked keeps (one.unread is rose held) = all.unread k (err_same stop (AtPage page (Read (Some k))) is) (rose_before a.faults b.faults c.faults so_far.keeps.faults rose) (stops asked) (unbroken_before page a b c (name_at names k) so_far.keeps held)
-  stopped_by stop asked keeps (one.no_memory is calm) = all.no_memory (err_same stop (Whole Memory) is) (calm ∙ so_far.calm) (asks_front a.asked c.asked (k + 1) names (asked_more names k a b c within so_far.asked asked))
+  stopped_by stop asked keeps (one.no_memory is calm) = all.no_memory (err_same stop (Whole Memory) is) (calm ∙ so_far.calm) (asks_prefix a.asked c.asked (k + 1) names (asked_more names k a b c within so_far.asked asked))
 
-  pub images_stopped : (stop : RunStop) → ReadsOneImage page k (name_at names k) b c (Err stop) → ReadsImages page names a c (Err stop)
+  pub images_stopped : (stop : TraprunError) → ReadsOneImage page k (name_at names k) b c (Err stop) → ReadsImages page names a c (Err stop)
   images_stopped stop reads = record { keeps = kept_tray a b c so_far.keeps reads.keeps; in_hand = in_hand_by reads.takes; answer = stopped_by stop reads.asked reads.keeps reads.answer }
 
   pub no_room : (plate : PlateRead) → ReadsOneImage page k (name_at names k) b c (Ok plate) → ReadsImages page names a c (Err (Whole Memory))
   no_room plate reads =
       let more = more_so_far plate reads in
-      record { keeps = more.keeps; in_hand = more.in_hand; answer = all.no_memory refl more.calm (asks_front a.asked c.asked (k + 1) names more.asked) }
+      record { keeps = more.keeps; in_hand = more.in_hand; answer = all.no_memory refl more.calm (asks_prefix a.asked c.asked (k + 1) names more.asked) }
 
 -- all of them are read
 pub all_read : (page : ℕ) (names : List (List ℕ)) (k : ℕ) (a b : TrayState) (plates : List PlateRead) → k ≡ length names → SoFar page names k a b plates → ReadsImages page names a b (Ok plates)

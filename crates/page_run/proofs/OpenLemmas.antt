@@ -9,10 +9,10 @@ use Rattle.page_run.specs.Reading.{AnswersRunJob, ReadsRunJob}
 use Rattle.page_run.specs.Reading.{AnswersRunJob as answers}
 use Rattle.plain_words.specs.Plates.{inputs_of}
 use Rattle.page_run.specs.declared.gather.OpenJob.{OpenJob}
-use Rattle.traprun_verdicts.specs.declared.stop.RunStop.{RunStop}
-use Rattle.traprun_verdicts.specs.declared.stop.RunStop.TheVariants.{Whole, TooManyPages}
+use Rattle.traprun_verdicts.specs.declared.stop.TraprunError.{TraprunError}
+use Rattle.traprun_verdicts.specs.declared.stop.TraprunError.TheVariants.{Whole, TooManyPages}
 use Rattle.traprun_verdicts.specs.Pages.{pages_of}
-use Rattle.trap_report.specs.declared.refusal.Refusal.TheVariants.{Job, Read, Memory}
+use Rattle.refusals.specs.declared.refusal.Refusal.TheVariants.{Job, Read, Memory}
 
 -- there are as many files as plates, and as many names
 pub as_many_plates : (held : OpenJob) → length (order_in held.order.now).plates ≡ length held.order.now.plates.now
@@ -30,7 +30,7 @@ as_many_names held is = ap (λ (l : List (List ℕ)). length l) is.names ∙ len
 module _ (run : OpenJob) (a b : TrayState) (is : IsOpenJob run) where
   held_by : ReadsRunJob run.order.now.job.now a b (Ok run.job) → AnswersRunJob run.order.now.job.now a b (Ok run.job) → OpensJob run.order.now a b (Ok run)
   held_by reads (answers.read bytes count same has calm found) =
-      let one : bytes ≡ run.job = (let e : ◌≡◌ {A = Result (List ℕ) RunStop} (Ok run.job) (Ok bytes) = same in cc) in
+      let one : bytes ≡ run.job = (let e : ◌≡◌ {A = Result (List ℕ) TraprunError} (Ok run.job) (Ok bytes) = same in cc) in
       OpensJob.opened run refl is refl (record {
         count = count;
         has = subst (λ (x : List ℕ). pages_of x ≡ Ok count) one has;
@@ -40,10 +40,10 @@ module _ (run : OpenJob) (a b : TrayState) (is : IsOpenJob run) where
         few = reads.few;
         known = λ tells. found tells ∙ ap (λ (x : List ℕ). Some x) one;
       })
-  held_by reads (answers.refused fault same calm held) = absurd (let e : ◌≡◌ {A = Result (List ℕ) RunStop} (Ok run.job) (Err (Whole (Job fault))) = same in cc)
-  held_by reads (answers.too_many at same calm held) = absurd (let e : ◌≡◌ {A = Result (List ℕ) RunStop} (Ok run.job) (Err (TooManyPages at)) = same in cc)
-  held_by reads (answers.unread same rose) = absurd (let e : ◌≡◌ {A = Result (List ℕ) RunStop} (Ok run.job) (Err (Whole (Read None))) = same in cc)
-  held_by reads (answers.no_memory same calm) = absurd (let e : ◌≡◌ {A = Result (List ℕ) RunStop} (Ok run.job) (Err (Whole Memory)) = same in cc)
+  held_by reads (answers.refused fault same calm held) = absurd (let e : ◌≡◌ {A = Result (List ℕ) TraprunError} (Ok run.job) (Err (Whole (Job fault))) = same in cc)
+  held_by reads (answers.too_many at same calm held) = absurd (let e : ◌≡◌ {A = Result (List ℕ) TraprunError} (Ok run.job) (Err (TooManyPages at)) = same in cc)
+  held_by reads (answers.unread same rose) = absurd (let e : ◌≡◌ {A = Result (List ℕ) TraprunError} (Ok run.job) (Err (Whole (Read None))) = same in cc)
+  held_by reads (answers.no_memory same calm) = absurd (let e : ◌≡◌ {A = Result (List ℕ) TraprunError} (Ok run.job) (Err (Whole Memory)) = same in cc)
 
   pub run_held : ReadsRunJob run.order.now.job.now a b (Ok run.job) → OpensJob run.order.now a b (Ok run)
   run_held reads = held_by reads reads.answer

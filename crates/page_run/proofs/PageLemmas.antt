@@ -4,7 +4,7 @@ use Rattle.std.proofs.Math.Seq.{take-append-add}
 use Rattle.std.proofs.lemmas.List.{append_assoc, length-append, map-append}
 use Rattle.std.proofs.lemmas.Option.{same_Some}
 use Rattle.std.proofs.lemmas.List.Elements.{All-cons}
-use Rattle.outside.specs.Causes.{Asks, AsksFront}
+use Rattle.outside.specs.Causes.{Asks, AsksPrefix}
 use Rattle.outside.specs.Tray.{TrayState, KeepsTray}
 use Rattle.outside.specs.Rack.{RackState, KeepsRack, put}
 use Rattle.outside.proofs.Names.{asks_none, asks_then}
@@ -24,12 +24,12 @@ use Rattle.page_writing.proofs.Steps.{wrote_none}
 use Rattle.page_run.specs.Gathering.{IsJobOf, IsPageMade, StopsPage}
 use Rattle.page_run.specs.InHand.{InHand, MayHold}
 use Rattle.page_run.proofs.ImageLemmas.{unbroken_before}
-use Rattle.traprun_verdicts.specs.declared.stop.RunStop.{RunStop}
-use Rattle.traprun_verdicts.specs.declared.stop.RunStop.TheVariants.{AtPage, Ends}
+use Rattle.traprun_verdicts.specs.declared.stop.TraprunError.{TraprunError}
+use Rattle.traprun_verdicts.specs.declared.stop.TraprunError.TheVariants.{AtPage, Ends}
 use Rattle.traprun_verdicts.specs.Images.{page_spelling}
 use Rattle.traprun_verdicts.specs.Pages.{AreMade, pages_of, run_files, run_names, run_reads, target_at}
 use Rattle.traprun_verdicts.specs.RunVerdicts.{ComesTo, PlateEnds}
-use Rattle.trap_report.specs.declared.refusal.Refusal.TheVariants.{Read, Write}
+use Rattle.refusals.specs.declared.refusal.Refusal.TheVariants.{Read, Write}
 use Rattle.trap_report.specs.Report.{report_of}
 use Rattle.verdicts.specs.Verdicts.{Targets, IsVerdict, Refused, outcome, written_names}
 
@@ -38,10 +38,10 @@ put_both [] more held = refl
 put_both (f ∷ fs) more held = put_both fs more (put f.name f.bytes held)
 
 -- names that were handed out, and then a prefix of others
-pub front_more : (a m b : Option (List (List ℕ))) (xs ys : List (List ℕ)) → Asks a m xs → AsksFront m b ys → AsksFront a b (xs ++ ys)
-front_more a m None xs ys one two = tt
-front_more a None (Some every) xs ys one two = absurd (let e : None ≡ Some two.0 = two.2 in cc)
-front_more a (Some mid) (Some every) xs ys one two =
+pub prefix_more : (a m b : Option (List (List ℕ))) (xs ys : List (List ℕ)) → Asks a m xs → AsksPrefix m b ys → AsksPrefix a b (xs ++ ys)
+prefix_more a m None xs ys one two = tt
+prefix_more a None (Some every) xs ys one two = absurd (let e : None ≡ Some two.0 = two.2 in cc)
+prefix_more a (Some mid) (Some every) xs ys one two =
     let same : mid ≡ two.0 = same_Some mid two.0 two.2 in
     (one.0, length xs + two.1, one.1, two.3 ∙ ap (λ (l : List (List ℕ)). l ++ take two.1 ys) (sym same ∙ one.2) ∙ append_assoc one.0 xs (take two.1 ys) ∙ ap (λ (l : List (List ℕ)). one.0 ++ l) (sym (take-append-add xs ys two.1)))
 
@@ -145,8 +145,8 @@ module _ (source : Sources) (target : Targets) (t b c : TrayState) (r r1 r2 : Ra
       };
     };
   }
-  written_by steps (AnswersStep.stopped stop is same stops) = absurd (let e : ◌≡◌ {A = Result (Unit {0}) RunStop} (Ok tt) (Err stop) = is in cc)
-  written_by steps (AnswersStep.unwritten page file is valid made breaks created once) = absurd (let e : ◌≡◌ {A = Result (Unit {0}) RunStop} (Ok tt) (Err (AtPage (length pages) (Write file))) = is in cc)
+  written_by steps (AnswersStep.stopped stop is same stops) = absurd (let e : ◌≡◌ {A = Result (Unit {0}) TraprunError} (Ok tt) (Err stop) = is in cc)
+  written_by steps (AnswersStep.unwritten page file is valid made breaks created once) = absurd (let e : ◌≡◌ {A = Result (Unit {0}) TraprunError} (Ok tt) (Err (AtPage (length pages) (Write file))) = is in cc)
 
   -- one page more
   pub one_more : Steps source target (length pages) b c r1 r2 (Ok tt) → More
@@ -156,23 +156,23 @@ module _ (source : Sources) (target : Targets) (t b c : TrayState) (r r1 r2 : Ra
     comes_to : IsTrue t.tells → ComesTo t.file source (length pages)
     comes_to tells = record { count = count; has = (bytes, known tells, has); within = within; pages = pages; number = refl; made = done.written.made tells }
 
-    stopped_by : (stop : RunStop) → r2 ≡ r1 → InHand source (length pages) t c → StopsPage source (length pages) b c stop → AnswersRun source target t c r r2 (Err stop)
+    stopped_by : (stop : TraprunError) → r2 ≡ r1 → InHand source (length pages) t c → StopsPage source (length pages) b c stop → AnswersRun source target t c r r2 (Err stop)
     stopped_by stop same in_hand (StopsPage.refused refusal is which passes asked verdict) =
-        subst (λ (s : RunStop). AnswersRun source target t c r r2 (Err s)) (sym is)
+        subst (λ (s : TraprunError). AnswersRun source target t c r r2 (Err s)) (sym is)
         (AnswersRun.refused pages b (AtPage (length pages) refusal) refl which (subst (λ (x : RackState). Written source target t b r x pages) (sym same) done.written)
         refl
         (count_then (Unit {0}) (Unit {0}) t b c refusal done.written.calm passes)
         (asked_more _ asked)
         (λ tells. (comes_to tells, from_first t b (λ files. IsVerdict (page_spelling (length pages)) files source (target_at target (length pages)) (Refused refusal)) done.tray_keeps (λ there. verdict there (target_at target (length pages))) tells)) in_hand)
     stopped_by stop same in_hand (StopsPage.ends plate is calm asked ends) =
-        subst (λ (s : RunStop). AnswersRun source target t c r r2 (Err s)) (sym is)
+        subst (λ (s : TraprunError). AnswersRun source target t c r r2 (Err s)) (sym is)
         (AnswersRun.refused pages b (Ends (length pages) plate) refl (inr refl) (subst (λ (x : RackState). Written source target t b r x pages) (sym same) done.written)
         refl
         (calm ∙ done.written.calm)
         (asked_more _ asked)
         (λ tells. (comes_to tells, from_first t b (λ files. PlateEnds files source (length pages) plate) done.tray_keeps ends tells)) in_hand)
     stopped_by stop same in_hand (StopsPage.unread plate is rose asked breaks) =
-        subst (λ (s : RunStop). AnswersRun source target t c r r2 (Err s)) (sym is)
+        subst (λ (s : TraprunError). AnswersRun source target t c r r2 (Err s)) (sym is)
         (AnswersRun.unread pages b (AtPage (length pages) (Read (Some plate))) refl refl (subst (λ (x : RackState). Written source target t b r x pages) (sym same) done.written)
         (rose_before t.faults b.faults c.faults done.tray_keeps.faults rose)
         (asked_more _ asked) (
@@ -187,19 +187,19 @@ module _ (source : Sources) (target : Targets) (t b c : TrayState) (r r1 r2 : Ra
           },
         ) in_hand)
     stopped_by stop same in_hand (StopsPage.no_memory is calm asked) =
-        subst (λ (s : RunStop). AnswersRun source target t c r r2 (Err s)) (sym is)
-        (AnswersRun.no_memory pages b refl (subst (λ (x : RackState). Written source target t b r x pages) (sym same) done.written) (calm ∙ done.written.calm) (front_more t.asked b.asked c.asked (run_reads source (length pages)) source.inputs done.written.asked asked) in_hand)
+        subst (λ (s : TraprunError). AnswersRun source target t c r r2 (Err s)) (sym is)
+        (AnswersRun.no_memory pages b refl (subst (λ (x : RackState). Written source target t b r x pages) (sym same) done.written) (calm ∙ done.written.calm) (prefix_more t.asked b.asked c.asked (run_reads source (length pages)) source.inputs done.written.asked asked) in_hand)
 
-    step_stopped : (stop : RunStop) → KeepsRack r1 r2 → InHand source (length pages) t c → AnswersStep source target (length pages) b c r1 r2 (Err stop) → AnswersRun source target t c r r2 (Err stop)
-    step_stopped stop wrote_keeps in_hand (AnswersStep.written page is valid made wrote created finished) = absurd (let e : ◌≡◌ {A = Result (Unit {0}) RunStop} (Err stop) (Ok tt) = is in cc)
+    step_stopped : (stop : TraprunError) → KeepsRack r1 r2 → InHand source (length pages) t c → AnswersStep source target (length pages) b c r1 r2 (Err stop) → AnswersRun source target t c r r2 (Err stop)
+    step_stopped stop wrote_keeps in_hand (AnswersStep.written page is valid made wrote created finished) = absurd (let e : ◌≡◌ {A = Result (Unit {0}) TraprunError} (Err stop) (Ok tt) = is in cc)
     step_stopped stop wrote_keeps in_hand (AnswersStep.stopped other is same stops) =
-        let one : other ≡ stop = (let e : ◌≡◌ {A = Result (Unit {0}) RunStop} (Err stop) (Err other) = is in cc) in
-        stopped_by stop same in_hand (subst (λ (s : RunStop). StopsPage source (length pages) b c s) one stops)
+        let one : other ≡ stop = (let e : ◌≡◌ {A = Result (Unit {0}) TraprunError} (Err stop) (Err other) = is in cc) in
+        stopped_by stop same in_hand (subst (λ (s : TraprunError). StopsPage source (length pages) b c s) one stops)
     step_stopped stop wrote_keeps in_hand (AnswersStep.unwritten page file is valid made breaks created once) =
         AnswersRun.unwritten pages b r1 page file is done.written done.rack_keeps wrote_keeps (made.calm ∙ done.written.calm) (asked_more source.inputs made.asked) valid (made_more page made) breaks created (once_before r.faults r1.faults r2.faults done.written.wrote.well once) in_hand
 
     -- the run stops at this page
-    pub run_stopped : (stop : RunStop) → Steps source target (length pages) b c r1 r2 (Err stop) → Runs source target t c r r2 (Err stop)
+    pub run_stopped : (stop : TraprunError) → Steps source target (length pages) b c r1 r2 (Err stop) → Runs source target t c r r2 (Err stop)
     run_stopped stop steps = record {
       tray_keeps = kept_tray t b c done.tray_keeps keeps;
       rack_keeps = kept_then r r1 r2 done.rack_keeps steps.rack_keeps;
@@ -218,7 +218,7 @@ module _ (source : Sources) (target : Targets) (bytes : List ℕ) (k : ℕ) (t b
       let more = one_more source target t b c r r1 r2 pages done steps.0 here in
       (more.page ∷ pages, (let e : suc (length pages) ≡ k + 1 = omega arith in e), more.more)
 
-  pub pages_stopped : (count : ℕ) (stop : RunStop) → pages_of bytes ≡ Ok count → k < count → StepsPage source target bytes k b c r1 r2 (Err stop) → Runs source target t c r r2 (Err stop)
+  pub pages_stopped : (count : ℕ) (stop : TraprunError) → pages_of bytes ≡ Ok count → k < count → StepsPage source target bytes k b c r1 r2 (Err stop) → Runs source target t c r r2 (Err stop)
   pages_stopped count stop has within steps =
       let here : Steps source target (length pages) b c r1 r2 (Err stop) = subst (λ (n : ℕ). Steps source target n b c r1 r2 (Err stop)) (sym number) (steps.1 (known_then source bytes t b done.tray_keeps known)) in
       let below : length pages < count = omega arith in

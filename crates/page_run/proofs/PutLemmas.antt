@@ -16,12 +16,12 @@ use Rattle.page_run.specs.Opened.{order_in}
 use Rattle.page_run.specs.Words.{targets_of}
 use Rattle.page_run.specs.declared.words.TraprunArgs.{TraprunArgs}
 use Rattle.page_run.specs.Gathering.{GathersPage, IsPageMade, StopsPage}
-use Rattle.traprun_verdicts.specs.declared.stop.RunStop.{RunStop}
-use Rattle.traprun_verdicts.specs.declared.stop.RunStop.TheVariants.{Whole}
+use Rattle.traprun_verdicts.specs.declared.stop.TraprunError.{TraprunError}
+use Rattle.traprun_verdicts.specs.declared.stop.TraprunError.TheVariants.{Whole}
 use Rattle.traprun_verdicts.specs.Pages.{numbered, target_at}
 use Rattle.traprun_verdicts.specs.Stops.{stop_at}
-use Rattle.trap_report.specs.declared.refusal.Refusal.{Refusal}
-use Rattle.trap_report.specs.declared.refusal.Refusal.TheVariants.{Usage, Job, NoDetails, Plate, Page, Read, Write, Memory}
+use Rattle.refusals.specs.declared.refusal.Refusal.{Refusal}
+use Rattle.refusals.specs.declared.refusal.Refusal.TheVariants.{Usage, Job, NoDetails, Plate, Page, Read, Write, Memory}
 use Rattle.verdicts.specs.Verdicts.{Targets, outcome}
 
 unchanged : (a : RackState) → KeepsRack a a
@@ -47,31 +47,31 @@ module _ (target : Targets) (k band : ℕ) (page : PageParts) (a b : RackState) 
   by_refusal (Read file) put answer = absurd answer
 
   -- they are not all written
-  pub page_not_put : (refusal : Refusal) (stop : RunStop) → stop ≡ stop_at k refusal → PutsOut band (target_at target k) page a b (Err refusal) → PutsPage target k page a b (Err stop)
+  pub page_not_put : (refusal : Refusal) (stop : TraprunError) → stop ≡ stop_at k refusal → PutsOut band (target_at target k) page a b (Err refusal) → PutsPage target k page a b (Err stop)
   page_not_put refusal stop same put = record {
     valid = put.valid;
     keeps = put.keeps;
     told = put.told;
-    answer = subst (λ (s : RunStop). AnswersPutPage target k page a b (Err s)) (sym same) (by_refusal refusal put put.answer);
+    answer = subst (λ (s : TraprunError). AnswersPutPage target k page a b (Err s)) (sym same) (by_refusal refusal put put.answer);
   }
 
 module _ (source : Sources) (target : Targets) (bytes : List ℕ) (k : ℕ) (t t' : TrayState) where
   -- the page could not be made
-  pub not_gathered : (r : RackState) (stop : RunStop) → GathersPage source bytes k t t' (Err stop) → StepsPage source target bytes k t t' r r (Err stop)
+  pub not_gathered : (r : RackState) (stop : TraprunError) → GathersPage source bytes k t t' (Err stop) → StepsPage source target bytes k t t' r r (Err stop)
   not_gathered r stop gathers = (
     gathers.keeps,
     λ known. record { rack_keeps = unchanged r; told = λ tells. refl; in_hand = gathers.in_hand; answer = AnswersStep.stopped stop refl refl (gathers.answer known) },
   )
 
   module _ (page : PageParts) (r r' : RackState) where
-    step_by : (result : Result (Unit {0}) RunStop) → IsPage page → IsPageMade source k t t' page → AnswersPutPage target k page r r' result → AnswersStep source target k t t' r r' result
+    step_by : (result : Result (Unit {0}) TraprunError) → IsPage page → IsPageMade source k t t' page → AnswersPutPage target k page r r' result → AnswersStep source target k t t' r r' result
     step_by result valid made (AnswersPutPage.written is wrote created finished) = AnswersStep.written page is valid made wrote created finished
     step_by result valid made (AnswersPutPage.unwritten file is breaks created once) = AnswersStep.unwritten page file is valid made breaks created once
     step_by result valid made (AnswersPutPage.no_memory is same) =
         AnswersStep.stopped (Whole Memory) is same (StopsPage.no_memory refl made.calm (asks_all t.asked t'.asked source.inputs made.asked))
 
     -- the page is made and put out
-    pub gathered_and_put : (result : Result (Unit {0}) RunStop) → GathersPage source bytes k t t' (Ok page) → PutsPage target k page r r' result → StepsPage source target bytes k t t' r r' result
+    pub gathered_and_put : (result : Result (Unit {0}) TraprunError) → GathersPage source bytes k t t' (Ok page) → PutsPage target k page r r' result → StepsPage source target bytes k t t' r r' result
     gathered_and_put result gathers put = (
       gathers.keeps,
       λ known. record { rack_keeps = put.keeps; told = put.told; in_hand = gathers.in_hand; answer = step_by result put.valid (gathers.answer known) put.answer },

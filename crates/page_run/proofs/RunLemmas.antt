@@ -10,7 +10,7 @@ use Rattle.page_gather.specs.Steps.{TakesJob}
 use Rattle.page_gather.proofs.PlateLemmas.{held_before}
 use Rattle.page_model.specs.declared.parts.PageParts.{PageParts}
 use Rattle.page_run.specs.Endings.{AnswersRun, PagesDone, Runs, RunsFrom}
-use Rattle.page_run.proofs.PageLemmas.{front_more, hold_more, no_page_done}
+use Rattle.page_run.proofs.PageLemmas.{prefix_more, hold_more, no_page_done}
 use Rattle.pgm_plates.specs.declared.plate.Plate.{Plate as PlateRead}
 use Rattle.job_pages.specs.declared.run.RunRefusal.{RunRefusal}
 use Rattle.job_pages.specs.Runs.{count_of}
@@ -24,12 +24,12 @@ use Rattle.page_run.proofs.GatherLemmas.{plate_count}
 use Rattle.page_run.proofs.JobLemmas.{counted}
 use Rattle.page_run.specs.Reading.{AnswersEnds, AnswersRunJob, EndStops, ExpectsEnd, ReadsRunJob}
 use Rattle.page_run.proofs.ImageLemmas.{count_then, unbroken_before}
-use Rattle.traprun_verdicts.specs.declared.stop.RunStop.{RunStop}
-use Rattle.traprun_verdicts.specs.declared.stop.RunStop.TheVariants.{Whole, TooManyPages, Extra}
+use Rattle.traprun_verdicts.specs.declared.stop.TraprunError.{TraprunError}
+use Rattle.traprun_verdicts.specs.declared.stop.TraprunError.TheVariants.{Whole, TooManyPages, Extra}
 use Rattle.traprun_verdicts.specs.Images.{HasImage, HasImageFault, HasNoImage}
 use Rattle.traprun_verdicts.specs.Pages.{pages_of, run_reads}
 use Rattle.traprun_verdicts.specs.RunVerdicts.{AllEnd, AllMade, HasPages, LooksLast}
-use Rattle.trap_report.specs.declared.refusal.Refusal.TheVariants.{Job, Plate, Read, Memory}
+use Rattle.refusals.specs.declared.refusal.Refusal.TheVariants.{Job, Plate, Read, Memory}
 use Rattle.verdicts.specs.Verdicts.{Targets}
 
 module _ (source : Sources) (target : Targets) (t b c : TrayState) (r r' : RackState) (pages : List PageParts) (done : PagesDone source target t b r r' pages) (keeps : KeepsTray b c) (bytes : List ℕ) (known : IsJobOf source bytes t) (has : pages_of bytes ≡ Ok (length pages)) where
@@ -53,7 +53,7 @@ module _ (source : Sources) (target : Targets) (t b c : TrayState) (r r' : RackS
     here = held_before t b (name_at source.inputs plate) (Fact (length pages)) done.tray_keeps here tells;
   }
 
-  answer_look : (result : Result (Unit {0}) RunStop) → InHand source (length pages) t c → AnswersEnds (length pages) source.inputs b c result → AnswersRun source target t c r r' result
+  answer_look : (result : Result (Unit {0}) TraprunError) → InHand source (length pages) t c → AnswersEnds (length pages) source.inputs b c result → AnswersRun source target t c r r' result
   answer_look result in_hand (AnswersEnds.ended is calm asked ended) =
       AnswersRun.done pages b is done.written (calm ∙ done.written.calm) (asked_more source.inputs asked) (λ tells. (has_pages tells, ended_before (length source.inputs) ended tells)) in_hand
   answer_look result in_hand (AnswersEnds.extra plate is calm at here) =
@@ -64,10 +64,10 @@ module _ (source : Sources) (target : Targets) (t b c : TrayState) (r r' : RackS
       AnswersRun.unread pages b (Whole (Read (Some plate))) is refl done.written (rose_before t.faults b.faults c.faults done.tray_keeps.faults rose) (asked_more _ at.asked)
       ((λ tells. (has_pages tells, ended_before plate at.ended tells)), unbroken_before (length pages) t b c (name_at source.inputs plate) done.tray_keeps held) in_hand
   answer_look result in_hand (AnswersEnds.no_memory is calm asked) =
-      AnswersRun.no_memory pages b is done.written (calm ∙ done.written.calm) (front_more t.asked b.asked c.asked (run_reads source (length pages)) source.inputs done.written.asked asked) in_hand
+      AnswersRun.no_memory pages b is done.written (calm ∙ done.written.calm) (prefix_more t.asked b.asked c.asked (run_reads source (length pages)) source.inputs done.written.asked asked) in_hand
 
   -- it is looked after the last page
-  pub looked : (result : Result (Unit {0}) RunStop) → ExpectsEnd (length pages) source.inputs b c result → Runs source target t c r r' result
+  pub looked : (result : Result (Unit {0}) TraprunError) → ExpectsEnd (length pages) source.inputs b c result → Runs source target t c r r' result
   looked result looks = record {
     tray_keeps = kept_tray t b c done.tray_keeps keeps;
     rack_keeps = done.rack_keeps;
@@ -76,23 +76,23 @@ module _ (source : Sources) (target : Targets) (t b c : TrayState) (r r' : RackS
   }
 
 module _ (source : Sources) (target : Targets) (t t' : TrayState) (r : RackState) where
-  answer_job : (stop : RunStop) → Asks t.asked t'.asked (source.job ∷ []) → KeepsTray t t' → TakesJob source.job t t' → AnswersRunJob source.job t t' (Err stop) → AnswersRun source target t t' r r (Err stop)
-  answer_job stop asked keeps few (AnswersRunJob.read bytes count is has calm found) = absurd (let e : ◌≡◌ {A = Result (List ℕ) RunStop} (Err stop) (Ok bytes) = is in cc)
+  answer_job : (stop : TraprunError) → Asks t.asked t'.asked (source.job ∷ []) → KeepsTray t t' → TakesJob source.job t t' → AnswersRunJob source.job t t' (Err stop) → AnswersRun source target t t' r r (Err stop)
+  answer_job stop asked keeps few (AnswersRunJob.read bytes count is has calm found) = absurd (let e : ◌≡◌ {A = Result (List ℕ) TraprunError} (Err stop) (Ok bytes) = is in cc)
   answer_job stop asked keeps few (AnswersRunJob.refused fault is calm held) =
-      let same : stop ≡ Whole (Job fault) = (let e : ◌≡◌ {A = Result (List ℕ) RunStop} (Err stop) (Err (Whole (Job fault))) = is in cc) in
-      AnswersRun.refused [] t' (Whole (Job fault)) (ap (λ (s : RunStop). Err s) same) (inl refl) (no_page_done source target t t' r keeps calm asked few).written refl calm asked held (inl few)
+      let same : stop ≡ Whole (Job fault) = (let e : ◌≡◌ {A = Result (List ℕ) TraprunError} (Err stop) (Err (Whole (Job fault))) = is in cc) in
+      AnswersRun.refused [] t' (Whole (Job fault)) (ap (λ (s : TraprunError). Err s) same) (inl refl) (no_page_done source target t t' r keeps calm asked few).written refl calm asked held (inl few)
   answer_job stop asked keeps few (AnswersRunJob.too_many at is calm held) =
-      let same : stop ≡ TooManyPages at = (let e : ◌≡◌ {A = Result (List ℕ) RunStop} (Err stop) (Err (TooManyPages at)) = is in cc) in
-      AnswersRun.refused [] t' (TooManyPages at) (ap (λ (s : RunStop). Err s) same) (inl refl) (no_page_done source target t t' r keeps calm asked few).written refl calm asked held (inl few)
+      let same : stop ≡ TooManyPages at = (let e : ◌≡◌ {A = Result (List ℕ) TraprunError} (Err stop) (Err (TooManyPages at)) = is in cc) in
+      AnswersRun.refused [] t' (TooManyPages at) (ap (λ (s : TraprunError). Err s) same) (inl refl) (no_page_done source target t t' r keeps calm asked few).written refl calm asked held (inl few)
   answer_job stop asked keeps few (AnswersRunJob.unread is rose) =
-      let same : stop ≡ Whole (Read None) = (let e : ◌≡◌ {A = Result (List ℕ) RunStop} (Err stop) (Err (Whole (Read None))) = is in cc) in
-      AnswersRun.unread_job (ap (λ (s : RunStop). Err s) same) refl rose asked few
+      let same : stop ≡ Whole (Read None) = (let e : ◌≡◌ {A = Result (List ℕ) TraprunError} (Err stop) (Err (Whole (Read None))) = is in cc) in
+      AnswersRun.unread_job (ap (λ (s : TraprunError). Err s) same) refl rose asked few
   answer_job stop asked keeps few (AnswersRunJob.no_memory is calm) =
-      let same : stop ≡ Whole Memory = (let e : ◌≡◌ {A = Result (List ℕ) RunStop} (Err stop) (Err (Whole Memory)) = is in cc) in
-      AnswersRun.no_job_memory (ap (λ (s : RunStop). Err s) same) refl calm asked few
+      let same : stop ≡ Whole Memory = (let e : ◌≡◌ {A = Result (List ℕ) TraprunError} (Err stop) (Err (Whole Memory)) = is in cc) in
+      AnswersRun.no_job_memory (ap (λ (s : TraprunError). Err s) same) refl calm asked few
 
   -- the job was not read
-  pub not_held : (stop : RunStop) → ReadsRunJob source.job t t' (Err stop) → Runs source target t t' r r (Err stop)
+  pub not_held : (stop : TraprunError) → ReadsRunJob source.job t t' (Err stop) → Runs source target t t' r r (Err stop)
   not_held stop reads = record {
     tray_keeps = reads.keeps;
     rack_keeps = record { tells = refl; faults = omega arith };
@@ -114,29 +114,29 @@ pub same_count : (bytes : List ℕ) (count n : ℕ) → pages_of bytes ≡ Ok co
 same_count bytes count n has counts = let e : ◌≡◌ {A = Result ℕ RunRefusal} (Ok n) (Ok count) = sym counts ∙ counted bytes count has in cc
 
 -- all pages are trapped, and it is looked after the last one
-pub looked_behind : (source : Sources) (target : Targets) (bytes : List ℕ) (n count : ℕ) (t b c : TrayState) (r r' : RackState) (result : Result (Unit {0}) RunStop) → n ≡ count → IsJobOf source bytes t → pages_of bytes ≡ Ok count → (every : (pages : List PageParts) × (length pages ≡ count) × PagesDone source target t b r r' pages) → ExpectsEnd n source.inputs b c result → Runs source target t c r r' result
-looked_behind source target bytes n count t b c r r' result one known has every looks =
+pub looked_after : (source : Sources) (target : Targets) (bytes : List ℕ) (n count : ℕ) (t b c : TrayState) (r r' : RackState) (result : Result (Unit {0}) TraprunError) → n ≡ count → IsJobOf source bytes t → pages_of bytes ≡ Ok count → (every : (pages : List PageParts) × (length pages ≡ count) × PagesDone source target t b r r' pages) → ExpectsEnd n source.inputs b c result → Runs source target t c r r' result
+looked_after source target bytes n count t b c r r' result one known has every looks =
     let here : ExpectsEnd (length every.0) source.inputs b c result = subst (λ (m : ℕ). ExpectsEnd m source.inputs b c result) (one ∙ sym every.1) looks in
     looked source target t b c r r' every.0 every.2 looks.keeps bytes known (has ∙ ap (λ (m : ℕ). Ok m) (sym every.1)) result here
 
 -- a run that is held is carried out
-pub carried : (order : TraprunArgs) (t b t' : TrayState) (r r' : RackState) (run : OpenJob) (result : Result (Unit {0}) RunStop) → OpensJob order t b (Ok run) → RunsFrom (sources_of (order_in run.order.now)) (targets_of (order_in run.order.now)) run.job b t' r r' result → Runs (sources_of (order_in order)) (targets_of (order_in order)) t t' r r' result
-carried order t b t' r r' run result (OpensJob.not_begun is same) runs = absurd (let e : ◌≡◌ {A = Result OpenJob RunStop} (Ok run) (Err (Whole Memory)) = is in cc)
-carried order t b t' r r' run result (OpensJob.stopped stop is reads) runs = absurd (let e : ◌≡◌ {A = Result OpenJob RunStop} (Ok run) (Err stop) = is in cc)
+pub carried : (order : TraprunArgs) (t b t' : TrayState) (r r' : RackState) (run : OpenJob) (result : Result (Unit {0}) TraprunError) → OpensJob order t b (Ok run) → RunsFrom (sources_of (order_in run.order.now)) (targets_of (order_in run.order.now)) run.job b t' r r' result → Runs (sources_of (order_in order)) (targets_of (order_in order)) t t' r r' result
+carried order t b t' r r' run result (OpensJob.not_begun is same) runs = absurd (let e : ◌≡◌ {A = Result OpenJob TraprunError} (Ok run) (Err (Whole Memory)) = is in cc)
+carried order t b t' r r' run result (OpensJob.stopped stop is reads) runs = absurd (let e : ◌≡◌ {A = Result OpenJob TraprunError} (Ok run) (Err stop) = is in cc)
 carried order t b t' r r' run result (OpensJob.opened other is held same opened) runs =
-    let one : other ≡ run = (let e : ◌≡◌ {A = Result OpenJob RunStop} (Ok run) (Ok other) = is in cc) in
+    let one : other ≡ run = (let e : ◌≡◌ {A = Result OpenJob TraprunError} (Ok run) (Ok other) = is in cc) in
     let order_is : run.order.now ≡ order = ap (λ (h : OpenJob). h.order.now) (sym one) ∙ same in
     let opened_is : JobOpened (sources_of (order_in order)) run.job t b = subst (λ (h : OpenJob). JobOpened (sources_of (order_in order)) h.job t b) one opened in
     let from : RunsFrom (sources_of (order_in order)) (targets_of (order_in order)) run.job b t' r r' result = subst (λ (o : TraprunArgs). RunsFrom (sources_of (order_in o)) (targets_of (order_in o)) run.job b t' r r' result) order_is runs in
     from t opened_is
 
 -- it is not held
-pub not_carried : (order : TraprunArgs) (t b : TrayState) (r : RackState) (stop : RunStop) → OpensJob order t b (Err stop) → Runs (sources_of (order_in order)) (targets_of (order_in order)) t b r r (Err stop)
+pub not_carried : (order : TraprunArgs) (t b : TrayState) (r : RackState) (stop : TraprunError) → OpensJob order t b (Err stop) → Runs (sources_of (order_in order)) (targets_of (order_in order)) t b r r (Err stop)
 not_carried order t b r stop (OpensJob.not_begun is same) =
-    let one : stop ≡ Whole Memory = (let e : ◌≡◌ {A = Result OpenJob RunStop} (Err stop) (Err (Whole Memory)) = is in cc) in
-    subst (λ (s : RunStop). Runs (sources_of (order_in order)) (targets_of (order_in order)) t b r r (Err s)) (sym one)
+    let one : stop ≡ Whole Memory = (let e : ◌≡◌ {A = Result OpenJob TraprunError} (Err stop) (Err (Whole Memory)) = is in cc) in
+    subst (λ (s : TraprunError). Runs (sources_of (order_in order)) (targets_of (order_in order)) t b r r (Err s)) (sym one)
     (subst (λ (x : TrayState). Runs (sources_of (order_in order)) (targets_of (order_in order)) t x r r (Err (Whole Memory))) (sym same) (not_begun (sources_of (order_in order)) (targets_of (order_in order)) t r))
 not_carried order t b r stop (OpensJob.stopped other is reads) =
-    let one : other ≡ stop = (let e : ◌≡◌ {A = Result OpenJob RunStop} (Err stop) (Err other) = is in cc) in
-    subst (λ (s : RunStop). Runs (sources_of (order_in order)) (targets_of (order_in order)) t b r r (Err s)) one (not_held (sources_of (order_in order)) (targets_of (order_in order)) t b r other reads)
-not_carried order t b r stop (OpensJob.opened other is held same opened) = absurd (let e : ◌≡◌ {A = Result OpenJob RunStop} (Err stop) (Ok other) = is in cc)
+    let one : other ≡ stop = (let e : ◌≡◌ {A = Result OpenJob TraprunError} (Err stop) (Err other) = is in cc) in
+    subst (λ (s : TraprunError). Runs (sources_of (order_in order)) (targets_of (order_in order)) t b r r (Err s)) one (not_held (sources_of (order_in order)) (targets_of (order_in order)) t b r other reads)
+not_carried order t b r stop (OpensJob.opened other is held same opened) = absurd (let e : ◌≡◌ {A = Result OpenJob TraprunError} (Err stop) (Ok other) = is in cc)

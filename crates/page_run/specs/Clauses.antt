@@ -2,7 +2,7 @@
 -- after the call.
 use Rattle.std.specs.Prelude.{◌≡◌, ◌≢◌, ◌⊎◌, ℕ, suc, ◌<◌, ◌≤◌, IsTrue, IsFalse, List, ◌∷◌, length}
 use Rattle.std.specs.Prelude.{All, Option, Some, None}
-use Rattle.outside.specs.Causes.{Rose, Asks, AsksFront}
+use Rattle.outside.specs.Causes.{Rose, Asks, AsksPrefix}
 use Rattle.outside.specs.Tray.{TrayState}
 use Rattle.outside.specs.Rack.{RackState, KeepsRack}
 use Rattle.page_gather.specs.Inputs.{name_at}
@@ -14,17 +14,17 @@ use Rattle.page_run.specs.InHand.{InHand}
 use Rattle.page_run.specs.Words.{RunWords, order_of, sources_of, targets_of}
 use Rattle.page_writing.specs.Files.{Written, put_all}
 use Rattle.page_writing.specs.Writing.{Breaks, FinishesAll, WritesAll}
-use Rattle.traprun_verdicts.specs.declared.stop.RunStop.{RunStop}
-use Rattle.traprun_verdicts.specs.declared.stop.RunStop.TheVariants.{AtPage}
+use Rattle.traprun_verdicts.specs.declared.stop.TraprunError.{TraprunError}
+use Rattle.traprun_verdicts.specs.declared.stop.TraprunError.TheVariants.{AtPage}
 use Rattle.traprun_verdicts.specs.Pages.{AreMade, run_files, run_names, run_reads, target_at}
 use Rattle.traprun_verdicts.specs.RunVerdicts.{RunVerdict, AllEnd, HasPages, IsRunVerdict, Stopped}
 use Rattle.traprun_verdicts.specs.RunVerdicts.{Out, status_of_verdict}
 use Rattle.traprun_verdicts.specs.Stops.{line_of_stop, status_of_stop}
-use Rattle.trap_report.specs.declared.refusal.Refusal.TheVariants.{Memory, Write}
-use Rattle.trap_report.specs.Refusals.{line_of}
-use Rattle.trap_report.specs.Statuses.{done, usage, job_refused, page_refused, not_read}
-use Rattle.trap_report.specs.Statuses.{not_written, out_of_memory}
-use Rattle.trap_report.specs.Telling.{TellsText, TellsAfterFault}
+use Rattle.refusals.specs.declared.refusal.Refusal.TheVariants.{Memory, Write}
+use Rattle.refusals.specs.Refusals.{line_of}
+use Rattle.refusals.specs.Statuses.{done, usage, job_refused, page_refused, not_read}
+use Rattle.refusals.specs.Statuses.{not_written, out_of_memory}
+use Rattle.refusals.specs.Telling.{TellsText, TellsAfterFault}
 use Rattle.verdicts.specs.Verdicts.{IsFile, outcome}
 
 -- The words mean this run.
@@ -88,7 +88,7 @@ pub record Usage (words : List (List ℕ)) (tray tray' : TrayState) (rack rack' 
 -- before it, which are whole; the names that were handed to `begin`, none after that of the file
 -- that is refused, and to `create`; and that no fault of the tray was passed over.
 pub record RefusesPages (order : RunWords) (tray tray' : TrayState) (rack rack' : RackState)
-    (status : ℕ) (stop : RunStop) (pages : List PageParts) : Type 0 where
+    (status : ℕ) (stop : TraprunError) (pages : List PageParts) : Type 0 where
   pub status_is : status ≡ status_of_stop stop
   pub verdict : IsTrue tray.tells →
       IsRunVerdict tray.file (sources_of order) (targets_of order) (Stopped stop)
@@ -104,9 +104,9 @@ pub record RefusedInput (words : List (List ℕ)) (tray tray' : TrayState) (rack
     (status : ℕ) : Type 0 where
   pub only : (order : RunWords) → Mean words order →
       (status ≡ job_refused) ⊎ (status ≡ page_refused) →
-      (stop : RunStop) × (pages : List PageParts) ×
+      (stop : TraprunError) × (pages : List PageParts) ×
       RefusesPages order tray tray' rack rack' status stop pages
-  pub always : (order : RunWords) (stop : RunStop) → Mean words order → IsTrue tray.tells →
+  pub always : (order : RunWords) (stop : TraprunError) → Mean words order → IsTrue tray.tells →
       IsRunVerdict tray.file (sources_of order) (targets_of order) (Stopped stop) →
       ¬ Rose tray.faults tray'.faults → ¬ Rose rack.faults rack'.faults →
       (status ≡ status_of_stop stop) ⊎ (status ≡ out_of_memory)
@@ -115,7 +115,7 @@ pub record RefusedInput (words : List (List ℕ)) (tray tray' : TrayState) (rack
 -- fault, and the line names the file that was handed to `begin` last.
 pub record FailsToRead (order : RunWords) (tray tray' : TrayState) (rack rack' : RackState)
     (status : ℕ) : Type 0 where
-  pub stop : RunStop
+  pub stop : TraprunError
   pub pages : List PageParts
   pub status_is : status ≡ status_of_stop stop
   pub whole : Whole order tray tray' rack rack' pages
@@ -123,7 +123,7 @@ pub record FailsToRead (order : RunWords) (tray tray' : TrayState) (rack rack' :
   pub breaks : BreaksRun (sources_of order) (length pages) tray tray' stop
   pub line : TellsText (line_of_stop stop) rack rack'
 
--- Status 5 comes only where the tray's count rose. Neither a failed write nor want of memory passes
+-- Status 5 comes only where the tray's count rose. Neither a failed write nor out of memory passes
 -- a fault of the tray over.
 pub record ReadFault (words : List (List ℕ)) (tray tray' : TrayState) (rack rack' : RackState)
     (status : ℕ) : Type 0 where
@@ -169,9 +169,9 @@ pub record KeepsPages (order : RunWords) (tray tray' : TrayState) (rack rack' : 
   pub pages : List PageParts
   pub whole : Whole order tray tray' rack rack' pages
   pub begun : status ≡ out_of_memory →
-      AsksFront tray.asked tray'.asked (run_reads (sources_of order) (suc (length pages)))
+      AsksPrefix tray.asked tray'.asked (run_reads (sources_of order) (suc (length pages)))
 
--- At every status but 6, so at want of memory too, some pages are whole and nothing else is
+-- At every status but 6, so at out of memory too, some pages are whole and nothing else is
 -- changed.
 abbrev pub LeavesPages : List (List ℕ) → TrayState → TrayState → RackState → RackState → ℕ → Type 0
 LeavesPages words tray tray' rack rack' status =
@@ -183,7 +183,8 @@ LeavesPages words tray tray' rack rack' status =
 -- whichever place it comes.
 pub record FaultLine (rack rack' : RackState) (status : ℕ) : Type 0 where
   pub stopped : status ≢ done → status ≢ usage → status ≢ not_written →
-      (stop : RunStop) × (status ≡ status_of_stop stop) × TellsText (line_of_stop stop) rack rack'
+      (stop : TraprunError) × (status ≡ status_of_stop stop)
+      × TellsText (line_of_stop stop) rack rack'
   pub memory : status ≡ out_of_memory → TellsText (line_of Memory) rack rack'
 
 -- Where the verdict is a list of files and no count rose, the status is 0 or 7. Where the job and

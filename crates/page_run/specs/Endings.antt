@@ -1,7 +1,7 @@
 -- How a run ends.
 use Rattle.std.specs.Prelude.{◌≡◌, ◌⊎◌, ℕ, ◌+◌, suc, IsTrue, List, ◌∷◌, ◌++◌, length, take, All}
 use Rattle.std.specs.Prelude.{Option, Some, None, Result, Ok, Err}
-use Rattle.outside.specs.Causes.{Rose, RoseOnce, Asks, AsksFront}
+use Rattle.outside.specs.Causes.{Rose, RoseOnce, Asks, AsksPrefix}
 use Rattle.outside.specs.Tray.{TrayState, KeepsTray}
 use Rattle.outside.specs.Rack.{RackState, KeepsRack}
 use Rattle.page_gather.specs.Inputs.{Sources, name_at}
@@ -14,14 +14,15 @@ use Rattle.page_run.specs.InHand.{InHand}
 use Rattle.page_run.specs.Reading.{IsUnbroken}
 use Rattle.page_run.specs.Text.{usage_line}
 use Rattle.page_run.specs.Words.{RunWords, order_of, sources_of, targets_of}
-use Rattle.traprun_verdicts.specs.declared.stop.RunStop.{RunStop}
-use Rattle.traprun_verdicts.specs.declared.stop.RunStop.TheVariants.{Whole, AtPage, Ends, Extra}
+use Rattle.traprun_verdicts.specs.declared.stop.TraprunError.{TraprunError}
+use Rattle.traprun_verdicts.specs.declared.stop.TraprunError.TheVariants.{Whole, AtPage, Ends}
+use Rattle.traprun_verdicts.specs.declared.stop.TraprunError.TheVariants.{Extra}
 use Rattle.traprun_verdicts.specs.Pages.{AreMade, run_files, run_names, run_reads, target_at}
 use Rattle.traprun_verdicts.specs.RunVerdicts.{AllEnd, HasPages, IsRunVerdict, Stopped}
 use Rattle.traprun_verdicts.specs.Stops.{RefusesRun, status_of_stop}
-use Rattle.trap_report.specs.declared.refusal.Refusal.TheVariants.{Plate, Read, Write, Memory}
-use Rattle.trap_report.specs.Statuses.{done as is_done, usage, job_refused, page_refused}
-use Rattle.trap_report.specs.Telling.{KeepsFiles, TellsText}
+use Rattle.refusals.specs.declared.refusal.Refusal.TheVariants.{Plate, Read, Write, Memory}
+use Rattle.refusals.specs.Statuses.{done as is_done, usage, job_refused, page_refused}
+use Rattle.refusals.specs.Telling.{KeepsFiles, TellsText}
 use Rattle.verdicts.specs.Verdicts.{Targets, outcome, written_names}
 
 -- These pages were read and written whole, one after another; the last of them stands first.
@@ -37,7 +38,7 @@ pub record Written (source : Sources) (target : Targets) (tray tray' : TrayState
 
 -- the files that are begun where a run stops so after so many pages: none stands after the one
 -- that is refused
-abbrev pub stop_reads : Sources → ℕ → RunStop → List (List ℕ)
+abbrev pub stop_reads : Sources → ℕ → TraprunError → List (List ℕ)
 stop_reads source k (AtPage page refusal) = run_reads source k ++ page_reads source refusal
 stop_reads source k (Ends page plate) = run_reads source k ++ take (plate + 1) source.inputs
 stop_reads source k (Extra plate) = run_reads source k ++ take (plate + 1) source.inputs
@@ -49,7 +50,7 @@ stop_reads source k other = run_reads source k
 
 -- No fault of the tray is passed over: the count stays, but where a sample above the maxval is
 -- refused, which may be among the bytes that came before a failed read.
-abbrev pub StopKeepsCount : TrayState → TrayState → RunStop → Type 0
+abbrev pub StopKeepsCount : TrayState → TrayState → TraprunError → Type 0
 StopKeepsCount before after (AtPage page refusal) =
     PassesNoFault {T = Unit {0}} before after (Err refusal)
 StopKeepsCount before after (Whole refusal) =
@@ -59,7 +60,7 @@ StopKeepsCount before after other = after.faults ≡ before.faults
 -- The read of the file that a stop names failed. What was read before it is without fault: the job;
 -- of a page its job and the plates before; after the last page the plates before, whose files end
 -- there. Of the plate's own bytes those that were taken have no fault but an early end.
-abbrev pub BreaksRun : Sources → ℕ → TrayState → TrayState → RunStop → Type 0
+abbrev pub BreaksRun : Sources → ℕ → TrayState → TrayState → TraprunError → Type 0
 BreaksRun source k before after (Whole (Read None)) = k ≡ 0
 BreaksRun source k before after (AtPage page (Read (Some plate))) = (page ≡ k)
     × (IsTrue before.tells → (count : ℕ) × HasPages before.file source count)
@@ -71,7 +72,7 @@ BreaksRun source k before after other = ⊥
 
 -- A stop stands after so many pages: that of a page has the page's number, one of the whole job
 -- comes before the first page, and one of a plate's last look after all pages of the job.
-abbrev pub StopsAfter : Sources → TrayState → ℕ → RunStop → Type 0
+abbrev pub StopsAfter : Sources → TrayState → ℕ → TraprunError → Type 0
 StopsAfter source before k (AtPage page refusal) = page ≡ k
 StopsAfter source before k (Ends page plate) = page ≡ k
 StopsAfter source before k (Extra plate) = IsTrue before.tells → HasPages before.file source k
@@ -82,7 +83,7 @@ StopsAfter source before k other = k ≡ 0
 -- How a run ends, before a line is told. The pages are those that were written whole before it, the
 -- last of them first.
 pub data AnswersRun (source : Sources) (target : Targets) (tray tray' : TrayState)
-    (rack rack' : RackState) (result : Result (Unit {0}) RunStop) : Type 0 where
+    (rack rack' : RackState) (result : Result (Unit {0}) TraprunError) : Type 0 where
   not_begun : result ≡ Err (Whole Memory) → tray' ≡ tray → rack' ≡ rack
       → AnswersRun source target tray tray' rack rack' result
   unread_job : result ≡ Err (Whole (Read None)) → rack' ≡ rack → Rose tray.faults tray'.faults
@@ -98,7 +99,7 @@ pub data AnswersRun (source : Sources) (target : Targets) (tray tray' : TrayStat
       × AllEnd tray.file source (length pages) (length source.inputs))
       → InHand source (length pages) tray tray'
       → AnswersRun source target tray tray' rack rack' result
-  refused : (pages : List PageParts) (between : TrayState) (stop : RunStop) → result ≡ Err stop
+  refused : (pages : List PageParts) (between : TrayState) (stop : TraprunError) → result ≡ Err stop
       → (status_of_stop stop ≡ job_refused) ⊎ (status_of_stop stop ≡ page_refused)
       → Written source target tray between rack rack' pages
       → StopsAfter source tray (length pages) stop → StopKeepsCount tray tray' stop
@@ -106,7 +107,7 @@ pub data AnswersRun (source : Sources) (target : Targets) (tray tray' : TrayStat
       → (IsTrue tray.tells → IsRunVerdict tray.file source target (Stopped stop))
       → InHand source (length pages) tray tray'
       → AnswersRun source target tray tray' rack rack' result
-  unread : (pages : List PageParts) (between : TrayState) (stop : RunStop) → result ≡ Err stop
+  unread : (pages : List PageParts) (between : TrayState) (stop : TraprunError) → result ≡ Err stop
       → status_of_stop stop ≡ 5 → Written source target tray between rack rack' pages
       → Rose tray.faults tray'.faults
       → Asks tray.asked tray'.asked (stop_reads source (length pages) stop)
@@ -120,18 +121,18 @@ pub data AnswersRun (source : Sources) (target : Targets) (tray tray' : TrayStat
       → (IsTrue tray.tells → AreMade tray.file source (page ∷ pages))
       → Breaks (length target.outputs) (outcome
       (target_at target (length pages)) page) file mid rack'
-      → AsksFront mid.asked rack'.asked (written_names (target_at target (length pages)))
+      → AsksPrefix mid.asked rack'.asked (written_names (target_at target (length pages)))
       → RoseOnce rack.faults rack'.faults → InHand source (length pages) tray tray'
       → AnswersRun source target tray tray' rack rack' result
   no_memory : (pages : List PageParts) (between : TrayState) → result ≡ Err (Whole Memory)
       → Written source target tray between rack rack' pages → tray'.faults ≡ tray.faults
-      → AsksFront tray.asked tray'.asked (run_reads source (suc (length pages)))
+      → AsksPrefix tray.asked tray'.asked (run_reads source (suc (length pages)))
       → InHand source (length pages) tray tray'
       → AnswersRun source target tray tray' rack rack' result
 
 -- A run is carried out.
 pub record Runs (source : Sources) (target : Targets) (tray tray' : TrayState)
-    (rack rack' : RackState) (result : Result (Unit {0}) RunStop) : Type 0 where
+    (rack rack' : RackState) (result : Result (Unit {0}) TraprunError) : Type 0 where
   pub tray_keeps : KeepsTray tray tray'
   pub rack_keeps : KeepsRack rack rack'
   pub told : IsTrue rack.tells → rack'.told ≡ rack.told
@@ -140,7 +141,7 @@ pub record Runs (source : Sources) (target : Targets) (tray tray' : TrayState)
 -- After a job that was read and has pages, the run is carried out: seen from the tray as it was
 -- before.
 abbrev pub RunsFrom : Sources → Targets → List ℕ → TrayState → TrayState → RackState → RackState
-    → Result (Unit {0}) RunStop → Type 0
+    → Result (Unit {0}) TraprunError → Type 0
 RunsFrom source target bytes between tray' rack rack' result = (tray : TrayState)
     → JobOpened source bytes tray between → Runs source target tray tray' rack rack' result
 
@@ -155,27 +156,27 @@ pub record PagesDone (source : Sources) (target : Targets) (tray tray' : TraySta
 
 -- All pages are trapped, or the run stops at one of them.
 abbrev pub AnswersPages : Sources → Targets → ℕ → TrayState → TrayState → RackState → RackState
-    → Result (Unit {0}) RunStop → Type 0
+    → Result (Unit {0}) TraprunError → Type 0
 AnswersPages source target count tray tray' rack rack' (Ok x) = (pages : List PageParts)
     × (length pages ≡ count) × PagesDone source target tray tray' rack rack' pages
 AnswersPages source target count tray tray' rack rack' (Err stop) =
     Runs source target tray tray' rack rack' (Err stop)
 
 abbrev pub TrapsPages : Sources → Targets → List ℕ → TrayState → TrayState → RackState → RackState
-    → Result (Unit {0}) RunStop → Type 0
+    → Result (Unit {0}) TraprunError → Type 0
 TrapsPages source target bytes between tray' rack rack' result = (tray : TrayState)
     → (opened : JobOpened source bytes tray between)
     → AnswersPages source target opened.count tray tray' rack rack' result
 
 -- the status, or the line of the stop
-abbrev pub Closes : Result (Unit {0}) RunStop → RackState → RackState → ℕ → Type 0
+abbrev pub Closes : Result (Unit {0}) TraprunError → RackState → RackState → ℕ → Type 0
 Closes (Ok x) before after status = (after ≡ before) × (status ≡ is_done)
 Closes (Err stop) before after status = RefusesRun stop before after status
 
 -- A run is carried out, and its stop is told.
 pub record EndsRun (order : RunWords) (tray tray' : TrayState) (rack rack' : RackState)
     (status : ℕ) : Type 0 where
-  pub result : Result (Unit {0}) RunStop
+  pub result : Result (Unit {0}) TraprunError
   pub between : RackState
   pub runs : Runs (sources_of order) (targets_of order) tray tray' rack between result
   pub closed : Closes result between rack' status

@@ -1,7 +1,7 @@
 -- What it means to read the job of a run, and one page of it.
 use Rattle.std.specs.Prelude.{◌≡◌, ◌⊎◌, ℕ, ◌+◌, IsTrue, List, [], length, take, Some, Result}
 use Rattle.std.specs.Prelude.{Ok, Err, IfOk}
-use Rattle.outside.specs.Causes.{Rose, Asks, AsksFront}
+use Rattle.outside.specs.Causes.{Rose, Asks, AsksPrefix}
 use Rattle.outside.specs.Tray.{TrayState, KeepsTray}
 use Rattle.page_gather.specs.Inputs.{Sources, Holds, AreRead, Makes, name_at}
 use Rattle.page_gather.specs.Steps.{PassesNoFault, TakesJob}
@@ -17,23 +17,23 @@ use Rattle.page_run.specs.Reading.{IsUnbroken, ReadsRunJob}
 use Rattle.page_run.specs.Words.{sources_of}
 use Rattle.page_run.specs.declared.gather.OpenJob.{OpenJob}
 use Rattle.page_run.specs.declared.words.TraprunArgs.{TraprunArgs}
-use Rattle.traprun_verdicts.specs.declared.stop.RunStop.{RunStop}
-use Rattle.traprun_verdicts.specs.declared.stop.RunStop.TheVariants.{Whole, AtPage, Ends}
+use Rattle.traprun_verdicts.specs.declared.stop.TraprunError.{TraprunError}
+use Rattle.traprun_verdicts.specs.declared.stop.TraprunError.TheVariants.{Whole, AtPage, Ends}
 use Rattle.traprun_verdicts.specs.Images.{page_spelling}
 use Rattle.traprun_verdicts.specs.Pages.{pages_of, run_reads}
 use Rattle.traprun_verdicts.specs.RunVerdicts.{PlateEnds}
-use Rattle.trap_report.specs.declared.refusal.Refusal.{Refusal}
-use Rattle.trap_report.specs.declared.refusal.Refusal.TheVariants.{Job, Plate, Read, Memory}
-use Rattle.trap_report.specs.Refusals.{status_of}
-use Rattle.trap_report.specs.Statuses.{job_refused, page_refused}
+use Rattle.refusals.specs.declared.refusal.Refusal.{Refusal}
+use Rattle.refusals.specs.declared.refusal.Refusal.TheVariants.{Job, Plate, Read, Memory}
+use Rattle.refusals.specs.Refusals.{status_of}
+use Rattle.refusals.specs.Statuses.{job_refused, page_refused}
 use Rattle.verdicts.specs.Verdicts.{Targets, IsVerdict, Refused}
 
 -- The job's file has these bytes, where the tray tells them.
 abbrev pub IsJobOf : Sources → List ℕ → TrayState → Type 0
 IsJobOf source bytes tray = IsTrue tray.tells → tray.file source.job ≡ Some bytes
 
--- the stop that the refusal of a page's job is; want of memory belongs to no page
-abbrev pub job_stop : ℕ → JobRefusals → RunStop
+-- the stop that the refusal of a page's job is; out of memory belongs to no page
+abbrev pub job_stop : ℕ → JobRefusals → TraprunError
 job_stop page (Fault fault) = AtPage page (Job fault)
 job_stop page OutOfMemory = Whole Memory
 
@@ -58,7 +58,7 @@ pub record PageBreaks (source : Sources) (k plate : ℕ) (before after : TraySta
 
 -- Page k stops the run before a file of it is created.
 pub data StopsPage (source : Sources) (k : ℕ) (before after : TrayState)
-    (stop : RunStop) : Type 0 where
+    (stop : TraprunError) : Type 0 where
   refused : (refusal : Refusal) → stop ≡ AtPage k refusal → (status_of refusal ≡ job_refused)
       ⊎ (status_of refusal ≡ page_refused) → PassesNoFault {T = Unit {0}} before after (Err refusal)
       → Asks before.asked after.asked (page_reads source refusal)
@@ -73,7 +73,7 @@ pub data StopsPage (source : Sources) (k : ℕ) (before after : TrayState)
       → Asks before.asked after.asked (take (plate + 1) source.inputs)
       → PageBreaks source k plate before after → StopsPage source k before after stop
   no_memory : stop ≡ Whole Memory → after.faults ≡ before.faults
-      → AsksFront before.asked after.asked source.inputs → StopsPage source k before after stop
+      → AsksPrefix before.asked after.asked source.inputs → StopsPage source k before after stop
 
 -- Page k is made of the job and of the k-th images.
 pub record IsPageMade (source : Sources) (k : ℕ) (before after : TrayState)
@@ -83,14 +83,15 @@ pub record IsPageMade (source : Sources) (k : ℕ) (before after : TrayState)
   pub asked : Asks before.asked after.asked source.inputs
   pub makes : IsTrue before.tells → Makes (page_spelling k) before.file source (Ok page)
 
-abbrev pub AnswersGather : Sources → ℕ → TrayState → TrayState → Result PageParts RunStop → Type 0
+abbrev pub AnswersGather : Sources → ℕ → TrayState → TrayState → Result PageParts TraprunError
+    → Type 0
 AnswersGather source k before after (Ok page) = IsPageMade source k before after page
 AnswersGather source k before after (Err stop) = StopsPage source k before after stop
 
 -- Page k is read, with a plane for each plate; where the job's file has these bytes, it is the page
 -- that they and the plates' files make.
 pub record GathersPage (source : Sources) (bytes : List ℕ) (k : ℕ) (before after : TrayState)
-    (result : Result PageParts RunStop) : Type 0 where
+    (result : Result PageParts TraprunError) : Type 0 where
   pub keeps : KeepsTray before after
   pub in_hand : MayHold source.inputs k before after
   pub count : IfOk result (λ page. plates page ≡ length source.inputs)
@@ -109,10 +110,11 @@ pub record JobOpened (source : Sources) (bytes : List ℕ) (before after : TrayS
 -- The run is in hand: its job is read and has pages, and its names are those of the words. Or it
 -- stops.
 pub data OpensJob (order : TraprunArgs) (before after : TrayState)
-    (result : Result OpenJob RunStop) : Type 0 where
+    (result : Result OpenJob TraprunError) : Type 0 where
   not_begun : result ≡ Err (Whole Memory) → after ≡ before → OpensJob order before after result
   opened : (run : OpenJob) → result ≡ Ok run → IsOpenJob run → run.order.now ≡ order
       → JobOpened (sources_of (order_in order)) run.job before after
       → OpensJob order before after result
-  stopped : (stop : RunStop) → result ≡ Err stop → ReadsRunJob order.job.now before after (Err stop)
+  stopped : (stop : TraprunError) → result ≡ Err stop
+      → ReadsRunJob order.job.now before after (Err stop)
       → OpensJob order before after result

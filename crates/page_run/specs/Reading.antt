@@ -2,7 +2,7 @@
 -- one.
 use Rattle.std.specs.Prelude.{◌≡◌, ℕ, ◌<◌, ◌+◌, IsTrue, List, [], ◌∷◌, ◌++◌, length, take, All}
 use Rattle.std.specs.Prelude.{Some, None, Result, Ok, Err}
-use Rattle.outside.specs.Causes.{Rose, Asks, AsksFront}
+use Rattle.outside.specs.Causes.{Rose, Asks, AsksPrefix}
 use Rattle.outside.specs.Tray.{TrayState, KeepsTray}
 use Rattle.page_gather.specs.Inputs.{Holds, AreRead, name_at}
 use Rattle.page_gather.specs.Steps.{TakesJob}
@@ -14,18 +14,19 @@ use Rattle.pgm_plates.specs.declared.plate.PlateRefusal.TheVariants.{Fault}
 use Rattle.pgm_plates.specs.Faults.{IsFault}
 use Rattle.pgm_plates.specs.Plates.{IsPlate}
 use Rattle.pgm_plates.specs.Reading.{IsTruncated, KeepsCount}
-use Rattle.pgm_plates.specs.Sequences.{StandsBehind}
+use Rattle.pgm_plates.specs.Sequences.{StandsAfter}
 use Rattle.ps_tokens.specs.declared.faults.JobFault.{JobFault}
 use Rattle.page_run.specs.InHand.{MayHold, TakesImage}
-use Rattle.traprun_verdicts.specs.declared.stop.RunStop.{RunStop}
-use Rattle.traprun_verdicts.specs.declared.stop.RunStop.TheVariants.{Whole, TooManyPages, AtPage}
-use Rattle.traprun_verdicts.specs.declared.stop.RunStop.TheVariants.{Ends, Extra}
+use Rattle.traprun_verdicts.specs.declared.stop.TraprunError.{TraprunError}
+use Rattle.traprun_verdicts.specs.declared.stop.TraprunError.TheVariants.{Whole, TooManyPages}
+use Rattle.traprun_verdicts.specs.declared.stop.TraprunError.TheVariants.{AtPage}
+use Rattle.traprun_verdicts.specs.declared.stop.TraprunError.TheVariants.{Ends, Extra}
 use Rattle.traprun_verdicts.specs.Images.{HasImage, HasImageFault, HasNoImage, page_spelling}
 use Rattle.traprun_verdicts.specs.Pages.{pages_of}
-use Rattle.trap_report.specs.declared.refusal.Refusal.TheVariants.{Job, Plate, Read, Memory}
+use Rattle.refusals.specs.declared.refusal.Refusal.TheVariants.{Job, Plate, Read, Memory}
 
 -- The pages of a job of these bytes, or why there are none. A job that is read has its pages.
-pub data JudgesRun (bytes : List ℕ) (result : Result (List ℕ) RunStop) : Type 0 where
+pub data JudgesRun (bytes : List ℕ) (result : Result (List ℕ) TraprunError) : Type 0 where
   read : (count : ℕ) → result ≡ Ok bytes → pages_of bytes ≡ Ok count → JudgesRun bytes result
   refused : (fault : JobFault) → result ≡ Err (Whole (Job fault))
       → pages_of bytes ≡ Err (JobFails fault) → JudgesRun bytes result
@@ -35,7 +36,7 @@ pub data JudgesRun (bytes : List ℕ) (result : Result (List ℕ) RunStop) : Typ
 
 -- what the answer says of the job's file
 pub data AnswersRunJob (name : List ℕ) (before after : TrayState)
-    (result : Result (List ℕ) RunStop) : Type 0 where
+    (result : Result (List ℕ) TraprunError) : Type 0 where
   read : (bytes : List ℕ) (count : ℕ) → result ≡ Ok bytes → pages_of bytes ≡ Ok count
       → after.faults ≡ before.faults → (IsTrue before.tells → before.file name ≡ Some bytes)
       → AnswersRunJob name before after result
@@ -55,7 +56,7 @@ pub data AnswersRunJob (name : List ℕ) (before after : TrayState)
 -- The job of that name is read, and its pages are found. Whatever the answer, no more is taken of
 -- its file than is owed.
 pub record ReadsRunJob (name : List ℕ) (before after : TrayState)
-    (result : Result (List ℕ) RunStop) : Type 0 where
+    (result : Result (List ℕ) TraprunError) : Type 0 where
   pub keeps : KeepsTray before after
   pub asked : Asks before.asked after.asked (name ∷ [])
   pub few : TakesJob name before after
@@ -66,12 +67,12 @@ pub record ReadsRunJob (name : List ℕ) (before after : TrayState)
 abbrev pub IsUnbroken : ℕ → List ℕ → TrayState → TrayState → Type 0
 IsUnbroken number name before after = IsTrue after.begun → IsTrue before.tells
     → (bytes image : List ℕ) × (before.file name ≡ Some (bytes ++ after.left))
-    × StandsBehind bytes number image × ((fault : PlateFault) → IsFault image fault
+    × StandsAfter bytes number image × ((fault : PlateFault) → IsFault image fault
     → IsTruncated fault)
 
 -- what the answer says of a plate's file, where its image for a page is asked for
 pub data AnswersOneImage (page plate : ℕ) (name : List ℕ) (before after : TrayState)
-    (result : Result PlateRead RunStop) : Type 0 where
+    (result : Result PlateRead TraprunError) : Type 0 where
   read : (image : PlateRead) → result ≡ Ok image → IsPlate image → after.faults ≡ before.faults
       → (IsTrue before.tells → Holds before.file name (λ bytes. HasImage page bytes image))
       → AnswersOneImage page plate name before after result
@@ -89,7 +90,7 @@ pub data AnswersOneImage (page plate : ℕ) (name : List ℕ) (before after : Tr
 
 -- The image of a page is read from the file of the plate of that number.
 pub record ReadsOneImage (page plate : ℕ) (name : List ℕ) (before after : TrayState)
-    (result : Result PlateRead RunStop) : Type 0 where
+    (result : Result PlateRead TraprunError) : Type 0 where
   pub keeps : KeepsTray before after
   pub asked : Asks before.asked after.asked (name ∷ [])
   pub takes : TakesImage page name before after
@@ -105,7 +106,7 @@ pub record StopsAt (page : ℕ) (names : List (List ℕ)) (plate : ℕ)
 
 -- what the answer says of the plates' files
 pub data AnswersImages (page : ℕ) (names : List (List ℕ)) (before after : TrayState)
-    (result : Result (List PlateRead) RunStop) : Type 0 where
+    (result : Result (List PlateRead) TraprunError) : Type 0 where
   read : (plates : List PlateRead) → result ≡ Ok plates → length plates ≡ length names
       → All IsPlate plates → after.faults ≡ before.faults → Asks before.asked after.asked names
       → (IsTrue before.tells → AreRead (page_spelling page) before.file names (length names) plates)
@@ -125,18 +126,18 @@ pub data AnswersImages (page : ℕ) (names : List (List ℕ)) (before after : Tr
       → IsUnbroken page (name_at names plate) before after
       → AnswersImages page names before after result
   no_memory : result ≡ Err (Whole Memory) → after.faults ≡ before.faults
-      → AsksFront before.asked after.asked names → AnswersImages page names before after result
+      → AsksPrefix before.asked after.asked names → AnswersImages page names before after result
 
 -- The images of a page are read, up to the first that is refused.
 pub record ReadsImages (page : ℕ) (names : List (List ℕ)) (before after : TrayState)
-    (result : Result (List PlateRead) RunStop) : Type 0 where
+    (result : Result (List PlateRead) TraprunError) : Type 0 where
   pub keeps : KeepsTray before after
   pub in_hand : MayHold names page before after
   pub answer : AnswersImages page names before after result
 
 -- what the answer says of one plate's file, where it is looked at after the last of so many pages
 pub data AnswersOneEnd (pages plate : ℕ) (name : List ℕ) (before after : TrayState)
-    (result : Result (Unit {0}) RunStop) : Type 0 where
+    (result : Result (Unit {0}) TraprunError) : Type 0 where
   ended : result ≡ Ok tt → after.faults ≡ before.faults
       → (IsTrue before.tells → Holds before.file name (HasNoImage pages))
       → AnswersOneEnd pages plate name before after result
@@ -154,7 +155,7 @@ pub data AnswersOneEnd (pages plate : ℕ) (name : List ℕ) (before after : Tra
 
 -- One plate's file is looked at after the last of so many pages.
 pub record ExpectsOneEnd (pages plate : ℕ) (name : List ℕ) (before after : TrayState)
-    (result : Result (Unit {0}) RunStop) : Type 0 where
+    (result : Result (Unit {0}) TraprunError) : Type 0 where
   pub keeps : KeepsTray before after
   pub asked : Asks before.asked after.asked (name ∷ [])
   pub takes : TakesImage pages name before after
@@ -169,7 +170,7 @@ pub record EndStops (pages : ℕ) (names : List (List ℕ)) (plate : ℕ)
       → Holds before.file (name_at names p) (HasNoImage pages)
 
 pub data AnswersEnds (pages : ℕ) (names : List (List ℕ)) (before after : TrayState)
-    (result : Result (Unit {0}) RunStop) : Type 0 where
+    (result : Result (Unit {0}) TraprunError) : Type 0 where
   ended : result ≡ Ok tt → after.faults ≡ before.faults → Asks before.asked after.asked names
       → (IsTrue before.tells → (p : ℕ) → p < length names
       → Holds before.file (name_at names p) (HasNoImage pages))
@@ -190,11 +191,11 @@ pub data AnswersEnds (pages : ℕ) (names : List (List ℕ)) (before after : Tra
       → IsUnbroken pages (name_at names plate) before after
       → AnswersEnds pages names before after result
   no_memory : result ≡ Err (Whole Memory) → after.faults ≡ before.faults
-      → AsksFront before.asked after.asked names → AnswersEnds pages names before after result
+      → AsksPrefix before.asked after.asked names → AnswersEnds pages names before after result
 
 -- Each file is looked at after the last page, up to the first that does not end there.
 pub record ExpectsEnd (pages : ℕ) (names : List (List ℕ)) (before after : TrayState)
-    (result : Result (Unit {0}) RunStop) : Type 0 where
+    (result : Result (Unit {0}) TraprunError) : Type 0 where
   pub keeps : KeepsTray before after
   pub in_hand : MayHold names pages before after
   pub answer : AnswersEnds pages names before after result

@@ -1,6 +1,6 @@
 -- What is told of words that mean no run.
 use Rattle.std.specs.Prelude.{ℕ, List, codes}
-use Rattle.trap_report.specs.Report.{line}
+use Rattle.refusals.specs.Lines.{line}
 
 abbrev pub usage_line : List ℕ
 usage_line = line (codes "usage: traprun WORKERS BAND JOB REPORT NAME:IN:OUT ...")

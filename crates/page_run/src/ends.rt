@@ -4,9 +4,9 @@ ghost use Rattle.page_run.specs.Reading.{ExpectsOneEnd, ExpectsEnd};
 use outside::tray::Tray;
 use pgm_plates::pages::read_page;
 use pgm_plates::plate::PlateRefusal;
+use refusals::refusal::Refusal;
 use std::alloc::Global;
-use trap_report::refusal::Refusal;
-use traprun_verdicts::stop::RunStop;
+use traprun_verdicts::stop::TraprunError;
 
 /// Looks after the last of so many pages in each of these files in order, up to the first that does not end there.
 pub fn expect_end<T: Tray>(
@@ -14,7 +14,7 @@ pub fn expect_end<T: Tray>(
     tray: &mut T,
     pages: u32,
     inputs: &[&str],
-) -> Result<(), RunStop>
+) -> Result<(), TraprunError>
     requires { length inputs.now ≤ 16 }
     ensures { ExpectsEnd pages (map (λ file. file.now) inputs.now) (T.state tray.old)
         (T.state tray.new) result }
@@ -35,14 +35,14 @@ fn expect_one_end<T: Tray>(
     pages: u32,
     plate: u32,
     name: &str,
-) -> Result<(), RunStop>
+) -> Result<(), TraprunError>
     ensures { ExpectsOneEnd pages plate name.now (T.state tray.old) (T.state tray.new) result }
 {
     match read_page(alloc, tray, name, pages) {
         Ok(None) => Ok(()),
-        Ok(Some(_)) => Err(RunStop::Extra(plate)),
-        Err(PlateRefusal::Fault(fault)) => Err(RunStop::Whole(Refusal::Plate(plate, fault))),
-        Err(PlateRefusal::ReadFault) => Err(RunStop::Whole(Refusal::Read(Some(plate)))),
-        Err(PlateRefusal::OutOfMemory) => Err(RunStop::Whole(Refusal::Memory)),
+        Ok(Some(_)) => Err(TraprunError::Extra(plate)),
+        Err(PlateRefusal::Fault(fault)) => Err(TraprunError::Whole(Refusal::Plate(plate, fault))),
+        Err(PlateRefusal::ReadFault) => Err(TraprunError::Whole(Refusal::Read(Some(plate)))),
+        Err(PlateRefusal::OutOfMemory) => Err(TraprunError::Whole(Refusal::Memory)),
     }
 }

@@ -5,7 +5,6 @@ ghost use Rattle.page_run.specs.Gathering.{GathersPage, OpensJob, job_stop as jo
 ghost use Rattle.page_run.specs.Opened.{IsOpenJob, IsWithin, order_in};
 ghost use Rattle.page_run.specs.Words.{sources_of};
 
-use crate::files::{inputs_of, names_of};
 use crate::images::read_images;
 use crate::job::read_run_job;
 use crate::words::TraprunArgs;
@@ -15,10 +14,11 @@ use lists::names::NameList;
 use outside::tray::Tray;
 use page_gather::assemble::assemble;
 use page_model::page::Page;
+use plain_words::files::{plate_inputs, plate_names};
 use ps_tokens::faults::JobRefusal;
+use refusals::refusal::Refusal;
 use std::alloc::Global;
-use trap_report::refusal::Refusal;
-use traprun_verdicts::stop::{RunStop, stop_at};
+use traprun_verdicts::stop::{TraprunError, stop_at};
 
 /// A run in hand: its order, the names of its plates' colorants and their files, and its job.
 #[derive(Drop)]
@@ -34,16 +34,16 @@ pub fn open_job<'a, T: Tray>(
     alloc: Global,
     order: &'a TraprunArgs<'a>,
     tray: &mut T,
-) -> Result<OpenJob<'a>, RunStop>
+) -> Result<OpenJob<'a>, TraprunError>
     requires { IsWithin order.now }
     ensures { OpensJob order.now (T.state tray.old) (T.state tray.new) result }
 {
     let (names, inputs) = match (
-        names_of(alloc, order.plates),
-        inputs_of(alloc, order.plates),
+        plate_names(alloc, order.plates),
+        plate_inputs(alloc, order.plates),
     ) {
         (Ok(names), Ok(inputs)) => (names, inputs),
-        _ => return Err(RunStop::Whole(Refusal::Memory)),
+        _ => return Err(TraprunError::Whole(Refusal::Memory)),
     };
     match read_run_job(alloc, tray, order.job) {
         Ok(job) => Ok(OpenJob {
@@ -59,13 +59,13 @@ pub fn open_job<'a, T: Tray>(
 /// Reads the page of that number, counted from 0: its job, and the image of each plate; and makes the page of them.
 ///
 /// It stops at the first refusal: the job's fault, a read that fails, a plate whose file has no image for the page or a fault, a
-/// plate without details, a fault of the page, or want of memory. No file is begun after the one that is refused.
+/// plate without details, a fault of the page, or out of memory. No file is begun after the one that is refused.
 pub fn gather_page<T: Tray>(
     alloc: Global,
     opened: &OpenJob<'_>,
     page: u32,
     tray: &mut T,
-) -> Result<Page, RunStop>
+) -> Result<Page, TraprunError>
     requires opened { IsOpenJob opened.now }
     requires page { HasPage opened.now.job page }
     ensures { let order = order_in opened.now.order.now in
@@ -78,13 +78,13 @@ pub fn gather_page<T: Tray>(
     }
 }
 
-// The stop that the refusal of a page's job is. Want of memory belongs to no page.
-fn job_stop(page: u32, refusal: JobRefusal) -> RunStop
+// The stop that the refusal of a page's job is. Out of memory belongs to no page.
+fn job_stop(page: u32, refusal: JobRefusal) -> TraprunError
     ensures { result ≡ job_stop_meant page refusal }
 {
     match refusal {
-        JobRefusal::Fault(fault) => RunStop::AtPage(page, Refusal::Job(fault)),
-        JobRefusal::OutOfMemory => RunStop::Whole(Refusal::Memory),
+        JobRefusal::Fault(fault) => TraprunError::AtPage(page, Refusal::Job(fault)),
+        JobRefusal::OutOfMemory => TraprunError::Whole(Refusal::Memory),
     }
 }
 
@@ -95,7 +95,7 @@ fn gather_images<T: Tray>(
     opened: &OpenJob<'_>,
     page: u32,
     tray: &mut T,
-) -> Result<Page, RunStop>
+) -> Result<Page, TraprunError>
     requires opened { IsOpenJob opened.now }
     requires job { IsJob job }
     requires given { page_job_of opened.now.job page ≡ Ok job }

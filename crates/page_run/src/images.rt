@@ -6,9 +6,9 @@ use outside::tray::Tray;
 use page_gather::assemble::PlateList;
 use pgm_plates::pages::read_page;
 use pgm_plates::plate::{Plate, PlateRefusal};
+use refusals::refusal::Refusal;
 use std::alloc::Global;
-use trap_report::refusal::Refusal;
-use traprun_verdicts::stop::RunStop;
+use traprun_verdicts::stop::TraprunError;
 
 /// Reads the image of that page from each of these files in order, up to the first that is refused. No file is begun after
 /// it.
@@ -17,7 +17,7 @@ pub(crate) fn read_images<T: Tray>(
     tray: &mut T,
     page: u32,
     inputs: &[&str],
-) -> Result<PlateList, RunStop>
+) -> Result<PlateList, TraprunError>
     requires { length inputs.now ≤ 16 }
     ensures { ReadsImages page (map (λ file. file.now) inputs.now) (T.state tray.old)
         (T.state tray.new) result }
@@ -27,7 +27,7 @@ pub(crate) fn read_images<T: Tray>(
         match read_image(alloc, tray, page, place as u32, inputs[place]) {
             Ok(plate) => {
                 if plates.push(plate).is_err() {
-                    return Err(RunStop::Whole(Refusal::Memory));
+                    return Err(TraprunError::Whole(Refusal::Memory));
                 }
             }
             Err(stop) => return Err(stop),
@@ -43,16 +43,16 @@ fn read_image<T: Tray>(
     page: u32,
     plate: u32,
     name: &str,
-) -> Result<Plate, RunStop>
+) -> Result<Plate, TraprunError>
     ensures { ReadsOneImage page plate name.now (T.state tray.old) (T.state tray.new) result }
 {
     match read_page(alloc, tray, name, page) {
         Ok(Some(image)) => Ok(image),
-        Ok(None) => Err(RunStop::Ends(page, plate)),
+        Ok(None) => Err(TraprunError::Ends(page, plate)),
         Err(PlateRefusal::Fault(fault)) => {
-            Err(RunStop::AtPage(page, Refusal::Plate(plate, fault)))
+            Err(TraprunError::AtPage(page, Refusal::Plate(plate, fault)))
         }
-        Err(PlateRefusal::ReadFault) => Err(RunStop::AtPage(page, Refusal::Read(Some(plate)))),
-        Err(PlateRefusal::OutOfMemory) => Err(RunStop::Whole(Refusal::Memory)),
+        Err(PlateRefusal::ReadFault) => Err(TraprunError::AtPage(page, Refusal::Read(Some(plate)))),
+        Err(PlateRefusal::OutOfMemory) => Err(TraprunError::Whole(Refusal::Memory)),
     }
 }

@@ -5,7 +5,7 @@ ghost use Rattle.page_run.specs.Paging.{PutsPage, StepsPage};
 ghost use Rattle.page_run.specs.Opened.{IsOpenJob, IsWithin, order_in};
 ghost use Rattle.page_run.specs.Words.{sources_of, targets_of};
 
-use crate::files::{numbered, outputs_at};
+use crate::files::{numbered_name, outputs_at};
 use crate::gather::{OpenJob, gather_page};
 use crate::words::TraprunArgs;
 use band_workers::Gate;
@@ -13,10 +13,10 @@ use outside::rack::Rack;
 use outside::tray::Tray;
 use page_model::page::Page;
 use page_output::output::{PageOrder, put_out};
+use refusals::refusal::Refusal;
 use std::alloc::Global;
 use std::thread::Threads;
-use trap_report::refusal::Refusal;
-use traprun_verdicts::stop::{RunStop, stop_at};
+use traprun_verdicts::stop::{TraprunError, stop_at};
 
 /// Reads the page of that number, traps it, and writes its files.
 pub(crate) fn trap_one<H: Threads + Sync, T: Tray, R: Rack, G: Gate + Sync>(
@@ -27,7 +27,7 @@ pub(crate) fn trap_one<H: Threads + Sync, T: Tray, R: Rack, G: Gate + Sync>(
     tray: &mut T,
     rack: &mut R,
     gate: &G,
-) -> Result<(), RunStop>
+) -> Result<(), TraprunError>
     requires opened { IsOpenJob opened.now }
     requires page { HasPage opened.now.job page }
     ensures { let order = order_in opened.now.order.now in
@@ -49,7 +49,7 @@ fn put_page<H: Threads + Sync, R: Rack, G: Gate + Sync>(
     page: &Page,
     rack: &mut R,
     gate: &G,
-) -> Result<(), RunStop>
+) -> Result<(), TraprunError>
     requires within { IsWithin order.now }
     requires count { plates page.now ≡ length order.now.plates.now }
     ensures { PutsPage (targets_of (order_in order.now)) number page.now (R.state rack.old)
@@ -58,10 +58,10 @@ fn put_page<H: Threads + Sync, R: Rack, G: Gate + Sync>(
     let _valid = page.plates();
     let (outputs, report) = match (
         outputs_at(alloc, order.plates, number),
-        numbered(alloc, order.report, number),
+        numbered_name(alloc, order.report, number),
     ) {
         (Ok(outputs), Ok(report)) => (outputs, report),
-        _ => return Err(RunStop::Whole(Refusal::Memory)),
+        _ => return Err(TraprunError::Whole(Refusal::Memory)),
     };
     let files = PageOrder {
         workers: order.workers,

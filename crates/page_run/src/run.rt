@@ -10,10 +10,10 @@ use crate::words::TraprunArgs;
 use band_workers::Gate;
 use outside::rack::Rack;
 use outside::tray::Tray;
+use refusals::statuses::DONE;
 use std::alloc::Global;
 use std::thread::Threads;
-use trap_report::statuses::DONE;
-use traprun_verdicts::stop::RunStop;
+use traprun_verdicts::stop::TraprunError;
 use traprun_verdicts::telling::refuse_run;
 
 // Carries out a run, and gives the status that it ends with.
@@ -43,7 +43,7 @@ fn carry_out<H: Threads + Sync, T: Tray, R: Rack, G: Gate + Sync>(
     tray: &mut T,
     rack: &mut R,
     gate: &G,
-) -> Result<(), RunStop>
+) -> Result<(), TraprunError>
     requires { IsWithin order.now }
     ensures { let meant = order_in order.now in
         Runs (sources_of meant) (targets_of meant) (T.state tray.old) (T.state tray.new)
@@ -63,7 +63,7 @@ fn trap_job<H: Threads + Sync, T: Tray, R: Rack, G: Gate + Sync>(
     tray: &mut T,
     rack: &mut R,
     gate: &G,
-) -> Result<(), RunStop>
+) -> Result<(), TraprunError>
     requires { IsOpenJob opened.now }
     ensures { let meant = order_in opened.now.order.now in
         RunsFrom (sources_of meant) (targets_of meant) opened.now.job (T.state tray.old)
@@ -83,7 +83,7 @@ fn trap_pages<H: Threads + Sync, T: Tray, R: Rack, G: Gate + Sync>(
     tray: &mut T,
     rack: &mut R,
     gate: &G,
-) -> Result<(), RunStop>
+) -> Result<(), TraprunError>
     requires { IsOpenJob opened.now }
     ensures { let meant = order_in opened.now.order.now in
         TrapsPages (sources_of meant) (targets_of meant) opened.now.job (T.state tray.old)

@@ -8,11 +8,11 @@ use crate::words::read_words;
 use band_workers::Gate;
 use outside::rack::Rack;
 use outside::tray::Tray;
+use refusals::line::Line;
+use refusals::statuses::USAGE;
+use refusals::telling::tell_line;
 use std::alloc::Global;
 use std::thread::Threads;
-use trap_report::line::Line;
-use trap_report::statuses::USAGE;
-use trap_report::telling::tell_line;
 
 /// Traps each page of a job of many pages, and answers the status that the program ends with.
 ///
@@ -24,7 +24,7 @@ use trap_report::telling::tell_line;
 ///
 /// The status is 0 where all pages are written; 2 where the words mean no run; 3 where the job has a fault, or lacks the details
 /// of a plate's colorant; 4 where a plate's file has a fault, too few images or too many, or the plates are no page; 5 where a
-/// read failed; 6 where a write failed; and 7 where memory was wanted. Each refusal tells one line that names the cause. What
+/// read failed; 6 where a write failed; and 7 where memory ran out. Each refusal tells one line that names the cause. What
 /// stops a run at one page leaves the files of the pages before it whole.
 pub fn traprun_main<H: Threads + Sync, T: Tray, R: Rack, G: Gate + Sync>(
     rt: &H,
@@ -74,15 +74,9 @@ fn run<H: Threads + Sync, T: Tray, R: Rack, G: Gate + Sync>(
 fn refuse_words<R: Rack>(rack: &mut R) -> u8
     ensures { RefusesWords (R.state rack.old) (R.state rack.new) result }
 {
-    tell_line(rack, &usage_line());
+    tell_line(
+        rack,
+        &Line::of_text(b"usage: traprun WORKERS BAND JOB REPORT NAME:IN:OUT ..."),
+    );
     USAGE
-}
-
-fn usage_line() -> Line
-    ensures { result ≡ usage_meant }
-{
-    let mut line = Line::new();
-    line.push(b"usage: traprun WORKERS BAND JOB REPORT NAME:IN:OUT ...");
-    line.push(b"\n");
-    line
 }

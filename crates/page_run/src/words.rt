@@ -1,15 +1,14 @@
-ghost use Rattle.std.specs.Prelude.{◌≡◌, ◌≤◌, ◌∷◌, IfSome, IsTrue, length, map, option_map, string_bytes};
+ghost use Rattle.std.specs.Prelude.{◌≡◌, ◌≤◌, IfSome, map, option_map, string_bytes};
 ghost use Rattle.std.specs.List.{list_all, list_any};
 ghost use Rattle.std.specs.Option.{ForSome};
-ghost use Rattle.std.specs.Str.{bytes_eq};
-ghost use Rattle.plain_words.specs.Distinct.{are_distinct};
-ghost use Rattle.plain_words.specs.Parts.{is_plate as plate_test, parts_of};
+ghost use Rattle.plain_words.specs.Parts.{parts_of};
 ghost use Rattle.page_run.specs.Opened.{order_in, IsWithin};
-ghost use Rattle.plain_words.specs.Plates.{are_plates as plates_test, inputs_of, names_of, outputs_of, stand_together as together_test};
+ghost use Rattle.plain_words.specs.Plates.{inputs_of, outputs_of};
 ghost use Rattle.page_run.specs.Words.{is_number_end as number_end_test, is_page_file as page_file_test, is_written as written_test, order_of, order_with as order_meant, plates_of, reads_page_file as reads_test};
 
 use plain_words::numbers::read_number;
-use plain_words::parts::{is_plate, plate_parts};
+use plain_words::parts::plate_parts;
+use plain_words::plates::{are_plates, stand_together};
 
 /// A run over many pages: its workers, the rows of its bands, the files that are read and written, and the words of the plates.
 #[derive(Clone, Copy)]
@@ -65,73 +64,6 @@ fn order_with<'a>(
         })
     } else {
         None
-    }
-}
-
-fn are_plates(words: &[String]) -> bool
-    ensures value { result ≡ plates_test (map string_bytes words.now) }
-    ensures count { IsTrue result → (1 ≤ length words.now) × (length words.now ≤ 16) }
-{
-    1 <= words.len() && words.len() <= 16 && are_all_plates(words)
-}
-
-fn are_all_plates(words: &[String]) -> bool
-    ensures { result ≡ list_all (λ w. plate_test (parts_of w)) (map string_bytes words.now) }
-{
-    match words {
-        [first, rest @ ..] => is_plate(plate_parts(first.as_str())) && are_all_plates(rest),
-        [] => true,
-    }
-}
-
-// Whether no colorant's name stands there twice, and no file that is written, the report among them.
-fn stand_together(report: &str, words: &[String]) -> bool
-    ensures { result ≡ together_test report.now (map parts_of (map string_bytes words.now)) }
-{
-    have_distinct_names(words) && !has_output(words, report) && have_distinct_outputs(words)
-}
-
-fn have_distinct_names(words: &[String]) -> bool
-    ensures { result ≡ are_distinct (names_of (map parts_of (map string_bytes words.now))) }
-{
-    match words {
-        [first, rest @ ..] => {
-            !has_name(rest, plate_parts(first.as_str()).name) && have_distinct_names(rest)
-        }
-        [] => true,
-    }
-}
-
-fn has_name(words: &[String], name: &str) -> bool
-    ensures { let names = names_of (map parts_of (map string_bytes words.now)) in
-        result ≡ list_any (bytes_eq name.now) names }
-{
-    match words {
-        [first, rest @ ..] => { name == plate_parts(first.as_str()).name || has_name(rest, name) }
-        [] => false,
-    }
-}
-
-fn have_distinct_outputs(words: &[String]) -> bool
-    ensures { result ≡ are_distinct (outputs_of (map parts_of (map string_bytes words.now))) }
-{
-    match words {
-        [first, rest @ ..] => {
-            !has_output(rest, plate_parts(first.as_str()).output) && have_distinct_outputs(rest)
-        }
-        [] => true,
-    }
-}
-
-fn has_output(words: &[String], output: &str) -> bool
-    ensures { let outputs = outputs_of (map parts_of (map string_bytes words.now)) in
-        result ≡ list_any (bytes_eq output.now) outputs }
-{
-    match words {
-        [first, rest @ ..] => {
-            output == plate_parts(first.as_str()).output || has_output(rest, output)
-        }
-        [] => false,
     }
 }
 

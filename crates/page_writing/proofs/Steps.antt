@@ -1,16 +1,15 @@
 -- Files that are written one after another.
 use Rattle.std.proofs.Common.{◌≡◌, ℕ, ◌+◌, ◌<◌, ◌≤◌, List, [], ◌∷◌, ◌++◌, length, get_or, Option, Some, None, Ok, Err, IsTrue, refl, sym, ap, ◌∙◌, subst, arith}
 use Rattle.std.proofs.lemmas.List.{append_assoc, map-append, length-append}
-use Rattle.outside.specs.Causes.{RoseOnce, Asks, AsksFront}
+use Rattle.outside.specs.Causes.{RoseOnce, Asks, AsksPrefix}
 use Rattle.outside.specs.Rack.{RackState, KeepsRack, put}
 use Rattle.outside.specs.Writing.{WritesFile, BreaksFile}
 use Rattle.outside.proofs.Names.{asks_none, asks_then, asks_all, asks_before}
 use Rattle.outside.proofs.Steps.{kept_then, once_before, rose_before, told_on}
 use Rattle.page_model.specs.declared.parts.Plane.{Plane}
-use Rattle.pgm_plates.specs.Plates.{spelled}
-use Rattle.pgm_plates.specs.Planes.{plate_of}
-use Rattle.trap_report.specs.declared.refusal.Refusal.{Refusal}
-use Rattle.trap_report.specs.declared.refusal.Refusal.TheVariants.{Write}
+use Rattle.page_writing.specs.Format.{encoded}
+use Rattle.refusals.specs.declared.refusal.Refusal.{Refusal}
+use Rattle.refusals.specs.declared.refusal.Refusal.TheVariants.{Write}
 use Rattle.page_writing.specs.Files.{Written, plate_files, page_files, names_of, put_all}
 use Rattle.page_writing.specs.Writing.{WritesAll, BreaksAt, FailsOnce, FinishesAll, WritesPage, WritesPlates}
 
@@ -53,7 +52,7 @@ breaks_next files w later a b c e keeps before now = record {
   cause = rose_before a.faults b.faults c.faults keeps.faults now.cause;
 }
 
--- what breaks, breaks with more files behind it
+-- what breaks, breaks with more files after it
 breaks_before : (files more : List Written) (k : ℕ) (a b : RackState) → BreaksAt files k a b → BreaksAt (files ++ more) k a b
 breaks_before files more k a b broke = record {
   earlier = broke.earlier;
@@ -72,35 +71,35 @@ breaks_below files k a b broke =
     let long : length files ≡ length broke.earlier + length (broke.file ∷ broke.later) = ap length broke.all ∙ length-append broke.earlier (broke.file ∷ broke.later) in
     omega (arith, long, broke.place)
 
--- the names up to the file that breaks are a front of all names
-pub breaks_front : (files : List Written) (k : ℕ) (a b : RackState) → BreaksAt files k a b → AsksFront a.asked b.asked (names_of files)
-breaks_front files k a b broke =
+-- the names up to the file that breaks are a prefix of all names
+pub breaks_prefix : (files : List Written) (k : ℕ) (a b : RackState) → BreaksAt files k a b → AsksPrefix a.asked b.asked (names_of files)
+breaks_prefix files k a b broke =
     let whole : names_of files ≡ (names_of broke.earlier ++ broke.file.name ∷ []) ++ names_of broke.later =
     ap names_of broke.all ∙ names_append broke.earlier (broke.file ∷ broke.later) ∙ sym (append_assoc (names_of broke.earlier) (broke.file.name ∷ []) (names_of broke.later)) in
-    subst (λ (names : List (List ℕ)). AsksFront a.asked b.asked names) (sym whole) (asks_before a.asked b.asked (names_of broke.earlier ++ broke.file.name ∷ []) (names_of broke.later) broke.asked)
+    subst (λ (names : List (List ℕ)). AsksPrefix a.asked b.asked names) (sym whole) (asks_before a.asked b.asked (names_of broke.earlier ++ broke.file.name ∷ []) (names_of broke.later) broke.asked)
 
-pub all_front : (files : List Written) (a b : RackState) → WritesAll files a b → AsksFront a.asked b.asked (names_of files)
-all_front files a b wrote = asks_all a.asked b.asked (names_of files) wrote.asked
+pub all_prefix : (files : List Written) (a b : RackState) → WritesAll files a b → AsksPrefix a.asked b.asked (names_of files)
+all_prefix files a b wrote = asks_all a.asked b.asked (names_of files) wrote.asked
 
 pub no_plates : (outputs : List (List ℕ)) → plate_files outputs [] ≡ []
 no_plates [] = refl
 no_plates (o ∷ os) = refl
 
--- a plate and those behind it
+-- a plate and those after it
 pub plates_split : (outputs : List (List ℕ)) (planes : List Plane) (plane : Plane) (rest : List Plane) (name : List ℕ) → length planes < length outputs → name ≡ get_or outputs (length planes) name
-    → (later : List Written) × (plate_files outputs (planes ++ plane ∷ rest) ≡ plate_files outputs planes ++ record { name = name; bytes = spelled (plate_of plane) } ∷ later)
+    → (later : List Written) × (plate_files outputs (planes ++ plane ∷ rest) ≡ plate_files outputs planes ++ record { name = name; bytes = encoded plane } ∷ later)
 plates_split [] planes plane rest name less at = let e : ⊥ = omega (arith, less) in absurd e
-plates_split (o ∷ os) [] plane rest name less at = (plate_files os rest, ap (λ (n : List ℕ). record { name = n; bytes = spelled (plate_of plane) } ∷ plate_files os rest) (sym at))
+plates_split (o ∷ os) [] plane rest name less at = (plate_files os rest, ap (λ (n : List ℕ). record { name = n; bytes = encoded plane } ∷ plate_files os rest) (sym at))
 plates_split (o ∷ os) (p ∷ ps) plane rest name less at =
-    let behind = plates_split os ps plane rest name (omega (arith, less)) at in
-    (behind.0, ap (λ (l : List Written). record { name = o; bytes = spelled (plate_of p) } ∷ l) behind.1)
+    let suffix = plates_split os ps plane rest name (omega (arith, less)) at in
+    (suffix.0, ap (λ (l : List Written). record { name = o; bytes = encoded p } ∷ l) suffix.1)
 
 -- one plate more
 pub plates_more : (outputs : List (List ℕ)) (planes : List Plane) (plane : Plane) (name : List ℕ) → length planes < length outputs → name ≡ get_or outputs (length planes) name
-    → plate_files outputs (planes ++ plane ∷ []) ≡ plate_files outputs planes ++ record { name = name; bytes = spelled (plate_of plane) } ∷ []
+    → plate_files outputs (planes ++ plane ∷ []) ≡ plate_files outputs planes ++ record { name = name; bytes = encoded plane } ∷ []
 plates_more [] planes plane name less at = let e : ⊥ = omega (arith, less) in absurd e
-plates_more (o ∷ os) [] plane name less at = ap (λ (l : List Written). record { name = o; bytes = spelled (plate_of plane) } ∷ l) (no_plates os) ∙ ap (λ (n : List ℕ). record { name = n; bytes = spelled (plate_of plane) } ∷ []) (sym at)
-plates_more (o ∷ os) (p ∷ ps) plane name less at = ap (λ (l : List Written). record { name = o; bytes = spelled (plate_of p) } ∷ l) (plates_more os ps plane name (omega (arith, less)) at)
+plates_more (o ∷ os) [] plane name less at = ap (λ (l : List Written). record { name = o; bytes = encoded plane } ∷ l) (no_plates os) ∙ ap (λ (n : List ℕ). record { name = n; bytes = encoded plane } ∷ []) (sym at)
+plates_more (o ∷ os) (p ∷ ps) plane name less at = ap (λ (l : List Written). record { name = o; bytes = encoded p } ∷ l) (plates_more os ps plane name (omega (arith, less)) at)
 
 pub plates_length : (outputs : List (List ℕ)) (planes : List Plane) → length planes ≤ length outputs → length (plate_files outputs planes) ≡ length planes
 plates_length [] [] less = refl
@@ -118,7 +117,7 @@ pub plates_written : {T : Type 0} (outputs : List (List ℕ)) (planes : List Pla
 plates_written outputs planes a b x same keeps told wrote = record {
   keeps = keeps;
   told = told;
-  asked = subst (λ (names : List (List ℕ)). AsksFront a.asked b.asked names) (plates_names outputs planes same) (all_front (plate_files outputs planes) a b wrote);
+  asked = subst (λ (names : List (List ℕ)). AsksPrefix a.asked b.asked names) (plates_names outputs planes same) (all_prefix (plate_files outputs planes) a b wrote);
   answer = wrote;
   once = tt;
 }
@@ -128,7 +127,7 @@ pub plate_broken : {T : Type 0} (outputs : List (List ℕ)) (planes : List Plane
 plate_broken outputs planes k a b same keeps told once broke = record {
   keeps = keeps;
   told = told;
-  asked = subst (λ (names : List (List ℕ)). AsksFront a.asked b.asked names) (plates_names outputs planes same) (breaks_front (plate_files outputs planes) k a b broke);
+  asked = subst (λ (names : List (List ℕ)). AsksPrefix a.asked b.asked names) (plates_names outputs planes same) (breaks_prefix (plate_files outputs planes) k a b broke);
   answer = (omega (arith, breaks_below (plate_files outputs planes) k a b broke, plates_length outputs planes (omega (arith, same)), same), broke);
   once = once;
 }
@@ -136,8 +135,8 @@ plate_broken outputs planes k a b same keeps told once broke = record {
 pub page_names : (outputs : List (List ℕ)) (planes : List Plane) (report text : List ℕ) → length planes ≡ length outputs → names_of (page_files outputs planes report text) ≡ outputs ++ report ∷ []
 page_names outputs planes report text same = names_append (plate_files outputs planes) _ ∙ ap (λ (l : List (List ℕ)). l ++ report ∷ []) (plates_names outputs planes same)
 
-as_front : (outputs : List (List ℕ)) (planes : List Plane) (report text : List ℕ) (a b : RackState) → length planes ≡ length outputs → AsksFront a.asked b.asked (names_of (page_files outputs planes report text)) → AsksFront a.asked b.asked (outputs ++ report ∷ [])
-as_front outputs planes report text a b same front = subst (λ (names : List (List ℕ)). AsksFront a.asked b.asked names) (page_names outputs planes report text same) front
+as_prefix : (outputs : List (List ℕ)) (planes : List Plane) (report text : List ℕ) (a b : RackState) → length planes ≡ length outputs → AsksPrefix a.asked b.asked (names_of (page_files outputs planes report text)) → AsksPrefix a.asked b.asked (outputs ++ report ∷ [])
+as_prefix outputs planes report text a b same prefix = subst (λ (names : List (List ℕ)). AsksPrefix a.asked b.asked names) (page_names outputs planes report text same) prefix
 
 -- the plates, and then the report
 pub page_written : {T U E : Type 0} (outputs : List (List ℕ)) (planes : List Plane) (report text : List ℕ) (a b c : RackState) (x y : T) (z : U) → length planes ≡ length outputs → WritesPlates outputs planes a b (Ok x) → WritesFile {T = U} {E = E} report text b c (Ok z) → WritesPage outputs planes report text a c (Ok y)
@@ -146,7 +145,7 @@ page_written outputs planes report text a b c x y z same plates now =
     record {
       keeps = kept_then a b c plates.keeps now.keeps;
       told = λ tells. now.told (told_on a b plates.keeps tells) ∙ plates.told tells;
-      asked = as_front outputs planes report text a c same (all_front (page_files outputs planes report text) a c all);
+      asked = as_prefix outputs planes report text a c same (all_prefix (page_files outputs planes report text) a c all);
       answer = all;
       once = tt;
     }
@@ -161,7 +160,7 @@ report_broken outputs planes report text a b c x e same plates now =
     record {
       keeps = kept_then a b c plates.keeps now.keeps;
       told = λ tells. now.told (told_on a b plates.keeps tells) ∙ plates.told tells;
-      asked = as_front outputs planes report text a c same (breaks_front (page_files outputs planes report text) (length outputs) a c broke);
+      asked = as_prefix outputs planes report text a c same (breaks_prefix (page_files outputs planes report text) (length outputs) a c broke);
       answer = broke;
       once = once_before a.faults b.faults c.faults plates.answer.well now.once;
     }
@@ -174,7 +173,7 @@ plates_broken outputs planes report text a b (Write (Some k)) same plates =
     record {
       keeps = plates.keeps;
       told = plates.told;
-      asked = as_front outputs planes report text a b same (breaks_front (page_files outputs planes report text) k a b broke);
+      asked = as_prefix outputs planes report text a b same (breaks_prefix (page_files outputs planes report text) k a b broke);
       answer = (plates.answer.0, broke);
       once = plates.once;
     }

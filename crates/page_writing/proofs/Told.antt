@@ -6,7 +6,7 @@ use Rattle.outside.specs.Writing.{BreaksFile}
 use Rattle.outside.proofs.Steps.{rose_after}
 use Rattle.page_writing.specs.Files.{Written, names_of, put_all}
 use Rattle.page_writing.specs.Writing.{Breaks, BreaksAt}
-use Rattle.trap_report.specs.Telling.{KeepsFiles, TellsText, TellsAfterFault}
+use Rattle.refusals.specs.Telling.{KeepsFiles, TellsText, TellsAfterFault}
 
 -- a file that broke, after what changes no file
 broken_then : (name bytes : List ℕ) (held : List ℕ → Option (List ℕ)) (b c : RackState) → c.is_open ≡ b.is_open → c.file ≡ b.file → BreaksFile name bytes held b → BreaksFile name bytes held c
@@ -37,7 +37,5 @@ breaks_cause plates written (Some k) a b breaks = breaks.1.cause
 
 -- its line, which is cut short by a further failed call alone
 pub line_after : (text : List ℕ) (a b c : RackState) → (IsTrue a.tells → b.told ≡ a.told) → b.tells ≡ a.tells → RoseOnce a.faults b.faults → TellsText text b c → TellsAfterFault text a c
-line_after text a b c same tells once line told = elim (line (tells ∙ told)) [
-  | inl whole ↦ inl (whole ∙ ap (λ (t : List ℕ). t ++ text) (same told))
-  | inr part ↦ inr (subst (λ (n : ℕ). Rose n c.faults) once part.0, (part.1.0, part.1.1 ∙ ap (λ (t : List ℕ). t ++ take part.1.0 text) (same told)))
-]
+line_after text a b c same tells once (inl whole) = inl (whole.0 ∙ once, λ told. whole.1 (tells ∙ told) ∙ ap (λ (t : List ℕ). t ++ text) (same told))
+line_after text a b c same tells once (inr part) = inr (subst (λ (n : ℕ). RoseOnce n c.faults) once part.0, λ told. (let cut = part.1 (tells ∙ told) in (cut.0, cut.1 ∙ ap (λ (t : List ℕ). t ++ take cut.0 text) (same told))))

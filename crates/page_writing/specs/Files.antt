@@ -2,21 +2,19 @@
 use Rattle.std.specs.Prelude.{ℕ, List, [], ◌∷◌, ◌++◌, map, Option}
 use Rattle.outside.specs.Rack.{put}
 use Rattle.page_model.specs.declared.parts.Plane.{Plane}
-use Rattle.pgm_plates.specs.Plates.{spelled}
-use Rattle.pgm_plates.specs.Planes.{plate_of}
+use Rattle.page_writing.specs.Format.{encoded}
 
 -- a file that is written, by its name
 pub record Written : Type 0 where
   pub name : List ℕ
   pub bytes : List ℕ
 
--- each plane as a plate in its canonical spelling, under its file's name, as far as there are
--- names and planes
+-- each plane as a plate's file, under its name, as far as there are names and planes
 abbrev pub plate_files : List (List ℕ) → List Plane → List Written
 plate_files [] planes = []
 plate_files (output ∷ outputs) [] = []
 plate_files (output ∷ outputs) (plane ∷ planes) =
-    record { name = output; bytes = spelled (plate_of plane) } ∷ plate_files outputs planes
+    record { name = output; bytes = encoded plane } ∷ plate_files outputs planes
 
 -- all files of a page in the order in which they are written: the plates, and then the report
 abbrev pub page_files : List (List ℕ) → List Plane → List ℕ → List ℕ → List Written

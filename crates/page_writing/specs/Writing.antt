@@ -1,12 +1,12 @@
 -- What it means to write files one after another, and all files of a page.
 use Rattle.std.specs.Prelude.{◌≡◌, ℕ, ◌<◌, IsTrue, IsFalse, List, [], ◌∷◌, ◌++◌, length, Option}
 use Rattle.std.specs.Prelude.{Some, None, Result, Ok, Err}
-use Rattle.outside.specs.Causes.{Rose, RoseOnce, Asks, AsksFront}
+use Rattle.outside.specs.Causes.{Rose, RoseOnce, Asks, AsksPrefix}
 use Rattle.outside.specs.Rack.{RackState, KeepsRack}
 use Rattle.outside.specs.Writing.{BreaksFile}
 use Rattle.page_model.specs.declared.parts.Plane.{Plane}
-use Rattle.trap_report.specs.declared.refusal.Refusal.{Refusal}
-use Rattle.trap_report.specs.declared.refusal.Refusal.TheVariants.{Write}
+use Rattle.refusals.specs.declared.refusal.Refusal.{Refusal}
+use Rattle.refusals.specs.declared.refusal.Refusal.TheVariants.{Write}
 use Rattle.page_writing.specs.Files.{Written, plate_files, page_files, names_of, put_all}
 
 -- The files of these names, and no others, are finished, one after another.
@@ -25,7 +25,7 @@ pub record WritesAll (files : List Written) (before after : RackState) : Type 0 
   pub well : after.faults ≡ before.faults
 
 -- The rack has a fault at file k: the earlier ones stand whole and are finished; of this one a
--- front of its bytes, and it
+-- prefix of its bytes, and it
 -- is open still, or nothing is changed, exactly where it could not be created. None of the later
 -- ones is begun.
 pub record BreaksAt (files : List Written) (k : ℕ) (before after : RackState) : Type 0 where
@@ -40,7 +40,7 @@ pub record BreaksAt (files : List Written) (k : ℕ) (before after : RackState) 
       → BreaksFile file.name file.bytes (put_all earlier before.file) after
   pub cause : Rose before.faults after.faults
 
--- The plate of that number breaks, of so many; or, without a number, the report behind them.
+-- The plate of that number breaks, of so many; or, without a number, the report after them.
 abbrev pub Breaks : ℕ → List Written → Option ℕ → RackState → RackState → Type 0
 Breaks plates files (Some k) before after = (k < plates) × BreaksAt files k before after
 Breaks plates files None before after = BreaksAt files plates before after
@@ -62,7 +62,7 @@ pub record WritesPage {T : Type 0} (outputs : List (List ℕ)) (planes : List Pl
     (report text : List ℕ) (before after : RackState) (result : Result T Refusal) : Type 0 where
   pub keeps : KeepsRack before after
   pub told : IsTrue before.tells → after.told ≡ before.told
-  pub asked : AsksFront before.asked after.asked (outputs ++ report ∷ [])
+  pub asked : AsksPrefix before.asked after.asked (outputs ++ report ∷ [])
   pub answer : AnswersWriting (length outputs)
       (page_files outputs planes report text) before after result
   pub once : FailsOnce before after result
@@ -80,6 +80,6 @@ pub record WritesPlates {T : Type 0} (outputs : List (List ℕ)) (planes : List 
     (before after : RackState) (result : Result T Refusal) : Type 0 where
   pub keeps : KeepsRack before after
   pub told : IsTrue before.tells → after.told ≡ before.told
-  pub asked : AsksFront before.asked after.asked outputs
+  pub asked : AsksPrefix before.asked after.asked outputs
   pub answer : AnswersPlates (length outputs) (plate_files outputs planes) before after result
   pub once : FailsOnce before after result

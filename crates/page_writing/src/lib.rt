@@ -1,4 +1,5 @@
 //! A trapped page into its files: a plate for each plane, and the report.
 #![tactic(auto)]
 
+pub mod format;
 pub mod writing;

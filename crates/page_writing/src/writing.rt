@@ -4,19 +4,19 @@ ghost use Rattle.page_model.specs.Conditions.{IsPlane};
 ghost use Rattle.page_model.specs.Limits.{most_samples};
 ghost use Rattle.page_writing.specs.Writing.{WritesPage, WritesPlates};
 
+use crate::format::write_encoded;
 use outside::rack::Rack;
 use outside::tray::Failed;
 use outside::writing::write_file;
 use page_model::parts::PlaneList;
-use pgm_plates::writing::write_plane;
+use refusals::refusal::Refusal;
 use std::convert::AsStr;
-use trap_report::refusal::Refusal;
 
-/// Writes each plane, turned into a plate, into the file of its name, and then the text into the report, as this project
+/// Writes each plane as a plate into the file of its name, and then the text into the report, as this project
 /// orders them. It takes no memory.
 ///
 /// It stops at the first file at which a call of the rack fails, and answers `Write` with the plate's number from 0, or
-/// with none for the report. The files before it then stand whole; of it a front of its bytes stands under its name, or,
+/// with none for the report. The files before it then stand whole; of it a prefix of its bytes stands under its name, or,
 /// where it could not be created, nothing; no later file is begun.
 pub fn write_page<R: Rack, S: AsStr>(
     rack: &mut R,
@@ -41,7 +41,7 @@ pub fn write_page<R: Rack, S: AsStr>(
     }
 }
 
-/// Writes each plane, turned into a plate, into the file of its name, in order, as far as `write_page` goes before the
+/// Writes each plane as a plate into the file of its name, in order, as far as `write_page` goes before the
 /// report. It takes no memory, and its one refusal is `Write` with the plate's number.
 pub fn write_plates<R: Rack, S: AsStr>(
     rack: &mut R,
@@ -58,7 +58,7 @@ pub fn write_plates<R: Rack, S: AsStr>(
     let planes = planes.into_vec();
     let mut place = 0usize;
     for plane in planes {
-        match write_plane(rack, names[place].as_str(), &plane) {
+        match write_encoded(rack, names[place].as_str(), &plane) {
             Ok(()) => place += 1,
             Err(Failed) => return Err(Refusal::Write(Some(place as u32))),
         }

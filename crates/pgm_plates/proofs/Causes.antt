@@ -5,14 +5,16 @@ use Rattle.std.proofs.lemmas.Bool.Decides.{nat_tests}
 use Rattle.std.proofs.lemmas.List.{append_assoc, same_from_push, length-append, length_push}
 use Rattle.std.proofs.Math.Nat.{add-mul, mul-le-mul_right}
 use Rattle.std.specs.List.{list_all}
+use Rattle.pgm_plates.specs.declared.bounds.Bounds.{Bounds}
+use Rattle.pgm_plates.specs.declared.bounds.Bounds.TheVariants.{Page}
 use Rattle.pgm_plates.specs.declared.stand.Stand.TheVariants.{Digits}
 use Rattle.pgm_plates.specs.declared.plate.PlateFault.{PlateFault}
 use Rattle.pgm_plates.specs.declared.plate.PlateFault.TheVariants.{BadMagic, BadHeader, SideRange, TooManySamples, MaxvalRange, SampleAboveMaxval, Truncated, TrailingBytes}
 use Rattle.pgm_plates.specs.Header.{is_digit, is_line_end, IsItem, IsGap, IsHeader, IsBegun}
 use Rattle.pgm_plates.specs.Header.IsItem.{space, comment}
 use Rattle.pgm_plates.specs.Header.IsGap.{one, more}
-use Rattle.pgm_plates.specs.Plates.{IsSide, sample_bytes, sample_size, raster}
-use Rattle.pgm_plates.specs.Faults.{Decides, Breaks, NumberFault, EndsNumber, EndsAboveMaxval, EndsBehindRaster, EndsTooLong, HoldsNoHeader}
+use Rattle.pgm_plates.specs.Plates.{IsSideWithin, sample_bytes, sample_size, raster}
+use Rattle.pgm_plates.specs.Faults.{DecidesWithin, Breaks, NumberFault, EndsNumber, EndsAboveMaxval, EndsAfterRaster, EndsTooLong, HoldsNoHeader}
 use Rattle.pgm_plates.specs.Runs.{Reached}
 use Rattle.pgm_plates.proofs.HeaderSound.{and_true}
 use Rattle.pgm_plates.proofs.HeaderRun.{reached, space_other}
@@ -20,28 +22,6 @@ use Rattle.pgm_plates.proofs.Shapes.{one_header, begun_stops, holds_header}
 use Rattle.pgm_plates.proofs.Numbers.{Ends, ends_run, fault_ends}
 use Rattle.pgm_plates.proofs.Scans.{some_bytes}
 use Rattle.pgm_plates.proofs.Decisions.{bytes_size, raster_size, no_break}
-
--- what the last byte does
-data Cause (bytes : List ℕ) (fault : PlateFault) : Type 0 where
-  breaks : (at : ℕ) → Breaks bytes at → fault ≡ cond (ltb at 2) (BadMagic at) (BadHeader at) → Cause bytes fault
-  long : EndsTooLong bytes → fault ≡ BadHeader 65536 → Cause bytes fault
-  number : NumberFault bytes fault → Cause bytes fault
-  above : (at : ℕ) → EndsAboveMaxval bytes at → fault ≡ SampleAboveMaxval at → Cause bytes fault
-  behind : (at : ℕ) → EndsBehindRaster bytes at → fault ≡ TrailingBytes at → Cause bytes fault
-
-cause : (bytes : List ℕ) (fault : PlateFault) → Decides bytes fault → Cause bytes fault
-cause bytes (BadMagic at) d = breaks at d.1 (sym (cond-true (ltb at 2) (BadMagic at) (BadHeader at) (lt-ltb at 2 d.0)))
-cause bytes (BadHeader at) d =
-    elim d [
-      | inl broken ↦ breaks at broken.1 (sym (cond-false (ltb at 2) (BadMagic at) (BadHeader at) (le-ltb at 2 broken.0)))
-      | inr far ↦ long far.1 (ap (λ (n : ℕ). BadHeader n) far.0)
-    ]
-cause bytes (SideRange at) d = number d
-cause bytes (TooManySamples at) d = number d
-cause bytes (MaxvalRange at) d = number d
-cause bytes (SampleAboveMaxval at) d = above at d refl
-cause bytes (Truncated at) d = absurd d
-cause bytes (TrailingBytes at) d = behind at d refl
 
 -- a header and more within the bytes
 record Beyond (bytes : List ℕ) : Type 0 where
@@ -68,8 +48,8 @@ above_beyond bytes at d =
       some = omega (arith, length-append (raster d.maxval d.samples) (sample_bytes d.maxval d.sample));
     }
 
-behind_beyond : (bytes : List ℕ) (at : ℕ) → EndsBehindRaster bytes at → Beyond bytes
-behind_beyond bytes at d = record {
+after_beyond : (bytes : List ℕ) (at : ℕ) → EndsAfterRaster bytes at → Beyond bytes
+after_beyond bytes at d = record {
   header = d.header;
   back = raster d.maxval d.samples ++ d.last ∷ [];
   width = d.width;
@@ -83,25 +63,19 @@ behind_beyond bytes at d = record {
 breaks_beyond : (bytes : List ℕ) (at : ℕ) → Breaks bytes at → Beyond bytes → ⊥
 breaks_beyond bytes at broken b = no_break b.header b.back b.width b.height b.maxval at b.is_header b.some (subst (λ (x : List ℕ). Breaks x at) b.whole broken)
 
-long_beyond : (bytes : List ℕ) → EndsTooLong bytes → Beyond bytes → ⊥
-long_beyond bytes far b = holds_header b.header b.back b.width b.height b.maxval b.is_header (subst HoldsNoHeader b.whole far.unended)
-
 begun_beyond : (bytes : List ℕ) → IsBegun bytes → Beyond bytes → ⊥
 begun_beyond bytes begun b =
     let none = begun_stops b.header b.back b.width b.height b.maxval b.is_header (subst IsBegun b.whole begun) in
     omega (arith, b.some, ap length none)
 
-number_begun : (bytes : List ℕ) (fault : PlateFault) → NumberFault bytes fault → IsBegun bytes
-number_begun bytes fault d = let e = fault_ends bytes fault d in e.ends.begun
-
 breaks_place : (bytes : List ℕ) (at : ℕ) → Breaks bytes at → length bytes ≡ at + 1
-breaks_place bytes at broken = ap length broken.whole ∙ length_push broken.front broken.last ∙ ap (λ (n : ℕ). n + 1) broken.place
+breaks_place bytes at broken = ap length broken.whole ∙ length_push broken.prefix broken.last ∙ ap (λ (n : ℕ). n + 1) broken.place
 
 above_place : (bytes : List ℕ) (at : ℕ) (d : EndsAboveMaxval bytes at) → length bytes ≡ at + sample_size d.maxval
 above_place bytes at d = ap length d.whole ∙ length-append (d.header ++ raster d.maxval d.samples) (sample_bytes d.maxval d.sample) ∙ ap (λ (n : ℕ). n + length (sample_bytes d.maxval d.sample)) d.place ∙ ap (λ (n : ℕ). at + n) (bytes_size d.maxval d.sample)
 
-behind_place : (bytes : List ℕ) (at : ℕ) → EndsBehindRaster bytes at → length bytes ≡ at + 1
-behind_place bytes at d = ap length d.whole ∙ length_push (d.header ++ raster d.maxval d.samples) d.last ∙ ap (λ (n : ℕ). n + 1) d.place
+after_place : (bytes : List ℕ) (at : ℕ) → EndsAfterRaster bytes at → length bytes ≡ at + 1
+after_place bytes at d = ap length d.whole ∙ length_push (d.header ++ raster d.maxval d.samples) d.last ∙ ap (λ (n : ℕ). n + 1) d.place
 
 one_above : (bytes : List ℕ) (at at' : ℕ) → EndsAboveMaxval bytes at → EndsAboveMaxval bytes at' → at ≡ at'
 one_above bytes at at' d e =
@@ -116,8 +90,8 @@ fewer_times k n size less =
     let e : (k + 1) * size ≡ k * size + size = add-mul k 1 size ∙ ap (λ (x : ℕ). k * size + x) (let f : 1 * size ≡ size = omega arith in f) in
     subst (λ (x : ℕ). x ≤ n * size) e (mul-le-mul_right size (let le : k + 1 ≤ n = omega arith in le))
 
-above_behind : (bytes : List ℕ) (at at' : ℕ) → EndsAboveMaxval bytes at → EndsBehindRaster bytes at' → ⊥
-above_behind bytes at at' d e =
+above_after : (bytes : List ℕ) (at at' : ℕ) → EndsAboveMaxval bytes at → EndsAfterRaster bytes at' → ⊥
+above_after bytes at at' d e =
     let same = one_header d.header (raster d.maxval d.samples ++ sample_bytes d.maxval d.sample) e.header (raster e.maxval e.samples ++ e.last ∷ []) d.width d.height d.maxval e.width e.height e.maxval d.is_header e.is_header
     (sym (append_assoc d.header (raster d.maxval d.samples) (sample_bytes d.maxval d.sample)) ∙ sym d.whole ∙ e.whole ∙ append_assoc e.header (raster e.maxval e.samples) (e.last ∷ [])) in
     let m = d.maxval in
@@ -138,10 +112,10 @@ either_way : (t : Bool) (x y z : ℕ) → x ≡ z → y ≡ z → cond t x y ≡
 either_way true x y z p q = p
 either_way false x y z p q = q
 
-digits_behind : (front digits : List ℕ) (x k : ℕ) → is_digit x ≡ false → digits_end (front ++ x ∷ digits) k ≡ digits_end digits 0
-digits_behind [] digits x k other = cond-false (is_digit x) (digits_end digits (k + 1)) (digits_end digits 0) other
-digits_behind (b ∷ bs) digits x k other =
-    either_way (is_digit b) (digits_end (bs ++ x ∷ digits) (k + 1)) (digits_end (bs ++ x ∷ digits) 0) (digits_end digits 0) (digits_behind bs digits x (k + 1) other) (digits_behind bs digits x 0 other)
+digits_after : (prefix digits : List ℕ) (x k : ℕ) → is_digit x ≡ false → digits_end (prefix ++ x ∷ digits) k ≡ digits_end digits 0
+digits_after [] digits x k other = cond-false (is_digit x) (digits_end digits (k + 1)) (digits_end digits 0) other
+digits_after (b ∷ bs) digits x k other =
+    either_way (is_digit b) (digits_end (bs ++ x ∷ digits) (k + 1)) (digits_end (bs ++ x ∷ digits) 0) (digits_end digits 0) (digits_after bs digits x (k + 1) other) (digits_after bs digits x 0 other)
 
 digits_all : (digits : List ℕ) (k : ℕ) → list_all is_digit digits ≡ true → digits_end digits k ≡ k + length digits
 digits_all [] k all = omega arith
@@ -151,112 +125,145 @@ digits_all (b ∷ bs) k all =
 
 -- a gap's last byte is no digit
 record GapEnd (gap : List ℕ) : Type 0 where
-  front : List ℕ
+  prefix : List ℕ
   last : ℕ
-  is : gap ≡ front ++ last ∷ []
+  is : gap ≡ prefix ++ last ∷ []
   other : is_digit last ≡ false
 
 line_other : (b : ℕ) → is_line_end b ≡ true → is_digit b ≡ false
 line_other b h = grind (arith, nat_tests)
 
 item_end : (item : List ℕ) → IsItem item → GapEnd item
-item_end item (space bytes b h e) = record { front = []; last = b; is = e; other = space_other b h }
-item_end item (comment bytes text last plain end e) = record { front = 35 ∷ text; last = last; is = e; other = line_other last end }
+item_end item (space bytes b h e) = record { prefix = []; last = b; is = e; other = space_other b h }
+item_end item (comment bytes text last plain end e) = record { prefix = 35 ∷ text; last = last; is = e; other = line_other last end }
 
 gap_end : (gap : List ℕ) → IsGap gap → GapEnd gap
 gap_end gap (one item it) = item_end gap it
-gap_end gap (more bytes front item is_gap it e) =
+gap_end gap (more bytes prefix item is_gap it e) =
     let end = item_end item it in
-    record { front = front ++ end.front; last = end.last; is = e ∙ ap (λ (x : List ℕ). front ++ x) end.is ∙ sym (append_assoc front end.front (end.last ∷ [])); other = end.other }
+    record { prefix = prefix ++ end.prefix; last = end.last; is = e ∙ ap (λ (x : List ℕ). prefix ++ x) end.is ∙ sym (append_assoc prefix end.prefix (end.last ∷ [])); other = end.other }
 
 -- where the digits of a number that ends here begin
 ends_place : (bytes : List ℕ) (b at n : ℕ) (earlier : List ℕ) → EndsNumber (bytes ++ b ∷ []) at n earlier → length bytes ≡ at + digits_end bytes 0
 ends_place bytes b at n earlier ends =
-    let both = same_from_push bytes (ends.front ++ ends.gap ++ ends.digits) b ends.next ends.whole in
+    let both = same_from_push bytes (ends.prefix ++ ends.gap ++ ends.digits) b ends.next ends.whole in
     let end = gap_end ends.gap ends.is_gap in
-    let split : bytes ≡ (ends.front ++ end.front) ++ end.last ∷ ends.digits =
-    both.0 ∙ ap (λ (x : List ℕ). ends.front ++ x ++ ends.digits) end.is
-    ∙ ap (λ (x : List ℕ). x ++ ends.digits) (sym (append_assoc ends.front end.front (end.last ∷ [])))
-    ∙ append_assoc (ends.front ++ end.front) (end.last ∷ []) ends.digits in
-    let count : digits_end bytes 0 ≡ length ends.digits = ap (λ (x : List ℕ). digits_end x 0) split ∙ digits_behind (ends.front ++ end.front) ends.digits end.last 0 end.other ∙ digits_all ends.digits 0 ends.is_number.1 ∙ (let z : 0 + length ends.digits ≡ length ends.digits = omega arith in z) in
-    let size : length bytes ≡ at + length ends.digits = ap length both.0 ∙ length-append (ends.front ++ ends.gap) ends.digits ∙ ap (λ (x : ℕ). x + length ends.digits) ends.place in
+    let split : bytes ≡ (ends.prefix ++ end.prefix) ++ end.last ∷ ends.digits =
+    both.0 ∙ ap (λ (x : List ℕ). ends.prefix ++ x ++ ends.digits) end.is
+    ∙ ap (λ (x : List ℕ). x ++ ends.digits) (sym (append_assoc ends.prefix end.prefix (end.last ∷ [])))
+    ∙ append_assoc (ends.prefix ++ end.prefix) (end.last ∷ []) ends.digits in
+    let count : digits_end bytes 0 ≡ length ends.digits = ap (λ (x : List ℕ). digits_end x 0) split ∙ digits_after (ends.prefix ++ end.prefix) ends.digits end.last 0 end.other ∙ digits_all ends.digits 0 ends.is_number.1 ∙ (let z : 0 + length ends.digits ≡ length ends.digits = omega arith in z) in
+    let size : length bytes ≡ at + length ends.digits = ap length both.0 ∙ length-append (ends.prefix ++ ends.gap) ends.digits ∙ ap (λ (x : ℕ). x + length ends.digits) ends.place in
     size ∙ ap (λ (x : ℕ). at + x) (sym count)
 
 one_end : (bytes : List ℕ) (d e : Ends bytes) → (d.at ≡ e.at) × (d.number ≡ e.number) × (d.earlier ≡ e.earlier)
 one_end bytes d e =
-    let front = d.ends.front ++ d.ends.gap ++ d.ends.digits in
+    let prefix = d.ends.prefix ++ d.ends.gap ++ d.ends.digits in
     let b = d.ends.next in
-    let whole : bytes ≡ front ++ b ∷ [] = d.ends.whole in
-    let dd : EndsNumber (front ++ b ∷ []) d.at d.number d.earlier = subst (λ (x : List ℕ). EndsNumber x d.at d.number d.earlier) whole d.ends in
-    let ee : EndsNumber (front ++ b ∷ []) e.at e.number e.earlier = subst (λ (x : List ℕ). EndsNumber x e.at e.number e.earlier) whole e.ends in
+    let whole : bytes ≡ prefix ++ b ∷ [] = d.ends.whole in
+    let dd : EndsNumber (prefix ++ b ∷ []) d.at d.number d.earlier = subst (λ (x : List ℕ). EndsNumber x d.at d.number d.earlier) whole d.ends in
+    let ee : EndsNumber (prefix ++ b ∷ []) e.at e.number e.earlier = subst (λ (x : List ℕ). EndsNumber x e.at e.number e.earlier) whole e.ends in
     let runs : Some (reached Digits (d.number ∷ d.earlier)) ≡ Some (reached Digits (e.number ∷ e.earlier)) =
-    sym ((ends_run front b d.at d.number d.earlier dd d.few).0) ∙ (ends_run front b e.at e.number e.earlier ee e.few).0 in
+    sym ((ends_run prefix b d.at d.number d.earlier dd d.few).0) ∙ (ends_run prefix b e.at e.number e.earlier ee e.few).0 in
     let same : reached Digits (d.number ∷ d.earlier) ≡ reached Digits (e.number ∷ e.earlier) = cc in
     let ns : d.number ∷ d.earlier ≡ e.number ∷ e.earlier = ap (λ (r : Reached). r.numbers) same in
-    let at : d.at ≡ e.at = omega (arith, ends_place front b d.at d.number d.earlier dd, ends_place front b e.at e.number e.earlier ee) in
+    let at : d.at ≡ e.at = omega (arith, ends_place prefix b d.at d.number d.earlier dd, ends_place prefix b e.at e.number e.earlier ee) in
     let number : d.number ≡ e.number = cc in
     let earlier : d.earlier ≡ e.earlier = cc in
     (at, number, earlier)
 
-one_number : (bytes : List ℕ) (f g : PlateFault) → NumberFault bytes f → NumberFault bytes g → f ≡ g
-unfolding fault_ends
-one_number bytes (SideRange a) (SideRange b) d e = ap (λ (n : ℕ). SideRange n) ((one_end bytes (fault_ends bytes (SideRange a) d) (fault_ends bytes (SideRange b) e)).0)
-one_number bytes (SideRange a) (TooManySamples b) d e =
-    let same = one_end bytes (fault_ends bytes (SideRange a) d) (fault_ends bytes (TooManySamples b) e) in
-    absurd (d.4 (subst IsSide (sym same.1) e.4))
-one_number bytes (SideRange a) (MaxvalRange b) d e =
-    let same = one_end bytes (fault_ends bytes (SideRange a) d) (fault_ends bytes (MaxvalRange b) e) in
-    absurd (omega (arith, d.3, ap length same.2))
-one_number bytes (TooManySamples a) (SideRange b) d e =
-    let same = one_end bytes (fault_ends bytes (TooManySamples a) d) (fault_ends bytes (SideRange b) e) in
-    absurd (e.4 (subst IsSide same.1 d.4))
-one_number bytes (TooManySamples a) (TooManySamples b) d e = ap (λ (n : ℕ). TooManySamples n) ((one_end bytes (fault_ends bytes (TooManySamples a) d) (fault_ends bytes (TooManySamples b) e)).0)
-one_number bytes (TooManySamples a) (MaxvalRange b) d e =
-    let same = one_end bytes (fault_ends bytes (TooManySamples a) d) (fault_ends bytes (MaxvalRange b) e) in
-    absurd (omega (arith, ap length same.2))
-one_number bytes (MaxvalRange a) (SideRange b) d e =
-    let same = one_end bytes (fault_ends bytes (MaxvalRange a) d) (fault_ends bytes (SideRange b) e) in
-    absurd (omega (arith, e.3, ap length same.2))
-one_number bytes (MaxvalRange a) (TooManySamples b) d e =
-    let same = one_end bytes (fault_ends bytes (MaxvalRange a) d) (fault_ends bytes (TooManySamples b) e) in
-    absurd (omega (arith, ap length same.2))
-one_number bytes (MaxvalRange a) (MaxvalRange b) d e = ap (λ (n : ℕ). MaxvalRange n) ((one_end bytes (fault_ends bytes (MaxvalRange a) d) (fault_ends bytes (MaxvalRange b) e)).0)
-one_number bytes (BadMagic a) g d e = absurd d
-one_number bytes (BadHeader a) g d e = absurd d
-one_number bytes (SampleAboveMaxval a) g d e = absurd d
-one_number bytes (Truncated a) g d e = absurd d
-one_number bytes (TrailingBytes a) g d e = absurd d
-one_number bytes f g d e = absurd e
-
 header_fault_at : (a b : ℕ) → a ≡ b → cond (ltb a 2) (BadMagic a) (BadHeader a) ≡ cond (ltb b 2) (BadMagic b) (BadHeader b)
 header_fault_at a b same = ap (λ (n : ℕ). cond (ltb n 2) (BadMagic n) (BadHeader n)) same
 
-one_cause : (bytes : List ℕ) (f g : PlateFault) → Cause bytes f → Cause bytes g → f ≡ g
-one_cause bytes f g (breaks a d p) (breaks b e q) = p ∙ header_fault_at a b (omega (arith, breaks_place bytes a d, breaks_place bytes b e)) ∙ sym q
-one_cause bytes f g (breaks a d p) (long e q) = absurd (d.broken e.begun)
-one_cause bytes f g (breaks a d p) (number e) = absurd (d.broken (number_begun bytes g e))
-one_cause bytes f g (breaks a d p) (above b e q) = absurd (breaks_beyond bytes a d (above_beyond bytes b e))
-one_cause bytes f g (breaks a d p) (behind b e q) = absurd (breaks_beyond bytes a d (behind_beyond bytes b e))
-one_cause bytes f g (long d p) (breaks b e q) = absurd (e.broken d.begun)
-one_cause bytes f g (long d p) (long e q) = p ∙ sym q
-one_cause bytes f g (long d p) (number e) = absurd (d.no_number g e)
-one_cause bytes f g (long d p) (above b e q) = absurd (long_beyond bytes d (above_beyond bytes b e))
-one_cause bytes f g (long d p) (behind b e q) = absurd (long_beyond bytes d (behind_beyond bytes b e))
-one_cause bytes f g (number d) (breaks b e q) = absurd (e.broken (number_begun bytes f d))
-one_cause bytes f g (number d) (long e q) = absurd (e.no_number f d)
-one_cause bytes f g (number d) (number e) = one_number bytes f g d e
-one_cause bytes f g (number d) (above b e q) = absurd (begun_beyond bytes (number_begun bytes f d) (above_beyond bytes b e))
-one_cause bytes f g (number d) (behind b e q) = absurd (begun_beyond bytes (number_begun bytes f d) (behind_beyond bytes b e))
-one_cause bytes f g (above a d p) (breaks b e q) = absurd (breaks_beyond bytes b e (above_beyond bytes a d))
-one_cause bytes f g (above a d p) (long e q) = absurd (long_beyond bytes e (above_beyond bytes a d))
-one_cause bytes f g (above a d p) (number e) = absurd (begun_beyond bytes (number_begun bytes g e) (above_beyond bytes a d))
-one_cause bytes f g (above a d p) (above b e q) = p ∙ ap (λ (n : ℕ). SampleAboveMaxval n) (one_above bytes a b d e) ∙ sym q
-one_cause bytes f g (above a d p) (behind b e q) = absurd (above_behind bytes a b d e)
-one_cause bytes f g (behind a d p) (breaks b e q) = absurd (breaks_beyond bytes b e (behind_beyond bytes a d))
-one_cause bytes f g (behind a d p) (long e q) = absurd (long_beyond bytes e (behind_beyond bytes a d))
-one_cause bytes f g (behind a d p) (number e) = absurd (begun_beyond bytes (number_begun bytes g e) (behind_beyond bytes a d))
-one_cause bytes f g (behind a d p) (above b e q) = absurd (above_behind bytes b a e d)
-one_cause bytes f g (behind a d p) (behind b e q) = p ∙ ap (λ (n : ℕ). TrailingBytes n) (let same : a ≡ b = omega (arith, behind_place bytes a d, behind_place bytes b e) in same) ∙ sym q
+module _ (bounds : Bounds) where
+  -- what the last byte does
+  data Cause (bytes : List ℕ) (fault : PlateFault) : Type 0 where
+    breaks : (at : ℕ) → Breaks bytes at → fault ≡ cond (ltb at 2) (BadMagic at) (BadHeader at) → Cause bytes fault
+    long : EndsTooLong bounds bytes → fault ≡ BadHeader 65536 → Cause bytes fault
+    number : NumberFault bounds bytes fault → Cause bytes fault
+    above : (at : ℕ) → EndsAboveMaxval bytes at → fault ≡ SampleAboveMaxval at → Cause bytes fault
+    suffix : (at : ℕ) → EndsAfterRaster bytes at → fault ≡ TrailingBytes at → Cause bytes fault
 
-pub one_decided : (bytes : List ℕ) (f g : PlateFault) → Decides bytes f → Decides bytes g → f ≡ g
-one_decided bytes f g d e = one_cause bytes f g (cause bytes f d) (cause bytes g e)
+  cause : (bytes : List ℕ) (fault : PlateFault) → DecidesWithin bounds bytes fault → Cause bytes fault
+  cause bytes (BadMagic at) d = breaks at d.1 (sym (cond-true (ltb at 2) (BadMagic at) (BadHeader at) (lt-ltb at 2 d.0)))
+  cause bytes (BadHeader at) d =
+      elim d [
+        | inl broken ↦ breaks at broken.1 (sym (cond-false (ltb at 2) (BadMagic at) (BadHeader at) (le-ltb at 2 broken.0)))
+        | inr far ↦ long far.1 (ap (λ (n : ℕ). BadHeader n) far.0)
+      ]
+  cause bytes (SideRange at) d = number d
+  cause bytes (TooManySamples at) d = number d
+  cause bytes (MaxvalRange at) d = number d
+  cause bytes (SampleAboveMaxval at) d = above at d refl
+  cause bytes (Truncated at) d = absurd d
+  cause bytes (TrailingBytes at) d = suffix at d refl
+
+  long_beyond : (bytes : List ℕ) → EndsTooLong bounds bytes → Beyond bytes → ⊥
+  long_beyond bytes far b = holds_header b.header b.back b.width b.height b.maxval b.is_header (subst HoldsNoHeader b.whole far.unended)
+
+  number_begun : (bytes : List ℕ) (fault : PlateFault) → NumberFault bounds bytes fault → IsBegun bytes
+  number_begun bytes fault d = let e = fault_ends bounds bytes fault d in e.ends.begun
+
+  one_number : (bytes : List ℕ) (f g : PlateFault) → NumberFault bounds bytes f → NumberFault bounds bytes g → f ≡ g
+  unfolding fault_ends
+  one_number bytes (SideRange a) (SideRange b) d e = ap (λ (n : ℕ). SideRange n) ((one_end bytes (fault_ends bounds bytes (SideRange a) d) (fault_ends bounds bytes (SideRange b) e)).0)
+  one_number bytes (SideRange a) (TooManySamples b) d e =
+      let same = one_end bytes (fault_ends bounds bytes (SideRange a) d) (fault_ends bounds bytes (TooManySamples b) e) in
+      absurd (d.4 (subst (IsSideWithin bounds) (sym same.1) e.4))
+  one_number bytes (SideRange a) (MaxvalRange b) d e =
+      let same = one_end bytes (fault_ends bounds bytes (SideRange a) d) (fault_ends bounds bytes (MaxvalRange b) e) in
+      absurd (omega (arith, d.3, ap length same.2))
+  one_number bytes (TooManySamples a) (SideRange b) d e =
+      let same = one_end bytes (fault_ends bounds bytes (TooManySamples a) d) (fault_ends bounds bytes (SideRange b) e) in
+      absurd (e.4 (subst (IsSideWithin bounds) same.1 d.4))
+  one_number bytes (TooManySamples a) (TooManySamples b) d e = ap (λ (n : ℕ). TooManySamples n) ((one_end bytes (fault_ends bounds bytes (TooManySamples a) d) (fault_ends bounds bytes (TooManySamples b) e)).0)
+  one_number bytes (TooManySamples a) (MaxvalRange b) d e =
+      let same = one_end bytes (fault_ends bounds bytes (TooManySamples a) d) (fault_ends bounds bytes (MaxvalRange b) e) in
+      absurd (omega (arith, ap length same.2))
+  one_number bytes (MaxvalRange a) (SideRange b) d e =
+      let same = one_end bytes (fault_ends bounds bytes (MaxvalRange a) d) (fault_ends bounds bytes (SideRange b) e) in
+      absurd (omega (arith, e.3, ap length same.2))
+  one_number bytes (MaxvalRange a) (TooManySamples b) d e =
+      let same = one_end bytes (fault_ends bounds bytes (MaxvalRange a) d) (fault_ends bounds bytes (TooManySamples b) e) in
+      absurd (omega (arith, ap length same.2))
+  one_number bytes (MaxvalRange a) (MaxvalRange b) d e = ap (λ (n : ℕ). MaxvalRange n) ((one_end bytes (fault_ends bounds bytes (MaxvalRange a) d) (fault_ends bounds bytes (MaxvalRange b) e)).0)
+  one_number bytes (BadMagic a) g d e = absurd d
+  one_number bytes (BadHeader a) g d e = absurd d
+  one_number bytes (SampleAboveMaxval a) g d e = absurd d
+  one_number bytes (Truncated a) g d e = absurd d
+  one_number bytes (TrailingBytes a) g d e = absurd d
+  one_number bytes f g d e = absurd e
+
+  one_cause : (bytes : List ℕ) (f g : PlateFault) → Cause bytes f → Cause bytes g → f ≡ g
+  one_cause bytes f g (breaks a d p) (breaks b e q) = p ∙ header_fault_at a b (omega (arith, breaks_place bytes a d, breaks_place bytes b e)) ∙ sym q
+  one_cause bytes f g (breaks a d p) (long e q) = absurd (d.broken e.begun)
+  one_cause bytes f g (breaks a d p) (number e) = absurd (d.broken (number_begun bytes g e))
+  one_cause bytes f g (breaks a d p) (above b e q) = absurd (breaks_beyond bytes a d (above_beyond bytes b e))
+  one_cause bytes f g (breaks a d p) (suffix b e q) = absurd (breaks_beyond bytes a d (after_beyond bytes b e))
+  one_cause bytes f g (long d p) (breaks b e q) = absurd (e.broken d.begun)
+  one_cause bytes f g (long d p) (long e q) = p ∙ sym q
+  one_cause bytes f g (long d p) (number e) = absurd (d.no_number g e)
+  one_cause bytes f g (long d p) (above b e q) = absurd (long_beyond bytes d (above_beyond bytes b e))
+  one_cause bytes f g (long d p) (suffix b e q) = absurd (long_beyond bytes d (after_beyond bytes b e))
+  one_cause bytes f g (number d) (breaks b e q) = absurd (e.broken (number_begun bytes f d))
+  one_cause bytes f g (number d) (long e q) = absurd (e.no_number f d)
+  one_cause bytes f g (number d) (number e) = one_number bytes f g d e
+  one_cause bytes f g (number d) (above b e q) = absurd (begun_beyond bytes (number_begun bytes f d) (above_beyond bytes b e))
+  one_cause bytes f g (number d) (suffix b e q) = absurd (begun_beyond bytes (number_begun bytes f d) (after_beyond bytes b e))
+  one_cause bytes f g (above a d p) (breaks b e q) = absurd (breaks_beyond bytes b e (above_beyond bytes a d))
+  one_cause bytes f g (above a d p) (long e q) = absurd (long_beyond bytes e (above_beyond bytes a d))
+  one_cause bytes f g (above a d p) (number e) = absurd (begun_beyond bytes (number_begun bytes g e) (above_beyond bytes a d))
+  one_cause bytes f g (above a d p) (above b e q) = p ∙ ap (λ (n : ℕ). SampleAboveMaxval n) (one_above bytes a b d e) ∙ sym q
+  one_cause bytes f g (above a d p) (suffix b e q) = absurd (above_after bytes a b d e)
+  one_cause bytes f g (suffix a d p) (breaks b e q) = absurd (breaks_beyond bytes b e (after_beyond bytes a d))
+  one_cause bytes f g (suffix a d p) (long e q) = absurd (long_beyond bytes e (after_beyond bytes a d))
+  one_cause bytes f g (suffix a d p) (number e) = absurd (begun_beyond bytes (number_begun bytes g e) (after_beyond bytes a d))
+  one_cause bytes f g (suffix a d p) (above b e q) = absurd (above_after bytes b a e d)
+  one_cause bytes f g (suffix a d p) (suffix b e q) = p ∙ ap (λ (n : ℕ). TrailingBytes n) (let same : a ≡ b = omega (arith, after_place bytes a d, after_place bytes b e) in same) ∙ sym q
+
+  pub one_decided_within : (bytes : List ℕ) (f g : PlateFault) → DecidesWithin bounds bytes f → DecidesWithin bounds bytes g → f ≡ g
+  one_decided_within bytes f g d e = one_cause bytes f g (cause bytes f d) (cause bytes g e)
+
+-- The same of a page's plates.
+pub one_decided : (bytes : List ℕ) (f g : PlateFault) → DecidesWithin Page bytes f → DecidesWithin Page bytes g → f ≡ g
+one_decided = one_decided_within Page

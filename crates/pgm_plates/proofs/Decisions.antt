@@ -6,11 +6,12 @@ use Rattle.std.proofs.lemmas.List.{append_assoc, take-append-drop, take-append-l
 use Rattle.std.proofs.lemmas.List.Elements.{All-head, All-tail}
 use Rattle.std.proofs.Math.Nat.{add-mul, mul-le-mul_right, le-mul_of_pos_right}
 use Rattle.std.proofs.Math.Seq.{take-append-add}
+use Rattle.pgm_plates.specs.declared.bounds.Bounds.{Bounds}
 use Rattle.pgm_plates.specs.declared.plate.PlateFault.{PlateFault}
 use Rattle.pgm_plates.specs.declared.plate.PlateFault.TheVariants.{BadMagic, BadHeader, SideRange, TooManySamples, MaxvalRange, SampleAboveMaxval, Truncated, TrailingBytes}
 use Rattle.pgm_plates.specs.Header.{IsHeader}
 use Rattle.pgm_plates.specs.Plates.{sample_bytes, sample_size, raster}
-use Rattle.pgm_plates.specs.Faults.{Decides, HoldsNoHeader, Breaks}
+use Rattle.pgm_plates.specs.Faults.{DecidesWithin, HoldsNoHeader, Breaks}
 use Rattle.pgm_plates.specs.Scanning.{IsClean}
 use Rattle.pgm_plates.specs.Readers.{Fit}
 use Rattle.pgm_plates.proofs.Shapes.{one_header, begun_stops, holds_header}
@@ -79,16 +80,16 @@ fits_too maxval y (z ∷ zs) (x ∷ xs) u half fit short e =
 
 -- a list that isn't empty, without its last item
 pub record Pushed (xs : List ℕ) : Type 0 where
-  pub front : List ℕ
+  pub prefix : List ℕ
   pub last : ℕ
-  pub is : xs ≡ front ++ last ∷ []
+  pub is : xs ≡ prefix ++ last ∷ []
 
 pub unpush : (xs : List ℕ) → 0 < length xs → Pushed xs
 unpush [] some = absurd (omega arith)
-unpush (x ∷ []) some = record { front = []; last = x; is = refl }
+unpush (x ∷ []) some = record { prefix = []; last = x; is = refl }
 unpush (x ∷ y ∷ ys) some =
     let rest = unpush (y ∷ ys) (omega arith) in
-    record { front = x ∷ rest.front; last = rest.last; is = ap (λ (z : List ℕ). x ∷ z) rest.is }
+    record { prefix = x ∷ rest.prefix; last = rest.last; is = ap (λ (z : List ℕ). x ∷ z) rest.is }
 
 -- The bytes are a header and what begins a raster.
 pub record Rastered (bytes header : List ℕ) (width height maxval : ℕ) (samples half : List ℕ) : Type 0 where
@@ -101,9 +102,9 @@ pub record Rastered (bytes header : List ℕ) (width height maxval : ℕ) (sampl
 pub no_break : (header t : List ℕ) (w h m at : ℕ) → IsHeader header w h m → 0 < length t → Breaks (header ++ t) at → ⊥
 no_break header t w h m at is some broken =
     let end = unpush t some in
-    let both = same_from_push (header ++ end.front) broken.front end.last broken.last
-    (append_assoc header end.front (end.last ∷ []) ∙ ap (λ (z : List ℕ). header ++ z) (sym end.is) ∙ broken.whole) in
-    holds_header header end.front w h m is (subst HoldsNoHeader (sym both.0) broken.unended)
+    let both = same_from_push (header ++ end.prefix) broken.prefix end.last broken.last
+    (append_assoc header end.prefix (end.last ∷ []) ∙ ap (λ (z : List ℕ). header ++ z) (sym end.is) ∙ broken.whole) in
+    holds_header header end.prefix w h m is (subst HoldsNoHeader (sym both.0) broken.unended)
 
 no_end : (header t : List ℕ) (w h m : ℕ) → IsHeader header w h m → 0 < length t → Ends (header ++ t) → ⊥
 no_end header t w h m is some ends =
@@ -116,51 +117,52 @@ too_long n k all size t u few short long within =
     let k_size : k ≤ k * size = le-mul_of_pos_right k (let h : 0 < size = omega arith in h) in
     omega arith
 
--- no byte of the raster decides a fault
-quiet_at : (bytes header : List ℕ) (w h m : ℕ) (xs half : List ℕ) → Rastered bytes header w h m xs half → (t u : List ℕ) → 0 < length t → t ++ u ≡ raster m xs ++ half → (fault : PlateFault) → Decides (header ++ t) fault → ⊥
-quiet_at bytes header w h m xs half r t u some part (BadMagic at) d = no_break header t w h m at r.is_header some d.1
-quiet_at bytes header w h m xs half r t u some part (BadHeader at) d =
-    elim d [
-      | inl broken ↦ no_break header t w h m at r.is_header some broken.1
-      | inr long ↦ holds_header header t w h m r.is_header long.1.unended
-    ]
-quiet_at bytes header w h m xs half r t u some part (SideRange at) d = no_end header t w h m r.is_header some (fault_ends (header ++ t) (SideRange at) d)
-quiet_at bytes header w h m xs half r t u some part (TooManySamples at) d = no_end header t w h m r.is_header some (fault_ends (header ++ t) (TooManySamples at) d)
-quiet_at bytes header w h m xs half r t u some part (MaxvalRange at) d = no_end header t w h m r.is_header some (fault_ends (header ++ t) (MaxvalRange at) d)
-quiet_at bytes header w h m xs half r t u some part (SampleAboveMaxval at) d =
-    let back = raster d.maxval d.samples ++ sample_bytes d.maxval d.sample in
-    let same = one_header header t d.header back w h m d.width d.height d.maxval r.is_header d.is_header (d.whole ∙ append_assoc d.header (raster d.maxval d.samples) (sample_bytes d.maxval d.sample)) in
-    let e : raster m d.samples ++ (sample_bytes m d.sample ++ u) ≡ raster m xs ++ half =
-    sym (append_assoc (raster m d.samples) (sample_bytes m d.sample) u)
-    ∙ ap (λ (n : ℕ). raster n d.samples ++ sample_bytes n d.sample ++ u) same.maxval
-    ∙ ap (λ (z : List ℕ). z ++ u) (sym same.rest) ∙ part in
-    let fits = fits_too m d.sample d.samples xs u half r.fit r.short e in
-    omega (arith, d.above, same.maxval)
-quiet_at bytes header w h m xs half r t u some part (TrailingBytes at) d =
-    let back = raster d.maxval d.samples ++ d.last ∷ [] in
-    let same = one_header header t d.header back w h m d.width d.height d.maxval r.is_header d.is_header (d.whole ∙ append_assoc d.header (raster d.maxval d.samples) (d.last ∷ [])) in
-    let size : length (raster m d.samples) ≡ length d.samples * sample_size m = raster_size m d.samples in
-    let all : length d.samples ≡ w * h = d.all ∙ ap (λ (n : ℕ). n * d.height) (sym same.width) ∙ ap (λ (n : ℕ). w * n) (sym same.height) in
-    let size' : length (raster m d.samples) ≡ (w * h) * sample_size m = size ∙ ap (λ (n : ℕ). n * sample_size m) all in
-    let long : length t ≡ length (raster m d.samples) + 1 = ap length same.rest ∙ length_push (raster d.maxval d.samples) d.last ∙ ap (λ (n : ℕ). length (raster n d.samples) + 1) (sym same.maxval) in
-    let within : length t + length u ≡ length xs * sample_size m + length half = sym (length-append t u) ∙ ap length part ∙ length-append (raster m xs) half ∙ ap (λ (n : ℕ). n + length half) (raster_size m xs) in
-    too_long (length xs) (length half) (w * h) (sample_size m) (length t) (length u) r.few r.short (long ∙ ap (λ (n : ℕ). n + 1) size') within
-quiet_at bytes header w h m xs half r t u some part (Truncated at) d = d
-
 nothing_more : (header x : List ℕ) (m : ℕ) → m ≤ length header → take m (header ++ x) ≡ take m header
 nothing_more header x m le = take-append-le m header x le
 
--- A header without a fault, and a raster that fits so far, have none.
-pub clean_raster : (bytes header : List ℕ) (w h m : ℕ) (xs half : List ℕ) → IsClean header (length header + 1) → Rastered bytes header w h m xs half → IsClean bytes (length bytes + 1)
-clean_raster bytes header w h m xs half clean r n fault less d =
-    let back = raster m xs ++ half in
-    elim (cases_lt (length header) n) [
-      | inr le ↦ clean n fault (omega arith) (subst (λ (z : List ℕ). Decides z fault) (ap (take n) r.whole ∙ take-append-le n header back le) d)
-      | inl past ↦
-          let k = n - length header in
-          let e : take n bytes ≡ header ++ take k back =
-          ap (take n) r.whole ∙ ap (λ (z : ℕ). take z (header ++ back)) (let f : n ≡ length header + k = omega arith in f) ∙ take-append-add header back k in
-          let size : length bytes ≡ length header + length back = ap length r.whole ∙ length-append header back in
-          let some : length (take k back) ≡ k = length-take-le k back (omega arith) in
-          quiet_at bytes header w h m xs half r (take k back) (drop k back) (omega arith) (take-append-drop k back) fault (subst (λ (z : List ℕ). Decides z fault) e d)
-    ]
+module _ (bounds : Bounds) where
+  -- no byte of the raster decides a fault
+  quiet_at : (bytes header : List ℕ) (w h m : ℕ) (xs half : List ℕ) → Rastered bytes header w h m xs half → (t u : List ℕ) → 0 < length t → t ++ u ≡ raster m xs ++ half → (fault : PlateFault) → DecidesWithin bounds (header ++ t) fault → ⊥
+  quiet_at bytes header w h m xs half r t u some part (BadMagic at) d = no_break header t w h m at r.is_header some d.1
+  quiet_at bytes header w h m xs half r t u some part (BadHeader at) d =
+      elim d [
+        | inl broken ↦ no_break header t w h m at r.is_header some broken.1
+        | inr long ↦ holds_header header t w h m r.is_header long.1.unended
+      ]
+  quiet_at bytes header w h m xs half r t u some part (SideRange at) d = no_end header t w h m r.is_header some (fault_ends bounds (header ++ t) (SideRange at) d)
+  quiet_at bytes header w h m xs half r t u some part (TooManySamples at) d = no_end header t w h m r.is_header some (fault_ends bounds (header ++ t) (TooManySamples at) d)
+  quiet_at bytes header w h m xs half r t u some part (MaxvalRange at) d = no_end header t w h m r.is_header some (fault_ends bounds (header ++ t) (MaxvalRange at) d)
+  quiet_at bytes header w h m xs half r t u some part (SampleAboveMaxval at) d =
+      let back = raster d.maxval d.samples ++ sample_bytes d.maxval d.sample in
+      let same = one_header header t d.header back w h m d.width d.height d.maxval r.is_header d.is_header (d.whole ∙ append_assoc d.header (raster d.maxval d.samples) (sample_bytes d.maxval d.sample)) in
+      let e : raster m d.samples ++ (sample_bytes m d.sample ++ u) ≡ raster m xs ++ half =
+      sym (append_assoc (raster m d.samples) (sample_bytes m d.sample) u)
+      ∙ ap (λ (n : ℕ). raster n d.samples ++ sample_bytes n d.sample ++ u) same.maxval
+      ∙ ap (λ (z : List ℕ). z ++ u) (sym same.rest) ∙ part in
+      let fits = fits_too m d.sample d.samples xs u half r.fit r.short e in
+      omega (arith, d.above, same.maxval)
+  quiet_at bytes header w h m xs half r t u some part (TrailingBytes at) d =
+      let back = raster d.maxval d.samples ++ d.last ∷ [] in
+      let same = one_header header t d.header back w h m d.width d.height d.maxval r.is_header d.is_header (d.whole ∙ append_assoc d.header (raster d.maxval d.samples) (d.last ∷ [])) in
+      let size : length (raster m d.samples) ≡ length d.samples * sample_size m = raster_size m d.samples in
+      let all : length d.samples ≡ w * h = d.all ∙ ap (λ (n : ℕ). n * d.height) (sym same.width) ∙ ap (λ (n : ℕ). w * n) (sym same.height) in
+      let size' : length (raster m d.samples) ≡ (w * h) * sample_size m = size ∙ ap (λ (n : ℕ). n * sample_size m) all in
+      let long : length t ≡ length (raster m d.samples) + 1 = ap length same.rest ∙ length_push (raster d.maxval d.samples) d.last ∙ ap (λ (n : ℕ). length (raster n d.samples) + 1) (sym same.maxval) in
+      let within : length t + length u ≡ length xs * sample_size m + length half = sym (length-append t u) ∙ ap length part ∙ length-append (raster m xs) half ∙ ap (λ (n : ℕ). n + length half) (raster_size m xs) in
+      too_long (length xs) (length half) (w * h) (sample_size m) (length t) (length u) r.few r.short (long ∙ ap (λ (n : ℕ). n + 1) size') within
+  quiet_at bytes header w h m xs half r t u some part (Truncated at) d = d
+
+  -- A header without a fault, and a raster that fits so far, have none.
+  pub clean_raster : (bytes header : List ℕ) (w h m : ℕ) (xs half : List ℕ) → IsClean bounds header (length header + 1) → Rastered bytes header w h m xs half → IsClean bounds bytes (length bytes + 1)
+  clean_raster bytes header w h m xs half clean r n fault less d =
+      let back = raster m xs ++ half in
+      elim (cases_lt (length header) n) [
+        | inr le ↦ clean n fault (omega arith) (subst (λ (z : List ℕ). DecidesWithin bounds z fault) (ap (take n) r.whole ∙ take-append-le n header back le) d)
+        | inl past ↦
+            let k = n - length header in
+            let e : take n bytes ≡ header ++ take k back =
+            ap (take n) r.whole ∙ ap (λ (z : ℕ). take z (header ++ back)) (let f : n ≡ length header + k = omega arith in f) ∙ take-append-add header back k in
+            let size : length bytes ≡ length header + length back = ap length r.whole ∙ length-append header back in
+            let some : length (take k back) ≡ k = length-take-le k back (omega arith) in
+            quiet_at bytes header w h m xs half r (take k back) (drop k back) (omega arith) (take-append-drop k back) fault (subst (λ (z : List ℕ). DecidesWithin bounds z fault) e d)
+      ]

@@ -7,6 +7,8 @@ use Rattle.outside.specs.Causes.{Rose}
 use Rattle.outside.specs.Tray.{TrayState, Reads}
 use Rattle.outside.specs.Reading.{Takes}
 use Rattle.outside.proofs.Steps.{takes_then, takes_as, takes_read, rose_before}
+use Rattle.pgm_plates.specs.declared.bounds.Bounds.{Bounds}
+use Rattle.pgm_plates.specs.declared.bounds.Bounds.TheVariants.{Page}
 use Rattle.pgm_plates.specs.declared.stand.Stand.{Stand}
 use Rattle.pgm_plates.specs.declared.stand.Stand.TheVariants.{Start, Ended}
 use Rattle.pgm_plates.specs.declared.header.Sides.TheVariants.{Neither, Both}
@@ -18,54 +20,28 @@ use Rattle.pgm_plates.specs.declared.plate.PlateFault.{PlateFault}
 use Rattle.pgm_plates.specs.declared.plate.PlateFault.TheVariants.{BadMagic, BadHeader, SideRange, TooManySamples, MaxvalRange, SampleAboveMaxval, Truncated, TrailingBytes}
 use Rattle.pgm_plates.specs.declared.plate.PlateRefusal.TheVariants.{Fault, ReadFault}
 use Rattle.pgm_plates.specs.Header.{IsHeader, IsShape}
-use Rattle.pgm_plates.specs.Plates.{IsSide, IsPlateFile, raster}
-use Rattle.pgm_plates.specs.Faults.{Decides, HoldsNoHeader, IsFault}
+use Rattle.pgm_plates.specs.Limits.{samples_within}
+use Rattle.pgm_plates.specs.Plates.{IsSideWithin, IsPlateFileWithin, raster}
+use Rattle.pgm_plates.specs.Faults.{DecidesWithin, HoldsNoHeader, IsFaultWithin}
 use Rattle.pgm_plates.specs.Reading.{AreFew, AtEnd, IsTruncated}
 use Rattle.pgm_plates.specs.Runs.{Reached, run}
-use Rattle.pgm_plates.specs.Scanning.{Scanned, Fits, InRange, header_of, scan_step, IsClean}
+use Rattle.pgm_plates.specs.Scanning.{ScannedWithin, Fits, InRange, header_of, scan_step_within, IsClean}
 use Rattle.pgm_plates.specs.Readers.{Answers, HeaderRead}
 use Rattle.pgm_plates.proofs.HeaderSound.{no_step}
 use Rattle.pgm_plates.proofs.HeaderRun.{reached, runs_begun, unended, header_run, ended_header}
 use Rattle.pgm_plates.proofs.Shapes.{holds_header}
 use Rattle.pgm_plates.proofs.Moments.{clean_none, clean_push, decided, truncated, only_truncated}
 use Rattle.pgm_plates.proofs.Numbers.{Ends}
-use Rattle.pgm_plates.proofs.Scans.{still_clean, scan_more, scan_faults, not_numbered}
-
--- So many bytes were taken, and this is their scan, which has not ended.
-pub record Came (before now : TrayState) (scan : Scan) (count : ℕ) : Type 0 where
-  pub bytes : List ℕ
-  pub takes : Takes bytes before now
-  pub scanned : Scanned bytes scan
-  pub going : scan.stand ≡ Ended → ⊥
-  pub size : length bytes ≡ count
+use Rattle.pgm_plates.proofs.Scans.{still_clean, scan_more_within, scan_faults_within, not_numbered}
 
 no_end : (bytes : List ℕ) → length bytes ≡ 0 → Ends bytes → ⊥
-no_end bytes none e = omega (arith, ap length e.ends.whole, length-append (e.ends.front ++ e.ends.gap ++ e.ends.digits) (e.ends.next ∷ []))
+no_end bytes none e = omega (arith, ap length e.ends.whole, length-append (e.ends.prefix ++ e.ends.gap ++ e.ends.digits) (e.ends.next ∷ []))
 
 abbrev pub fresh : Scan
 fresh = record { stand = Start; sides = Neither; number = 0; first = 0 }
 
-pub scanned_none : Scanned [] fresh
-scanned_none = record {
-  ns = [];
-  ran = refl;
-  fits = refl;
-  ranges = tt;
-  early = clean_none;
-  numbered = not_numbered [] (no_end [] refl);
-}
-
 pub takes_none : (a : TrayState) → IsTrue a.begun → Takes [] a a
 takes_none a begun = record { keeps = record { tells = refl; file = refl; faults = omega arith }; asked = refl; begun = begun; taken = λ tells. refl }
-
-pub came_none : (a : TrayState) (scan : Scan) → scan ≡ fresh → IsTrue a.begun → Came a a scan 0
-came_none a scan is begun = record {
-  bytes = [];
-  takes = takes_none a begun;
-  scanned = subst (Scanned []) (sym is) scanned_none;
-  going = λ e. let f : Start ≡ Ended = sym (ap (λ (s : Scan). s.stand) is) ∙ e in cc;
-  size = refl;
-}
 
 -- the one byte of a read that gave some
 one_byte : (buf : List ℕ) (n b : ℕ) → length buf ≡ 1 → n ≤ length buf → n ≢ 0 → b ≡ get_or buf 0 b → take n buf ≡ b ∷ []
@@ -92,7 +68,7 @@ takes_nil p a b c one two = takes_as (p ++ []) p a c (append-nil p) (takes_then 
 pub told_on : (p : List ℕ) (a b : TrayState) → Takes p a b → IsTrue a.tells → IsTrue b.tells
 told_on p a b takes tells = takes.keeps.tells ∙ tells
 
--- a front of bytes with one byte more
+-- a prefix of bytes with one byte more
 no_header : (bytes : List ℕ) (b : ℕ) → HoldsNoHeader bytes → (IsShape (bytes ++ b ∷ []) → ⊥) → HoldsNoHeader (bytes ++ b ∷ [])
 no_header bytes b none not_all k shape =
     elim (cases_lt (length bytes) k) [
@@ -127,32 +103,6 @@ few_more bytes b none short =
     ] in
     by_run (run Start [] all) refl
 
-pub no_plate : (bytes : List ℕ) → HoldsNoHeader bytes → (plate : Plate) → IsPlateFile bytes plate → ⊥
-no_plate bytes none plate file =
-    holds_header file.header (raster plate.maxval plate.samples) plate.width plate.height plate.maxval file.is_header (subst HoldsNoHeader file.whole none)
-
-not_cut : (bytes : List ℕ) (fault : PlateFault) → Decides bytes fault → IsTruncated fault → ⊥
-not_cut bytes (Truncated at) d cut = d
-not_cut bytes (BadMagic at) d cut = cut
-not_cut bytes (BadHeader at) d cut = cut
-not_cut bytes (SideRange at) d cut = cut
-not_cut bytes (TooManySamples at) d cut = cut
-not_cut bytes (MaxvalRange at) d cut = cut
-not_cut bytes (SampleAboveMaxval at) d cut = cut
-not_cut bytes (TrailingBytes at) d cut = cut
-
-came_unended : (a b : TrayState) (scan : Scan) (count : ℕ) (came : Came a b scan count) → HoldsNoHeader came.bytes
-came_unended a b scan count came = unended scan.stand came.scanned.ns came.bytes came.scanned.ran came.going
-
-pub came_more : (a b c : TrayState) (scan next : Scan) (count byte : ℕ) → Came a b scan count → Takes (byte ∷ []) b c → count < 65536 → scan_step scan byte count ≡ Ok next → (bytes : List ℕ) × Takes bytes a c × Scanned bytes next × (length bytes ≡ count + 1)
-came_more a b c scan next count byte came took short step =
-    let bytes = came.bytes in (
-      bytes ++ byte ∷ [],
-      takes_then bytes (byte ∷ []) a b c came.takes took,
-      scan_more bytes byte scan next came.scanned (omega (arith, came.size)) (ap (scan_step scan byte) came.size ∙ step),
-      length_push bytes byte ∙ ap (λ (n : ℕ). n + 1) came.size,
-    )
-
 some_header : (x y : Header) → Some x ≡ Some y → x ≡ y
 some_header x y e = cc
 
@@ -178,129 +128,196 @@ header_sides Ended (Both w h) maxval header e =
     (refl, ap (λ (x : Header). Both x.width x.height) is, ap (λ (x : Header). x.maxval) is)
 header_sides stand sides maxval header e = absurd (none_header header e)
 
--- what a scan that has ended tells
-pub record WholeHeader (bytes : List ℕ) (header : Header) : Type 0 where
-  pub is_header : IsHeader bytes header.width header.height header.maxval
-  pub clean : IsClean bytes (length bytes + 1)
-  pub width : IsSide header.width
-  pub height : IsSide header.height
-  pub product : header.width * header.height ≤ 160000000
-  pub positive : 0 < header.maxval
-  pub maxval : header.maxval ≤ 65535
+module _ (bounds : Bounds) where
+  -- So many bytes were taken, and this is their scan, which has not ended.
+  pub record Came (before now : TrayState) (scan : Scan) (count : ℕ) : Type 0 where
+    pub bytes : List ℕ
+    pub takes : Takes bytes before now
+    pub scanned : ScannedWithin bounds bytes scan
+    pub going : scan.stand ≡ Ended → ⊥
+    pub size : length bytes ≡ count
 
-pub whole_header : (bytes : List ℕ) (next : Scan) (header : Header) → Scanned bytes next → header_of next.stand next.sides next.number ≡ Some header → WholeHeader bytes header
-whole_header bytes next header scanned e =
-    let is = header_sides next.stand next.sides next.number header e in
-    let fits : Fits Ended next scanned.ns bytes = subst (λ (s : Stand). Fits s next scanned.ns bytes) is.0 scanned.fits in
-    let ranges : InRange (Both header.width header.height) = subst InRange is.1 scanned.ranges in
-    let numbers : scanned.ns ≡ header.maxval ∷ header.height ∷ header.width ∷ [] = fits.3 ∙ both_numbers next.number header.maxval fits.0 fits.1 header.width header.height is.2 (sym fits.2 ∙ is.1) in
-    let standing = ended_header (header.maxval ∷ header.height ∷ header.width ∷ []) bytes
-    (scanned.ran ∙ ap (λ (s : Stand). Some (reached s scanned.ns)) is.0 ∙ ap (λ (x : List ℕ). Some (reached Ended x)) numbers) in
-    let same : header.maxval ∷ header.height ∷ header.width ∷ [] ≡ standing.2 ∷ standing.1 ∷ standing.0 ∷ [] = standing.3 in
-    record {
-      is_header = header_as bytes standing.0 standing.1 standing.2 header.width header.height header.maxval same standing.4;
-      clean = still_clean bytes next scanned (inl is.0);
-      width = ranges.0;
-      height = ranges.1;
-      product = ranges.2;
-      positive = subst (λ (n : ℕ). 0 < n) is.2 fits.4;
-      maxval = subst (λ (n : ℕ). n ≤ 65535) is.2 fits.5;
-    }
+  pub scanned_none_within : ScannedWithin bounds [] fresh
+  scanned_none_within = record {
+    ns = [];
+    ran = refl;
+    fits = refl;
+    ranges = tt;
+    early = clean_none bounds;
+    numbered = not_numbered bounds [] (no_end [] refl);
+  }
 
-pub header_ends : (a b c : TrayState) (scan next : Scan) (count byte : ℕ) (header : Header) → Came a b scan count → Takes (byte ∷ []) b c → count < 65536 → scan_step scan byte count ≡ Ok next → header_of next.stand next.sides next.number ≡ Some header → HeaderRead a c header (count + 1)
-header_ends a b c scan next count byte header came took short step e =
-    let on = came_more a b c scan next count byte came took short step in
-    let whole = whole_header on.0 next header on.2 e in
-    record {
-      bytes = on.0;
-      takes = on.1;
-      is_header = whole.is_header;
-      clean = whole.clean;
-      size = on.3;
-      short = omega arith;
-      width = whole.width;
-      height = whole.height;
-      product = whole.product;
-      positive = whole.positive;
-      maxval = whole.maxval;
-    }
+  pub came_none : (a : TrayState) (scan : Scan) → scan ≡ fresh → IsTrue a.begun → Came a a scan 0
+  came_none a scan is begun = record {
+    bytes = [];
+    takes = takes_none a begun;
+    scanned = subst (ScannedWithin bounds []) (sym is) scanned_none_within;
+    going = λ e. let f : Start ≡ Ended = sym (ap (λ (s : Scan). s.stand) is) ∙ e in cc;
+    size = refl;
+  }
 
-pub header_going : (bytes : List ℕ) (next : Scan) → Scanned bytes next → header_of next.stand next.sides next.number ≡ None → next.stand ≡ Ended → ⊥
-header_going bytes next scanned none ended =
-    let fits : Fits Ended next scanned.ns bytes = subst (λ (s : Stand). Fits s next scanned.ns bytes) ended scanned.fits in
-    none_header (record { width = fits.0; height = fits.1; maxval = next.number })
-    (sym none ∙ ap (λ (s : Stand). header_of s next.sides next.number) ended ∙ ap (λ (s : Sides). header_of Ended s next.number) fits.2)
+  pub no_plate : (bytes : List ℕ) → HoldsNoHeader bytes → (plate : Plate) → IsPlateFileWithin bounds bytes plate → ⊥
+  no_plate bytes none plate file =
+      holds_header file.header (raster plate.maxval plate.samples) plate.width plate.height plate.maxval file.is_header (subst HoldsNoHeader file.whole none)
 
-pub came_on : (a b c : TrayState) (scan next : Scan) (count byte : ℕ) → Came a b scan count → Takes (byte ∷ []) b c → count < 65536 → scan_step scan byte count ≡ Ok next → header_of next.stand next.sides next.number ≡ None → Came a c next (count + 1)
-came_on a b c scan next count byte came took short step none =
-    let on = came_more a b c scan next count byte came took short step in
-    record { bytes = on.0; takes = on.1; scanned = on.2; going = header_going on.0 next on.2 none; size = on.3 }
+  not_cut : (bytes : List ℕ) (fault : PlateFault) → DecidesWithin bounds bytes fault → IsTruncated fault → ⊥
+  not_cut bytes (Truncated at) d cut = d
+  not_cut bytes (BadMagic at) d cut = cut
+  not_cut bytes (BadHeader at) d cut = cut
+  not_cut bytes (SideRange at) d cut = cut
+  not_cut bytes (TooManySamples at) d cut = cut
+  not_cut bytes (MaxvalRange at) d cut = cut
+  not_cut bytes (SampleAboveMaxval at) d cut = cut
+  not_cut bytes (TrailingBytes at) d cut = cut
 
-pub header_faults : (a b c : TrayState) (scan : Scan) (count byte : ℕ) (fault : PlateFault) → Came a b scan count → Takes (byte ∷ []) b c → count < 65536 → scan_step scan byte count ≡ Err fault → Answers a c (Err (Fault fault))
-header_faults a b c scan count byte fault came took short step =
-    let bytes = came.bytes in
-    let all = bytes ++ byte ∷ [] in
-    let less : length bytes < 65536 = omega (arith, came.size) in
-    let d : Decides all fault = scan_faults bytes byte scan fault came.scanned came.going (ap (scan_step scan byte) came.size ∙ step) in
-    record {
-      bytes = all;
-      takes = takes_then bytes (byte ∷ []) a b c came.takes took;
-      few = few_more bytes byte (came_unended a b scan count came) less;
-      answer = (
-        took.begun,
-        subst (λ (x : List ℕ). IsFault x fault) (append-nil all) (decided all [] fault (clean_push bytes byte (still_clean bytes scan came.scanned (inr less))) d),
-        λ cut. absurd (not_cut all fault d cut),
-      );
-    }
+  came_unended : (a b : TrayState) (scan : Scan) (count : ℕ) (came : Came a b scan count) → HoldsNoHeader came.bytes
+  came_unended a b scan count came = unended scan.stand came.scanned.ns came.bytes came.scanned.ran came.going
 
-pub header_stops : (a b c : TrayState) (scan : Scan) (count : ℕ) → Came a b scan count → Takes [] b c × AtEnd b c → count < 65536 → Answers a c (Err (Fault (Truncated count)))
-header_stops a b c scan count came took short =
-    let bytes = came.bytes in
-    let none = came_unended a b scan count came in
-    record {
-      bytes = bytes;
-      takes = takes_nil bytes a b c came.takes took.0;
-      few = inl ((let le : length bytes ≤ 65536 = omega (arith, came.size) in le), none);
-      answer = (
-        took.0.begun,
-        subst (λ (n : ℕ). IsFault bytes (Truncated n)) came.size (truncated bytes (still_clean bytes scan came.scanned (inr (omega (arith, came.size)))) (no_plate bytes none)),
-        λ cut tells. took.1 (told_on bytes a b came.takes tells),
-      );
-    }
+  pub came_more : (a b c : TrayState) (scan next : Scan) (count byte : ℕ) → Came a b scan count → Takes (byte ∷ []) b c → count < 65536 → scan_step_within bounds scan byte count ≡ Ok next → (bytes : List ℕ) × Takes bytes a c × ScannedWithin bounds bytes next × (length bytes ≡ count + 1)
+  came_more a b c scan next count byte came took short step =
+      let bytes = came.bytes in (
+        bytes ++ byte ∷ [],
+        takes_then bytes (byte ∷ []) a b c came.takes took,
+        scan_more_within bounds bytes byte scan next came.scanned (omega (arith, came.size)) (ap (scan_step_within bounds scan byte) came.size ∙ step),
+        length_push bytes byte ∙ ap (λ (n : ℕ). n + 1) came.size,
+      )
 
-pub header_fails : (a b c : TrayState) (scan : Scan) (count : ℕ) → Came a b scan count → Takes [] b c → Rose b.faults c.faults → count < 65536 → Answers a c (Err ReadFault)
-header_fails a b c scan count came took rose short =
-    let bytes = came.bytes in
-    record {
-      bytes = bytes;
-      takes = takes_nil bytes a b c came.takes took;
-      few = inl ((let le : length bytes ≤ 65536 = omega (arith, came.size) in le), came_unended a b scan count came);
-      answer = (
-        rose_before a.faults b.faults c.faults came.takes.keeps.faults rose,
-        only_truncated bytes (still_clean bytes scan came.scanned (inr (omega (arith, came.size)))),
-      );
-    }
+  -- what a scan that has ended tells
+  pub record WholeHeaderWithin (bytes : List ℕ) (header : Header) : Type 0 where
+    pub is_header : IsHeader bytes header.width header.height header.maxval
+    pub clean : IsClean bounds bytes (length bytes + 1)
+    pub width : IsSideWithin bounds header.width
+    pub height : IsSideWithin bounds header.height
+    pub product : header.width * header.height ≤ samples_within bounds
+    pub positive : 0 < header.maxval
+    pub maxval : header.maxval ≤ 65535
 
-pub header_long : (a b : TrayState) (scan : Scan) (count : ℕ) → count ≡ 65536 → Came a b scan count → Answers a b (Err (Fault (BadHeader 65536)))
-header_long a b scan count is came =
-    let bytes = came.bytes in
-    let none = came_unended a b scan count came in
-    let d : Decides bytes (BadHeader 65536) = inr (
-      refl,
+  pub whole_header_within : (bytes : List ℕ) (next : Scan) (header : Header) → ScannedWithin bounds bytes next → header_of next.stand next.sides next.number ≡ Some header → WholeHeaderWithin bytes header
+  whole_header_within bytes next header scanned e =
+      let is = header_sides next.stand next.sides next.number header e in
+      let fits : Fits Ended next scanned.ns bytes = subst (λ (s : Stand). Fits s next scanned.ns bytes) is.0 scanned.fits in
+      let ranges : InRange bounds (Both header.width header.height) = subst (InRange bounds) is.1 scanned.ranges in
+      let numbers : scanned.ns ≡ header.maxval ∷ header.height ∷ header.width ∷ [] = fits.3 ∙ both_numbers next.number header.maxval fits.0 fits.1 header.width header.height is.2 (sym fits.2 ∙ is.1) in
+      let standing = ended_header (header.maxval ∷ header.height ∷ header.width ∷ []) bytes
+      (scanned.ran ∙ ap (λ (s : Stand). Some (reached s scanned.ns)) is.0 ∙ ap (λ (x : List ℕ). Some (reached Ended x)) numbers) in
+      let same : header.maxval ∷ header.height ∷ header.width ∷ [] ≡ standing.2 ∷ standing.1 ∷ standing.0 ∷ [] = standing.3 in
       record {
-        long = came.size ∙ is;
-        begun = runs_begun scan.stand came.scanned.ns bytes came.scanned.ran;
-        unended = none;
-        no_number = came.scanned.numbered;
-      },
-    ) in
-    record {
-      bytes = bytes;
-      takes = came.takes;
-      few = inl ((let le : length bytes ≤ 65536 = omega (arith, came.size, is) in le), none);
-      answer = (
-        came.takes.begun,
-        subst (λ (x : List ℕ). IsFault x (BadHeader 65536)) (append-nil bytes) (decided bytes [] (BadHeader 65536) came.scanned.early d),
-        λ cut. absurd cut,
-      );
-    }
+        is_header = header_as bytes standing.0 standing.1 standing.2 header.width header.height header.maxval same standing.4;
+        clean = still_clean bounds bytes next scanned (inl is.0);
+        width = ranges.0;
+        height = ranges.1;
+        product = ranges.2;
+        positive = subst (λ (n : ℕ). 0 < n) is.2 fits.4;
+        maxval = subst (λ (n : ℕ). n ≤ 65535) is.2 fits.5;
+      }
+
+  pub header_ends : (a b c : TrayState) (scan next : Scan) (count byte : ℕ) (header : Header) → Came a b scan count → Takes (byte ∷ []) b c → count < 65536 → scan_step_within bounds scan byte count ≡ Ok next → header_of next.stand next.sides next.number ≡ Some header → HeaderRead bounds a c header (count + 1)
+  header_ends a b c scan next count byte header came took short step e =
+      let on = came_more a b c scan next count byte came took short step in
+      let whole = whole_header_within on.0 next header on.2 e in
+      record {
+        bytes = on.0;
+        takes = on.1;
+        is_header = whole.is_header;
+        clean = whole.clean;
+        size = on.3;
+        short = omega arith;
+        width = whole.width;
+        height = whole.height;
+        product = whole.product;
+        positive = whole.positive;
+        maxval = whole.maxval;
+      }
+
+  pub header_going_within : (bytes : List ℕ) (next : Scan) → ScannedWithin bounds bytes next → header_of next.stand next.sides next.number ≡ None → next.stand ≡ Ended → ⊥
+  header_going_within bytes next scanned none ended =
+      let fits : Fits Ended next scanned.ns bytes = subst (λ (s : Stand). Fits s next scanned.ns bytes) ended scanned.fits in
+      none_header (record { width = fits.0; height = fits.1; maxval = next.number })
+      (sym none ∙ ap (λ (s : Stand). header_of s next.sides next.number) ended ∙ ap (λ (s : Sides). header_of Ended s next.number) fits.2)
+
+  pub came_on : (a b c : TrayState) (scan next : Scan) (count byte : ℕ) → Came a b scan count → Takes (byte ∷ []) b c → count < 65536 → scan_step_within bounds scan byte count ≡ Ok next → header_of next.stand next.sides next.number ≡ None → Came a c next (count + 1)
+  came_on a b c scan next count byte came took short step none =
+      let on = came_more a b c scan next count byte came took short step in
+      record { bytes = on.0; takes = on.1; scanned = on.2; going = header_going_within on.0 next on.2 none; size = on.3 }
+
+  pub header_faults : (a b c : TrayState) (scan : Scan) (count byte : ℕ) (fault : PlateFault) → Came a b scan count → Takes (byte ∷ []) b c → count < 65536 → scan_step_within bounds scan byte count ≡ Err fault → Answers bounds a c (Err (Fault fault))
+  header_faults a b c scan count byte fault came took short step =
+      let bytes = came.bytes in
+      let all = bytes ++ byte ∷ [] in
+      let less : length bytes < 65536 = omega (arith, came.size) in
+      let d : DecidesWithin bounds all fault = scan_faults_within bounds bytes byte scan fault came.scanned came.going (ap (scan_step_within bounds scan byte) came.size ∙ step) in
+      record {
+        bytes = all;
+        takes = takes_then bytes (byte ∷ []) a b c came.takes took;
+        few = few_more bytes byte (came_unended a b scan count came) less;
+        answer = (
+          took.begun,
+          subst (λ (x : List ℕ). IsFaultWithin bounds x fault) (append-nil all) (decided bounds all [] fault (clean_push bounds bytes byte (still_clean bounds bytes scan came.scanned (inr less))) d),
+          λ cut. absurd (not_cut all fault d cut),
+        );
+      }
+
+  pub header_stops : (a b c : TrayState) (scan : Scan) (count : ℕ) → Came a b scan count → Takes [] b c × AtEnd b c → count < 65536 → Answers bounds a c (Err (Fault (Truncated count)))
+  header_stops a b c scan count came took short =
+      let bytes = came.bytes in
+      let none = came_unended a b scan count came in
+      record {
+        bytes = bytes;
+        takes = takes_nil bytes a b c came.takes took.0;
+        few = inl ((let le : length bytes ≤ 65536 = omega (arith, came.size) in le), none);
+        answer = (
+          took.0.begun,
+          subst (λ (n : ℕ). IsFaultWithin bounds bytes (Truncated n)) came.size (truncated bounds bytes (still_clean bounds bytes scan came.scanned (inr (omega (arith, came.size)))) (no_plate bytes none)),
+          λ cut tells. took.1 (told_on bytes a b came.takes tells),
+        );
+      }
+
+  pub header_fails : (a b c : TrayState) (scan : Scan) (count : ℕ) → Came a b scan count → Takes [] b c → Rose b.faults c.faults → count < 65536 → Answers bounds a c (Err ReadFault)
+  header_fails a b c scan count came took rose short =
+      let bytes = came.bytes in
+      record {
+        bytes = bytes;
+        takes = takes_nil bytes a b c came.takes took;
+        few = inl ((let le : length bytes ≤ 65536 = omega (arith, came.size) in le), came_unended a b scan count came);
+        answer = (
+          rose_before a.faults b.faults c.faults came.takes.keeps.faults rose,
+          only_truncated bounds bytes (still_clean bounds bytes scan came.scanned (inr (omega (arith, came.size)))),
+        );
+      }
+
+  pub header_long : (a b : TrayState) (scan : Scan) (count : ℕ) → count ≡ 65536 → Came a b scan count → Answers bounds a b (Err (Fault (BadHeader 65536)))
+  header_long a b scan count is came =
+      let bytes = came.bytes in
+      let none = came_unended a b scan count came in
+      let d : DecidesWithin bounds bytes (BadHeader 65536) = inr (
+        refl,
+        record {
+          long = came.size ∙ is;
+          begun = runs_begun scan.stand came.scanned.ns bytes came.scanned.ran;
+          unended = none;
+          no_number = came.scanned.numbered;
+        },
+      ) in
+      record {
+        bytes = bytes;
+        takes = came.takes;
+        few = inl ((let le : length bytes ≤ 65536 = omega (arith, came.size, is) in le), none);
+        answer = (
+          came.takes.begun,
+          subst (λ (x : List ℕ). IsFaultWithin bounds x (BadHeader 65536)) (append-nil bytes) (decided bounds bytes [] (BadHeader 65536) came.scanned.early d),
+          λ cut. absurd cut,
+        );
+      }
+
+-- The same of a page's plates.
+pub scanned_none : ScannedWithin Page [] fresh
+scanned_none = scanned_none_within Page
+
+abbrev pub WholeHeader : List ℕ → Header → Type 0
+WholeHeader = WholeHeaderWithin Page
+
+pub whole_header : (bytes : List ℕ) (next : Scan) (header : Header) → ScannedWithin Page bytes next → header_of next.stand next.sides next.number ≡ Some header → WholeHeader bytes header
+whole_header = whole_header_within Page
+
+pub header_going : (bytes : List ℕ) (next : Scan) → ScannedWithin Page bytes next → header_of next.stand next.sides next.number ≡ None → next.stand ≡ Ended → ⊥
+header_going = header_going_within Page

@@ -1,4 +1,4 @@
--- Bytes are plate files of one list of plates, one directly behind the other.
+-- Bytes are plate files of one list of plates, one directly after the other.
 use Rattle.std.proofs.Common.{◌≡◌, ℕ, ◌<◌, ◌≤◌, ◌+◌, List, [], ◌∷◌, ◌++◌, length, take, drop, refl, sym, ap, ◌∙◌, subst, inl, inr, arith}
 use Rattle.std.proofs.Math.Seq.{take-append_seam}
 use Rattle.std.proofs.lemmas.Bool.{cases_lt}
@@ -7,7 +7,7 @@ use Rattle.pgm_plates.specs.declared.plate.Plate.{Plate}
 use Rattle.pgm_plates.specs.Laws.{OneSequence}
 use Rattle.pgm_plates.specs.Plates.{IsPlateFile, raster}
 use Rattle.pgm_plates.specs.Sequences.{IsSequence}
-use Rattle.pgm_plates.proofs.Facts.{no_front, one_plate}
+use Rattle.pgm_plates.proofs.Facts.{no_prefix, one_plate}
 
 -- the shorter of two prefixes of the same bytes is a prefix of the longer
 longer : (i l j k : List ℕ) → i ++ l ≡ j ++ k → length i ≤ length j → j ≡ i ++ drop (length i) j
@@ -19,7 +19,7 @@ longer i l j k same le =
 prefix_is : (i l j k : List ℕ) (p q : Plate) → i ++ l ≡ j ++ k → length i ≤ length j → IsPlateFile i p → IsPlateFile j q → i ≡ j
 prefix_is i l j k p q same le first second =
     let whole = longer i l j k same le in
-    let none : drop (length i) j ≡ [] = no_front i (drop (length i) j) p q first (subst (λ (x : List ℕ). IsPlateFile x q) whole second) in
+    let none : drop (length i) j ≡ [] = no_prefix i (drop (length i) j) p q first (subst (λ (x : List ℕ). IsPlateFile x q) whole second) in
     sym (whole ∙ ap (λ (x : List ℕ). i ++ x) none ∙ append-nil i)
 
 -- two plate files that are prefixes of the same bytes are one

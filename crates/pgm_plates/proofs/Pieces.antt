@@ -64,22 +64,22 @@ decoded_wide maxval bytes samples big count same =
 -- where one sample of a piece is above the maxval
 pub piece_above : (maxval count : ℕ) (bytes samples : List ℕ) (place : ℕ) → IsDecoded maxval bytes samples → FirstAbove maxval samples place → length samples ≤ count → length bytes ≤ count * sample_size maxval → IsAbove maxval count bytes (place * sample_size maxval)
 piece_above maxval count bytes samples place decoded first few within =
-    let front = take place samples in
+    let prefix = take place samples in
     let sample = get_or samples place 0 in
     let rest = drop (place + 1) samples in
-    let split : samples ≡ front ++ sample ∷ rest = sym (take-append-drop place samples) ∙ ap (λ (x : List ℕ). front ++ x) (drop_more samples place 0 first.within) in
-    let spelled : raster maxval samples ≡ raster maxval front ++ (sample_bytes maxval sample ++ raster maxval rest) = ap (raster maxval) split ∙ raster_both maxval front (sample ∷ rest) in
+    let split : samples ≡ prefix ++ sample ∷ rest = sym (take-append-drop place samples) ∙ ap (λ (x : List ℕ). prefix ++ x) (drop_more samples place 0 first.within) in
+    let spelled : raster maxval samples ≡ raster maxval prefix ++ (sample_bytes maxval sample ++ raster maxval rest) = ap (raster maxval) split ∙ raster_both maxval prefix (sample ∷ rest) in
     record {
-      samples = front;
+      samples = prefix;
       sample = sample;
       more = raster maxval rest ++ decoded.half;
       whole = decoded.whole ∙ ap (λ (x : List ℕ). x ++ decoded.half) spelled
-          ∙ append_assoc (raster maxval front) (sample_bytes maxval sample ++ raster maxval rest) decoded.half
-          ∙ ap (λ (x : List ℕ). raster maxval front ++ x) (append_assoc (sample_bytes maxval sample) (raster maxval rest) decoded.half)
-          ∙ sym (append_assoc (raster maxval front) (sample_bytes maxval sample) (raster maxval rest ++ decoded.half));
+          ∙ append_assoc (raster maxval prefix) (sample_bytes maxval sample ++ raster maxval rest) decoded.half
+          ∙ ap (λ (x : List ℕ). raster maxval prefix ++ x) (append_assoc (sample_bytes maxval sample) (raster maxval rest) decoded.half)
+          ∙ sym (append_assoc (raster maxval prefix) (sample_bytes maxval sample) (raster maxval rest ++ decoded.half));
       fit = first.fit;
       above = first.above;
-      at = sym (raster_size maxval front ∙ ap (λ (n : ℕ). n * sample_size maxval) (length-take-le place samples (omega (arith, first.within))));
+      at = sym (raster_size maxval prefix ∙ ap (λ (n : ℕ). n * sample_size maxval) (length-take-le place samples (omega (arith, first.within))));
       few = omega (arith, first.within, length-take-le place samples);
       within = within;
     }
@@ -138,17 +138,17 @@ raster_none maxval count start a begun = ([], takes_none a begun, omega arith)
 more_times : (n k count size : ℕ) → n + k ≤ count → n * size + k * size ≤ count * size
 more_times n k count size few = subst (λ (z : ℕ). z ≤ count * size) (add-mul n k size) (mul-le-mul_right size few)
 
-behind_size : (maxval : ℕ) (xs bytes : List ℕ) → length (raster maxval xs ++ bytes) ≡ length xs * sample_size maxval + length bytes
-behind_size maxval xs bytes = length-append (raster maxval xs) bytes ∙ ap (λ (n : ℕ). n + length bytes) (raster_size maxval xs)
+after_size : (maxval : ℕ) (xs bytes : List ℕ) → length (raster maxval xs ++ bytes) ≡ length xs * sample_size maxval + length bytes
+after_size maxval xs bytes = length-append (raster maxval xs) bytes ∙ ap (λ (n : ℕ). n + length bytes) (raster_size maxval xs)
 
-behind_raster : (maxval : ℕ) (xs ys more : List ℕ) → raster maxval xs ++ (raster maxval ys ++ more) ≡ raster maxval (xs ++ ys) ++ more
-behind_raster maxval xs ys more = sym (append_assoc (raster maxval xs) (raster maxval ys) more) ∙ ap (λ (z : List ℕ). z ++ more) (sym (raster_both maxval xs ys))
+after_raster : (maxval : ℕ) (xs ys more : List ℕ) → raster maxval xs ++ (raster maxval ys ++ more) ≡ raster maxval (xs ++ ys) ++ more
+after_raster maxval xs ys more = sym (append_assoc (raster maxval xs) (raster maxval ys) more) ∙ ap (λ (z : List ℕ). z ++ more) (sym (raster_both maxval xs ys))
 
 part_on : (maxval count want : ℕ) (xs bytes : List ℕ) → Fit maxval xs → length xs + want ≤ count → IsPart maxval want bytes → IsPart maxval count (raster maxval xs ++ bytes)
 part_on maxval count want xs bytes fit few part = record {
   samples = xs ++ part.samples;
   half = part.half;
-  whole = ap (λ (z : List ℕ). raster maxval xs ++ z) part.whole ∙ behind_raster maxval xs part.samples part.half;
+  whole = ap (λ (z : List ℕ). raster maxval xs ++ z) part.whole ∙ after_raster maxval xs part.samples part.half;
   fit = All-append (λ (s : ℕ). s ≤ maxval) xs part.samples fit part.fit;
   short = part.short;
   few = omega (arith, part.few, length-append xs part.samples);
@@ -160,19 +160,19 @@ above_on maxval count want place xs bytes fit few above = record {
   sample = above.sample;
   more = above.more;
   whole = ap (λ (z : List ℕ). raster maxval xs ++ z) (above.whole ∙ append_assoc (raster maxval above.samples) (sample_bytes maxval above.sample) above.more)
-      ∙ behind_raster maxval xs above.samples (sample_bytes maxval above.sample ++ above.more)
+      ∙ after_raster maxval xs above.samples (sample_bytes maxval above.sample ++ above.more)
       ∙ sym (append_assoc (raster maxval (xs ++ above.samples)) (sample_bytes maxval above.sample) above.more);
   fit = All-append (λ (s : ℕ). s ≤ maxval) xs above.samples fit above.fit;
   above = above.above;
   at = ap (λ (n : ℕ). length (raster maxval xs) + n) above.at ∙ sym (length-append (raster maxval xs) (raster maxval above.samples)) ∙ ap length (sym (raster_both maxval xs above.samples));
   few = omega (arith, above.few, length-append xs above.samples);
   within =
-      let size = behind_size maxval xs bytes in
+      let size = after_size maxval xs bytes in
       let enough = more_times (length xs) want count (sample_size maxval) few in
       omega (arith, above.within);
 }
 
--- A refusal behind some samples is one of the whole raster.
+-- A refusal after some samples is one of the whole raster.
 pub refused_on : (maxval count want start : ℕ) (a b c : TrayState) (xs : List ℕ) (refusal : PlateRefusal) → Takes (raster maxval xs) a b → Fit maxval xs → length xs + want ≤ count → RasterRefused maxval want (start + length xs * sample_size maxval) b c refusal → RasterRefused maxval count start a c refusal
 refused_on maxval count want start a b c xs (Fault (SampleAboveMaxval at)) took fit few r =
     let bytes = r.0 in
@@ -185,7 +185,7 @@ refused_on maxval count want start a b c xs (Fault (SampleAboveMaxval at)) took 
     )
 refused_on maxval count want start a b c xs (Fault (Truncated at)) took fit few r =
     let bytes = r.0 in
-    let size = behind_size maxval xs bytes in
+    let size = after_size maxval xs bytes in
     let enough = more_times (length xs) want count (sample_size maxval) few in (
       raster maxval xs ++ bytes,
       takes_then (raster maxval xs) bytes a b c took r.1,
@@ -203,7 +203,7 @@ refused_on maxval count want start a b c xs ReadFault took fit few r =
     )
 refused_on maxval count want start a b c xs OutOfMemory took fit few r =
     let bytes = r.0 in
-    let size = behind_size maxval xs bytes in
+    let size = after_size maxval xs bytes in
     let enough = more_times (length xs) want count (sample_size maxval) few in
     (raster maxval xs ++ bytes, takes_then (raster maxval xs) bytes a b c took r.1, (let less = r.2 in omega arith))
 refused_on maxval count want start a b c xs (Fault (BadMagic at)) took fit few r = r

@@ -1,14 +1,16 @@
--- A header in range has no fault at any of its fronts.
+-- A header in range has no fault at any of its prefixes.
 use Rattle.std.proofs.Common.{◌≡◌, ◌⊎◌, ℕ, ◌<◌, ◌≤◌, ◌+◌, ◌*◌, true, false, List, [], ◌∷◌, ◌++◌, length, take, drop, Option, Some, None, refl, sym, ap, ◌∙◌, subst, inl, inr, arith}
 use Rattle.std.proofs.lemmas.List.{append_assoc, append-nil, take-append-drop, length-append}
 use Rattle.std.specs.Option.{option_and_then}
+use Rattle.pgm_plates.specs.declared.bounds.Bounds.{Bounds}
 use Rattle.pgm_plates.specs.declared.stand.Stand.{Stand}
 use Rattle.pgm_plates.specs.declared.stand.Stand.TheVariants.{Start, Letter, Magic, Gap, Comment, Digits, Ended}
 use Rattle.pgm_plates.specs.declared.plate.PlateFault.{PlateFault}
 use Rattle.pgm_plates.specs.declared.plate.PlateFault.TheVariants.{BadMagic, BadHeader, SideRange, TooManySamples, MaxvalRange, SampleAboveMaxval, Truncated, TrailingBytes}
 use Rattle.pgm_plates.specs.Header.{is_digit, IsHeader}
-use Rattle.pgm_plates.specs.Plates.{IsSide, sample_bytes, raster}
-use Rattle.pgm_plates.specs.Faults.{Decides, NumberFault, EndsNumber, HoldsNoHeader}
+use Rattle.pgm_plates.specs.Limits.{samples_within}
+use Rattle.pgm_plates.specs.Plates.{IsSideWithin, sample_bytes, raster}
+use Rattle.pgm_plates.specs.Faults.{DecidesWithin, NumberFault, EndsNumber, HoldsNoHeader}
 use Rattle.pgm_plates.specs.Steps.{step}
 use Rattle.pgm_plates.specs.Standing.{numbers_then}
 use Rattle.pgm_plates.specs.Runs.{Reached, run}
@@ -27,7 +29,7 @@ settled other ns = ns
 
 -- what comes before a list's end
 abbrev Before : List ℕ → List ℕ → Type 0
-Before all back = (front : List ℕ) × (all ≡ front ++ back)
+Before all back = (prefix : List ℕ) × (all ≡ prefix ++ back)
 
 before_digits : (n : ℕ) (all ns : List ℕ) → Before all (n ∷ ns) → Before all ns
 before_digits n all ns is = (is.0 ++ n ∷ [], is.1 ∙ sym (append_assoc is.0 (n ∷ []) ns))
@@ -91,130 +93,131 @@ keeps_settled stand ns (b ∷ bs) r e =
     ] in
     by_step (step stand (length ns) b) e
 
-behind_digits : (next : Stand) (n : ℕ) (earlier all : List ℕ) (b : ℕ) → Lands Digits next (length (n ∷ earlier)) b → is_digit b ≡ false → Before all (settled next (numbers_then Digits next (n ∷ earlier) b)) → Before all (n ∷ earlier)
-behind_digits Digits n earlier all b on other is = absurd (let e : true ≡ false = sym on ∙ other in cc)
-behind_digits Gap n earlier all b on other is = is
-behind_digits Comment n earlier all b on other is = is
-behind_digits Ended n earlier all b on other is = is
-behind_digits Start n earlier all b on other is = absurd on
-behind_digits Letter n earlier all b on other is = absurd on
-behind_digits Magic n earlier all b on other is = absurd on
+after_digits : (next : Stand) (n : ℕ) (earlier all : List ℕ) (b : ℕ) → Lands Digits next (length (n ∷ earlier)) b → is_digit b ≡ false → Before all (settled next (numbers_then Digits next (n ∷ earlier) b)) → Before all (n ∷ earlier)
+after_digits Digits n earlier all b on other is = absurd (let e : true ≡ false = sym on ∙ other in cc)
+after_digits Gap n earlier all b on other is = is
+after_digits Comment n earlier all b on other is = is
+after_digits Ended n earlier all b on other is = is
+after_digits Start n earlier all b on other is = absurd on
+after_digits Letter n earlier all b on other is = absurd on
+after_digits Magic n earlier all b on other is = absurd on
 
-which_front : (m h w n : ℕ) (earlier front : List ℕ) → m ∷ h ∷ w ∷ [] ≡ front ++ n ∷ earlier → ((earlier ≡ []) × (n ≡ w)) ⊎ (((earlier ≡ w ∷ []) × (n ≡ h)) ⊎ ((earlier ≡ h ∷ w ∷ []) × (n ≡ m)))
-which_front m h w n earlier [] e =
+which_prefix : (m h w n : ℕ) (earlier prefix : List ℕ) → m ∷ h ∷ w ∷ [] ≡ prefix ++ n ∷ earlier → ((earlier ≡ []) × (n ≡ w)) ⊎ (((earlier ≡ w ∷ []) × (n ≡ h)) ⊎ ((earlier ≡ h ∷ w ∷ []) × (n ≡ m)))
+which_prefix m h w n earlier [] e =
     let a : n ≡ m = cc in
     let b : earlier ≡ h ∷ w ∷ [] = cc in
     inr (inr (b, a))
-which_front m h w n earlier (x ∷ []) e =
+which_prefix m h w n earlier (x ∷ []) e =
     let a : n ≡ h = cc in
     let b : earlier ≡ w ∷ [] = cc in
     inr (inl (b, a))
-which_front m h w n earlier (x ∷ y ∷ []) e =
+which_prefix m h w n earlier (x ∷ y ∷ []) e =
     let a : n ≡ w = cc in
     let b : earlier ≡ [] = cc in
     inl (b, a)
-which_front m h w n earlier (x ∷ y ∷ z ∷ front) e = absurd (omega (arith, ap length e, length-append front (n ∷ earlier)))
+which_prefix m h w n earlier (x ∷ y ∷ z ∷ prefix) e = absurd (omega (arith, ap length e, length-append prefix (n ∷ earlier)))
 
--- Behind the byte that ends a number, the number is settled.
-ended_settled : (front rest ns : List ℕ) (b n : ℕ) (earlier : List ℕ) (r : Reached) → run Start [] front ≡ Some (reached Digits (n ∷ earlier)) → is_digit b ≡ false → run Start [] (front ++ b ∷ rest) ≡ Some r → Before r.numbers (n ∷ earlier)
-ended_settled front rest ns b n earlier r ran other whole =
-    let on : run Digits (n ∷ earlier) (b ∷ rest) ≡ Some r = sym (run_then Start Digits [] (n ∷ earlier) front (b ∷ rest) ran) ∙ whole in
+-- After the byte that ends a number, the number is settled.
+ended_settled : (prefix rest ns : List ℕ) (b n : ℕ) (earlier : List ℕ) (r : Reached) → run Start [] prefix ≡ Some (reached Digits (n ∷ earlier)) → is_digit b ≡ false → run Start [] (prefix ++ b ∷ rest) ≡ Some r → Before r.numbers (n ∷ earlier)
+ended_settled prefix rest ns b n earlier r ran other whole =
+    let on : run Digits (n ∷ earlier) (b ∷ rest) ≡ Some r = sym (run_then Start Digits [] (n ∷ earlier) prefix (b ∷ rest) ran) ∙ whole in
     let by_step : (o : Option Stand) → step Digits (length (n ∷ earlier)) b ≡ o → option_and_then (λ (s : Stand). run s (numbers_then Digits s (n ∷ earlier) b) rest) o ≡ Some r → Before r.numbers (n ∷ earlier) =
     λ o. elim o as (λ o. step Digits (length (n ∷ earlier)) b ≡ o → option_and_then (λ (s : Stand). run s (numbers_then Digits s (n ∷ earlier) b) rest) o ≡ Some r → Before r.numbers (n ∷ earlier)) [
       | None ↦ λ is h. absurd (no_step r h)
-      | Some next ↦ λ is h. behind_digits next n earlier r.numbers b (lands Digits next (length (n ∷ earlier)) b is) other (keeps_settled next (numbers_then Digits next (n ∷ earlier) b) rest r h)
+      | Some next ↦ λ is h. after_digits next n earlier r.numbers b (lands Digits next (length (n ∷ earlier)) b is) other (keeps_settled next (numbers_then Digits next (n ∷ earlier) b) rest r h)
     ] in
     by_step (step Digits (length (n ∷ earlier)) b) refl on
 
 -- which number of the header it is
 which : (m h w n : ℕ) (earlier : List ℕ) → Before (m ∷ h ∷ w ∷ []) (n ∷ earlier) → ((earlier ≡ []) × (n ≡ w)) ⊎ (((earlier ≡ w ∷ []) × (n ≡ h)) ⊎ ((earlier ≡ h ∷ w ∷ []) × (n ≡ m)))
-which m h w n earlier is = which_front m h w n earlier is.0 is.1
+which m h w n earlier is = which_prefix m h w n earlier is.0 is.1
 
-abbrev InHeader : ℕ → ℕ → ℕ → Type 0
-InHeader w h m = IsSide w × IsSide h × (w * h ≤ 160000000) × (0 < m) × (m ≤ 65535)
-
--- no number of a header in range has a fault
-no_number : (w h m : ℕ) (bytes : List ℕ) (fault : PlateFault) → InHeader w h m → ((e : Ends bytes) → Before (m ∷ h ∷ w ∷ []) (e.number ∷ e.earlier)) → NumberFault bytes fault → ⊥
-unfolding fault_ends
-no_number w h m bytes (SideRange at) range is d =
-    elim (which m h w d.0 d.1 (is (fault_ends bytes (SideRange at) d))) [
-      | inl a ↦ d.4 (subst IsSide (sym a.1) range.0)
-      | inr more ↦ elim more [
-        | inl b ↦ d.4 (subst IsSide (sym b.1) range.1)
-        | inr c ↦ omega (arith, d.3, ap length c.0)
-      ]
-    ]
-no_number w h m bytes (TooManySamples at) range is d =
-    elim (which m h w d.1 (d.0 ∷ []) (is (fault_ends bytes (TooManySamples at) d))) [
-      | inl a ↦ omega (arith, ap length a.0)
-      | inr more ↦ elim more [
-        | inl b ↦
-            let same : d.0 ≡ w = let e : d.0 ∷ [] ≡ w ∷ [] = b.0 in cc in
-            let product : d.0 * d.1 ≡ w * h = ap (λ (x : ℕ). x * d.1) same ∙ ap (λ (x : ℕ). w * x) b.1 in
-            omega (arith, d.5, range.2)
-        | inr c ↦ omega (arith, ap length c.0)
-      ]
-    ]
-no_number w h m bytes (MaxvalRange at) range is d =
-    elim (which m h w d.2 (d.1 ∷ d.0 ∷ []) (is (fault_ends bytes (MaxvalRange at) d))) [
-      | inl a ↦ omega (arith, ap length a.0)
-      | inr more ↦ elim more [
-        | inl b ↦ omega (arith, ap length b.0)
-        | inr c ↦ elim d.4 [ inl none_at_all ↦ omega (arith, range.3, c.1) | inr big ↦ omega (arith, range.4, c.1) ]
-      ]
-    ]
-no_number w h m bytes (BadMagic at) range is d = d
-no_number w h m bytes (BadHeader at) range is d = d
-no_number w h m bytes (SampleAboveMaxval at) range is d = d
-no_number w h m bytes (Truncated at) range is d = d
-no_number w h m bytes (TrailingBytes at) range is d = d
-
--- the numbers that end in a front of a header are the header's
-header_ends : (header front back : List ℕ) (w h m : ℕ) → IsHeader header w h m → front ++ back ≡ header → (e : Ends front) → Before (m ∷ h ∷ w ∷ []) (e.number ∷ e.earlier)
-header_ends header front back w h m is whole e =
+-- the numbers that end in a prefix of a header are the header's
+header_ends : (header prefix back : List ℕ) (w h m : ℕ) → IsHeader header w h m → prefix ++ back ≡ header → (e : Ends prefix) → Before (m ∷ h ∷ w ∷ []) (e.number ∷ e.earlier)
+header_ends header prefix back w h m is whole e =
     let ends = e.ends in
-    let start = ends.front ++ ends.gap ++ ends.digits in
-    let same : start ++ ends.next ∷ [] ≡ front = sym ends.whole in
+    let start = ends.prefix ++ ends.gap ++ ends.digits in
+    let same : start ++ ends.next ∷ [] ≡ prefix = sym ends.whole in
     let ran = ends_run start ends.next e.at e.number e.earlier (subst (λ (x : List ℕ). EndsNumber x e.at e.number e.earlier) ends.whole ends) e.few in
     let all : start ++ ends.next ∷ back ≡ header = sym (append_assoc start (ends.next ∷ []) back) ∙ ap (λ (x : List ℕ). x ++ back) same ∙ whole in
     ended_settled start back [] ends.next e.number e.earlier (reached Ended (m ∷ h ∷ w ∷ [])) ran.0 ran.1 (ap (run Start []) all ∙ header_run header w h m is)
 
-some_front : (front x y : List ℕ) → front ++ x ++ y ≡ front → 0 < length x → ⊥
-some_front front x y e some = omega (arith, ap length e, length-append (front ++ x) y, length-append front x)
+some_prefix : (prefix x y : List ℕ) → prefix ++ x ++ y ≡ prefix → 0 < length x → ⊥
+some_prefix prefix x y e some = omega (arith, ap length e, length-append (prefix ++ x) y, length-append prefix x)
 
 empty_list : (xs : List ℕ) → length xs ≡ 0 → xs ≡ []
 empty_list [] none = refl
 empty_list (x ∷ xs) none = absurd (omega arith)
 
--- no header lies within a front of another
-no_inside : (header front back inner x y : List ℕ) (w h m w' h' m' : ℕ) → IsHeader header w h m → IsHeader inner w' h' m' → front ++ back ≡ header → front ≡ inner ++ x ++ y → 0 < length y → ⊥
-no_inside header front back inner x y w h m w' h' m' is inside whole same some =
+-- no header lies within a prefix of another
+no_inside : (header prefix back inner x y : List ℕ) (w h m w' h' m' : ℕ) → IsHeader header w h m → IsHeader inner w' h' m' → prefix ++ back ≡ header → prefix ≡ inner ++ x ++ y → 0 < length y → ⊥
+no_inside header prefix back inner x y w h m w' h' m' is inside whole same some =
     let e : header ++ [] ≡ inner ++ (x ++ y ++ back) =
     append-nil header ∙ sym whole ∙ ap (λ (z : List ℕ). z ++ back) same ∙ append_assoc (inner ++ x) y back ∙ append_assoc inner x (y ++ back) ∙ ap (λ (z : List ℕ). inner ++ z) (sym (append_assoc x y back)) in
     let one = one_header header [] inner (x ++ y ++ back) w h m w' h' m' is inside e in
     omega (arith, ap length one.rest, length-append (x ++ y) back, length-append x y)
 
--- What begins a header in range decides nothing.
-quiet_front : (header front back : List ℕ) (w h m : ℕ) → IsHeader header w h m → InHeader w h m → length header ≤ 65536 → front ++ back ≡ header → (fault : PlateFault) → Decides front fault → ⊥
-quiet_front header front back w h m is range short whole (BadMagic at) d = d.1.broken (back, (w, h, m, subst (λ (x : List ℕ). IsHeader x w h m) (sym whole) is))
-quiet_front header front back w h m is range short whole (BadHeader at) d =
-    elim d [
-      | inl broken ↦ broken.1.broken (back, (w, h, m, subst (λ (x : List ℕ). IsHeader x w h m) (sym whole) is))
-      | inr long ↦
-          let none : back ≡ [] = empty_list back (omega (arith, long.1.long, ap length whole, length-append front back)) in
-          let all : header ≡ front = sym whole ∙ ap (λ (x : List ℕ). front ++ x) none ∙ append-nil front in
-          holds_header header [] w h m is (subst HoldsNoHeader (sym all ∙ sym (append-nil header)) long.1.unended)
-    ]
-quiet_front header front back w h m is range short whole (SideRange at) d = no_number w h m front (SideRange at) range (header_ends header front back w h m is whole) d
-quiet_front header front back w h m is range short whole (TooManySamples at) d = no_number w h m front (TooManySamples at) range (header_ends header front back w h m is whole) d
-quiet_front header front back w h m is range short whole (MaxvalRange at) d = no_number w h m front (MaxvalRange at) range (header_ends header front back w h m is whole) d
-quiet_front header front back w h m is range short whole (SampleAboveMaxval at) d =
-    no_inside header front back d.header (raster d.maxval d.samples) (sample_bytes d.maxval d.sample) w h m d.width d.height d.maxval is d.is_header whole d.whole (some_bytes d.maxval d.sample)
-quiet_front header front back w h m is range short whole (TrailingBytes at) d =
-    no_inside header front back d.header (raster d.maxval d.samples) (d.last ∷ []) w h m d.width d.height d.maxval is d.is_header whole d.whole (omega arith)
-quiet_front header front back w h m is range short whole (Truncated at) d = d
+module _ (bounds : Bounds) where
+  abbrev InHeader : ℕ → ℕ → ℕ → Type 0
+  InHeader w h m = IsSideWithin bounds w × IsSideWithin bounds h × (w * h ≤ samples_within bounds) × (0 < m) × (m ≤ 65535)
 
--- A header in range has no fault.
-pub clean_header : (header : List ℕ) (w h m : ℕ) → IsHeader header w h m → IsSide w → IsSide h → w * h ≤ 160000000 → 0 < m → m ≤ 65535 → length header ≤ 65536 → IsClean header (length header + 1)
-clean_header header w h m is width height product positive maxval short n fault less d =
-    quiet_front header (take n header) (drop n header) w h m is (width, height, product, positive, maxval) short (take-append-drop n header) fault d
+  -- no number of a header in range has a fault
+  no_number : (w h m : ℕ) (bytes : List ℕ) (fault : PlateFault) → InHeader w h m → ((e : Ends bytes) → Before (m ∷ h ∷ w ∷ []) (e.number ∷ e.earlier)) → NumberFault bounds bytes fault → ⊥
+  unfolding fault_ends
+  no_number w h m bytes (SideRange at) range is d =
+      elim (which m h w d.0 d.1 (is (fault_ends bounds bytes (SideRange at) d))) [
+        | inl a ↦ d.4 (subst (IsSideWithin bounds) (sym a.1) range.0)
+        | inr more ↦ elim more [
+          | inl b ↦ d.4 (subst (IsSideWithin bounds) (sym b.1) range.1)
+          | inr c ↦ omega (arith, d.3, ap length c.0)
+        ]
+      ]
+  no_number w h m bytes (TooManySamples at) range is d =
+      elim (which m h w d.1 (d.0 ∷ []) (is (fault_ends bounds bytes (TooManySamples at) d))) [
+        | inl a ↦ omega (arith, ap length a.0)
+        | inr more ↦ elim more [
+          | inl b ↦
+              let same : d.0 ≡ w = let e : d.0 ∷ [] ≡ w ∷ [] = b.0 in cc in
+              let product : d.0 * d.1 ≡ w * h = ap (λ (x : ℕ). x * d.1) same ∙ ap (λ (x : ℕ). w * x) b.1 in
+              omega (arith, d.5, range.2)
+          | inr c ↦ omega (arith, ap length c.0)
+        ]
+      ]
+  no_number w h m bytes (MaxvalRange at) range is d =
+      elim (which m h w d.2 (d.1 ∷ d.0 ∷ []) (is (fault_ends bounds bytes (MaxvalRange at) d))) [
+        | inl a ↦ omega (arith, ap length a.0)
+        | inr more ↦ elim more [
+          | inl b ↦ omega (arith, ap length b.0)
+          | inr c ↦ elim d.4 [ inl none_at_all ↦ omega (arith, range.3, c.1) | inr big ↦ omega (arith, range.4, c.1) ]
+        ]
+      ]
+  no_number w h m bytes (BadMagic at) range is d = d
+  no_number w h m bytes (BadHeader at) range is d = d
+  no_number w h m bytes (SampleAboveMaxval at) range is d = d
+  no_number w h m bytes (Truncated at) range is d = d
+  no_number w h m bytes (TrailingBytes at) range is d = d
+
+  -- What begins a header in range decides nothing.
+  quiet_prefix : (header prefix back : List ℕ) (w h m : ℕ) → IsHeader header w h m → InHeader w h m → length header ≤ 65536 → prefix ++ back ≡ header → (fault : PlateFault) → DecidesWithin bounds prefix fault → ⊥
+  quiet_prefix header prefix back w h m is range short whole (BadMagic at) d = d.1.broken (back, (w, h, m, subst (λ (x : List ℕ). IsHeader x w h m) (sym whole) is))
+  quiet_prefix header prefix back w h m is range short whole (BadHeader at) d =
+      elim d [
+        | inl broken ↦ broken.1.broken (back, (w, h, m, subst (λ (x : List ℕ). IsHeader x w h m) (sym whole) is))
+        | inr long ↦
+            let none : back ≡ [] = empty_list back (omega (arith, long.1.long, ap length whole, length-append prefix back)) in
+            let all : header ≡ prefix = sym whole ∙ ap (λ (x : List ℕ). prefix ++ x) none ∙ append-nil prefix in
+            holds_header header [] w h m is (subst HoldsNoHeader (sym all ∙ sym (append-nil header)) long.1.unended)
+      ]
+  quiet_prefix header prefix back w h m is range short whole (SideRange at) d = no_number w h m prefix (SideRange at) range (header_ends header prefix back w h m is whole) d
+  quiet_prefix header prefix back w h m is range short whole (TooManySamples at) d = no_number w h m prefix (TooManySamples at) range (header_ends header prefix back w h m is whole) d
+  quiet_prefix header prefix back w h m is range short whole (MaxvalRange at) d = no_number w h m prefix (MaxvalRange at) range (header_ends header prefix back w h m is whole) d
+  quiet_prefix header prefix back w h m is range short whole (SampleAboveMaxval at) d =
+      no_inside header prefix back d.header (raster d.maxval d.samples) (sample_bytes d.maxval d.sample) w h m d.width d.height d.maxval is d.is_header whole d.whole (some_bytes d.maxval d.sample)
+  quiet_prefix header prefix back w h m is range short whole (TrailingBytes at) d =
+      no_inside header prefix back d.header (raster d.maxval d.samples) (d.last ∷ []) w h m d.width d.height d.maxval is d.is_header whole d.whole (omega arith)
+  quiet_prefix header prefix back w h m is range short whole (Truncated at) d = d
+
+  -- A header in range has no fault.
+  pub clean_header : (header : List ℕ) (w h m : ℕ) → IsHeader header w h m → IsSideWithin bounds w → IsSideWithin bounds h → w * h ≤ samples_within bounds → 0 < m → m ≤ 65535 → length header ≤ 65536 → IsClean bounds header (length header + 1)
+  clean_header header w h m is width height product positive maxval short n fault less d =
+      quiet_prefix header (take n header) (drop n header) w h m is (width, height, product, positive, maxval) short (take-append-drop n header) fault d

@@ -1,4 +1,4 @@
--- Plate files that are read one behind the other.
+-- Plate files that are read one after the other.
 use Rattle.std.proofs.Common.{◌≡◌, ◌≢◌, ℕ, zero, suc, ◌<◌, ◌≤◌, ◌+◌, ◌*◌, ◌^◌, true, false, List, [], ◌∷◌, ◌++◌, length, Option, Some, None, Result, Ok, Err, IsTrue, refl, sym, ap, ◌∙◌, subst, inl, inr, arith}
 use Rattle.std.proofs.lemmas.List.{append_assoc, append-nil, length-append, length_push}
 use Rattle.outside.specs.declared.tray.Failed.{Failed}
@@ -6,6 +6,7 @@ use Rattle.outside.specs.Causes.{Asks}
 use Rattle.outside.specs.Tray.{TrayState, KeepsTray, Begins}
 use Rattle.outside.specs.Reading.{Takes}
 use Rattle.outside.proofs.Steps.{kept_tray, takes_then, takes_as, rose_before}
+use Rattle.pgm_plates.specs.declared.bounds.Bounds.TheVariants.{Page}
 use Rattle.pgm_plates.specs.declared.header.Header.{Header}
 use Rattle.pgm_plates.specs.declared.plate.Plate.{Plate}
 use Rattle.pgm_plates.specs.declared.plate.PlateFault.{PlateFault}
@@ -16,27 +17,27 @@ use Rattle.pgm_plates.specs.Plates.{IsPlateFile, raster, sample_size}
 use Rattle.pgm_plates.specs.Images.{IsNear, IsNearRefusal, ReadsImage, Passed, PageAnswers, further_refusal}
 use Rattle.pgm_plates.specs.Reading.{AreFew, KeepsCount}
 use Rattle.pgm_plates.specs.Readers.{Answers, HeaderRead, RasterTaken}
-use Rattle.pgm_plates.specs.Sequences.{IsSequence, StandsBehind, IsOfImage, AreFewOfPage, AnswersPage, ReadsPage, further}
+use Rattle.pgm_plates.specs.Sequences.{IsSequence, StandsAfter, IsOfImage, AnswersPage, ReadsPage, further}
 use Rattle.pgm_plates.proofs.Headers.{takes_none, takes_nil, told_on, scanned_none, fresh}
 use Rattle.pgm_plates.proofs.Moments.{clean_none, clean_all, only_truncated}
 use Rattle.pgm_plates.proofs.Scans.{quiet}
-use Rattle.pgm_plates.proofs.Wholes.{few_behind, file_of, no_shape, raster_within, kept_count}
+use Rattle.pgm_plates.proofs.Wholes.{few_after, file_of, no_shape, raster_within, kept_count}
 
 -- one plate file more
-sequence_push : (front : List ℕ) (plates : List Plate) (image : List ℕ) (plate : Plate) → IsSequence front plates → IsPlateFile image plate → IsSequence (front ++ image) (plates ++ plate ∷ [])
-sequence_push front [] image plate none file = (image, [], ap (λ (x : List ℕ). x ++ image) none ∙ sym (append-nil image), file, refl)
-sequence_push front (first ∷ plates) image plate some file = (some.0, some.1 ++ image, ap (λ (x : List ℕ). x ++ image) some.2 ∙ append_assoc some.0 some.1 image, some.3, sequence_push some.1 plates image plate some.4 file)
+sequence_push : (prefix : List ℕ) (plates : List Plate) (image : List ℕ) (plate : Plate) → IsSequence prefix plates → IsPlateFile image plate → IsSequence (prefix ++ image) (plates ++ plate ∷ [])
+sequence_push prefix [] image plate none file = (image, [], ap (λ (x : List ℕ). x ++ image) none ∙ sym (append-nil image), file, refl)
+sequence_push prefix (first ∷ plates) image plate some file = (some.0, some.1 ++ image, ap (λ (x : List ℕ). x ++ image) some.2 ∙ append_assoc some.0 some.1 image, some.3, sequence_push some.1 plates image plate some.4 file)
 
-pub image_read : (a b c : TrayState) (header : Header) (start size : ℕ) (samples : List ℕ) → HeaderRead a b header start → RasterTaken header.maxval (header.width * header.height) b c samples → size ≡ start + header.width * header.height * sample_size header.maxval
+pub image_read : (a b c : TrayState) (header : Header) (start size : ℕ) (samples : List ℕ) → HeaderRead Page a b header start → RasterTaken header.maxval (header.width * header.height) b c samples → size ≡ start + header.width * header.height * sample_size header.maxval
     → ReadsImage a c (Ok (Some (record { width = header.width; height = header.height; maxval = header.maxval; samples = samples }, size)))
 image_read a b c header start size samples read taken is =
     let back = raster header.maxval samples in
     let size_of : length back ≡ header.width * header.height * sample_size header.maxval = raster_within header.maxval (header.width * header.height) samples taken.all in (
       read.bytes ++ back,
       takes_then read.bytes back a b c read.takes taken.takes,
-      file_of a b c header start samples read taken,
+      file_of Page a b c header start samples read taken,
       length-append read.bytes back ∙ ap (λ (n : ℕ). n + length back) read.size ∙ ap (λ (n : ℕ). start + n) size_of ∙ sym is,
-      few_behind read.bytes back header.width header.height header.maxval read.is_header (omega (arith, read.size, read.short)) (omega (arith, size_of)),
+      few_after read.bytes back header.width header.height header.maxval read.is_header (omega (arith, read.size, read.short)) (omega (arith, size_of)),
     )
 
 pub passed_none : (a : TrayState) → IsTrue a.begun → Passed a a 0 0
@@ -54,16 +55,16 @@ passed_more a b c count start size plate passed image well small = record {
   small = omega (arith, passed.small, small);
 }
 
--- the images that were passed, and what stands behind them
-abbrev behind : (a b : TrayState) (page count start : ℕ) (passed : Passed a b count start) (image : List ℕ) → count ≤ page → StandsBehind (passed.bytes ++ image) page image
-behind a b page count start passed image le = record { front = passed.bytes; plates = passed.plates; sequence = passed.sequence; few = omega (arith, passed.counted); whole = refl }
+-- the images that were passed, and what stands after them
+abbrev suffix : (a b : TrayState) (page count start : ℕ) (passed : Passed a b count start) (image : List ℕ) → count ≤ page → StandsAfter (passed.bytes ++ image) page image
+suffix a b page count start passed image le = record { prefix = passed.bytes; plates = passed.plates; sequence = passed.sequence; few = omega (arith, passed.counted); whole = refl }
 
 pub page_found : (a b c : TrayState) (page count start size : ℕ) (plate : Plate) → count ≡ page → Passed a b count start → ReadsImage b c (Ok (Some (plate, size))) → PageAnswers page a c (Ok (Some plate))
 page_found a b c page count start size plate same passed image = record {
   bytes = passed.bytes ++ image.0;
   takes = takes_then passed.bytes image.0 a b c passed.takes image.1;
-  few = (image.0, behind a b page count start passed image.0 (omega (arith, same)), image.4);
-  answer = (image.1.begun, image.0, behind a b page count start passed image.0 (omega (arith, same)), passed.counted ∙ same, image.2);
+  few = (image.0, suffix a b page count start passed image.0 (omega (arith, same)), image.4);
+  answer = (image.1.begun, image.0, suffix a b page count start passed image.0 (omega (arith, same)), passed.counted ∙ same, image.2);
 }
 
 -- no bytes are few
@@ -77,7 +78,7 @@ nothing_of (b ∷ bytes) none = absurd (omega arith)
 pub page_none : (a b c : TrayState) (page count start : ℕ) → count ≤ page → Passed a b count start → ReadsImage b c (Ok None) → PageAnswers page a c (Ok None)
 page_none a b c page count start le passed none =
     let takes : Takes passed.bytes a c = takes_nil passed.bytes a b c passed.takes (takes_as none.0 [] b c (nothing_of none.0 none.2) none.1) in
-    let none_left : StandsBehind passed.bytes page [] = subst (λ (x : List ℕ). StandsBehind x page []) (append-nil passed.bytes) (behind a b page count start passed [] le) in
+    let none_left : StandsAfter passed.bytes page [] = subst (λ (x : List ℕ). StandsAfter x page []) (append-nil passed.bytes) (suffix a b page count start passed [] le) in
     record {
       bytes = passed.bytes;
       takes = takes;
@@ -106,16 +107,16 @@ of_image (SampleAboveMaxval at) near some = tt
 of_image (Truncated at) near some = some_place at some
 of_image (TrailingBytes at) near some = absurd near
 
-pub page_refused : (a b c : TrayState) (page count start : ℕ) (refusal : PlateRefusal) → count ≤ page → Passed a b count start → Answers b c (Err refusal) → IsNearRefusal refusal → refusing refusal ≢ refusing (Fault (Truncated 0))
+pub page_refused : (a b c : TrayState) (page count start : ℕ) (refusal : PlateRefusal) → count ≤ page → Passed a b count start → Answers Page b c (Err refusal) → IsNearRefusal refusal → refusing refusal ≢ refusing (Fault (Truncated 0))
     → PageAnswers page a c (Err (further_refusal start refusal))
 page_refused a b c page count start (Fault fault) le passed answers near some = record {
   bytes = passed.bytes ++ answers.bytes;
   takes = takes_then passed.bytes answers.bytes a b c passed.takes answers.takes;
-  few = (answers.bytes, behind a b page count start passed answers.bytes le, answers.few);
+  few = (answers.bytes, suffix a b page count start passed answers.bytes le, answers.few);
   answer = (
     answers.takes.begun,
     answers.bytes,
-    behind a b page count start passed answers.bytes le,
+    suffix a b page count start passed answers.bytes le,
     fault,
     answers.answer.1,
     of_image fault near some,
@@ -126,18 +127,18 @@ page_refused a b c page count start (Fault fault) le passed answers near some = 
 page_refused a b c page count start ReadFault le passed answers near some = record {
   bytes = passed.bytes ++ answers.bytes;
   takes = takes_then passed.bytes answers.bytes a b c passed.takes answers.takes;
-  few = (answers.bytes, behind a b page count start passed answers.bytes le, answers.few);
+  few = (answers.bytes, suffix a b page count start passed answers.bytes le, answers.few);
   answer = (
     rose_before a.faults b.faults c.faults passed.takes.keeps.faults answers.answer.0,
     answers.bytes,
-    behind a b page count start passed answers.bytes le,
+    suffix a b page count start passed answers.bytes le,
     answers.answer.1,
   );
 }
 page_refused a b c page count start OutOfMemory le passed answers near some = record {
   bytes = passed.bytes ++ answers.bytes;
   takes = takes_then passed.bytes answers.bytes a b c passed.takes answers.takes;
-  few = (answers.bytes, behind a b page count start passed answers.bytes le, answers.few);
+  few = (answers.bytes, suffix a b page count start passed answers.bytes le, answers.few);
   answer = answers.takes.begun;
 }
 
@@ -159,8 +160,8 @@ page_begun name page a b c x result begun answers count = record {
   count = kept_count a b c result begun.well count;
 }
 
-no_images : (page : ℕ) → StandsBehind [] page []
-no_images page = record { front = []; plates = []; sequence = refl; few = omega arith; whole = refl }
+no_images : (page : ℕ) → StandsAfter [] page []
+no_images page = record { prefix = []; plates = []; sequence = refl; few = omega arith; whole = refl }
 
 pub page_not_begun : {E : Type 0} (name : List ℕ) (page : ℕ) (a b : TrayState) (e : E) → Begins {T = Unit {0}} name a b (Err e) → ReadsPage name page a b (Err ReadFault)
 page_not_begun name page a b e begun = record {
@@ -173,7 +174,7 @@ page_not_begun name page a b e begun = record {
     begun.cause,
     [],
     no_images page,
-    only_truncated [] (clean_all [] clean_none (quiet [] fresh scanned_none (inr (omega arith)))),
+    only_truncated Page [] (clean_all Page [] (clean_none Page) (quiet Page [] fresh scanned_none (inr (omega arith)))),
   );
   count = tt;
 }

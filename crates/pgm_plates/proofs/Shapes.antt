@@ -1,4 +1,4 @@
--- No header is a proper front of another.
+-- No header is a proper prefix of another.
 use Rattle.std.proofs.Common.{◌≡◌, ℕ, ◌<◌, ◌≤◌, List, [], ◌∷◌, ◌++◌, length, take, drop, Some, refl, sym, ap, ◌∙◌, subst, inl, inr, arith}
 use Rattle.std.proofs.lemmas.List.{append_assoc, append-nil, take-append-drop, take-append-le, append_cancel_left}
 use Rattle.std.proofs.lemmas.Bool.{cases_lt}
@@ -7,28 +7,28 @@ use Rattle.pgm_plates.specs.declared.stand.Stand.TheVariants.{Start, Ended}
 use Rattle.pgm_plates.specs.Header.{IsHeader, IsBegun}
 use Rattle.pgm_plates.specs.Runs.{Reached, run}
 use Rattle.pgm_plates.specs.Faults.{HoldsNoHeader}
-use Rattle.pgm_plates.proofs.HeaderRun.{reached, run_then, header_run, nothing_behind}
+use Rattle.pgm_plates.proofs.HeaderRun.{reached, run_then, header_run, nothing_after}
 
 pub no_less : (n : ℕ) → n < length {A = ℕ} [] → ⊥
 no_less n h = omega arith
 
--- A run that is through has nothing behind it.
-pub through : (front back ns : List ℕ) (r : Reached) → run Start [] front ≡ Some (reached Ended ns) → run Start [] (front ++ back) ≡ Some r → back ≡ []
-through front back ns r ended on = nothing_behind ns back r (sym (run_then Start Ended [] ns front back ended) ∙ on)
+-- A run that is through has nothing after it.
+pub through : (prefix back ns : List ℕ) (r : Reached) → run Start [] prefix ≡ Some (reached Ended ns) → run Start [] (prefix ++ back) ≡ Some r → back ≡ []
+through prefix back ns r ended on = nothing_after ns back r (sym (run_then Start Ended [] ns prefix back ended) ∙ on)
 
--- the shorter of two fronts of one list is a front of the other
-pub front_of : (a x b y : List ℕ) → a ++ x ≡ b ++ y → length a ≤ length b → a ++ drop (length a) b ≡ b
-front_of a x b y same le =
+-- the shorter of two prefixes of one list is a prefix of the other
+pub prefix_of : (a x b y : List ℕ) → a ++ x ≡ b ++ y → length a ≤ length b → a ++ drop (length a) b ≡ b
+prefix_of a x b y same le =
     let e : take (length a) b ≡ a = sym (take-append-le (length a) b y le) ∙ ap (take (length a)) (sym same) ∙ take-append_seam a x in
     ap (λ (p : List ℕ). p ++ drop (length a) b) (sym e) ∙ take-append-drop (length a) b
 
 shorter_same : (a x b y ms ns : List ℕ) → run Start [] a ≡ Some (reached Ended ms) → run Start [] b ≡ Some (reached Ended ns) → a ++ x ≡ b ++ y → length a ≤ length b → a ≡ b
 shorter_same a x b y ms ns ra rb same le =
-    let whole : a ++ drop (length a) b ≡ b = front_of a x b y same le in
+    let whole : a ++ drop (length a) b ≡ b = prefix_of a x b y same le in
     let none : drop (length a) b ≡ [] = through a (drop (length a) b) ms (reached Ended ns) ra (ap (run Start []) whole ∙ rb) in
     sym (append-nil a) ∙ ap (λ (z : List ℕ). a ++ z) (sym none) ∙ whole
 
--- Two headers at the front of one list are the same.
+-- Two headers at the beginning of one list are the same.
 pub one_run : (a x b y ms ns : List ℕ) → run Start [] a ≡ Some (reached Ended ms) → run Start [] b ≡ Some (reached Ended ns) → a ++ x ≡ b ++ y → a ≡ b
 one_run a x b y ms ns ra rb same =
     elim (cases_lt (length a) (length b)) [
@@ -59,9 +59,9 @@ one_header a x b y w h m w' h' m' one two same =
       maxval = cc;
     }
 
-empty_front : (x y : List ℕ) → x ++ y ≡ [] → x ≡ []
-empty_front [] y e = refl
-empty_front (b ∷ x) y e = absurd (cc)
+empty_prefix : (x y : List ℕ) → x ++ y ≡ [] → x ≡ []
+empty_prefix [] y e = refl
+empty_prefix (b ∷ x) y e = absurd (cc)
 
 -- What begins with a header and begins one is that header.
 pub begun_stops : (a x : List ℕ) (w h m : ℕ) → IsHeader a w h m → IsBegun (a ++ x) → x ≡ []
@@ -70,7 +70,7 @@ begun_stops a x w h m header begun =
     let shape = begun.1 in
     let e : x ++ more ≡ [] = through a (x ++ more) (m ∷ h ∷ w ∷ []) (reached Ended (shape.2 ∷ shape.1 ∷ shape.0 ∷ [])) (header_run a w h m header)
     (ap (run Start []) (sym (append_assoc a x more)) ∙ header_run (a ++ x ++ more) shape.0 shape.1 shape.2 shape.3) in
-    empty_front x more e
+    empty_prefix x more e
 
 pub holds_header : (a x : List ℕ) (w h m : ℕ) → IsHeader a w h m → HoldsNoHeader (a ++ x) → ⊥
 holds_header a x w h m header none = none (length a) (w, h, m, subst (λ (z : List ℕ). IsHeader z w h m) (sym (take-append_seam a x)) header)

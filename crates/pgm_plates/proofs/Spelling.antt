@@ -8,11 +8,14 @@ use Rattle.std.proofs.lemmas.Int.Digits.{number_digits_of, all_below_base_digits
 use Rattle.std.specs.Fmt.{decimal}
 use Rattle.std.specs.List.{list_all}
 use Rattle.std.specs.Int.Digits.{AllBelowBase, digits_of, number_from_digits}
+use Rattle.pgm_plates.specs.declared.bounds.Bounds.{Bounds}
+use Rattle.pgm_plates.specs.declared.bounds.Bounds.TheVariants.{Page}
 use Rattle.pgm_plates.specs.Header.{is_digit, is_space, IsGap, IsNumber, Numbers, IsHeader}
 use Rattle.pgm_plates.specs.Header.IsItem.{space}
 use Rattle.pgm_plates.specs.Header.IsGap.{one}
 use Rattle.pgm_plates.specs.Plates.{spelled_header}
-use Rattle.pgm_plates.specs.Laws.{SpelledReads}
+use Rattle.pgm_plates.specs.Laws.{SpelledReadsWithin}
+use Rattle.pgm_plates.proofs.Numbers.{small_side}
 
 digits_back : (ds : List ℕ) → map (λ (b : ℕ). b - 48) (map (λ (d : ℕ). 48 + d) ds) ≡ ds
 digits_back [] = refl
@@ -40,17 +43,17 @@ decimal_number n some small =
 one_space : (b : ℕ) → is_space b ≡ true → IsGap (b ∷ [])
 one_space b is = one (b ∷ []) (space (b ∷ []) b is refl)
 
-small_number : (n : ℕ) → n ≤ 65535 → n < 2 ^ 64
+small_number : (n : ℕ) → n ≤ 262144 → n < 2 ^ 64
 small_number n le = omega arith
 
 abbrev start : List ℕ
 start = 80 ∷ 53 ∷ 10 ∷ []
 
-first_number : (w : ℕ) → 0 < w → w ≤ 65535 → Numbers (start ++ decimal w) (w ∷ [])
+first_number : (w : ℕ) → 0 < w → w ≤ 262144 → Numbers (start ++ decimal w) (w ∷ [])
 first_number w some le = (80 ∷ 53 ∷ [], 10 ∷ [], decimal w, refl, one_space 10 refl, decimal_number w some (small_number w le), refl)
 
-next_number : (front : List ℕ) (earlier : List ℕ) (b n : ℕ) → Numbers front earlier → is_space b ≡ true → 0 < n → n ≤ 65535 → Numbers (front ++ b ∷ [] ++ decimal n) (n ∷ earlier)
-next_number front earlier b n numbers is some le = (front, b ∷ [], decimal n, numbers, one_space b is, decimal_number n some (small_number n le), refl)
+next_number : (prefix : List ℕ) (earlier : List ℕ) (b n : ℕ) → Numbers prefix earlier → is_space b ≡ true → 0 < n → n ≤ 262144 → Numbers (prefix ++ b ∷ [] ++ decimal n) (n ∷ earlier)
+next_number prefix earlier b n numbers is some le = (prefix, b ∷ [], decimal n, numbers, one_space b is, decimal_number n some (small_number n le), refl)
 
 abbrev two_numbers : ℕ → ℕ → List ℕ
 two_numbers w h = start ++ decimal w ++ 32 ∷ [] ++ decimal h
@@ -64,7 +67,7 @@ header_as w h m =
     ∙ ap (λ (x : List ℕ). x ++ (decimal m ++ 10 ∷ [])) (sym (append_assoc (start ++ decimal w ++ 32 ∷ []) (decimal h) (10 ∷ [])))
     ∙ sym (append_assoc (two_numbers w h ++ 10 ∷ []) (decimal m) (10 ∷ []))
 
-is_header : (w h m : ℕ) → 0 < w → w ≤ 65535 → 0 < h → h ≤ 65535 → 0 < m → m ≤ 65535 → IsHeader (start ++ (decimal w ++ 32 ∷ []) ++ (decimal h ++ 10 ∷ []) ++ (decimal m ++ 10 ∷ [])) w h m
+is_header : (w h m : ℕ) → 0 < w → w ≤ 262144 → 0 < h → h ≤ 262144 → 0 < m → m ≤ 262144 → IsHeader (start ++ (decimal w ++ 32 ∷ []) ++ (decimal h ++ 10 ∷ []) ++ (decimal m ++ 10 ∷ [])) w h m
 is_header w h m w0 w1 h0 h1 m0 m1 = (
   three_numbers w h m,
   10,
@@ -73,24 +76,30 @@ is_header w h m w0 w1 h0 h1 m0 m1 = (
   header_as w h m,
 )
 
-short_number : (n : ℕ) → n ≤ 65535 → length (decimal n) ≤ 5
-short_number n le = length-decimal-le 5 n (omega arith) (omega arith) (small_number n le)
+short_number : (n : ℕ) → n ≤ 262144 → length (decimal n) ≤ 6
+short_number n le = length-decimal-le 6 n (omega arith) (omega arith) (small_number n le)
 
-short_header : (w h m : ℕ) → w ≤ 65535 → h ≤ 65535 → m ≤ 65535 → length (start ++ (decimal w ++ 32 ∷ []) ++ (decimal h ++ 10 ∷ []) ++ (decimal m ++ 10 ∷ [])) ≤ 65536
+short_header : (w h m : ℕ) → w ≤ 262144 → h ≤ 262144 → m ≤ 262144 → length (start ++ (decimal w ++ 32 ∷ []) ++ (decimal h ++ 10 ∷ []) ++ (decimal m ++ 10 ∷ [])) ≤ 65536
 short_header w h m w1 h1 m1 =
     let a = short_number w w1 in
     let b = short_number h h1 in
     let c = short_number m m1 in
     omega (arith, length-append (start ++ (decimal w ++ 32 ∷ []) ++ (decimal h ++ 10 ∷ [])) (decimal m ++ 10 ∷ []), length-append (start ++ (decimal w ++ 32 ∷ [])) (decimal h ++ 10 ∷ []), length-append start (decimal w ++ 32 ∷ []), length_push (decimal w) 32, length_push (decimal h) 10, length_push (decimal m) 10)
 
-pub spelled_reads : SpelledReads
-spelled_reads plate ok =
-    let w1 : plate.width ≤ 65535 = omega (arith, ok.width.1) in
-    let h1 : plate.height ≤ 65535 = omega (arith, ok.height.1) in
-    record {
-      header = spelled_header plate;
-      is_header = is_header plate.width plate.height plate.maxval ok.width.0 w1 ok.height.0 h1 ok.positive ok.maxval;
-      short = short_header plate.width plate.height plate.maxval w1 h1 ok.maxval;
-      plate_ok = ok;
-      whole = refl;
-    }
+module _ (bounds : Bounds) where
+  pub spelled_reads_within : SpelledReadsWithin bounds
+  spelled_reads_within plate ok =
+      let w1 : plate.width ≤ 262144 = omega (arith, ok.width.1, small_side bounds) in
+      let m1 : plate.maxval ≤ 262144 = omega (arith, ok.maxval) in
+      let h1 : plate.height ≤ 262144 = omega (arith, ok.height.1, small_side bounds) in
+      record {
+        header = spelled_header plate;
+        is_header = is_header plate.width plate.height plate.maxval ok.width.0 w1 ok.height.0 h1 ok.positive m1;
+        short = short_header plate.width plate.height plate.maxval w1 h1 m1;
+        plate_ok = ok;
+        whole = refl;
+      }
+
+-- The same of a page's plates.
+pub spelled_reads : SpelledReadsWithin Page
+spelled_reads = spelled_reads_within Page

@@ -3,6 +3,7 @@ use Rattle.std.specs.Prelude.{◌≡◌, ℕ, ◌*◌, ◌<◌, ◌≤◌, ◌^�
 use Rattle.std.specs.Prelude.{Ok, Err}
 use Rattle.outside.specs.Tray.{TrayState}
 use Rattle.outside.specs.Reading.{Takes}
+use Rattle.pgm_plates.specs.declared.bounds.Bounds.TheVariants.{Page}
 use Rattle.pgm_plates.specs.declared.plate.Plate.{Plate}
 use Rattle.pgm_plates.specs.declared.plate.PlateFault.{PlateFault}
 use Rattle.pgm_plates.specs.declared.plate.PlateFault.TheVariants.{BadMagic, BadHeader, SideRange}
@@ -38,7 +39,7 @@ ReadsImage before after (Ok (Some read)) = (image : List ℕ) × Takes image bef
     × IsPlateFile image read.0 × (length image ≡ read.1) × AreFew image
 ReadsImage before after (Ok None) =
     (nothing : List ℕ) × Takes nothing before after × (length nothing ≡ 0) × AtEnd before after
-ReadsImage before after (Err refusal) = Answers before after (Err refusal)
+ReadsImage before after (Err refusal) = Answers Page before after (Err refusal)
 
 -- So many images were taken, of so many bytes together.
 pub record Passed (before now : TrayState) (count size : ℕ) : Type 0 where

@@ -1,9 +1,25 @@
 -- Planes, whose tints are the samples of plates turned round: 0 is no ink, and a sample of 0 is
 -- black.
-use Rattle.std.specs.Prelude.{ℕ, ◌-◌, if◌then◌else◌, List, map}
+use Rattle.std.specs.Prelude.{◌≡◌, ℕ, ◌*◌, ◌-◌, ◌≤◌, if◌then◌else◌, List, length, map}
+use Rattle.std.specs.List.{All}
+use Rattle.page_model.specs.Limits.{most_maxval}
 use Rattle.page_model.specs.declared.parts.Plane.{Plane}
+use Rattle.pgm_plates.specs.declared.bounds.Bounds.{Bounds}
 use Rattle.pgm_plates.specs.declared.plate.Plate.{Plate}
 use Rattle.pgm_plates.specs.declared.writing.Image.{Image}
+use Rattle.pgm_plates.specs.Limits.{samples_within, side_within}
+
+-- a plane within the bounds, with a tint for each of its samples
+pub record IsPlaneWithin (bounds : Bounds) (plane : Plane) : Type 0 where
+  pub some_width : 1 ≤ plane.width
+  pub narrow : plane.width ≤ side_within bounds
+  pub some_height : 1 ≤ plane.height
+  pub low : plane.height ≤ side_within bounds
+  pub few : plane.width * plane.height ≤ samples_within bounds
+  pub some_maxval : 1 ≤ plane.maxval
+  pub maxval_fits : plane.maxval ≤ most_maxval
+  pub full : length plane.tints ≡ plane.width * plane.height
+  pub below : All (λ tint. tint ≤ plane.maxval) plane.tints
 
 -- the tints of a plate
 abbrev pub plane_of : Plate → Plane

@@ -5,43 +5,51 @@ use Rattle.std.specs.List.{All}
 use Rattle.outside.specs.Causes.{Rose}
 use Rattle.outside.specs.Tray.{TrayState}
 use Rattle.outside.specs.Reading.{Takes}
+use Rattle.pgm_plates.specs.declared.bounds.Bounds.{Bounds}
 use Rattle.pgm_plates.specs.declared.header.Header.{Header}
 use Rattle.pgm_plates.specs.declared.plate.Plate.{Plate}
 use Rattle.pgm_plates.specs.declared.plate.PlateFault.TheVariants.{SampleAboveMaxval, Truncated}
 use Rattle.pgm_plates.specs.declared.plate.PlateFault.TheVariants.{TrailingBytes}
 use Rattle.pgm_plates.specs.declared.plate.PlateRefusal.{PlateRefusal}
 use Rattle.pgm_plates.specs.declared.plate.PlateRefusal.TheVariants.{Fault, ReadFault, OutOfMemory}
+use Rattle.pgm_plates.specs.declared.rows.OpenPlate.{OpenPlate}
 use Rattle.pgm_plates.specs.Header.{IsHeader}
-use Rattle.page_model.specs.Limits.{most_samples, most_maxval}
-use Rattle.pgm_plates.specs.Limits.{most_header}
-use Rattle.pgm_plates.specs.Plates.{IsSide, sample_bytes, sample_size, raster}
+use Rattle.page_model.specs.Limits.{most_maxval}
+use Rattle.pgm_plates.specs.Limits.{most_header, samples_within}
+use Rattle.pgm_plates.specs.Plates.{IsSideWithin, sample_bytes, sample_size, raster}
 use Rattle.pgm_plates.specs.Reading.{AreFew, AnswersPlate, AtEnd}
 use Rattle.pgm_plates.specs.Scanning.{IsClean}
 
 -- Some bytes are taken, which the answer fits.
-pub record Answers (before after : TrayState) (result : Result Plate PlateRefusal) : Type 0 where
+pub record Answers (bounds : Bounds) (before after : TrayState)
+    (result : Result Plate PlateRefusal) : Type 0 where
   pub bytes : List ℕ
   pub takes : Takes bytes before after
   pub few : AreFew bytes
-  pub answer : AnswersPlate bytes before after result
+  pub answer : AnswersPlate bounds bytes before after result
 
 -- A whole header without a fault is taken, of so many bytes.
-pub record HeaderRead (before after : TrayState) (header : Header) (count : ℕ) : Type 0 where
+pub record HeaderRead (bounds : Bounds) (before after : TrayState) (header : Header)
+    (count : ℕ) : Type 0 where
   pub bytes : List ℕ
   pub takes : Takes bytes before after
   pub is_header : IsHeader bytes header.width header.height header.maxval
-  pub clean : IsClean bytes (length bytes + 1)
+  pub clean : IsClean bounds bytes (length bytes + 1)
   pub size : length bytes ≡ count
   pub short : count ≤ most_header
-  pub width : IsSide header.width
-  pub height : IsSide header.height
-  pub product : header.width * header.height ≤ most_samples
+  pub width : IsSideWithin bounds header.width
+  pub height : IsSideWithin bounds header.height
+  pub product : header.width * header.height ≤ samples_within bounds
   pub positive : 0 < header.maxval
   pub maxval : header.maxval ≤ most_maxval
 
-abbrev pub ReadsHeader : TrayState → TrayState → Result (Header × ℕ) PlateRefusal → Type 0
-ReadsHeader before after (Ok r) = HeaderRead before after r.0 r.1
-ReadsHeader before after (Err refusal) = Answers before after (Err refusal)
+abbrev pub ReadsHeader : Bounds → TrayState → TrayState → Result (Header × ℕ) PlateRefusal → Type 0
+ReadsHeader bounds before after (Ok r) = HeaderRead bounds before after r.0 r.1
+ReadsHeader bounds before after (Err refusal) = Answers bounds before after (Err refusal)
+
+abbrev pub OpensPlate : Bounds → TrayState → TrayState → Result OpenPlate PlateRefusal → Type 0
+OpensPlate bounds before after (Ok plate) = HeaderRead bounds before after plate.header plate.size
+OpensPlate bounds before after (Err refusal) = Answers bounds before after (Err refusal)
 
 abbrev pub Fit : ℕ → List ℕ → Type 0
 Fit maxval samples = All (λ (s : ℕ). s ≤ maxval) samples
@@ -55,7 +63,7 @@ pub record IsPart (maxval count : ℕ) (bytes : List ℕ) : Type 0 where
   pub short : length half < sample_size maxval
   pub few : length samples + length half ≤ count
 
--- samples that fit, then one at that place that doesn't, and what was taken behind it
+-- samples that fit, then one at that place that doesn't, and what was taken after it
 pub record IsAbove (maxval count : ℕ) (bytes : List ℕ) (place : ℕ) : Type 0 where
   pub samples : List ℕ
   pub sample : ℕ
@@ -95,7 +103,7 @@ ReadsPiece maxval count start before after (Ok done) samples =
 ReadsPiece maxval count start before after (Err refusal) samples =
     RasterRefused maxval count start before after refusal
 
--- what is found behind the raster
+-- what is found after the raster
 abbrev pub EndsFile : ℕ → TrayState → TrayState → Result (Unit {0}) PlateRefusal → Type 0
 EndsFile at before after (Ok done) = Takes [] before after × AtEnd before after
 EndsFile at before after (Err (Fault (TrailingBytes place))) =

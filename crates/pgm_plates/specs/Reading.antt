@@ -3,6 +3,8 @@ use Rattle.std.specs.Prelude.{◌≡◌, ◌⊎◌, ℕ, ◌+◌, ◌*◌, ◌�
 use Rattle.std.specs.Prelude.{Some, Result, Ok, Err}
 use Rattle.outside.specs.Causes.{Rose, Asks}
 use Rattle.outside.specs.Tray.{TrayState, KeepsTray}
+use Rattle.pgm_plates.specs.declared.bounds.Bounds.{Bounds}
+use Rattle.pgm_plates.specs.declared.bounds.Bounds.TheVariants.{Page}
 use Rattle.pgm_plates.specs.declared.plate.Plate.{Plate}
 use Rattle.pgm_plates.specs.declared.plate.PlateFault.{PlateFault}
 use Rattle.pgm_plates.specs.declared.plate.PlateFault.TheVariants.{SampleAboveMaxval, Truncated}
@@ -10,15 +12,15 @@ use Rattle.pgm_plates.specs.declared.plate.PlateRefusal.{PlateRefusal}
 use Rattle.pgm_plates.specs.declared.plate.PlateRefusal.TheVariants.{Fault, ReadFault, OutOfMemory}
 use Rattle.pgm_plates.specs.Header.{IsHeader}
 use Rattle.pgm_plates.specs.Limits.{most_header}
-use Rattle.pgm_plates.specs.Plates.{IsPlateFile, sample_size}
-use Rattle.pgm_plates.specs.Faults.{HoldsNoHeader, IsFault}
+use Rattle.pgm_plates.specs.Plates.{IsPlateFileWithin, sample_size}
+use Rattle.pgm_plates.specs.Faults.{HoldsNoHeader, IsFaultWithin}
 
 -- whether a fault is an early end
 abbrev pub IsTruncated : PlateFault → Type 0
 IsTruncated (Truncated at) = Unit {0}
 IsTruncated other = ⊥
 
--- a header that is not too long, and at most so many bytes behind it as its samples take, and one
+-- a header that is not too long, and at most so many bytes after it as its samples take, and one
 pub record IsWithinPlate (bytes : List ℕ) : Type 0 where
   pub count : ℕ
   pub short : count ≤ most_header
@@ -38,14 +40,15 @@ abbrev pub AtEnd : TrayState → TrayState → Type 0
 AtEnd before after = IsTrue before.tells → after.left ≡ []
 
 -- What the answer says of the bytes that were taken.
-abbrev pub AnswersPlate : List ℕ → TrayState → TrayState → Result Plate PlateRefusal → Type 0
-AnswersPlate bytes before after (Ok plate) =
-    IsTrue after.begun × IsPlateFile bytes plate × AtEnd before after
-AnswersPlate bytes before after (Err (Fault fault)) =
-    IsTrue after.begun × IsFault bytes fault × (IsTruncated fault → AtEnd before after)
-AnswersPlate bytes before after (Err ReadFault) = Rose before.faults after.faults
-    × ((fault : PlateFault) → IsFault bytes fault → IsTruncated fault)
-AnswersPlate bytes before after (Err OutOfMemory) = IsTrue after.begun
+abbrev pub AnswersPlate : Bounds → List ℕ → TrayState → TrayState → Result Plate PlateRefusal
+    → Type 0
+AnswersPlate bounds bytes before after (Ok plate) =
+    IsTrue after.begun × IsPlateFileWithin bounds bytes plate × AtEnd before after
+AnswersPlate bounds bytes before after (Err (Fault fault)) =
+    IsTrue after.begun × IsFaultWithin bounds bytes fault × (IsTruncated fault → AtEnd before after)
+AnswersPlate bounds bytes before after (Err ReadFault) = Rose before.faults after.faults
+    × ((fault : PlateFault) → IsFaultWithin bounds bytes fault → IsTruncated fault)
+AnswersPlate bounds bytes before after (Err OutOfMemory) = IsTrue after.begun
 
 -- No fault of the tray is passed over: the count stays at each answer but a read fault, and but
 -- a sample above the maxval,
@@ -55,8 +58,9 @@ KeepsCount before after (Err ReadFault) = Unit {0}
 KeepsCount before after (Err (Fault (SampleAboveMaxval at))) = Unit {0}
 KeepsCount before after other = after.faults ≡ before.faults
 
--- The file of that name is begun, and some bytes are taken off its front, which the answer fits.
-pub record ReadsPlate (name : List ℕ) (before after : TrayState)
+-- The file of that name is begun, and some bytes are taken off its beginning, which the answer
+-- fits.
+pub record ReadsPlateWithin (bounds : Bounds) (name : List ℕ) (before after : TrayState)
     (result : Result Plate PlateRefusal) : Type 0 where
   pub keeps : KeepsTray before after
   pub asked : Asks before.asked after.asked (name ∷ [])
@@ -64,5 +68,8 @@ pub record ReadsPlate (name : List ℕ) (before after : TrayState)
   pub taken : IsTrue after.begun → IsTrue before.tells
       → before.file name ≡ Some (bytes ++ after.left)
   pub few : AreFew bytes
-  pub answer : AnswersPlate bytes before after result
+  pub answer : AnswersPlate bounds bytes before after result
   pub count : KeepsCount before after result
+
+abbrev pub ReadsPlate : List ℕ → TrayState → TrayState → Result Plate PlateRefusal → Type 0
+ReadsPlate = ReadsPlateWithin Page

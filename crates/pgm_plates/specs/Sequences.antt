@@ -1,4 +1,4 @@
--- Plate files that stand one directly behind the other, and what it means to read one of them.
+-- Plate files that stand one directly after the other, and what it means to read one of them.
 use Rattle.std.specs.Prelude.{◌≡◌, ℕ, ◌+◌, ◌<◌, ◌≤◌, IsTrue, List, [], ◌∷◌, ◌++◌, length, Option}
 use Rattle.std.specs.Prelude.{Some, None, Result, Ok, Err}
 use Rattle.outside.specs.Causes.{Rose, Asks}
@@ -15,25 +15,25 @@ use Rattle.pgm_plates.specs.Faults.{IsFault}
 use Rattle.pgm_plates.specs.Plates.{IsPlateFile}
 use Rattle.pgm_plates.specs.Reading.{AreFew, AtEnd, IsTruncated, KeepsCount}
 
--- The bytes are plate files of these plates, one directly behind the other.
+-- The bytes are plate files of these plates, one directly after the other.
 abbrev pub IsSequence : List ℕ → List Plate → Type 0
 IsSequence bytes [] = bytes ≡ []
 IsSequence bytes (plate ∷ plates) = (image later : List ℕ) × (bytes ≡ image ++ later)
     × IsPlateFile image plate × IsSequence later plates
 
--- At most so many plate files stand at the front of the bytes, and these others behind them.
-pub record StandsBehind (bytes : List ℕ) (most : ℕ) (image : List ℕ) : Type 0 where
-  pub front : List ℕ
+-- At most so many plate files stand at the beginning of the bytes, and these others after them.
+pub record StandsAfter (bytes : List ℕ) (most : ℕ) (image : List ℕ) : Type 0 where
+  pub prefix : List ℕ
   pub plates : List Plate
-  pub sequence : IsSequence front plates
+  pub sequence : IsSequence prefix plates
   pub few : length plates ≤ most
-  pub whole : bytes ≡ front ++ image
+  pub whole : bytes ≡ prefix ++ image
 
 -- No more bytes than these are owed where the plate of that number is asked for: at most so many
 -- plate files, and of the
 -- one in hand no more than of a file of one plate.
 abbrev pub AreFewOfPage : ℕ → List ℕ → Type 0
-AreFewOfPage page bytes = (image : List ℕ) × StandsBehind bytes page image × AreFew image
+AreFewOfPage page bytes = (image : List ℕ) × StandsAfter bytes page image × AreFew image
 
 -- the same fault, so many bytes further on
 abbrev pub further : ℕ → PlateFault → PlateFault
@@ -46,7 +46,7 @@ further n (SampleAboveMaxval at) = SampleAboveMaxval (n + at)
 further n (Truncated at) = Truncated (n + at)
 further n (TrailingBytes at) = TrailingBytes (n + at)
 
--- What stands behind an image is no fault of it, and where nothing stands there is none.
+-- What stands after an image is no fault of it, and where nothing stands there is none.
 abbrev pub IsOfImage : PlateFault → Type 0
 IsOfImage (TrailingBytes at) = ⊥
 IsOfImage (Truncated at) = 0 < at
@@ -56,19 +56,20 @@ IsOfImage other = Unit {0}
 abbrev pub AnswersPage : ℕ → List ℕ → TrayState → TrayState → Result (Option Plate) PlateRefusal
     → Type 0
 AnswersPage page bytes before after (Ok (Some plate)) = IsTrue after.begun × (image : List ℕ)
-    × (s : StandsBehind bytes page image) × (length s.plates ≡ page) × IsPlateFile image plate
+    × (s : StandsAfter bytes page image) × (length s.plates ≡ page) × IsPlateFile image plate
 AnswersPage page bytes before after (Ok None) =
-    IsTrue after.begun × StandsBehind bytes page [] × AtEnd before after
+    IsTrue after.begun × StandsAfter bytes page [] × AtEnd before after
 AnswersPage page bytes before after (Err (Fault fault)) = IsTrue after.begun × (image : List ℕ)
-    × (s : StandsBehind bytes page image) × (found : PlateFault) × IsFault image found
-    × IsOfImage found × (fault ≡ further (length s.front) found)
+    × (s : StandsAfter bytes page image) × (found : PlateFault) × IsFault image found
+    × IsOfImage found × (fault ≡ further (length s.prefix) found)
     × (IsTruncated found → AtEnd before after)
 AnswersPage page bytes before after (Err ReadFault) = Rose before.faults after.faults
-    × (image : List ℕ) × StandsBehind bytes page image
+    × (image : List ℕ) × StandsAfter bytes page image
     × ((fault : PlateFault) → IsFault image fault → IsTruncated fault)
 AnswersPage page bytes before after (Err OutOfMemory) = IsTrue after.begun
 
--- The file of that name is begun, and some bytes are taken off its front, which the answer fits.
+-- The file of that name is begun, and some bytes are taken off its beginning, which the answer
+-- fits.
 pub record ReadsPage (name : List ℕ) (page : ℕ) (before after : TrayState)
     (result : Result (Option Plate) PlateRefusal) : Type 0 where
   pub keeps : KeepsTray before after

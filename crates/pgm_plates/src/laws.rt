@@ -1,6 +1,8 @@
 //! Laws of plate files, each the contract of an empty function: a caller that calls it has the law.
 
-ghost use Rattle.pgm_plates.specs.Laws.{FilePlate, FileFault, PlateOrFault, NotBoth, OnePlate, OneFault, NoFront, OneSequence, FaultStays, SpelledReads, TurnsBack};
+ghost use Rattle.pgm_plates.specs.Laws.{NotBoth, OnePlate, OneFault, NoPrefix, OneSequence, FaultStays, TurnsBack, SpelledReads, PlateOrFault, FilePlate, FileFault, NotBothWithin, OnePlateWithin, OneFaultWithin, NoPrefixWithin, FaultStaysWithin, TurnsBackWithin, SpelledReadsWithin, PlateOrFaultWithin, FilePlateWithin, FileFaultWithin, PageInSheet, TopOfFileWithin};
+
+use crate::bounds::Bounds;
 
 /// A plate file has no fault.
 pub fn not_both()
@@ -17,17 +19,17 @@ pub fn one_fault()
     ensures { OneFault }
 {}
 
-/// No plate file is a proper front of another.
-pub fn no_front()
-    ensures { NoFront }
+/// No plate file is a proper prefix of another.
+pub fn no_prefix()
+    ensures { NoPrefix }
 {}
 
-/// Bytes are plate files of one list of plates at most, one directly behind the other.
+/// Bytes are plate files of one list of plates at most, one directly after the other.
 pub fn one_sequence()
     ensures { OneSequence }
 {}
 
-/// A fault stays, whatever comes behind the bytes that have it, but for an early end.
+/// A fault stays, whatever comes after the bytes that have it, but for an early end.
 pub fn fault_stays()
     ensures { FaultStays }
 {}
@@ -55,4 +57,64 @@ pub fn file_plate()
 /// A fault that is answered is the one of the whole file, where the tray tells its bytes.
 pub fn file_fault()
     ensures { FileFault }
+{}
+
+/// Within any bounds: a plate file has no fault.
+pub fn not_both_within(bounds: Bounds)
+    ensures { NotBothWithin bounds }
+{}
+
+/// Within any bounds: a plate file has one plate.
+pub fn one_plate_within(bounds: Bounds)
+    ensures { OnePlateWithin bounds }
+{}
+
+/// Within any bounds: bytes have at most one fault.
+pub fn one_fault_within(bounds: Bounds)
+    ensures { OneFaultWithin bounds }
+{}
+
+/// Within any bounds: no plate file is a proper prefix of another.
+pub fn no_prefix_within(bounds: Bounds)
+    ensures { NoPrefixWithin bounds }
+{}
+
+/// Within any bounds: a fault stays, whatever comes after the bytes that have it, but for an early end.
+pub fn fault_stays_within(bounds: Bounds)
+    ensures { FaultStaysWithin bounds }
+{}
+
+/// Within any bounds: a plate that is turned into a plane and back is as before.
+pub fn turns_back_within(bounds: Bounds)
+    ensures { TurnsBackWithin bounds }
+{}
+
+/// Within any bounds: the canonical spelling of a plate is a plate file of it.
+pub fn spelled_reads_within(bounds: Bounds)
+    ensures { SpelledReadsWithin bounds }
+{}
+
+/// Within any bounds: bytes are a plate file or have a fault.
+pub fn plate_or_fault_within(bounds: Bounds)
+    ensures { PlateOrFaultWithin bounds }
+{}
+
+/// Within any bounds: a plate that is read is the one that the whole file spells, where the tray tells its bytes.
+pub fn file_plate_within(bounds: Bounds)
+    ensures { FilePlateWithin bounds }
+{}
+
+/// Within any bounds: a fault that is answered is the one of the whole file, where the tray tells its bytes.
+pub fn file_fault_within(bounds: Bounds)
+    ensures { FileFaultWithin bounds }
+{}
+
+/// Each plate file of a page is one of a sheet.
+pub fn page_in_sheet()
+    ensures { PageInSheet }
+{}
+
+/// What was read row by row so far is the top of the plate that the whole file spells, where the tray tells its bytes.
+pub fn top_of_file_within(bounds: Bounds)
+    ensures { TopOfFileWithin bounds }
 {}

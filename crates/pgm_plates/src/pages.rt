@@ -3,6 +3,7 @@ ghost use Rattle.pgm_plates.specs.Images.{IsNear, IsNearRefusal, ReadsImage, Pag
 ghost use Rattle.pgm_plates.specs.Reading.{KeepsCount};
 ghost use Rattle.pgm_plates.specs.Sequences.{ReadsPage, further as further_on};
 
+use crate::bounds::Bounds;
 use crate::plate::{Plate, PlateFault, PlateRefusal};
 use crate::raster::read_raster;
 use crate::reading::read_header;
@@ -11,10 +12,10 @@ use outside::tray::{Failed, Tray};
 use std::alloc::Global;
 
 /// Reads the plate of that number, counted from 0, of the file of that name, in which plate files stand one directly
-/// behind the other; or none, where there are at most so many.
+/// after the other; or none, where there are at most so many.
 ///
 /// A refusal is the first fault of the first of them that is none, at its place in the file, a read that failed before
-/// there was one, or want of memory.
+/// there was one, or out of memory.
 pub fn read_page<T: Tray>(
     alloc: Global,
     tray: &mut T,
@@ -63,7 +64,7 @@ fn read_image<T: Tray>(alloc: Global, tray: &mut T) -> Result<Option<(Plate, u64
     ensures some { result ≢ Err (PlateRefusal.Fault (PlateFault.Truncated 0)) }
     ensures small { IfOk result (λ read. IfSome read (λ r. r.1 < 2 ^ 30)) }
 {
-    let (header, start) = match read_header(tray) {
+    let (header, start) = match read_header(tray, Bounds::Page) {
         Ok(read) => read,
         Err(PlateRefusal::Fault(PlateFault::Truncated(0))) => return Ok(None),
         Err(refusal) => return Err(refusal),

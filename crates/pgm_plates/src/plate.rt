@@ -2,8 +2,8 @@ use page_model::parts::Tints;
 
 /// A plate as its file has it: `width * height` samples, row by row from the top, 0 for black and `maxval` for white.
 ///
-/// A plate that was read has sides from 1 to 16,384, at most 160,000,000 samples, and a maxval from 1 to 65,535 which
-/// no sample is above. Netpbm's PGM manual gives the raw format; docs/PLATES.md says what of it is taken.
+/// A plate that was read has sides from 1 and a number of samples within the bounds that it was read by (`Bounds`), and
+/// a maxval from 1 to 65,535 which no sample is above. Netpbm's PGM manual gives the raw format; docs/PLATES.md says what of it is taken.
 #[derive(Drop)]
 pub struct Plate {
     pub width: u32,
@@ -19,9 +19,9 @@ pub enum PlateFault {
     BadMagic(u64),
     /// The byte cannot stand there in a header, or the header has not ended within 65,536 bytes.
     BadHeader(u64),
-    /// The width or the height is 0 or above 16,384: at its first digit.
+    /// The width or the height is 0 or above the most that the bounds allow: at its first digit.
     SideRange(u64),
-    /// There are more than 160,000,000 samples: at the height's first digit.
+    /// There are more samples than the bounds allow: at the height's first digit.
     TooManySamples(u64),
     /// The maxval is 0 or above 65,535: at its first digit.
     MaxvalRange(u64),
@@ -29,7 +29,7 @@ pub enum PlateFault {
     SampleAboveMaxval(u64),
     /// The file ends there before the plate is whole.
     Truncated(u64),
-    /// A byte stands directly behind the raster.
+    /// A byte stands directly after the raster.
     TrailingBytes(u64),
 }
 
@@ -40,6 +40,6 @@ pub enum PlateRefusal {
     Fault(PlateFault),
     /// The file could not be begun, or a read failed before there was a fault.
     ReadFault,
-    /// Memory was wanting.
+    /// Memory ran out.
     OutOfMemory,
 }

@@ -29,7 +29,7 @@ pub fn read_raster<T: Tray>(
     requires start { start ≤ most_header }
     requires first { 0 < start }
     requires some { 0 < count }
-    requires count { count < 2 ^ 30 }
+    requires count { count ≤ 2 ^ 36 }
     ensures answer { ReadsRaster maxval count start (T.state tray.old) (T.state tray.new) result }
     ensures count { KeepsCount (T.state tray.old) (T.state tray.new) result }
     ensures near { IfErr result IsNearRefusal }
@@ -72,7 +72,7 @@ fn no_bytes(alloc: Global, len: usize) -> Result<Vec<u8>, AllocError>
     vec![in alloc; 0u8; len]
 }
 
-// Reads samples behind the ones that are there, until there are that many.
+// Reads samples after the ones that are there, until there are that many.
 fn read_pieces<T: Tray>(
     tray: &mut T,
     samples: &mut Vec<u16>,
@@ -85,7 +85,7 @@ fn read_pieces<T: Tray>(
     requires begun { IsTrue (T.state tray.old).begun }
     requires start { start ≤ most_header }
     requires first { 0 < start }
-    requires count { count < 2 ^ 30 }
+    requires count { count ≤ 2 ^ 36 }
     requires some { 0 < length piece.old }
     requires room { 2 * length piece.old ≤ length bytes.old }
     requires empty { samples.old.items ≡ [] }
@@ -116,8 +116,8 @@ fn read_pieces<T: Tray>(
     Ok(())
 }
 
-// Reads as many samples as there is room for.
-fn read_piece<T: Tray>(
+/// Reads as many samples as there is room for.
+pub fn read_piece<T: Tray>(
     tray: &mut T,
     samples: &mut [u16],
     bytes: &mut [u8],
@@ -126,14 +126,15 @@ fn read_piece<T: Tray>(
 ) -> Result<(), PlateRefusal>
     requires begun { IsTrue (T.state tray.old).begun }
     requires start { start < 2 ^ 40 }
-    requires first { 0 < start }
-    requires count { length samples.old < 2 ^ 30 }
+    requires count { length samples.old ≤ 2 ^ 36 }
     requires room { length bytes.old ≡ length samples.old * bytes_of_sample maxval }
     ensures answer { let count = length samples.new in
         ReadsPiece maxval count start (T.state tray.old) (T.state tray.new) result samples.new }
+    ensures begun { IsTrue (T.state tray.new).begun }
     ensures count { KeepsCount (T.state tray.old) (T.state tray.new) result }
     ensures near { IfErr result IsNearRefusal }
-    ensures uncut { result ≢ Err (PlateRefusal.Fault (PlateFault.Truncated 0)) }
+    ensures uncut { 0 < start → result ≢ Err (PlateRefusal.Fault (PlateFault.Truncated 0)) }
+    ensures memory { result ≢ Err PlateRefusal.OutOfMemory }
 {
     let size = sample_size(maxval);
     let (filled, end) = fill(tray, bytes);

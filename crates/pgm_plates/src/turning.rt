@@ -2,9 +2,10 @@ ghost use Rattle.std.specs.Prelude.{◌≡◌, ◌*◌, ◌-◌, ◌≤◌, map}
 ghost use Rattle.std.specs.List.{All};
 ghost use Rattle.page_model.specs.Conditions.{IsPlane};
 ghost use Rattle.page_model.specs.Limits.{most_samples, most_maxval};
-ghost use Rattle.pgm_plates.specs.Plates.{IsPlate};
-ghost use Rattle.pgm_plates.specs.Planes.{plane_of, plate_of};
+ghost use Rattle.pgm_plates.specs.Plates.{IsPlate, IsPlateWithin};
+ghost use Rattle.pgm_plates.specs.Planes.{IsPlaneWithin, plane_of, plate_of};
 
+use crate::bounds::Bounds;
 use crate::plate::Plate;
 use lists::list::List;
 use page_model::parts::{Plane, Tints};
@@ -17,12 +18,16 @@ impl Plate {
         ensures in_range { IsPlane result }
         ensures few { result.width * result.height ≤ most_samples }
     {
-        Plane {
-            width: self.width,
-            height: self.height,
-            maxval: self.maxval,
-            tints: turned(self.samples, self.maxval),
-        }
+        self.into_tints()
+    }
+
+    /// Turns the samples of a sheet's plate into tints, as `into_plane` does.
+    pub fn into_sheet_plane(self) -> Plane
+        requires { IsPlateWithin Bounds.Sheet self }
+        ensures tints { result ≡ plane_of self }
+        ensures in_range { IsPlaneWithin Bounds.Sheet result }
+    {
+        self.into_tints()
     }
 
     /// Turns the tints of a plane into samples, in place.
@@ -31,6 +36,36 @@ impl Plate {
         requires few { plane.width * plane.height ≤ most_samples }
         ensures samples { result ≡ plate_of plane }
         ensures in_range { IsPlate result }
+    {
+        Plate::of_tints(plane)
+    }
+
+    /// Turns the tints of a sheet's plane into samples, as `of_plane` does.
+    pub fn of_sheet_plane(plane: Plane) -> Plate
+        requires { IsPlaneWithin Bounds.Sheet plane }
+        ensures samples { result ≡ plate_of plane }
+        ensures in_range { IsPlateWithin Bounds.Sheet result }
+    {
+        Plate::of_tints(plane)
+    }
+
+    fn into_tints(self) -> Plane
+        requires fits { self.maxval ≤ most_maxval }
+        requires below { All (λ s. s ≤ self.maxval) self.samples }
+        ensures { result ≡ plane_of self }
+    {
+        Plane {
+            width: self.width,
+            height: self.height,
+            maxval: self.maxval,
+            tints: turned(self.samples, self.maxval),
+        }
+    }
+
+    fn of_tints(plane: Plane) -> Plate
+        requires fits { plane.maxval ≤ most_maxval }
+        requires below { All (λ t. t ≤ plane.maxval) plane.tints }
+        ensures { result ≡ plate_of plane }
     {
         Plate {
             width: plane.width,

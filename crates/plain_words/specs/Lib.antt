@@ -5,3 +5,4 @@ pub mod Held
 pub mod Distinct
 pub mod Inputs
 pub mod Plates
+pub mod Files

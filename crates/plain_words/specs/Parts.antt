@@ -31,21 +31,21 @@ is_some_text text = nat_le 1 (length text)
 abbrev pub before_colon : List ℕ → List ℕ
 before_colon word = before_first is_colon word
 
--- what stands behind the first colon
-abbrev pub behind_colon : List ℕ → List ℕ
-behind_colon word = after_first is_colon word
+-- what stands after the first colon
+abbrev pub after_colon : List ℕ → List ℕ
+after_colon word = after_first is_colon word
 
 -- a text that is not empty, and in which no colon is left
 abbrev pub is_last_part : List ℕ → Bool
 is_last_part text = is_some_text text && not (list_any is_colon text)
 
--- the parts of a word before its first colon, between its first two and behind them
+-- the parts of a word before its first colon, between its first two and after them
 abbrev pub parts_of : List ℕ → PlateNames
 parts_of word =
     record {
       name = before_colon word;
-      input = before_colon (behind_colon word);
-      output = behind_colon (behind_colon word);
+      input = before_colon (after_colon word);
+      output = after_colon (after_colon word);
     }
 
 -- a name, a file to read and one to write, none of them empty, and no third colon
@@ -53,9 +53,9 @@ abbrev pub is_plate : PlateNames → Bool
 is_plate plate = is_name plate.name && is_some_text plate.input && is_some_text plate.output
     && not (list_any is_colon plate.output)
 
--- the parts of a word before its first colon and behind it
+-- the parts of a word before its first colon and after it
 abbrev pub input_of : List ℕ → InputNames
-input_of word = record { name = before_colon word; input = behind_colon word }
+input_of word = record { name = before_colon word; input = after_colon word }
 
 -- a name and a file to read, and no second colon
 abbrev pub is_input : InputNames → Bool
@@ -63,7 +63,7 @@ is_input plate = is_name plate.name && is_last_part plate.input
 
 -- the same parts, as a file to read and one to write
 abbrev pub copy_of : List ℕ → CopyNames
-copy_of word = record { input = before_colon word; output = behind_colon word }
+copy_of word = record { input = before_colon word; output = after_colon word }
 
 -- a file to read and one to write, and no second colon
 abbrev pub is_copy : CopyNames → Bool

@@ -2,9 +2,11 @@
 #![tactic(auto)]
 
 pub mod distinct;
+pub mod files;
 pub mod inputs;
 pub mod names;
 pub mod numbers;
 pub mod parts;
+pub mod plates;
 #[cfg(test)]
 mod tests;

@@ -1,7 +1,7 @@
 ghost use Rattle.std.specs.Prelude.{◌≡◌};
 ghost use Rattle.std.specs.List.{list_any};
 ghost use Rattle.plain_words.specs.Held.{copy_in, input_in, names_in};
-ghost use Rattle.plain_words.specs.Parts.{before_colon, behind_colon, copy_of, input_of, is_colon, is_copy, is_input, is_last_part as last_part_test, is_plate as plate_test, parts_of as parts_meant};
+ghost use Rattle.plain_words.specs.Parts.{before_colon, after_colon, copy_of, input_of, is_colon, is_copy, is_input, is_last_part as last_part_test, is_plate as plate_test, parts_of as parts_meant};
 
 use crate::names::is_name;
 
@@ -27,7 +27,7 @@ pub struct CopyWord<'a> {
     pub output: &'a str,
 }
 
-/// The parts of a word before its first colon, between its first two and behind them.
+/// The parts of a word before its first colon, between its first two and after them.
 pub fn plate_parts(word: &str) -> PlateWord<'_>
     ensures { names_in result ≡ parts_meant word.now }
 {
@@ -50,7 +50,7 @@ pub fn is_plate(plate: PlateWord<'_>) -> bool
         && !has_colon(plate.output.as_bytes())
 }
 
-/// The parts of a word before its first colon and behind it.
+/// The parts of a word before its first colon and after it.
 pub fn input_parts(word: &str) -> InputWord<'_>
     ensures { input_in result ≡ input_of word.now }
 {
@@ -65,7 +65,7 @@ pub fn is_input_word(plate: InputWord<'_>) -> bool
     is_name(plate.name.as_bytes()) && is_last_part(plate.input)
 }
 
-/// The parts of a word before its first colon and behind it.
+/// The parts of a word before its first colon and after it.
 pub fn copy_parts(word: &str) -> CopyWord<'_>
     ensures { copy_in result ≡ copy_of word.now }
 {
@@ -86,13 +86,13 @@ fn is_last_part(text: &str) -> bool
     !text.is_empty() && !has_colon(text.as_bytes())
 }
 
-// What stands before the first colon, and what stands behind it.
+// What stands before the first colon, and what stands after it.
 fn cut(word: &str) -> (&str, &str)
     ensures before { result.0.now ≡ before_colon word.now }
-    ensures behind { result.1.now ≡ behind_colon word.now }
+    ensures suffix { result.1.now ≡ after_colon word.now }
 {
     match word.split_once(':') {
-        Some((before, behind)) => (before, behind),
+        Some((before, suffix)) => (before, suffix),
         None => (word, ""),
     }
 }

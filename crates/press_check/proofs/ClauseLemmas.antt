@@ -13,10 +13,10 @@ use Rattle.press_check.specs.Clauses.{Mean, AreRefused, Success, Usage, RefusesF
 use Rattle.press_check.specs.Endings.{ChecksPage, AnswersTell, Closes, EndsCheck, Ends}
 use Rattle.press_check.specs.Text.{text_of, usage_line}
 use Rattle.press_check.specs.Words.{CheckWords, check_of, sources_of}
-use Rattle.trap_report.specs.declared.refusal.Refusal.{Refusal}
-use Rattle.trap_report.specs.declared.refusal.Refusal.TheVariants as refusals
-use Rattle.trap_report.specs.Refusals.{status_of, line_of}
-use Rattle.trap_report.specs.Telling.{TellsText, KeepsFiles}
+use Rattle.refusals.specs.declared.refusal.Refusal.{Refusal}
+use Rattle.refusals.specs.declared.refusal.Refusal.TheVariants as refusals
+use Rattle.refusals.specs.Refusals.{status_of, line_of}
+use Rattle.refusals.specs.Telling.{TellsText, KeepsFiles}
 use Rattle.verdicts.specs.Verdicts.{Verdict, outcome}
 use Rattle.verdicts.specs.Verdicts.Verdict.{Refused, Out}
 use Rattle.verdicts.proofs.VerdictLemmas.{PlateLaws, one_verdict}

@@ -10,8 +10,8 @@ use Rattle.page_gather.specs.Steps.{PassesNoFault}
 use Rattle.page_gather.proofs.GatherLemmas.{gathered, refused_count}
 use Rattle.press_check.specs.Endings.{AnswersText, ChecksPage}
 use Rattle.press_check.specs.Text.{text_of}
-use Rattle.trap_report.specs.declared.refusal.Refusal.{Refusal}
-use Rattle.trap_report.specs.declared.refusal.Refusal.TheVariants.{Memory}
+use Rattle.refusals.specs.declared.refusal.Refusal.{Refusal}
+use Rattle.refusals.specs.declared.refusal.Refusal.TheVariants.{Memory}
 
 module _ (source : Sources) (radius : ℕ) (a b : TrayState) where
   -- The page could not be read.
@@ -44,7 +44,7 @@ module _ (source : Sources) (radius : ℕ) (a b : TrayState) where
   made_text page (Err refusal) reads valid is =
       subst (λ (r : Refusal). AnswersText source radius a b (Err r) × PassesNoFault {T = List ℕ} a b (Err r)) (sym is) (tt, reads.count)
 
-  -- A page that was read has its text, but for want of memory.
+  -- A page that was read has its text, but for lack of memory.
   pub read_and_made : (page : PageParts) (result : Result (List ℕ) Refusal) → ReadsPage source a b (Ok page) → IsPage page → MatchResult result (λ text. text ≡ text_of radius page) (λ refusal. refusal ≡ Memory) → ChecksPage source radius a b result
   read_and_made page result read valid is =
       let reads = gathered source a b page read in

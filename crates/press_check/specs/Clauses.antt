@@ -2,7 +2,7 @@
 -- after the call.
 use Rattle.std.specs.Prelude.{◌≡◌, ◌≢◌, ◌⊎◌, ℕ, ◌≤◌, IsTrue, List, [], ◌++◌, take, Option, Some}
 use Rattle.std.specs.Prelude.{None, Ok, Err}
-use Rattle.outside.specs.Causes.{Rose, RoseOnce, Asks, AsksFront}
+use Rattle.outside.specs.Causes.{Rose, RoseOnce, Asks, AsksPrefix}
 use Rattle.outside.specs.Tray.{TrayState}
 use Rattle.outside.specs.Rack.{RackState}
 use Rattle.page_model.specs.declared.parts.PageParts.{PageParts}
@@ -11,12 +11,12 @@ use Rattle.page_gather.specs.Gathering.{BreaksReading, InHand, IsMade, files_to}
 use Rattle.page_gather.specs.Steps.{PassesNoFault}
 use Rattle.press_check.specs.Text.{text_of, usage_line}
 use Rattle.press_check.specs.Words.{CheckWords, check_of, sources_of}
-use Rattle.trap_report.specs.declared.refusal.Refusal.{Refusal}
-use Rattle.trap_report.specs.declared.refusal.Refusal.TheVariants as Refusals
-use Rattle.trap_report.specs.Refusals.{line_of, status_of}
-use Rattle.trap_report.specs.Statuses.{done, usage, job_refused, page_refused, not_read}
-use Rattle.trap_report.specs.Statuses.{not_written, out_of_memory}
-use Rattle.trap_report.specs.Telling.{TellsText}
+use Rattle.refusals.specs.declared.refusal.Refusal.{Refusal}
+use Rattle.refusals.specs.declared.refusal.Refusal.TheVariants as Refusals
+use Rattle.refusals.specs.Refusals.{line_of, status_of}
+use Rattle.refusals.specs.Statuses.{done, usage, job_refused, page_refused, not_read}
+use Rattle.refusals.specs.Statuses.{not_written, out_of_memory}
+use Rattle.refusals.specs.Telling.{TellsText}
 use Rattle.verdicts.specs.Verdicts.{IsVerdict, Refused, Targets}
 
 -- The words mean this check.
@@ -87,7 +87,7 @@ pub record ReadFault (words : List (List ℕ)) (tray tray' : TrayState) (rack ra
       × BreaksReading (sources_of check) file tray tray'
       × TellsText (line_of (Refusals.Read file)) rack rack'
   pub asked : (check : CheckWords) → Mean words check
-      → AsksFront tray.asked tray'.asked (read_files (sources_of check))
+      → AsksPrefix tray.asked tray'.asked (read_files (sources_of check))
   pub in_hand : (check : CheckWords) → Mean words check → (tray' ≡ tray)
       ⊎ InHand (sources_of check) tray tray'
   pub calm : status ≡ out_of_memory → tray'.faults ≡ tray.faults

@@ -1,6 +1,6 @@
 -- How the steps of a check end.
 use Rattle.std.specs.Prelude.{◌≡◌, ◌⊎◌, ℕ, IsTrue, List, ◌++◌, take, Some, None, Result, Ok, Err}
-use Rattle.outside.specs.Causes.{RoseOnce, Asks, AsksFront}
+use Rattle.outside.specs.Causes.{RoseOnce, Asks, AsksPrefix}
 use Rattle.outside.specs.Tray.{TrayState}
 use Rattle.outside.specs.Rack.{RackState}
 use Rattle.page_model.specs.declared.parts.PageParts.{PageParts}
@@ -9,9 +9,9 @@ use Rattle.page_gather.specs.Inputs.{Sources, read_files}
 use Rattle.page_gather.specs.Steps.{PassesNoFault}
 use Rattle.press_check.specs.Text.{text_of, usage_line}
 use Rattle.press_check.specs.Words.{CheckWords, check_of, sources_of}
-use Rattle.trap_report.specs.declared.refusal.Refusal.{Refusal}
-use Rattle.trap_report.specs.Statuses.{done, usage, not_written}
-use Rattle.trap_report.specs.Telling.{KeepsFiles, Refuses, TellsText}
+use Rattle.refusals.specs.declared.refusal.Refusal.{Refusal}
+use Rattle.refusals.specs.Statuses.{done, usage, not_written}
+use Rattle.refusals.specs.Telling.{KeepsFiles, Refuses, TellsText}
 
 -- What the answer says: the text of the page that was read, or why there is none.
 abbrev pub AnswersText : Sources → ℕ → TrayState → TrayState → Result (List ℕ) Refusal → Type 0
@@ -24,7 +24,7 @@ pub record ChecksPage (source : Sources) (radius : ℕ) (before after : TrayStat
     (result : Result (List ℕ) Refusal) : Type 0 where
   pub in_hand : (after ≡ before) ⊎ InHand source before after
   pub count : PassesNoFault before after result
-  pub asked : AsksFront before.asked after.asked (read_files source)
+  pub asked : AsksPrefix before.asked after.asked (read_files source)
   pub answer : AnswersText source radius before after result
 
 -- The text is told whole, or a prefix of it where one call of the rack failed.

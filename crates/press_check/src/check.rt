@@ -6,7 +6,6 @@ ghost use Rattle.press_check.specs.Held.{check_in, IsWithin};
 ghost use Rattle.press_check.specs.Text.{text_of};
 ghost use Rattle.press_check.specs.Words.{sources_of};
 
-use crate::files::{inputs_of, names_of};
 use crate::risks::page_text;
 use crate::words::Check;
 use outside::rack::Rack;
@@ -14,10 +13,11 @@ use outside::tray::{Failed, Tray};
 use page_gather::gather::gather;
 use page_model::page::Page;
 use page_model::parts::{Name, OutOfMemory};
+use plain_words::files::{input_files, input_names};
+use refusals::refusal::Refusal;
+use refusals::statuses::{DONE, NOT_WRITTEN};
+use refusals::telling::refuse;
 use std::alloc::Global;
-use trap_report::refusal::Refusal;
-use trap_report::statuses::{DONE, NOT_WRITTEN};
-use trap_report::telling::refuse;
 
 // Makes a check and tells its result, and gives the status that it ends with.
 pub(crate) fn run_check<T: Tray, R: Rack>(
@@ -30,7 +30,7 @@ pub(crate) fn run_check<T: Tray, R: Rack>(
     ensures { EndsCheck (check_in check.now) (T.state tray.old) (T.state tray.new)
         (R.state rack.old) (R.state rack.new) result }
 {
-    match checked(alloc, check, tray) {
+    match check_page(alloc, check, tray) {
         Ok(text) => tell_result(rack, text.as_slice()),
         Err(refusal) => refuse(rack, &refusal),
     }
@@ -46,7 +46,7 @@ fn tell_result<R: Rack>(rack: &mut R, text: &[u8]) -> u8
 }
 
 // Reads the page, and gives the text that tells of it.
-fn checked<T: Tray>(alloc: Global, check: &Check<'_>, tray: &mut T) -> Result<Name, Refusal>
+fn check_page<T: Tray>(alloc: Global, check: &Check<'_>, tray: &mut T) -> Result<Name, Refusal>
     requires { IsWithin check.now }
     ensures { let words = check_in check.now in
         ChecksPage (sources_of words) words.radius (T.state tray.old) (T.state tray.new) result }
@@ -64,8 +64,8 @@ fn read_page<T: Tray>(alloc: Global, check: &Check<'_>, tray: &mut T) -> Result<
         result }
 {
     match (
-        names_of(alloc, check.plates),
-        inputs_of(alloc, check.plates),
+        input_names(alloc, check.plates),
+        input_files(alloc, check.plates),
     ) {
         (Ok(names), Ok(inputs)) => gather(alloc, tray, check.job, &names, inputs.as_slice()),
         _ => Err(Refusal::Memory),

@@ -2,7 +2,6 @@
 #![tactic(auto)]
 
 mod check;
-mod files;
 mod risks;
 mod text;
 pub mod top;

@@ -1,6 +1,6 @@
 ghost use Rattle.std.specs.Prelude.{◌≡◌, ◌++◌, IfOk, OnOk, decimal};
 ghost use Rattle.press_check.specs.Text.{check_text as text_meant};
-ghost use Rattle.trap_report.specs.Report.{line};
+ghost use Rattle.refusals.specs.Lines.{line};
 
 use itoa::Buffer;
 use lists::list::List;

@@ -2,17 +2,17 @@ ghost use Rattle.std.specs.Prelude.{◌≡◌, map, string_bytes};
 ghost use Rattle.press_check.specs.Clauses.{Success, Usage, RefusedInput, ReadFault, TellFault, FaultLine, Completeness};
 ghost use Rattle.press_check.specs.Endings.{Ends, RefusesWords};
 ghost use Rattle.press_check.specs.Text.{usage_line as usage_meant};
-ghost use Rattle.trap_report.specs.Telling.{KeepsFiles};
+ghost use Rattle.refusals.specs.Telling.{KeepsFiles};
 
 use crate::check::run_check;
 use crate::words::read_words;
 use outside::rack::Rack;
 use outside::tray::Tray;
 use pgm_plates::laws::{not_both, one_fault, one_plate};
+use refusals::line::Line;
+use refusals::statuses::USAGE;
+use refusals::telling::tell_line;
 use std::alloc::Global;
-use trap_report::line::Line;
-use trap_report::statuses::USAGE;
-use trap_report::telling::tell_line;
 
 /// Tells how many samples of a page misregister could leave bare, before it is trapped and after, and answers the status
 /// that the program ends with.
@@ -23,7 +23,7 @@ use trap_report::telling::tell_line;
 ///
 /// The status is 0 where the text is told; 2 where the words mean no check; 3 where the job has a fault or lacks the details
 /// of a plate's colorant; 4 where a plate's file has a fault, or the plates are no page; 5 where a read failed; 6 where the
-/// text could not be told; and 7 where memory was wanted. Each refusal tells one line that names the cause.
+/// text could not be told; and 7 where memory ran out. Each refusal tells one line that names the cause.
 pub fn presscheck_main<T: Tray, R: Rack>(
     alloc: Global,
     words: &[String],
@@ -65,15 +65,9 @@ fn run<T: Tray, R: Rack>(alloc: Global, words: &[String], tray: &mut T, rack: &m
 fn refuse_words<R: Rack>(rack: &mut R) -> u8
     ensures { RefusesWords (R.state rack.old) (R.state rack.new) result }
 {
-    tell_line(rack, &usage_line());
+    tell_line(
+        rack,
+        &Line::of_text(b"usage: presscheck RADIUS JOB NAME:IN ..."),
+    );
     USAGE
-}
-
-fn usage_line() -> Line
-    ensures { result ≡ usage_meant }
-{
-    let mut line = Line::new();
-    line.push(b"usage: presscheck RADIUS JOB NAME:IN ...");
-    line.push(b"\n");
-    line
 }

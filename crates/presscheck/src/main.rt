@@ -4,14 +4,8 @@
 use outside::disk_rack::DiskRack;
 use outside::disk_tray::DiskTray;
 use press_check::top::presscheck_main;
-use std::env;
-use std::io::ErrorKind;
+use refusals::words::words;
 use std::process::ExitCode;
-
-// No call of `presscheck_main` gives this status: a word is not UTF-8.
-const NOT_UTF8: u8 = 1;
-
-const OUT_OF_MEMORY: u8 = 7;
 
 fn main(rt: HostRuntime) -> ExitCode {
     match words(&rt) {
@@ -22,19 +16,4 @@ fn main(rt: HostRuntime) -> ExitCode {
         }
         Err(status) => ExitCode::from(status),
     }
-}
-
-// The words after the program's name, or the status that says why they cannot be had.
-fn words(rt: &HostRuntime) -> Result<Vec<String>, u8> {
-    let args = match env::args(rt) {
-        Ok(args) => args,
-        Err(error) => {
-            return Err(if error.kind() == ErrorKind::InvalidData {
-                NOT_UTF8
-            } else {
-                OUT_OF_MEMORY
-            });
-        }
-    };
-    args.skip(1).collect(rt.alloc()).map_err(|_| OUT_OF_MEMORY)
 }

@@ -4,19 +4,14 @@ mod windows;
 mod worked;
 
 use lists::list::List;
-use lists::names::CallList;
 use outside::distinct_names::have_distinct_names;
-use outside::mem_file::{FileList, MemFile};
+use outside::mem_file::FileList;
 use outside::mem_rack::MemRack;
 use outside::mem_tray::MemTray;
 use press_check::top::presscheck_main;
 use std::alloc::{AllocError, Global};
 use std::process::Abort;
-
-// Two plates of one row: on the left Cyan alone, and on the right Magenta.
-const CYAN: &[u8] = b"P5\n6 1\n255\n\0\0\0\xFF\xFF\xFF";
-
-const MAGENTA: &[u8] = b"P5\n6 1\n255\n\xFF\xFF\xFF\0\0\0";
+use test_files::{CYAN, MAGENTA, calls, file_of, words_of};
 
 const TRAPPED: &str =
     "<< /HWResolution [72 72] /TrappingDetails << /Type 1001 /ColorantDetails << /Cyan << /NeutralDensity 0.61 >> /Magenta << /NeutralDensity 0.76 >> /Yellow << /NeutralDensity 0.16 >> /Black << /NeutralDensity 1.70 >> >> >> >> setpagedevice << /TrapWidth 2 >> settrapparams showpage";
@@ -28,41 +23,12 @@ const READ: &[&str] = &["job", "in0", "in1", "in2"];
 
 const USAGE: &str = "usage: presscheck RADIUS JOB NAME:IN ...\n";
 
-// Words with single spaces between them; no words where the text is empty.
-fn words_of(alloc: Global, text: &str) -> Result<Vec<String>, AllocError> {
-    let mut words = Vec::new(alloc);
-    if text.is_empty() {
-        return Ok(words);
-    }
-    for word in text.split(' ') {
-        words.push(String::from_str(alloc, word)?)?;
-    }
-    Ok(words)
-}
-
-// The numbers of the calls that fail: this one, or none.
-fn calls(alloc: Global, call: Option<u64>) -> Result<CallList, AllocError> {
-    let mut numbers = Vec::new(alloc);
-    if let Some(number) = call {
-        numbers.push(number)?;
-    }
-    Ok(List::from_vec(numbers))
-}
-
-fn file_of(alloc: Global, name: &str, bytes: Vec<u8>) -> Result<MemFile, AllocError> {
-    Ok(MemFile {
-        name: List::from_vec(name.as_bytes().to_vec(alloc)?),
-        bytes: List::from_vec(bytes),
-        fails_at: None,
-    })
-}
-
 // The job and the plates, by the names of READ.
 fn files_of(alloc: Global, job: &str, plates: &[&[u8]]) -> Result<FileList, AllocError> {
     let mut files = Vec::new(alloc);
-    files.push(file_of(alloc, "job", job.as_bytes().to_vec(alloc)?)?)?;
+    files.push(file_of(alloc, "job", &[job.as_bytes()])?)?;
     for (name, bytes) in READ.iter().skip(1).zip(plates.iter()) {
-        files.push(file_of(alloc, name, bytes.to_vec(alloc)?)?)?;
+        files.push(file_of(alloc, name, &[*bytes])?)?;
     }
     Ok(List::from_vec(files))
 }

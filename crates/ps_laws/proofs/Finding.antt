@@ -23,28 +23,28 @@ right-get (x ∷ xs) ys (suc p) le = let e : p - length xs ≡ suc p - suc (leng
 
 -- where a dictionary stands, and what stands within it
 record Found (objects : List Object) (place : ℕ) (object : Object) : Type 0 where
-  front : List Object
+  prefix : List Object
   inner : List Object
-  behind : List Object
+  suffix : List Object
   depth : ℕ
-  split : objects ≡ front ++ object ∷ (inner ++ behind)
-  at : place ≡ length front
+  split : objects ≡ prefix ++ object ∷ (inner ++ suffix)
+  at : place ≡ length prefix
   count : object.inside ≡ length inner
   nests : Nests entries depth inner
 
 -- the same among more objects
 wider : (before objects after all : List Object) (place : ℕ) (object : Object) → all ≡ before ++ (objects ++ after) → Found objects place object → Found all (length before + place) object
 wider before objects after all place object are f = record {
-  front = before ++ f.front;
+  prefix = before ++ f.prefix;
   inner = f.inner;
-  behind = f.behind ++ after;
+  suffix = f.suffix ++ after;
   depth = f.depth;
   split =
       are
       ∙ ap (λ os. before ++ os)
-      (ap (λ os. os ++ after) f.split ∙ append_assoc f.front (object ∷ (f.inner ++ f.behind)) after ∙ ap (λ os. f.front ++ object ∷ os) (append_assoc f.inner f.behind after))
-      ∙ sym (append_assoc before f.front (object ∷ (f.inner ++ (f.behind ++ after))));
-  at = omega (arith, f.at, length-append before f.front);
+      (ap (λ os. os ++ after) f.split ∙ append_assoc f.prefix (object ∷ (f.inner ++ f.suffix)) after ∙ ap (λ os. f.prefix ++ object ∷ os) (append_assoc f.inner f.suffix after))
+      ∙ sym (append_assoc before f.prefix (object ∷ (f.inner ++ (f.suffix ++ after))));
+  at = omega (arith, f.at, length-append before f.prefix);
   count = f.count;
   nests = f.nests;
 }
@@ -69,16 +69,16 @@ none-there : (place : ℕ) (object : Object) → slice_get [] place ≡ Some obj
 none-there place object is = cc
 
 -- of two runs of objects the one in which it stands
-in-two : (front rest all : List Object) (place : ℕ) (object : Object) → all ≡ front ++ rest → slice_get all place ≡ Some object
-    → ((p : ℕ) → slice_get front p ≡ Some object → Found front p object) → ((p : ℕ) → slice_get rest p ≡ Some object → Found rest p object) → Found all place object
-in-two front rest all place object are is in_front in_rest =
-    let there : slice_get (front ++ rest) place ≡ Some object = sym (ap (λ os. slice_get os place) are) ∙ is in
+in-two : (prefix rest all : List Object) (place : ℕ) (object : Object) → all ≡ prefix ++ rest → slice_get all place ≡ Some object
+    → ((p : ℕ) → slice_get prefix p ≡ Some object → Found prefix p object) → ((p : ℕ) → slice_get rest p ≡ Some object → Found rest p object) → Found all place object
+in-two prefix rest all place object are is in_prefix in_rest =
+    let there : slice_get (prefix ++ rest) place ≡ Some object = sym (ap (λ os. slice_get os place) are) ∙ is in
     ⊎_elim
-    (λ (lt : place < length front). moved all (0 + place) place object (omega arith) (wider [] front rest all place object are (in_front place (sym (left-get front rest place lt) ∙ there))))
-    (λ (le : length front ≤ place).
-    moved all (length front + (place - length front)) place object (omega arith)
-    (wider front rest [] all (place - length front) object (are ∙ ap (λ os. front ++ os) (sym (append-nil rest))) (in_rest (place - length front) (sym (right-get front rest place le) ∙ there))))
-    (cases_lt place (length front))
+    (λ (lt : place < length prefix). moved all (0 + place) place object (omega arith) (wider [] prefix rest all place object are (in_prefix place (sym (left-get prefix rest place lt) ∙ there))))
+    (λ (le : length prefix ≤ place).
+    moved all (length prefix + (place - length prefix)) place object (omega arith)
+    (wider prefix rest [] all (place - length prefix) object (are ∙ ap (λ os. prefix ++ os) (sym (append-nil rest))) (in_rest (place - length prefix) (sym (right-get prefix rest place le) ∙ there))))
+    (cases_lt place (length prefix))
 
 found : {part : Part} {depth : ℕ} {objects : List Object} → Nests part depth objects → (place : ℕ) (object : Object) → slice_get objects place ≡ Some object → object.body ≡ Dict → Found objects place object
 found (plain depth first simple alone) zero object is body = absurd (no-plain-dict depth first.body simple (ap (λ (o : Object). o.body) (first-is first [] object is) ∙ body))
@@ -89,9 +89,9 @@ found (array depth first inner is_array count few within) (suc place) object is 
 found (dict depth first inner is_dict count few within) zero object is body =
     let same = first-is first inner object is in
     record {
-      front = [];
+      prefix = [];
       inner = inner;
-      behind = [];
+      suffix = [];
       depth = suc depth;
       split = ap (λ (o : Object). o ∷ inner) same ∙ ap (λ os. object ∷ os) (sym (append-nil inner));
       at = refl;
@@ -136,4 +136,4 @@ pub has-entries : (objects : List Object) (place : ℕ) (object : Object) → Ar
 has-entries objects place object nested is body =
     let f = found nested place object is body in
     let es = are-entries f.nests (place + 1) in
-    (es.0, record { front = f.front; dict = object; inner = f.inner; behind = f.behind; depth = f.depth; split = f.split; at = f.at; body = body; count = f.count; are = es.1 })
+    (es.0, record { prefix = f.prefix; dict = object; inner = f.inner; suffix = f.suffix; depth = f.depth; split = f.split; at = f.at; body = body; count = f.count; are = es.1 })

@@ -95,7 +95,7 @@ pub length-after_object : (brackets : List Bracket) → length (after_object bra
 length-after_object [] = refl
 length-after_object (b ∷ brackets) = refl
 
--- how brackets stand before a part, and behind it
+-- how brackets stand before a part, and after it
 abbrev Fits : Part → ℕ → List Bracket → Type 0
 Fits whole depth brackets = (length brackets ≡ depth) × (is_key_due brackets ≡ false)
 Fits items depth brackets = (length brackets ≡ depth) × (is_key_due brackets ≡ false) × (after_object brackets ≡ brackets)
@@ -114,9 +114,9 @@ after_token-first bytes brackets new token tokens is = ap (λ r. fold (after_nex
 pub after_token-last : (bytes : List ℕ) (brackets new : List Bracket) (token : Token) → after_token bytes token brackets ≡ Ok new → fold (after_next bytes) (Ok brackets) (token ∷ []) ≡ Ok new
 after_token-last bytes brackets new token is = after_token-first bytes brackets new token [] is
 
-pub after_token-append : (bytes : List ℕ) (brackets middle : List Bracket) (front behind : List Token) → fold (after_next bytes) (Ok brackets) front ≡ Ok middle
-    → fold (after_next bytes) (Ok brackets) (front ++ behind) ≡ fold (after_next bytes) (Ok middle) behind
-after_token-append bytes brackets middle front behind is = fold-append (after_next bytes) (Ok brackets) front behind ∙ ap (λ r. fold (after_next bytes) r behind) is
+pub after_token-append : (bytes : List ℕ) (brackets middle : List Bracket) (prefix suffix : List Token) → fold (after_next bytes) (Ok brackets) prefix ≡ Ok middle
+    → fold (after_next bytes) (Ok brackets) (prefix ++ suffix) ≡ fold (after_next bytes) (Ok middle) suffix
+after_token-append bytes brackets middle prefix suffix is = fold-append (after_next bytes) (Ok brackets) prefix suffix ∙ ap (λ r. fold (after_next bytes) r suffix) is
 
 -- a bracket, what stands within it, and its end
 after_token-bracket : (bytes : List ℕ) (brackets : List Bracket) (expects : Expects) (opening closing : Token) (between : List Token)
@@ -165,20 +165,20 @@ writes-after_token bytes (dict depth object opening closing inner between tokens
     ap (fold (after_next bytes) (Ok brackets)) are
     ∙ after_token-bracket bytes brackets Key opening closing between first (writes-after_token bytes within new (opening.at, after_object brackets, refl, count)) last
 writes-after_token bytes (no_item depth) brackets fits = refl
-writes-after_token bytes (next_item depth first rest objects front behind tokens one more is are) brackets fits =
+writes-after_token bytes (next_item depth first rest objects prefix suffix tokens one more is are) brackets fits =
     ap (fold (after_next bytes) (Ok brackets)) are
-    ∙ after_token-append bytes brackets (after_object brackets) front behind (writes-after_token bytes one brackets (fits.0, fits.1))
-    ∙ ap (λ b. fold (after_next bytes) (Ok b) behind) fits.2
+    ∙ after_token-append bytes brackets (after_object brackets) prefix suffix (writes-after_token bytes one brackets (fits.0, fits.1))
+    ∙ ap (λ b. fold (after_next bytes) (Ok b) suffix) fits.2
     ∙ writes-after_token bytes more brackets fits
 writes-after_token bytes (no_entry depth) brackets fits = refl
-writes-after_token bytes (next_entry depth key token value rest objects front behind tokens named begins one more is are) brackets fits =
+writes-after_token bytes (next_entry depth key token value rest objects prefix suffix tokens named begins one more is are) brackets fits =
     let at = fits.0 in
     let outer = fits.1 in
     let due = record { at = at; expects = Key } ∷ outer in
     let after_key = record { at = at; expects = Value } ∷ outer in
     ap (fold (after_next bytes) (Ok brackets)) are
-    ∙ ap (λ b. fold (after_next bytes) (Ok b) (token ∷ (front ++ behind))) fits.2
-    ∙ after_token-first bytes due after_key token (front ++ behind) (after_token-literal key.body token.kind (spelling bytes token) token.at due named begins.meaning)
-    ∙ after_token-append bytes after_key due front behind (writes-after_token bytes one after_key (fits.3, refl))
+    ∙ ap (λ b. fold (after_next bytes) (Ok b) (token ∷ (prefix ++ suffix))) fits.2
+    ∙ after_token-first bytes due after_key token (prefix ++ suffix) (after_token-literal key.body token.kind (spelling bytes token) token.at due named begins.meaning)
+    ∙ after_token-append bytes after_key due prefix suffix (writes-after_token bytes one after_key (fits.3, refl))
     ∙ writes-after_token bytes more due (at, outer, refl, fits.3)
     ∙ ap (λ b. Ok b) (sym fits.2)

@@ -40,10 +40,10 @@ has-inside (next_item depth first rest objects one more are) = tt
 has-inside (no_entry depth) = tt
 has-inside (next_entry depth key value rest objects named alone one more are) = tt
 
--- the object at the front of two runs is that of the first one, where it has one
-front-get : (value rest : List Object) → 1 + inside_of (slice_get value 0) ≡ length value → inside_of (slice_get (value ++ rest) 0) ≡ inside_of (slice_get value 0)
-front-get [] rest is = absurd (omega (arith, is))
-front-get (v ∷ value) rest is = refl
+-- the object at the beginning of two runs is that of the first one, where it has one
+prefix-get : (value rest : List Object) → 1 + inside_of (slice_get value 0) ≡ length value → inside_of (slice_get (value ++ rest) 0) ≡ inside_of (slice_get value 0)
+prefix-get [] rest is = absurd (omega (arith, is))
+prefix-get (v ∷ value) rest is = refl
 
 -- places of keys of these entries, in their order
 abbrev KeysAre : List Object → List Entry → List ℕ → Type 0
@@ -52,46 +52,46 @@ KeysAre objects [] (key ∷ keys) = ⊥
 KeysAre objects (e ∷ es) [] = ⊥
 KeysAre objects (e ∷ es) (key ∷ keys) = (e.value ≡ key + 1) × (object : Object) × (slice_get objects key ≡ Some object) × (object.body ≡ Literal e.name) × KeysAre objects es keys
 
--- what stands at a place and behind it
+-- what stands at a place and after it
 get-drop : (objects rest : List Object) (place : ℕ) (object : Object) → drop place objects ≡ object ∷ rest → slice_get objects place ≡ Some object
 get-drop [] rest zero object is = absurd (cc)
 get-drop [] rest (suc place) object is = absurd (cc)
 get-drop (o ∷ os) rest zero object is = let same : o ≡ object = cc in ap (λ x. Some x) same
 get-drop (o ∷ os) rest (suc place) object is = get-drop os rest place object is
 
-behind-entry : (objects value rest behind : List Object) (place : ℕ) (key : Object) → drop place objects ≡ key ∷ (value ++ rest) ++ behind → drop (place + 1 + length value) objects ≡ rest ++ behind
-behind-entry objects value rest behind place key is =
+suffix-entry : (objects value rest suffix : List Object) (place : ℕ) (key : Object) → drop place objects ≡ key ∷ (value ++ rest) ++ suffix → drop (place + 1 + length value) objects ≡ rest ++ suffix
+suffix-entry objects value rest suffix place key is =
     let n : place + 1 + length value ≡ place + suc (length value) = omega arith in
     ap (λ k. drop k objects) n
     ∙ sym (drop-drop (suc (length value)) place objects)
     ∙ ap (drop (suc (length value))) is
-    ∙ ap (drop (length value)) (append_assoc value rest behind)
-    ∙ drop_at value (rest ++ behind) (length value) refl
+    ∙ ap (drop (length value)) (append_assoc value rest suffix)
+    ∙ drop_at value (rest ++ suffix) (length value) refl
 
 keys-next : (place : ℕ) (key : Object) (value rest : List Object) → 1 + inside_of (slice_get value 0) ≡ length value → keys_from place 0 (key ∷ (value ++ rest)) ≡ place ∷ keys_from (place + 1 + length value) 0 rest
 keys-next place key value rest is =
-    let n : 1 + inside_of (slice_get (value ++ rest) 0) ≡ length value = ap (λ k. 1 + k) (front-get value rest is) ∙ is in
+    let n : 1 + inside_of (slice_get (value ++ rest) 0) ≡ length value = ap (λ k. 1 + k) (prefix-get value rest is) ∙ is in
     ap (λ k. place ∷ keys_from (place + 1) k (value ++ rest)) n
     ∙ ap (λ ks. place ∷ ks) (keys_from-before (place + 1) (length value) (value ++ rest) ∙ ap (keys_from (place + 1 + length value) 0) (drop_at value rest (length value) refl))
 
-keys-are : {depth place : ℕ} {inner : List Object} {es : List Entry} → AreEntries depth place inner es → (objects behind : List Object) → drop place objects ≡ inner ++ behind → KeysAre objects es (keys_from place 0 inner)
-keys-are (none_more place) objects behind at = tt
-keys-are (one_more place key name value rest inner others es named one more are is) objects behind at =
-    let there : drop place objects ≡ key ∷ (value ++ rest) ++ behind = at ∙ ap (λ os. os ++ behind) are in
-    let later = keys-are more objects behind (behind-entry objects value rest behind place key there) in
+keys-are : {depth place : ℕ} {inner : List Object} {es : List Entry} → AreEntries depth place inner es → (objects suffix : List Object) → drop place objects ≡ inner ++ suffix → KeysAre objects es (keys_from place 0 inner)
+keys-are (none_more place) objects suffix at = tt
+keys-are (one_more place key name value rest inner others es named one more are is) objects suffix at =
+    let there : drop place objects ≡ key ∷ (value ++ rest) ++ suffix = at ∙ ap (λ os. os ++ suffix) are in
+    let later = keys-are more objects suffix (suffix-entry objects value rest suffix place key there) in
     let both : KeysAre objects (record { name = name; value = place + 1 } ∷ others) (place ∷ keys_from (place + 1 + length value) 0 rest) =
-    (refl, key, get-drop objects ((value ++ rest) ++ behind) place key there, named, later) in
+    (refl, key, get-drop objects ((value ++ rest) ++ suffix) place key there, named, later) in
     subst (λ ks. KeysAre objects es ks) (sym (ap (keys_from place 0) are ∙ keys-next place key value rest (has-inside one)))
     (subst (λ l. KeysAre objects l (place ∷ keys_from (place + 1 + length value) 0 rest)) (sym is) both)
 
 dict-keys : (objects : List Object) (place : ℕ) (es : List Entry) → HasEntries objects place es → KeysAre objects es (keys_of objects place)
 unfolding keys_of
 dict-keys objects place es has =
-    let all : drop place objects ≡ has.dict ∷ (has.inner ++ has.behind) = ap (drop place) has.split ∙ drop_at has.front (has.dict ∷ (has.inner ++ has.behind)) place (sym has.at) in
-    let behind : drop (place + 1) objects ≡ has.inner ++ has.behind = sym (drop-drop 1 place objects) ∙ ap (drop 1) all in
-    let count : inside_of (slice_get objects place) ≡ length has.inner = ap inside_of (get-drop objects (has.inner ++ has.behind) place has.dict all) ∙ has.count in
-    let inner : within objects place ≡ has.inner = ap (λ n. take n (drop (place + 1) objects)) count ∙ ap (take (length has.inner)) behind ∙ take_at has.inner has.behind (length has.inner) refl in
-    subst (λ os. KeysAre objects es (keys_from (place + 1) 0 os)) (sym inner) (keys-are has.are objects has.behind behind)
+    let all : drop place objects ≡ has.dict ∷ (has.inner ++ has.suffix) = ap (drop place) has.split ∙ drop_at has.prefix (has.dict ∷ (has.inner ++ has.suffix)) place (sym has.at) in
+    let suffix : drop (place + 1) objects ≡ has.inner ++ has.suffix = sym (drop-drop 1 place objects) ∙ ap (drop 1) all in
+    let count : inside_of (slice_get objects place) ≡ length has.inner = ap inside_of (get-drop objects (has.inner ++ has.suffix) place has.dict all) ∙ has.count in
+    let inner : within objects place ≡ has.inner = ap (λ n. take n (drop (place + 1) objects)) count ∙ ap (take (length has.inner)) suffix ∙ take_at has.inner has.suffix (length has.inner) refl in
+    subst (λ os. KeysAre objects es (keys_from (place + 1) 0 os)) (sym inner) (keys-are has.are objects has.suffix suffix)
 
 -- Of entries the last of a name.
 
@@ -228,33 +228,33 @@ fold-under objects name [] ns = refl
 fold-under objects name (key ∷ keys) ns =
     fold-under objects name keys (put_key objects ns key) ∙ ap (λ found. last_key objects name found keys) (put-under name (name_of (slice_get objects key)) key ns)
 
--- a key's value stands behind it
-abbrev behind_key : Option ℕ → Option ℕ
-behind_key None = None
-behind_key (Some key) = Some (key + 1)
+-- a key's value stands after it
+abbrev after_key : Option ℕ → Option ℕ
+after_key None = None
+after_key (Some key) = Some (key + 1)
 
-behind-chosen : (b : Bool) (key : ℕ) (found : Option ℕ) → behind_key (cond b (Some key) found) ≡ cond b (Some (key + 1)) (behind_key found)
-behind-chosen true key found = refl
-behind-chosen false key found = refl
+suffix-chosen : (b : Bool) (key : ℕ) (found : Option ℕ) → after_key (cond b (Some key) found) ≡ cond b (Some (key + 1)) (after_key found)
+suffix-chosen true key found = refl
+suffix-chosen false key found = refl
 
-keys-last : (objects : List Object) (name : List ℕ) (es : List Entry) (keys : List ℕ) (found : Option ℕ) → KeysAre objects es keys → last_in name (behind_key found) es ≡ behind_key (last_key objects name found keys)
+keys-last : (objects : List Object) (name : List ℕ) (es : List Entry) (keys : List ℕ) (found : Option ℕ) → KeysAre objects es keys → last_in name (after_key found) es ≡ after_key (last_key objects name found keys)
 keys-last objects name [] [] found are = refl
 keys-last objects name [] (key ∷ keys) found are = absurd are
 keys-last objects name (e ∷ es) [] found are = absurd are
 keys-last objects name (e ∷ es) (key ∷ keys) found are =
     let under : name_of (slice_get objects key) ≡ e.name = ap name_of are.2 ∙ ap name_in are.3 in
-    ap (λ v. last_in name (cond (bytes_eq e.name name) (Some v) (behind_key found)) es) are.0
-    ∙ ap (λ o. last_in name o es) (sym (behind-chosen (bytes_eq e.name name) key found))
+    ap (λ v. last_in name (cond (bytes_eq e.name name) (Some v) (after_key found)) es) are.0
+    ∙ ap (λ o. last_in name o es) (sym (suffix-chosen (bytes_eq e.name name) key found))
     ∙ keys-last objects name es keys (cond (bytes_eq e.name name) (Some key) found) are.4
-    ∙ ap (λ n. behind_key (last_key objects name (cond (bytes_eq n name) (Some key) found) keys)) (sym under)
+    ∙ ap (λ n. after_key (last_key objects name (cond (bytes_eq n name) (Some key) found) keys)) (sym under)
 
 -- the names of a dictionary, each with the place of its last key
 abbrev named_keys : List Object → ℕ → List (List ℕ × ℕ)
 named_keys objects at_dict = fold (put_key objects) [] (keys_of objects at_dict)
 
-under-is : (objects : List Object) (at_dict : ℕ) (es : List Entry) (name : List ℕ) → HasEntries objects at_dict es → behind_key (place_under name (named_keys objects at_dict)) ≡ last_in name None es
+under-is : (objects : List Object) (at_dict : ℕ) (es : List Entry) (name : List ℕ) → HasEntries objects at_dict es → after_key (place_under name (named_keys objects at_dict)) ≡ last_in name None es
 under-is objects at_dict es name has =
-    ap behind_key (fold-under objects name (keys_of objects at_dict) []) ∙ sym (keys-last objects name es (keys_of objects at_dict) None (dict-keys objects at_dict es has))
+    ap after_key (fold-under objects name (keys_of objects at_dict) []) ∙ sym (keys-last objects name es (keys_of objects at_dict) None (dict-keys objects at_dict es has))
 
 -- a name that stands before others is none of them
 before-apart : (name : List ℕ) (ns : List (List ℕ × ℕ)) → IsBeforeAll name ns → place_under name ns ≡ None
@@ -287,21 +287,21 @@ under-place name (n ∷ ns) key is =
     (λ (f : bytes_eq n.0 name ≡ false). let later = under-place name ns key (rw f at is) in (suc later.0, omega (arith, later.1), later.2))
     (cases_Bool (bytes_eq n.0 name))
 
-last-behind : (o : Option ℕ) (key : ℕ) → behind_key o ≡ Some (key + 1) → o ≡ Some key
-last-behind None key is = absurd (cc)
-last-behind (Some k) key is = let e : k ≡ key = omega (arith, same_Some (k + 1) (key + 1) is) in ap (λ n. Some n) e
+last-suffix : (o : Option ℕ) (key : ℕ) → after_key o ≡ Some (key + 1) → o ≡ Some key
+last-suffix None key is = absurd (cc)
+last-suffix (Some k) key is = let e : k ≡ key = omega (arith, same_Some (k + 1) (key + 1) is) in ap (λ n. Some n) e
 
 pub last-key : (objects : List Object) (at_dict key : ℕ) (es : List Entry) → HasEntries objects at_dict es → Contains (last_keys_of objects at_dict) key → IsLastNamed (name_of (slice_get objects key)) (key + 1) es
 unfolding last_keys_of
 last-key objects at_dict key es has at =
     let name = name_of (slice_get objects key) in
     let under = place-under objects (named_keys objects at_dict) key at.0 (fold-keys objects (keys_of objects at_dict) [] tt) at.1 at.2 in
-    some-first name es (key + 1) (sym (under-is objects at_dict es name has) ∙ ap behind_key under)
+    some-first name es (key + 1) (sym (under-is objects at_dict es name has) ∙ ap after_key under)
 
 pub key-last : (objects : List Object) (at_dict key : ℕ) (name : List ℕ) (es : List Entry) → HasEntries objects at_dict es → IsLastNamed name (key + 1) es → Contains (last_keys_of objects at_dict) key
 unfolding last_keys_of
 key-last objects at_dict key name es has last =
-    under-place name (named_keys objects at_dict) key (last-behind (place_under name (named_keys objects at_dict)) key (under-is objects at_dict es name has ∙ in-last name (key + 1) es last))
+    under-place name (named_keys objects at_dict) key (last-suffix (place_under name (named_keys objects at_dict)) key (under-is objects at_dict es name has ∙ in-last name (key + 1) es last))
 
 -- The names are those of the entries.
 
@@ -328,7 +328,7 @@ name-there objects [] key k name lt is named = absurd (omega arith)
 name-there objects (first ∷ keys) key zero name lt is named = (0, omega arith, ap (λ p. name_of (slice_get objects p)) is ∙ named)
 name-there objects (first ∷ keys) key (suc k) name lt is named = let later = name-there objects keys key k name (omega arith) is named in (suc later.0, omega (arith, later.1), later.2)
 
-chosen-name : (objects : List Object) (at_dict : ℕ) (name : List ℕ) (es : List Entry) → Contains (map entry_name es) name → (o : Option ℕ) → place_under name (named_keys objects at_dict) ≡ o → behind_key o ≡ last_in name None es
+chosen-name : (objects : List Object) (at_dict : ℕ) (name : List ℕ) (es : List Entry) → Contains (map entry_name es) name → (o : Option ℕ) → place_under name (named_keys objects at_dict) ≡ o → after_key o ≡ last_in name None es
     → Contains (key_names objects (map second (named_keys objects at_dict))) name
 chosen-name objects at_dict name es there None is same = absurd (named-in name es there.0 there.1 there.2 (in-absent name es None (sym same)).1)
 chosen-name objects at_dict name es there (Some key) is same =

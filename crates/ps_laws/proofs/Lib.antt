@@ -1,5 +1,5 @@
 pub mod Finding
-pub mod Fronts
+pub mod Prefixes
 pub mod Judging
 pub mod KindsOfFaults
 pub mod LastEntries

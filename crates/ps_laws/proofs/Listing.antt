@@ -130,18 +130,18 @@ writes-count bytes (dict depth object opening closing inner between tokens is be
     ∙ count-bracket outside (length inner) opening closing between after (dict-bracket object.body opening.kind closing.kind (spelling bytes opening) is begins.meaning ends)
     (writes-count bytes within (suc outside) (closing ∷ after))
 writes-count bytes (no_item depth) outside after = omega arith
-writes-count bytes (next_item depth first rest objects front behind tokens one more is are) outside after =
+writes-count bytes (next_item depth first rest objects prefix suffix tokens one more is are) outside after =
     let n : length first + (length rest + count_inside outside after) ≡ length objects + count_inside outside after = omega (arith, ap length is, length-append first rest) in
-    ap (count_inside outside) (ap (λ ts. ts ++ after) are ∙ append_assoc front behind after)
-    ∙ writes-count bytes one outside (behind ++ after)
+    ap (count_inside outside) (ap (λ ts. ts ++ after) are ∙ append_assoc prefix suffix after)
+    ∙ writes-count bytes one outside (suffix ++ after)
     ∙ ap (λ k. length first + k) (writes-count bytes more outside after)
     ∙ n
 writes-count bytes (no_entry depth) outside after = omega arith
-writes-count bytes (next_entry depth key token value rest objects front behind tokens named begins one more is are) outside after =
+writes-count bytes (next_entry depth key token value rest objects prefix suffix tokens named begins one more is are) outside after =
     let n : 1 + (length value + (length rest + count_inside outside after)) ≡ length objects + count_inside outside after = omega (arith, ap length is, length-append value rest) in
-    ap (count_inside outside) (ap (λ ts. ts ++ after) are ∙ ap (λ ts. token ∷ ts) (append_assoc front behind after))
-    ∙ count-simple outside token (front ++ (behind ++ after)) (simple-literal key.body token.kind (spelling bytes token) named begins.meaning)
-    ∙ ap (λ k. 1 + k) (writes-count bytes one outside (behind ++ after) ∙ ap (λ k. length value + k) (writes-count bytes more outside after))
+    ap (count_inside outside) (ap (λ ts. ts ++ after) are ∙ ap (λ ts. token ∷ ts) (append_assoc prefix suffix after))
+    ∙ count-simple outside token (prefix ++ (suffix ++ after)) (simple-literal key.body token.kind (spelling bytes token) named begins.meaning)
+    ∙ ap (λ k. 1 + k) (writes-count bytes one outside (suffix ++ after) ∙ ap (λ k. length value + k) (writes-count bytes more outside after))
     ∙ n
 
 -- the objects that tokens begin
@@ -186,15 +186,15 @@ writes-listed bytes (dict depth object opening closing inner between tokens is b
     ∙ listed-bracket bytes object opening closing inner between after (dict-bracket object.body opening.kind closing.kind (spelling bytes opening) is begins.meaning ends) begins
     (writes-count bytes within 0 (closing ∷ after)) (writes-listed bytes within (closing ∷ after))
 writes-listed bytes (no_item depth) after = refl
-writes-listed bytes (next_item depth first rest objects front behind tokens one more is are) after =
-    ap (objects_in bytes) (ap (λ ts. ts ++ after) are ∙ append_assoc front behind after)
-    ∙ writes-listed bytes one (behind ++ after)
+writes-listed bytes (next_item depth first rest objects prefix suffix tokens one more is are) after =
+    ap (objects_in bytes) (ap (λ ts. ts ++ after) are ∙ append_assoc prefix suffix after)
+    ∙ writes-listed bytes one (suffix ++ after)
     ∙ ap (λ os. first ++ os) (writes-listed bytes more after)
     ∙ sym (append_assoc first rest (objects_in bytes after))
     ∙ ap (λ os. os ++ objects_in bytes after) (sym is)
 writes-listed bytes (no_entry depth) after = refl
-writes-listed bytes (next_entry depth key token value rest objects front behind tokens named begins one more is are) after =
-    ap (objects_in bytes) (ap (λ ts. ts ++ after) are ∙ ap (λ ts. token ∷ ts) (append_assoc front behind after))
-    ∙ listed-simple bytes key token (front ++ (behind ++ after)) (simple-literal key.body token.kind (spelling bytes token) named begins.meaning) begins
-    ∙ ap (λ os. key ∷ os) (writes-listed bytes one (behind ++ after) ∙ ap (λ os. value ++ os) (writes-listed bytes more after) ∙ sym (append_assoc value rest (objects_in bytes after)))
+writes-listed bytes (next_entry depth key token value rest objects prefix suffix tokens named begins one more is are) after =
+    ap (objects_in bytes) (ap (λ ts. ts ++ after) are ∙ ap (λ ts. token ∷ ts) (append_assoc prefix suffix after))
+    ∙ listed-simple bytes key token (prefix ++ (suffix ++ after)) (simple-literal key.body token.kind (spelling bytes token) named begins.meaning) begins
+    ∙ ap (λ os. key ∷ os) (writes-listed bytes one (suffix ++ after) ∙ ap (λ os. value ++ os) (writes-listed bytes more after) ∙ sym (append_assoc value rest (objects_in bytes after)))
     ∙ ap (λ os. os ++ objects_in bytes after) (sym is)

@@ -20,12 +20,12 @@ use Rattle.ps_laws.proofs.Parsing.{objects-written, written-objects}
 
 -- the first token that is out of place
 record FailsAt (bytes : List ℕ) (brackets : List Bracket) (tokens : List Token) (fault : JobFault) : Type 0 where
-  front : List Token
+  prefix : List Token
   token : Token
-  behind : List Token
+  suffix : List Token
   new : List Bracket
-  whole : tokens ≡ front ++ token ∷ behind
-  before : fold (after_next bytes) (Ok brackets) front ≡ Ok new
+  whole : tokens ≡ prefix ++ token ∷ suffix
+  before : fold (after_next bytes) (Ok brackets) prefix ≡ Ok new
   here : after_token bytes token new ≡ Err fault.kind
   place : fault.at ≡ token.at
 
@@ -48,19 +48,19 @@ fails-next : (bytes : List ℕ) (brackets : List Bracket) (token : Token) (token
 fails-next bytes brackets token tokens fault later (Ok new) is fails =
     let f = later new fails in
     record {
-      front = token ∷ f.front;
+      prefix = token ∷ f.prefix;
       token = f.token;
-      behind = f.behind;
+      suffix = f.suffix;
       new = f.new;
       whole = ap (λ ts. token ∷ ts) f.whole;
-      before = ap (λ r. fold (after_next bytes) (at_token token.at r) f.front) is ∙ f.before;
+      before = ap (λ r. fold (after_next bytes) (at_token token.at r) f.prefix) is ∙ f.before;
       here = f.here;
       place = f.place;
     }
 fails-next bytes brackets token tokens fault later (Err kind) is fails =
     let here : JobFault = record { kind = kind; at = token.at } in
     let same : here ≡ fault = same_fault here fault (sym (fold-err bytes here tokens) ∙ fails) in
-    record { front = []; token = token; behind = tokens; new = brackets; whole = refl; before = refl; here = is ∙ ap (λ f. Err f.kind) same; place = ap (λ f. f.at) (sym same) }
+    record { prefix = []; token = token; suffix = tokens; new = brackets; whole = refl; before = refl; here = is ∙ ap (λ f. Err f.kind) same; place = ap (λ f. f.at) (sym same) }
 
 fails-at : (bytes : List ℕ) (tokens : List Token) (brackets : List Bracket) (fault : JobFault) → fold (after_next bytes) (Ok brackets) tokens ≡ Err fault → FailsAt bytes brackets tokens fault
 fails-at bytes [] brackets fault fails = absurd (ok_is_no_err brackets fault fails)
@@ -87,20 +87,20 @@ not-written bytes tokens objects fault fails written = read_is_no_fault objects 
 first-misplaced : (bytes : List ℕ) (tokens : List Token) (fault : JobFault) → brackets_after bytes tokens ≡ Err fault → IsFirstMisplaced bytes tokens fault
 first-misplaced bytes tokens fault fails =
     let f = fails-at bytes tokens [] fault fails in
-    let faulty : brackets_after bytes (f.front ++ f.token ∷ []) ≡ Err (record { kind = fault.kind; at = f.token.at }) =
-    fold-append (after_next bytes) (Ok []) f.front (f.token ∷ []) ∙ ap (λ r. fold (after_next bytes) r (f.token ∷ [])) f.before ∙ ap (at_token f.token.at) f.here in
+    let faulty : brackets_after bytes (f.prefix ++ f.token ∷ []) ≡ Err (record { kind = fault.kind; at = f.token.at }) =
+    fold-append (after_next bytes) (Ok []) f.prefix (f.token ∷ []) ∙ ap (λ r. fold (after_next bytes) r (f.token ∷ [])) f.before ∙ ap (at_token f.token.at) f.here in
     record {
-      front = f.front;
+      prefix = f.prefix;
       token = f.token;
-      behind = f.behind;
+      suffix = f.suffix;
       whole = f.whole;
-      before = can-write bytes f.front f.new f.before;
+      before = can-write bytes f.prefix f.new f.before;
       after = λ can.
-          not-written bytes ((f.front ++ f.token ∷ []) ++ can.0) can.1 (record { kind = fault.kind; at = f.token.at })
-          (never_completed bytes (f.front ++ f.token ∷ []) can.0 (record { kind = fault.kind; at = f.token.at }) faulty) can.2;
+          not-written bytes ((f.prefix ++ f.token ∷ []) ++ can.0) can.1 (record { kind = fault.kind; at = f.token.at })
+          (never_completed bytes (f.prefix ++ f.token ∷ []) can.0 (record { kind = fault.kind; at = f.token.at }) faulty) can.2;
       place = f.place;
       brackets = f.new;
-      open_before = brackets-left bytes f.front f.new f.before;
+      open_before = brackets-left bytes f.prefix f.new f.before;
       kinded = fault-had f.token.kind f.token.at (spelling bytes f.token) f.new fault.kind f.here;
     }
 
@@ -138,10 +138,10 @@ misplaced-fault bytes tokens fault (inl m) =
     let here = fault_of fault.kind m.token.at in
     let faulty : brackets_after bytes tokens ≡ failed here =
     ap (fold (after_next bytes) (Ok [])) m.whole
-    ∙ fold-append (after_next bytes) (Ok []) m.front (m.token ∷ m.behind)
-    ∙ ap (λ r. fold (after_next bytes) r (m.token ∷ m.behind)) (left-brackets bytes m.front m.brackets m.open_before)
-    ∙ ap (λ r. fold (after_next bytes) (at_token m.token.at r) m.behind) (had-fault m.token.kind m.token.at (spelling bytes m.token) m.brackets fault.kind m.kinded)
-    ∙ fold-err bytes here m.behind in
+    ∙ fold-append (after_next bytes) (Ok []) m.prefix (m.token ∷ m.suffix)
+    ∙ ap (λ r. fold (after_next bytes) r (m.token ∷ m.suffix)) (left-brackets bytes m.prefix m.brackets m.open_before)
+    ∙ ap (λ r. fold (after_next bytes) (at_token m.token.at r) m.suffix) (had-fault m.token.kind m.token.at (spelling bytes m.token) m.brackets fault.kind m.kinded)
+    ∙ fold-err bytes here m.suffix in
     ap (unless_open bytes tokens) faulty ∙ ap (λ at. Err (fault_of fault.kind at)) (sym m.place)
 misplaced-fault bytes tokens fault (inr m) =
     ap (unless_open bytes tokens) (left-brackets bytes tokens (m.innermost ∷ m.outer) m.open_at_end)

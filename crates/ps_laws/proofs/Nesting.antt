@@ -30,12 +30,12 @@ record Go (bytes : List ℕ) (tokens : List Token) (here : List TokenKind) (ats 
 -- one token that begins an object
 record GoesFirst (bytes : List ℕ) (tokens : List Token) (kind : TokenKind) (later : List TokenKind) (at : ℕ) (ats : List ℕ) (body : Body) (names : List Body) : Type 0 where
   token : Token
-  behind : List Token
-  whole_list : tokens ≡ token ∷ behind
+  suffix : List Token
+  whole_list : tokens ≡ token ∷ suffix
   is_kind : token.kind ≡ kind
   is_place : token.at ≡ at
   is_body : body_as token.kind (spelling bytes token) ≡ body
-  go : Go bytes behind later ats names
+  go : Go bytes suffix later ats names
 
 same_head : {X : Type 0} (x y : X) (xs ys : List X) → x ∷ xs ≡ y ∷ ys → x ≡ y
 same_head x y xs ys e = cc
@@ -68,7 +68,7 @@ goes-first bytes (token ∷ tokens) kind later at ats body names opens go =
     let bs = begun_as-opens bytes token tokens open_token ∙ go.are_bodies in
     record {
       token = token;
-      behind = tokens;
+      suffix = tokens;
       whole_list = refl;
       is_kind = k;
       is_place = same_head token.at at (begun_at tokens) ats ps;
@@ -83,10 +83,10 @@ goes-first bytes (token ∷ tokens) kind later at ats body names opens go =
 -- one token that closes a bracket
 record GoesLast (bytes : List ℕ) (tokens : List Token) (kind : TokenKind) (later : List TokenKind) (ats : List ℕ) (names : List Body) : Type 0 where
   token : Token
-  behind : List Token
-  whole_list : tokens ≡ token ∷ behind
+  suffix : List Token
+  whole_list : tokens ≡ token ∷ suffix
   is_kind : token.kind ≡ kind
-  go : Go bytes behind later ats names
+  go : Go bytes suffix later ats names
 
 goes-last : (bytes : List ℕ) (tokens : List Token) (kind : TokenKind) (later : List TokenKind) (ats : List ℕ) (names : List Body) → is_closing kind ≡ true
     → Go bytes tokens (kind ∷ later) ats names → GoesLast bytes tokens kind later ats names
@@ -96,7 +96,7 @@ goes-last bytes (token ∷ tokens) kind later ats names closes go =
     let close_token : is_closing token.kind ≡ true = ap is_closing k ∙ closes in
     record {
       token = token;
-      behind = tokens;
+      suffix = tokens;
       whole_list = refl;
       is_kind = k;
       go = record {
@@ -117,13 +117,13 @@ first_kind-opens (Operator name) = refl
 first_kind-opens Array = refl
 first_kind-opens Dict = refl
 
--- a part that is written out, and what goes on behind it
+-- a part that is written out, and what goes on after it
 record Written (bytes : List ℕ) (part : Part) (depth : ℕ) (objects : List Object) (tokens : List Token) (later : List TokenKind) (ats : List ℕ) (names : List Body) : Type 0 where
-  front : List Token
-  behind : List Token
-  whole_list : tokens ≡ front ++ behind
-  written : Writes bytes part depth objects front
-  go : Go bytes behind later ats names
+  prefix : List Token
+  suffix : List Token
+  whole_list : tokens ≡ prefix ++ suffix
+  written : Writes bytes part depth objects prefix
+  go : Go bytes suffix later ats names
 
 abbrev Goes : List ℕ → List Token → List Object → List TokenKind → List ℕ → List Body → Type 0
 Goes bytes tokens objects later ats names = Go bytes tokens (kinds_written objects ++ later) (places objects ++ ats) (bodies objects ++ names)
@@ -189,7 +189,7 @@ simple-written bytes object tokens later ats names count ends goes =
     let g = first-goes bytes object [] tokens later ats names count goes in
     record {
       token = g.token;
-      behind = g.behind;
+      suffix = g.suffix;
       whole_list = g.whole_list;
       is_kind = g.is_kind;
       is_place = g.is_place;
@@ -202,89 +202,89 @@ record Enclosed (bytes : List ℕ) (part : Part) (depth : ℕ) (object : Object)
   opening : Token
   closing : Token
   between : List Token
-  behind : List Token
-  whole_list : tokens ≡ (opening ∷ (between ++ closing ∷ [])) ++ behind
+  suffix : List Token
+  whole_list : tokens ≡ (opening ∷ (between ++ closing ∷ [])) ++ suffix
   begins : Begins bytes object opening (length inner)
   ends : closing.kind ≡ closing_kind
   within : Writes bytes part depth inner between
-  go : Go bytes behind later ats names
+  go : Go bytes suffix later ats names
 
 enclosed : (bytes : List ℕ) (part : Part) (depth : ℕ) (object : Object) (inner : List Object) (closing_kind : TokenKind) (tokens : List Token) (later : List TokenKind) (ats : List ℕ) (names : List Body)
     → object.inside ≡ length inner → last_kinds object.body ≡ closing_kind ∷ [] → is_closing closing_kind ≡ true
-    → ((behind : List Token) → Goes bytes behind inner (closing_kind ∷ later) ats names → Written bytes part depth inner behind (closing_kind ∷ later) ats names)
+    → ((suffix : List Token) → Goes bytes suffix inner (closing_kind ∷ later) ats names → Written bytes part depth inner suffix (closing_kind ∷ later) ats names)
     → Goes bytes tokens (object ∷ inner) later ats names → Enclosed bytes part depth object inner closing_kind tokens later ats names
 enclosed bytes part depth object inner closing_kind tokens later ats names count last closes write goes =
     let g = first-goes bytes object inner tokens later ats names count goes in
-    let next : Goes bytes g.behind inner (closing_kind ∷ later) ats names =
+    let next : Goes bytes g.suffix inner (closing_kind ∷ later) ats names =
     record { are_kinds = g.go.are_kinds ∙ ap (λ ks. kinds_written inner ++ (ks ++ later)) last; are_places = g.go.are_places; are_bodies = g.go.are_bodies } in
-    let w = write g.behind next in
-    let c = goes-last bytes w.behind closing_kind later ats names closes w.go in
+    let w = write g.suffix next in
+    let c = goes-last bytes w.suffix closing_kind later ats names closes w.go in
     record {
       opening = g.token;
       closing = c.token;
-      between = w.front;
-      behind = c.behind;
-      whole_list = g.whole_list ∙ ap (λ ts. g.token ∷ ts) (w.whole_list ∙ ap (λ ts. w.front ++ ts) c.whole_list ∙ sym (append_assoc w.front (c.token ∷ []) c.behind));
+      between = w.prefix;
+      suffix = c.suffix;
+      whole_list = g.whole_list ∙ ap (λ ts. g.token ∷ ts) (w.whole_list ∙ ap (λ ts. w.prefix ++ ts) c.whole_list ∙ sym (append_assoc w.prefix (c.token ∷ []) c.suffix));
       begins = begins-from bytes object g.token (length inner) g.is_kind g.is_place g.is_body count;
       ends = c.is_kind;
       within = w.written;
       go = c.go;
     }
 
-places-append : (front behind : List Object) (ats : List ℕ) → places (front ++ behind) ++ ats ≡ places front ++ (places behind ++ ats)
-places-append front behind ats = ap (λ ps. ps ++ ats) (map-append (λ (o : Object). o.at) front behind) ∙ append_assoc (places front) (places behind) ats
+places-append : (prefix suffix : List Object) (ats : List ℕ) → places (prefix ++ suffix) ++ ats ≡ places prefix ++ (places suffix ++ ats)
+places-append prefix suffix ats = ap (λ ps. ps ++ ats) (map-append (λ (o : Object). o.at) prefix suffix) ∙ append_assoc (places prefix) (places suffix) ats
 
-bodies-append : (front behind : List Object) (names : List Body) → bodies (front ++ behind) ++ names ≡ bodies front ++ (bodies behind ++ names)
-bodies-append front behind names = ap (λ bs. bs ++ names) (map-append (λ (o : Object). o.body) front behind) ∙ append_assoc (bodies front) (bodies behind) names
+bodies-append : (prefix suffix : List Object) (names : List Body) → bodies (prefix ++ suffix) ++ names ≡ bodies prefix ++ (bodies suffix ++ names)
+bodies-append prefix suffix names = ap (λ bs. bs ++ names) (map-append (λ (o : Object). o.body) prefix suffix) ∙ append_assoc (bodies prefix) (bodies suffix) names
 
-kinds-append : {part : Part} {depth : ℕ} {front : List Object} → Nests part depth front → (behind : List Object) (later : List TokenKind) → kinds_written (front ++ behind) ++ later ≡ kinds_written front ++ (kinds_written behind ++ later)
-kinds-append {front = front} nests behind later = ap (λ ks. ks ++ later) (kinds-whole nests behind) ∙ append_assoc (kinds_written front) (kinds_written behind) later
+kinds-append : {part : Part} {depth : ℕ} {prefix : List Object} → Nests part depth prefix → (suffix : List Object) (later : List TokenKind) → kinds_written (prefix ++ suffix) ++ later ≡ kinds_written prefix ++ (kinds_written suffix ++ later)
+kinds-append {prefix = prefix} nests suffix later = ap (λ ks. ks ++ later) (kinds-whole nests suffix) ∙ append_assoc (kinds_written prefix) (kinds_written suffix) later
 
--- two parts behind one another
-rejoined : (tokens front middle between behind : List Token) → tokens ≡ front ++ middle → middle ≡ between ++ behind → tokens ≡ (front ++ between) ++ behind
-rejoined tokens front middle between behind first second = first ∙ ap (λ ts. front ++ ts) second ∙ sym (append_assoc front between behind)
+-- two parts after one another
+rejoined : (tokens prefix middle between suffix : List Token) → tokens ≡ prefix ++ middle → middle ≡ between ++ suffix → tokens ≡ (prefix ++ between) ++ suffix
+rejoined tokens prefix middle between suffix first second = first ∙ ap (λ ts. prefix ++ ts) second ∙ sym (append_assoc prefix between suffix)
 
-item-written : (bytes : List ℕ) (depth : ℕ) (first more objects : List Object) (front behind : List Token) → Writes bytes whole depth first front → Writes bytes items depth more behind → objects ≡ first ++ more
-    → Writes bytes items depth objects (front ++ behind)
-item-written bytes depth first more objects front behind one others is = writes.next_item depth first more objects front behind (front ++ behind) one others is refl
+item-written : (bytes : List ℕ) (depth : ℕ) (first more objects : List Object) (prefix suffix : List Token) → Writes bytes whole depth first prefix → Writes bytes items depth more suffix → objects ≡ first ++ more
+    → Writes bytes items depth objects (prefix ++ suffix)
+item-written bytes depth first more objects prefix suffix one others is = writes.next_item depth first more objects prefix suffix (prefix ++ suffix) one others is refl
 
-entry-written : (bytes : List ℕ) (depth : ℕ) (key : Object) (token : Token) (value more objects : List Object) (front behind : List Token) → IsLiteral key.body → Begins bytes key token 0
-    → Writes bytes whole depth value front → Writes bytes entries depth more behind → objects ≡ key ∷ (value ++ more) → Writes bytes entries depth objects (token ∷ (front ++ behind))
-entry-written bytes depth key token value more objects front behind named begins one others is = writes.next_entry depth key token value more objects front behind (token ∷ (front ++ behind)) named begins one others is refl
+entry-written : (bytes : List ℕ) (depth : ℕ) (key : Object) (token : Token) (value more objects : List Object) (prefix suffix : List Token) → IsLiteral key.body → Begins bytes key token 0
+    → Writes bytes whole depth value prefix → Writes bytes entries depth more suffix → objects ≡ key ∷ (value ++ more) → Writes bytes entries depth objects (token ∷ (prefix ++ suffix))
+entry-written bytes depth key token value more objects prefix suffix named begins one others is = writes.next_entry depth key token value more objects prefix suffix (token ∷ (prefix ++ suffix)) named begins one others is refl
 
-behind-first : (tokens middle front behind : List Token) (token : Token) → tokens ≡ token ∷ middle → middle ≡ front ++ behind → tokens ≡ (token ∷ front) ++ behind
-behind-first tokens middle front behind token first rest = first ∙ ap (λ ts. token ∷ ts) rest
+suffix-first : (tokens middle prefix suffix : List Token) (token : Token) → tokens ≡ token ∷ middle → middle ≡ prefix ++ suffix → tokens ≡ (token ∷ prefix) ++ suffix
+suffix-first tokens middle prefix suffix token first rest = first ∙ ap (λ ts. token ∷ ts) rest
 
 nests-written : (bytes : List ℕ) {part : Part} {depth : ℕ} {objects : List Object} → Nests part depth objects → (tokens : List Token) (later : List TokenKind) (ats : List ℕ) (names : List Body)
     → Goes bytes tokens objects later ats names → Written bytes part depth objects tokens later ats names
 nests-written bytes (plain depth object is count) tokens later ats names goes =
     let g = simple-written bytes object tokens later ats names count (no-last-kind depth object.body is) goes in
     record {
-      front = g.token ∷ [];
-      behind = g.behind;
+      prefix = g.token ∷ [];
+      suffix = g.suffix;
       whole_list = g.whole_list;
       written = writes.plain depth object g.token is (begins-from bytes object g.token 0 g.is_kind g.is_place g.is_body count);
       go = g.go;
     }
 nests-written bytes (array depth object inner is count few within) tokens later ats names goes =
-    let e = enclosed bytes items (suc depth) object inner kinds.CloseArray tokens later ats names count (ap last_kinds is) refl (λ behind next. nests-written bytes within behind (kinds.CloseArray ∷ later) ats names next) goes in
+    let e = enclosed bytes items (suc depth) object inner kinds.CloseArray tokens later ats names count (ap last_kinds is) refl (λ suffix next. nests-written bytes within suffix (kinds.CloseArray ∷ later) ats names next) goes in
     record {
-      front = e.opening ∷ (e.between ++ e.closing ∷ []);
-      behind = e.behind;
+      prefix = e.opening ∷ (e.between ++ e.closing ∷ []);
+      suffix = e.suffix;
       whole_list = e.whole_list;
       written = writes.array depth object e.opening e.closing inner e.between (e.opening ∷ (e.between ++ e.closing ∷ [])) is e.begins e.ends few e.within refl;
       go = e.go;
     }
 nests-written bytes (dict depth object inner is count few within) tokens later ats names goes =
-    let e = enclosed bytes entries (suc depth) object inner kinds.CloseDict tokens later ats names count (ap last_kinds is) refl (λ behind next. nests-written bytes within behind (kinds.CloseDict ∷ later) ats names next) goes in
+    let e = enclosed bytes entries (suc depth) object inner kinds.CloseDict tokens later ats names count (ap last_kinds is) refl (λ suffix next. nests-written bytes within suffix (kinds.CloseDict ∷ later) ats names next) goes in
     record {
-      front = e.opening ∷ (e.between ++ e.closing ∷ []);
-      behind = e.behind;
+      prefix = e.opening ∷ (e.between ++ e.closing ∷ []);
+      suffix = e.suffix;
       whole_list = e.whole_list;
       written = writes.dict depth object e.opening e.closing inner e.between (e.opening ∷ (e.between ++ e.closing ∷ [])) is e.begins e.ends few e.within refl;
       go = e.go;
     }
-nests-written bytes (no_item depth) tokens later ats names goes = record { front = []; behind = tokens; whole_list = refl; written = writes.no_item depth; go = goes }
+nests-written bytes (no_item depth) tokens later ats names goes = record { prefix = []; suffix = tokens; whole_list = refl; written = writes.no_item depth; go = goes }
 nests-written bytes (next_item depth first more objects one others is) tokens later ats names goes =
     let next : Go bytes tokens (kinds_written first ++ (kinds_written more ++ later)) (places first ++ (places more ++ ats)) (bodies first ++ (bodies more ++ names)) = record {
       are_kinds = goes.are_kinds ∙ ap (λ os. kinds_written os ++ later) is ∙ kinds-append one more later;
@@ -292,15 +292,15 @@ nests-written bytes (next_item depth first more objects one others is) tokens la
       are_bodies = goes.are_bodies ∙ ap (λ os. bodies os ++ names) is ∙ bodies-append first more names;
     } in
     let a = nests-written bytes one tokens (kinds_written more ++ later) (places more ++ ats) (bodies more ++ names) next in
-    let b = nests-written bytes others a.behind later ats names a.go in
+    let b = nests-written bytes others a.suffix later ats names a.go in
     record {
-      front = a.front ++ b.front;
-      behind = b.behind;
-      whole_list = rejoined tokens a.front a.behind b.front b.behind a.whole_list b.whole_list;
-      written = item-written bytes depth first more objects a.front b.front a.written b.written is;
+      prefix = a.prefix ++ b.prefix;
+      suffix = b.suffix;
+      whole_list = rejoined tokens a.prefix a.suffix b.prefix b.suffix a.whole_list b.whole_list;
+      written = item-written bytes depth first more objects a.prefix b.prefix a.written b.written is;
       go = b.go;
     }
-nests-written bytes (no_entry depth) tokens later ats names goes = record { front = []; behind = tokens; whole_list = refl; written = writes.no_entry depth; go = goes }
+nests-written bytes (no_entry depth) tokens later ats names goes = record { prefix = []; suffix = tokens; whole_list = refl; written = writes.no_entry depth; go = goes }
 nests-written bytes (next_entry depth key value more objects named count one others is) tokens later ats names goes =
     let keys_later = kinds_written value ++ (kinds_written more ++ later) in
     let next : Go bytes tokens (kinds_written (key ∷ []) ++ keys_later) (key.at ∷ (places value ++ (places more ++ ats))) (key.body ∷ (bodies value ++ (bodies more ++ names))) = record {
@@ -313,13 +313,13 @@ nests-written bytes (next_entry depth key value more objects named count one oth
       are_bodies = goes.are_bodies ∙ ap (λ os. bodies os ++ names) is ∙ ap (λ bs. key.body ∷ bs) (bodies-append value more names);
     } in
     let k = simple-written bytes key tokens keys_later (places value ++ (places more ++ ats)) (bodies value ++ (bodies more ++ names)) count (ap last_kinds named.1) next in
-    let a = nests-written bytes one k.behind (kinds_written more ++ later) (places more ++ ats) (bodies more ++ names) k.go in
-    let b = nests-written bytes others a.behind later ats names a.go in
+    let a = nests-written bytes one k.suffix (kinds_written more ++ later) (places more ++ ats) (bodies more ++ names) k.go in
+    let b = nests-written bytes others a.suffix later ats names a.go in
     record {
-      front = k.token ∷ (a.front ++ b.front);
-      behind = b.behind;
-      whole_list = behind-first tokens k.behind (a.front ++ b.front) b.behind k.token k.whole_list (rejoined k.behind a.front a.behind b.front b.behind a.whole_list b.whole_list);
-      written = entry-written bytes depth key k.token value more objects a.front b.front named (begins-from bytes key k.token 0 k.is_kind k.is_place k.is_body count) a.written b.written is;
+      prefix = k.token ∷ (a.prefix ++ b.prefix);
+      suffix = b.suffix;
+      whole_list = suffix-first tokens k.suffix (a.prefix ++ b.prefix) b.suffix k.token k.whole_list (rejoined k.suffix a.prefix a.suffix b.prefix b.suffix a.whole_list b.whole_list);
+      written = entry-written bytes depth key k.token value more objects a.prefix b.prefix named (begins-from bytes key k.token 0 k.is_kind k.is_place k.is_body count) a.written b.written is;
       go = b.go;
     }
 
@@ -337,7 +337,7 @@ nested-read bytes tokens objects nests ks ps bs =
       are_bodies = bs ∙ sym (append-nil (bodies objects));
     } in
     let w = nests-written bytes nests tokens [] [] [] goes in
-    let all : w.front ≡ tokens = sym (append-nil w.front) ∙ ap (λ ts. w.front ++ ts) (sym (none-left w.behind w.go.are_kinds)) ∙ sym w.whole_list in
+    let all : w.prefix ≡ tokens = sym (append-nil w.prefix) ∙ ap (λ ts. w.prefix ++ ts) (sym (none-left w.suffix w.go.are_kinds)) ∙ sym w.whole_list in
     written-objects bytes tokens objects (subst (WritesOut bytes objects) all w.written)
 
 -- what is written out is nested
@@ -346,9 +346,9 @@ writes-nests bytes (writes.plain depth object token is begins) = plain depth obj
 writes-nests bytes (writes.array depth object opening closing inner between tokens is begins ends few within are) = array depth object inner is begins.count few (writes-nests bytes within)
 writes-nests bytes (writes.dict depth object opening closing inner between tokens is begins ends few within are) = dict depth object inner is begins.count few (writes-nests bytes within)
 writes-nests bytes (writes.no_item depth) = no_item depth
-writes-nests bytes (writes.next_item depth first rest objects front behind tokens one more is are) = next_item depth first rest objects (writes-nests bytes one) (writes-nests bytes more) is
+writes-nests bytes (writes.next_item depth first rest objects prefix suffix tokens one more is are) = next_item depth first rest objects (writes-nests bytes one) (writes-nests bytes more) is
 writes-nests bytes (writes.no_entry depth) = no_entry depth
-writes-nests bytes (writes.next_entry depth key token value rest objects front behind tokens named begins one more is are) =
+writes-nests bytes (writes.next_entry depth key token value rest objects prefix suffix tokens named begins one more is are) =
     next_entry depth key value rest objects named begins.count (writes-nests bytes one) (writes-nests bytes more) is
 
 pub read-nested : (bytes : List ℕ) (tokens : List Token) (objects : List Object) → objects_of bytes tokens ≡ Ok objects → AreNested objects

@@ -6,9 +6,9 @@ use Rattle.std.proofs.lemmas.List.{append-nil}
 use Rattle.std.proofs.lemmas.List.Folds.{list_all-append}
 use Rattle.ps_tokens.specs.Bytes.{is_whitespace, is_regular, is_digit, begins_with}
 use Rattle.ps_tokens.specs.Numbers as numbers
-use Rattle.ps_tokens.specs.Numbers.{whole_digits, behind_whole, fraction_digits, is_unsigned_number, is_number, begins_like_number, decimal, fraction_of, signed, value_of}
+use Rattle.ps_tokens.specs.Numbers.{whole_digits, after_whole, fraction_digits, is_unsigned_number, is_number, begins_like_number, decimal, fraction_of, signed, value_of}
 use Rattle.ps_laws.specs.Shapes.{IsSign, unsigned, plus, minus, AreDigits, whole_alone, with_point, IsNumeral, IsNumber, IsTooLarge}
-use Rattle.ps_laws.proofs.Fronts.{take_while-front, drop-front, list_all-take_while, front_and_rest}
+use Rattle.ps_laws.proofs.Prefixes.{take_while-prefix, drop-prefix, list_all-take_while, prefix_and_rest}
 
 -- digits are regular bytes
 digit_is_regular : (b : ℕ) → is_digit b ≡ true → is_regular b ≡ true
@@ -42,7 +42,7 @@ point_is_regular : is_regular 46 ≡ true
 unfolding is_regular is_whitespace
 point_is_regular = refl
 
--- what a text of digits is read as: its whole digits, and what stands behind them
+-- what a text of digits is read as: its whole digits, and what stands after them
 record IsRead (text whole fraction : List ℕ) : Type 0 where
   whole_digits_are : take_while is_digit text ≡ whole
   fraction_is : drop 1 (drop (prefix_len is_digit text) text) ≡ fraction
@@ -77,8 +77,8 @@ unsigned-point whole fraction all some =
 
 read-alone : (whole : List ℕ) → list_all is_digit whole ≡ true → 0 < length whole → IsRead (whole ++ []) whole []
 read-alone whole all some =
-    let e = take_while-front is_digit whole [] all refl in
-    let d = drop-front is_digit whole [] all refl in
+    let e = take_while-prefix is_digit whole [] all refl in
+    let d = drop-prefix is_digit whole [] all refl in
     let signs = begins_no_sign whole [] all some in
     record {
       whole_digits_are = e;
@@ -100,8 +100,8 @@ point_like (d ∷ whole) fraction all = begins_like (d ∷ whole) (46 ∷ fracti
 
 read-point : (whole fraction : List ℕ) → list_all is_digit whole ≡ true → list_all is_digit fraction ≡ true → 0 < length whole + length fraction → IsRead (whole ++ 46 ∷ fraction) whole fraction
 read-point whole fraction all more some =
-    let e = take_while-front is_digit whole (46 ∷ fraction) all point_is_no_digit in
-    let d = drop-front is_digit whole (46 ∷ fraction) all point_is_no_digit in
+    let e = take_while-prefix is_digit whole (46 ∷ fraction) all point_is_no_digit in
+    let d = drop-prefix is_digit whole (46 ∷ fraction) all point_is_no_digit in
     let signs = point_no_sign whole fraction all in
     record {
       whole_digits_are = e;
@@ -174,32 +174,32 @@ digits-from : (text : List ℕ) → is_unsigned_number (take_while is_digit text
 digits-from text counts =
     let whole = take_while is_digit text in
     let rest = drop (prefix_len is_digit text) text in
-    let is = front_and_rest is_digit text in
+    let is = prefix_and_rest is_digit text in
     let all = list_all-take_while is_digit text in
     parts-from text whole rest is all counts
 
--- a sign, and what stands behind it
+-- a sign, and what stands after it
 record HasSign (run : List ℕ) : Type 0 where
   sign : List ℕ
   digits : List ℕ
   is_sign : IsSign sign
   whole : run ≡ sign ++ digits
-  behind : numbers.unsigned run ≡ digits
+  suffix : numbers.unsigned run ≡ digits
   minus_is : begins_with 45 run ≡ begins_with 45 sign
 
 sign-of : (run : List ℕ) → HasSign run
-sign-of [] = record { sign = []; digits = []; is_sign = unsigned; whole = refl; behind = refl; minus_is = refl }
+sign-of [] = record { sign = []; digits = []; is_sign = unsigned; whole = refl; suffix = refl; minus_is = refl }
 sign-of (b ∷ run) =
     ⊎_elim
     (λ (t : eqb b 43 ≡ true).
     let is = eqb-true b 43 t in
-    record { sign = 43 ∷ []; digits = run; is_sign = plus; whole = ap (λ c. c ∷ run) is; behind = rw t refl; minus_is = ap (λ c. eqb c 45) is })
+    record { sign = 43 ∷ []; digits = run; is_sign = plus; whole = ap (λ c. c ∷ run) is; suffix = rw t refl; minus_is = ap (λ c. eqb c 45) is })
     (λ (f : eqb b 43 ≡ false).
     ⊎_elim
     (λ (t : eqb b 45 ≡ true).
     let is = eqb-true b 45 t in
-    record { sign = 45 ∷ []; digits = run; is_sign = minus; whole = ap (λ c. c ∷ run) is; behind = rw (f, t) refl; minus_is = ap (λ c. eqb c 45) is })
-    (λ (g : eqb b 45 ≡ false). record { sign = []; digits = b ∷ run; is_sign = unsigned; whole = refl; behind = rw (f, g) refl; minus_is = g })
+    record { sign = 45 ∷ []; digits = run; is_sign = minus; whole = ap (λ c. c ∷ run) is; suffix = rw (f, t) refl; minus_is = ap (λ c. eqb c 45) is })
+    (λ (g : eqb b 45 ≡ false). record { sign = []; digits = b ∷ run; is_sign = unsigned; whole = refl; suffix = rw (f, g) refl; minus_is = g })
     (cases_Bool (eqb b 45)))
     (cases_Bool (eqb b 43))
 
@@ -214,7 +214,7 @@ numeral-from run counts =
       fraction = fraction_digits run;
       has_sign = s.is_sign;
       has_digits = digits-from (numbers.unsigned run) counts;
-      written = s.whole ∙ ap (λ u. s.sign ++ u) (sym s.behind);
+      written = s.whole ∙ ap (λ u. s.sign ++ u) (sym s.suffix);
     }
 
 -- and is a number, or too large

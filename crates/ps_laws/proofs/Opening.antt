@@ -23,7 +23,7 @@ use Rattle.ps_laws.specs.Firsts.{StandsIn, LeavesOpen, none, inside}
 use Rattle.ps_laws.proofs.Judging.{length-after_object, after_opening-bracket, after_token-first, after_token-last, after_token-append, after_token-literal, writes-after_token}
 use Rattle.ps_laws.proofs.Parsing.{bracket_of, err_is_no_ok, same_ok, below-16, IsPut, IsOpened, put-value, put-operator, open-bracket, begun, plain-word, plain-literal, few}
 
--- items behind items, and entries behind entries
+-- items after items, and entries after entries
 one-item : (bytes : List ℕ) (depth : ℕ) (objects : List Object) (tokens : List Token) → Writes bytes whole depth objects tokens → Writes bytes items depth objects tokens
 one-item bytes depth objects tokens one = next_item depth objects [] objects tokens [] tokens one (no_item depth) (sym (append-nil objects)) (sym (append-nil tokens))
 
@@ -33,18 +33,18 @@ IsRun items = Unit {0}
 IsRun entries = Unit {0}
 
 runs-append : (bytes : List ℕ) {part : Part} {depth : ℕ} {objects : List Object} {tokens : List Token} → Writes bytes part depth objects tokens
-    → IsRun part → (more : List Object) (behind : List Token) → Writes bytes part depth more behind → Writes bytes part depth (objects ++ more) (tokens ++ behind)
-runs-append bytes (plain depth object token is begins) run more behind others = absurd run
-runs-append bytes (array depth object opening closing inner between tokens is begins ends few within are) run more behind others = absurd run
-runs-append bytes (dict depth object opening closing inner between tokens is begins ends few within are) run more behind others = absurd run
-runs-append bytes (no_item depth) run more behind others = others
-runs-append bytes (next_item depth first rest objects front back tokens one next is are) run more behind others =
-    next_item depth first (rest ++ more) (objects ++ more) front (back ++ behind) (tokens ++ behind) one (runs-append bytes next tt more behind others)
-    (ap (λ os. os ++ more) is ∙ append_assoc first rest more) (ap (λ ts. ts ++ behind) are ∙ append_assoc front back behind)
-runs-append bytes (no_entry depth) run more behind others = others
-runs-append bytes (next_entry depth key token value rest objects front back tokens named begins one next is are) run more behind others =
-    next_entry depth key token value (rest ++ more) (objects ++ more) front (back ++ behind) (tokens ++ behind) named begins one (runs-append bytes next tt more behind others)
-    (ap (λ os. os ++ more) is ∙ ap (λ os. key ∷ os) (append_assoc value rest more)) (ap (λ ts. ts ++ behind) are ∙ ap (λ ts. token ∷ ts) (append_assoc front back behind))
+    → IsRun part → (more : List Object) (suffix : List Token) → Writes bytes part depth more suffix → Writes bytes part depth (objects ++ more) (tokens ++ suffix)
+runs-append bytes (plain depth object token is begins) run more suffix others = absurd run
+runs-append bytes (array depth object opening closing inner between tokens is begins ends few within are) run more suffix others = absurd run
+runs-append bytes (dict depth object opening closing inner between tokens is begins ends few within are) run more suffix others = absurd run
+runs-append bytes (no_item depth) run more suffix others = others
+runs-append bytes (next_item depth first rest objects prefix back tokens one next is are) run more suffix others =
+    next_item depth first (rest ++ more) (objects ++ more) prefix (back ++ suffix) (tokens ++ suffix) one (runs-append bytes next tt more suffix others)
+    (ap (λ os. os ++ more) is ∙ append_assoc first rest more) (ap (λ ts. ts ++ suffix) are ∙ append_assoc prefix back suffix)
+runs-append bytes (no_entry depth) run more suffix others = others
+runs-append bytes (next_entry depth key token value rest objects prefix back tokens named begins one next is are) run more suffix others =
+    next_entry depth key token value (rest ++ more) (objects ++ more) prefix (back ++ suffix) (tokens ++ suffix) named begins one (runs-append bytes next tt more suffix others)
+    (ap (λ os. os ++ more) is ∙ ap (λ os. key ∷ os) (append_assoc value rest more)) (ap (λ ts. ts ++ suffix) are ∙ ap (λ ts. token ∷ ts) (append_assoc prefix back suffix))
 
 -- an entry that its value ends
 one-entry : (bytes : List ℕ) (depth : ℕ) (key : Object) (token : Token) (value : List Object) (tokens : List Token) → IsLiteral key.body → Begins bytes key token 0
@@ -68,66 +68,66 @@ deeper brackets outer at expects is = ap length is ∙ ap (λ n. suc n) (length-
 leaves-whole : (bytes : List ℕ) {brackets : List Bracket} {tokens : List Token} → LeavesOpen bytes brackets tokens → is_key_due brackets ≡ false
     → (objects : List Object) (more : List Token) → Writes bytes whole (length brackets) objects more → LeavesOpen bytes (after_object brackets) (tokens ++ more)
 leaves-whole bytes (none found tokens written) due objects more one = none (found ++ objects) (tokens ++ more) (runs-append bytes written tt objects more (one-item bytes 0 objects more one))
-leaves-whole bytes (inside outer brackets expects opening front within tokens before free few s is are) due objects more one =
+leaves-whole bytes (inside outer brackets expects opening prefix within tokens before free few s is are) due objects more one =
     let no_key : is_key expects ≡ false = sym (ap is_key_due is) ∙ due in
     let placed_one : Writes bytes whole (suc (length outer)) objects more = subst (λ n. Writes bytes whole n objects more) (deeper brackets outer opening.at expects is) one in
-    inside outer (after_object brackets) (next_expected expects) opening front (within ++ more) (tokens ++ more) before free few
+    inside outer (after_object brackets) (next_expected expects) opening prefix (within ++ more) (tokens ++ more) before free few
     (stands-whole bytes expects (suc (length outer)) opening within objects more no_key s placed_one)
     (ap after_object is)
-    (ap (λ ts. ts ++ more) are ∙ append_assoc front (opening ∷ within) more)
+    (ap (λ ts. ts ++ more) are ∙ append_assoc prefix (opening ∷ within) more)
 
 -- a literal more
-leaves-key : (bytes : List ℕ) (outer brackets : List Bracket) (expects : Expects) (opening : Token) (front within tokens : List Token)
-    → LeavesOpen bytes outer front → is_key_due outer ≡ false → length outer < 16 → StandsIn bytes expects (suc (length outer)) opening within
-    → brackets ≡ bracket_of opening.at expects ∷ after_object outer → tokens ≡ front ++ opening ∷ within
+leaves-key : (bytes : List ℕ) (outer brackets : List Bracket) (expects : Expects) (opening : Token) (prefix within tokens : List Token)
+    → LeavesOpen bytes outer prefix → is_key_due outer ≡ false → length outer < 16 → StandsIn bytes expects (suc (length outer)) opening within
+    → brackets ≡ bracket_of opening.at expects ∷ after_object outer → tokens ≡ prefix ++ opening ∷ within
     → (object : Object) (token : Token) → IsLiteral object.body → Begins bytes object token 0 → LeavesOpen bytes (after_object brackets) (tokens ++ token ∷ [])
-leaves-key bytes outer brackets Item opening front within tokens before free few s is are object token named begins =
-    leaves-whole bytes (inside outer brackets Item opening front within tokens before free few s is are) (ap is_key_due is) (object ∷ []) (token ∷ []) (plain-literal bytes (length brackets) object token named begins)
-leaves-key bytes outer brackets Key opening front within tokens before free few s is are object token named begins =
-    inside outer (after_object brackets) Value opening front (within ++ token ∷ []) (tokens ++ token ∷ []) before free few
+leaves-key bytes outer brackets Item opening prefix within tokens before free few s is are object token named begins =
+    leaves-whole bytes (inside outer brackets Item opening prefix within tokens before free few s is are) (ap is_key_due is) (object ∷ []) (token ∷ []) (plain-literal bytes (length brackets) object token named begins)
+leaves-key bytes outer brackets Key opening prefix within tokens before free few s is are object token named begins =
+    inside outer (after_object brackets) Value opening prefix (within ++ token ∷ []) (tokens ++ token ∷ []) before free few
     (s.0, s.1, within, object, token, s.2, named, begins, refl)
     (ap after_object is)
-    (ap (λ ts. ts ++ token ∷ []) are ∙ append_assoc front (opening ∷ within) (token ∷ []))
-leaves-key bytes outer brackets Value opening front within tokens before free few s is are object token named begins =
-    leaves-whole bytes (inside outer brackets Value opening front within tokens before free few s is are) (ap is_key_due is) (object ∷ []) (token ∷ []) (plain-literal bytes (length brackets) object token named begins)
+    (ap (λ ts. ts ++ token ∷ []) are ∙ append_assoc prefix (opening ∷ within) (token ∷ []))
+leaves-key bytes outer brackets Value opening prefix within tokens before free few s is are object token named begins =
+    leaves-whole bytes (inside outer brackets Value opening prefix within tokens before free few s is are) (ap is_key_due is) (object ∷ []) (token ∷ []) (plain-literal bytes (length brackets) object token named begins)
 
 leaves-literal : (bytes : List ℕ) {brackets : List Bracket} {tokens : List Token} → LeavesOpen bytes brackets tokens → (object : Object) (token : Token) → IsLiteral object.body → Begins bytes object token 0
     → LeavesOpen bytes (after_object brackets) (tokens ++ token ∷ [])
 leaves-literal bytes (none found tokens written) object token named begins =
     leaves-whole bytes (none found tokens written) refl (object ∷ []) (token ∷ []) (plain-literal bytes 0 object token named begins)
-leaves-literal bytes (inside outer brackets expects opening front within tokens before free few s is are) object token named begins =
-    leaves-key bytes outer brackets expects opening front within tokens before free few s is are object token named begins
+leaves-literal bytes (inside outer brackets expects opening prefix within tokens before free few s is are) object token named begins =
+    leaves-key bytes outer brackets expects opening prefix within tokens before free few s is are object token named begins
 
 -- a closing token ends the innermost bracket
 abbrev bracket_object : Token → Body → List Object → Object
 bracket_object opening body inner = record { at = opening.at; inside = length inner; body = body }
 
-ended-array : (bytes : List ℕ) (outer : List Bracket) (opening closing : Token) (front within : List Token) → LeavesOpen bytes outer front → is_key_due outer ≡ false → length outer < 16
-    → StandsIn bytes Item (suc (length outer)) opening within → closing.kind ≡ kinds.CloseArray → LeavesOpen bytes (after_object outer) (front ++ (opening ∷ (within ++ closing ∷ [])))
-ended-array bytes outer opening closing front within before free few s ends =
+ended-array : (bytes : List ℕ) (outer : List Bracket) (opening closing : Token) (prefix within : List Token) → LeavesOpen bytes outer prefix → is_key_due outer ≡ false → length outer < 16
+    → StandsIn bytes Item (suc (length outer)) opening within → closing.kind ≡ kinds.CloseArray → LeavesOpen bytes (after_object outer) (prefix ++ (opening ∷ (within ++ closing ∷ [])))
+ended-array bytes outer opening closing prefix within before free few s ends =
     let object = bracket_object opening Array s.1 in
     leaves-whole bytes before free (object ∷ s.1) (opening ∷ (within ++ closing ∷ []))
     (array (length outer) object opening closing s.1 within (opening ∷ (within ++ closing ∷ [])) refl (record { place = refl; count = refl; meaning = s.0 }) ends few s.2 refl)
 
-ended-dict : (bytes : List ℕ) (outer : List Bracket) (opening closing : Token) (front within : List Token) → LeavesOpen bytes outer front → is_key_due outer ≡ false → length outer < 16
-    → StandsIn bytes Key (suc (length outer)) opening within → closing.kind ≡ kinds.CloseDict → LeavesOpen bytes (after_object outer) (front ++ (opening ∷ (within ++ closing ∷ [])))
-ended-dict bytes outer opening closing front within before free few s ends =
+ended-dict : (bytes : List ℕ) (outer : List Bracket) (opening closing : Token) (prefix within : List Token) → LeavesOpen bytes outer prefix → is_key_due outer ≡ false → length outer < 16
+    → StandsIn bytes Key (suc (length outer)) opening within → closing.kind ≡ kinds.CloseDict → LeavesOpen bytes (after_object outer) (prefix ++ (opening ∷ (within ++ closing ∷ [])))
+ended-dict bytes outer opening closing prefix within before free few s ends =
     let object = bracket_object opening Dict s.1 in
     leaves-whole bytes before free (object ∷ s.1) (opening ∷ (within ++ closing ∷ []))
     (dict (length outer) object opening closing s.1 within (opening ∷ (within ++ closing ∷ [])) refl (record { place = refl; count = refl; meaning = s.0 }) ends few s.2 refl)
 
-close-expects : (bytes : List ℕ) (outer : List Bracket) (expects : Expects) (opening closing : Token) (front within : List Token) (new : List Bracket) → LeavesOpen bytes outer front → is_key_due outer ≡ false
+close-expects : (bytes : List ℕ) (outer : List Bracket) (expects : Expects) (opening closing : Token) (prefix within : List Token) (new : List Bracket) → LeavesOpen bytes outer prefix → is_key_due outer ≡ false
     → length outer < 16 → StandsIn bytes expects (suc (length outer)) opening within
     → ((closing.kind ≡ kinds.CloseArray) × (array_end expects (after_object outer) ≡ Ok new)) ⊎ ((closing.kind ≡ kinds.CloseDict) × (dict_end expects (after_object outer) ≡ Ok new))
-    → LeavesOpen bytes new (front ++ (opening ∷ (within ++ closing ∷ [])))
-close-expects bytes outer Item opening closing front within new before free few s (inl both) =
-    subst (λ b. LeavesOpen bytes b (front ++ (opening ∷ (within ++ closing ∷ [])))) (same_ok (after_object outer) new both.1) (ended-array bytes outer opening closing front within before free few s both.0)
-close-expects bytes outer Item opening closing front within new before free few s (inr both) = absurd (err_is_no_ok Unmatched new both.1)
-close-expects bytes outer Key opening closing front within new before free few s (inl both) = absurd (err_is_no_ok Unmatched new both.1)
-close-expects bytes outer Key opening closing front within new before free few s (inr both) =
-    subst (λ b. LeavesOpen bytes b (front ++ (opening ∷ (within ++ closing ∷ [])))) (same_ok (after_object outer) new both.1) (ended-dict bytes outer opening closing front within before free few s both.0)
-close-expects bytes outer Value opening closing front within new before free few s (inl both) = absurd (err_is_no_ok Unmatched new both.1)
-close-expects bytes outer Value opening closing front within new before free few s (inr both) = absurd (err_is_no_ok OddDictionary new both.1)
+    → LeavesOpen bytes new (prefix ++ (opening ∷ (within ++ closing ∷ [])))
+close-expects bytes outer Item opening closing prefix within new before free few s (inl both) =
+    subst (λ b. LeavesOpen bytes b (prefix ++ (opening ∷ (within ++ closing ∷ [])))) (same_ok (after_object outer) new both.1) (ended-array bytes outer opening closing prefix within before free few s both.0)
+close-expects bytes outer Item opening closing prefix within new before free few s (inr both) = absurd (err_is_no_ok Unmatched new both.1)
+close-expects bytes outer Key opening closing prefix within new before free few s (inl both) = absurd (err_is_no_ok Unmatched new both.1)
+close-expects bytes outer Key opening closing prefix within new before free few s (inr both) =
+    subst (λ b. LeavesOpen bytes b (prefix ++ (opening ∷ (within ++ closing ∷ [])))) (same_ok (after_object outer) new both.1) (ended-dict bytes outer opening closing prefix within before free few s both.0)
+close-expects bytes outer Value opening closing prefix within new before free few s (inl both) = absurd (err_is_no_ok Unmatched new both.1)
+close-expects bytes outer Value opening closing prefix within new before free few s (inr both) = absurd (err_is_no_ok OddDictionary new both.1)
 
 leaves-closing : (bytes : List ℕ) {brackets : List Bracket} {tokens : List Token} → LeavesOpen bytes brackets tokens → (closing : Token) (new : List Bracket)
     → ((closing.kind ≡ kinds.CloseArray) × (after_array_end brackets ≡ Ok new)) ⊎ ((closing.kind ≡ kinds.CloseDict) × (after_dict_end brackets ≡ Ok new))
@@ -135,12 +135,12 @@ leaves-closing : (bytes : List ℕ) {brackets : List Bracket} {tokens : List Tok
 unfolding after_array_end after_dict_end
 leaves-closing bytes (none found tokens written) closing new (inl both) = absurd (err_is_no_ok Unmatched new both.1)
 leaves-closing bytes (none found tokens written) closing new (inr both) = absurd (err_is_no_ok Unmatched new both.1)
-leaves-closing bytes (inside outer brackets expects opening front within tokens before free few s is are) closing new (inl both) =
-    let e : front ++ (opening ∷ (within ++ closing ∷ [])) ≡ tokens ++ closing ∷ [] = sym (append_assoc front (opening ∷ within) (closing ∷ [])) ∙ ap (λ ts. ts ++ closing ∷ []) (sym are) in
-    subst (LeavesOpen bytes new) e (close-expects bytes outer expects opening closing front within new before free few s (inl (both.0, sym (ap after_array_end is) ∙ both.1)))
-leaves-closing bytes (inside outer brackets expects opening front within tokens before free few s is are) closing new (inr both) =
-    let e : front ++ (opening ∷ (within ++ closing ∷ [])) ≡ tokens ++ closing ∷ [] = sym (append_assoc front (opening ∷ within) (closing ∷ [])) ∙ ap (λ ts. ts ++ closing ∷ []) (sym are) in
-    subst (LeavesOpen bytes new) e (close-expects bytes outer expects opening closing front within new before free few s (inr (both.0, sym (ap after_dict_end is) ∙ both.1)))
+leaves-closing bytes (inside outer brackets expects opening prefix within tokens before free few s is are) closing new (inl both) =
+    let e : prefix ++ (opening ∷ (within ++ closing ∷ [])) ≡ tokens ++ closing ∷ [] = sym (append_assoc prefix (opening ∷ within) (closing ∷ [])) ∙ ap (λ ts. ts ++ closing ∷ []) (sym are) in
+    subst (LeavesOpen bytes new) e (close-expects bytes outer expects opening closing prefix within new before free few s (inl (both.0, sym (ap after_array_end is) ∙ both.1)))
+leaves-closing bytes (inside outer brackets expects opening prefix within tokens before free few s is are) closing new (inr both) =
+    let e : prefix ++ (opening ∷ (within ++ closing ∷ [])) ≡ tokens ++ closing ∷ [] = sym (append_assoc prefix (opening ∷ within) (closing ∷ [])) ∙ ap (λ ts. ts ++ closing ∷ []) (sym are) in
+    subst (LeavesOpen bytes new) e (close-expects bytes outer expects opening closing prefix within new before free few s (inr (both.0, sym (ap after_dict_end is) ∙ both.1)))
 
 -- an opening token begins one more
 leaves-array : (bytes : List ℕ) (brackets new : List Bracket) (tokens : List Token) (token : Token) → LeavesOpen bytes brackets tokens → length brackets ≤ 16 → token.kind ≡ kinds.OpenArray
@@ -255,10 +255,10 @@ opening-after_token bytes Value depth opening within brackets free few s = ap (�
 
 left-after_token : (bytes : List ℕ) {brackets : List Bracket} {tokens : List Token} → LeavesOpen bytes brackets tokens → fold (after_next bytes) (Ok []) tokens ≡ Ok brackets
 left-after_token bytes (none found tokens written) = writes-after_token bytes written [] (refl, refl, refl)
-left-after_token bytes (inside outer brackets expects opening front within tokens before free few s is are) =
+left-after_token bytes (inside outer brackets expects opening prefix within tokens before free few s is are) =
     let fresh = bracket_of opening.at (first_expected expects) ∷ after_object outer in
     ap (fold (after_next bytes) (Ok [])) are
-    ∙ after_token-append bytes [] outer front (opening ∷ within) (left-after_token bytes before)
+    ∙ after_token-append bytes [] outer prefix (opening ∷ within) (left-after_token bytes before)
     ∙ after_token-first bytes outer fresh opening within (opening-after_token bytes expects (suc (length outer)) opening within outer free few s)
     ∙ within-after_token bytes expects (suc (length outer)) opening within (after_object outer) (ap (λ n. suc n) (length-after_object outer)) s
     ∙ ap (λ b. Ok b) (sym is)

@@ -30,8 +30,8 @@ abbrev Within : List ℕ → Expects → ℕ → List Object → List Token → 
 Within bytes Item depth objects tokens = Writes bytes items depth objects tokens
 Within bytes Key depth objects tokens = Writes bytes entries depth objects tokens
 Within bytes Value depth objects tokens =
-    (value : List Object) × (rest : List Object) × (front : List Token) × (behind : List Token)
-    × Writes bytes whole depth value front × Writes bytes entries depth rest behind × (objects ≡ value ++ rest) × (tokens ≡ front ++ behind)
+    (value : List Object) × (rest : List Object) × (prefix : List Token) × (suffix : List Token)
+    × Writes bytes whole depth value prefix × Writes bytes entries depth rest suffix × (objects ≡ value ++ rest) × (tokens ≡ prefix ++ suffix)
 
 -- the token that closes a bracket
 abbrev IsEndOf : Expects → TokenKind → Type 0
@@ -49,31 +49,31 @@ Rest bytes (bracket ∷ outer) objects tokens =
     × (objects ≡ inner ++ more) × (tokens ≡ between ++ closing ∷ after)
 
 -- one object more, with all that stands within it
-within-whole : (bytes : List ℕ) (expects : Expects) (depth : ℕ) (first objects : List Object) (front tokens : List Token) → is_key expects ≡ false
-    → Writes bytes whole depth first front → Within bytes (next_expected expects) depth objects tokens → Within bytes expects depth (first ++ objects) (front ++ tokens)
-within-whole bytes Item depth first objects front tokens due one more = next_item depth first objects (first ++ objects) front tokens (front ++ tokens) one more refl refl
-within-whole bytes Key depth first objects front tokens due one more = absurd (false≢true (sym due))
-within-whole bytes Value depth first objects front tokens due one more = (first, objects, front, tokens, one, more, refl, refl)
+within-whole : (bytes : List ℕ) (expects : Expects) (depth : ℕ) (first objects : List Object) (prefix tokens : List Token) → is_key expects ≡ false
+    → Writes bytes whole depth first prefix → Within bytes (next_expected expects) depth objects tokens → Within bytes expects depth (first ++ objects) (prefix ++ tokens)
+within-whole bytes Item depth first objects prefix tokens due one more = next_item depth first objects (first ++ objects) prefix tokens (prefix ++ tokens) one more refl refl
+within-whole bytes Key depth first objects prefix tokens due one more = absurd (false≢true (sym due))
+within-whole bytes Value depth first objects prefix tokens due one more = (first, objects, prefix, tokens, one, more, refl, refl)
 
 end-whole : (expects : Expects) (kind : TokenKind) → is_key expects ≡ false → IsEndOf (next_expected expects) kind → IsEndOf expects kind
 end-whole Item kind due is = is
 end-whole Key kind due is = absurd (false≢true (sym due))
 end-whole Value kind due is = is
 
-rest-whole : (bytes : List ℕ) (brackets : List Bracket) (first objects : List Object) (front tokens : List Token) → is_key_due brackets ≡ false
-    → Writes bytes whole (length brackets) first front → Rest bytes (after_object brackets) objects tokens → Rest bytes brackets (first ++ objects) (front ++ tokens)
-rest-whole bytes [] first objects front tokens due one more = next_item 0 first objects (first ++ objects) front tokens (front ++ tokens) one more refl refl
-rest-whole bytes (bracket ∷ outer) first objects front tokens due one more = (
+rest-whole : (bytes : List ℕ) (brackets : List Bracket) (first objects : List Object) (prefix tokens : List Token) → is_key_due brackets ≡ false
+    → Writes bytes whole (length brackets) first prefix → Rest bytes (after_object brackets) objects tokens → Rest bytes brackets (first ++ objects) (prefix ++ tokens)
+rest-whole bytes [] first objects prefix tokens due one more = next_item 0 first objects (first ++ objects) prefix tokens (prefix ++ tokens) one more refl refl
+rest-whole bytes (bracket ∷ outer) first objects prefix tokens due one more = (
   first ++ more.0,
   more.1,
-  front ++ more.2,
+  prefix ++ more.2,
   more.3,
   more.4,
-  within-whole bytes bracket.expects (suc (length outer)) first more.0 front more.2 due one more.5,
+  within-whole bytes bracket.expects (suc (length outer)) first more.0 prefix more.2 due one more.5,
   end-whole bracket.expects more.3.kind due more.6,
   more.7,
   ap (λ os. first ++ os) more.8 ∙ sym (append_assoc first more.0 more.1),
-  ap (λ ts. front ++ ts) more.9 ∙ sym (append_assoc front more.2 (more.3 ∷ more.4)),
+  ap (λ ts. prefix ++ ts) more.9 ∙ sym (append_assoc prefix more.2 (more.3 ∷ more.4)),
 )
 
 -- a literal more
@@ -126,12 +126,12 @@ rest-array bytes brackets at object objects token tokens due few is begins more 
     let within : Writes bytes items (suc (length brackets)) more.0 more.2 = subst (λ n. Writes bytes items (suc n) more.0 more.2) (length-after_object brackets) more.5 in
     let n : count_inside 0 tokens ≡ length more.0 =
     ap (count_inside 0) more.9 ∙ writes-count bytes within 0 (more.3 ∷ more.4) ∙ ap (λ k. length more.0 + k) (count-end more.3 more.4 closes) ∙ add-zero (length more.0) in
-    let front = token ∷ (more.2 ++ more.3 ∷ []) in
-    let one : Writes bytes whole (length brackets) (object ∷ more.0) front =
-    array (length brackets) object token more.3 more.0 more.2 front is (subst (Begins bytes object token) n begins) more.6 few within refl in
+    let prefix = token ∷ (more.2 ++ more.3 ∷ []) in
+    let one : Writes bytes whole (length brackets) (object ∷ more.0) prefix =
+    array (length brackets) object token more.3 more.0 more.2 prefix is (subst (Begins bytes object token) n begins) more.6 few within refl in
     subst (λ os. Rest bytes brackets os (token ∷ tokens)) (ap (λ os. object ∷ os) (sym more.8))
     (subst (λ ts. Rest bytes brackets (object ∷ (more.0 ++ more.1)) ts) (ap (λ ts. token ∷ ts) (append_assoc more.2 (more.3 ∷ []) more.4 ∙ sym more.9))
-    (rest-whole bytes brackets (object ∷ more.0) more.1 front more.4 due one more.7))
+    (rest-whole bytes brackets (object ∷ more.0) more.1 prefix more.4 due one more.7))
 
 rest-dict : (bytes : List ℕ) (brackets : List Bracket) (at : ℕ) (object : Object) (objects : List Object) (token : Token) (tokens : List Token) → is_key_due brackets ≡ false → length brackets < 16
     → object.body ≡ Dict → Begins bytes object token (count_inside 0 tokens)
@@ -141,12 +141,12 @@ rest-dict bytes brackets at object objects token tokens due few is begins more =
     let within : Writes bytes entries (suc (length brackets)) more.0 more.2 = subst (λ n. Writes bytes entries (suc n) more.0 more.2) (length-after_object brackets) more.5 in
     let n : count_inside 0 tokens ≡ length more.0 =
     ap (count_inside 0) more.9 ∙ writes-count bytes within 0 (more.3 ∷ more.4) ∙ ap (λ k. length more.0 + k) (count-end more.3 more.4 closes) ∙ add-zero (length more.0) in
-    let front = token ∷ (more.2 ++ more.3 ∷ []) in
-    let one : Writes bytes whole (length brackets) (object ∷ more.0) front =
-    dict (length brackets) object token more.3 more.0 more.2 front is (subst (Begins bytes object token) n begins) more.6 few within refl in
+    let prefix = token ∷ (more.2 ++ more.3 ∷ []) in
+    let one : Writes bytes whole (length brackets) (object ∷ more.0) prefix =
+    dict (length brackets) object token more.3 more.0 more.2 prefix is (subst (Begins bytes object token) n begins) more.6 few within refl in
     subst (λ os. Rest bytes brackets os (token ∷ tokens)) (ap (λ os. object ∷ os) (sym more.8))
     (subst (λ ts. Rest bytes brackets (object ∷ (more.0 ++ more.1)) ts) (ap (λ ts. token ∷ ts) (append_assoc more.2 (more.3 ∷ []) more.4 ∙ sym more.9))
-    (rest-whole bytes brackets (object ∷ more.0) more.1 front more.4 due one more.7))
+    (rest-whole bytes brackets (object ∷ more.0) more.1 prefix more.4 due one more.7))
 
 pub err_is_no_ok : (kind : FaultKind) (new : List Bracket) → Err kind ≡ Ok new → ⊥
 err_is_no_ok kind new e = cc
@@ -282,7 +282,7 @@ plain-word depth word outside =
     (λ g. cond_both (bytes_eq word (codes "null")) _ _ P (λ t. tt)
     (λ h. outside (false_from_ne_true (is_value_word word) (λ t. no_value_word word f g h (is_value-word word t))))))
 
--- one token, where what is behind it is known
+-- one token, where what is after it is known
 abbrev Steps : List ℕ → Token → List Token → List Bracket → List Bracket → Type 0
 Steps bytes token tokens brackets new = Rest bytes new (objects_in bytes tokens) tokens → Rest bytes brackets (objects_in bytes (token ∷ tokens)) (token ∷ tokens)
 
@@ -409,9 +409,9 @@ Parses bytes tokens = (brackets : List Bracket) → length brackets ≤ 16 → f
 parse-next : (bytes : List ℕ) (token : Token) (tokens : List Token) (brackets : List Bracket) → length brackets ≤ 16 → Parses bytes tokens
     → (result : Result (List Bracket) FaultKind) → after_token bytes token brackets ≡ result → fold (after_next bytes) (at_token token.at result) tokens ≡ Ok []
     → Rest bytes brackets (objects_in bytes (token ∷ tokens)) (token ∷ tokens)
-parse-next bytes token tokens brackets most behind (Ok new) put is =
-    step bytes token tokens brackets new most token.kind refl put (behind new (few token.kind token.at (is_value_word (spelling bytes token)) brackets new most put) is)
-parse-next bytes token tokens brackets most behind (Err kind) put is =
+parse-next bytes token tokens brackets most suffix (Ok new) put is =
+    step bytes token tokens brackets new most token.kind refl put (suffix new (few token.kind token.at (is_value_word (spelling bytes token)) brackets new most put) is)
+parse-next bytes token tokens brackets most suffix (Err kind) put is =
     let fault : JobFault = record { kind = kind; at = token.at } in
     absurd (fault_is_no_ok fault (sym (fold-err bytes fault tokens) ∙ is))
 

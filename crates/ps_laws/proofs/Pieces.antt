@@ -1,4 +1,4 @@
--- The piece at the front of bytes, and the token that stands there.
+-- The piece at the beginning of bytes, and the token that stands there.
 use Rattle.std.proofs.Common.{◌≡◌, ◌⊎◌, inl, inr, ℕ, ℤ, suc, ◌+◌, ◌*◌, ◌<◌, ◌≤◌, Bool, true, false, cond, eqb, ltb, ◌||◌, List, [], ◌∷◌, ◌++◌, length, drop, get_or, Option, Some, None, refl, sym, ap, ◌∙◌, subst, ⊎_elim, arith, append_assoc, length-append}
 use Rattle.std.specs.List.{prefix_len, take_while, list_all}
 use Rattle.std.proofs.lemmas.Bool.{cond_both, false≢true, and_parts, and_from, or_parts, eqb-true, le-ltb, lt-ltb, false_from_ne_true, not-true}
@@ -16,10 +16,10 @@ use Rattle.ps_tokens.specs.Pieces.{number_piece, run_piece, literal_piece, ended
 use Rattle.ps_tokens.proofs.Balancing.{balanced_text, text_balanced}
 use Rattle.ps_laws.specs.Shapes.{IsNumber, IsWord, IsName, IsString, in_parentheses, hexadecimal, IsToken}
 use Rattle.ps_laws.specs.Spells.{MayFollow, NoneIsLonger, Stands, BeginsTooLarge, IsKindOf}
-use Rattle.ps_laws.proofs.Fronts.{prefix_len-front, take_while-front, drop-front, length-le-prefix_len, list_all-take_while, first_passes-drop, front_and_rest}
+use Rattle.ps_laws.proofs.Prefixes.{prefix_len-prefix, take_while-prefix, drop-prefix, length-le-prefix_len, list_all-take_while, first_passes-drop, prefix_and_rest}
 use Rattle.ps_laws.proofs.Numerals.{IsReadNumber, number-read, number-from, too_large-from, is_number-like}
 
--- the piece at the front of bytes that are not empty
+-- the piece at the beginning of bytes that are not empty
 abbrev pub piece_of : List ℕ → Piece
 piece_of bytes = piece_at (get_or bytes 0 0) (drop 1 bytes)
 
@@ -28,8 +28,8 @@ differs : (p : ℕ → Bool) (b c : ℕ) → p b ≡ true → p c ≡ false → 
 differs p b c passes fails = false_from_ne_true (eqb b c) (λ t. false≢true (sym fails ∙ ap p (sym (eqb-true b c t)) ∙ passes))
 
 first_differs : (p : ℕ → Bool) (c : ℕ) (xs ys : List ℕ) → list_all p xs ≡ true → p c ≡ false → begins_with c ys ≡ false → begins_with c (xs ++ ys) ≡ false
-first_differs p c [] ys all fails behind = behind
-first_differs p c (x ∷ xs) ys all fails behind = differs p x c (and_parts (p x) (list_all p xs) all).0 fails
+first_differs p c [] ys all fails suffix = suffix
+first_differs p c (x ∷ xs) ys all fails suffix = differs p x c (and_parts (p x) (list_all p xs) all).0 fails
 
 regular_is_no_whitespace : (b : ℕ) → is_regular b ≡ true → is_whitespace b ≡ false
 unfolding is_regular
@@ -65,7 +65,7 @@ piece-word : (text after : List ℕ) → IsWord text → first_passes is_regular
 unfolding run_piece
 piece-word text after word ends =
     piece-regular text after word.some word.regular
-    ∙ ap run_piece (take_while-front is_regular text after word.regular ends)
+    ∙ ap run_piece (take_while-prefix is_regular text after word.regular ends)
     ∙ (rw (no_number text word.no_number, word.no_number) refl)
 
 number_piece-small : (run : List ℕ) → decimal (whole_digits run) ≤ 1000000 → number_piece run ≡ Spelled (Number (value_of run)) (length run)
@@ -92,7 +92,7 @@ piece-signed value sign digits whole fraction after read small valued ends =
     ∙ ap (λ m. signed m (10000 * decimal whole + fraction_of fraction)) read.minus_is
     ∙ sym valued in
     piece-regular text after (some-like text read.like) read.regular
-    ∙ ap run_piece (take_while-front is_regular text after read.regular ends)
+    ∙ ap run_piece (take_while-prefix is_regular text after read.regular ends)
     ∙ run_piece-number text read.counts
     ∙ number_piece-small text least
     ∙ ap (λ v. Spelled (Number v) (length text)) is
@@ -113,7 +113,7 @@ piece-large : (sign digits whole fraction after : List ℕ) → IsReadNumber sig
 piece-large sign digits whole fraction after read large ends =
     let text = sign ++ digits in
     piece-regular text after (some-like text read.like) read.regular
-    ∙ ap run_piece (take_while-front is_regular text after read.regular ends)
+    ∙ ap run_piece (take_while-prefix is_regular text after read.regular ends)
     ∙ run_piece-number text read.counts
     ∙ number_piece-large text (subst (λ w. 1000000 < decimal w) (sym read.whole_digits_are) large)
 
@@ -123,7 +123,7 @@ piece-too_large bytes begins =
     ap piece_of (begins.4 ∙ ap (λ t. t ++ begins.1) m.written)
     ∙ piece-large m.sign m.unsigned m.whole m.fraction begins.1 (number-read m.sign m.unsigned m.whole m.fraction m.has_sign m.has_digits) begins.2.too_large begins.3
 
--- behind `/`
+-- after `/`
 piece-slash : (bs : List ℕ) → piece_at 47 bs ≡ literal_piece bs
 unfolding piece_at mark_piece is_whitespace is_regular
 piece-slash bs = refl
@@ -147,7 +147,7 @@ piece-name text after n follows ends =
     let here : P (47 ∷ n.name) = λ f.
     piece-slash (n.name ++ after)
     ∙ literal_piece-spelled (n.name ++ after) (no_slash n.name after n.regular f)
-    ∙ ap (λ k. Spelled Literal (1 + k)) (prefix_len-front is_regular n.name after n.regular ends)
+    ∙ ap (λ k. Spelled Literal (1 + k)) (prefix_len-prefix is_regular n.name after n.regular ends)
     ∙ ap (λ k. Spelled Literal k) e in
     subst P (sym n.written) here follows
 
@@ -168,8 +168,8 @@ angle_piece-digits : (digits after : List ℕ) → list_all is_hexadecimal digit
 unfolding angle_piece
 angle_piece-digits digits after all =
     let another = first_differs is_hexadecimal 60 digits (62 ∷ after) all angle_is_no_digit.0 refl in
-    let n = prefix_len-front is_hexadecimal digits (62 ∷ after) all angle_is_no_digit.1 in
-    let d = drop-front is_hexadecimal digits (62 ∷ after) all angle_is_no_digit.1 in
+    let n = prefix_len-prefix is_hexadecimal digits (62 ∷ after) all angle_is_no_digit.1 in
+    let d = drop-prefix is_hexadecimal digits (62 ∷ after) all angle_is_no_digit.1 in
     rw (another, d) (ap (λ k. Spelled Text (2 + k)) n)
 
 piece-text : (text after : List ℕ) → IsString text → piece_of (text ++ after) ≡ Spelled Text (length text)
@@ -214,7 +214,7 @@ piece-token Word text after is ends follows = piece-word text after is follows
 piece-token (Number value) text after is ends follows = piece-number value text after is follows
 piece-token Text text after is ends follows = piece-text text after is
 
--- behind the longest name no regular byte stands
+-- after the longest name no regular byte stands
 longest_name_ends : (text after : List ℕ) → IsName text → NoneIsLonger (length text) (text ++ after) → first_passes is_regular after ≡ false
 longest_name_ends text [] name longest = refl
 longest_name_ends text (b ∷ after) name longest =
@@ -295,7 +295,7 @@ token-le (Number value) text after kind n shaped is =
     (regular-le (m.sign ++ m.unsigned) after kind n (some-like (m.sign ++ m.unsigned) read.like) read.regular (ap (λ t. piece_of (t ++ after)) (sym m.written) ∙ is))
 token-le Text text after kind n shaped is = same-le text after kind Text n (piece-token Text text after shaped tt tt) is
 
--- a token of this kind and so many bytes stands at the front
+-- a token of this kind and so many bytes stands at the beginning
 record Begins (kind : TokenKind) (n : ℕ) (bytes : List ℕ) : Type 0 where
   text : List ℕ
   after : List ℕ
@@ -304,7 +304,7 @@ record Begins (kind : TokenKind) (n : ℕ) (bytes : List ℕ) : Type 0 where
   len : n ≡ length text
   followed : MayFollow kind text after
 
--- what a piece says of the bytes that it is the front of
+-- what a piece says of the bytes that it is the prefix of
 abbrev Says : List ℕ → Piece → Type 0
 Says bytes (Blank len) = (first_passes is_whitespace bytes ≡ true) ⊎ (begins_with 37 bytes ≡ true)
 Says bytes (Spelled kind len) = Begins kind len bytes
@@ -330,7 +330,7 @@ says-regular b bs regular =
     let run = take_while is_regular bytes in
     let after = drop (prefix_len is_regular bytes) bytes in
     let some : 0 < length run = omega (arith, length-prefix_len is_regular bytes, length-le-prefix_len is_regular (b ∷ []) bs (and_from (is_regular b) true regular refl)) in
-    subst (λ t. Says t (run_piece run)) (sym (front_and_rest is_regular bytes))
+    subst (λ t. Says t (run_piece run)) (sym (prefix_and_rest is_regular bytes))
     (says-run run after some (list_all-take_while is_regular bytes) (first_passes-drop is_regular bytes))
 
 says-literal : (bs : List ℕ) → Says (47 ∷ bs) (literal_piece bs)
@@ -338,7 +338,7 @@ unfolding literal_piece
 says-literal bs =
     let name = take_while is_regular bs in
     let after = drop (prefix_len is_regular bs) bs in
-    let is = front_and_rest is_regular bs in
+    let is = prefix_and_rest is_regular bs in
     cond_both (begins_with 47 bs) (Broken BadToken) (Spelled Literal (1 + prefix_len is_regular bs)) (Says (47 ∷ bs)) (λ t. inr refl)
     (λ f. record {
       text = 47 ∷ name;
@@ -370,14 +370,14 @@ says-angle : (bs : List ℕ) → Says (60 ∷ bs) (angle_piece bs)
 unfolding angle_piece
 says-angle bs =
     let digits = take_while is_hexadecimal bs in
-    let behind = drop (prefix_len is_hexadecimal bs) bs in
-    cond_both (begins_with 60 bs) (Spelled OpenDict 2) (cond (begins_with 62 behind) (Spelled Text (2 + prefix_len is_hexadecimal bs)) (Broken BadToken)) (Says (60 ∷ bs))
+    let suffix = drop (prefix_len is_hexadecimal bs) bs in
+    cond_both (begins_with 60 bs) (Spelled OpenDict 2) (cond (begins_with 62 suffix) (Spelled Text (2 + prefix_len is_hexadecimal bs)) (Broken BadToken)) (Says (60 ∷ bs))
     (λ t. record { text = 60 ∷ 60 ∷ []; after = drop 1 bs; whole = ap (λ t. 60 ∷ t) (first-is 60 bs t); shaped = refl; len = refl; followed = tt })
-    (λ f. cond_both (begins_with 62 behind) (Spelled Text (2 + prefix_len is_hexadecimal bs)) (Broken BadToken) (Says (60 ∷ bs))
+    (λ f. cond_both (begins_with 62 suffix) (Spelled Text (2 + prefix_len is_hexadecimal bs)) (Broken BadToken) (Says (60 ∷ bs))
     (λ t. record {
       text = 60 ∷ (digits ++ 62 ∷ []);
-      after = drop 1 behind;
-      whole = ap (λ t. 60 ∷ t) (front_and_rest is_hexadecimal bs ∙ ap (λ t. digits ++ t) (first-is 62 behind t) ∙ sym (append_assoc digits (62 ∷ []) (drop 1 behind)));
+      after = drop 1 suffix;
+      whole = ap (λ t. 60 ∷ t) (prefix_and_rest is_hexadecimal bs ∙ ap (λ t. digits ++ t) (first-is 62 suffix t) ∙ sym (append_assoc digits (62 ∷ []) (drop 1 suffix)));
       shaped = hexadecimal digits (60 ∷ (digits ++ 62 ∷ [])) (list_all-take_while is_hexadecimal bs) refl;
       len = omega (arith, length-append digits (62 ∷ []), length-prefix_len is_hexadecimal bs);
       followed = tt;
@@ -425,7 +425,7 @@ pub record StandsAt (kind : TokenKind) (n : ℕ) (bytes : List ℕ) : Type 0 whe
 pub stands-piece : (b : ℕ) (bs : List ℕ) (kind : TokenKind) (n : ℕ) → piece_at b bs ≡ Spelled kind n → StandsAt kind n (b ∷ bs)
 stands-piece b bs kind n is =
     let s : Begins kind n (b ∷ bs) = subst (Says (b ∷ bs)) is (says-piece b bs) in
-    let at_front : piece_of (s.text ++ s.after) ≡ Spelled kind (length s.text) = ap piece_of (sym s.whole) ∙ is ∙ ap (Spelled kind) s.len in
+    let at_prefix : piece_of (s.text ++ s.after) ≡ Spelled kind (length s.text) = ap piece_of (sym s.whole) ∙ is ∙ ap (Spelled kind) s.len in
     record {
       text = s.text;
       after = s.after;
@@ -433,7 +433,7 @@ stands-piece b bs kind n is =
       len = s.len;
       stands = record {
         shaped = s.shaped;
-        longest = λ other text after shaped e. token-le other text after kind (length s.text) shaped (ap piece_of (sym e) ∙ at_front);
+        longest = λ other text after shaped e. token-le other text after kind (length s.text) shaped (ap piece_of (sym e) ∙ at_prefix);
         followed = s.followed;
       };
     }

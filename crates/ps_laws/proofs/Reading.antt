@@ -18,7 +18,7 @@ use Rattle.ps_tokens.proofs.Moving.{tokens_from-further_on, space-further_on, co
 use Rattle.ps_laws.specs.Gaps.{IsGap, nothing, blank, comment, IsEnd}
 use Rattle.ps_laws.specs.Shapes.{AreDigits, whole_alone, with_point, IsNumeral, IsString, in_parentheses, hexadecimal, IsToken}
 use Rattle.ps_laws.specs.Spells.{MayFollow, Stands, SpellsUntil, Spells, IsKindOf, Breaks}
-use Rattle.ps_laws.proofs.Fronts.{prefix_len-front, list_all-take_while, first_passes-drop, front_and_rest}
+use Rattle.ps_laws.proofs.Prefixes.{prefix_len-prefix, list_all-take_while, first_passes-drop, prefix_and_rest}
 use Rattle.ps_laws.proofs.Pieces.{piece_of, piece-stands, stands-piece, no_blank, broken-kind, same_kind}
 
 -- what ends a comment is whitespace
@@ -80,7 +80,7 @@ gap-passed at (comment text ending rest bytes all ends gap is) after =
     ∙ gap-passed (at + (length text + 2)) gap after
     ∙ ap (λ n. tokens_from n 0 after) e)
 
--- no token stands behind the last one
+-- no token stands after the last one
 none-left : (at : ℕ) → tokens_from at 0 [] ≡ Ok []
 unfolding tokens_from
 none-left at = refl
@@ -90,7 +90,7 @@ unfolding piece_at mark_piece is_whitespace is_regular
 piece-comment text = refl
 
 prefix_len-all : (p : ℕ → Bool) (xs : List ℕ) → list_all p xs ≡ true → prefix_len p xs ≡ length xs
-prefix_len-all p xs all = ap (prefix_len p) (sym (append-nil xs)) ∙ prefix_len-front p xs [] all refl
+prefix_len-all p xs all = ap (prefix_len p) (sym (append-nil xs)) ∙ prefix_len-prefix p xs [] all refl
 
 last_comment-passed : (at : ℕ) (text : List ℕ) → list_all is_in_comment text ≡ true → tokens_from at 0 (37 ∷ text) ≡ Ok []
 last_comment-passed at text all =
@@ -138,37 +138,37 @@ spelled-read at bytes (token ∷ tokens) end rest spelled =
     ∙ ap (tokens_then (Ok (token ∷ []))) (spelled-read (token.at + token.len) after tokens end rest spelled.2)
     ∙ tokens_then-tokens_then (token ∷ []) tokens (tokens_from end 0 rest)
 
--- gaps one behind the other
-gap-append : {gap : List ℕ} → IsGap gap → (behind : List ℕ) → IsGap behind → IsGap (gap ++ behind)
-gap-append nothing behind more = more
-gap-append (blank b rest white gap) behind more = blank b (rest ++ behind) white (gap-append gap behind more)
-gap-append (comment text ending rest bytes all ends gap is) behind more =
-    comment text ending (rest ++ behind) (bytes ++ behind) all ends (gap-append gap behind more)
-    (ap (λ t. t ++ behind) is ∙ ap (λ t. 37 ∷ t) (append_assoc text (ending ∷ rest) behind))
+-- gaps one after the other
+gap-append : {gap : List ℕ} → IsGap gap → (suffix : List ℕ) → IsGap suffix → IsGap (gap ++ suffix)
+gap-append nothing suffix more = more
+gap-append (blank b rest white gap) suffix more = blank b (rest ++ suffix) white (gap-append gap suffix more)
+gap-append (comment text ending rest bytes all ends gap is) suffix more =
+    comment text ending (rest ++ suffix) (bytes ++ suffix) all ends (gap-append gap suffix more)
+    (ap (λ t. t ++ suffix) is ∙ ap (λ t. 37 ∷ t) (append_assoc text (ending ∷ rest) suffix))
 
 -- a token that stands before more bytes stands before fewer
-follows-front : (kind : TokenKind) (text after behind : List ℕ) → MayFollow kind text (after ++ behind) → MayFollow kind text after
-follows-front OpenDict text after behind follows = tt
-follows-front CloseDict text after behind follows = tt
-follows-front OpenArray text after behind follows = tt
-follows-front CloseArray text after behind follows = tt
-follows-front Literal text [] behind follows = λ e. refl
-follows-front Literal text (b ∷ after) behind follows = follows
-follows-front Word text [] behind follows = refl
-follows-front Word text (b ∷ after) behind follows = follows
-follows-front (Number value) text [] behind follows = refl
-follows-front (Number value) text (b ∷ after) behind follows = follows
-follows-front Text text after behind follows = tt
+follows-prefix : (kind : TokenKind) (text after suffix : List ℕ) → MayFollow kind text (after ++ suffix) → MayFollow kind text after
+follows-prefix OpenDict text after suffix follows = tt
+follows-prefix CloseDict text after suffix follows = tt
+follows-prefix OpenArray text after suffix follows = tt
+follows-prefix CloseArray text after suffix follows = tt
+follows-prefix Literal text [] suffix follows = λ e. refl
+follows-prefix Literal text (b ∷ after) suffix follows = follows
+follows-prefix Word text [] suffix follows = refl
+follows-prefix Word text (b ∷ after) suffix follows = follows
+follows-prefix (Number value) text [] suffix follows = refl
+follows-prefix (Number value) text (b ∷ after) suffix follows = follows
+follows-prefix Text text after suffix follows = tt
 
-stands-front : (kind : TokenKind) (text after behind : List ℕ) → Stands kind text (after ++ behind) → Stands kind text after
-stands-front kind text after behind stands = record {
+stands-prefix : (kind : TokenKind) (text after suffix : List ℕ) → Stands kind text (after ++ suffix) → Stands kind text after
+stands-prefix kind text after suffix stands = record {
   shaped = stands.shaped;
   longest = λ other longer rest shaped e.
-      stands.longest other longer (rest ++ behind) shaped (sym (append_assoc text after behind) ∙ ap (λ t. t ++ behind) e ∙ append_assoc longer rest behind);
-  followed = follows-front kind text after behind stands.followed;
+      stands.longest other longer (rest ++ suffix) shaped (sym (append_assoc text after suffix) ∙ ap (λ t. t ++ suffix) e ∙ append_assoc longer rest suffix);
+  followed = follows-prefix kind text after suffix stands.followed;
 }
 
--- no token stands at the front of these bytes, for this reason
+-- no token stands at the beginning of these bytes, for this reason
 record IsFault (kind : FaultKind) (rest : List ℕ) : Type 0 where
   some : 0 < length rest
   no_whitespace : first_passes is_whitespace rest ≡ false
@@ -195,7 +195,7 @@ record Meant (at : ℕ) (bytes : List ℕ) (result : Result (List Token) JobFaul
   are : Ends result tokens
   stops : IsStop result end rest
 
--- behind a gap
+-- after a gap
 spells-gap : (at : ℕ) (gap after : List ℕ) (tokens : List Token) (end : ℕ) (rest : List ℕ) → IsGap gap → SpellsUntil (at + length gap) after tokens end rest
     → SpellsUntil at (gap ++ after) tokens end rest
 spells-gap at gap after [] end rest is more = (
@@ -229,7 +229,7 @@ meant-gap at gap after result is m = record {
   stops = m.stops;
 }
 
--- behind a token
+-- after a token
 abbrev here : ℕ → TokenKind → List ℕ → Token
 here at kind text = record { at = at; len = length text; kind = kind }
 
@@ -275,7 +275,7 @@ meant-broken at b bs kind white percent is = record {
   );
 }
 
--- one step, where the steps behind it are known
+-- one step, where the steps after it are known
 abbrev Known : ℕ → Type 0
 Known n = (at : ℕ) (bytes : List ℕ) → length bytes ≤ n → Meant at bytes (tokens_from at 0 bytes)
 
@@ -304,7 +304,7 @@ meant-comment n at text (ending ∷ rest) known fits all ends =
 
 meant-percent : (n at b : ℕ) (bs : List ℕ) → Known n → length bs ≤ n → eqb b 37 ≡ true → Meant at (b ∷ bs) (tokens_from at 0 (b ∷ bs))
 meant-percent n at b bs known fits is =
-    let split = front_and_rest is_in_comment bs in
+    let split = prefix_and_rest is_in_comment bs in
     let text = take_while is_in_comment bs in
     let rest = drop (prefix_len is_in_comment bs) bs in
     let fits_parts : length (text ++ rest) ≤ n = subst (λ t. length t ≤ n) split fits in
@@ -399,32 +399,32 @@ breaks-fault bytes fault b =
     ∙ ap (tokens_then (Ok b.tokens)) (fault-from fault.at b.rest fault.kind f)
 
 -- what is spelled before a place is spelled by itself
-record IsFront (at : ℕ) (bytes : List ℕ) (tokens : List Token) (end : ℕ) (rest : List ℕ) : Type 0 where
-  front : List ℕ
-  whole : bytes ≡ front ++ rest
-  len : end ≡ at + length front
-  spelled : SpellsUntil at front tokens end []
+record IsPrefix (at : ℕ) (bytes : List ℕ) (tokens : List Token) (end : ℕ) (rest : List ℕ) : Type 0 where
+  prefix : List ℕ
+  whole : bytes ≡ prefix ++ rest
+  len : end ≡ at + length prefix
+  spelled : SpellsUntil at prefix tokens end []
 
-front-spelled : (at : ℕ) (bytes : List ℕ) (tokens : List Token) (end : ℕ) (rest : List ℕ) → SpellsUntil at bytes tokens end rest → IsFront at bytes tokens end rest
-front-spelled at bytes [] end rest s = record { front = s.0; whole = s.2; len = s.3; spelled = (s.0, s.1, sym (append-nil s.0), s.3) }
-front-spelled at bytes (token ∷ tokens) end rest s =
+prefix-spelled : (at : ℕ) (bytes : List ℕ) (tokens : List Token) (end : ℕ) (rest : List ℕ) → SpellsUntil at bytes tokens end rest → IsPrefix at bytes tokens end rest
+prefix-spelled at bytes [] end rest s = record { prefix = s.0; whole = s.2; len = s.3; spelled = (s.0, s.1, sym (append-nil s.0), s.3) }
+prefix-spelled at bytes (token ∷ tokens) end rest s =
     let first = s.1 in
-    let f = front-spelled (token.at + token.len) s.0 tokens end rest s.2 in
-    let front = first.gap ++ (first.text ++ f.front) in
+    let f = prefix-spelled (token.at + token.len) s.0 tokens end rest s.2 in
+    let prefix = first.gap ++ (first.text ++ f.prefix) in
     record {
-      front = front;
+      prefix = prefix;
       whole = first.whole
           ∙ ap (λ t. first.gap ++ (first.text ++ t)) f.whole
-          ∙ ap (λ t. first.gap ++ t) (sym (append_assoc first.text f.front rest))
-          ∙ sym (append_assoc first.gap (first.text ++ f.front) rest);
-      len = omega (arith, f.len, first.place, first.len, length-append first.gap (first.text ++ f.front), length-append first.text f.front);
+          ∙ ap (λ t. first.gap ++ t) (sym (append_assoc first.text f.prefix rest))
+          ∙ sym (append_assoc first.gap (first.text ++ f.prefix) rest);
+      len = omega (arith, f.len, first.place, first.len, length-append first.gap (first.text ++ f.prefix), length-append first.text f.prefix);
       spelled = (
-        f.front,
+        f.prefix,
         record {
           gap = first.gap;
           text = first.text;
           between = first.between;
-          stands = stands-front token.kind first.text f.front rest (subst (Stands token.kind first.text) f.whole first.stands);
+          stands = stands-prefix token.kind first.text f.prefix rest (subst (Stands token.kind first.text) f.whole first.stands);
           whole = refl;
           place = first.place;
           len = first.len;
@@ -436,7 +436,7 @@ front-spelled at bytes (token ∷ tokens) end rest s =
 pub before_fault-spelled : (bytes : List ℕ) (fault : JobFault) → tokens_of bytes ≡ Err fault → (tokens : List Token) × Spells (take fault.at bytes) tokens
 before_fault-spelled bytes fault is =
     let b = fault-breaks bytes fault is in
-    let f = front-spelled 0 bytes b.tokens fault.at b.rest b.spelled in
-    let n : length f.front ≡ fault.at = omega (arith, f.len) in
-    let e : take fault.at bytes ≡ f.front = ap (take fault.at) f.whole ∙ take_at f.front b.rest fault.at n in
+    let f = prefix-spelled 0 bytes b.tokens fault.at b.rest b.spelled in
+    let n : length f.prefix ≡ fault.at = omega (arith, f.len) in
+    let e : take fault.at bytes ≡ f.prefix = ap (take fault.at) f.whole ∙ take_at f.prefix b.rest fault.at n in
     (b.tokens, record { end = fault.at; rest = []; spelled = subst (λ t. SpellsUntil 0 t b.tokens fault.at []) (sym e) f.spelled; ends = inl refl })

@@ -30,7 +30,7 @@ kinds_of-same (suc a) (suc b) (object ∷ objects) fits other =
     ap (λ ks. first_kind object.body ∷ (ks ++ (last_kinds object.body ++ kinds_of a (drop n objects)))) inner
     ∙ ap (λ ks. first_kind object.body ∷ (kinds_of b (take n objects) ++ (last_kinds object.body ++ ks))) outer
 
--- an object, what stands within it, and what stands behind
+-- an object, what stands within it, and what stands after
 pub written-first : (object : Object) (inner rest : List Object) → object.inside ≡ length inner
     → kinds_written (object ∷ (inner ++ rest)) ≡ first_kind object.body ∷ (kinds_written inner ++ (last_kinds object.body ++ kinds_written rest))
 written-first object inner rest count =
@@ -38,8 +38,8 @@ written-first object inner rest count =
     let a : take object.inside (inner ++ rest) ≡ inner = take_at inner rest object.inside (sym count) in
     let b : drop object.inside (inner ++ rest) ≡ rest = drop_at inner rest object.inside (sym count) in
     let within = kinds_of-same most (length inner) inner (omega (arith, length-append inner rest)) (omega arith) in
-    let behind = kinds_of-same most (length rest) rest (omega (arith, length-append inner rest)) (omega arith) in
-    rw (a, b, within, behind) refl
+    let suffix = kinds_of-same most (length rest) rest (omega (arith, length-append inner rest)) (omega arith) in
+    rw (a, b, within, suffix) refl
 
 -- the kinds at the ends of objects
 first-kind : (body : Body) (kind : TokenKind) (text : List ℕ) → IsBegunBy body kind text → kind ≡ first_kind body
@@ -65,8 +65,8 @@ no-last-kind depth Dict is = absurd is
 abbrev pub kinds_in : List Token → List TokenKind
 kinds_in tokens = map (λ t. t.kind) tokens
 
-kinds_in-append : (front behind : List Token) → kinds_in (front ++ behind) ≡ kinds_in front ++ kinds_in behind
-kinds_in-append front behind = map-append (λ (t : Token). t.kind) front behind
+kinds_in-append : (prefix suffix : List Token) → kinds_in (prefix ++ suffix) ≡ kinds_in prefix ++ kinds_in suffix
+kinds_in-append prefix suffix = map-append (λ (t : Token). t.kind) prefix suffix
 
 written-plain : (bytes : List ℕ) (object : Object) (token : Token) (rest : List Object) → last_kinds object.body ≡ [] → Begins bytes object token 0
     → kinds_written (object ∷ rest) ≡ token.kind ∷ kinds_written rest
@@ -99,29 +99,29 @@ writes-kinds bytes (dict depth object opening closing inner between tokens is be
     written-bracket bytes object opening closing inner rest between last begins (writes-kinds bytes within [])
     ∙ ap (λ ts. kinds_in ts ++ kinds_written rest) (sym are)
 writes-kinds bytes (no_item depth) rest = refl
-writes-kinds bytes (next_item depth first more objects front behind tokens one others is are) rest =
+writes-kinds bytes (next_item depth first more objects prefix suffix tokens one others is are) rest =
     ap kinds_written (ap (λ os. os ++ rest) is ∙ append_assoc first more rest)
     ∙ writes-kinds bytes one (more ++ rest)
-    ∙ ap (λ ks. kinds_in front ++ ks) (writes-kinds bytes others rest)
-    ∙ sym (append_assoc (kinds_in front) (kinds_in behind) (kinds_written rest))
-    ∙ ap (λ ks. ks ++ kinds_written rest) (sym (kinds_in-append front behind) ∙ ap kinds_in (sym are))
+    ∙ ap (λ ks. kinds_in prefix ++ ks) (writes-kinds bytes others rest)
+    ∙ sym (append_assoc (kinds_in prefix) (kinds_in suffix) (kinds_written rest))
+    ∙ ap (λ ks. ks ++ kinds_written rest) (sym (kinds_in-append prefix suffix) ∙ ap kinds_in (sym are))
 writes-kinds bytes (no_entry depth) rest = refl
-writes-kinds bytes (next_entry depth key token value more objects front behind tokens named begins one others is are) rest =
+writes-kinds bytes (next_entry depth key token value more objects prefix suffix tokens named begins one others is are) rest =
     ap kinds_written (ap (λ os. os ++ rest) is ∙ ap (λ os. key ∷ os) (append_assoc value more rest))
     ∙ written-plain bytes key token (value ++ (more ++ rest)) (ap last_kinds named.1) begins
     ∙ ap (λ ks. token.kind ∷ ks) (writes-kinds bytes one (more ++ rest)
-    ∙ ap (λ ks. kinds_in front ++ ks) (writes-kinds bytes others rest)
-    ∙ sym (append_assoc (kinds_in front) (kinds_in behind) (kinds_written rest))
-    ∙ ap (λ ks. ks ++ kinds_written rest) (sym (kinds_in-append front behind)))
+    ∙ ap (λ ks. kinds_in prefix ++ ks) (writes-kinds bytes others rest)
+    ∙ sym (append_assoc (kinds_in prefix) (kinds_in suffix) (kinds_written rest))
+    ∙ ap (λ ks. ks ++ kinds_written rest) (sym (kinds_in-append prefix suffix)))
     ∙ ap (λ ts. kinds_in ts ++ kinds_written rest) (sym are)
 
 -- where objects begin
 abbrev pub begins_object : Token → Bool
 begins_object token = not (is_closing token.kind)
 
-pub begun_at-append : (front behind : List Token) → begun_at (front ++ behind) ≡ begun_at front ++ begun_at behind
-begun_at-append front behind =
-    ap (map (λ (t : Token). t.at)) (filter-append begins_object front behind) ∙ map-append (λ (t : Token). t.at) (filter begins_object front) (filter begins_object behind)
+pub begun_at-append : (prefix suffix : List Token) → begun_at (prefix ++ suffix) ≡ begun_at prefix ++ begun_at suffix
+begun_at-append prefix suffix =
+    ap (map (λ (t : Token). t.at)) (filter-append begins_object prefix suffix) ∙ map-append (λ (t : Token). t.at) (filter begins_object prefix) (filter begins_object suffix)
 
 pub begun_at-first : (token : Token) (tokens : List Token) → is_closing token.kind ≡ false → begun_at (token ∷ tokens) ≡ token.at ∷ begun_at tokens
 begun_at-first token tokens opens = rw opens refl
@@ -132,8 +132,8 @@ begun_at-end token closes = rw closes refl
 abbrev pub places : List Object → List ℕ
 places objects = map (λ o. o.at) objects
 
-pub places-append : (front behind : List Object) → places (front ++ behind) ≡ places front ++ places behind
-places-append front behind = map-append (λ (o : Object). o.at) front behind
+pub places-append : (prefix suffix : List Object) → places (prefix ++ suffix) ≡ places prefix ++ places suffix
+places-append prefix suffix = map-append (λ (o : Object). o.at) prefix suffix
 
 begun_at-bracket : (bytes : List ℕ) (object : Object) (opening closing : Token) (inner : List Object) (between : List Token) → IsBracket opening.kind closing.kind → Begins bytes object opening (length inner)
     → begun_at between ≡ places inner → begun_at (opening ∷ (between ++ closing ∷ [])) ≡ places (object ∷ inner)
@@ -150,17 +150,17 @@ writes-places bytes (array depth object opening closing inner between tokens is 
 writes-places bytes (dict depth object opening closing inner between tokens is begins ends few within are) =
     ap begun_at are ∙ begun_at-bracket bytes object opening closing inner between (dict-bracket object.body opening.kind closing.kind (spelling bytes opening) is begins.meaning ends) begins (writes-places bytes within)
 writes-places bytes (no_item depth) = refl
-writes-places bytes (next_item depth first more objects front behind tokens one others is are) =
-    ap begun_at are ∙ begun_at-append front behind
-    ∙ ap (λ ps. ps ++ begun_at behind) (writes-places bytes one)
+writes-places bytes (next_item depth first more objects prefix suffix tokens one others is are) =
+    ap begun_at are ∙ begun_at-append prefix suffix
+    ∙ ap (λ ps. ps ++ begun_at suffix) (writes-places bytes one)
     ∙ ap (λ ps. places first ++ ps) (writes-places bytes others)
     ∙ sym (places-append first more)
     ∙ ap places (sym is)
 writes-places bytes (no_entry depth) = refl
-writes-places bytes (next_entry depth key token value more objects front behind tokens named begins one others is are) =
-    ap begun_at are ∙ begun_at-first token (front ++ behind) (simple-literal key.body token.kind (spelling bytes token) named begins.meaning).closes_none
-    ∙ ap (λ ps. token.at ∷ ps) (begun_at-append front behind
-    ∙ ap (λ ps. ps ++ begun_at behind) (writes-places bytes one)
+writes-places bytes (next_entry depth key token value more objects prefix suffix tokens named begins one others is are) =
+    ap begun_at are ∙ begun_at-first token (prefix ++ suffix) (simple-literal key.body token.kind (spelling bytes token) named begins.meaning).closes_none
+    ∙ ap (λ ps. token.at ∷ ps) (begun_at-append prefix suffix
+    ∙ ap (λ ps. ps ++ begun_at suffix) (writes-places bytes one)
     ∙ ap (λ ps. places value ++ ps) (writes-places bytes others)
     ∙ sym (places-append value more))
     ∙ ap (λ p. p ∷ places (value ++ more)) (sym begins.place)
@@ -173,13 +173,13 @@ read-places bytes tokens objects is = writes-places bytes (objects-written bytes
 abbrev bodies : List Object → List Body
 bodies objects = map (λ o. o.body) objects
 
-bodies-append : (front behind : List Object) → bodies (front ++ behind) ≡ bodies front ++ bodies behind
-bodies-append front behind = map-append (λ (o : Object). o.body) front behind
+bodies-append : (prefix suffix : List Object) → bodies (prefix ++ suffix) ≡ bodies prefix ++ bodies suffix
+bodies-append prefix suffix = map-append (λ (o : Object). o.body) prefix suffix
 
-begun_as-append : (bytes : List ℕ) (front behind : List Token) → begun_as bytes (front ++ behind) ≡ begun_as bytes front ++ begun_as bytes behind
-begun_as-append bytes front behind =
-    ap (map (λ (t : Token). body_as t.kind (spelling bytes t))) (filter-append begins_object front behind)
-    ∙ map-append (λ (t : Token). body_as t.kind (spelling bytes t)) (filter begins_object front) (filter begins_object behind)
+begun_as-append : (bytes : List ℕ) (prefix suffix : List Token) → begun_as bytes (prefix ++ suffix) ≡ begun_as bytes prefix ++ begun_as bytes suffix
+begun_as-append bytes prefix suffix =
+    ap (map (λ (t : Token). body_as t.kind (spelling bytes t))) (filter-append begins_object prefix suffix)
+    ∙ map-append (λ (t : Token). body_as t.kind (spelling bytes t)) (filter begins_object prefix) (filter begins_object suffix)
 
 begun_as-first : (bytes : List ℕ) (object : Object) (token : Token) (tokens : List Token) (n : ℕ) → is_closing token.kind ≡ false → Begins bytes object token n → begun_as bytes (token ∷ tokens) ≡ object.body ∷ begun_as bytes tokens
 begun_as-first bytes object token tokens n opens begins = rw opens (ap (λ b. b ∷ begun_as bytes tokens) (body-is object.body token.kind (spelling bytes token) begins.meaning))
@@ -201,17 +201,17 @@ writes-bodies bytes (array depth object opening closing inner between tokens is 
 writes-bodies bytes (dict depth object opening closing inner between tokens is begins ends few within are) =
     ap (begun_as bytes) are ∙ begun_as-bracket bytes object opening closing inner between (dict-bracket object.body opening.kind closing.kind (spelling bytes opening) is begins.meaning ends) begins (writes-bodies bytes within)
 writes-bodies bytes (no_item depth) = refl
-writes-bodies bytes (next_item depth first more objects front behind tokens one others is are) =
-    ap (begun_as bytes) are ∙ begun_as-append bytes front behind
-    ∙ ap (λ bs. bs ++ begun_as bytes behind) (writes-bodies bytes one)
+writes-bodies bytes (next_item depth first more objects prefix suffix tokens one others is are) =
+    ap (begun_as bytes) are ∙ begun_as-append bytes prefix suffix
+    ∙ ap (λ bs. bs ++ begun_as bytes suffix) (writes-bodies bytes one)
     ∙ ap (λ bs. bodies first ++ bs) (writes-bodies bytes others)
     ∙ sym (bodies-append first more)
     ∙ ap bodies (sym is)
 writes-bodies bytes (no_entry depth) = refl
-writes-bodies bytes (next_entry depth key token value more objects front behind tokens named begins one others is are) =
-    ap (begun_as bytes) are ∙ begun_as-first bytes key token (front ++ behind) 0 (simple-literal key.body token.kind (spelling bytes token) named begins.meaning).closes_none begins
-    ∙ ap (λ bs. key.body ∷ bs) (begun_as-append bytes front behind
-    ∙ ap (λ bs. bs ++ begun_as bytes behind) (writes-bodies bytes one)
+writes-bodies bytes (next_entry depth key token value more objects prefix suffix tokens named begins one others is are) =
+    ap (begun_as bytes) are ∙ begun_as-first bytes key token (prefix ++ suffix) 0 (simple-literal key.body token.kind (spelling bytes token) named begins.meaning).closes_none begins
+    ∙ ap (λ bs. key.body ∷ bs) (begun_as-append bytes prefix suffix
+    ∙ ap (λ bs. bs ++ begun_as bytes suffix) (writes-bodies bytes one)
     ∙ ap (λ bs. bodies value ++ bs) (writes-bodies bytes others)
     ∙ sym (bodies-append value more))
     ∙ ap bodies (sym is)

@@ -12,7 +12,7 @@ pub record Entry : Type 0 where
 
 -- Objects, the first of which stands at a place, are these entries in their order: each is a
 -- literal of the entry's name and
--- behind it the value, one object with all that stands within it.
+-- after it the value, one object with all that stands within it.
 pub data AreEntries (depth : ℕ) : ℕ → List Object → List Entry → Type 0 where
   none_more : (place : ℕ) → AreEntries depth place [] []
   one_more : (place : ℕ) (key : Object) (name : List ℕ) (value rest objects : List Object)
@@ -25,13 +25,13 @@ pub data AreEntries (depth : ℕ) : ℕ → List Object → List Entry → Type 
 
 -- The dictionary that stands at a place has these entries: they are the objects within it.
 pub record HasEntries (objects : List Object) (place : ℕ) (entries : List Entry) : Type 0 where
-  pub front : List Object
+  pub prefix : List Object
   pub dict : Object
   pub inner : List Object
-  pub behind : List Object
+  pub suffix : List Object
   pub depth : ℕ
-  pub split : objects ≡ front ++ dict ∷ (inner ++ behind)
-  pub at : place ≡ length front
+  pub split : objects ≡ prefix ++ dict ∷ (inner ++ suffix)
+  pub at : place ≡ length prefix
   pub body : dict.body ≡ Dict
   pub count : dict.inside ≡ length inner
   pub are : AreEntries depth (place + 1) inner entries
@@ -40,7 +40,7 @@ pub record HasEntries (objects : List Object) (place : ℕ) (entries : List Entr
 abbrev pub NoneNamed : List ℕ → List Entry → Type 0
 NoneNamed name entries = All (λ (e : Entry). e.name ≢ name) entries
 
--- the last entry of this name has its value at this place: one has, and none behind it has the name
+-- the last entry of this name has its value at this place: one has, and none after it has the name
 abbrev pub IsLastNamed : List ℕ → ℕ → List Entry → Type 0
 IsLastNamed name value entries =
     (before : List Entry) × (later : List Entry)

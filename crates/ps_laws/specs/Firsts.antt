@@ -19,7 +19,7 @@ use Rattle.ps_tokens.specs.Objects.{is_opening, is_closing}
 use Rattle.ps_tokens.specs.Words.{spelling}
 use Rattle.ps_laws.specs.Writes.{Begins, IsLiteral, IsValueWord, items, entries, Writes, WritesOut}
 
--- What stands behind an opening token, where nothing closes its bracket: items in an array; in a
+-- What stands after an opening token, where nothing closes its bracket: items in an array; in a
 -- dictionary entries, where
 -- a key is due, or entries and a key, where its value is due.
 abbrev pub StandsIn : List ℕ → Expects → ℕ → Token → List Token → Type 0
@@ -28,24 +28,24 @@ StandsIn bytes Item depth opening within =
 StandsIn bytes Key depth opening within =
     (opening.kind ≡ OpenDict) × (objects : List Object) × Writes bytes entries depth objects within
 StandsIn bytes Value depth opening within =
-    (opening.kind ≡ OpenDict) × (objects : List Object) × (front : List Token) × (key : Object)
+    (opening.kind ≡ OpenDict) × (objects : List Object) × (prefix : List Token) × (key : Object)
     × (token : Token)
-    × Writes bytes entries depth objects front × IsLiteral key.body × Begins bytes key token 0
-    × (within ≡ front ++ token ∷ [])
+    × Writes bytes entries depth objects prefix × IsLiteral key.body × Begins bytes key token 0
+    × (within ≡ prefix ++ token ∷ [])
 
 -- Tokens leave these brackets open, the innermost first: where none is, they write objects out;
 -- else the innermost one's
--- opening token stands behind tokens that leave those around it open, which it fills as an
+-- opening token stands after tokens that leave those around it open, which it fills as an
 -- object does.
 pub data LeavesOpen (bytes : List ℕ) : List Bracket → List Token → Type 0 where
   none : (objects : List Object) (tokens : List Token) → WritesOut bytes objects tokens
       → LeavesOpen bytes [] tokens
   inside : (outer brackets : List Bracket) (expects : Expects) (opening : Token)
-      (front within tokens : List Token)
-      → LeavesOpen bytes outer front → is_key_due outer ≡ false → length outer < deepest
+      (prefix within tokens : List Token)
+      → LeavesOpen bytes outer prefix → is_key_due outer ≡ false → length outer < deepest
       → StandsIn bytes expects (suc (length outer)) opening within
       → brackets ≡ record { at = opening.at; expects = expects } ∷ after_object outer
-      → tokens ≡ front ++ opening ∷ within → LeavesOpen bytes brackets tokens
+      → tokens ≡ prefix ++ opening ∷ within → LeavesOpen bytes brackets tokens
 
 -- with some further tokens these write objects out
 abbrev pub CanWriteOut : List ℕ → List Token → Type 0
@@ -106,15 +106,15 @@ pub data HasFault (kind : TokenKind) (text : List ℕ) (brackets : List Bracket)
 -- that it has among the
 -- brackets that are left open before it.
 pub record IsFirstMisplaced (bytes : List ℕ) (tokens : List Token) (fault : JobFault) : Type 0 where
-  pub front : List Token
+  pub prefix : List Token
   pub token : Token
-  pub behind : List Token
+  pub suffix : List Token
   pub brackets : List Bracket
-  pub whole : tokens ≡ front ++ token ∷ behind
-  pub before : CanWriteOut bytes front
-  pub after : CanWriteOut bytes (front ++ token ∷ []) → ⊥
+  pub whole : tokens ≡ prefix ++ token ∷ suffix
+  pub before : CanWriteOut bytes prefix
+  pub after : CanWriteOut bytes (prefix ++ token ∷ []) → ⊥
   pub place : fault.at ≡ token.at
-  pub open_before : LeavesOpen bytes brackets front
+  pub open_before : LeavesOpen bytes brackets prefix
   pub kinded : HasFault token.kind (spelling bytes token) brackets fault.kind
 
 -- The tokens end within a bracket, the innermost of which is at the fault.

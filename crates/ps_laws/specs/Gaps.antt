@@ -3,7 +3,7 @@ use Rattle.std.specs.Prelude.{◌≡◌, ◌⊎◌, ℕ, true, false, List, [], 
 use Rattle.std.specs.List.{list_all}
 use Rattle.ps_tokens.specs.Bytes.{is_whitespace, is_in_comment}
 
--- Whitespace, and whole comments: a `%`, bytes that end no line, and the line end behind them.
+-- Whitespace, and whole comments: a `%`, bytes that end no line, and the line end after them.
 pub data IsGap : List ℕ → Type 0 where
   nothing : IsGap []
   blank : (b : ℕ) (rest : List ℕ) → is_whitespace b ≡ true → IsGap rest → IsGap (b ∷ rest)

@@ -19,7 +19,7 @@ pub data IsSign : List ℕ → Type 0 where
 
 -- Digits, digits and a point, digits, a point and digits, or a point and digits: the text, the
 -- digits before the point
--- and those behind it.
+-- and those after it.
 pub data AreDigits : List ℕ → List ℕ → List ℕ → Type 0 where
   whole_alone : (whole : List ℕ) → list_all is_digit whole ≡ true → 0 < length whole
       → AreDigits whole whole []
@@ -55,7 +55,7 @@ pub record IsWord (text : List ℕ) : Type 0 where
   pub regular : list_all is_regular text ≡ true
   pub no_number : begins_like_number text ≡ false
 
--- A name behind a `/`, empty or of regular bytes.
+-- A name after a `/`, empty or of regular bytes.
 pub record IsName (text : List ℕ) : Type 0 where
   pub name : List ℕ
   pub regular : list_all is_regular name ≡ true

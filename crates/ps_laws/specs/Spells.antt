@@ -12,8 +12,8 @@ use Rattle.ps_tokens.specs.Bytes.{is_whitespace, is_regular, first_passes, begin
 use Rattle.ps_laws.specs.Gaps.{IsGap, IsEnd}
 use Rattle.ps_laws.specs.Shapes.{IsTooLarge, IsToken}
 
--- What may stand directly behind a token: a number and a word are whole runs of regular bytes,
--- and no `/` stands behind
+-- What may stand directly after a token: a number and a word are whole runs of regular bytes,
+-- and no `/` stands after
 -- a `/`.
 abbrev pub MayFollow : TokenKind → List ℕ → List ℕ → Type 0
 MayFollow OpenDict text after = Unit {0}
@@ -25,7 +25,7 @@ MayFollow Word text after = first_passes is_regular after ≡ false
 MayFollow (Number value) text after = first_passes is_regular after ≡ false
 MayFollow Text text after = Unit {0}
 
--- no front of these bytes that is a token is longer
+-- no prefix of these bytes that is a token is longer
 abbrev pub NoneIsLonger : ℕ → List ℕ → Type 0
 NoneIsLonger n bytes = (kind : TokenKind) (text after : List ℕ) → IsToken kind text
     → bytes ≡ text ++ after → length text ≤ n
@@ -36,7 +36,7 @@ pub record Stands (kind : TokenKind) (text after : List ℕ) : Type 0 where
   pub longest : NoneIsLonger (length text) (text ++ after)
   pub followed : MayFollow kind text after
 
--- the first of the tokens, behind a gap
+-- the first of the tokens, after a gap
 pub record SpellsFirst (at : ℕ) (bytes : List ℕ) (token : Token) (after : List ℕ) : Type 0 where
   pub gap : List ℕ
   pub text : List ℕ
@@ -54,7 +54,7 @@ SpellsUntil at bytes [] end rest =
 SpellsUntil at bytes (token ∷ tokens) end rest = (after : List ℕ) × SpellsFirst at bytes token after
     × SpellsUntil (token.at + token.len) after tokens end rest
 
--- A job's bytes spell these tokens: nothing is left behind them but the job's end.
+-- A job's bytes spell these tokens: nothing is left after them but the job's end.
 pub record Spells (bytes : List ℕ) (tokens : List Token) : Type 0 where
   pub end : ℕ
   pub rest : List ℕ

@@ -52,7 +52,7 @@ IsPlain depth (Operator name) = depth ≡ 0
 IsPlain depth Array = ⊥
 IsPlain depth Dict = ⊥
 
--- One object with all that stands within it; objects one behind the other; or entries of a
+-- One object with all that stands within it; objects one after the other; or entries of a
 -- dictionary.
 pub data Part : Type 0 where
   whole : Part
@@ -82,16 +82,16 @@ pub data Writes (bytes : List ℕ) : Part → ℕ → List Object → List Token
       → tokens ≡ opening ∷ (between ++ closing ∷ [])
       → Writes bytes whole depth (object ∷ inner) tokens
   no_item : (depth : ℕ) → Writes bytes items depth [] []
-  next_item : (depth : ℕ) (first rest objects : List Object) (front behind tokens : List Token)
-      → Writes bytes whole depth first front → Writes bytes items depth rest behind
-      → objects ≡ first ++ rest → tokens ≡ front ++ behind
+  next_item : (depth : ℕ) (first rest objects : List Object) (prefix suffix tokens : List Token)
+      → Writes bytes whole depth first prefix → Writes bytes items depth rest suffix
+      → objects ≡ first ++ rest → tokens ≡ prefix ++ suffix
       → Writes bytes items depth objects tokens
   no_entry : (depth : ℕ) → Writes bytes entries depth [] []
   next_entry : (depth : ℕ) (key : Object) (token : Token) (value rest objects : List Object)
-      (front behind tokens : List Token)
-      → IsLiteral key.body → Begins bytes key token 0 → Writes bytes whole depth value front
-      → Writes bytes entries depth rest behind
-      → objects ≡ key ∷ (value ++ rest) → tokens ≡ token ∷ (front ++ behind)
+      (prefix suffix tokens : List Token)
+      → IsLiteral key.body → Begins bytes key token 0 → Writes bytes whole depth value prefix
+      → Writes bytes entries depth rest suffix
+      → objects ≡ key ∷ (value ++ rest) → tokens ≡ token ∷ (prefix ++ suffix)
       → Writes bytes entries depth objects tokens
 
 -- a job's tokens write out these objects

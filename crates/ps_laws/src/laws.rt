@@ -47,7 +47,7 @@ pub fn where_none_stands_is_fault()
 {}
 
 /// The bytes before a fault spell tokens by themselves.
-pub fn front_of_fault_is_spelled()
+pub fn prefix_of_fault_is_spelled()
     ensures { (bytes : List ℕ) (fault : JobFault) → tokens_of bytes ≡ Err fault
         → (tokens : List Token) × Spells (take fault.at bytes) tokens }
 {}
@@ -70,7 +70,7 @@ pub fn one_object_list()
         → WritesOut bytes a tokens → WritesOut bytes b tokens → a ≡ b }
 {}
 
-/// Written out in order, each closing token behind the last object within its bracket, the objects that are read give the
+/// Written out in order, each closing token after the last object within its bracket, the objects that are read give the
 /// tokens: their kinds, and the offsets and the meanings of those that begin objects. They are nested as a job's objects are.
 pub fn objects_write_their_tokens()
     ensures kinds { (bytes : List ℕ) (tokens : List Token) (objects : List Object)

@@ -41,15 +41,15 @@ before-put a name place (e ∷ es) lt all =
 pub same_names : (a b : List ℕ) → slice_cmp nat_cmp a b ≡ Equal → a ≡ b
 same_names a b tied = let test : bytes_eq a b ≡ true = sym (is_eq-slice_cmp a b) ∙ ap is_eq tied in grind (arith, bytes_eq-Decides)
 
-behind : (a b : List ℕ) → slice_cmp nat_cmp a b ≡ Greater → IsBefore b a
-behind a b over = nat_list_cmp_total.antisymm b a ∙ ap ordering_reverse over
+suffix : (a b : List ℕ) → slice_cmp nat_cmp a b ≡ Greater → IsBefore b a
+suffix a b over = nat_list_cmp_total.antisymm b a ∙ ap ordering_reverse over
 
 put_by : (o : Ordering) (objects : List Object) (name : List ℕ) (place : ℕ) (e : List ℕ × ℕ) (es rest : List (List ℕ × ℕ)) → slice_cmp nat_cmp name e.0 ≡ o → name ≡ name_of (slice_get objects place)
     → AreKeys objects (e ∷ es) → AreKeys objects rest → IsBeforeAll e.0 es → (IsBefore e.0 name → IsBeforeAll e.0 rest)
     → AreKeys objects (match_ordering o ((name, place) ∷ e ∷ es) ((e.0, place) ∷ es) (e ∷ rest))
 put_by Less objects name place e es rest is named keys more above follows = (named, (is, before-then name e.0 es is above), keys)
 put_by Equal objects name place e es rest is named keys more above follows = (sym (same_names name e.0 is) ∙ named, above, keys.2)
-put_by Greater objects name place e es rest is named keys more above follows = (keys.0, follows (behind name e.0 is), more)
+put_by Greater objects name place e es rest is named keys more above follows = (keys.0, follows (suffix name e.0 is), more)
 
 put-keys : (objects : List Object) (name : List ℕ) (place : ℕ) (es : List (List ℕ × ℕ)) → name ≡ name_of (slice_get objects place) → AreKeys objects es → AreKeys objects (insert_entry (slice_cmp nat_cmp) es name place)
 put-keys objects name place [] named keys = (named, tt, tt)
@@ -69,16 +69,16 @@ places_of es = map (λ e. e.1) es
 abbrev pub GivesOne : {X : Type 0} → (X → List ℕ) → List ℕ → List X → Type 0
 GivesOne {X} name under given = (given ≡ []) ⊎ ((x : X) × (given ≡ x ∷ []) × (name x ≡ under))
 
-all-behind : {X : Type 0} (name : X → List ℕ) (a under : List ℕ) (given rest : List X) → GivesOne name under given → IsBefore a under → All (IsBefore a) (map name rest) → All (IsBefore a) (map name (given ++ rest))
-all-behind {X} name a under given rest (inl none) lt all = subst (λ (g : List X). All (IsBefore a) (map name (g ++ rest))) (sym none) all
-all-behind {X} name a under given rest (inr one) lt all =
+all-suffix : {X : Type 0} (name : X → List ℕ) (a under : List ℕ) (given rest : List X) → GivesOne name under given → IsBefore a under → All (IsBefore a) (map name rest) → All (IsBefore a) (map name (given ++ rest))
+all-suffix {X} name a under given rest (inl none) lt all = subst (λ (g : List X). All (IsBefore a) (map name (g ++ rest))) (sym none) all
+all-suffix {X} name a under given rest (inr one) lt all =
     subst (λ (g : List X). All (IsBefore a) (map name (g ++ rest))) (sym one.1) (All-cons (IsBefore a) (name one.0) (map name rest) (ap (slice_cmp nat_cmp a) one.2 ∙ lt) all)
 
 all-before : {X : Type 0} (objects : List Object) (name : X → List ℕ) (give : ℕ → List X) → ((key : ℕ) → GivesOne name (name_of (slice_get objects key)) (give key))
     → (a : List ℕ) (es : List (List ℕ × ℕ)) → IsBeforeAll a es → AreKeys objects es → All (IsBefore a) (map name (flat_map give (places_of es)))
 all-before objects name give gives a [] above keys = All-nil (IsBefore a)
 all-before objects name give gives a (e ∷ es) above keys =
-    all-behind name a (name_of (slice_get objects e.1)) (give e.1) (flat_map give (places_of es)) (gives e.1) (ap (slice_cmp nat_cmp a) (sym keys.0) ∙ above.0) (all-before objects name give gives a es above.1 keys.2)
+    all-suffix name a (name_of (slice_get objects e.1)) (give e.1) (flat_map give (places_of es)) (gives e.1) (ap (slice_cmp nat_cmp a) (sym keys.0) ∙ above.0) (all-before objects name give gives a es above.1 keys.2)
 
 ascend-one : {X : Type 0} (name : X → List ℕ) (under : List ℕ) (given rest : List X) → GivesOne name under given → All (IsBefore under) (map name rest) → Ascend (map name rest) → Ascend (map name (given ++ rest))
 ascend-one {X} name under given rest (inl none) all ascend = subst (λ (g : List X). Ascend (map name (g ++ rest))) (sym none) ascend

@@ -24,14 +24,14 @@ text_end-balanced (escaped b c rest is balanced) depth at after =
     let e : at + 1 + 1 + length rest ≡ at + suc (suc (length rest)) = omega arith in
     let test : eqb b 92 ≡ true = eq-eqb b 92 is in
     rw test (text_end-balanced balanced depth (at + 1 + 1) after ∙ ap (λ p. text_end false depth p after) e)
-text_end-balanced (nested inner rest bytes in_it behind is) depth at after =
+text_end-balanced (nested inner rest bytes in_it suffix is) depth at after =
     let P : List ℕ → Type 0 = λ bs. text_end false depth at (bs ++ after) ≡ text_end false depth (at + length bs) after in
     let e : at + 1 + length inner + 1 + length rest ≡ at + suc (length (inner ++ 41 ∷ rest)) = omega (arith, length-append inner (41 ∷ rest)) in
     subst P (sym is)
     (ap (text_end false (depth + 1) (at + 1)) (append_assoc inner (41 ∷ rest) after)
     ∙ text_end-balanced in_it (depth + 1) (at + 1) (41 ∷ (rest ++ after))
     ∙ text_end-closing depth (at + 1 + length inner) (rest ++ after)
-    ∙ text_end-balanced behind depth (at + 1 + length inner + 1) after
+    ∙ text_end-balanced suffix depth (at + 1 + length inner + 1) after
     ∙ ap (λ p. text_end false depth p after) e)
 
 -- a string that is balanced up to its closing parenthesis ends there
@@ -42,29 +42,29 @@ balanced_text inner after balanced =
 
 -- bytes that close so many parentheses more than they open, the last of them with the last byte
 abbrev IsClosing : ℕ → List ℕ → Type 0
-IsClosing zero front = ClosesText front
-IsClosing (suc depth) front = (inner : List ℕ) × (rest : List ℕ) × IsBalanced inner × IsClosing depth rest × (front ≡ inner ++ 41 ∷ rest)
+IsClosing zero prefix = ClosesText prefix
+IsClosing (suc depth) prefix = (inner : List ℕ) × (rest : List ℕ) × IsBalanced inner × IsClosing depth rest × (prefix ≡ inner ++ 41 ∷ rest)
 
--- a front of the bytes is such, and ends at n
+-- a prefix of the bytes is such, and ends at n
 record Ends (depth at n : ℕ) (bytes : List ℕ) : Type 0 where
-  front : List ℕ
+  prefix : List ℕ
   after : List ℕ
-  whole : bytes ≡ front ++ after
-  place : n ≡ at + length front
-  closes : IsClosing depth front
+  whole : bytes ≡ prefix ++ after
+  place : n ≡ at + length prefix
+  closes : IsClosing depth prefix
 
-closing-front : (depth : ℕ) (front : List ℕ) (add : List ℕ → List ℕ) → ((xs ys : List ℕ) → add (xs ++ ys) ≡ add xs ++ ys) → ((xs : List ℕ) → IsBalanced xs → IsBalanced (add xs)) → IsClosing depth front → IsClosing depth (add front)
-closing-front zero front add through keeps c = (add c.0, keeps c.0 c.1, ap add c.2 ∙ through c.0 (41 ∷ []))
-closing-front (suc depth) front add through keeps c = (add c.0, c.1, keeps c.0 c.2, c.3, ap add c.4 ∙ through c.0 (41 ∷ c.1))
+closing-prefix : (depth : ℕ) (prefix : List ℕ) (add : List ℕ → List ℕ) → ((xs ys : List ℕ) → add (xs ++ ys) ≡ add xs ++ ys) → ((xs : List ℕ) → IsBalanced xs → IsBalanced (add xs)) → IsClosing depth prefix → IsClosing depth (add prefix)
+closing-prefix zero prefix add through keeps c = (add c.0, keeps c.0 c.1, ap add c.2 ∙ through c.0 (41 ∷ []))
+closing-prefix (suc depth) prefix add through keeps c = (add c.0, c.1, keeps c.0 c.2, c.3, ap add c.4 ∙ through c.0 (41 ∷ c.1))
 
-closing-nested : (depth : ℕ) (front : List ℕ) → IsClosing (suc depth) front → IsClosing depth (40 ∷ front)
-closing-nested zero front c =
+closing-nested : (depth : ℕ) (prefix : List ℕ) → IsClosing (suc depth) prefix → IsClosing depth (40 ∷ prefix)
+closing-nested zero prefix c =
     let d = c.3 in (
       40 ∷ (c.0 ++ 41 ∷ d.0),
       nested c.0 d.0 (40 ∷ (c.0 ++ 41 ∷ d.0)) c.2 d.1 refl,
       ap (λ xs. 40 ∷ xs) (c.4 ∙ ap (λ r. c.0 ++ 41 ∷ r) d.2 ∙ sym (append_assoc c.0 (41 ∷ d.0) (41 ∷ []))),
     )
-closing-nested (suc depth) front c =
+closing-nested (suc depth) prefix c =
     let d = c.3 in (
       40 ∷ (c.0 ++ 41 ∷ d.0),
       d.1,
@@ -73,16 +73,16 @@ closing-nested (suc depth) front c =
       ap (λ xs. 40 ∷ xs) (c.4 ∙ ap (λ r. c.0 ++ 41 ∷ r) d.4 ∙ sym (append_assoc c.0 (41 ∷ d.0) (41 ∷ d.1))),
     )
 
-ends-more : (depth at n : ℕ) (b : ℕ) (bytes : List ℕ) (e : Ends depth (at + 1) n bytes) (new : ℕ) → IsClosing new (b ∷ e.front) → Ends new at n (b ∷ bytes)
+ends-more : (depth at n : ℕ) (b : ℕ) (bytes : List ℕ) (e : Ends depth (at + 1) n bytes) (new : ℕ) → IsClosing new (b ∷ e.prefix) → Ends new at n (b ∷ bytes)
 ends-more depth at n b bytes e new closes = record {
-  front = b ∷ e.front;
+  prefix = b ∷ e.prefix;
   after = e.after;
   whole = ap (λ xs. b ∷ xs) e.whole;
   place = omega (arith, e.place);
   closes = closes;
 }
 
--- the same behind a backslash, which takes the first byte with it
+-- the same after a backslash, which takes the first byte with it
 abbrev EndsIf : Bool → ℕ → ℕ → ℕ → List ℕ → Type 0
 EndsIf false depth at n bytes = Ends depth at n bytes
 EndsIf true depth at n bytes = (c : ℕ) × (rest : List ℕ) × (bytes ≡ c ∷ rest) × Ends depth (at + 1) n rest
@@ -91,24 +91,24 @@ ends-escaped : (depth at n b : ℕ) (bytes : List ℕ) → b ≡ 92 → EndsIf t
 ends-escaped depth at n b bytes is r =
     let e = r.3 in
     record {
-      front = b ∷ r.0 ∷ e.front;
+      prefix = b ∷ r.0 ∷ e.prefix;
       after = e.after;
       whole = ap (λ xs. b ∷ xs) (r.2 ∙ ap (λ xs. r.0 ∷ xs) e.whole);
       place = omega (arith, e.place);
-      closes = closing-front depth e.front (λ xs. b ∷ r.0 ∷ xs) (λ _ _. refl) (λ xs h. escaped b r.0 xs is h) e.closes;
+      closes = closing-prefix depth e.prefix (λ xs. b ∷ r.0 ∷ xs) (λ _ _. refl) (λ xs h. escaped b r.0 xs is h) e.closes;
     }
 
 ends-nested : (depth at n b : ℕ) (bytes : List ℕ) → b ≡ 40 → Ends (depth + 1) (at + 1) n bytes → Ends depth at n (b ∷ bytes)
 ends-nested depth at n b bytes is e =
-    let more : IsClosing (suc depth) e.front = subst (λ d. IsClosing d e.front) (add-one depth) e.closes in
-    ends-more (depth + 1) at n b bytes e depth (subst (λ x. IsClosing depth (x ∷ e.front)) (sym is) (closing-nested depth e.front more))
+    let more : IsClosing (suc depth) e.prefix = subst (λ d. IsClosing d e.prefix) (add-one depth) e.closes in
+    ends-more (depth + 1) at n b bytes e depth (subst (λ x. IsClosing depth (x ∷ e.prefix)) (sym is) (closing-nested depth e.prefix more))
 
 ends-plain : (depth at n b : ℕ) (bytes : List ℕ) → is_special b ≡ false → Ends depth (at + 1) n bytes → Ends depth at n (b ∷ bytes)
-ends-plain depth at n b bytes is e = ends-more depth at n b bytes e depth (closing-front depth e.front (λ xs. b ∷ xs) (λ _ _. refl) (λ xs h. plain b xs is h) e.closes)
+ends-plain depth at n b bytes is e = ends-more depth at n b bytes e depth (closing-prefix depth e.prefix (λ xs. b ∷ xs) (λ _ _. refl) (λ xs h. plain b xs is h) e.closes)
 
 ends-here : (at n b : ℕ) (bytes : List ℕ) → b ≡ 41 → n ≡ at + 1 → Ends 0 at n (b ∷ bytes)
 ends-here at n b bytes is place = record {
-  front = b ∷ [];
+  prefix = b ∷ [];
   after = bytes;
   whole = refl;
   place = place;
@@ -116,7 +116,7 @@ ends-here at n b bytes is place = record {
 }
 
 ends-closing : (depth at n b : ℕ) (bytes : List ℕ) → b ≡ 41 → Ends depth (at + 1) n bytes → Ends (suc depth) at n (b ∷ bytes)
-ends-closing depth at n b bytes is e = ends-more depth at n b bytes e (suc depth) ([], e.front, nothing, e.closes, ap (λ x. x ∷ e.front) is)
+ends-closing depth at n b bytes is e = ends-more depth at n b bytes e (suc depth) ([], e.prefix, nothing, e.closes, ap (λ x. x ∷ e.prefix) is)
 
 closed_at : (depth at n b : ℕ) (bytes : List ℕ) → b ≡ 41 → text_end false depth at (b ∷ bytes) ≡ Some n → ((d : ℕ) → text_end false d (at + 1) bytes ≡ Some n → Ends d (at + 1) n bytes) → Ends depth at n (b ∷ bytes)
 closed_at zero at n b bytes is e rest = ends-here at n b bytes is (sym (same_Some (at + 1) n (ap (λ x. text_end false 0 at (x ∷ bytes)) (sym is) ∙ e)))
@@ -124,7 +124,7 @@ closed_at (suc d) at n b bytes is e rest =
     ends-closing d at n b bytes is
     (rest d (sym (text_end-closing d at bytes) ∙ ap (λ k. text_end false k at (41 ∷ bytes)) (add-one d) ∙ ap (λ x. text_end false (suc d) at (x ∷ bytes)) (sym is) ∙ e))
 
-text_ends : (behind : Bool) (depth at n : ℕ) (bytes : List ℕ) → text_end behind depth at bytes ≡ Some n → EndsIf behind depth at n bytes
+text_ends : (suffix : Bool) (depth at n : ℕ) (bytes : List ℕ) → text_end suffix depth at bytes ≡ Some n → EndsIf suffix depth at n bytes
 text_ends false depth at n [] is = cc
 text_ends true depth at n [] is = cc
 text_ends true depth at n (c ∷ bytes) is = (c, bytes, refl, text_ends false depth (at + 1) n bytes is)

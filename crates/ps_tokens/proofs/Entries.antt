@@ -26,21 +26,21 @@ pub keys_from-end : (place : ℕ) (objects : List Object) → length objects ≡
 keys_from-end place [] none = refl
 keys_from-end place (o ∷ os) none = absurd (omega arith)
 
--- a key, and then the entries behind its own; the place of these is told by how many objects are left
-pub keys_from-entry : (end : ℕ) (rest behind : List Object) → 0 < length rest → length rest ≤ end → behind ≡ drop (2 + inside_of (slice_get rest 1)) rest
-    → keys_from (end - length rest) 0 rest ≡ (end - length rest) ∷ keys_from (end - length behind) 0 behind
-keys_from-entry end [] behind some fits is = absurd (omega arith)
-keys_from-entry end (key ∷ os) behind some fits is =
+-- a key, and then the entries after its own; the place of these is told by how many objects are left
+pub keys_from-entry : (end : ℕ) (rest suffix : List Object) → 0 < length rest → length rest ≤ end → suffix ≡ drop (2 + inside_of (slice_get rest 1)) rest
+    → keys_from (end - length rest) 0 rest ≡ (end - length rest) ∷ keys_from (end - length suffix) 0 suffix
+keys_from-entry end [] suffix some fits is = absurd (omega arith)
+keys_from-entry end (key ∷ os) suffix some fits is =
     let n = 1 + inside_of (slice_get os 0) in
     let two : 2 + inside_of (slice_get os 0) ≡ suc n = omega arith in
-    let rest : behind ≡ drop n os = is ∙ ap (λ k. drop k (key ∷ os)) two in
-    let left : length behind ≡ length os - n = ap length rest ∙ length-drop n os in
+    let rest : suffix ≡ drop n os = is ∙ ap (λ k. drop k (key ∷ os)) two in
+    let left : length suffix ≡ length os - n = ap length rest ∙ length-drop n os in
     ap (λ ks. (end - suc (length os)) ∷ ks)
     (keys_from-before (end - suc (length os) + 1) n os
     ∙ ap (keys_from (end - suc (length os) + 1 + n) 0) (sym rest)
     ∙ ⊎_elim
-    (λ lt. let e : end - suc (length os) + 1 + n ≡ end - length behind = omega arith in ap (λ p. keys_from p 0 behind) e)
-    (λ le. let none : length behind ≡ 0 = omega arith in keys_from-end _ behind none ∙ sym (keys_from-end _ behind none))
+    (λ lt. let e : end - suc (length os) + 1 + n ≡ end - length suffix = omega arith in ap (λ p. keys_from p 0 suffix) e)
+    (λ le. let none : length suffix ≡ 0 = omega arith in keys_from-end _ suffix none ∙ sym (keys_from-end _ suffix none))
     (cases_lt n (length os)))
 
 objects_in-length : (bytes : List ℕ) (tokens : List Token) → length (objects_in bytes tokens) ≤ length tokens

@@ -1,4 +1,4 @@
--- What a call gives that answers as a definition does, unless memory is wanting.
+-- What a call gives that answers as a definition does, unless memory runs out.
 use Rattle.std.proofs.Common.{◌≡◌, Result, Ok, Err, IfOk}
 use Rattle.ps_tokens.specs.declared.faults.JobFault.{JobFault}
 use Rattle.ps_tokens.specs.declared.faults.JobRefusal.{JobRefusal}

@@ -3,7 +3,7 @@ pub mod Balancing
 pub mod Completing
 pub mod Counting
 pub mod Entries
-pub mod Fronts
+pub mod Prefixes
 pub mod Giving
 pub mod Judged
 pub mod Judgements

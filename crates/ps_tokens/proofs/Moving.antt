@@ -43,7 +43,7 @@ tokens_then-nothing : (more : Result (List Token) JobFault) → tokens_then (Ok 
 tokens_then-nothing (Ok tokens) = refl
 tokens_then-nothing (Err fault) = refl
 
--- blank bytes at the front
+-- blank bytes at the beginning
 blank-further_on : (at len : ℕ) (bytes rest : List ℕ) → 0 < length bytes → 1 ≤ len → piece_at (get_or bytes 0 0) (drop 1 bytes) ≡ Blank len → drop len bytes ≡ rest
     → tokens_from at 0 bytes ≡ all_further_on len (tokens_from at 0 rest)
 blank-further_on at len bytes rest some one is left =
@@ -72,7 +72,7 @@ piece_at-comment : (bytes : List ℕ) → piece_at 37 bytes ≡ Blank (1 + prefi
 unfolding piece_at mark_piece is_whitespace is_regular
 piece_at-comment bytes = refl
 
--- a comment more, and the line end behind it
+-- a comment more, and the line end after it
 pub comment-further_on : (at ending : ℕ) (text bytes : List ℕ) → list_all is_in_comment text ≡ true → is_in_comment ending ≡ false → is_whitespace ending ≡ true
     → tokens_from at 0 (37 ∷ (text ++ ending ∷ bytes)) ≡ all_further_on (length text + 2) (tokens_from at 0 bytes)
 comment-further_on at ending text bytes all ends blank =

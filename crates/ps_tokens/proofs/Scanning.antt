@@ -19,7 +19,7 @@ tokens_from-within at (suc k) (b ∷ bs) =
     let e : at + 1 + k ≡ at + suc k = omega arith in
     tokens_from-within (at + 1) k bs ∙ ap (λ n. tokens_from n 0 (drop k bs)) e
 
--- the piece at the front, and then what stands behind it
+-- the piece at the beginning, and then what stands after it
 pub tokens_from-piece : (at : ℕ) (bytes : List ℕ) (piece : Piece) → 0 < length bytes → piece_at (get_or bytes 0 0) (drop 1 bytes) ≡ piece → 1 ≤ piece_len piece
     → tokens_from at 0 bytes ≡ tokens_then (piece_tokens at piece) (tokens_from (at + piece_len piece) 0 (drop (piece_len piece) bytes))
 unfolding tokens_from

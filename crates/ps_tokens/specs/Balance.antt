@@ -14,12 +14,12 @@ pub data IsBalanced : List ℕ → Type 0 where
   nested : (inner rest bytes : List ℕ) → IsBalanced inner → IsBalanced rest
       → bytes ≡ 40 ∷ (inner ++ 41 ∷ rest) → IsBalanced bytes
 
--- the bytes of a string behind its first parenthesis: what may stand in it, and the parenthesis
+-- the bytes of a string after its first parenthesis: what may stand in it, and the parenthesis
 -- that closes it
 abbrev pub ClosesText : List ℕ → Type 0
 ClosesText bytes = (inner : List ℕ) × IsBalanced inner × (bytes ≡ inner ++ 41 ∷ [])
 
--- the bytes behind a string's first parenthesis begin so, and the whole string has n bytes
+-- the bytes after a string's first parenthesis begin so, and the whole string has n bytes
 abbrev pub Closes : List ℕ → ℕ → Type 0
 Closes bytes n = (inner : List ℕ) × (after : List ℕ) × IsBalanced inner
     × (bytes ≡ inner ++ 41 ∷ after) × (n ≡ length inner + 2)

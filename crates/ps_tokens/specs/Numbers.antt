@@ -13,25 +13,25 @@ unsigned run = if begins_with 43 run || begins_with 45 run then drop 1 run else 
 abbrev pub whole_digits : List ℕ → List ℕ
 whole_digits run = take_while is_digit (unsigned run)
 
--- what stands behind those digits
-abbrev pub behind_whole : List ℕ → List ℕ
-behind_whole run = drop (prefix_len is_digit (unsigned run)) (unsigned run)
+-- what stands after those digits
+abbrev pub after_whole : List ℕ → List ℕ
+after_whole run = drop (prefix_len is_digit (unsigned run)) (unsigned run)
 
--- what stands behind the point
+-- what stands after the point
 abbrev pub fraction_digits : List ℕ → List ℕ
-fraction_digits run = drop 1 (behind_whole run)
+fraction_digits run = drop 1 (after_whole run)
 
 -- whether these are digits, or digits and a point, or digits, a point and digits, or a point and
 -- digits
 abbrev pub is_unsigned_number : List ℕ → List ℕ → Bool
-is_unsigned_number whole behind =
-    (nat_lt 0 (length whole) && (length behind == 0))
-    || (begins_with 46 behind && list_all is_digit (drop 1 behind)
-    && nat_lt 1 (length whole + length behind))
+is_unsigned_number whole suffix =
+    (nat_lt 0 (length whole) && (length suffix == 0))
+    || (begins_with 46 suffix && list_all is_digit (drop 1 suffix)
+    && nat_lt 1 (length whole + length suffix))
 
--- whether the run is a number: such digits, behind a sign or none
+-- whether the run is a number: such digits, after a sign or none
 abbrev pub is_number : List ℕ → Bool
-is_number run = is_unsigned_number (whole_digits run) (behind_whole run)
+is_number run = is_unsigned_number (whole_digits run) (after_whole run)
 
 -- whether the run begins with a digit, a sign or a point
 abbrev pub begins_like_number : List ℕ → Bool
@@ -45,7 +45,7 @@ decimal = fold (λ n d. 10 * n + (d - 48)) 0
 abbrev pub digit_at : List ℕ → ℕ → ℕ
 digit_at digits k = slice_index_or digits k 48 - 48
 
--- the first four digits behind the point, filled with zeros
+-- the first four digits after the point, filled with zeros
 abbrev pub fraction_of : List ℕ → ℕ
 fraction_of digits =
     1000 * digit_at digits 0 + 100 * digit_at digits 1 + 10 * digit_at digits 2 + digit_at digits 3

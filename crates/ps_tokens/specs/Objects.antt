@@ -48,7 +48,7 @@ count_inside outside (token ∷ tokens) =
 
 -- For each bracket that these tokens leave to be closed, the innermost first, how many of their
 -- count objects stand
--- behind its closing token.
+-- after its closing token.
 abbrev pub AreEnds : List ℕ → ℕ → List Token → Type 0
 AreEnds ends count tokens =
     (outside : ℕ) → count_inside outside tokens + slice_index ends outside ≡ count
@@ -83,7 +83,7 @@ body_as kinds.Word bytes = word_body bytes
 body_as (kinds.Number n) bytes = Number n
 body_as kinds.Text bytes = Text
 
--- the object that a token begins, with those behind it up to its closing token
+-- the object that a token begins, with those after it up to its closing token
 abbrev pub object_of : List ℕ → Token → List Token → Object
 object_of bytes token tokens = record {
   at = token.at;

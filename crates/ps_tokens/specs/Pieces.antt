@@ -1,4 +1,4 @@
--- What stands at the front of bytes: whitespace or a comment, a token, or neither.
+-- What stands at the beginning of bytes: whitespace or a comment, a token, or neither.
 use Rattle.std.specs.Prelude.{ℕ, false, List, ◌∷◌, length, drop, Option, Some, None, ◌==◌, ◌+◌, ◌≤◌}
 use Rattle.std.specs.Prelude.{nat_lt, if◌then◌else◌}
 use Rattle.std.specs.List.{prefix_len, take_while}
@@ -24,7 +24,7 @@ unfoldable pub run_piece : List ℕ → Piece
 run_piece run = if is_number run then number_piece run
     else (if begins_like_number run then Broken BadToken else Spelled Word (length run))
 
--- behind `/`: a name, and no other `/` at once
+-- after `/`: a name, and no other `/` at once
 unfoldable pub literal_piece : List ℕ → Piece
 literal_piece bs =
     if begins_with 47 bs then Broken BadToken else Spelled Literal (1 + prefix_len is_regular bs)
@@ -34,7 +34,7 @@ abbrev pub ended_text : Option ℕ → Piece
 ended_text None = Broken BadToken
 ended_text (Some len) = Spelled Text len
 
--- behind `<`: another `<`, or hexadecimal digits and whitespace up to `>`
+-- after `<`: another `<`, or hexadecimal digits and whitespace up to `>`
 unfoldable pub angle_piece : List ℕ → Piece
 angle_piece bs =
     if begins_with 60 bs then Spelled OpenDict 2
@@ -54,7 +54,7 @@ mark_piece b bs =
     else (if b == 93 then Spelled CloseArray 1
     else Broken BadToken))))))
 
--- what stands at the front of b and the bytes behind it
+-- what stands at the beginning of b and the bytes after it
 unfoldable pub piece_at : ℕ → List ℕ → Piece
 piece_at b bs =
     if is_whitespace b then Blank 1

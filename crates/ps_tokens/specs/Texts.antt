@@ -2,7 +2,7 @@
 use Rattle.std.specs.Prelude.{ℕ, Bool, true, false, List, [], ◌∷◌, Option, Some, None, ◌==◌, ◌+◌}
 use Rattle.std.specs.Prelude.{◌-◌, if◌then◌else◌}
 
--- The place behind the parenthesis that closes the string, where inner parentheses balance and
+-- The place after the parenthesis that closes the string, where inner parentheses balance and
 -- `\` takes the next byte
 -- with it: `depth` inner ones are open at this place, and a `\` stands before it or not.
 abbrev pub text_end : Bool → ℕ → ℕ → List ℕ → Option ℕ

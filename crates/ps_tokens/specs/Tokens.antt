@@ -39,12 +39,12 @@ tokens_from at zero (b ∷ bs) = tokens_then (piece_tokens at (piece_at b bs))
 abbrev pub tokens_of : List ℕ → Result (List Token) JobFault
 tokens_of bytes = tokens_from 0 0 bytes
 
--- A refusal is the fault that a definition gives, or want of memory.
+-- A refusal is the fault that a definition gives, or out of memory.
 abbrev pub Fails : {X : Type 0} → JobRefusal → Result X JobFault → Type 0
 Fails refusals.OutOfMemory meant = Unit {0}
 Fails (refusals.Fault fault) meant = meant ≡ Err fault
 
--- A call gives what a definition does, unless memory is wanting.
+-- A call gives what a definition does, unless memory runs out.
 abbrev pub Gives : {X : Type 0} → Result X JobRefusal → Result X JobFault → Type 0
 Gives (Ok x) meant = meant ≡ Ok x
 Gives (Err refusal) meant = Fails refusal meant

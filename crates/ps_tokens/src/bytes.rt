@@ -52,7 +52,7 @@ fn is_in_comment(b: u8) -> bool
     !(b == 10 || b == 12 || b == 13)
 }
 
-/// How many regular bytes stand at the front.
+/// How many regular bytes stand at the beginning.
 pub fn regular_len(bytes: &[u8]) -> usize
     ensures value { result ≡ prefix_len is_regular bytes.now }
     ensures within { result ≤ length bytes.now }
@@ -60,7 +60,7 @@ pub fn regular_len(bytes: &[u8]) -> usize
     bytes.iter().take_while(|b| is_regular(**b)).count()
 }
 
-/// How many digits stand at the front.
+/// How many digits stand at the beginning.
 pub fn digits_len(bytes: &[u8]) -> usize
     ensures value { result ≡ prefix_len is_digit bytes.now }
     ensures within { result ≤ length bytes.now }
@@ -68,7 +68,7 @@ pub fn digits_len(bytes: &[u8]) -> usize
     bytes.iter().take_while(|b| is_digit(**b)).count()
 }
 
-/// How many bytes of a hexadecimal string stand at the front.
+/// How many bytes of a hexadecimal string stand at the beginning.
 pub fn hexadecimal_len(bytes: &[u8]) -> usize
     ensures value { result ≡ prefix_len is_hexadecimal bytes.now }
     ensures within { result ≤ length bytes.now }
@@ -76,7 +76,7 @@ pub fn hexadecimal_len(bytes: &[u8]) -> usize
     bytes.iter().take_while(|b| is_hexadecimal(**b)).count()
 }
 
-/// How many bytes of a comment stand at the front.
+/// How many bytes of a comment stand at the beginning.
 pub fn comment_len(bytes: &[u8]) -> usize
     ensures value { result ≡ prefix_len is_in_comment bytes.now }
     ensures within { result ≤ length bytes.now }

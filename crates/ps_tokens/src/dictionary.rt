@@ -23,7 +23,7 @@ pub fn last(objects: &ObjectList, dict: u32, key: &[u8]) -> Option<u32>
         if names(all, place, key) {
             found = Some(place as u32 + 1);
         }
-        rest = behind_entry(rest);
+        rest = after_entry(rest);
     }
     found
 }
@@ -60,7 +60,7 @@ pub fn keys(alloc: Global, objects: &ObjectList, dict: u32) -> Result<Vec<u32>, 
             Ok(()) => {}
             Err(_) => return Err(OutOfMemory),
         }
-        rest = behind_entry(rest);
+        rest = after_entry(rest);
     }
     Ok(keys)
 }
@@ -83,19 +83,19 @@ fn within(objects: &[Object], place: usize) -> &[Object]
     if place >= objects.len() {
         return &[];
     }
-    let behind = &objects[place + 1..];
-    let inside = (objects[place].inside as usize).min(behind.len());
-    &behind[..inside]
+    let suffix = &objects[place + 1..];
+    let inside = (objects[place].inside as usize).min(suffix.len());
+    &suffix[..inside]
 }
 
-// What stands behind the entry at the front: a key, its value and all that stands within the value.
-fn behind_entry(rest: &[Object]) -> &[Object]
+// What stands after the entry at the beginning: a key, its value and all that stands within the value.
+fn after_entry(rest: &[Object]) -> &[Object]
     requires { 0 < length rest.now }
     ensures value { result.now ≡ drop (2 + inside_of (slice_get rest.now 1)) rest.now }
     ensures less { length result.now < length rest.now }
 {
     match rest {
-        [_, value, behind @ ..] => &behind[(value.inside as usize).min(behind.len())..],
+        [_, value, suffix @ ..] => &suffix[(value.inside as usize).min(suffix.len())..],
         _ => &[],
     }
 }

@@ -19,13 +19,13 @@ pub fn place_moves_offsets_alone()
         → tokens_from (n + at) 0 bytes ≡ all_further_on n (tokens_from at 0 bytes) }
 {}
 
-/// A whitespace byte more before what is left changes nothing but the offsets behind it.
+/// A whitespace byte more before what is left changes nothing but the offsets after it.
 pub fn space_moves_offsets_alone()
     ensures { (at b : ℕ) (bytes : List ℕ) → is_whitespace b ≡ true
         → tokens_from at 0 (b ∷ bytes) ≡ all_further_on 1 (tokens_from at 0 bytes) }
 {}
 
-/// A comment more, with the line end behind it, before what is left changes nothing but the offsets behind it.
+/// A comment more, with the line end after it, before what is left changes nothing but the offsets after it.
 pub fn comment_moves_offsets_alone()
     ensures { (at ending : ℕ) (text bytes : List ℕ) → list_all is_in_comment text ≡ true
         → is_in_comment ending ≡ false → is_whitespace ending ≡ true

@@ -3,7 +3,7 @@ ghost use Rattle.std.specs.Bool.{OnTrue};
 ghost use Rattle.std.specs.List.{list_all};
 ghost use Rattle.ps_tokens.specs.Bytes.{begins_with, is_digit};
 ghost use Rattle.ps_tokens.specs.Limits.{largest_whole};
-ghost use Rattle.ps_tokens.specs.Numbers.{unsigned, is_unsigned_number, begins_like_number, decimal, digit_at, fraction_of, signed, whole_digits, behind_whole};
+ghost use Rattle.ps_tokens.specs.Numbers.{unsigned, is_unsigned_number, begins_like_number, decimal, digit_at, fraction_of, signed, whole_digits, after_whole};
 ghost use Rattle.ps_tokens.specs.Pieces.{IsWithin, run_piece, number_piece};
 
 use crate::bytes::{digits_len, is_digit};
@@ -53,13 +53,13 @@ fn are_digits(bytes: &[u8]) -> bool
     bytes.iter().all(|b| is_digit(*b))
 }
 
-// Whether these digits and what stands behind them are a number.
-fn is_unsigned_number(whole: &[u8], behind: &[u8]) -> bool
-    ensures { result ≡ is_unsigned_number whole.now behind.now }
+// Whether these digits and what stands after them are a number.
+fn is_unsigned_number(whole: &[u8], suffix: &[u8]) -> bool
+    ensures { result ≡ is_unsigned_number whole.now suffix.now }
 {
-    match behind {
+    match suffix {
         [] => !whole.is_empty(),
-        [b'.', fraction @ ..] => { are_digits(fraction) && whole.len() + behind.len() > 1 }
+        [b'.', fraction @ ..] => { are_digits(fraction) && whole.len() + suffix.len() > 1 }
         _ => false,
     }
 }
@@ -85,7 +85,7 @@ fn digit_at(digits: &[u8], place: usize) -> u8
     }
 }
 
-// The first four digits behind a point, filled with zeros.
+// The first four digits after a point, filled with zeros.
 fn fraction_of(digits: &[u8]) -> u32
     ensures { result ≡ fraction_of digits.now }
 {
@@ -112,9 +112,9 @@ pub fn run_piece(run: &[u8]) -> Piece
     ensures within { IsWithin result (length run.now) }
 {
     let body = unsigned(run);
-    let (whole, behind) = body.split_at(digits_len(body));
-    if is_unsigned_number(whole, behind) {
-        number_piece(run, whole, behind)
+    let (whole, suffix) = body.split_at(digits_len(body));
+    if is_unsigned_number(whole, suffix) {
+        number_piece(run, whole, suffix)
     } else if begins_like_number(run) {
         Piece::Broken(FaultKind::BadToken)
     } else {
@@ -122,12 +122,12 @@ pub fn run_piece(run: &[u8]) -> Piece
     }
 }
 
-// A number of these digits and what stands behind them.
+// A number of these digits and what stands after them.
 #[tactic(auto, unfolding(crate::specs::Pieces::number_piece))]
-fn number_piece(run: &[u8], whole: &[u8], behind: &[u8]) -> Piece
+fn number_piece(run: &[u8], whole: &[u8], suffix: &[u8]) -> Piece
     requires some { 0 < length run.now }
     requires whole_is { whole.now ≡ whole_digits run.now }
-    requires behind_is { behind.now ≡ behind_whole run.now }
+    requires after_is { suffix.now ≡ after_whole run.now }
     ensures value { result ≡ number_piece run.now }
     ensures within { IsWithin result (length run.now) }
 {
@@ -135,7 +135,7 @@ fn number_piece(run: &[u8], whole: &[u8], behind: &[u8]) -> Piece
     if value > LARGEST_WHOLE {
         return Piece::Broken(FaultKind::NumberTooLarge);
     }
-    let fraction = match behind {
+    let fraction = match suffix {
         [_, digits @ ..] => fraction_of(digits),
         [] => 0,
     };

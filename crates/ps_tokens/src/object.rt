@@ -12,7 +12,7 @@ pub enum Body {
     Null,
     /// A string, whose content nothing asks for.
     Text,
-    /// The name behind a `/`.
+    /// The name after a `/`.
     Literal(Name),
     /// A word that is neither `true` nor `false` nor `null`.
     Operator(Name),

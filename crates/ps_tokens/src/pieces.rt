@@ -19,7 +19,7 @@ pub enum Piece {
     Broken(FaultKind),
 }
 
-// What stands behind a `/`.
+// What stands after a `/`.
 #[tactic(auto, unfolding(crate::specs::Pieces::literal_piece))]
 fn literal_piece(bytes: &[u8]) -> Piece
     ensures value { result ≡ literal_piece bytes.now }
@@ -32,7 +32,7 @@ fn literal_piece(bytes: &[u8]) -> Piece
     }
 }
 
-// What stands behind a `<`.
+// What stands after a `<`.
 #[tactic(auto, unfolding(crate::specs::Pieces::angle_piece))]
 fn angle_piece(bytes: &[u8]) -> Piece
     ensures value { result ≡ angle_piece bytes.now }
@@ -49,7 +49,7 @@ fn angle_piece(bytes: &[u8]) -> Piece
     }
 }
 
-// What stands behind a `(`.
+// What stands after a `(`.
 fn text_piece(bytes: &[u8]) -> Piece
     requires { length bytes.now < 2 ^ 40 }
     ensures value { result ≡ ended_text (text_end false 0 1 bytes.now) }
@@ -86,8 +86,8 @@ fn mark_piece(first: u8, after: &[u8]) -> Piece
     }
 }
 
-/// What stands at the front of bytes that are not empty.
-#[tactic(auto, using(crate::proofs::Fronts::fronts), unfolding(crate::specs::Pieces::piece_at))]
+/// What stands at the beginning of bytes that are not empty.
+#[tactic(auto, using(crate::proofs::Prefixes::prefixes), unfolding(crate::specs::Pieces::piece_at))]
 pub fn piece_at(bytes: &[u8]) -> Piece
     requires some { 0 < length bytes.now }
     requires size { length bytes.now < 2 ^ 40 }

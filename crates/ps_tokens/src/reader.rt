@@ -44,9 +44,9 @@ fn written(alloc: Global, bytes: &[u8], tokens: &[Token]) -> Result<Vec<Object>,
     let mut ends = Vec::new(alloc);
     let mut left = tokens.len();
     while left > 0 {
-        let behind = &tokens[left..];
+        let suffix = &tokens[left..];
         left -= 1;
-        match put_token(alloc, bytes, &tokens[left], behind, &mut objects, &mut ends) {
+        match put_token(alloc, bytes, &tokens[left], suffix, &mut objects, &mut ends) {
             Ok(()) => {}
             Err(OutOfMemory) => return Err(OutOfMemory),
         }
@@ -55,24 +55,24 @@ fn written(alloc: Global, bytes: &[u8], tokens: &[Token]) -> Result<Vec<Object>,
     Ok(objects)
 }
 
-// Puts the object that a token begins behind those of the tokens behind it. For each bracket that these leave to be
+// Puts the object that a token begins after those of the tokens after it. For each bracket that these leave to be
 // closed, `ends` keeps how many objects there were at its closing token, the innermost bracket last.
 fn put_token(
     alloc: Global,
     bytes: &[u8],
     token: &Token,
-    behind: &[Token],
+    suffix: &[Token],
     objects: &mut Vec<Object>,
     ends: &mut Vec<u32>,
 ) -> Result<(), OutOfMemory>
     requires size { length objects.old.items ≤ longest_job }
-    requires so_far { objects.old.items ≡ reverse (objects_in bytes.now behind.now) }
-    requires ends_so_far { AreEnds (reverse ends.old.items) (length objects.old.items) behind.now }
+    requires so_far { objects.old.items ≡ reverse (objects_in bytes.now suffix.now) }
+    requires ends_so_far { AreEnds (reverse ends.old.items) (length objects.old.items) suffix.now }
     ensures grows { length objects.new.items ≤ length objects.old.items + 1 }
     ensures put { OnOk result
-        (objects.new.items ≡ reverse (objects_in bytes.now (token.now ∷ behind.now))) }
+        (objects.new.items ≡ reverse (objects_in bytes.now (token.now ∷ suffix.now))) }
     ensures ends_put { OnOk result
-        (AreEnds (reverse ends.new.items) (length objects.new.items) (token.now ∷ behind.now)) }
+        (AreEnds (reverse ends.new.items) (length objects.new.items) (token.now ∷ suffix.now)) }
 {
     let count = objects.len() as u32;
     if is_closing(token.kind) {
@@ -163,7 +163,7 @@ fn body_of(alloc: Global, kind: TokenKind, spelled: &[u8]) -> Result<Body, OutOf
         TokenKind::OpenArray => Ok(Body::Array),
         TokenKind::CloseDict => Ok(Body::Null),
         TokenKind::CloseArray => Ok(Body::Null),
-        TokenKind::Literal => match copied(alloc, behind_slash(spelled)) {
+        TokenKind::Literal => match copied(alloc, after_slash(spelled)) {
             Ok(name) => Ok(Body::Literal(name)),
             Err(OutOfMemory) => Err(OutOfMemory),
         },
@@ -193,7 +193,7 @@ fn word_body(alloc: Global, word: &[u8]) -> Result<Body, OutOfMemory>
 }
 
 // A literal's name.
-fn behind_slash(spelled: &[u8]) -> &[u8]
+fn after_slash(spelled: &[u8]) -> &[u8]
     ensures { result.now ≡ drop 1 spelled.now }
 {
     match spelled {

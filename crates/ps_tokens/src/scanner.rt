@@ -35,7 +35,7 @@ pub fn tokens(alloc: Global, bytes: &[u8]) -> Result<TokenList, JobRefusal>
     Ok(List::from_vec(found))
 }
 
-// Adds the token that stands at the front of the rest, if it is one, and tells how many bytes were taken.
+// Adds the token that stands at the beginning of the rest, if it is one, and tells how many bytes were taken.
 fn take_piece(found: &mut Vec<Token>, rest: &[u8], at: u32) -> Result<usize, JobRefusal>
     requires some { 0 < length rest.now }
     requires size { at + length rest.now ≤ longest_job }

@@ -1,7 +1,7 @@
 ghost use Rattle.std.specs.Prelude.{◌≡◌, ◌≤◌, ◌<◌, ◌+◌, ◌^◌, length, IfSome, false};
 ghost use Rattle.ps_tokens.specs.Texts.{text_end};
 
-/// How many bytes a string has up to and with its closing parenthesis: `bytes` are those behind the opening one.
+/// How many bytes a string has up to and with its closing parenthesis: `bytes` are those after the opening one.
 pub fn text_len(bytes: &[u8]) -> Option<usize>
     requires { length bytes.now < 2 ^ 40 }
     ensures value { result ≡ text_end false 0 1 bytes.now }

@@ -18,6 +18,6 @@ module _ {V : Type 0} {number : V → ℕ} {numbers : List V → List ℕ} (each
 
   pub part_written : (xs ys : List V) (a n : ℕ) → numbers (put_mid a n xs ys) ≡ put_mid a n (numbers xs) (numbers ys)
   part_written xs ys a n =
-      let front : map number (take a xs) ≡ take a (numbers xs) = sym (take-map number a xs) ∙ ap (take a) (each xs) in
+      let prefix : map number (take a xs) ≡ take a (numbers xs) = sym (take-map number a xs) ∙ ap (take a) (each xs) in
       let rest : map number (drop n (drop a xs)) ≡ drop n (drop a (numbers xs)) = sym (drop-map number n (drop a xs)) ∙ ap (drop n) (sym (drop-map number a xs) ∙ ap (drop a) (each xs)) in
-      sym (each (put_mid a n xs ys)) ∙ (map-append number (take a xs) (ys ++ drop n (drop a xs)) ∙ ((λ i. front i ++ map number (ys ++ drop n (drop a xs))) ∙ ap (λ (ns : List ℕ). take a (numbers xs) ++ ns) (map-append number ys (drop n (drop a xs)) ∙ (λ i. each ys i ++ rest i))))
+      sym (each (put_mid a n xs ys)) ∙ (map-append number (take a xs) (ys ++ drop n (drop a xs)) ∙ ((λ i. prefix i ++ map number (ys ++ drop n (drop a xs))) ∙ ap (λ (ns : List ℕ). take a (numbers xs) ++ ns) (map-append number ys (drop n (drop a xs)) ∙ (λ i. each ys i ++ rest i))))

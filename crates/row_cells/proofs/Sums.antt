@@ -23,17 +23,17 @@ before_here f i j (suc n) l m =
     let t : ends f j n ≡ true = le-leb _ _ (let s = sum_at_most f (suc n) i m in omega (arith, s, l)) in
     rw t (omega (arith, before_here f i j n l (omega (arith, m))))
 
-behind_here : (f : ℕ → ℕ) (i j d : ℕ) → sum_below f i ≤ j → j < sum_below f i + f i → count_below (ends f j) (i + d) ≡ i
-behind_here f i j zero l m = ap (count_below (ends f j)) (let e : i + 0 ≡ i = omega arith in e) ∙ before_here f i j i l (omega arith)
-behind_here f i j (suc d) l m =
+after_here : (f : ℕ → ℕ) (i j d : ℕ) → sum_below f i ≤ j → j < sum_below f i + f i → count_below (ends f j) (i + d) ≡ i
+after_here f i j zero l m = ap (count_below (ends f j)) (let e : i + 0 ≡ i = omega arith in e) ∙ before_here f i j i l (omega arith)
+after_here f i j (suc d) l m =
     let t : ends f j (i + d) ≡ false = lt-leb _ _ (let s = sum_at_most f i (i + d) (omega arith) in elim (cases_eq d 0) [
       | inl e ↦ (let k = ap (λ (z : ℕ). sum_below f z + f z) (let z : i + d ≡ i = omega (arith, e) in z) in omega (arith, k, m))
       | inr ne ↦ (let k = sum_at_most f (suc i) (i + d) (omega (arith, ne)) in omega (arith, k, m))
     ]) in
-    ap (count_below (ends f j)) (let e : i + suc d ≡ suc (i + d) = omega arith in e) ∙ rw t (omega (arith, behind_here f i j d l m))
+    ap (count_below (ends f j)) (let e : i + suc d ≡ suc (i + d) = omega arith in e) ∙ rw t (omega (arith, after_here f i j d l m))
 
 pub run_of-is : (f : ℕ → ℕ) (i j n : ℕ) → i < n → sum_below f i ≤ j → j < sum_below f i + f i → count_below (ends f j) n ≡ i
-run_of-is f i j n l from below = ap (count_below (ends f j)) (let e : n ≡ i + (n - i) = omega (arith, l) in e) ∙ behind_here f i j (n - i) from below
+run_of-is f i j n l from below = ap (count_below (ends f j)) (let e : n ≡ i + (n - i) = omega (arith, l) in e) ∙ after_here f i j (n - i) from below
 
 -- each place lies in a run
 pub run_of : (f : ℕ → ℕ) (j n : ℕ) → j < sum_below f n → (i : ℕ) × (i < n) × (sum_below f i ≤ j) × (j < sum_below f i + f i)

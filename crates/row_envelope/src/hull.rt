@@ -5,6 +5,7 @@ ghost use Rattle.row_envelope.specs.Envelope.{Rising};
 ghost use Rattle.row_envelope.specs.Hull.{IsStop, IsHull, IsSettled};
 ghost use Rattle.page_model.specs.Limits.{most_column, most_side};
 
+use lists::memory::filled;
 use page_model::arms::Arm;
 use page_model::parts::OutOfMemory;
 use page_model::steps::Steps;
@@ -35,17 +36,6 @@ impl Model for HullBuf {
     ghost invariant = { λ h. vec_len h.starts ≡ vec_len h.places };
 }
 
-/// So many zeros.
-fn zeros(alloc: Global, count: usize) -> Result<Vec<u32>, OutOfMemory>
-    requires { count ≤ most_column + 1 }
-    ensures { IfOk result (λ items. vec_len items ≡ count) }
-{
-    match vec![in alloc; 0; count] {
-        Ok(items) => Ok(items),
-        Err(_) => Err(OutOfMemory),
-    }
-}
-
 impl HullBuf {
     /// Room for a row of this width, which contracts see as its number of doubled columns.
     pub fn new(alloc: Global, width: u32) -> Result<HullBuf, OutOfMemory>
@@ -55,8 +45,8 @@ impl HullBuf {
     {
         let columns = 2 * width as usize - 1;
         Ok(HullBuf {
-            places: zeros(alloc, columns)?,
-            starts: zeros(alloc, columns)?,
+            places: filled(alloc, 0u32, columns)?,
+            starts: filled(alloc, 0u32, columns)?,
         })
     }
 }

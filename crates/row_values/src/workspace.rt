@@ -2,6 +2,7 @@ ghost use Rattle.std.specs.Prelude.{◌≡◌, ◌<◌, ◌-◌, ◌*◌, IfOk, 
 ghost use Rattle.page_model.specs.Page.{plates, width};
 ghost use Rattle.row_values.specs.Room.{Serves};
 
+use lists::memory::filled;
 use page_model::arms::Arm;
 use page_model::page::Page;
 use page_model::parts::OutOfMemory;
@@ -46,16 +47,6 @@ impl Model for Workspace {
     ghost invariant = { λ w. (w.spans.wide ≡ w.width) × (vec_len w.arms ≡ 2 * w.width - 1)
         × (vec_len w.columns ≡ 2 * w.width - 1) × (vec_len w.places ≡ w.width)
         × (w.hull.columns ≡ 2 * w.width - 1) × (vec_len w.tints ≡ w.plates) };
-}
-
-/// So many copies of an item.
-fn filled<T: Copy + Drop>(alloc: Global, item: T, count: usize) -> Result<Vec<T>, OutOfMemory>
-    ensures { IfOk result (λ items. vec_len items ≡ count) }
-{
-    match vec![in alloc; item; count] {
-        Ok(items) => Ok(items),
-        Err(_) => Err(OutOfMemory),
-    }
 }
 
 impl Workspace {

@@ -40,16 +40,15 @@ grouped : (a b c : ℕ) → a * b * c ≡ a * (b * c)
 grouped a b c = grind arith
 
 -- so many rows, with the least columns, have few samples
-pub rows_few : (room plates r q : ℕ) → room ≤ 2304 → plates ≤ 16 → q ≡ 160000000 / (room * plates) → r ≤ max room q → room * r * plates ≤ 160000000
-rows_few room plates r q small few e l = elim (cases_lt room r) [
+pub rows_few : (columns rows plates r q : ℕ) → columns * rows * plates ≤ 160000000 → q ≡ 160000000 / (columns * plates) → r ≤ max rows q → columns * r * plates ≤ 160000000
+rows_few columns rows plates r q least e l = elim (cases_lt rows r) [
   | inl more ↦ (let m : r ≤ q = omega (arith, l, more) in
-      let t = share 160000000 (room * plates) r (subst (λ (n : ℕ). r ≤ n) e m) in
-      let o = in_order room r plates in
+      let t = share 160000000 (columns * plates) r (subst (λ (n : ℕ). r ≤ n) e m) in
+      let o = in_order columns r plates in
       omega (arith, t, o))
-  | inr less ↦ (let m : room * r ≤ room * room = mul-le-mul (omega arith) less in
-      let t : room * r * plates ≤ room * room * plates = mul-le-mul m (omega arith) in
-      let o = least_few room plates small few in
-      omega (arith, t, o))
+  | inr less ↦ (let m : columns * r ≤ columns * rows = mul-le-mul (omega arith) less in
+      let t : columns * r * plates ≤ columns * rows * plates = mul-le-mul m (omega arith) in
+      omega (arith, t, least))
 ]
 
 -- so many columns, with these rows, have few samples

@@ -13,21 +13,23 @@ pub struct Budget {
     pub samples: u64,
 }
 
-/// How many rows a window has at most, with so much room at least in each direction.
-pub fn most_rows(room: u32, plates: u32, budget: &Budget) -> u32
-    requires some_room { 1 ≤ room }
-    requires small_room { room ≤ 2304 }
+/// How many rows a window has at most, with so many columns and rows at least.
+pub fn most_rows(columns: u32, rows: u32, plates: u32, budget: &Budget) -> u32
+    requires some_columns { 1 ≤ columns }
+    requires few_columns { columns ≤ 2304 }
+    requires few_rows { rows ≤ most_side }
     requires some_plates { 1 ≤ plates }
     requires few_plates { plates ≤ most_plates }
-    ensures room { room ≤ result }
+    requires few_samples { columns * rows * plates ≤ most_samples }
+    ensures room { rows ≤ result }
     ensures low { result ≤ most_side }
-    ensures few_samples { room * result * plates ≤ most_samples }
-    ensures budget { result ≤ max room budget.now.rows }
+    ensures few_samples { columns * result * plates ≤ most_samples }
+    ensures budget { result ≤ max rows budget.now.rows }
 {
-    let fit = MOST_SAMPLES / (u64::from(room) * u64::from(plates));
+    let fit = MOST_SAMPLES / (u64::from(columns) * u64::from(plates));
     u64::from(budget.rows.min(MOST_SIDE))
         .min(fit)
-        .max(u64::from(room)) as u32
+        .max(u64::from(rows)) as u32
 }
 
 /// How many columns a window of so many rows has at most.

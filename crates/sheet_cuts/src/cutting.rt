@@ -59,7 +59,7 @@ fn rulers_of(sheet: &PageParts, budget: &Budget) -> Rulers
     let planes = sheet.planes.as_slice();
     let plates = planes.len() as u32;
     let room = 2 * halo.max(1) + step;
-    let rows = most_rows(room, plates, budget);
+    let rows = most_rows(room, room, plates, budget);
     let columns = most_columns(room, rows, plates, budget);
     Rulers {
         across: Ruler {

@@ -2,6 +2,7 @@
 -- cores side by side are the side.
 use Rattle.std.specs.Prelude.{◌≡◌, ℕ, ◌+◌, ◌-◌, ◌*◌, ◌%◌, ◌<◌, ◌≤◌, ◌^◌, max, if◌then◌else◌, List}
 use Rattle.std.specs.Prelude.{[], ◌∷◌}
+use Rattle.std.specs.Int.{div_ceil}
 use Rattle.sheet_windows.specs.declared.spans.Ruler.{Ruler}
 use Rattle.sheet_windows.specs.declared.spans.Span.{Span}
 
@@ -13,6 +14,16 @@ pub record IsRuler (ruler : Ruler) : Type 0 where
   pub small_windows : ruler.most < 2 ^ 30
   pub some_step : 1 ≤ ruler.step
   pub room : 2 * max 1 ruler.halo + ruler.step ≤ ruler.most
+
+-- a ruler by which windows that all have as many samples have room for a whole step
+pub record IsEvenRuler (ruler : Ruler) : Type 0 where
+  pub ruler_is : IsRuler ruler
+  pub room_for_two : ruler.most < ruler.side
+      → 2 * max 1 ruler.halo + 2 * ruler.step ≤ ruler.most + 1
+
+-- the samples of a window where all have as many: the side without as many whole steps as it takes
+abbrev pub even_wide : Ruler → ℕ
+even_wide ruler = ruler.side - div_ceil (ruler.side - ruler.most) ruler.step * ruler.step
 
 -- how many samples of the side lie before the window, counted from where steps are
 abbrev pub offset : Ruler → Span → ℕ

@@ -1,8 +1,9 @@
 // How a side of a sheet is cut.
 
-ghost use Rattle.std.specs.Prelude.{◌≡◌, ◌≢◌, ℕ, ◌*◌, ◌%◌, ◌<◌, ◌≤◌, false, true, IfOk};
+ghost use Rattle.std.specs.Prelude.{◌≡◌, ◌≢◌, ℕ, ◌*◌, ◌%◌, ◌<◌, ◌≤◌, false, true, All, IfOk};
 ghost use Rattle.page_model.specs.Limits.{most_resolution, scale};
-ghost use Rattle.sheet_windows.specs.Spans.{AreSpans, IsRuler, IsSpan, IsWindow};
+ghost use Rattle.sheet_windows.specs.declared.spans.Span.{Span};
+ghost use Rattle.sheet_windows.specs.Spans.{AreSpans, IsEvenRuler, IsRuler, IsSpan, IsWindow, even_wide};
 
 use lists::names::OutOfMemory;
 use std::alloc::Global;
@@ -90,7 +91,8 @@ fn span_from_end(ruler: &Ruler, at: u32) -> Span
 fn span_of(ruler: &Ruler, at: u32, from: u32, wide: u32) -> Span
     requires ruler { IsRuler ruler.now }
     requires window { IsWindow ruler.now at from wide }
-    ensures { IsSpan ruler.now at result }
+    ensures span { IsSpan ruler.now at result }
+    ensures wide { result.wide ≡ wide }
 {
     let skip = at - from;
     let core = if from + wide < ruler.side {
@@ -115,6 +117,51 @@ pub fn spans_of(alloc: Global, ruler: &Ruler) -> Result<Vec<Span>, OutOfMemory>
     let mut done = 0;
     while done < ruler.side {
         let span = span_at(ruler, done);
+        if spans.push(span).is_err() {
+            return Err(OutOfMemory);
+        }
+        done += span.core;
+    }
+    Ok(spans)
+}
+
+/// How many samples each window of a side has where all have as many: the whole side, or at most
+/// `most`, and fewer than a step below it.
+pub fn even_wide_of(ruler: &Ruler) -> u32
+    requires { IsEvenRuler ruler.now }
+    ensures value { result ≡ even_wide ruler.now }
+    ensures some { 1 ≤ result }
+    ensures inside { result ≤ ruler.now.side }
+    ensures small { result ≤ ruler.now.most }
+{
+    let over = ruler.side.saturating_sub(ruler.most);
+    ruler.side - over.div_ceil(ruler.step) * ruler.step
+}
+
+/// The span whose core begins at that sample of the side, of a window that has as many samples as
+/// each other. The last one begins early enough for that, however long before its core that is.
+pub fn even_span_at(ruler: &Ruler, at: u32) -> Span
+    requires ruler { IsEvenRuler ruler.now }
+    requires inside { at < ruler.now.side }
+    ensures span { IsSpan ruler.now at result }
+    ensures wide { result.wide ≡ even_wide ruler.now }
+{
+    let wide = even_wide_of(ruler);
+    let near = at.saturating_sub(ruler.halo) / ruler.step * ruler.step;
+    span_of(ruler, at, near.min(ruler.side - wide), wide)
+}
+
+/// The spans of a side, from its first sample to its last, whose windows all have as many samples.
+pub fn even_spans_of(alloc: Global, ruler: &Ruler) -> Result<Vec<Span>, OutOfMemory>
+    requires { IsEvenRuler ruler.now }
+    ensures spans { IfOk result (λ spans. AreSpans ruler.now 0 spans.items ruler.now.side) }
+    ensures wide { IfOk result (λ spans. All (λ (span : Span). span.wide ≡ even_wide ruler.now)
+        spans.items) }
+{
+    let mut spans = Vec::new(alloc);
+    let mut done = 0;
+    while done < ruler.side {
+        let span = even_span_at(ruler, done);
         if spans.push(span).is_err() {
             return Err(OutOfMemory);
         }

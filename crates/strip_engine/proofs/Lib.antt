@@ -1,7 +1,3 @@
-pub mod AddedRows
-pub mod CountLemmas
-pub mod EdgeCount
-pub mod OutcomeLemmas
-pub mod StandingLemmas
 pub mod WholeLemmas
 pub mod ZoneRows
+pub mod RoomLemmas

@@ -1,23 +1,21 @@
 -- The lists of the whole page, and the rows that are taken out of them.
-use Rattle.std.proofs.Common.{◌≡◌, ℕ, ◌+◌, ◌-◌, ◌*◌, ◌/◌, ◌%◌, ◌<◌, ◌≤◌, List, length, slice_index, arith, refl, ap, sym, ◌∙◌}
+use Rattle.std.proofs.Common.{◌≡◌, ℕ, ◌+◌, ◌-◌, ◌*◌, ◌/◌, ◌%◌, ◌<◌, ◌≤◌, List, length, slice_index, arith, ap, sym, ◌∙◌}
 use Rattle.std.proofs.Math.Nat.{mul-le-mul, div-lt_iff_lt-mul}
 use Rattle.std.proofs.lemmas.Nat.{div-mul-add, mod-mul-add, mul-add-lt}
 use Rattle.page_model.specs.declared.parts.PageParts.{PageParts}
 use Rattle.page_model.specs.Conditions.{IsPage}
 use Rattle.page_model.specs.Deciding.{mark}
-use Rattle.page_model.specs.Page.{height, sample_at, samples, width}
+use Rattle.page_model.specs.Page.{height, samples, width}
 use Rattle.page_model.specs.Zones.{AreZones, zone_of}
 use Rattle.page_model.proofs.PageLemmas.{plane_of}
 use Rattle.lists.specs.Words.{list_below}
 use Rattle.lists.proofs.ListBelow.{list_below-from}
 use Rattle.row_values.specs.Rows.{HoldsMarks, HoldsRows, HoldsZones, zone_value}
 use Rattle.strip_engine.specs.Rows.{AreRows}
-use Rattle.strip_engine.specs.Standing.{AreMarks}
+use Rattle.page_tally.proofs.StandingLemmas.{numbered}
+use Rattle.page_tally.specs.Standing.{AreMarks}
 use Rattle.strip_engine.specs.Whole.{sample_marks, sample_zones}
 use Rattle.strip_engine.proofs.WholeLemmas.{sample_marks-at, sample_zones-at, sample_zones-length}
-
-pub numbered : (page : PageParts) (y x : ℕ) → x < width page → sample_at page (y * width page + x) ≡ record { x = x; y = y }
-numbered page y x l = rw (div-mul-add y (width page) x l, mod-mul-add y (width page) x l) refl
 
 pub some_width : (page : PageParts) → IsPage page → 1 ≤ width page
 some_width page valid = (plane_of page 0 valid valid.parts.some_plates).some_width

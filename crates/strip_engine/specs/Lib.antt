@@ -1,5 +1,4 @@
 pub mod Bench
+pub mod Rooms
 pub mod Rows
-pub mod Standing
-pub mod Tallies
 pub mod Whole

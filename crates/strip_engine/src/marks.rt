@@ -1,19 +1,15 @@
 // The marks of the page's samples: whether the edges to their right and below them decide.
 
-ghost use Rattle.std.specs.Prelude.{◌≡◌, ◌<◌, ◌≤◌, ◌+◌, ◌*◌, ◌-◌, IfOk, length};
+ghost use Rattle.std.specs.Prelude.{◌≡◌, ◌<◌, ◌≤◌, ◌+◌, ◌*◌, ◌-◌, length};
 ghost use Rattle.row_values.specs.Rows.{HoldsMarks};
 ghost use Rattle.page_model.specs.Page.{height, samples};
 ghost use Rattle.page_model.specs.Zones.{AreZones};
 ghost use Rattle.strip_engine.specs.Rows.{AreRows};
-ghost use Rattle.strip_engine.specs.Standing.{AreMarks};
+ghost use Rattle.page_tally.specs.Standing.{AreMarks};
 ghost use Rattle.strip_engine.specs.Whole.{sample_marks, sample_zones};
 
-use crate::grid::samples_of;
-use crate::memory::filled;
 use page_model::page::Page;
-use page_model::parts::OutOfMemory;
 use row_values::{Rows, make_marks};
-use std::alloc::Global;
 
 /// Of a list with `width` items for each row, the rows from one on and before another.
 fn rows_between<'a>(all: &'a [u8], width: u32, from: u32, to: u32) -> &'a [u8]
@@ -49,7 +45,7 @@ pub fn marks_of_row<'a>(page: &Page, marks: &'a [u8], y: u32) -> &'a [u8]
 }
 
 /// Writes the marks of all samples, row by row.
-fn fill_marks(page: &Page, zones: &[u8], out: &mut [u8])
+pub fn fill_marks(page: &Page, zones: &[u8], out: &mut [u8])
     requires zones { zones.now ≡ sample_zones page.now }
     requires out { length out.old ≡ samples page.now }
     ensures { out.new ≡ sample_marks page.now }
@@ -59,16 +55,6 @@ fn fill_marks(page: &Page, zones: &[u8], out: &mut [u8])
         count: page.height(),
     };
     make_marks(page, rows, rows, zones, out);
-}
-
-/// The marks of all samples, row by row.
-pub fn marks_of(alloc: Global, page: &Page, zones: &[u8]) -> Result<Vec<u8>, OutOfMemory>
-    requires { zones.now ≡ sample_zones page.now }
-    ensures { IfOk result (λ marks. marks.items ≡ sample_marks page.now) }
-{
-    let mut marks = filled(alloc, 0u8, samples_of(page))?;
-    fill_marks(page, zones, &mut marks);
-    Ok(marks)
 }
 
 /// The marks of these rows.

@@ -6,15 +6,17 @@ ghost use Rattle.row_values.specs.Room.{Serves};
 ghost use Rattle.row_values.specs.Rows.{HoldsAnswers, doubled};
 ghost use Rattle.page_model.specs.Page.{height};
 ghost use Rattle.page_model.specs.Reach.{page_reach};
-ghost use Rattle.strip_engine.specs.Bench.{IsBench};
-ghost use Rattle.strip_engine.specs.Standing.{HasRows};
+ghost use Rattle.page_tally.specs.Shapes.{shape_of};
+ghost use Rattle.strip_engine.specs.Bench.{HasPlaces, IsBench};
+ghost use Rattle.page_tally.specs.Standing.{HasRows};
 
-use crate::marks::{marks_between, marks_of, marks_of_row, zones_of_row};
-use crate::memory::filled;
-use crate::outcome::Outcome;
-use crate::zones::zones_of;
+use crate::grid::samples_of;
+use crate::marks::{fill_marks, marks_between, marks_of_row, zones_of_row};
+use crate::zones::fill_zones;
+use lists::memory::filled;
 use page_model::page::Page;
 use page_model::parts::OutOfMemory;
+use page_tally::Outcome;
 use row_values::{Rows, Workspace, is_quiet, make_answers, make_row, row_of};
 use std::alloc::Global;
 
@@ -30,16 +32,27 @@ pub struct Bench {
     pub row: Vec<u16>,
 }
 
-/// The bench of a page.
-pub fn bench_of(alloc: Global, page: &Page, room: &mut Workspace) -> Result<Bench, OutOfMemory>
-    requires { Serves room.old page.now }
-    ensures bench { IfOk result (λ bench. IsBench page.now bench) }
+/// A bench for pages of this page's shape.
+pub fn new_bench(alloc: Global, page: &Page) -> Result<Bench, OutOfMemory>
+    ensures { IfOk result (HasPlaces (shape_of page.now)) }
+{
+    let samples = samples_of(page);
+    Ok(Bench {
+        zones: filled(alloc, 0u8, samples)?,
+        marks: filled(alloc, 0u8, samples)?,
+        row: filled(alloc, 0u16, page.plates() as usize * page.width() as usize)?,
+    })
+}
+
+/// Puts the zones and marks of the page's samples on a bench for pages of its shape.
+pub fn fill_bench(page: &Page, bench: &mut Bench, room: &mut Workspace)
+    requires bench { HasPlaces (shape_of page.now) bench.old }
+    requires room { Serves room.old page.now }
+    ensures bench { IsBench page.now bench.new }
     ensures room { room.new ≡ room.old }
 {
-    let zones = zones_of(alloc, page, room)?;
-    let marks = marks_of(alloc, page, zones.as_slice())?;
-    let row = filled(alloc, 0u16, page.plates() as usize * page.width() as usize)?;
-    Ok(Bench { zones, marks, row })
+    fill_zones(page, &mut bench.zones, room);
+    fill_marks(page, &bench.zones, &mut bench.marks);
 }
 
 /// Traps row y, whose column answers these are. The tints of a quiet row are neither made nor compared.
@@ -139,7 +152,10 @@ pub fn trap_strips(
     requires bench { IsBench page.now bench.old }
     requires room { Serves room.old page.now }
     requires outcome { HasRows page.now 0 outcome.old }
-    ensures { HasRows page.now (height page.now) outcome.new }
+    ensures codes { length codes.new ≡ length codes.old }
+    ensures bench { IsBench page.now bench.new }
+    ensures room { room.new ≡ room.old }
+    ensures outcome { HasRows page.now (height page.now) outcome.new }
 {
     let height = page.height();
     let wide = 2 * page.width() as usize - 1;

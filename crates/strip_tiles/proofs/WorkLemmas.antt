@@ -1,23 +1,18 @@
 -- The windows of a strip that are trapped side by side: the room for their counts, and what they add.
-use Rattle.std.proofs.Common.{◌≡◌, ℕ, zero, suc, ◌+◌, ◌*◌, ◌<◌, ◌≤◌, ◌^◌, Bool, ◌&&◌, List, [], ◌∷◌, ◌++◌, length, take, get_or, slice_index, refl, sym, ◌∙◌, ap, subst, arith, Option, Some, None}
-use Rattle.std.specs.Prelude.{◌==◌, map, replicate, slice_index_or, IfSome}
+use Rattle.std.proofs.Common.{◌≡◌, ℕ, suc, ◌*◌, ◌<◌, ◌≤◌, ◌^◌, Bool, ◌&&◌, List, [], ◌∷◌, length, slice_index, refl, sym, ◌∙◌, ap, arith}
+use Rattle.std.specs.Prelude.{◌==◌, map, replicate, slice_index_or}
 use Rattle.std.proofs.Math.Nat.{mul-le-mul}
-use Rattle.std.proofs.lemmas.List.{length-replicate, map-append, take_more}
-use Rattle.std.proofs.lemmas.List.Elements.{All-append}
-use Rattle.std.specs.List.{All}
+use Rattle.std.proofs.lemmas.List.{length-replicate}
 use Rattle.page_model.specs.declared.parts.At.{At}
 use Rattle.page_model.specs.declared.parts.PageParts.{PageParts}
-use Rattle.page_model.specs.declared.parts.Plane.{Plane}
 use Rattle.page_model.specs.Counts.{plate_changes, sample_changes}
 use Rattle.page_model.specs.Page.{height, plates, width}
 use Rattle.page_model.specs.Zones.{zone_of}
 use Rattle.sheet_windows.specs.declared.spans.Ruler.{Ruler}
 use Rattle.sheet_windows.specs.declared.spans.Span.{Span}
-use Rattle.sheet_windows.specs.Areas.{area_sum, changes_in, changes_plate, edges_at, lies_in, one_if}
-use Rattle.sheet_windows.specs.Spans.{AreSpans, IsSpan}
-use Rattle.strip_tiles.specs.declared.works.WindowWork.{WindowWork}
-use Rattle.strip_tiles.specs.Works.{AreAdded, AreNone, CanAdd, CanAddEach, HasArea, HasWindow, IsDoneWork, IsNewWork, columns_of}
-use Rattle.strip_tiles.specs.Strips.{planes_of}
+use Rattle.sheet_windows.specs.Areas.{area_sum, changes_in, changes_plate, lies_in, one_if}
+use Rattle.sheet_windows.specs.Spans.{IsSpan}
+use Rattle.strip_tiles.specs.Works.{AreAdded, AreNone, CanAdd, CanAddEach, HasArea}
 use Rattle.strip_tiles.proofs.Wholes.{grown_from_none, none_room}
 use Rattle.tile_counts.specs.Growth.{AddsArea, Grows, HasRoom, HasRooms}
 use Rattle.tile_counts.specs.declared.counts.SheetCounts.{SheetCounts}
@@ -29,17 +24,6 @@ maps_same f [] [] e h = refl
 maps_same f [] (y ∷ ys) e h = absurd (omega (arith, e))
 maps_same f (x ∷ xs) [] e h = absurd (omega (arith, e))
 maps_same f (x ∷ xs) (y ∷ ys) e h = λ i. h 0 x (omega arith) i ∷ maps_same f xs ys (omega (arith, e)) (λ k d l. h (suc k) d (omega (arith, l))) i
-
--- the columns of windows, one more of them
-pub columns_more : (works : List WindowWork) (work : WindowWork) (columns : List Span) (i : ℕ) (d : Span) → i < length columns → columns_of works ≡ take i columns → work.column ≡ get_or columns i d → columns_of (works ++ work ∷ []) ≡ take (i + 1) columns
-columns_more works work columns i d l e h = map-append (λ (w : WindowWork). w.column) works (work ∷ []) ∙ (λ j. e j ++ h j ∷ []) ∙ sym (take_more columns i d l)
-
-one_new : (sheet : PageParts) (across : Ruler) (work : WindowWork) → IsNewWork sheet across work → (k : ℕ) (d : WindowWork) → k < length (work ∷ []) → IsNewWork sheet across (slice_index_or (work ∷ []) k d)
-one_new sheet across work is zero d l = is
-one_new sheet across work is (suc k) d l = absurd (omega (arith, l))
-
-pub new_more : (sheet : PageParts) (across : Ruler) (works : List WindowWork) (work : WindowWork) → All (IsNewWork sheet across) works → IsNewWork sheet across work → All (IsNewWork sheet across) (works ++ work ∷ [])
-new_more sheet across works work each is = All-append (IsNewWork sheet across) works (work ∷ []) each (λ k d l. one_new sheet across work is k d l)
 
 part_room : (n most more : ℕ) (counts : List ℕ) → more ≤ most → HasRoom n most counts → HasRoom n more counts
 part_room n most more counts l room = record { long = room.long; low = λ z m. (let a = room.low z m in omega (arith, a, l)) }
@@ -95,35 +79,3 @@ added sheet left top wide rows counts more after room h g = record {
   plate_changed = added_each (plates sheet) (λ c. area_sum (changes_plate c sheet) left top wide rows) h.before.plate_changed.items more.plate_changed.items counts.plate_changed.items after.plate_changed.items h.none.plate_changed h.adds.plate_changed room.plate_changed.long g.plate_changed;
   edges = (let a = g.edges in let b = h.adds.edges in let c = h.none.edges in omega (arith, a, b, c));
 }
-
--- what is known of a window that has its planes
-pub some_window : (sheet : PageParts) (row : Span) (at : ℕ) (work : WindowWork) (planes : List Plane) → work.planes ≡ Some planes → IsDoneWork sheet row at work → HasWindow sheet row at work planes
-some_window sheet row at work planes e h = go work.planes e h where
-  go : (o : Option (List Plane)) → o ≡ Some planes → IfSome o (HasWindow sheet row at work) → HasWindow sheet row at work planes
-  go None e h = cc
-  go (Some p) e h = (let same : p ≡ planes = cc in subst (λ (q : List Plane). HasWindow sheet row at work q) same h)
-
--- a window's own counts, which were all 0, have what is counted in it
-pub window_done : (sheet : PageParts) (row : Span) (at : ℕ) (before : SheetCounts) (work : WindowWork) (planes : List Plane) → AreNone sheet before → planes ≡ planes_of sheet row work.column → AddsArea sheet (work.column.from + work.column.skip) at work.column.core row.core before work.counts → HasWindow sheet row at work planes
-window_done sheet row at before work planes none e adds = record { planes_are = e; counts = record { before = before; none = none; adds = adds } }
-
--- the first of the windows that are left, and the others
-pub head_span : (across : Ruler) (left end : ℕ) (works rest : List WindowWork) (work : WindowWork) → works ≡ work ∷ rest → AreSpans across left (columns_of works) end → IsSpan across left work.column × AreSpans across (left + work.column.core) (columns_of rest) end
-head_span across left end works rest work e h = subst (λ (ws : List WindowWork). AreSpans across left (columns_of ws) end) e h
-
-pub rest_done : (sheet : PageParts) (row : Span) (at : ℕ) (works rest : List WindowWork) (work : WindowWork) → works ≡ work ∷ rest → All (IsDoneWork sheet row at) works → All (IsDoneWork sheet row at) rest
-rest_done sheet row at works rest work e h = λ k d l. (let all = subst (λ (ws : List WindowWork). All (IsDoneWork sheet row at) ws) e h in all (suc k) d (omega (arith, l)))
-
-pub head_done : (sheet : PageParts) (row : Span) (at : ℕ) (works rest : List WindowWork) (work : WindowWork) → works ≡ work ∷ rest → All (IsDoneWork sheet row at) works → IsDoneWork sheet row at work
-head_done sheet row at works rest work e h = (let all = subst (λ (ws : List WindowWork). All (IsDoneWork sheet row at) ws) e h in all 0 work (omega arith))
-
-pub tiles_more : (sheet : PageParts) (row : Span) (yielded : List WindowWork) (work : WindowWork) (tiles : List (List Plane)) (planes : List Plane) → tiles ≡ map (planes_of sheet row) (columns_of yielded) → planes ≡ planes_of sheet row work.column → tiles ++ planes ∷ [] ≡ map (planes_of sheet row) (columns_of (yielded ++ work ∷ []))
-tiles_more sheet row yielded work tiles planes e h =
-    (λ i. e i ++ h i ∷ [])
-    ∙ sym (ap (map (planes_of sheet row)) (map-append (λ (w : WindowWork). w.column) yielded (work ∷ [])) ∙ map-append (planes_of sheet row) (columns_of yielded) (work.column ∷ []))
-
-pub all_more : (works yielded items rest : List WindowWork) (work : WindowWork) → works ≡ yielded ++ items → items ≡ work ∷ rest → works ≡ (yielded ++ work ∷ []) ++ rest
-all_more works yielded items rest work e h = e ∙ (λ i. yielded ++ h i) ∙ regrouped yielded where
-  regrouped : (xs : List WindowWork) → xs ++ work ∷ rest ≡ (xs ++ work ∷ []) ++ rest
-  regrouped [] = refl
-  regrouped (x ∷ xs) = ap (λ (t : List WindowWork). x ∷ t) (regrouped xs)

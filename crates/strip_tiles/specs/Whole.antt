@@ -9,7 +9,10 @@ use Rattle.page_model.specs.Tints.{new}
 use Rattle.sheet_windows.specs.declared.spans.Span.{Span}
 use Rattle.sheet_windows.specs.Plans.{tile_of}
 use Rattle.sheet_windows.specs.Tiles.{strip_rows}
+use Rattle.strip_tiles.specs.declared.whole.KeptRoom.{KeptRoom}
+use Rattle.strip_tiles.specs.Rooms.{IsStripRoom, columns_in}
 use Rattle.tile_counts.specs.declared.counts.SheetCounts.{SheetCounts}
+use Rattle.window_pages.specs.Forms.{Form}
 
 -- each plate has its new tints in the first rows
 pub record AreTintsTo (sheet : PageParts) (rows : ℕ) (out : List (List ℕ)) : Type 0 where
@@ -26,6 +29,9 @@ pub record HasStrip (sheet : PageParts) (columns : List Span) (row : Span)
 
 -- the counts of the whole sheet
 pub record IsCounted (sheet : PageParts) (counts : SheetCounts) : Type 0 where
+  pub zones : length counts.zone_samples.items ≡ length sheet.zones
+  pub zones_too : length counts.zone_changed.items ≡ length sheet.zones
+  pub plates_all : length counts.plate_changed.items ≡ plates sheet
   pub zone_samples : (z : ℕ) → z < length sheet.zones
       → slice_index counts.zone_samples.items z ≡ zone_samples sheet z
   pub zone_changed : (z : ℕ) → z < length sheet.zones
@@ -33,3 +39,8 @@ pub record IsCounted (sheet : PageParts) (counts : SheetCounts) : Type 0 where
   pub plate_changed : (c : ℕ) → c < plates sheet
       → slice_index counts.plate_changed.items c ≡ plate_changed sheet c
   pub edges : counts.edges ≡ deciding_edges sheet
+
+-- a room that was made for strips of that form, cut into these columns
+pub record IsKept (form : Form) (columns : List Span) (kept : KeptRoom) : Type 0 where
+  pub columns_are : columns_in kept.room ≡ columns
+  pub room : IsStripRoom form kept.tall kept.room

@@ -1,13 +1,7 @@
--- The windows of a strip while they are trapped side by side.
-use Rattle.std.specs.Prelude.{◌≡◌, ℕ, ◌+◌, ◌<◌, ◌^◌, List, length, map, replicate, slice_index}
-use Rattle.std.specs.Prelude.{IfSome}
+-- The counts of the windows of a strip, from none on.
+use Rattle.std.specs.Prelude.{◌≡◌, ℕ, ◌+◌, ◌<◌, ◌^◌, List, length, replicate, slice_index}
 use Rattle.page_model.specs.declared.parts.PageParts.{PageParts}
-use Rattle.page_model.specs.declared.parts.Plane.{Plane}
 use Rattle.page_model.specs.Page.{plates}
-use Rattle.sheet_windows.specs.declared.spans.Ruler.{Ruler}
-use Rattle.sheet_windows.specs.declared.spans.Span.{Span}
-use Rattle.strip_tiles.specs.declared.works.WindowWork.{WindowWork}
-use Rattle.strip_tiles.specs.Strips.{IsSomeSpan, planes_of}
 use Rattle.tile_counts.specs.Growth.{AddsArea, Grows}
 use Rattle.tile_counts.specs.declared.counts.SheetCounts.{SheetCounts}
 
@@ -24,27 +18,6 @@ pub record HasArea (sheet : PageParts) (left top wide rows : ℕ)
   pub before : SheetCounts
   pub none : AreNone sheet before
   pub adds : AddsArea sheet left top wide rows before counts
-
--- a window that is still to be trapped
-pub record IsNewWork (sheet : PageParts) (across : Ruler) (work : WindowWork) : Type 0 where
-  pub span : IsSomeSpan across work.column
-  pub none : AreNone sheet work.counts
-
--- its planes, and what is counted in its core, of which the first row is row `at` of the sheet
-pub record HasWindow (sheet : PageParts) (row : Span) (at : ℕ) (work : WindowWork)
-    (planes : List Plane)
-    : Type 0 where
-  pub planes_are : planes ≡ planes_of sheet row work.column
-  pub counts : HasArea sheet (work.column.from + work.column.skip) at work.column.core row.core
-      work.counts
-
--- a window that is trapped, or for which memory was wanting
-abbrev pub IsDoneWork : PageParts → Span → ℕ → WindowWork → Type 0
-IsDoneWork sheet row at work = IfSome work.planes (HasWindow sheet row at work)
-
--- the columns of these windows
-abbrev pub columns_of : List WindowWork → List Span
-columns_of works = map (λ work. work.column) works
 
 -- to each count the other of its place can be added
 pub record CanAddEach (counts more : List ℕ) : Type 0 where

@@ -2,8 +2,8 @@
 //! and what is counted in its core is added.
 #![tactic(auto)]
 
-pub mod strip;
+pub mod counting;
+pub mod room;
+pub mod rows;
 pub mod tints;
 pub mod whole;
-mod window;
-pub mod works;

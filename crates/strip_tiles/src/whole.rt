@@ -1,24 +1,25 @@
 // A whole sheet, strip by strip.
 
-ghost use Rattle.std.specs.Prelude.{◌≡◌, ◌<◌, ◌≤◌, ◌+◌, ◌*◌, ◌++◌, [], ℕ, All, IfOk, OnOk, map, length, slice_index_or, slice_set};
+ghost use Rattle.std.specs.Prelude.{◌≡◌, ◌<◌, ◌≤◌, ◌+◌, ◌*◌, ◌++◌, [], ℕ, All, IfOk, IfSome, OnOk, map, length, slice_index_or, slice_set};
 ghost use Rattle.page_model.specs.Page.{height, plates, width};
 ghost use Rattle.page_model.specs.Tints.{new_tints};
-ghost use Rattle.sheet_windows.specs.Plans.{AreRulers, AreSmall, tile_of};
+ghost use Rattle.sheet_windows.specs.Plans.{AreRulers, AreSmall};
 ghost use Rattle.sheet_windows.specs.Spans.{AreSpans, IsRuler, IsSpan};
-ghost use Rattle.sheet_windows.specs.Tiles.{strip_rows};
 ghost use Rattle.strip_tiles.specs.Strips.{IsSomeSpan, planes_of};
-ghost use Rattle.strip_tiles.specs.Whole.{AreTintsTo, HasStrip, IsCounted};
+ghost use Rattle.strip_tiles.specs.Rooms.{IsStripRoom, columns_in, tiles_in};
+ghost use Rattle.strip_tiles.specs.Whole.{AreTintsTo, HasStrip, IsCounted, IsKept};
 ghost use Rattle.tile_counts.specs.Growth.{AddsArea, HasRooms};
+ghost use Rattle.window_pages.specs.Forms.{form_of};
 
-use crate::strip::trap_strip;
-use crate::tints::strip_tints;
-use crate::works::no_sheet_counts;
+use crate::counting::no_sheet_counts;
+use crate::room::{StripRoom, trap_strip_in};
+use crate::rows::strip_tints;
 use lists::list::List;
-use page_model::parts::{OutOfMemory, PlaneList, Tints};
+use lists::memory::{filled, push};
+use page_model::parts::{OutOfMemory, Tints};
 use sheet_windows::spans::{Ruler, Span, spans_of};
 use std::alloc::Global;
 use std::thread::Threads;
-use strip_engine::memory::push;
 use tile_counts::counts::SheetCounts;
 use window_pages::sheet::Sheet;
 
@@ -48,26 +49,29 @@ fn extend_plate(
     Ok(())
 }
 
-/// Adds the new tints of a strip after those of the strips above it, plate by plate.
+/// Adds the new tints of the strip that was trapped in the room last after those of the strips above it, plate by plate.
+/// `line` is room for a row.
 fn add_strip(
     alloc: Global,
     sheet: &Sheet,
     across: &Ruler,
     down: &Ruler,
-    tiles: &[PlaneList],
-    columns: &[Span],
     row: &Span,
+    room: &StripRoom,
+    line: &mut [u16],
     out: &mut List<Tints>,
 ) -> Result<(), OutOfMemory>
     requires rulers { AreRulers sheet.now across.now down.now }
-    requires columns { All (IsSomeSpan across.now) columns.now }
+    requires columns { AreSpans across.now 0 (columns_in room.now) (width sheet.now) }
     requires row { IsSomeSpan down.now row.now }
-    requires tiles { tiles.now ≡ map (planes_of sheet.now row.now) columns.now }
+    requires tiles { tiles_in room.now ≡ map (planes_of sheet.now row.now) (columns_in room.now) }
+    requires line { length line.old ≡ width sheet.now }
     requires plates { length out.old ≡ plates sheet.now }
-    ensures { OnOk result (HasStrip sheet.now columns.now row.now out.old out.new) }
+    ensures line { length line.new ≡ length line.old }
+    ensures out { OnOk result (HasStrip sheet.now (columns_in room.now) row.now out.old out.new) }
 {
     for c in 0..sheet.plates() {
-        let tints = strip_tints(alloc, sheet, across, down, tiles, columns, row, c)?;
+        let tints = strip_tints(alloc, sheet, across, down, row, room, c, line)?;
         extend_plate(alloc, out, c as usize, tints.as_slice())?;
     }
     Ok(())
@@ -82,6 +86,79 @@ fn no_tints(alloc: Global, sheet: &Sheet) -> Result<List<Tints>, OutOfMemory>
         push(&mut out, List::new(alloc))?;
     }
     Ok(out)
+}
+
+/// A room that the strip before was trapped in, and how many rows its windows have.
+#[derive(Drop)]
+struct KeptRoom {
+    tall: u32,
+    room: StripRoom,
+}
+
+/// The room for a strip: that of the strip before, where it has as many rows, or a new one.
+fn fit_room(
+    alloc: Global,
+    sheet: &Sheet,
+    across: &Ruler,
+    down: &Ruler,
+    columns: &[Span],
+    row: &Span,
+    kept: Option<KeptRoom>,
+) -> Result<StripRoom, OutOfMemory>
+    requires rulers { AreRulers sheet.now across.now down.now }
+    requires small { AreSmall sheet.now across.now down.now }
+    requires columns { All (IsSomeSpan across.now) columns.now }
+    requires row { IsSomeSpan down.now row.now }
+    requires kept { IfSome kept (IsKept (form_of sheet.now) columns.now) }
+    ensures columns { IfOk result (λ room. columns_in room ≡ columns.now) }
+    ensures room { IfOk result (IsStripRoom (form_of sheet.now) row.now.wide) }
+{
+    if let Some(before) = kept {
+        if before.tall == row.wide {
+            return Ok(before.room);
+        }
+    }
+    StripRoom::new(alloc, sheet, across, down, columns, row)
+}
+
+/// Traps a strip, and adds its new tints after those of the strips above it. It gives the room that it took.
+fn trap_row<H: Threads + Sync>(
+    rt: &H,
+    alloc: Global,
+    sheet: &Sheet,
+    across: &Ruler,
+    down: &Ruler,
+    columns: &[Span],
+    row: &Span,
+    at: u32,
+    workers: usize,
+    kept: Option<KeptRoom>,
+    line: &mut [u16],
+    tints: &mut List<Tints>,
+    counts: &mut SheetCounts,
+) -> Result<KeptRoom, OutOfMemory>
+    requires some_workers { 1 ≤ workers }
+    requires rulers { AreRulers sheet.now across.now down.now }
+    requires small { AreSmall sheet.now across.now down.now }
+    requires columns { AreSpans across.now 0 columns.now (width sheet.now) }
+    requires some { All (IsSomeSpan across.now) columns.now }
+    requires row { IsSpan down.now at row.now }
+    requires some_row { IsSomeSpan down.now row.now }
+    requires kept { IfSome kept (IsKept (form_of sheet.now) columns.now) }
+    requires line { length line.old ≡ width sheet.now }
+    requires plates { length tints.old ≡ plates sheet.now }
+    requires room { HasRooms sheet.now (width sheet.now * row.now.core) counts.old }
+    ensures kept { IfOk result (IsKept (form_of sheet.now) columns.now) }
+    ensures line { length line.new ≡ length line.old }
+    ensures tints { OnOk result (HasStrip sheet.now columns.now row.now tints.old tints.new) }
+    ensures counts { OnOk result (AddsArea sheet.now 0 at (width sheet.now) row.now.core
+        counts.old counts.new) }
+{
+    let mut room = fit_room(alloc, sheet, across, down, columns, row, kept)?;
+    trap_strip_in(rt, sheet, across, down, row, at, workers, &mut room, counts);
+    add_strip(alloc, sheet, across, down, row, &room, line, tints)?;
+    let tall = row.wide;
+    Ok(KeptRoom { tall, room })
 }
 
 /// Traps a sheet of any sides, window by window, by rulers for its columns and rows. The tints,
@@ -100,6 +177,7 @@ pub fn trap_sheet<H: Threads + Sync>(
     requires small { AreSmall sheet.now across.now down.now }
     requires across { IsRuler across.now }
     requires down { IsRuler down.now }
+    ensures count { IfOk result (λ trapped. length trapped.tints ≡ plates sheet.now) }
     ensures tints { IfOk result (λ trapped. (c : ℕ) → c < plates sheet.now
         → slice_index_or trapped.tints c [] ≡ new_tints sheet.now c) }
     ensures counts { IfOk result (λ trapped. IsCounted sheet.now trapped.counts) }
@@ -109,9 +187,11 @@ pub fn trap_sheet<H: Threads + Sync>(
     let rows = spans_of(alloc, down)?;
     let mut counts = no_sheet_counts(alloc, sheet)?;
     let mut tints = no_tints(alloc, sheet)?;
+    let mut line = filled(alloc, 0u16, sheet.width() as usize)?;
+    let mut kept = None;
     let mut at = 0;
     for row in rows.as_slice() {
-        let tiles = trap_strip(
+        let room = trap_row(
             rt,
             alloc,
             sheet,
@@ -121,18 +201,12 @@ pub fn trap_sheet<H: Threads + Sync>(
             row,
             at,
             workers,
+            kept,
+            &mut line,
+            &mut tints,
             &mut counts,
         )?;
-        add_strip(
-            alloc,
-            sheet,
-            across,
-            down,
-            tiles.as_slice(),
-            columns.as_slice(),
-            row,
-            &mut tints,
-        )?;
+        kept = Some(room);
         at += row.core;
     }
     Ok(TrappedSheet { tints, counts })

@@ -1,20 +1,32 @@
 -- How a call ends. No stop has the status of a call that is done.
-use Rattle.std.proofs.Common.{◌≡◌, ℕ, ◌<◌, List, length, Ok, Err, refl, subst, arith}
+use Rattle.std.proofs.Common.{◌≡◌, ℕ, ◌<◌, List, length, Ok, Err, refl, ap, ◌∙◌, subst, arith}
 use Rattle.std.specs.Prelude.{◌≢◌}
 use Rattle.page_model.specs.Page.{plates}
 use Rattle.page_model.specs.Planes.{plane_at}
-use Rattle.trap_report.specs.declared.refusal.Refusal.{Refusal}
-use Rattle.trap_report.specs.declared.refusal.Refusal.TheVariants.{Usage, Job, NoDetails, Plate, Page, Read, Write, Memory}
-use Rattle.trap_report.specs.Refusals.{status_of}
+use Rattle.refusals.specs.declared.refusal.Refusal.{Refusal}
+use Rattle.refusals.specs.declared.refusal.Refusal.TheVariants.{Usage, Job, NoDetails, Plate, Page, Read, Write, Memory}
+use Rattle.refusals.specs.Refusals.{status_of}
 use Rattle.trap_c.specs.declared.stop.Stop.{Stop}
-use Rattle.trap_c.specs.declared.stop.Stop.TheVariants.{Call, Page as PageStop}
+use Rattle.trap_c.specs.declared.stop.Stop.TheVariants.{Call, Far, Page as PageStop}
 use Rattle.trap_c.specs.declared.work.Done.{Done}
+use Rattle.sheet_windows.specs.declared.cuts.Cut.{Cut}
+use Rattle.sheet_windows.specs.Tiles.{IsTile, Tile, TileLaw}
+use Rattle.sheet_windows.specs.WindowLaw.{WindowLaw}
+use Rattle.sheet_windows.specs.Windows.{IsCut}
+use Rattle.page_model.specs.declared.parts.PageParts.{PageParts}
+use Rattle.page_model.specs.declared.parts.Plane.{Plane}
+use Rattle.trap_c.specs.declared.place.Place.{Place}
 use Rattle.trap_c.specs.Calls.{Tells, Traps, Works}
+use Rattle.trap_c.specs.Cores.{HaveCores}
+use Rattle.trap_c.specs.Places.{core_of}
+use Rattle.trap_c.specs.WindowCalls.{TrapsWindow, WorksWindow}
+use Rattle.trap_c.specs.Windows.{call_window}
 use Rattle.trap_c.specs.Pages.{call_page}
 use Rattle.trap_c.specs.Planes.{KeepsGaps, tints_in}
 use Rattle.trap_c.specs.Requests.{Asked}
 use Rattle.trap_c.specs.Stops.{line_of_stop, status_of_stop}
-use Rattle.trap_c.proofs.WorkLemmas.{trapped_lie}
+use Rattle.trap_c.proofs.SheetLemmas.{core_is_new, made_window, on_sheet_is}
+use Rattle.trap_c.proofs.WorkLemmas.{as_many_planes, trapped_lie}
 
 refusal_not_done : (refusal : Refusal) → status_of refusal ≡ 0 → ⊥
 refusal_not_done Usage e = omega (arith, e)
@@ -29,6 +41,7 @@ refusal_not_done Memory e = omega (arith, e)
 pub stop_not_done : (stop : Stop) → status_of_stop stop ≡ 0 → ⊥
 stop_not_done (Call fault) e = omega (arith, e)
 stop_not_done (PageStop refusal) e = refusal_not_done refusal e
+stop_not_done (Far zone) e = omega (arith, e)
 
 -- The planes are put in, and the report is told.
 pub done_well : (most : ℕ) (asked : Asked) (before after text text' : List ℕ) (len : ℕ) (d : Done) → Works most asked.layout before (call_page most asked before) (Ok d) → ((c : ℕ) → c < length d.planes → tints_in asked.layout after c ≡ (plane_at d.planes c).tints) → KeepsGaps asked.layout before after → Tells d.report text text' len → Traps most asked before after text text' len 0
@@ -40,6 +53,34 @@ done_well most asked before after text text' len d works each gaps tells = recor
 -- The line of a stop is told.
 pub stopped : (most : ℕ) (asked : Asked) (before text text' : List ℕ) (len status : ℕ) (stop : Stop) → Works most asked.layout before (call_page most asked before) (Err stop) → Tells (line_of_stop stop) text text' len → status ≡ status_of_stop stop → status ≢ 0 → Traps most asked before before text text' len status
 stopped most asked before text text' len status stop works tells is ne = record {
+  success = λ e. absurd (ne e);
+  refused = λ _. (stop, is, refl, tells, works);
+}
+
+-- The cores are put in, and the core's part of the report is told.
+pub window_done : (most : ℕ) (asked : Asked) (place : Place) (before after text text' : List ℕ) (len : ℕ) (d : Done) → WorksWindow most asked.layout place before (call_window most asked place before) (Ok d) → HaveCores asked.layout (core_of place) d.planes before after (length d.planes) → Tells d.report text text' len → ((s : PageParts) (k : Cut) → IsCut s k → WindowLaw s k) → ((s : PageParts) (t : Tile) (x y rows : ℕ) → IsTile s t x y rows → TileLaw s t x y rows) → TrapsWindow most asked place before after text text' len 0
+window_done most asked place before after text text' len d works cores tells windows tiles =
+    let page = works.0 in
+    let worked = works.2 in
+    let many : length d.planes ≡ plates page = ap (λ (ps : List Plane). length ps) worked.planes ∙ as_many_planes page in
+    let core = core_is_new page asked.layout (plates page) place d.planes before after worked.laid_out works.4 worked.planes cores in
+    record {
+      success = λ _. (
+        page,
+        record {
+          page_is = works.1;
+          core = core;
+          rest = λ k beside. cores.rest k (λ c y lc ly. beside c y (omega (arith, lc, many)) ly);
+          told = subst (λ (t : List ℕ). Tells t text text' len) worked.report tells;
+          sheets = λ job sheet read of. on_sheet_is asked place before page sheet job works.5 works.4 (made_window most asked place before page job works.1 read) of after core windows tiles;
+        },
+      );
+      refused = λ ne. absurd (ne refl);
+    }
+
+-- The line of a stop of a window's call is told.
+pub window_stopped : (most : ℕ) (asked : Asked) (place : Place) (before text text' : List ℕ) (len status : ℕ) (stop : Stop) → WorksWindow most asked.layout place before (call_window most asked place before) (Err stop) → Tells (line_of_stop stop) text text' len → status ≡ status_of_stop stop → status ≢ 0 → TrapsWindow most asked place before before text text' len status
+window_stopped most asked place before text text' len status stop works tells is ne = record {
   success = λ e. absurd (ne e);
   refused = λ _. (stop, is, refl, tells, works);
 }

@@ -4,5 +4,9 @@ mod Parts
 mod Sizes
 mod Rows
 mod PageLemmas
+mod Runs
+mod MovedJobs
+mod CoreCounts
 mod WorkLemmas
+mod SheetLemmas
 mod AnswerLemmas

@@ -15,8 +15,8 @@ use Rattle.page_model.specs.declared.parts.Plane.{Plane}
 use Rattle.page_model.specs.Conditions.{IsPlane}
 use Rattle.page_model.specs.Faults.{page_fault}
 use Rattle.page_model.specs.Planes.{no_plane, plane_at}
-use Rattle.trap_report.specs.declared.refusal.Refusal.{Refusal}
-use Rattle.trap_report.specs.declared.refusal.Refusal.TheVariants.{Memory}
+use Rattle.refusals.specs.declared.refusal.Refusal.{Refusal}
+use Rattle.refusals.specs.declared.refusal.Refusal.TheVariants.{Memory}
 use Rattle.trap_c.specs.declared.layout.Layout.{Layout}
 use Rattle.trap_c.specs.declared.planes.Copies.{Copies}
 use Rattle.trap_c.specs.Copies.{AreCopies}
@@ -128,7 +128,7 @@ by_details : (parts page : PageParts) (o : Option ℕ) → detailed o parts ≡ 
 by_details parts page None e = by_fault parts page (page_fault parts) e
 by_details parts page (Some plate) e = absurd (cc)
 
-parts_made : (job : Job) (planes : List Plane) (names : List (List ℕ)) (page : PageParts) → assembly_of_planes job planes names ≡ Ok page → page ≡ parts_of_planes job planes names
+pub parts_made : (job : Job) (planes : List Plane) (names : List (List ℕ)) (page : PageParts) → assembly_of_planes job planes names ≡ Ok page → page ≡ parts_of_planes job planes names
 parts_made job planes names page e = by_details (parts_of_planes job planes names) page (without_details job names) e
 
 -- it has the layout of the call

@@ -57,17 +57,17 @@ trapped_lie page layout count planes after is e each =
 
 -- what has to be so before the planes are put into the samples
 
-pub all_lie : (most : ℕ) (layout : Layout) (before : List ℕ) (page : PageParts) (d : Done) → IsWorked most layout before page d → length before ≡ length d.planes * layout.height * layout.step
-all_lie most layout before page d is = is.all ∙ ap (λ (n : ℕ). n * layout.height * layout.step) (sym (ap (λ (ps : List Plane). length ps) is.planes ∙ as_many_planes page))
+pub all_lie : (most : ℕ) (layout : Layout) (before : List ℕ) (page : PageParts) (text : List ℕ) (d : Done) → IsWorked most layout before page text d → length before ≡ length d.planes * layout.height * layout.step
+all_lie most layout before page text d is = is.all ∙ ap (λ (n : ℕ). n * layout.height * layout.step) (sym (ap (λ (ps : List Plane). length ps) is.planes ∙ as_many_planes page))
 
-pub few_lie : (most : ℕ) (layout : Layout) (before : List ℕ) (page : PageParts) (d : Done) → IsWorked most layout before page d → length d.planes ≤ 16
-few_lie most layout before page d is = omega (arith, ap (λ (ps : List Plane). length ps) is.planes, as_many_planes page, is.few)
+pub few_lie : (most : ℕ) (layout : Layout) (before : List ℕ) (page : PageParts) (text : List ℕ) (d : Done) → IsWorked most layout before page text d → length d.planes ≤ 16
+few_lie most layout before page text d is = omega (arith, ap (λ (ps : List Plane). length ps) is.planes, as_many_planes page, is.few)
 
-pub each_full : (most : ℕ) (layout : Layout) (before : List ℕ) (page : PageParts) (d : Done) → IsWorked most layout before page d → (c : ℕ) → c < length d.planes → length (plane_at d.planes c).tints ≡ size layout
-each_full most layout before page d is = full_plane page layout (plates page) d.planes is.laid_out is.planes
+pub each_full : (most : ℕ) (layout : Layout) (before : List ℕ) (page : PageParts) (text : List ℕ) (d : Done) → IsWorked most layout before page text d → (c : ℕ) → c < length d.planes → length (plane_at d.planes c).tints ≡ size layout
+each_full most layout before page text d is = full_plane page layout (plates page) d.planes is.laid_out is.planes
 
-pub each_narrow : (layout : Layout) (before : List ℕ) (page : PageParts) (d : Done) → IsWorked 255 layout before page d → (c : ℕ) → c < length d.planes → All (λ t. t ≤ 255) (plane_at d.planes c).tints
-each_narrow layout before page d is c l =
+pub each_narrow : (layout : Layout) (before : List ℕ) (page : PageParts) (text : List ℕ) (d : Done) → IsWorked 255 layout before page text d → (c : ℕ) → c < length d.planes → All (λ t. t ≤ 255) (plane_at d.planes c).tints
+each_narrow layout before page text d is c l =
     let there : c < length (trapped_planes page) = omega (arith, l, ap (λ (ps : List Plane). length ps) is.planes) in
     let here : c < plates page = omega (arith, there, as_many_planes page) in
     let fits : IsPlane (plane_at d.planes c) = subst (λ (ps : List Plane). IsPlane (plane_at ps c)) (sym is.planes) (is.in_range c no_plane there) in

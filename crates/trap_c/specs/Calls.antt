@@ -6,9 +6,9 @@ use Rattle.page_model.specs.Conditions.{IsPlane}
 use Rattle.page_model.specs.Counts.{page_counts}
 use Rattle.page_model.specs.Page.{plates}
 use Rattle.page_model.specs.Tints.{trapped_planes}
-use Rattle.trap_report.specs.declared.refusal.Refusal.TheVariants.{Memory}
+use Rattle.refusals.specs.declared.refusal.Refusal.TheVariants.{Memory}
 use Rattle.trap_report.specs.Report.{report_of}
-use Rattle.trap_report.specs.Statuses.{done}
+use Rattle.refusals.specs.Statuses.{done}
 use Rattle.trap_c.specs.declared.layout.Layout.{Layout}
 use Rattle.trap_c.specs.declared.stop.Stop.{Stop}
 use Rattle.trap_c.specs.declared.stop.Stop.TheVariants.{Page}
@@ -30,11 +30,11 @@ abbrev pub AreTrapped : PageParts → Layout → List ℕ → Type 0
 AreTrapped page layout samples = planes_in layout samples (plates page) ≡ trapped_planes page
 
 -- What a call has in hand before it writes: the planes of the page after trapping, which fit the
--- samples, and the report.
-pub record IsWorked (most : ℕ) (layout : Layout) (before : List ℕ) (page : PageParts) (work : Done)
-    : Type 0 where
+-- samples, and the text.
+pub record IsWorked (most : ℕ) (layout : Layout) (before : List ℕ) (page : PageParts)
+    (text : List ℕ) (work : Done) : Type 0 where
   pub planes : work.planes ≡ trapped_planes page
-  pub report : work.report ≡ report_of page (page_counts page)
+  pub report : work.report ≡ text
   pub laid_out : Fills layout (plates page) page
   pub all : length before ≡ plates page * layout.height * layout.step
   pub apart : layout.width ≤ layout.step
@@ -46,7 +46,8 @@ pub record IsWorked (most : ℕ) (layout : Layout) (before : List ℕ) (page : P
 -- refused.
 abbrev pub Works : ℕ → Layout → List ℕ → Result PageParts Stop → Result Done Stop → Type 0
 Works most layout before made (Ok work) =
-    (page : PageParts) × (made ≡ Ok page) × IsWorked most layout before page work
+    (page : PageParts) × (made ≡ Ok page)
+    × IsWorked most layout before page (report_of page (page_counts page)) work
 Works most layout before made (Err stop) = (stop ≡ Page Memory) ⊎ (made ≡ Err stop)
 
 -- A call that is done: it was for a page, the samples hold the planes of that page after

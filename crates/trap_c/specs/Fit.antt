@@ -7,8 +7,8 @@ use Rattle.page_model.specs.declared.parts.Plane.{Plane}
 use Rattle.page_model.specs.Limits.{most_side, most_samples, most_maxval}
 use Rattle.page_model.specs.Planes.{plane_at}
 use Rattle.pgm_plates.specs.declared.plate.PlateFault.TheVariants.{SampleAboveMaxval}
-use Rattle.trap_report.specs.declared.refusal.Refusal.{Refusal}
-use Rattle.trap_report.specs.declared.refusal.Refusal.TheVariants.{Plate}
+use Rattle.refusals.specs.declared.refusal.Refusal.{Refusal}
+use Rattle.refusals.specs.declared.refusal.Refusal.TheVariants.{Plate}
 use Rattle.trap_c.specs.declared.layout.Layout.{Layout}
 use Rattle.trap_c.specs.declared.stop.CallFault.{CallFault}
 use Rattle.trap_c.specs.declared.stop.CallFault.TheVariants.{Names, Sides, Step, Maxval, Samples}

@@ -7,4 +7,8 @@ pub mod Sources
 pub mod Fit
 pub mod Copies
 pub mod Pages
+pub mod Places
+pub mod Windows
+pub mod Cores
 pub mod Calls
+pub mod WindowCalls

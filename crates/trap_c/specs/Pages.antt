@@ -7,8 +7,8 @@ use Rattle.page_model.specs.declared.parts.PageParts.{PageParts}
 use Rattle.page_model.specs.declared.parts.Plane.{Plane}
 use Rattle.page_model.specs.Page.{plates, width, height, maxval}
 use Rattle.ps_tokens.specs.declared.faults.JobFault.{JobFault}
-use Rattle.trap_report.specs.declared.refusal.Refusal.{Refusal}
-use Rattle.trap_report.specs.declared.refusal.Refusal.TheVariants.{Job as JobRefusal, Memory}
+use Rattle.refusals.specs.declared.refusal.Refusal.{Refusal}
+use Rattle.refusals.specs.declared.refusal.Refusal.TheVariants.{Job as JobRefusal, Memory}
 use Rattle.trap_c.specs.declared.layout.Layout.{Layout}
 use Rattle.trap_c.specs.declared.stop.CallFault.{CallFault}
 use Rattle.trap_c.specs.declared.stop.Stop.{Stop}

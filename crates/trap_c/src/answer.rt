@@ -1,16 +1,24 @@
 ghost use Rattle.std.specs.Prelude.{◌≡◌, ◌≢◌};
-ghost use Rattle.trap_report.specs.Statuses.{done as done_status};
+ghost use Rattle.refusals.specs.Statuses.{done as done_status};
 ghost use Rattle.trap_c.specs.Calls.{Tells, Traps};
 ghost use Rattle.trap_c.specs.Requests.{asked};
+ghost use Rattle.trap_c.specs.WindowCalls.{TellsHalo, TrapsWindow, stop_of_job};
 ghost use Rattle.trap_c.specs.Stops.{line_of_stop, status_of_stop};
 
+use crate::cores::{put_byte_cores, put_word_cores};
+use crate::halo::halo_of;
+use crate::place::{Place, core_of};
 use crate::planes::{put_bytes, put_words};
 use crate::request::Request;
 use crate::source::Source;
 use crate::stop::{Stop, line_of, status_of};
-use crate::work::carry_out;
+use crate::work::{carry_out, carry_out_window};
+use job_reader::reader::read_job;
+use ps_tokens::faults::JobRefusal;
+use refusals::refusal::Refusal;
+use refusals::statuses::DONE;
+use sheet_windows::laws::{tile_law, window_law};
 use std::alloc::Global;
-use trap_report::statuses::DONE;
 
 /// Carries out a call over samples of two bytes, puts the report or the line of the refusal into the text, and gives the
 /// status.
@@ -52,6 +60,84 @@ pub fn answer_bytes(
             DONE
         }
         Err(stop) => refuse(&stop, text, text_len),
+    }
+}
+
+/// Carries out a window's call over samples of two bytes, puts the core's part of the report or the line of the refusal into
+/// the text, and gives the status.
+pub fn answer_window_words(
+    alloc: Global,
+    request: &Request<'_>,
+    place: &Place,
+    samples: &mut [u16],
+    text: &mut [u8],
+    text_len: &mut usize,
+) -> u8
+    ensures { TrapsWindow 65535 (asked request.now) place.now samples.old samples.new text.old
+        text.new text_len.new result }
+{
+    window_law();
+    tile_law();
+    match carry_out_window(alloc, 65_535, request, place, &Source::Words(samples)) {
+        Ok(done) => {
+            put_word_cores(&done.planes, request.layout, &core_of(place), samples);
+            put_text(done.report.as_slice(), text, text_len);
+            DONE
+        }
+        Err(stop) => refuse(&stop, text, text_len),
+    }
+}
+
+/// As `answer_window_words`, for samples of one byte.
+pub fn answer_window_bytes(
+    alloc: Global,
+    request: &Request<'_>,
+    place: &Place,
+    samples: &mut [u8],
+    text: &mut [u8],
+    text_len: &mut usize,
+) -> u8
+    ensures { TrapsWindow 255 (asked request.now) place.now samples.old samples.new text.old
+        text.new text_len.new result }
+{
+    window_law();
+    tile_law();
+    match carry_out_window(alloc, 255, request, place, &Source::Bytes(samples)) {
+        Ok(done) => {
+            put_byte_cores(&done.planes, request.layout, &core_of(place), samples);
+            put_text(done.report.as_slice(), text, text_len);
+            DONE
+        }
+        Err(stop) => refuse(&stop, text, text_len),
+    }
+}
+
+/// Tells how far a window of a job has to go on beyond its core, and gives the status.
+pub fn answer_halo(
+    alloc: Global,
+    job: &[u8],
+    halo: &mut u32,
+    text: &mut [u8],
+    text_len: &mut usize,
+) -> u8
+    ensures { TellsHalo job.now halo.old halo.new text.old text.new text_len.new result }
+{
+    match read_job(alloc, job) {
+        Ok(job) => {
+            *halo = halo_of(&job);
+            put_text(b"", text, text_len);
+            DONE
+        }
+        Err(refusal) => refuse(&stop_of(refusal), text, text_len),
+    }
+}
+
+fn stop_of(refusal: JobRefusal) -> Stop
+    ensures { result ≡ stop_of_job refusal }
+{
+    match refusal {
+        JobRefusal::Fault(fault) => Stop::Page(Refusal::Job(fault)),
+        JobRefusal::OutOfMemory => Stop::Page(Refusal::Memory),
     }
 }
 

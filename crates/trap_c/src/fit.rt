@@ -11,7 +11,7 @@ use lists::names::Name;
 use page_model::bounds::{MOST_SAMPLES, MOST_SIDE};
 use page_model::parts::{Plane, PlaneList};
 use pgm_plates::plate::PlateFault;
-use trap_report::refusal::Refusal;
+use refusals::refusal::Refusal;
 
 /// The first fault of the arguments: the samples are of a type that holds numbers up to `most`, and there are so many.
 pub fn call_fault(most: u32, names: &[Name], layout: Layout, count: usize) -> Option<CallFault>

@@ -3,23 +3,34 @@
 #![tactic(auto)]
 
 mod answer;
+mod cores;
 mod fit;
+mod halo;
 mod layout;
 mod names;
 mod page;
+mod place;
 mod planes;
 mod request;
+mod shift;
 mod source;
 mod stop;
+mod tally;
 #[cfg(test)]
 mod tests;
+mod window;
 mod work;
 
+ghost use Rattle.std.specs.Prelude.{◌≡◌};
 ghost use Rattle.trap_c.specs.Calls.{Traps};
 ghost use Rattle.trap_c.specs.Requests.{asked_by};
+ghost use Rattle.trap_c.specs.WindowCalls.{TellsHalo, TrapsWindow};
 
-use crate::answer::{answer_bytes, answer_words};
+use crate::answer::{
+    answer_bytes, answer_halo, answer_window_bytes, answer_window_words, answer_words,
+};
 use crate::layout::Layout;
+use crate::place::Place;
 use crate::request::Request;
 use std::alloc::Global;
 
@@ -82,4 +93,91 @@ pub extern "C" fn trap_planes8(
     };
     let request = Request { job, names, layout };
     answer_bytes(alloc, &request, samples, text, text_len)
+}
+
+/// How many rows and columns a window needs round its core, on each side that is no border of the sheet, for a job: half the
+/// reach of its zones in whole samples, and one at least. It goes into `halo`, and the text is empty. The status is 0, or
+/// that of the refusal, and a refusal leaves `halo` as it was: 3 for a fault of the job, and 7 where there is too little
+/// memory.
+#[unsafe(no_mangle)]
+pub extern "C" fn trap_halo(
+    alloc: Global,
+    job: &[u8],
+    halo: &mut u32,
+    text: &mut [u8],
+    text_len: &mut usize,
+) -> u8
+    ensures { TellsHalo job.now halo.old halo.new text.old text.new text_len.new result }
+{
+    answer_halo(alloc, job, halo, text, text_len)
+}
+
+/// Traps the core of a window where it lies: what stands in it then is what the rule gives on the sheet, whatever sheet it is
+/// that shows these samples in the window. All other samples are left alone, the halo with them. The arguments are those of
+/// `trap_planes16`, the planes being those of the window; `place` tells where it stands on the sheet, and what its core is.
+///
+/// The text is the core's part of the report: its header has the sheet's sides, and its counts over the cores of a tiling add
+/// up to the sheet's. The status and the line of a refusal are those of `trap_planes16`, with two more: 2 for a place that
+/// does not fit, and 4 where a zone has a vertex that is more than a million points from the window's lower left corner.
+#[unsafe(no_mangle)]
+pub extern "C" fn trap_window16(
+    alloc: Global,
+    job: &[u8],
+    names: &[u8],
+    samples: &mut [u16],
+    width: u32,
+    height: u32,
+    step: u32,
+    maxval: u32,
+    place: &Place,
+    text: &mut [u8],
+    text_len: &mut usize,
+) -> u8
+    ensures { TrapsWindow 65535 (asked_by job.now names.now width height step maxval) place.now
+        samples.old samples.new text.old text.new text_len.new result }
+{
+    let layout = Layout {
+        width,
+        height,
+        step,
+        maxval,
+    };
+    let request = Request { job, names, layout };
+    answer_window_words(alloc, &request, place, samples, text, text_len)
+}
+
+/// As `trap_window16`, for samples of one byte: the maxval is at most 255.
+#[unsafe(no_mangle)]
+pub extern "C" fn trap_window8(
+    alloc: Global,
+    job: &[u8],
+    names: &[u8],
+    samples: &mut [u8],
+    width: u32,
+    height: u32,
+    step: u32,
+    maxval: u32,
+    place: &Place,
+    text: &mut [u8],
+    text_len: &mut usize,
+) -> u8
+    ensures { TrapsWindow 255 (asked_by job.now names.now width height step maxval) place.now
+        samples.old samples.new text.old text.new text_len.new result }
+{
+    let layout = Layout {
+        width,
+        height,
+        step,
+        maxval,
+    };
+    let request = Request { job, names, layout };
+    answer_window_bytes(alloc, &request, place, samples, text, text_len)
+}
+
+/// The library's version, as one number: 10,000 times the first, 100 times the second, and the third.
+#[unsafe(no_mangle)]
+pub extern "C" fn trap_version() -> u32
+    ensures { result ≡ 900 }
+{
+    900
 }

@@ -16,10 +16,10 @@ use lists::names::{NameList, OutOfMemory};
 use page_gather::assemble::assemble_planes;
 use page_model::page::Page;
 use ps_tokens::faults::JobRefusal;
+use refusals::refusal::Refusal;
 use std::alloc::Global;
-use trap_report::refusal::Refusal;
 
-/// The page of a job and of the planes that lie in the samples.
+/// The page of a job's bytes and of the planes that lie in the samples.
 pub fn page_of(
     alloc: Global,
     job: &[u8],
@@ -33,12 +33,29 @@ pub fn page_of(
     ensures layout { IfOk result (Fills layout (length names.now)) }
 {
     match read_job(alloc, job) {
-        Ok(job) => match planes_of(alloc, source, layout, names) {
-            Ok(copies) => page_with(alloc, job, names, copies, layout),
-            Err(OutOfMemory) => Err(Refusal::Memory),
-        },
+        Ok(job) => page_of_job(alloc, job, names, source, layout),
         Err(JobRefusal::Fault(fault)) => Err(Refusal::Job(fault)),
         Err(JobRefusal::OutOfMemory) => Err(Refusal::Memory),
+    }
+}
+
+/// The page of a job and of the planes that lie in the samples.
+pub fn page_of_job(
+    alloc: Global,
+    job: Job,
+    names: &NameList,
+    source: &Source<'_>,
+    layout: Layout,
+) -> Result<Page, Refusal>
+    requires call { IsCall names.now layout (length (numbers source.now)) }
+    requires job { IsJob job }
+    ensures gives { Gives (page_meant_with job names.now
+        (planes_in layout (numbers source.now) (length names.now))) result }
+    ensures layout { IfOk result (Fills layout (length names.now)) }
+{
+    match planes_of(alloc, source, layout, names) {
+        Ok(copies) => page_with(alloc, job, names, copies, layout),
+        Err(OutOfMemory) => Err(Refusal::Memory),
     }
 }
 

@@ -91,8 +91,8 @@ fn put_plane_words(tints: &[u16], layout: Layout, c: usize, samples: &mut [u16])
     }
 }
 
-// Puts a row into the samples, from one on.
-fn put_words_row(row: &[u16], from: usize, samples: &mut [u16])
+/// Puts a row into the samples, from one on.
+pub fn put_words_row(row: &[u16], from: usize, samples: &mut [u16])
     requires { from + length row.now ≤ length samples.old }
     ensures { samples.new ≡ take from samples.old ++ (row.now
         ++ drop (from + length row.now) samples.old) }
@@ -142,8 +142,8 @@ fn put_plane_bytes(tints: &[u16], layout: Layout, c: usize, samples: &mut [u8])
     }
 }
 
-// Puts a row into the samples, from one on.
-fn put_bytes_row(row: &[u16], from: usize, samples: &mut [u8])
+/// Puts a row into the samples, from one on.
+pub fn put_bytes_row(row: &[u16], from: usize, samples: &mut [u8])
     requires inside { from + length row.now ≤ length samples.old }
     requires narrow { All (λ t. t ≤ 255) row.now }
     ensures { samples.new ≡ take from samples.old ++ (row.now

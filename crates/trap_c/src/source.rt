@@ -6,9 +6,9 @@ ghost use Rattle.trap_c.specs.Sources.{numbers};
 
 use crate::fit::are_fit;
 use crate::layout::Layout;
+use lists::memory::filled;
 use page_model::parts::OutOfMemory;
 use std::alloc::Global;
-use strip_engine::memory::filled;
 
 /// The tints of a plane, and whether they were seen to be at most its maxval.
 #[derive(Drop)]

@@ -1,10 +1,10 @@
 ghost use Rattle.std.specs.Prelude.{◌≡◌, ◌≤◌, length};
 ghost use Rattle.trap_c.specs.Stops.{status_of_stop, line_of_stop, line_of_call};
 
-use trap_report::fault_line::fault_line;
-use trap_report::line::Line;
-use trap_report::refusal::{Refusal, status};
-use trap_report::statuses::USAGE;
+use refusals::fault_line::fault_line;
+use refusals::line::Line;
+use refusals::refusal::{Refusal, status};
+use refusals::statuses::{PAGE_REFUSED, USAGE};
 
 /// What is wrong with the arguments of a call.
 #[derive(Clone, Copy, Debug, Drop, PartialEq, Eq)]
@@ -19,6 +19,9 @@ pub enum CallFault {
     Maxval,
     /// There are not as many samples as the names, the height and the step say.
     Samples,
+    /// The window does not lie on the sheet, or its core not in the window; the halo is too small for the job, or the job
+    /// has zones and the window's corner is not at the step.
+    Place,
 }
 
 /// Why a call leaves the planes as they were.
@@ -28,6 +31,8 @@ pub enum Stop {
     Call(CallFault),
     /// The job or the page is refused, or there is too little memory.
     Page(Refusal),
+    /// This zone has a vertex too far from the window's corner.
+    Far(u32),
 }
 
 /// The status of a stop.
@@ -37,6 +42,7 @@ pub fn status_of(stop: &Stop) -> u8
     match stop {
         Stop::Call(_) => USAGE,
         Stop::Page(refusal) => status(refusal),
+        Stop::Far(_) => PAGE_REFUSED,
     }
 }
 
@@ -47,6 +53,7 @@ pub fn line_of(stop: &Stop) -> Line
     match stop {
         Stop::Call(fault) => call_line(*fault),
         Stop::Page(refusal) => fault_line(refusal),
+        Stop::Far(zone) => Line::of_number(b"sheet: Far in zone ", *zone),
     }
 }
 
@@ -54,19 +61,11 @@ fn call_line(fault: CallFault) -> Line
     ensures { result ≡ line_of_call fault }
 {
     match fault {
-        CallFault::Names => text_line(b"call: Names\n"),
-        CallFault::Sides => text_line(b"call: Sides\n"),
-        CallFault::Step => text_line(b"call: Step\n"),
-        CallFault::Maxval => text_line(b"call: Maxval\n"),
-        CallFault::Samples => text_line(b"call: Samples\n"),
+        CallFault::Names => Line::of_text(b"call: Names"),
+        CallFault::Sides => Line::of_text(b"call: Sides"),
+        CallFault::Step => Line::of_text(b"call: Step"),
+        CallFault::Maxval => Line::of_text(b"call: Maxval"),
+        CallFault::Samples => Line::of_text(b"call: Samples"),
+        CallFault::Place => Line::of_text(b"call: Place"),
     }
-}
-
-fn text_line(text: &[u8]) -> Line
-    requires { length text.now ≤ 100 }
-    ensures { result ≡ text.now }
-{
-    let mut told = Line::new();
-    told.push(text);
-    told
 }

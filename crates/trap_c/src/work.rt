@@ -5,7 +5,11 @@ ghost use Rattle.page_model.specs.Limits.{most_maxval};
 ghost use Rattle.page_model.specs.Tints.{trapped_planes};
 ghost use Rattle.trap_report.specs.Report.{report_of};
 ghost use Rattle.trap_c.specs.Fit.{IsCall};
+ghost use Rattle.job_reader.specs.Jobs.{job_of};
 ghost use Rattle.trap_c.specs.Calls.{Works};
+ghost use Rattle.trap_c.specs.WindowCalls.{WorksWindow};
+ghost use Rattle.trap_c.specs.Windows.{call_window, named_window, window_by};
+ghost use Rattle.trap_c.specs.Places.{IsPlaced};
 ghost use Rattle.trap_c.specs.Requests.{asked};
 ghost use Rattle.trap_c.specs.Pages.{call_page, named_page, page_of as page_meant, stop_or};
 ghost use Rattle.trap_c.specs.Planes.{planes_in};
@@ -15,16 +19,20 @@ use crate::fit::call_fault;
 use crate::layout::Layout;
 use crate::names::names_of;
 use crate::page::page_of;
+use crate::place::{Place, is_place};
 use crate::request::Request;
 use crate::source::Source;
-use crate::stop::Stop;
+use crate::stop::{CallFault, Stop};
+use crate::tally::trapped_window;
+use crate::window::window_of;
 use lists::names::{Name, NameList, OutOfMemory};
 use page_model::laws::trapped_planes_law;
 use page_model::page::Page;
 use page_model::parts::PlaneList;
+use page_tally::Trapped;
+use refusals::refusal::Refusal;
 use std::alloc::Global;
-use strip_engine::{Trapped, trap_alone};
-use trap_report::refusal::Refusal;
+use strip_engine::trap_alone;
 use trap_report::report::report;
 
 /// A page after trapping, and its report.
@@ -80,8 +88,8 @@ fn trap_source(
 ) -> Result<Done, Stop>
     requires { IsCall names.now layout (length (numbers source.now)) }
     ensures { let planes = planes_in layout (numbers source.now) (length names.now) in
-        Works layout.maxval layout (numbers source.now) (stop_or (page_meant job.now names.now planes))
-        result }
+        Works layout.maxval layout (numbers source.now)
+        (stop_or (page_meant job.now names.now planes)) result }
 {
     match page_of(alloc, job, names, source, layout) {
         Ok(page) => match trapped(alloc, &page) {
@@ -101,4 +109,70 @@ fn trapped(alloc: Global, page: &Page) -> Result<Done, OutOfMemory>
     let Trapped { planes, counts } = trap_alone(alloc, page)?;
     let report = report(alloc, page, &counts)?;
     Ok(Done { planes, report })
+}
+
+/// Carries out a window's call up to the planes after trapping, the cores of which are still to be put into the samples.
+/// These hold numbers up to `most`.
+pub fn carry_out_window(
+    alloc: Global,
+    most: u32,
+    request: &Request<'_>,
+    place: &Place,
+    source: &Source<'_>,
+) -> Result<Done, Stop>
+    requires { most ≤ most_maxval }
+    ensures { WorksWindow most request.now.layout place.now (numbers source.now)
+        (call_window most (asked request.now) place.now (numbers source.now)) result }
+{
+    match names_of(alloc, request.names) {
+        Ok(names) => carry_out_named_window(alloc, most, request, place, &names, source),
+        Err(OutOfMemory) => Err(Stop::Page(Refusal::Memory)),
+    }
+}
+
+fn carry_out_named_window(
+    alloc: Global,
+    most: u32,
+    request: &Request<'_>,
+    place: &Place,
+    names: &NameList,
+    source: &Source<'_>,
+) -> Result<Done, Stop>
+    requires { most ≤ most_maxval }
+    ensures { let layout = request.now.layout in
+        WorksWindow most layout place.now (numbers source.now)
+        (named_window most request.now.job.now names.now layout place.now (numbers source.now))
+        result }
+{
+    let layout = request.layout;
+    if let Some(fault) = call_fault(most, names.as_slice(), layout, source.count()) {
+        return Err(Stop::Call(fault));
+    }
+    if !is_place(layout, place) {
+        return Err(Stop::Call(CallFault::Place));
+    }
+    trap_window(alloc, request.job, names, source, layout, place)
+}
+
+fn trap_window(
+    alloc: Global,
+    job: &[u8],
+    names: &NameList,
+    source: &Source<'_>,
+    layout: Layout,
+    place: &Place,
+) -> Result<Done, Stop>
+    requires call { IsCall names.now layout (length (numbers source.now)) }
+    requires placed { IsPlaced layout place.now }
+    ensures { let planes = planes_in layout (numbers source.now) (length names.now) in
+        WorksWindow layout.maxval layout place.now (numbers source.now)
+        (window_by layout place.now (job_of job.now) names.now planes) result }
+{
+    match window_of(alloc, job, names, source, layout, place) {
+        Ok(page) => match trapped_window(alloc, &page, place) {
+            Ok(done) => Ok(done),
+            Err(OutOfMemory) => Err(Stop::Page(Refusal::Memory)),
+        },
+        Err(stop) => Err(stop),
+    }
 }

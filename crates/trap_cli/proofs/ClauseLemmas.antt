@@ -5,11 +5,10 @@ use Rattle.std.proofs.lemmas.List.{length-append}
 use Rattle.std.specs.Option.{option_map}
 use Rattle.std.specs.Str.{bytes_eq}
 use Rattle.band_claims.specs.Receipt.{Receipt}
-use Rattle.outside.specs.Causes.{Rose, Asks, AsksFront}
+use Rattle.outside.specs.Causes.{Rose, RoseOnce, Asks, AsksPrefix}
 use Rattle.outside.specs.Tray.{TrayState}
 use Rattle.outside.specs.Rack.{RackState, KeepsRack}
 use Rattle.outside.proofs.Names.{asks_none_of}
-use Rattle.outside.proofs.Steps.{rose_before}
 use Rattle.page_model.specs.declared.page.PageFault.TheVariants.{TooManySamples}
 use Rattle.page_model.specs.declared.parts.PageParts.{PageParts}
 use Rattle.page_model.specs.Counts.{page_counts}
@@ -21,11 +20,11 @@ use Rattle.page_gather.proofs.GatherLemmas.{refused_count}
 use Rattle.page_writing.specs.Files.{Written, put_all, names_of, plate_files}
 use Rattle.page_writing.specs.Writing.{Breaks, FinishesAll}
 use Rattle.page_writing.proofs.Told.{breaks_cause, file_breaks, line_after}
-use Rattle.trap_report.specs.declared.refusal.Refusal.{Refusal}
-use Rattle.trap_report.specs.declared.refusal.Refusal.TheVariants as refusals
-use Rattle.trap_report.specs.Refusals.{status_of, line_of}
+use Rattle.refusals.specs.declared.refusal.Refusal.{Refusal}
+use Rattle.refusals.specs.declared.refusal.Refusal.TheVariants as refusals
+use Rattle.refusals.specs.Refusals.{status_of, line_of}
 use Rattle.trap_report.specs.Report.{report_of}
-use Rattle.trap_report.specs.Telling.{TellsText, TellsAfterFault, KeepsFiles, Refuses}
+use Rattle.refusals.specs.Telling.{TellsText, TellsAfterFault, KeepsFiles, Refuses}
 use Rattle.trap_words.specs.Words.{Command, PageWords, SampleWords, begins_with_page, command_of, page_of_words, sample_of_words}
 use Rattle.trap_words.specs.Words.Command.{Page, Sample}
 use Rattle.trap_cli.specs.Commands.{sample_band, sources_of, targets_of}
@@ -34,13 +33,6 @@ use Rattle.trap_cli.specs.Clauses.{MeanPage, MeanSample, Success, RefusesFiles, 
 use Rattle.verdicts.specs.Verdicts.{Verdict, Targets, IsVerdict, outcome, written_names}
 use Rattle.verdicts.specs.Verdicts.Verdict.{Refused, Out}
 use Rattle.verdicts.proofs.VerdictLemmas.{PlateLaws, one_verdict}
-
--- a refusal's line, seen from a state in which the same was told
-line_from : (text : List ℕ) (a b c : RackState) → (IsTrue a.tells → b.told ≡ a.told) → b.tells ≡ a.tells → a.faults ≤ b.faults → TellsText text b c → TellsText text a c
-line_from text a b c same tells faults line told = elim (line (tells ∙ told)) [
-  | inl whole ↦ inl (whole ∙ ap (λ (t : List ℕ). t ++ text) (same told))
-  | inr part ↦ inr (rose_before a.faults b.faults c.faults faults part.0, (part.1.0, part.1.1 ∙ ap (λ (t : List ℕ). t ++ take part.1.0 text) (same told)))
-]
 
 -- How a page of these files ended, of what was told by its files.
 data Ending (band : ℕ) (source : Sources) (target : Targets) (t t' : TrayState) (r r' : RackState) (status : ℕ) (receipt : Option Receipt) : Type 0 where
@@ -59,8 +51,9 @@ some_files : (target : Targets) (page : PageParts) → 0 < length (outcome targe
 some_files target page = let long = length-append (plate_files target.outputs (trapped_planes page)) (record { name = target.report; bytes = report_of page (page_counts page) } ∷ []) in omega (arith, long)
 
 module _ (band : ℕ) (source : Sources) (target : Targets) (t t' : TrayState) (r r' : RackState) (status : ℕ) (receipt : Option Receipt) where
-  line_of_end : (refusal : Refusal) (result : Result Receipt Refusal) (between : RackState) → CarriesOut band source target t t' r between result → Refuses refusal between r' status → TellsText (line_of refusal) r r'
-  line_of_end refusal result between carried closed = line_from (line_of refusal) r between r' carried.told carried.rack_keeps.tells carried.rack_keeps.faults closed.line
+  -- a refusal's line, where nothing was written before it
+  line_of_end : (refusal : Refusal) (between : RackState) → between ≡ r → Refuses refusal between r' status → TellsText (line_of refusal) r r'
+  line_of_end refusal between same closed = subst (λ (s : RackState). TellsText (line_of refusal) s r') same closed.line
 
   ended_done : (x : Receipt) (between : RackState) → CarriesOut band source target t t' r between (Ok x) → (r' ≡ between) → status ≡ 0 → receipt ≡ Some x → Ending band source target t t' r r' status receipt
   ended_done x between carried same is given =
@@ -71,22 +64,22 @@ module _ (band : ℕ) (source : Sources) (target : Targets) (t t' : TrayState) (
   ending_of : (result : Result Receipt Refusal) (between : RackState) → CarriesOut band source target t t' r between result → Closes result between r' status receipt → Ending band source target t t' r r' status receipt
   ending_of (Ok x) between carried closed = ended_done x between carried closed.0 closed.1 closed.2
   ending_of (Err (refusals.Job fault)) between carried closed =
-      refused (refusals.Job fault) closed.0.status_is (inl closed.0.status_is) carried.answer.0.1 carried.answer.0.0 (refused_count Receipt (Unit {0}) t t' (refusals.Job fault) carried.count) (keeps_from r between r' carried.answer.1 closed.0.files) (line_of_end (refusals.Job fault) (Err (refusals.Job fault)) between carried closed.0) closed.1
+      refused (refusals.Job fault) closed.0.status_is (inl closed.0.status_is) carried.answer.0.1 carried.answer.0.0 (refused_count Receipt (Unit {0}) t t' (refusals.Job fault) carried.count) (keeps_from r between r' carried.answer.1 closed.0.files) (line_of_end (refusals.Job fault) between carried.answer.1 closed.0) closed.1
   ending_of (Err (refusals.NoDetails k)) between carried closed =
-      refused (refusals.NoDetails k) closed.0.status_is (inl closed.0.status_is) carried.answer.0.1 carried.answer.0.0 (refused_count Receipt (Unit {0}) t t' (refusals.NoDetails k) carried.count) (keeps_from r between r' carried.answer.1 closed.0.files) (line_of_end (refusals.NoDetails k) (Err (refusals.NoDetails k)) between carried closed.0) closed.1
+      refused (refusals.NoDetails k) closed.0.status_is (inl closed.0.status_is) carried.answer.0.1 carried.answer.0.0 (refused_count Receipt (Unit {0}) t t' (refusals.NoDetails k) carried.count) (keeps_from r between r' carried.answer.1 closed.0.files) (line_of_end (refusals.NoDetails k) between carried.answer.1 closed.0) closed.1
   ending_of (Err (refusals.Plate k fault)) between carried closed =
-      refused (refusals.Plate k fault) closed.0.status_is (inr closed.0.status_is) carried.answer.0.1 carried.answer.0.0 (refused_count Receipt (Unit {0}) t t' (refusals.Plate k fault) carried.count) (keeps_from r between r' carried.answer.1 closed.0.files) (line_of_end (refusals.Plate k fault) (Err (refusals.Plate k fault)) between carried closed.0) closed.1
+      refused (refusals.Plate k fault) closed.0.status_is (inr closed.0.status_is) carried.answer.0.1 carried.answer.0.0 (refused_count Receipt (Unit {0}) t t' (refusals.Plate k fault) carried.count) (keeps_from r between r' carried.answer.1 closed.0.files) (line_of_end (refusals.Plate k fault) between carried.answer.1 closed.0) closed.1
   ending_of (Err (refusals.Page fault)) between carried closed =
-      refused (refusals.Page fault) closed.0.status_is (inr closed.0.status_is) carried.answer.0.1 carried.answer.0.0 (refused_count Receipt (Unit {0}) t t' (refusals.Page fault) carried.count) (keeps_from r between r' carried.answer.1 closed.0.files) (line_of_end (refusals.Page fault) (Err (refusals.Page fault)) between carried closed.0) closed.1
+      refused (refusals.Page fault) closed.0.status_is (inr closed.0.status_is) carried.answer.0.1 carried.answer.0.0 (refused_count Receipt (Unit {0}) t t' (refusals.Page fault) carried.count) (keeps_from r between r' carried.answer.1 closed.0.files) (line_of_end (refusals.Page fault) between carried.answer.1 closed.0) closed.1
   ending_of (Err (refusals.Read None)) between carried closed =
-      unread None closed.0.status_is carried.answer.0.0 carried.answer.0.1 tt (keeps_from r between r' carried.answer.1 closed.0.files) (line_of_end (refusals.Read None) (Err (refusals.Read None)) between carried closed.0) closed.1
+      unread None closed.0.status_is carried.answer.0.0 carried.answer.0.1 tt (keeps_from r between r' carried.answer.1 closed.0.files) (line_of_end (refusals.Read None) between carried.answer.1 closed.0) closed.1
   ending_of (Err (refusals.Read (Some k))) between carried closed =
-      unread (Some k) closed.0.status_is carried.answer.0.0 carried.answer.0.1 carried.answer.0.2 (keeps_from r between r' carried.answer.1 closed.0.files) (line_of_end (refusals.Read (Some k)) (Err (refusals.Read (Some k))) between carried closed.0) closed.1
+      unread (Some k) closed.0.status_is carried.answer.0.0 carried.answer.0.1 carried.answer.0.2 (keeps_from r between r' carried.answer.1 closed.0.files) (line_of_end (refusals.Read (Some k)) between carried.answer.1 closed.0) closed.1
   ending_of (Err (refusals.Write file)) between carried closed =
       let made = carried.answer.0 in
       let broke = carried.answer.2 in
       unwritten file closed.0.status_is carried.count made carried.answer.1 (file_breaks (length target.outputs) (outcome target made) file r between r' carried.rack_keeps broke closed.0.files) (line_after (line_of (refusals.Write file)) r between r' carried.told carried.rack_keeps.tells carried.once closed.0.line) closed.1
-  ending_of (Err refusals.Memory) between carried closed = no_memory closed.0.status_is carried.count (keeps_from r between r' carried.answer.1 closed.0.files) (line_of_end refusals.Memory (Err refusals.Memory) between carried closed.0) closed.1
+  ending_of (Err refusals.Memory) between carried closed = no_memory closed.0.status_is carried.count (keeps_from r between r' carried.answer.1 closed.0.files) (line_of_end refusals.Memory between carried.answer.1 closed.0) closed.1
   ending_of (Err refusals.Usage) between carried closed = absurd carried.answer.0
 
   ending : EndsPage band source target t t' r r' status receipt → Ending band source target t t' r r' status receipt
@@ -162,49 +155,55 @@ module _ (band : ℕ) (source : Sources) (target : Targets) (t t' : TrayState) (
 module _ (sample : SampleWords) (r r' : RackState) (status : ℕ) (receipt : Option Receipt) where
   sample_status : AnswersSample sample r r' status receipt → (status ≡ 0) ⊎ (status ≡ 4) ⊎ (status ≡ 6) ⊎ (status ≡ 7)
   sample_status (AnswersSample.told small is calm text has) = inl is
-  sample_status (AnswersSample.told_in_part small is rose text none) = inr (inr (inl is))
+  sample_status (AnswersSample.told_in_part small is rose once text none) = inr (inr (inl is))
   sample_status (AnswersSample.too_many large refuses none) = inr (inl refuses.status_is)
   sample_status (AnswersSample.no_memory small refuses none) = inr (inr (inr refuses.status_is))
 
   sample_told : AnswersSample sample r r' status receipt → status ≡ 0 → IsTrue r.tells → r'.told ≡ r.told ++ sample_report sample
   sample_told (AnswersSample.told small is calm text has) s = text
-  sample_told (AnswersSample.told_in_part small is rose text none) s = absurd (omega arith)
+  sample_told (AnswersSample.told_in_part small is rose once text none) s = absurd (omega arith)
   sample_told (AnswersSample.too_many large refuses none) s = let e : status ≡ 4 = refuses.status_is in absurd (omega arith)
   sample_told (AnswersSample.no_memory small refuses none) s = let e : status ≡ 7 = refuses.status_is in absurd (omega arith)
 
   sample_part : AnswersSample sample r r' status receipt → status ≡ 6 → Rose r.faults r'.faults × (IsTrue r.tells → (count : ℕ) × (r'.told ≡ r.told ++ take count (sample_report sample)))
-  sample_part (AnswersSample.told_in_part small is rose text none) s = (rose, text)
+  sample_part (AnswersSample.told_in_part small is rose once text none) s = (rose, text)
   sample_part (AnswersSample.told small is calm text has) s = absurd (omega arith)
   sample_part (AnswersSample.too_many large refuses none) s = let e : status ≡ 4 = refuses.status_is in absurd (omega arith)
   sample_part (AnswersSample.no_memory small refuses none) s = let e : status ≡ 7 = refuses.status_is in absurd (omega arith)
 
+  sample_once : AnswersSample sample r r' status receipt → status ≡ 6 → RoseOnce r.faults r'.faults
+  sample_once (AnswersSample.told_in_part small is rose once text none) s = once
+  sample_once (AnswersSample.told small is calm text has) s = absurd (omega arith)
+  sample_once (AnswersSample.too_many large refuses none) s = let e : status ≡ 4 = refuses.status_is in absurd (omega arith)
+  sample_once (AnswersSample.no_memory small refuses none) s = let e : status ≡ 7 = refuses.status_is in absurd (omega arith)
+
   sample_large : AnswersSample sample r r' status receipt → status ≡ 4 → IsSmall sample → ⊥
   sample_large (AnswersSample.too_many large refuses none) s = large
   sample_large (AnswersSample.told small is calm text has) s = absurd (omega arith)
-  sample_large (AnswersSample.told_in_part small is rose text none) s = absurd (omega arith)
+  sample_large (AnswersSample.told_in_part small is rose once text none) s = absurd (omega arith)
   sample_large (AnswersSample.no_memory small refuses none) s = let e : status ≡ 7 = refuses.status_is in absurd (omega arith)
 
   large_line : AnswersSample sample r r' status receipt → status ≡ 4 → TellsText (line_of (refusals.Page TooManySamples)) r r'
   large_line (AnswersSample.too_many large refuses none) s = refuses.line
   large_line (AnswersSample.told small is calm text has) s = absurd (omega arith)
-  large_line (AnswersSample.told_in_part small is rose text none) s = absurd (omega arith)
+  large_line (AnswersSample.told_in_part small is rose once text none) s = absurd (omega arith)
   large_line (AnswersSample.no_memory small refuses none) s = let e : status ≡ 7 = refuses.status_is in absurd (omega arith)
 
   large_status : AnswersSample sample r r' status receipt → (IsSmall sample → ⊥) → status ≡ 4
   large_status (AnswersSample.too_many large refuses none) s = refuses.status_is
   large_status (AnswersSample.told small is calm text has) s = absurd (s small)
-  large_status (AnswersSample.told_in_part small is rose text none) s = absurd (s small)
+  large_status (AnswersSample.told_in_part small is rose once text none) s = absurd (s small)
   large_status (AnswersSample.no_memory small refuses none) s = absurd (s small)
 
   sample_done : AnswersSample sample r r' status receipt → ¬ Rose r.faults r'.faults → (status ≡ 0) ⊎ (status ≡ 4) ⊎ (status ≡ 7)
   sample_done (AnswersSample.told small is calm text has) still = inl is
-  sample_done (AnswersSample.told_in_part small is rose text none) still = absurd (still rose)
+  sample_done (AnswersSample.told_in_part small is rose once text none) still = absurd (still rose)
   sample_done (AnswersSample.too_many large refuses none) still = inr (inl refuses.status_is)
   sample_done (AnswersSample.no_memory small refuses none) still = inr (inr refuses.status_is)
 
   sample_line : AnswersSample sample r r' status receipt → status ≢ 0 → status ≢ 6 → (refusal : Refusal) × (status ≡ status_of refusal) × TellsText (line_of refusal) r r'
   sample_line (AnswersSample.told small is calm text has) some other = absurd (some is)
-  sample_line (AnswersSample.told_in_part small is rose text none) some other = absurd (other is)
+  sample_line (AnswersSample.told_in_part small is rose once text none) some other = absurd (other is)
   sample_line (AnswersSample.too_many large refuses none) some other = (refusals.Page TooManySamples, refuses.status_is, refuses.line)
   sample_line (AnswersSample.no_memory small refuses none) some other = (refusals.Memory, refuses.status_is, refuses.line)
 
@@ -269,7 +268,7 @@ module _ (words : List (List ℕ)) (t t' : TrayState) (r r' : RackState) (status
 
   sample_calm : (sample : SampleWords) → t' ≡ t → AnswersSample sample r r' status receipt → status ≡ 0 → (t'.faults ≡ t.faults) × (r'.faults ≡ r.faults)
   sample_calm sample same (AnswersSample.told small is calm text has) s = (ap (λ (u : TrayState). u.faults) same, calm)
-  sample_calm sample same (AnswersSample.told_in_part small is rose text none) s = absurd (omega arith)
+  sample_calm sample same (AnswersSample.told_in_part small is rose once text none) s = absurd (omega arith)
   sample_calm sample same (AnswersSample.too_many large refuses none) s = let e : status ≡ 4 = refuses.status_is in absurd (omega arith)
   sample_calm sample same (AnswersSample.no_memory small refuses none) s = let e : status ≡ 7 = refuses.status_is in absurd (omega arith)
 
@@ -282,7 +281,7 @@ module _ (words : List (List ℕ)) (t t' : TrayState) (r r' : RackState) (status
   -- the receipt of a sample page that is done
   sample_has : (sample : SampleWords) → AnswersSample sample r r' status receipt → status ≡ 0 → HasReceipt (sample_of sample) sample_band receipt
   sample_has sample (AnswersSample.told small is calm text has) s = has
-  sample_has sample (AnswersSample.told_in_part small is rose text none) s = absurd (omega arith)
+  sample_has sample (AnswersSample.told_in_part small is rose once text none) s = absurd (omega arith)
   sample_has sample (AnswersSample.too_many large refuses none) s = let e : status ≡ 4 = refuses.status_is in absurd (omega arith)
   sample_has sample (AnswersSample.no_memory small refuses none) s = let e : status ≡ 7 = refuses.status_is in absurd (omega arith)
 
@@ -296,7 +295,7 @@ module _ (words : List (List ℕ)) (t t' : TrayState) (r r' : RackState) (status
 
   sample_without : (sample : SampleWords) → AnswersSample sample r r' status receipt → status ≢ 0 → receipt ≡ None
   sample_without sample (AnswersSample.told small is calm text has) some = absurd (some is)
-  sample_without sample (AnswersSample.told_in_part small is rose text none) some = none
+  sample_without sample (AnswersSample.told_in_part small is rose once text none) some = none
   sample_without sample (AnswersSample.too_many large refuses none) some = none
   sample_without sample (AnswersSample.no_memory small refuses none) some = none
 
@@ -347,10 +346,10 @@ module _ (words : List (List ℕ)) (t t' : TrayState) (r r' : RackState) (status
     | inr (inr (inr a)) ↦ absurd (omega arith)
   ]
 
-  asked_of : (page : PageWords) → MeanPage words page → Ends words t t' r r' status receipt → AsksFront t.asked t'.asked (read_files (sources_of page))
-  asked_of page means (Ends.no_memory begins same refuses none) = subst (λ (s : TrayState). AsksFront t.asked s.asked (read_files (sources_of page))) (sym same) (asks_none_of t.asked (read_files (sources_of page)))
+  asked_of : (page : PageWords) → MeanPage words page → Ends words t t' r r' status receipt → AsksPrefix t.asked t'.asked (read_files (sources_of page))
+  asked_of page means (Ends.no_memory begins same refuses none) = subst (λ (s : TrayState). AsksPrefix t.asked s.asked (read_files (sources_of page))) (sym same) (asks_none_of t.asked (read_files (sources_of page)))
   asked_of page means (Ends.no_command means_none same refuses none) = let e : ◌≡◌ {A = Option Command} None (Some (Page page)) = sym means_none ∙ means in absurd cc
-  asked_of page means (Ends.page other also ended) = subst (λ (p : PageWords). AsksFront t.asked t'.asked (read_files (sources_of p))) (same_page other page also means) ended.carried.asked
+  asked_of page means (Ends.page other also ended) = subst (λ (p : PageWords). AsksPrefix t.asked t'.asked (read_files (sources_of p))) (same_page other page also means) ended.carried.asked
   asked_of page means (Ends.sample sample also same ended) = absurd (not_both page sample means also)
 
   -- the bytes that were taken of the file in hand
@@ -360,7 +359,7 @@ module _ (words : List (List ℕ)) (t t' : TrayState) (r r' : RackState) (status
   hand_of page means (Ends.page other also ended) = subst (λ (p : PageWords). (t' ≡ t) ⊎ InHand (sources_of p) t t') (same_page other page also means) ended.carried.in_hand
   hand_of page means (Ends.sample sample also same ended) = inl same
 
-  -- neither a failed write nor want of memory passes a fault of the tray over
+  -- neither a failed write nor out of memory passes a fault of the tray over
   no_fault_passed : (page : PageWords) → EndingOf page → (status ≡ 6) ⊎ (status ≡ 7) → t'.faults ≡ t.faults
   no_fault_passed page (no_memory is calm keeps line none) s = calm
   no_fault_passed page (done is calm made valid begun files told shut asked has) s = calm.0
@@ -391,14 +390,14 @@ module _ (words : List (List ℕ)) (t t' : TrayState) (r r' : RackState) (status
   write_cause (Ends.sample sample also same ended) s = (sample_part sample r r' status receipt ended.answer s).0
 
   -- the files that are created, after the line was told
-  created_by : (page : PageWords) (result : Result Receipt Refusal) (between : RackState) → CarriesOut page.band (sources_of page) (targets_of page) t t' r between result → Closes result between r' status receipt → AsksFront r.asked r'.asked (written_names (targets_of page))
-  created_by page (Ok x) between carried closed = subst (λ (s : RackState). AsksFront r.asked s.asked (written_names (targets_of page))) (sym closed.0) carried.created
-  created_by page (Err refusal) between carried closed = subst (λ (names : Option (List (List ℕ))). AsksFront r.asked names (written_names (targets_of page))) (sym closed.0.files.asked) carried.created
+  created_by : (page : PageWords) (result : Result Receipt Refusal) (between : RackState) → CarriesOut page.band (sources_of page) (targets_of page) t t' r between result → Closes result between r' status receipt → AsksPrefix r.asked r'.asked (written_names (targets_of page))
+  created_by page (Ok x) between carried closed = subst (λ (s : RackState). AsksPrefix r.asked s.asked (written_names (targets_of page))) (sym closed.0) carried.created
+  created_by page (Err refusal) between carried closed = subst (λ (names : Option (List (List ℕ))). AsksPrefix r.asked names (written_names (targets_of page))) (sym closed.0.files.asked) carried.created
 
-  created_of : (page : PageWords) → MeanPage words page → Ends words t t' r r' status receipt → AsksFront r.asked r'.asked (written_names (targets_of page))
-  created_of page means (Ends.no_memory begins same refuses none) = subst (λ (names : Option (List (List ℕ))). AsksFront r.asked names (written_names (targets_of page))) (sym refuses.files.asked) (asks_none_of r.asked (written_names (targets_of page)))
+  created_of : (page : PageWords) → MeanPage words page → Ends words t t' r r' status receipt → AsksPrefix r.asked r'.asked (written_names (targets_of page))
+  created_of page means (Ends.no_memory begins same refuses none) = subst (λ (names : Option (List (List ℕ))). AsksPrefix r.asked names (written_names (targets_of page))) (sym refuses.files.asked) (asks_none_of r.asked (written_names (targets_of page)))
   created_of page means (Ends.no_command means_none same refuses none) = let e : ◌≡◌ {A = Option Command} None (Some (Page page)) = sym means_none ∙ means in absurd cc
-  created_of page means (Ends.page other also ended) = subst (λ (p : PageWords). AsksFront r.asked r'.asked (written_names (targets_of p))) (same_page other page also means) (created_by other ended.result ended.between ended.carried ended.closed)
+  created_of page means (Ends.page other also ended) = subst (λ (p : PageWords). AsksPrefix r.asked r'.asked (written_names (targets_of p))) (same_page other page also means) (created_by other ended.result ended.between ended.carried ended.closed)
   created_of page means (Ends.sample sample also same ended) = absurd (not_both page sample means also)
 
   pub write_fault : Ends words t t' r r' status receipt → WriteFault words t r r' status
@@ -430,6 +429,7 @@ module _ (words : List (List ℕ)) (t t' : TrayState) (r r' : RackState) (status
     too_many = λ sample means. (sample_large sample r r' status receipt (sample_ending sample means ended).1.answer, large_status sample r r' status receipt (sample_ending sample means ended).1.answer);
     too_many_line = λ sample means. large_line sample r r' status receipt (sample_ending sample means ended).1.answer;
     in_part = λ sample means s. (sample_part sample r r' status receipt (sample_ending sample means ended).1.answer s).1;
+    once = λ sample means. sample_once sample r r' status receipt (sample_ending sample means ended).1.answer;
     files = λ sample means. (sample_ending sample means ended).1.files.files;
     no_begin = λ sample means. ap (λ (s : TrayState). s.asked) (sample_ending sample means ended).0;
     no_create = λ sample means. (sample_ending sample means ended).1.files.asked;

@@ -11,8 +11,8 @@ use Rattle.page_gather.specs.Inputs.{Sources, read_files}
 use Rattle.page_gather.specs.Steps.{PassesNoFault}
 use Rattle.page_gather.proofs.GatherLemmas.{refused_count}
 use Rattle.page_writing.specs.Writing.{FailsOnce}
-use Rattle.trap_report.specs.declared.refusal.Refusal.{Refusal}
-use Rattle.trap_report.specs.declared.refusal.Refusal.TheVariants.{Usage, Job, NoDetails, Plate, Page, Read, Write, Memory}
+use Rattle.refusals.specs.declared.refusal.Refusal.{Refusal}
+use Rattle.refusals.specs.declared.refusal.Refusal.TheVariants.{Usage, Job, NoDetails, Plate, Page, Read, Write, Memory}
 use Rattle.page_output.specs.Output.{AnswersPut, PutsOut}
 use Rattle.trap_cli.specs.Endings.{AnswersCommand, CarriesOut}
 use Rattle.verdicts.specs.Verdicts.{Targets, written_names}

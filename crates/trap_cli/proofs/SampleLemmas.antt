@@ -8,13 +8,13 @@ use Rattle.page_model.specs.declared.parts.PageParts.{PageParts}
 use Rattle.page_model.specs.Counts.{page_counts}
 use Rattle.page_model.specs.Limits.{most_samples}
 use Rattle.trap_engine.specs.Receipts.{IsWholeReceipt}
-use Rattle.trap_report.specs.declared.refusal.Refusal.{Refusal}
-use Rattle.trap_report.specs.declared.refusal.Refusal.TheVariants.{Memory}
+use Rattle.refusals.specs.declared.refusal.Refusal.{Refusal}
+use Rattle.refusals.specs.declared.refusal.Refusal.TheVariants.{Memory}
 use Rattle.trap_report.specs.Report.{report_of}
 use Rattle.trap_words.specs.Words.{SampleWords}
 use Rattle.page_output.specs.declared.outcome.Outcome.{Outcome}
 use Rattle.trap_cli.specs.Commands.{sample_band}
-use Rattle.trap_report.specs.Statuses.{done, not_written}
+use Rattle.refusals.specs.Statuses.{done, not_written}
 use Rattle.trap_cli.specs.Endings.{EndsSample, IsSmall, MakesReport, sample_of, sample_report}
 use Rattle.trap_cli.specs.Endings.AnswersSample.{told, told_in_part}
 
@@ -29,7 +29,7 @@ report_made words page (Err refusal) small is memory = subst (λ (r : Refusal). 
 pub told_a_part : (words : SampleWords) (text : List ℕ) (a b : RackState) (failed : Failed) → IsSmall words → text ≡ sample_report words → Tells {T = Unit {0}} {E = Failed} text a b (Err failed) → EndsSample words a b not_written None
 told_a_part words text a b failed small is tells = record {
   files = record { keeps = tells.keeps; asked = tells.asked; finished = tells.finished; is_open = tells.is_open; files = tells.files };
-  answer = told_in_part small refl tells.cause (λ told. (let front = tells.part told in (front.0, front.1 ∙ ap (λ (t : List ℕ). a.told ++ take front.0 t) is))) refl;
+  answer = told_in_part small refl tells.cause tells.once (λ told. (let prefix = tells.part told in (prefix.0, prefix.1 ∙ ap (λ (t : List ℕ). a.told ++ take prefix.0 t) is))) refl;
 }
 
 -- The report was told whole, and the table at which the page was trapped is handed on.

@@ -3,7 +3,7 @@
 use Rattle.std.specs.Prelude.{◌≡◌, ◌≢◌, ◌⊎◌, ◌↔◌, ℕ, ◌≤◌, IsTrue, IsFalse, true, List, ◌++◌, length}
 use Rattle.std.specs.Prelude.{take, Option, Some, None, Ok, Err}
 use Rattle.band_claims.specs.Receipt.{Receipt}
-use Rattle.outside.specs.Causes.{Rose, Asks, AsksFront}
+use Rattle.outside.specs.Causes.{Rose, RoseOnce, Asks, AsksPrefix}
 use Rattle.outside.specs.Tray.{TrayState}
 use Rattle.outside.specs.Rack.{RackState}
 use Rattle.job_reader.specs.declared.job.Job.{Job}
@@ -16,17 +16,17 @@ use Rattle.page_gather.specs.Steps.{PassesNoFault}
 use Rattle.pgm_plates.specs.declared.plate.Plate.{Plate as PlateRead}
 use Rattle.page_writing.specs.Files.{Written, put_all}
 use Rattle.page_writing.specs.Writing.{Breaks, FinishesAll}
-use Rattle.trap_report.specs.declared.refusal.Refusal.{Refusal}
-use Rattle.trap_report.specs.declared.refusal.Refusal.TheVariants as Refusals
-use Rattle.trap_report.specs.Refusals.{line_of, status_of}
-use Rattle.trap_report.specs.Statuses.{done, usage, job_refused, page_refused, not_read}
-use Rattle.trap_report.specs.Statuses.{not_written, out_of_memory}
-use Rattle.trap_report.specs.Telling.{TellsText, TellsAfterFault}
+use Rattle.refusals.specs.declared.refusal.Refusal.{Refusal}
+use Rattle.refusals.specs.declared.refusal.Refusal.TheVariants as Refusals
+use Rattle.refusals.specs.Refusals.{line_of, status_of}
+use Rattle.refusals.specs.Statuses.{done, usage, job_refused, page_refused, not_read}
+use Rattle.refusals.specs.Statuses.{not_written, out_of_memory}
+use Rattle.refusals.specs.Telling.{TellsText, TellsAfterFault}
 use Rattle.trap_words.specs.Words.{PageWords, SampleWords, begins_with_page, command_of, Page}
 use Rattle.trap_words.specs.Words.{Sample}
 use Rattle.trap_cli.specs.Commands.{sample_band, sources_of, targets_of}
 use Rattle.trap_cli.specs.Endings.{HasReceipt, IsSmall, sample_of, sample_report}
-use Rattle.trap_cli.specs.Locality.{ChangesNearEdges}
+use Rattle.verdicts.specs.Locality.{ChangesNearEdges}
 use Rattle.verdicts.specs.Verdicts.{IsVerdict, Refused, Out, outcome, written_names}
 
 -- The words are a command of this page.
@@ -74,7 +74,7 @@ pub record Usage (words : List (List ℕ)) (tray tray' : TrayState) (rack rack' 
   pub no_create : command_of words ≡ None → rack'.asked ≡ rack.asked
 
 -- What comes where the files are refused: the refusal's status, the verdict, the names that were
--- handed to `begin`, none behind that of the file that is refused, the line, and that no fault
+-- handed to `begin`, none after that of the file that is refused, the line, and that no fault
 -- of the tray was passed over.
 pub record RefusesFiles (page : PageWords) (tray tray' : TrayState) (rack rack' : RackState)
     (status : ℕ) (refusal : Refusal) : Type 0 where
@@ -86,7 +86,7 @@ pub record RefusesFiles (page : PageWords) (tray tray' : TrayState) (rack rack' 
   pub line : TellsText (line_of refusal) rack rack'
 
 -- Status 3 and 4 of a page come only where the verdict is a refusal of that status; and where it
--- is one, and the tray's count did not rise, its status comes, or want of memory.
+-- is one, and the tray's count did not rise, its status comes, or out of memory.
 pub record RefusedInput (words : List (List ℕ)) (tray tray' : TrayState) (rack rack' : RackState)
     (status : ℕ) : Type 0 where
   pub only : (page : PageWords) → MeanPage words page
@@ -97,9 +97,9 @@ pub record RefusedInput (words : List (List ℕ)) (tray tray' : TrayState) (rack
       → ¬ Rose tray.faults tray'.faults → (status ≡ status_of refusal) ⊎ (status ≡ out_of_memory)
 
 -- Status 5 comes only for a page, and only where the tray's count rose. The names handed to
--- `begin` are a front of those of the job and the plates, and the line names the last of them;
+-- `begin` are a prefix of those of the job and the plates, and the line names the last of them;
 -- what was read before it has no fault. At every status no more was taken of the file in hand
--- than is owed, and neither a failed write nor want of memory passes a fault of the tray over.
+-- than is owed, and neither a failed write nor out of memory passes a fault of the tray over.
 pub record ReadFault (words : List (List ℕ)) (tray tray' : TrayState) (rack rack' : RackState)
     (status : ℕ) : Type 0 where
   pub cause : status ≡ not_read → Rose tray.faults tray'.faults
@@ -109,14 +109,14 @@ pub record ReadFault (words : List (List ℕ)) (tray tray' : TrayState) (rack ra
       × BreaksReading (sources_of page) file tray tray'
       × TellsText (line_of (Refusals.Read file)) rack rack'
   pub asked : (page : PageWords) → MeanPage words page
-      → AsksFront tray.asked tray'.asked (read_files (sources_of page))
+      → AsksPrefix tray.asked tray'.asked (read_files (sources_of page))
   pub in_hand : (page : PageWords) → MeanPage words page
       → (tray' ≡ tray) ⊎ InHand (sources_of page) tray tray'
   pub calm : (status ≡ not_written) ⊎ (status ≡ out_of_memory) → tray'.faults ≡ tray.faults
 
 -- Status 6 comes only where the rack's count rose. Of a page the verdict is then a list of
--- files: those before the failed one are whole and finished, it holds a front of its bytes or is
--- as before, and the later ones are as before. The names handed to `create` are a front of those
+-- files: those before the failed one are whole and finished, it holds a prefix of its bytes or is
+-- as before, and the later ones are as before. The names handed to `create` are a prefix of those
 -- of the plates and the report, and the line names the last of them, whole unless a further call
 -- failed.
 pub record WriteFault (words : List (List ℕ)) (tray : TrayState) (rack rack' : RackState)
@@ -127,10 +127,10 @@ pub record WriteFault (words : List (List ℕ)) (tray : TrayState) (rack rack' :
       × Breaks (length (targets_of page).outputs) (outcome (targets_of page) made) file rack rack')
       × TellsAfterFault (line_of (Refusals.Write file)) rack rack'
   pub asked : (page : PageWords) → MeanPage words page
-      → AsksFront rack.asked rack'.asked (written_names (targets_of page))
+      → AsksPrefix rack.asked rack'.asked (written_names (targets_of page))
 
 -- For every status but 0 and 6 no file is created, and the rack's files are as before. Status 7
--- is want of memory.
+-- is out of memory.
 abbrev pub LeavesFiles : RackState → RackState → ℕ → Type 0
 LeavesFiles rack rack' status = status ≢ done → status ≢ not_written
     → (rack'.asked ≡ rack.asked) × (rack'.is_open ≡ rack.is_open)
@@ -150,8 +150,8 @@ Locality words tray = (page : PageWords) (job : Job) (read : List PlateRead) (ma
     → assembly job read (sources_of page).names ≡ Ok made → ChangesNearEdges made read
 
 -- A sample page answers 0, 4, 6 or 7: its report is told; it has too many samples, which its
--- line says; the report was told in part, since the rack's count rose; or memory was wanted. No
--- name is handed out.
+-- line says; the report was told in part, since one call of the rack failed and none after it; or
+-- memory ran out. No name is handed out.
 pub record SamplePage (words : List (List ℕ)) (tray tray' : TrayState) (rack rack' : RackState)
     (status : ℕ) : Type 0 where
   pub statuses : (sample : SampleWords) → MeanSample words sample
@@ -166,6 +166,8 @@ pub record SamplePage (words : List (List ℕ)) (tray tray' : TrayState) (rack r
   pub in_part : (sample : SampleWords) → MeanSample words sample → status ≡ not_written
       → IsTrue rack.tells → (count : ℕ)
       × (rack'.told ≡ rack.told ++ take count (sample_report sample))
+  pub once : (sample : SampleWords) → MeanSample words sample → status ≡ not_written
+      → RoseOnce rack.faults rack'.faults
   pub files : (sample : SampleWords) → MeanSample words sample → IsTrue rack.tells
       → rack'.file ≡ rack.file
   pub no_begin : (sample : SampleWords) → MeanSample words sample → tray'.asked ≡ tray.asked

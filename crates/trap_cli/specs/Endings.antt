@@ -2,7 +2,7 @@
 use Rattle.std.specs.Prelude.{◌≡◌, ◌⊎◌, ℕ, ◌*◌, ◌≤◌, IsTrue, true, List, ◌++◌, length, take, Option}
 use Rattle.std.specs.Prelude.{Some, None, Result, Ok, Err}
 use Rattle.band_claims.specs.Receipt.{Receipt}
-use Rattle.outside.specs.Causes.{Rose, Asks, AsksFront}
+use Rattle.outside.specs.Causes.{Rose, RoseOnce, Asks, AsksPrefix}
 use Rattle.outside.specs.Tray.{TrayState, KeepsTray}
 use Rattle.outside.specs.Rack.{RackState, KeepsRack}
 use Rattle.page_model.specs.declared.parts.PageParts.{PageParts}
@@ -16,11 +16,11 @@ use Rattle.page_gather.specs.Steps.{PassesNoFault}
 use Rattle.page_source.specs.Sample.{sample_parts}
 use Rattle.page_writing.specs.Writing.{WritesAll, Breaks, FailsOnce, FinishesAll}
 use Rattle.trap_engine.specs.Receipts.{IsWholeReceipt}
-use Rattle.trap_report.specs.declared.refusal.Refusal.{Refusal}
-use Rattle.trap_report.specs.declared.refusal.Refusal.TheVariants.{Usage, Page, Write, Memory}
+use Rattle.refusals.specs.declared.refusal.Refusal.{Refusal}
+use Rattle.refusals.specs.declared.refusal.Refusal.TheVariants.{Usage, Page, Write, Memory}
 use Rattle.trap_report.specs.Report.{report_of}
-use Rattle.trap_report.specs.Statuses.{done, not_written}
-use Rattle.trap_report.specs.Telling.{KeepsFiles, Refuses}
+use Rattle.refusals.specs.Statuses.{done, not_written}
+use Rattle.refusals.specs.Telling.{KeepsFiles, Refuses}
 use Rattle.trap_words.specs.Words.{PageWords, SampleWords, begins_with_page, command_of}
 use Rattle.trap_words.specs.Words.{Page as page_command, Sample as sample_command}
 use Rattle.page_output.specs.declared.outcome.Outcome.{Outcome}
@@ -46,10 +46,10 @@ pub record CarriesOut (band : ℕ) (source : Sources) (target : Targets) (tray t
   pub tray_keeps : KeepsTray tray tray'
   pub in_hand : (tray' ≡ tray) ⊎ InHand source tray tray'
   pub count : PassesNoFault tray tray' result
-  pub asked : AsksFront tray.asked tray'.asked (read_files source)
+  pub asked : AsksPrefix tray.asked tray'.asked (read_files source)
   pub rack_keeps : KeepsRack rack rack'
   pub told : IsTrue rack.tells → rack'.told ≡ rack.told
-  pub created : AsksFront rack.asked rack'.asked (written_names target)
+  pub created : AsksPrefix rack.asked rack'.asked (written_names target)
   pub answer : AnswersCommand band source target tray tray' rack rack' result
   pub once : FailsOnce rack rack' result
 
@@ -101,6 +101,7 @@ pub data AnswersSample (words : SampleWords) (rack rack' : RackState) (status : 
       → HasReceipt (sample_of words) sample_band receipt
       → AnswersSample words rack rack' status receipt
   told_in_part : IsSmall words → status ≡ not_written → Rose rack.faults rack'.faults
+      → RoseOnce rack.faults rack'.faults
       → (IsTrue rack.tells
       → (count : ℕ) × (rack'.told ≡ rack.told ++ take count (sample_report words))) → receipt ≡ None
       → AnswersSample words rack rack' status receipt
@@ -115,7 +116,7 @@ pub record EndsSample (words : SampleWords) (rack rack' : RackState) (status : �
   pub files : KeepsFiles rack rack'
   pub answer : AnswersSample words rack rack' status receipt
 
--- The words of a command are carried out. Want of memory for the words comes only where `page`
+-- The words of a command are carried out. Out of memory for the words comes only where `page`
 -- is the first of them.
 pub data Ends (words : List (List ℕ)) (tray tray' : TrayState) (rack rack' : RackState) (status : ℕ)
     (receipt : Option Receipt) : Type 0 where

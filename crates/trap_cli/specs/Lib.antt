@@ -1,4 +1,3 @@
 pub mod Commands
 pub mod Endings
-pub mod Locality
 pub mod Clauses

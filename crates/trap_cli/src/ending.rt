@@ -1,10 +1,10 @@
 ghost use Rattle.std.specs.Prelude.{◌≡◌, None};
-ghost use Rattle.trap_report.specs.Telling.{Refuses};
+ghost use Rattle.refusals.specs.Telling.{Refuses};
 
 use band_claims::Closed;
 use outside::rack::Rack;
-use trap_report::refusal::Refusal;
-use trap_report::telling::refuse;
+use refusals::refusal::Refusal;
+use refusals::telling::refuse;
 
 /// How the top call ended.
 #[derive(Drop)]
@@ -16,7 +16,7 @@ pub struct Ended {
 }
 
 // Tells the line of a refusal, which ends the call without a receipt.
-pub(crate) fn refused<R: Rack>(rack: &mut R, refusal: &Refusal) -> Ended
+pub(crate) fn end_refused<R: Rack>(rack: &mut R, refusal: &Refusal) -> Ended
     ensures line { Refuses refusal.now (R.state rack.old) (R.state rack.new) result.status }
     ensures receipt { result.receipt ≡ None }
 {

@@ -6,7 +6,7 @@ ghost use Rattle.page_gather.specs.Gathering.{ReadsPage};
 ghost use Rattle.trap_cli.specs.Endings.{CarriesOut, EndsPage};
 ghost use Rattle.page_output.specs.Output.{PutsOut};
 
-use crate::ending::{Ended, refused};
+use crate::ending::{Ended, end_refused};
 use crate::files::{inputs_of, names_of, outputs_of};
 use band_claims::Closed;
 use band_workers::Gate;
@@ -16,10 +16,10 @@ use page_gather::gather::gather;
 use page_model::page::Page;
 use page_model::parts::OutOfMemory;
 use page_output::output::{PageOrder, put_out};
+use refusals::refusal::Refusal;
+use refusals::statuses::DONE;
 use std::alloc::Global;
 use std::thread::Threads;
-use trap_report::refusal::Refusal;
-use trap_report::statuses::DONE;
 use trap_words::command::PageCommand;
 
 // Carries out a command of a page, and gives how it ends.
@@ -41,7 +41,7 @@ pub(crate) fn run_page<H: Threads + Sync, T: Tray, R: Rack, G: Gate + Sync>(
             status: DONE,
             receipt: Some(receipt),
         },
-        Err(refusal) => refused(rack, &refusal),
+        Err(refusal) => end_refused(rack, &refusal),
     }
 }
 

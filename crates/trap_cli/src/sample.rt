@@ -7,7 +7,7 @@ ghost use Rattle.trap_words.specs.Held.{IsSampleWithin, sample_in};
 ghost use Rattle.trap_cli.specs.Commands.{sample_band};
 ghost use Rattle.trap_cli.specs.Endings.{EndsSample, MakesReport};
 
-use crate::ending::{Ended, refused};
+use crate::ending::{Ended, end_refused};
 use band_workers::Gate;
 use outside::rack::Rack;
 use outside::tray::Failed;
@@ -15,10 +15,10 @@ use page_model::page::{Page, PageFault};
 use page_model::parts::OutOfMemory;
 use page_output::outcome::{Outcome, outcome_of};
 use page_source::sample::{SampleRefusal, sample_page};
+use refusals::refusal::Refusal;
+use refusals::statuses::{DONE, NOT_WRITTEN};
 use std::alloc::Global;
 use std::thread::Threads;
-use trap_report::refusal::Refusal;
-use trap_report::statuses::{DONE, NOT_WRITTEN};
 use trap_words::command::SampleCommand;
 
 // The rows of a band in which a sample page is trapped.
@@ -47,7 +47,7 @@ pub(crate) fn run_sample<H: Threads + Sync, R: Rack, G: Gate + Sync>(
                 receipt: None,
             },
         },
-        Err(refusal) => refused(rack, &refusal),
+        Err(refusal) => end_refused(rack, &refusal),
     }
 }
 

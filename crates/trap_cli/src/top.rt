@@ -3,7 +3,7 @@ ghost use Rattle.trap_cli.specs.Clauses.{Success, Usage, RefusedInput, ReadFault
 ghost use Rattle.trap_cli.specs.Endings.{Ends};
 
 pub use crate::ending::Ended;
-use crate::ending::refused;
+use crate::ending::end_refused;
 use crate::page::run_page;
 use crate::sample::run_sample;
 use band_workers::Gate;
@@ -11,9 +11,9 @@ use outside::rack::Rack;
 use outside::tray::Tray;
 use page_model::parts::OutOfMemory;
 use pgm_plates::laws::{not_both, one_fault, one_plate};
+use refusals::refusal::Refusal;
 use std::alloc::Global;
 use std::thread::Threads;
-use trap_report::refusal::Refusal;
 use trap_words::command::{Command, read_words};
 
 /// Carries out the command that the words mean, and answers the status that the program ends with, and at status 0 the
@@ -27,7 +27,7 @@ use trap_words::command::{Command, read_words};
 ///
 /// The status is 0 where the work is done; 2 where the words mean no command; 3 where the job has a fault or lacks the
 /// details of a plate's colorant; 4 where a plate's file has a fault, or the plates are no page; 5 where a read failed; 6
-/// where a write failed; and 7 where memory was wanted. Each refusal tells one line that names the cause.
+/// where a write failed; and 7 where memory ran out. Each refusal tells one line that names the cause.
 ///
 /// The receipt of status 0 is the closed table of the page that the job and the plates make, in bands of B rows, or of the
 /// sample page, in bands of 64. In it every piece is done and every cell is that of the whole-page rule; no piece was
@@ -79,7 +79,7 @@ fn run<H: Threads + Sync, T: Tray, R: Rack, G: Gate + Sync>(
     match read_words(alloc, words) {
         Ok(Some(Command::Page(page))) => run_page(rt, alloc, &page, tray, rack, gate),
         Ok(Some(Command::Sample(sample))) => run_sample(rt, alloc, sample, rack, gate),
-        Ok(None) => refused(rack, &Refusal::Usage),
-        Err(OutOfMemory) => refused(rack, &Refusal::Memory),
+        Ok(None) => end_refused(rack, &Refusal::Usage),
+        Err(OutOfMemory) => end_refused(rack, &Refusal::Memory),
     }
 }

@@ -11,7 +11,7 @@ use Rattle.band_claims.specs.Receipt.{Receipt}
 use Rattle.band_claims.proofs.Steps.{fit_shape}
 use Rattle.band_pieces.specs.Fills.{HasCells}
 use Rattle.band_pieces.specs.Finished.{IsFinished}
-use Rattle.strip_engine.specs.Standing.{AreMarks, IsNewRow}
+use Rattle.page_tally.specs.Standing.{AreMarks, IsNewRow}
 
 -- of one row the places are those of the list
 one_row : (wide y o : ℕ) (value : ℕ → ℕ → ℕ) (items : List ℕ) → HoldsRows wide value (record { first = y; count = 1 }) items → o < wide → slice_index items o ≡ value y o

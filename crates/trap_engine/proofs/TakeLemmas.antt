@@ -10,11 +10,11 @@ use Rattle.page_model.specs.Counts.{plate_changes}
 use Rattle.page_model.specs.Page.{height, sample_at, width}
 use Rattle.page_model.proofs.PageLemmas.{plane_of}
 use Rattle.lists.specs.Words.{count_below, sum_below}
-use Rattle.strip_engine.proofs.CountLemmas.{count_below-le, few_samples}
-use Rattle.strip_engine.proofs.EdgeCount.{edges_next, few_next}
-use Rattle.strip_engine.specs.declared.outcome.Outcome.{Outcome}
-use Rattle.strip_engine.specs.Standing.{AreMarks, AreTrappedTo, HasRows, IsTrappedTo, edges_of}
-use Rattle.strip_engine.specs.Tallies.{HasPlates, HasTallies}
+use Rattle.page_tally.proofs.CountLemmas.{count_below-le, few_samples}
+use Rattle.page_tally.proofs.EdgeCount.{edges_next, few_next}
+use Rattle.page_tally.specs.declared.outcome.Outcome.{Outcome}
+use Rattle.page_tally.specs.Standing.{AreMarks, AreTrappedTo, HasRows, IsTrappedTo, edges_of}
+use Rattle.page_tally.specs.Tallies.{HasPlates, HasTallies}
 use Rattle.trap_engine.specs.declared.plates.PlateWork.{PlateWork}
 use Rattle.trap_engine.specs.Memory.{KeepsWorks}
 use Rattle.trap_engine.specs.Taking.{IsTakenPlate}

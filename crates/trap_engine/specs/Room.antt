@@ -5,8 +5,8 @@ use Rattle.band_claims.specs.Shares.{IsWhole}
 use Rattle.page_model.specs.declared.parts.PageParts.{PageParts}
 use Rattle.row_cells.specs.Layouts.{Layout}
 use Rattle.band_pieces.specs.Room.{Memory}
-use Rattle.strip_engine.specs.declared.outcome.Outcome.{Outcome}
-use Rattle.strip_engine.specs.Tallies.{HasTallies}
+use Rattle.page_tally.specs.declared.outcome.Outcome.{Outcome}
+use Rattle.page_tally.specs.Tallies.{HasTallies}
 use Rattle.trap_engine.specs.declared.parts.Part.{Part}
 use Rattle.trap_engine.specs.declared.plates.PlateWork.{PlateWork}
 use Rattle.trap_engine.specs.Parts.{AreParts, AreSeatedParts}

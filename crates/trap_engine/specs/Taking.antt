@@ -6,8 +6,8 @@ use Rattle.page_model.specs.declared.parts.Plane.{Plane}
 use Rattle.page_model.specs.Counts.{plate_changes}
 use Rattle.page_model.specs.Page.{height, plates, sample_at, width}
 use Rattle.lists.specs.Words.{count_below}
-use Rattle.strip_engine.specs.Standing.{IsTrappedTo}
-use Rattle.strip_engine.specs.Tallies.{AreRowsCounted}
+use Rattle.page_tally.specs.Standing.{IsTrappedTo}
+use Rattle.page_tally.specs.Tallies.{AreRowsCounted}
 use Rattle.trap_engine.specs.declared.plates.PlateWork.{PlateWork}
 use Rattle.trap_engine.specs.declared.tally.Tally.{Tally}
 

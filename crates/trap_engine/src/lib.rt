@@ -7,6 +7,7 @@ mod room;
 mod table;
 mod tally;
 
+pub use page_tally::Trapped;
 pub use room::TrapRoom;
-pub use strip_engine::{Trapped, trap_alone};
+pub use strip_engine::trap_alone;
 pub use table::{trap_in, trap_page};

@@ -6,8 +6,8 @@ ghost use Rattle.band_claims.specs.Sheets.{IsFit};
 ghost use Rattle.band_pieces.specs.Finished.{IsFinished};
 ghost use Rattle.page_model.specs.Bands.{pieces_of};
 ghost use Rattle.page_model.specs.Page.{height, width};
-ghost use Rattle.strip_engine.specs.Standing.{AreTrappedTo, HasRows, KeepsRoom};
-ghost use Rattle.strip_engine.specs.Tallies.{HasPlates};
+ghost use Rattle.page_tally.specs.Standing.{AreTrappedTo, HasRows, KeepsRoom};
+ghost use Rattle.page_tally.specs.Tallies.{HasPlates};
 ghost use Rattle.trap_engine.specs.Memory.{KeepsParts, KeepsTally};
 ghost use Rattle.trap_engine.specs.Parts.{AreCountedParts, AreOfSize, AreParts, AreSeatedParts, IsCounted, IsPart};
 
@@ -15,14 +15,14 @@ use crate::tally::{Tally, take_rows, tally_of};
 use band_claims::{Closed, Pass, Reader, Shared};
 use band_pieces::all_done;
 use lists::list::List;
+use lists::memory::push;
 use page_model::page::Page;
 use page_model::parts::{OutOfMemory, Plane};
+use page_tally::Outcome;
 use row_values::Rows;
 use std::alloc::Global;
 use std::thread;
 use std::thread::Threads;
-use strip_engine::Outcome;
-use strip_engine::memory::push;
 
 /// Some rows of the page, with a seat of their own to read by. Until it is `done` nothing is counted in them; then the tally has
 /// all that there is.

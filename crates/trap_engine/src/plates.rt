@@ -6,8 +6,8 @@ ghost use Rattle.band_claims.specs.Sheets.{IsFit};
 ghost use Rattle.band_pieces.specs.Finished.{IsFinished};
 ghost use Rattle.page_model.specs.Bands.{pieces_of};
 ghost use Rattle.page_model.specs.Page.{height, plates, width};
-ghost use Rattle.strip_engine.specs.Standing.{IsTrappedTo, KeepsRoom};
-ghost use Rattle.strip_engine.specs.Tallies.{HasPlates, HasTallies};
+ghost use Rattle.page_tally.specs.Standing.{IsTrappedTo, KeepsRoom};
+ghost use Rattle.page_tally.specs.Tallies.{HasPlates, HasTallies};
 ghost use Rattle.trap_engine.specs.Memory.{KeepsWorks};
 ghost use Rattle.trap_engine.specs.Taking.{ArePlateWorks, AreSeatedWorks, AreTakenPlates, IsPlateWork, IsTakenPlate};
 
@@ -15,10 +15,10 @@ use band_claims::{Closed, Reader, Shared};
 use band_pieces::{CellSource, all_done, read_plate};
 use page_model::page::Page;
 use page_model::parts::Plane;
+use page_tally::{Outcome, put_plate_row};
 use row_cells::layout::Layout;
 use std::thread;
 use std::thread::Threads;
-use strip_engine::{Outcome, put_plate_row};
 
 /// What a plate of the result is taken with: a seat of its own to read by, room for a row, and the plane. Until it is `done`
 /// the plane is a copy of the page's; then it has its new tints, and `changed` tells how many they are.

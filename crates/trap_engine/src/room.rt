@@ -8,7 +8,7 @@ ghost use Rattle.page_model.specs.Limits.{most_band_height, most_workers};
 ghost use Rattle.page_model.specs.Page.{height, plates, width};
 ghost use Rattle.page_model.specs.Planes.{no_plane as none};
 ghost use Rattle.page_model.specs.Reach.{page_reach};
-ghost use Rattle.strip_engine.specs.Standing.{AreTrappedTo, HasRows};
+ghost use Rattle.page_tally.specs.Standing.{AreTrappedTo, HasRows};
 ghost use Rattle.trap_engine.specs.Taking.{ArePlateWorks, AreSeatedWorks};
 
 use crate::parts::{Part, parts_of};
@@ -16,16 +16,16 @@ use crate::plates::PlateWork;
 use band_claims::{Pass, Reader, Shared};
 use band_pieces::Scratch;
 use lists::list::List;
+use lists::memory::{filled, push};
 use page_model::bands::Bands;
 use page_model::page::Page;
 use page_model::parts::{OutOfMemory, Plane, PlaneList};
+use page_tally::Outcome;
 use row_cells::layout::Layout;
 use std::alloc::Global;
 use std::marker::Model;
 use std::thread;
 use std::thread::Threads;
-use strip_engine::Outcome;
-use strip_engine::memory::{filled, push};
 
 /// All the memory that trapping a page by workers takes: the shared table, the memory of each worker, the planes of
 /// the result and the counts. Contracts see the page that it was made for, the layout of its cells, how many workers it

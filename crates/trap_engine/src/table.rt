@@ -5,8 +5,8 @@ ghost use Rattle.page_model.specs.Counts.{page_counts};
 ghost use Rattle.page_model.specs.Limits.{most_band_height, most_workers};
 ghost use Rattle.page_model.specs.Page.{height};
 ghost use Rattle.page_model.specs.Tints.{trapped_planes};
-ghost use Rattle.strip_engine.specs.Standing.{HasRows, KeepsRoom};
-ghost use Rattle.strip_engine.specs.Tallies.{HasPlates, HasTallies};
+ghost use Rattle.page_tally.specs.Standing.{HasRows, KeepsRoom};
+ghost use Rattle.page_tally.specs.Tallies.{HasPlates, HasTallies};
 ghost use Rattle.trap_engine.specs.Memory.{KeepsParts, KeepsWorks};
 ghost use Rattle.trap_engine.specs.Parts.{AreParts, AreSeatedParts};
 ghost use Rattle.trap_engine.specs.Receipts.{IsWholeReceipt};
@@ -20,9 +20,9 @@ use band_pieces::finish_table;
 use band_workers::{Gate, work_many};
 use page_model::page::Page;
 use page_model::parts::OutOfMemory;
+use page_tally::{Outcome, Trapped};
 use std::alloc::Global;
 use std::thread::Threads;
-use strip_engine::{Outcome, Trapped};
 
 /// Takes the plates by their own readers, in so many threads, and where that took all of them, puts them into the outcome and
 /// counts in the parts by theirs. It gives the works where some plate is left.

@@ -4,18 +4,18 @@ ghost use Rattle.band_claims.specs.Sheets.{IsFit};
 ghost use Rattle.page_model.specs.Bands.{pieces_of};
 ghost use Rattle.page_model.specs.Page.{height, width};
 ghost use Rattle.page_model.specs.Zones.{AreZones};
-ghost use Rattle.strip_engine.specs.Standing.{AreMarks, AreTrappedTo};
+ghost use Rattle.page_tally.specs.Standing.{AreMarks, AreTrappedTo};
 ghost use Rattle.trap_engine.specs.Memory.{KeepsTally};
 ghost use Rattle.trap_engine.specs.Taking.{HasCounted};
 
 use band_pieces::{CellSource, read_marks, read_zones};
+use lists::memory::{filled, no_counts};
 use page_model::page::Page;
 use page_model::parts::{OutOfMemory, Plane};
+use page_tally::{count_changed, count_zones, edges_in, note_taken};
 use row_cells::layout::Layout;
 use row_values::Rows;
 use std::alloc::Global;
-use strip_engine::memory::{filled, no_counts};
-use strip_engine::{count_changed, count_zones, edges_in, note_taken};
 
 /// What is counted in rows, and room for the zones and marks of a row and for where it changes.
 #[derive(Drop)]

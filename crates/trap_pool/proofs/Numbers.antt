@@ -8,9 +8,9 @@ use Rattle.line_queue.proofs.Keeps.{here, there}
 pub no_number : (n : ℕ) → IsAbove n []
 no_number n x some = absurd (omega arith)
 
-times_behind : (x : ℕ) (xs : List ℕ) (n : ℕ) → times x (xs ++ n ∷ []) ≡ times x xs + times x (n ∷ [])
-times_behind x [] n = omega arith
-times_behind x (y ∷ ys) n = let later = times_behind x ys n in omega arith
+times_after : (x : ℕ) (xs : List ℕ) (n : ℕ) → times x (xs ++ n ∷ []) ≡ times x xs + times x (n ∷ [])
+times_after x [] n = omega arith
+times_after x (y ∷ ys) n = let later = times_after x ys n in omega arith
 
 above_one : (n x : ℕ) → 0 < times x (n ∷ []) → x ≡ n
 above_one n x some = dite (ℕ_discrete n x) (λ same. sym same) (λ other. absurd (let none = there n x [] other in omega arith))
@@ -18,7 +18,7 @@ above_one n x some = dite (ℕ_discrete n x) (λ same. sym same) (λ other. absu
 -- what is above all and one more number
 pub above_both : (xs : List ℕ) (n m : ℕ) → IsAbove n xs → n < m → IsAbove m (xs ++ n ∷ [])
 above_both xs n m above less x some =
-    let sum = times_behind x xs n in
+    let sum = times_after x xs n in
     dite (ℕ_discrete x n) (λ same. omega arith) (λ other.
     let none = there n x [] (λ e. other (sym e)) in
     let before : x < n = above x (omega arith) in
@@ -31,7 +31,7 @@ pub ascends_more : (xs : List ℕ) (n : ℕ) → Ascends xs → IsAbove n xs →
 ascends_more [] n up above = (λ y some. absurd (omega arith), tt)
 ascends_more (x ∷ xs) n up above = (
   λ y some.
-      let sum = times_behind y xs n in
+      let sum = times_after y xs n in
       dite (ℕ_discrete y n)
       (λ same. let first : x < n = above x (let h = here x xs in omega arith) in omega arith)
       (λ other. let none = there n y [] (λ e. other (sym e)) in up.0 y (omega arith)),

@@ -8,7 +8,7 @@ use Rattle.line_queue.specs.declared.serving.Kept.{Kept}
 use Rattle.page_gather.specs.Gathering.{Gathers}
 use Rattle.page_model.specs.declared.parts.PageParts.{PageParts}
 use Rattle.job_list.specs.Lines.{LineParts}
-use Rattle.strip_engine.specs.declared.alone.Trapped.{Trapped}
+use Rattle.page_tally.specs.declared.outcome.Trapped.{Trapped}
 use Rattle.trap_pool.specs.declared.outcome.Outcome.{Outcome}
 use Rattle.trap_pool.specs.declared.outcome.Outcome.TheVariants.{Done, Refused, TooLarge}
 use Rattle.trap_pool.specs.Pools.{AnswersLine, InTurn, KeepsLimit, source_of}
@@ -99,9 +99,9 @@ line_kept a b line (Some trapped) all traps =
       ),
     )
 
--- the replies behind the first
-behind_first : (x y : ReplyParts) (xs ys : List ReplyParts) → AllSettled (x ∷ xs) (y ∷ ys) → AllSettled xs ys
-behind_first x y xs ys all = record { count = let count = all.count in omega arith; each = λ k here. all.each (suc k) (omega arith) }
+-- the replies after the first
+after_first : (x y : ReplyParts) (xs ys : List ReplyParts) → AllSettled (x ∷ xs) (y ∷ ys) → AllSettled xs ys
+after_first x y xs ys all = record { count = let count = all.count in omega arith; each = λ k here. all.each (suc k) (omega arith) }
 
 answers_kept : (k u : ℕ) (line : LineParts) (a b : TrayState) (old new : ReplyParts) → Settled old new → AnswersLine k u line a b old → AnswersLine k u line a b new
 answers_kept k u line a b old new settled answers = record {
@@ -124,7 +124,7 @@ turn_kept k u (l ∷ ls) a b (x ∷ xs) (y ∷ ys) all turn =
     ap (λ (n : ℕ). u + n) (sym (ap (λ (p : Option PageParts). accepted_of p y.outcome) first.page ∙ samples_kept x.page x.outcome y.outcome first.outcome)) in (
       turn.0,
       answers_kept k u l a turn.0 x y first turn.1,
-      subst (λ (n : ℕ). InTurn (k + 1) n ls turn.0 b ys) same (turn_kept (k + 1) (u + accepted_of x.page x.outcome) ls turn.0 b xs ys (behind_first x y xs ys all) turn.2),
+      subst (λ (n : ℕ). InTurn (k + 1) n ls turn.0 b ys) same (turn_kept (k + 1) (u + accepted_of x.page x.outcome) ls turn.0 b xs ys (after_first x y xs ys all) turn.2),
     )
 
 -- One reply is settled.

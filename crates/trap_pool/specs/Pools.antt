@@ -6,8 +6,8 @@ use Rattle.page_gather.specs.Gathering.{Gathers}
 use Rattle.page_gather.specs.Inputs.{Makes, Sources, one_page, sources}
 use Rattle.page_model.specs.declared.parts.PageParts.{PageParts}
 use Rattle.job_list.specs.Lines.{LineParts}
-use Rattle.trap_report.specs.declared.refusal.Refusal.{Refusal}
-use Rattle.trap_report.specs.declared.refusal.Refusal.TheVariants.{Read, Memory}
+use Rattle.refusals.specs.declared.refusal.Refusal.{Refusal}
+use Rattle.refusals.specs.declared.refusal.Refusal.TheVariants.{Read, Memory}
 use Rattle.verdicts.specs.Verdicts.{IsVerdict, Refused as refused_verdict, Targets}
 use Rattle.trap_pool.specs.declared.outcome.Outcome.{Outcome}
 use Rattle.trap_pool.specs.declared.outcome.Outcome.TheVariants.{Done, Refused, TooLarge}
@@ -22,7 +22,7 @@ source_of line = sources line.job line.names line.inputs
 abbrev pub target_of : LineParts → Targets
 target_of line = record { outputs = line.outs; report = line.report }
 
--- A page is accepted exactly where its samples, behind so many of the pages before it, are not too
+-- A page is accepted exactly where its samples, after so many of the pages before it, are not too
 -- many.
 abbrev pub KeepsLimit : ℕ → Option PageParts → Outcome → Type 0
 KeepsLimit used None outcome = Unit {0}
@@ -52,7 +52,7 @@ InTurn k used (line ∷ lines) before after (reply ∷ replies) = (between : Tra
 abbrev pub nowhere : Targets
 nowhere = record { outputs = []; report = [] }
 
--- The verdict on the line's files is this refusal; of a failed read and of want of memory nothing
+-- The verdict on the line's files is this refusal; of a failed read and of out of memory nothing
 -- is said.
 abbrev pub IsJudged : (List ℕ → Option (List ℕ)) → Sources → Refusal → Type 0
 IsJudged files source (Read file) = Unit {0}

@@ -4,9 +4,9 @@ use Rattle.page_model.specs.declared.parts.PageParts.{PageParts}
 use Rattle.page_model.specs.Counts.{page_counts}
 use Rattle.page_model.specs.Page.{height, plates, width}
 use Rattle.page_model.specs.Tints.{trapped_planes}
-use Rattle.strip_engine.specs.declared.alone.Trapped.{Trapped}
-use Rattle.trap_report.specs.declared.refusal.Refusal.{Refusal}
-use Rattle.trap_report.specs.declared.refusal.Refusal.TheVariants.{Usage, Read, Write, Memory}
+use Rattle.page_tally.specs.declared.outcome.Trapped.{Trapped}
+use Rattle.refusals.specs.declared.refusal.Refusal.{Refusal}
+use Rattle.refusals.specs.declared.refusal.Refusal.TheVariants.{Usage, Read, Write, Memory}
 use Rattle.trap_pool.specs.declared.outcome.Outcome.{Outcome}
 use Rattle.trap_pool.specs.declared.outcome.Outcome.TheVariants.{Done, Refused, TooLarge}
 

@@ -1,8 +1,8 @@
 -- What workers make of the pages that wait, and how replies take it in.
 use Rattle.std.specs.Prelude.{◌≡◌, ◌⊎◌, ℕ, ◌<◌, List, length, slice_index_or, Option, Some, None}
 use Rattle.page_model.specs.declared.parts.PageParts.{PageParts}
-use Rattle.strip_engine.specs.declared.alone.Trapped.{Trapped}
-use Rattle.trap_report.specs.declared.refusal.Refusal.TheVariants.{Memory}
+use Rattle.page_tally.specs.declared.outcome.Trapped.{Trapped}
+use Rattle.refusals.specs.declared.refusal.Refusal.TheVariants.{Memory}
 use Rattle.trap_pool.specs.declared.outcome.Outcome.{Outcome}
 use Rattle.trap_pool.specs.declared.outcome.Outcome.TheVariants.{Done, Refused, TooLarge}
 use Rattle.trap_pool.specs.Replies.{ReplyParts, IsReading, IsTrapOf, reply_parts}

@@ -7,9 +7,9 @@ ghost use Rattle.trap_pool.specs.Taking.{accepted_page, waiting_in};
 use crate::outcome::Outcome;
 use crate::reply::Reply;
 use page_model::page::Page;
+use page_tally::Trapped;
+use refusals::refusal::Refusal;
 use std::marker::Model;
-use strip_engine::Trapped;
-use trap_report::refusal::Refusal;
 
 /// A line that the pool works on: its number, the page that was gathered for it, if any, and what became of it. A page that
 /// waits to be trapped has no outcome yet.
@@ -68,7 +68,7 @@ impl Gathered {
     }
 
     // The samples of the page's plates, where it was accepted.
-    pub(crate) fn accepted(&self) -> u64
+    pub(crate) fn accepted_samples(&self) -> u64
         ensures { result ≡ accepted_of self.now.page self.now.outcome }
     {
         match (&self.page, &self.outcome) {

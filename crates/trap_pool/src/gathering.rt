@@ -26,7 +26,7 @@ pub(crate) fn gather_lines<T: Tray>(
     let mut used = 0u64;
     for number in 0..lines.len() {
         let line = gather_line(alloc, tray, &lines.as_slice()[number], number as u32, used);
-        used += line.accepted();
+        used += line.accepted_samples();
         let Ok(()) = gathered.push(line) else {
             unreachable!()
         };

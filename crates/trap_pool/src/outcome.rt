@@ -1,5 +1,5 @@
-use strip_engine::Trapped;
-use trap_report::refusal::Refusal;
+use page_tally::Trapped;
+use refusals::refusal::Refusal;
 
 /// What became of a line.
 #[derive(Drop)]

@@ -16,10 +16,10 @@ use line_queue::{LinePass, LineQueue, Rooms, open_queue, push_lines, rooms_of, s
 use lists::list::List;
 use outside::tray::Tray;
 use page_model::parts::OutOfMemory;
+use page_tally::Trapped;
 use std::alloc::{AllocError, Global};
 use std::sync::Wait;
 use std::thread::Threads;
-use strip_engine::Trapped;
 
 // How many line numbers the queue has places for.
 const PLACES: usize = 256;

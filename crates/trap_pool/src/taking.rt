@@ -6,8 +6,8 @@ use crate::gathered::Gathered;
 use crate::reply::Reply;
 use crate::work::trap_waiting;
 use line_queue::{Kept, Room, Rooms};
+use page_tally::Trapped;
 use std::alloc::Global;
-use strip_engine::Trapped;
 
 // Puts in all that the workers made.
 pub(crate) fn take_in(gathered: &mut Vec<Gathered>, rooms: Rooms<Option<Trapped>>)

@@ -2,8 +2,9 @@ ghost use Rattle.trap_pool.specs.Taking.{TrapsReply};
 
 use crate::gathered::Gathered;
 use line_queue::LineWork;
+use page_tally::Trapped;
 use std::alloc::Global;
-use strip_engine::{Trapped, trap_alone};
+use strip_engine::trap_alone;
 
 /// What is called after each line that a worker took from the queue. It has no meaning, and must return.
 pub trait TakeGate {

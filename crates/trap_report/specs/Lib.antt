@@ -1,4 +1,1 @@
 pub mod Report
-pub mod Statuses
-pub mod Refusals
-pub mod Telling

@@ -4,16 +4,21 @@ use Rattle.std.specs.Fmt.{decimal}
 use Rattle.page_model.specs.declared.parts.Counts.{Counts}
 use Rattle.page_model.specs.declared.parts.PageParts.{PageParts}
 use Rattle.page_model.specs.Page.{plates, width, height, maxval, ink_at}
+use Rattle.refusals.specs.Lines.{line}
 
--- a text, ended by LF
-abbrev pub line : List ℕ → List ℕ
-line text = text ++ 10 ∷ []
+-- what a report begins with
+abbrev pub title_line : List ℕ
+title_line = line (codes "trap report")
 
--- the sides, the maxval and the number of plates
-abbrev pub page_line : PageParts → List ℕ
-page_line page = line
-    (codes "page " ++ decimal (width page) ++ codes " " ++ decimal (height page) ++ codes " "
-    ++ decimal (maxval page) ++ codes " plates " ++ decimal (plates page))
+-- sides, a maxval and a number of plates
+abbrev pub head_line : ℕ → ℕ → ℕ → ℕ → List ℕ
+head_line wide tall most count = line
+    (codes "page " ++ decimal wide ++ codes " " ++ decimal tall ++ codes " "
+    ++ decimal most ++ codes " plates " ++ decimal count)
+
+-- the sides that are told of a page, its maxval and its number of plates
+abbrev pub sided_page_line : PageParts → ℕ → ℕ → List ℕ
+sided_page_line page wide tall = head_line wide tall (maxval page) (plates page)
 
 -- a zone, how many samples lie in it, and how many of these changed
 abbrev pub zone_line : ℕ → ℕ → ℕ → List ℕ
@@ -41,11 +46,16 @@ plate_lines page counts zero = []
 plate_lines page counts (suc n) = plate_lines page counts n
     ++ plate_line (ink_at page n).name (slice_index counts.plate_changed n)
 
--- the whole report
+-- the whole report, with the sides that are told: those of a sheet, where the page is a window
+abbrev pub sided_report_of : PageParts → ℕ → ℕ → Counts → List ℕ
+sided_report_of page wide tall counts =
+    title_line ++ sided_page_line page wide tall
+    ++ zone_lines counts (length page.zones) ++ edges_line counts.edges
+    ++ plate_lines page counts (plates page) ++ line (codes "end")
+
+-- with the page's own sides
 abbrev pub report_of : PageParts → Counts → List ℕ
-report_of page counts =
-    line (codes "trap report") ++ page_line page ++ zone_lines counts (length page.zones)
-    ++ edges_line counts.edges ++ plate_lines page counts (plates page) ++ line (codes "end")
+report_of page counts = sided_report_of page (width page) (height page) counts
 
 -- one count for each zone and each plate
 pub record AreCounts (page : PageParts) (counts : Counts) : Type 0 where

@@ -1,10 +1,8 @@
-//! What a program tells: the report of a page, and the line and the status of each refusal.
+//! The report of a page that was trapped; with the line and the status of each refusal, as the crate refusals has them.
 #![tactic(auto)]
 
-pub mod fault_line;
-mod kind_names;
-pub mod line;
-pub mod refusal;
+mod lines;
+pub mod parts;
 pub mod report;
-pub mod statuses;
-pub mod telling;
+
+pub use refusals::{fault_line, refusal};

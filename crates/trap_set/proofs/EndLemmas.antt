@@ -50,7 +50,7 @@ pub lone_line : (text : List ℕ) → HasNoEnd text → lines_of text ≡ text �
 lone_line [] h = refl
 lone_line (b ∷ text) h = rw (other_byte b (h 0 0 (omega arith))) (ap (before_first b) (lone_line text (rest_of b text h)))
 
--- the first line of a text, where it has its LF, stands at the text's front
+-- the first line of a text, where it has its LF, stands at the text's beginning
 first_there : (b : ℕ) (l : List ℕ) (bytes text : List ℕ) → b ≢ 10 → b ∷ l ≡ text ++ 10 ∷ [] → ((t : List ℕ) → l ≡ t ++ 10 ∷ [] → (more : List ℕ) × (bytes ≡ (t ++ 10 ∷ []) ++ more)) → (more : List ℕ) × (b ∷ bytes ≡ (text ++ 10 ∷ []) ++ more)
 first_there b l bytes [] ne e later = absurd (ne (ap (λ (xs : List ℕ). get_or xs 0 0) e))
 first_there b l bytes (c ∷ t) ne e later =
@@ -61,21 +61,21 @@ first_there b l bytes (c ∷ t) ne e later =
 no_more : (t : List ℕ) → [] ≡ t ++ 10 ∷ [] → ⊥
 no_more t z = omega (arith, ap (length {A = ℕ}) z, length-append t (10 ∷ []))
 
-pub front_by : (bytes text : List ℕ) (ls : List (List ℕ)) → lines_of bytes ≡ (text ++ 10 ∷ []) ∷ ls → (more : List ℕ) × (bytes ≡ (text ++ 10 ∷ []) ++ more)
-front_by [] text ls e = absurd (no_more text (ap (λ (xs : List (List ℕ)). get_or xs 0 []) e))
-front_by (b ∷ bytes) text ls e = elim (cases_eq b 10) [
+pub prefix_by : (bytes text : List ℕ) (ls : List (List ℕ)) → lines_of bytes ≡ (text ++ 10 ∷ []) ∷ ls → (more : List ℕ) × (bytes ≡ (text ++ 10 ∷ []) ++ more)
+prefix_by [] text ls e = absurd (no_more text (ap (λ (xs : List (List ℕ)). get_or xs 0 []) e))
+prefix_by (b ∷ bytes) text ls e = elim (cases_eq b 10) [
   | inl is ↦ (
       let lf : (10 ∷ []) ∷ lines_of bytes ≡ (text ++ 10 ∷ []) ∷ ls = subst (λ (c : ℕ). lines_of (c ∷ bytes) ≡ (text ++ 10 ∷ []) ∷ ls) is e in
       (bytes, ap (λ (c : ℕ). c ∷ bytes) is ∙ ap (λ (xs : List (List ℕ)). get_or xs 0 [] ++ bytes) lf))
-  | inr ne ↦ inner (lines_of bytes) refl (rw (other_byte b ne) at e) ne (λ t xs f. front_by bytes t xs f)
+  | inr ne ↦ inner (lines_of bytes) refl (rw (other_byte b ne) at e) ne (λ t xs f. prefix_by bytes t xs f)
 ] where
   inner : (xs : List (List ℕ)) → lines_of bytes ≡ xs → before_first b xs ≡ (text ++ 10 ∷ []) ∷ ls → b ≢ 10 → ((t : List ℕ) (ls2 : List (List ℕ)) → lines_of bytes ≡ (t ++ 10 ∷ []) ∷ ls2 → (more : List ℕ) × (bytes ≡ (t ++ 10 ∷ []) ++ more)) → (more : List ℕ) × (b ∷ bytes ≡ (text ++ 10 ∷ []) ++ more)
   inner [] is f ne later = first_there b [] bytes text ne (ap (λ (ys : List (List ℕ)). get_or ys 0 []) f) (λ t z. absurd (no_more t z))
   inner (l ∷ xs) is f ne later = first_there b l bytes text ne (ap (λ (ys : List (List ℕ)). get_or ys 0 []) f) (λ t z. later t xs (is ∙ ap (λ (y : List ℕ). y ∷ xs) z))
 
-pub front_line : (bytes line : List ℕ) (ls : List (List ℕ)) → IsLine line → lines_of bytes ≡ line ∷ ls → (more : List ℕ) × (bytes ≡ line ++ more)
-front_line bytes line ls h e =
-    let found = front_by bytes h.text ls (e ∙ ap (λ (l : List ℕ). l ∷ ls) h.is) in
+pub prefix_line : (bytes line : List ℕ) (ls : List (List ℕ)) → IsLine line → lines_of bytes ≡ line ∷ ls → (more : List ℕ) × (bytes ≡ line ++ more)
+prefix_line bytes line ls h e =
+    let found = prefix_by bytes h.text ls (e ∙ ap (λ (l : List ℕ). l ∷ ls) h.is) in
     (found.0, found.1 ∙ ap (λ (l : List ℕ). l ++ found.0) (sym h.is))
 
 -- no text is without a line
@@ -90,7 +90,7 @@ pub first_of_lines : (bytes line : List ℕ) → IsLine line → take 1 (lines_o
 first_of_lines bytes line h e =
     let some = some_line bytes in
     let same : some.0 ≡ line = ap (λ (xs : List (List ℕ)). get_or xs 0 []) (sym (ap (take 1) some.2) ∙ e) in
-    front_line bytes line some.1 h (some.2 ∙ ap (λ (l : List ℕ). l ∷ some.1) same)
+    prefix_line bytes line some.1 h (some.2 ∙ ap (λ (l : List ℕ). l ∷ some.1) same)
 
 -- a text of one line that is empty is empty
 pub nothing_left : (bytes : List ℕ) (ls : List (List ℕ)) → lines_of bytes ≡ [] ∷ ls → bytes ≡ []
@@ -104,7 +104,7 @@ nothing_left (b ∷ bytes) ls e = absurd (elim (cases_Bool (nat_eq b 10)) [
       omega (arith, ap (λ (xs : List (List ℕ)). length (get_or xs 0 [])) g))
 ])
 
--- two lines at the front of a text are one
+-- two lines at the beginning of a text are one
 pub same_line : (a b r s : List ℕ) → IsLine a → IsLine b → a ++ r ≡ b ++ s → a ≡ b
 same_line a b r s one other e =
     ap (λ (xs : List (List ℕ)). get_or xs 0 []) (sym (lines_of_line a r one) ∙ ap lines_of e ∙ lines_of_line b s other)

@@ -40,7 +40,7 @@ holds_written v text held start s t w h = record {
   files = λ x. grows_as _ _ start t (sym h.whole) (grows_both h.written held start s t (h.current x) (h.files x) (w.files (subst IsTrue (sym h.tells) x)));
 }
 
--- a piece is held back behind what is
+-- a piece is held back after what is
 pub holds_more : (text held piece : List ℕ) (start s : RackState) → Holds text held start s → Holds (text ++ piece) (held ++ piece) start s
 holds_more text held piece start s h = record {
   tells = h.tells;
@@ -59,8 +59,8 @@ holds_more text held piece start s h = record {
 pub holds_past : {T E : Type 0} (v : T) (text piece : List ℕ) (start s t : RackState) → WritesOn {T = T} {E = E} piece s t (Ok v) → Holds text [] start s → Holds (text ++ piece) [] start t
 holds_past v text piece start s t w h = holds_written v (text ++ piece) piece start s t w (holds_more text [] piece start s h)
 
-front_of_part : (a b : List ℕ) (k : ℕ) → a ++ take k b ≡ take (length a + k) (a ++ b)
-front_of_part a b k = sym (take-append-add a b k)
+prefix_of_part : (a b : List ℕ) (k : ℕ) → a ++ take k b ≡ take (length a + k) (a ++ b)
+prefix_of_part a b k = sym (take-append-add a b k)
 
 -- a fault while what is held back is written
 pub breaks_written : {T E : Type 0} (v : E) (text held : List ℕ) (start s t : RackState) → WritesOn {T = T} {E = E} held s t (Err v) → Holds text held start s → Breaks text start t
@@ -72,14 +72,14 @@ breaks_written v text held start s t w h = record {
   is_open = w.is_open ∙ h.is_open;
   part = λ x.
       (let part = w.part (subst IsTrue (sym h.tells) x) in
-      (length h.written + part.0, grows_as _ _ start t (front_of_part h.written held part.0 ∙ ap (take (length h.written + part.0)) (sym h.whole)) (grows_both h.written (take part.0 held) start s t (h.current x) (h.files x) part.1)));
+      (length h.written + part.0, grows_as _ _ start t (prefix_of_part h.written held part.0 ∙ ap (take (length h.written + part.0)) (sym h.whole)) (grows_both h.written (take part.0 held) start s t (h.current x) (h.files x) part.1)));
   cause = subst (λ (n : ℕ). Rose n t.faults) h.faults w.cause;
   once = subst (λ (n : ℕ). RoseOnce n t.faults) h.faults w.once;
 }
 
 -- what broke off within a text broke off within a longer one
-take_front : (text more : List ℕ) (k : ℕ) → take k text ≡ take (min k (length text)) (text ++ more)
-take_front text more k = sym (take-append-le (min k (length text)) text more (omega arith) ∙ take_min k text)
+take_prefix : (text more : List ℕ) (k : ℕ) → take k text ≡ take (min k (length text)) (text ++ more)
+take_prefix text more k = sym (take-append-le (min k (length text)) text more (omega arith) ∙ take_min k text)
 
 pub breaks_more : (text more : List ℕ) (start t : RackState) → Breaks text start t → Breaks (text ++ more) start t
 breaks_more text more start t b = record {
@@ -90,7 +90,7 @@ breaks_more text more start t b = record {
   is_open = b.is_open;
   cause = b.cause;
   once = b.once;
-  part = λ x. (let part = b.part x in (min part.0 (length text), grows_as _ _ start t (take_front text more part.0) part.1));
+  part = λ x. (let part = b.part x in (min part.0 (length text), grows_as _ _ start t (take_prefix text more part.0) part.1));
 }
 
 -- one piece after another
@@ -159,8 +159,8 @@ puts_past (Err e) piece held held2 s t o none none2 f = record {
   is_open = tt;
 }
 
-pub puts_front : {T T2 E E2 : Type 0} (e : E) (e2 : E2) (a rest whole held held2 held3 : List ℕ) (s t : RackState) → whole ≡ a ++ rest → Puts {T = T} {E = E} a held held2 s t (Err e) → Puts {T = T2} {E = E2} whole held held3 s t (Err e2)
-puts_front {T2 = T2} {E2 = E2} e e2 a rest whole held held2 held3 s t is p = subst (λ (bs : List ℕ). Puts {T = T2} {E = E2} bs held held3 s t (Err e2)) (sym is) (puts_failed e e2 a rest held held2 held3 s t p)
+pub puts_prefix : {T T2 E E2 : Type 0} (e : E) (e2 : E2) (a rest whole held held2 held3 : List ℕ) (s t : RackState) → whole ≡ a ++ rest → Puts {T = T} {E = E} a held held2 s t (Err e) → Puts {T = T2} {E = E2} whole held held3 s t (Err e2)
+puts_prefix {T2 = T2} {E2 = E2} e e2 a rest whole held held2 held3 s t is p = subst (λ (bs : List ℕ). Puts {T = T2} {E = E2} bs held held3 s t (Err e2)) (sym is) (puts_failed e e2 a rest held held2 held3 s t p)
 
 -- a text that is put whole, and of which nothing is held back, fills the file that is finished then
 pub fills_whole : {T T2 E E2 : Type 0} (v : T) (r : Result T2 E2) (text held : List ℕ) (s t u : RackState) → held ≡ [] → Puts {T = T} {E = E} text [] held s t (Ok v) → Finishes t u r → FillsFile text s u r

@@ -9,14 +9,14 @@ use Rattle.trap_set.specs.Numbers.{BeginsNumbers, past_numbers}
 use Rattle.trap_set.specs.Reading.{AreShort, IsShortRun, run_in}
 use Rattle.trap_set.specs.Runs.{Run}
 use Rattle.trap_set.specs.SetText.{SetHead, IsHead, IsRun, number, page_line, run_line}
-use Rattle.trap_set.proofs.NumberLemmas.{behind_number, first_number}
+use Rattle.trap_set.proofs.NumberLemmas.{after_number, first_number}
 
 -- the first of some numbers, and the others
 first_of : (text : List ℕ) (n : ℕ) (ns s : List ℕ) → BeginsNumbers text (n ∷ ns) s → BeginsNumbers text (n ∷ []) (flat_map number ns ++ s)
 first_of text n ns s h = record {
   whole = h.whole ∙ ap (λ (t : List ℕ). t ++ s) (flat_map-cons number n ns) ∙ append_assoc (number n) (flat_map number ns) s ∙ ap (λ (t : List ℕ). t ++ (flat_map number ns ++ s)) (sym (append-nil (number n)) ∙ sym (flat_map-cons number n []));
   below = All-cons (λ (k : ℕ). k < past_numbers) n [] (h.below 0 0 (omega arith)) (All-nil (λ (k : ℕ). k < past_numbers));
-  ends = behind_number ns s h.ends;
+  ends = after_number ns s h.ends;
 }
 
 others_of : (text : List ℕ) (n : ℕ) (ns s : List ℕ) → BeginsNumbers text (n ∷ ns) s → BeginsNumbers (flat_map number ns ++ s) ns s
@@ -36,7 +36,7 @@ same_numbers (m ∷ ms) (n ∷ ns) text r s as_many one other =
 abbrev pub sides_of : SetHead → List ℕ
 sides_of head = head.width ∷ head.height ∷ head.maxval ∷ []
 
--- the end of a page line behind them, and behind the word that follows
+-- the end of a page line after them, and after the word that follows
 abbrev pub count_of : SetHead → List ℕ
 count_of head = flat_map number (head.plates ∷ []) ++ 10 ∷ []
 
@@ -65,11 +65,11 @@ begins_count head text short is = record {
 
 -- a page line, as far as it was read
 module _ (line : List ℕ) (head : SetHead) (short : AreShort head) (is : line ≡ page_line head) where
-  pub behind_page : (text : List ℕ) → line ≡ codes "page" ++ text → text ≡ flat_map number (sides_of head) ++ (codes " plates" ++ count_of head)
-  behind_page text e = append_cancel_left (codes "page") text _ (sym e ∙ is ∙ page_words head)
+  pub after_page : (text : List ℕ) → line ≡ codes "page" ++ text → text ≡ flat_map number (sides_of head) ++ (codes " plates" ++ count_of head)
+  after_page text e = append_cancel_left (codes "page") text _ (sym e ∙ is ∙ page_words head)
 
   pub sides_there : (text : List ℕ) → line ≡ codes "page" ++ text → BeginsNumbers text (sides_of head) (codes " plates" ++ count_of head)
-  sides_there text e = begins_sides head text short (behind_page text e)
+  sides_there text e = begins_sides head text short (after_page text e)
 
   pub sides_same : (text numbers rest : List ℕ) → line ≡ codes "page" ++ text → length numbers ≡ 3 → BeginsNumbers text numbers rest → (numbers ≡ sides_of head) × (rest ≡ codes " plates" ++ count_of head)
   sides_same text numbers rest e three h = same_numbers numbers (sides_of head) text rest (codes " plates" ++ count_of head) three h (sides_there text e)

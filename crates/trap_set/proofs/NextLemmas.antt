@@ -13,7 +13,7 @@ use Rattle.trap_set.specs.SetText.{SetHead, IsHead, IsRun, title_line, page_line
 use Rattle.trap_set.specs.declared.lines.Head.{Head}
 use Rattle.trap_set.specs.declared.steps.Next.{Next}
 use Rattle.trap_set.specs.declared.steps.Next.TheVariants as nexts
-use Rattle.trap_set.specs.Standing.{IsBehind, IsPageLine, MayCome, found_page, line_in}
+use Rattle.trap_set.specs.Standing.{IsAfter, IsPageLine, MayCome, found_page, line_in}
 use Rattle.trap_set.specs.declared.steps.Place.{Place}
 use Rattle.trap_set.proofs.EndLemmas.{same_line, title_is_line, page_is_line, run_is_line, end_is_line}
 
@@ -147,7 +147,7 @@ short_page l (head, h, is) = subst IsShortLine (sym is) (page_is_line head h)
 
 pub short_next : (head : SetHead) (place : Place) → IsHead head → (l : List ℕ) → MayCome head place l → IsShortLine l
 short_next head place h l (inl is) = subst IsShortLine (sym is) end_is_line
-short_next head place h l (inr (run, is_run, behind, is)) = subst IsShortLine (sym is) (run_is_line head run h is_run)
+short_next head place h l (inr (run, is_run, suffix, is)) = subst IsShortLine (sym is) (run_is_line head run h is_run)
 
 -- a page line, where the next one is one
 pub page_found : {E D : Type 0} (s t : TrayState) (held held2 line bytes : List ℕ) (page : Option Head) → bytes ≡ line → IfSome page (λ head. bytes ≡ page_line (head_in head)) → IfSome page (λ head. IsHead (head_in head)) → IfNone page ((head : SetHead) → IsHead head → bytes ≡ page_line head → ⊥) → ReadsNext {E = E} IsShortLine s t held held2 (Ok (Some line)) → ReadsNext {E = D} IsPageLine s t held held2 (found_page {E = D} (Ok page))
@@ -157,7 +157,7 @@ page_found s t held held2 line bytes None same is range none n = next_other IsPa
 
 -- a run's line or the last, where the next one is one of these
 pub run_found : {E D : Type 0} (s t : TrayState) (held held2 line bytes : List ℕ) (head : SetHead) (place : Place) (next : Next) (numbers : List ℕ) → IsHead head → bytes ≡ line
-    → (next ≡ nexts.End → bytes ≡ end_line) → (next ≡ nexts.Run → (bytes ≡ run_line (run_in numbers)) × IsRun head (run_in numbers) × IsBehind place (run_in numbers)) → (next ≡ nexts.Bad → MayCome head place bytes → ⊥)
+    → (next ≡ nexts.End → bytes ≡ end_line) → (next ≡ nexts.Run → (bytes ≡ run_line (run_in numbers)) × IsRun head (run_in numbers) × IsAfter place (run_in numbers)) → (next ≡ nexts.Bad → MayCome head place bytes → ⊥)
     → ReadsNext {E = E} IsShortLine s t held held2 (Ok (Some line)) → ReadsNext {E = D} (MayCome head place) s t held held2 (Ok (line_in next numbers))
 run_found {E = E} {D = D} s t held held2 line bytes head place nexts.End numbers h same end run bad n =
     next_line (MayCome head place) s t held held2 end_line (inl refl) (subst (λ (l : List ℕ). ReadsNext {E = E} IsShortLine s t held held2 (Ok (Some l))) (sym same ∙ end refl) n)

@@ -1,4 +1,4 @@
--- Digits at the front of a text, and the number that they write.
+-- Digits at the beginning of a text, and the number that they write.
 use Rattle.std.proofs.Common.{◌≡◌, ℕ, zero, suc, ◌+◌, ◌-◌, ◌<◌, ◌≤◌, ◌^◌, true, List, [], ◌∷◌, ◌++◌, length, take, drop, get_or, refl, sym, ap, ◌∙◌, subst, inl, inr, arith}
 use Rattle.std.specs.Char.{is_ascii_digit, digit_value}
 use Rattle.std.specs.Fmt.{decimal}
@@ -39,17 +39,17 @@ digit_range ds i h l = in_range ds h i l
 pub digit_worth : (ds : List ℕ) (i : ℕ) → AreDigits ds → i < length ds → digit_value (get_or ds i 0) + 48 ≡ get_or ds i 0
 digit_worth ds i h l = digit_value_digit _ (in_range ds h i l)
 
-front_digits : (ds : List ℕ) (i : ℕ) → AreDigits ds → i ≤ length ds → AreDigits (take i ds)
-front_digits ds i h few k l =
+prefix_digits : (ds : List ℕ) (i : ℕ) → AreDigits ds → i ≤ length ds → AreDigits (take i ds)
+prefix_digits ds i h few k l =
     let short : k < i = omega (arith, length-take-le i ds few) in
     ap is_ascii_digit (get_or-take i ds k 0 short) ∙ h k (omega arith)
 
--- fewer than five digits in front of a digit
-pub front_below : (ds : List ℕ) (i : ℕ) → AreDigits ds → i ≤ length ds → length ds ≤ 5 → digits_value 10 (take i ds) < past_numbers
-front_below ds i h few short = digits_value_short own (take i ds) 5 (in_range (take i ds) (front_digits ds i h few)) (omega (arith, length-take-le i ds few))
+-- fewer than five digits before a digit
+pub prefix_below : (ds : List ℕ) (i : ℕ) → AreDigits ds → i ≤ length ds → length ds ≤ 5 → digits_value 10 (take i ds) < past_numbers
+prefix_below ds i h few short = digits_value_short own (take i ds) 5 (in_range (take i ds) (prefix_digits ds i h few)) (omega (arith, length-take-le i ds few))
 
-pub front_short : (ds : List ℕ) (i : ℕ) → AreDigits ds → i < length ds → length ds ≤ 5 → digits_value 10 (take i ds) < 10000
-front_short ds i h l short = digits_value_short own (take i ds) 4 (in_range (take i ds) (front_digits ds i h (omega arith))) (omega (arith, length-take-le i ds (omega arith)))
+pub prefix_short : (ds : List ℕ) (i : ℕ) → AreDigits ds → i < length ds → length ds ≤ 5 → digits_value 10 (take i ds) < 10000
+prefix_short ds i h l short = digits_value_short own (take i ds) 4 (in_range (take i ds) (prefix_digits ds i h (omega arith))) (omega (arith, length-take-le i ds (omega arith)))
 
 -- the digits that a text begins with
 pub counted : (text : List ℕ) (n : ℕ) → n ≡ prefix_len is_ascii_digit text → n ≤ length text
@@ -60,7 +60,7 @@ counted_digits text n e k l =
     let short : k < n = omega (arith, length-take-le n text (counted text n e)) in
     ap is_ascii_digit (get_or-take n text k 0 short) ∙ prefix_len_passes is_ascii_digit text k 0 (omega arith)
 
--- behind them stands no digit
+-- after them stands no digit
 pub counted_ends : (text : List ℕ) (n : ℕ) → n ≡ prefix_len is_ascii_digit text → NoDigit (drop n text)
 counted_ends text n e = elim (cases_lt n (length text)) [
   | inl l ↦ (
@@ -93,9 +93,9 @@ is_digit c h = let low : 48 ≤ c = h.0 in let high : c ≤ 57 = h.1 in grind (a
 pub decimal_digits : (n : ℕ) → n < 2 ^ 64 → AreDigits (decimal n)
 decimal_digits n small k l = is_digit _ (digit_at (decimal n) k (decimal_is_IsNumeral n small).0.1 l)
 
--- the digits of a number that are at the front of a text are all that the text begins with
-pub digits_front : (text : List ℕ) (n : ℕ) (rest : List ℕ) → BeginsDigits text n rest → prefix_len is_ascii_digit text ≡ length (decimal n)
-digits_front text n rest h =
+-- the digits of a number that are at the beginning of a text are all that the text begins with
+pub digits_prefix : (text : List ℕ) (n : ℕ) (rest : List ℕ) → BeginsDigits text n rest → prefix_len is_ascii_digit text ≡ length (decimal n)
+digits_prefix text n rest h =
     let small : n < 2 ^ 64 = omega (arith, h.below) in
     let ds = decimal n in
     ap (prefix_len is_ascii_digit) h.whole ∙ prefix_len_is is_ascii_digit (ds ++ rest) (length ds) 0 (omega (arith, length-append ds rest))
@@ -107,46 +107,46 @@ zero_alone zero small z = omega (arith, ap (length {A = ℕ}) (decimal_digit 0 (
 zero_alone (suc n) small z = absurd (omega (arith, first_decimal (suc n) (omega arith) small))
 
 -- so a text that begins with no digit, with too many, or with a zero and more begins with no number
-pub plain_front : (text : List ℕ) (n : ℕ) (rest : List ℕ) → BeginsDigits text n rest → IsPlain text (prefix_len is_ascii_digit text)
-plain_front text n rest h =
+pub plain_prefix : (text : List ℕ) (n : ℕ) (rest : List ℕ) → BeginsDigits text n rest → IsPlain text (prefix_len is_ascii_digit text)
+plain_prefix text n rest h =
     let small : n < 2 ^ 64 = omega (arith, h.below) in
-    let front = digits_front text n rest h in
+    let prefix = digits_prefix text n rest h in
     let some = decimal_nonempty n small in
     let first : get_or text 0 0 ≡ get_or (decimal n) 0 0 = ap (λ (t : List ℕ). get_or t 0 0) h.whole ∙ get_or_append_left (decimal n) rest 0 0 some in
     record {
-      some = omega (arith, front, some);
-      few = omega (arith, front, length-decimal-le 5 n (omega arith) (omega (arith, h.below)) small);
-      no_zero = λ z. omega (arith, front, zero_alone n small (sym first ∙ z));
+      some = omega (arith, prefix, some);
+      few = omega (arith, prefix, length-decimal-le 5 n (omega arith) (omega (arith, h.below)) small);
+      no_zero = λ z. omega (arith, prefix, zero_alone n small (sym first ∙ z));
     }
 
 -- a text begins with one number at most
 same_digits : (text : List ℕ) (m n : ℕ) (r s : List ℕ) → BeginsDigits text m r → BeginsDigits text n s → (m ≡ n) × (r ≡ s)
 same_digits text m n r s one other = (
-  decimal_injective m n (omega (arith, one.below)) (omega (arith, other.below)) (sym (front m r one) ∙ ap (λ (k : ℕ). take k text) same ∙ front n s other),
-  sym (behind m r one) ∙ ap (λ (k : ℕ). drop k text) same ∙ behind n s other,
+  decimal_injective m n (omega (arith, one.below)) (omega (arith, other.below)) (sym (prefix m r one) ∙ ap (λ (k : ℕ). take k text) same ∙ prefix n s other),
+  sym (suffix m r one) ∙ ap (λ (k : ℕ). drop k text) same ∙ suffix n s other,
 ) where
   same : length (decimal m) ≡ length (decimal n)
-  same = sym (digits_front text m r one) ∙ digits_front text n s other
+  same = sym (digits_prefix text m r one) ∙ digits_prefix text n s other
 
-  front : (k : ℕ) (t : List ℕ) → BeginsDigits text k t → take (length (decimal k)) text ≡ decimal k
-  front k t h = ap (take (length (decimal k))) h.whole ∙ take_at (decimal k) t (length (decimal k)) refl
+  prefix : (k : ℕ) (t : List ℕ) → BeginsDigits text k t → take (length (decimal k)) text ≡ decimal k
+  prefix k t h = ap (take (length (decimal k))) h.whole ∙ take_at (decimal k) t (length (decimal k)) refl
 
-  behind : (k : ℕ) (t : List ℕ) → BeginsDigits text k t → drop (length (decimal k)) text ≡ t
-  behind k t h = ap (drop (length (decimal k))) h.whole ∙ drop_at (decimal k) t (length (decimal k)) refl
+  suffix : (k : ℕ) (t : List ℕ) → BeginsDigits text k t → drop (length (decimal k)) text ≡ t
+  suffix k t h = ap (drop (length (decimal k))) h.whole ∙ drop_at (decimal k) t (length (decimal k)) refl
 
-pub behind_number : (ns : List ℕ) (s : List ℕ) → NoDigit s → NoDigit (flat_map number ns ++ s)
-behind_number [] s h = h
-behind_number (n ∷ ns) s h = ap (λ (t : List ℕ). is_ascii_digit (get_or (t ++ s) 0 0)) (flat_map-cons number n ns)
+pub after_number : (ns : List ℕ) (s : List ℕ) → NoDigit s → NoDigit (flat_map number ns ++ s)
+after_number [] s h = h
+after_number (n ∷ ns) s h = ap (λ (t : List ℕ). is_ascii_digit (get_or (t ++ s) 0 0)) (flat_map-cons number n ns)
 
--- behind the space
+-- after the space
 digits_of : (text : List ℕ) (n : ℕ) (ns s : List ℕ) → BeginsNumbers text (n ∷ ns) s → BeginsDigits (drop 1 text) n (flat_map number ns ++ s)
 digits_of text n ns s h = record {
   whole = ap (drop 1) (h.whole ∙ ap (λ (t : List ℕ). t ++ s) (flat_map-cons number n ns) ∙ append_assoc (number n) (flat_map number ns) s);
   below = h.below 0 0 (omega arith);
-  ends = behind_number ns s h.ends;
+  ends = after_number ns s h.ends;
 }
 
--- the first number that was read is the first that was meant, and the others are behind it
+-- the first number that was read is the first that was meant, and the others are after it
 pub first_number : (text : List ℕ) (m : ℕ) (r : List ℕ) (n : ℕ) (ns s : List ℕ) → BeginsNumbers text (m ∷ []) r → BeginsNumbers text (n ∷ ns) s → (m ≡ n) × BeginsNumbers r ns s
 first_number text m r n ns s one all =
     let same = same_digits (drop 1 text) m n r (flat_map number ns ++ s) (digits_of text m [] r one) (digits_of text n ns s all) in
@@ -173,5 +173,5 @@ no_first rest i meant s l none all =
     none n (flat_map number ns ++ s) (record {
       whole = here.whole ∙ ap (λ (t : List ℕ). t ++ s) (flat_map-cons number n ns) ∙ append_assoc (number n) (flat_map number ns) s ∙ ap (λ (t : List ℕ). t ++ (flat_map number ns ++ s)) (sym (append-nil (number n)) ∙ sym (flat_map-cons number n []));
       below = λ k d j. (let z : k ≡ 0 = omega arith in subst (λ (p : ℕ). get_or (n ∷ []) p d < past_numbers) (sym z) (here.below 0 0 (omega arith)));
-      ends = behind_number ns s here.ends;
+      ends = after_number ns s here.ends;
     })

@@ -139,14 +139,14 @@ pub put_plane : (run : Run) (c : ℕ) (plane : Plane) (tints : List ℕ) → 0 <
     → ((k : ℕ) → run.y * plane.width + run.x ≤ k → k < run.y * plane.width + run.x + run.count → slice_index tints k ≡ slice_index run.tints c)
     → ((k : ℕ) → run.y * plane.width + run.x + run.count ≤ k → slice_index tints k ≡ slice_index plane.tints k)
     → tints ≡ (applied_plane (run ∷ []) c plane).tints
-put_plane run c plane tints some within many before here behind =
+put_plane run c plane tints some within many before here suffix =
     list_below-from (λ k. tint_by (covering (run ∷ []) (k % plane.width) (k / plane.width)) c (slice_index plane.tints k)) (length plane.tints) tints many each where
       outside : (k : ℕ) → covers run (k % plane.width) (k / plane.width) ≡ false → slice_index tints k ≡ slice_index plane.tints k
       outside k f = elim (cases_lt k (run.y * plane.width + run.x)) [
         | inl l ↦ before k l
         | inr past ↦ elim (cases_lt k (run.y * plane.width + run.x + run.count)) [
           | inl l ↦ absurd (both_ways _ f (cover_place run plane.width k some within past l))
-          | inr beyond ↦ behind k beyond
+          | inr beyond ↦ suffix k beyond
         ]
       ]
 

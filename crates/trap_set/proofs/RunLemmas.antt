@@ -50,7 +50,7 @@ going old new x y h =
     let more = and_parts (changes old new (suc x) y) (same_tints new x (suc x) y) parts.1 in
     record { left = parts.0; here = more.0; same = more.1 }
 
--- each sample behind the first of a run goes on, and the one behind the last does not
+-- each sample after the first of a run goes on, and the one after the last does not
 pub each_goes_on : (old new : List Plane) (y x n i : ℕ) → i < run_on old new y x n → goes_on old new (x + i) y ≡ true
 each_goes_on old new y x zero i l = let e : ⊥ = omega arith in absurd e
 each_goes_on old new y x (suc n) i l = elim (cases_Bool (goes_on old new x y)) [

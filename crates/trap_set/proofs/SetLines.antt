@@ -26,7 +26,7 @@ other_lines a b xs ys e = ap (λ (ls : List (List ℕ)). drop 1 ls) e
 
 -- what the lines of two sets have in common
 module _ (head : SetHead) (is_head : IsHead head) where
-  -- the runs are the first of the others, and the lines behind them those of the rest
+  -- the runs are the first of the others, and the lines after them those of the rest
   abbrev pub GoesOn : List Run → List Run → List (List ℕ) → List (List ℕ) → Type 0
   GoesOn runs others ls ms = (more : List Run) × (others ≡ runs ++ more) × (ls ≡ map run_line more ++ end_line ∷ ms)
 
@@ -38,7 +38,7 @@ module _ (head : SetHead) (is_head : IsHead head) where
       let later = split_of runs others ls ms (λ k d l. h (suc k) d (omega arith)) (λ k d l. g (suc k) d (omega arith)) (other_lines (run_line a) (run_line b) (map run_line runs ++ ls) (map run_line others ++ end_line ∷ ms) e) in
       (later.0, ap (λ (r : Run). r ∷ others) (sym same) ∙ ap (λ (rs : List Run). a ∷ rs) later.1, later.2)
 
-  -- the same of their first lines, one behind the runs
+  -- the same of their first lines, one after the runs
   abbrev pub MayGoOn : List Run → List Run → List (List ℕ) → Type 0
   MayGoOn runs others ls = (more : List Run) × (others ≡ runs ++ more) × (take 1 ls ≡ take 1 (map run_line more ++ end_line ∷ []))
 
@@ -131,7 +131,7 @@ bad_page bytes rest is none = record { no_set = no_set; before = before; bad = b
   before : BeginsSome bytes 1
   before = (let none_yet = begin_none bytes in (none_yet.0, none_yet.1, record { is_set = none_yet.2.is_set; there = omega arith; same = ap (take 1) lines }))
 
--- behind some runs
+-- after some runs
 take_runs : (runs : List Run) (ls : List (List ℕ)) → take (length runs) (map run_line runs ++ ls) ≡ map run_line runs
 take_runs [] ls = refl
 take_runs (run ∷ runs) ls = ap (λ (xs : List (List ℕ)). run_line run ∷ xs) (take_runs runs ls)
@@ -144,8 +144,8 @@ lines_count : (head : SetHead) (runs : List Run) → length (set_lines head runs
 lines_count head runs = omega (arith, length-append (map run_line runs) (end_line ∷ []), runs_count runs)
 
 -- a set whose runs begin with these, and go on with another, is one in which the other may come
-pub front_of_set : (head : SetHead) (runs more : List Run) (run : Run) → IsSet head (runs ++ run ∷ more) → IsRun head run × All (λ earlier. Follows earlier run) runs
-front_of_set head runs more run set = (
+pub prefix_of_set : (head : SetHead) (runs more : List Run) (run : Run) → IsSet head (runs ++ run ∷ more) → IsRun head run × All (λ earlier. Follows earlier run) runs
+prefix_of_set head runs more run set = (
   subst (IsRun head) (get_or-append_right runs (run ∷ more) (length runs) (length runs) run refl (omega arith) ∙ ap (λ (i : ℕ). get_or (run ∷ more) i run) (let z : length runs - length runs ≡ 0 = omega arith in z)) (set.within (length runs) run (omega (arith, length-append runs (run ∷ more)))),
   λ k d l.
       (let pair = set.ascend k (length runs) d l (omega (arith, length-append runs (run ∷ more))) in
@@ -174,7 +174,7 @@ module _ (bytes rest : List ℕ) (head : SetHead) (runs : List Run) (set : IsSet
     stuck : (others more : List Run) (ms : List (List ℕ)) → IsSet head others → others ≡ runs ++ more → take 1 (lines_of rest) ≡ take 1 (map run_line more ++ end_line ∷ ms) → ⊥
     stuck others [] ms is_set e f = (let found = first_of_lines rest end_line end_is_line.0 f in no_end found.0 found.1)
     stuck others (run ∷ more) ms is_set e f =
-        let next = front_of_set head runs more run (subst (IsSet head) e is_set) in
+        let next = prefix_of_set head runs more run (subst (IsSet head) e is_set) in
         let found = first_of_lines rest (run_line run) (run_is_line head run set.in_range next.0).0 f in
         no_run run found.0 next.0 next.1 found.1
 
@@ -194,7 +194,7 @@ module _ (bytes rest : List ℕ) (head : SetHead) (runs : List Run) (set : IsSet
         let found = next_of head set.in_range runs others (lines_of rest) set.within is_set.within heads.1 in
         stuck others found.0 [] is_set found.1 found.2
 
--- behind a whole set
+-- after a whole set
 module _ (bytes rest : List ℕ) (head : SetHead) (runs : List Run) (set : IsSet head runs) (is : bytes ≡ joined (set_lines head runs) ++ rest) where
   lines_there : lines_of bytes ≡ title_line ∷ page_line head ∷ (map run_line runs ++ end_line ∷ lines_of rest)
   lines_there = ap lines_of is ∙ lines_of_lines (set_lines head runs) rest (set_are_lines head set.in_range runs set.within)
@@ -214,8 +214,8 @@ module _ (bytes rest : List ℕ) (head : SetHead) (runs : List Run) (set : IsSet
     same = ap (take (suc (suc (suc (length runs))))) lines_there ∙ ap (λ (ls : List (List ℕ)). title_line ∷ page_line head ∷ ls) (take_all_runs runs (lines_of rest) ∙ sym (take_all_runs runs []));
   }
 
-  pub bad_behind : (rest ≡ [] → ⊥) → IsBadLine bytes (suc (suc (suc (length runs))))
-  bad_behind some = record { no_set = no_set; before = (head, runs, begins_all); bad = bad } where
+  pub bad_after : (rest ≡ [] → ⊥) → IsBadLine bytes (suc (suc (suc (length runs))))
+  bad_after some = record { no_set = no_set; before = (head, runs, begins_all); bad = bad } where
     no_set : (other : SetHead) (others : List Run) → IsSetFile bytes other others → ⊥
     no_set other others file =
         let heads = heads_of head other (map run_line runs ++ end_line ∷ lines_of rest) (map run_line others ++ end_line ∷ [] ∷ []) set.in_range file.is_set.in_range (sym lines_there ∙ lines_whole bytes other others file) in

@@ -18,46 +18,46 @@ use Rattle.trap_set.specs.Bytes.{GivesByte, ReadsNext}
 use Rattle.trap_set.specs.Lines.{IsLine, HasNoEnd, lines_of}
 use Rattle.trap_set.specs.Runs.{Run}
 use Rattle.trap_set.specs.SetText.{SetHead, IsHead, IsRun, IsSet, Follows, title_line, page_line, run_line, end_line, set_lines}
-use Rattle.trap_set.specs.Standing.{IsBehind, IsPageLine, MayCome, RunsTo, Reached, begun_lines}
+use Rattle.trap_set.specs.Standing.{IsAfter, IsPageLine, MayCome, RunsTo, Reached, begun_lines}
 use Rattle.trap_set.specs.declared.apply.SetRefusal.{SetRefusal}
 use Rattle.trap_set.specs.declared.apply.SetRefusal.TheVariants.{BadLine, Differs, ReadFault}
 use Rattle.trap_set.specs.declared.steps.Place.{Place}
 use Rattle.trap_set.proofs.EndLemmas.{joined, lines_of_line, lines_of_lines, lone_line, title_is_line, page_is_line}
 use Rattle.trap_set.proofs.PlaneLemmas.{applied_none, applied_keeps, applied_more, applied_fits, applied_full, keeps_itself}
-use Rattle.trap_set.proofs.SetLines.{begin_none, bad_title, bad_page, bad_run, bad_behind, begins_runs, begins_all, begun_are_lines, set_are_lines, is_file, one_head, empty_set, runs_count}
+use Rattle.trap_set.proofs.SetLines.{begin_none, bad_title, bad_page, bad_run, bad_after, begins_runs, begins_all, begun_are_lines, set_are_lines, is_file, one_head, empty_set, runs_count}
 
 -- the runs, one more
 pub runs_none : (head : SetHead) (place : Place) → IsHead head → place.row ≡ 0 → place.column ≡ 0 → RunsTo head [] place
 runs_none head place h row column = record {
   within = All-nil (IsRun head);
   ascend = λ i j d l m. absurd (omega (arith, m));
-  behind = λ run. (λ b k d l. absurd (omega (arith, l)), λ all. at_start run);
+  suffix = λ run. (λ b k d l. absurd (omega (arith, l)), λ all. at_start run);
   few = omega arith;
   row = omega (arith, row, h.some_height);
   column = omega (arith, column);
 } where
-  at_start : (run : Run) → IsBehind place run
+  at_start : (run : Run) → IsAfter place run
   at_start run = by run.y refl where
-    by : (y : ℕ) → run.y ≡ y → IsBehind place run
+    by : (y : ℕ) → run.y ≡ y → IsAfter place run
     by zero is = inr (row ∙ sym is, omega (arith, column))
     by (suc y) is = inl (omega (arith, row, is))
 
-pub runs_more : (head : SetHead) (runs : List Run) (run : Run) (place next : Place) → RunsTo head runs place → IsRun head run → IsBehind place run → next.row ≡ run.y → next.column ≡ run.x + run.count → RunsTo head (runs ++ run ∷ []) next
-runs_more head runs run place next to is behind row column = record {
+pub runs_more : (head : SetHead) (runs : List Run) (run : Run) (place next : Place) → RunsTo head runs place → IsRun head run → IsAfter place run → next.row ≡ run.y → next.column ≡ run.x + run.count → RunsTo head (runs ++ run ∷ []) next
+runs_more head runs run place next to is suffix row column = record {
   within = All-push (IsRun head) runs run to.within is;
-  ascend = all_pairs_push Follows runs run to.ascend ((to.behind run).0 behind);
-  behind = λ other. (λ b. All-push (λ earlier. Follows earlier other) runs run (all_before other (last_before other b)) (last_before other b), λ all. behind_last other (last_of other all));
-  few = omega (arith, length-append runs (run ∷ []), place_before behind, column, ap (λ (r : ℕ). r * head.width) row);
+  ascend = all_pairs_push Follows runs run to.ascend ((to.suffix run).0 suffix);
+  suffix = λ other. (λ b. All-push (λ earlier. Follows earlier other) runs run (all_before other (last_before other b)) (last_before other b), λ all. after_last other (last_of other all));
+  few = omega (arith, length-append runs (run ∷ []), place_before suffix, column, ap (λ (r : ℕ). r * head.width) row);
   row = omega (arith, row, is.in_rows);
   column = omega (arith, column, is.in_row);
 } where
-  last_before : (other : Run) → IsBehind next other → Follows run other
+  last_before : (other : Run) → IsAfter next other → Follows run other
   last_before other (inl less) = inl (omega (arith, less, row))
   last_before other (inr (same, after)) = inr (sym row ∙ same, omega (arith, after, column))
 
-  behind_last : (other : Run) → Follows run other → IsBehind next other
-  behind_last other (inl less) = inl (omega (arith, less, row))
-  behind_last other (inr (same, after)) = inr (row ∙ same, omega (arith, after, column))
+  after_last : (other : Run) → Follows run other → IsAfter next other
+  after_last other (inl less) = inl (omega (arith, less, row))
+  after_last other (inr (same, after)) = inr (row ∙ same, omega (arith, after, column))
 
   last_of : (other : Run) → All (λ earlier. Follows earlier other) (runs ++ run ∷ []) → Follows run other
   last_of other all =
@@ -71,9 +71,9 @@ runs_more head runs run place next to is behind row column = record {
   then_later earlier other (inr (same, after)) (inr (same2, after2)) = inr (same ∙ same2, omega (arith, after, after2, is.some))
 
   all_before : (other : Run) → Follows run other → All (λ earlier. Follows earlier other) runs
-  all_before other f = λ k d l. then_later (get_or runs k d) other ((to.behind run).0 behind k d l) f
+  all_before other f = λ k d l. then_later (get_or runs k d) other ((to.suffix run).0 suffix k d l) f
 
-  place_before : IsBehind place run → length runs + 1 ≤ run.y * head.width + (run.x + run.count)
+  place_before : IsAfter place run → length runs + 1 ≤ run.y * head.width + (run.x + run.count)
   place_before (inl less) =
       let rows : (place.row + 1) * head.width ≤ run.y * head.width = (let up : place.row + 1 ≤ run.y = omega (arith, less) in let wide : head.width ≤ head.width = omega arith in mul-le-mul up wide) in
       omega (arith, rows, to.few, to.column, is.some)
@@ -122,18 +122,18 @@ no_other bytes head ls planes h lines fits d =
     d.others (subst (λ (o : SetHead). Fits o planes) same fits)
 
 -- what a reading that broke off says
-taken_front : (lines : List (List ℕ)) (part left bytes : List ℕ) → bytes ≡ joined lines ++ (part ++ left) → bytes ≡ (joined lines ++ part) ++ left
-taken_front lines part left bytes e = e ∙ sym (append_assoc (joined lines) part left)
+taken_prefix : (lines : List (List ℕ)) (part left bytes : List ℕ) → bytes ≡ joined lines ++ (part ++ left) → bytes ≡ (joined lines ++ part) ++ left
+taken_prefix lines part left bytes e = e ∙ sym (append_assoc (joined lines) part left)
 
 -- what is left is the end of the text
-pub left_behind : (lines : List (List ℕ)) (part held left bytes rest : List ℕ) → bytes ≡ joined lines ++ rest → rest ≡ part ++ (held ++ left) → EndsWith bytes left
-left_behind lines part held left bytes rest whole here = (
+pub left_after : (lines : List (List ℕ)) (part held left bytes rest : List ℕ) → bytes ≡ joined lines ++ rest → rest ≡ part ++ (held ++ left) → EndsWith bytes left
+left_after lines part held left bytes rest whole here = (
   (joined lines ++ part) ++ held,
   whole ∙ ap (λ (bs : List ℕ). joined lines ++ bs) here ∙ sym (append_assoc (joined lines) part (held ++ left)) ∙ sym (append_assoc (joined lines ++ part) held left),
 )
 
-front_lines : (lines : List (List ℕ)) (part : List ℕ) → All IsLine lines → HasNoEnd part → lines_of (joined lines ++ part) ≡ lines ++ part ∷ []
-front_lines lines part h none = lines_of_lines lines part h ∙ ap (λ (ls : List (List ℕ)). lines ++ ls) (lone_line part none)
+prefix_lines : (lines : List (List ℕ)) (part : List ℕ) → All IsLine lines → HasNoEnd part → lines_of (joined lines ++ part) ≡ lines ++ part ∷ []
+prefix_lines lines part h none = lines_of_lines lines part h ∙ ap (λ (ls : List (List ℕ)). lines ++ ls) (lone_line part none)
 
 part_is_no_line : (part line : List ℕ) → HasNoEnd part → IsLine line → part ≡ line → ⊥
 part_is_no_line part line none h e =
@@ -151,7 +151,7 @@ module _ (start s t : TrayState) (held held2 : List ℕ) (old : List Plane) wher
     begun = n.begun;
     planes = keeps_itself old;
     count = n.well ∙ r.count;
-    taken = λ tells. (let part = n.other (r.keeps.tells ∙ tells) in left_behind [] part.0 held2 t.left start.left (held ++ s.left) (r.text tells) part.1);
+    taken = λ tells. (let part = n.other (r.keeps.tells ∙ tells) in left_after [] part.0 held2 t.left start.left (held ++ s.left) (r.text tells) part.1);
     says = λ tells.
         (let bad = bad_title start.left (λ more e. n.none (r.keeps.tells ∙ tells) title_line more refl (sym (r.text tells) ∙ e)) in
         let first = begin_none start.left in
@@ -169,7 +169,7 @@ module _ (start s t : TrayState) (held held2 : List ℕ) (old : List Plane) wher
     begun = n.begun;
     planes = keeps_itself old;
     count = n.well ∙ r.count;
-    taken = λ tells. (let part = n.other (r.keeps.tells ∙ tells) in left_behind (title_line ∷ []) part.0 held2 t.left start.left (held ++ s.left) (r.text tells) part.1);
+    taken = λ tells. (let part = n.other (r.keeps.tells ∙ tells) in left_after (title_line ∷ []) part.0 held2 t.left start.left (held ++ s.left) (r.text tells) part.1);
     says = λ tells.
         (let whole : start.left ≡ title_line ++ (held ++ s.left) = r.text tells in
         let bad = bad_page start.left (held ++ s.left) whole (λ head more h e. n.none (r.keeps.tells ∙ tells) (page_line head) more (head, h, refl) e) in
@@ -184,7 +184,7 @@ module _ (start s t : TrayState) (held held2 : List ℕ) (old : List Plane) wher
     begun = begun;
     planes = keeps_itself old;
     count = r.count;
-    taken = λ tells. left_behind (begun_lines head []) [] held2 t.left start.left (held2 ++ t.left) (r.text tells) refl;
+    taken = λ tells. left_after (begun_lines head []) [] held2 t.left start.left (held2 ++ t.left) (r.text tells) refl;
     says = λ tells. (record { head = head; begins = begins_runs start.left (held2 ++ t.left) head [] (empty_set head h) (r.text tells); others = others }, refl);
   }
 
@@ -202,7 +202,7 @@ module _ (start s t : TrayState) (held held2 : List ℕ) (old : List Plane) wher
         let lines : lines_of part.0 ≡ part.0 ∷ [] = lone_line part.0 part.1 in
         let first = begin_none part.0 in
         record {
-          front = part.0;
+          prefix = part.0;
           taken = r.text tells ∙ part.2;
           good = 0;
           whole_lines = ap (length {A = List ℕ}) lines;
@@ -224,7 +224,7 @@ module _ (start s t : TrayState) (held held2 : List ℕ) (old : List Plane) wher
         let lines : lines_of (title_line ++ part.0) ≡ title_line ∷ part.0 ∷ [] = lines_of_line title_line part.0 title_is_line.0 ∙ ap (λ (ls : List (List ℕ)). title_line ∷ ls) (lone_line part.0 part.1) in
         let first = begin_none part.0 in
         record {
-          front = title_line ++ part.0;
+          prefix = title_line ++ part.0;
           taken = r.text tells ∙ ap (λ (bs : List ℕ). title_line ++ bs) part.2 ∙ sym (append_assoc title_line part.0 t.left);
           good = 1;
           whole_lines = ap (length {A = List ℕ}) lines;
@@ -233,9 +233,9 @@ module _ (start s t : TrayState) (held held2 : List ℕ) (old : List Plane) wher
         });
   }
 
--- a byte behind the last line is the first of a bad one
-pub byte_behind : {T E : Type 0} (number b : ℕ) (s t : TrayState) (held held2 : List ℕ) → GivesByte {E = E} s t held held2 (Ok (Some b)) → EndsSet {T = T} number s t held (Err (BadLine number))
-byte_behind number b s t held held2 g = record {
+-- a byte after the last line is the first of a bad one
+pub byte_after : {T E : Type 0} (number b : ℕ) (s t : TrayState) (held held2 : List ℕ) → GivesByte {E = E} s t held held2 (Ok (Some b)) → EndsSet {T = T} number s t held (Err (BadLine number))
+byte_after number b s t held held2 g = record {
   keeps = g.keeps;
   asked = g.asked;
   begun = g.begun;
@@ -243,7 +243,7 @@ byte_behind number b s t held held2 g = record {
   says = λ tells. (refl, (λ none. absurd (let e : [] ≡ b ∷ (held2 ++ t.left) = sym none ∙ g.some tells in cc)), (b ∷ held2, g.some tells));
 }
 
--- behind the page line
+-- after the page line
 module _ (start s t : TrayState) (held held2 : List ℕ) (old new : List Plane) (head : SetHead) (runs : List Run) (place : Place) (h : IsHead head) (to : RunsTo head runs place) (fits : Fits head old) (is : new ≡ applied runs old) where
   keeps_planes : KeepsPlanes old new
   keeps_planes = subst (KeepsPlanes old) (sym is) (applied_keeps head runs old to.within fits)
@@ -261,11 +261,11 @@ module _ (start s t : TrayState) (held held2 : List ℕ) (old new : List Plane) 
     begun = n.begun;
     planes = keeps_planes;
     count = n.well ∙ r.count;
-    taken = λ tells. (let part = n.other (r.keeps.tells ∙ tells) in left_behind (begun_lines head runs) part.0 held2 t.left start.left (held ++ s.left) (r.text tells) part.1);
+    taken = λ tells. (let part = n.other (r.keeps.tells ∙ tells) in left_after (begun_lines head runs) part.0 held2 t.left start.left (held ++ s.left) (r.text tells) part.1);
     says = λ tells.
         (let whole = r.text tells in
         let there = r.keeps.tells ∙ tells in
-        let bad = bad_run start.left (held ++ s.left) head runs set_here whole (λ more e. n.none there end_line more (inl refl) e) (λ run more is_run follow e. n.none there (run_line run) more (inr (run, is_run, (to.behind run).1 follow, refl)) e) in
+        let bad = bad_run start.left (held ++ s.left) head runs set_here whole (λ more e. n.none there end_line more (inl refl) e) (λ run more is_run follow e. n.none there (run_line run) more (inr (run, is_run, (to.suffix run).1 follow, refl)) e) in
         record {
           good = suc (suc (length runs));
           is = omega (arith, number);
@@ -284,13 +284,13 @@ module _ (start s t : TrayState) (held held2 : List ℕ) (old new : List Plane) 
     begun = n.begun;
     planes = keeps_planes;
     count = rose_before start.faults s.faults t.faults r.keeps.faults n.cause;
-    taken = λ tells. (let part = n.part (r.keeps.tells ∙ tells) in (joined (begun_lines head runs) ++ part.0, taken_front (begun_lines head runs) part.0 t.left start.left (r.text tells ∙ ap (λ (bs : List ℕ). joined (begun_lines head runs) ++ bs) part.2)));
+    taken = λ tells. (let part = n.part (r.keeps.tells ∙ tells) in (joined (begun_lines head runs) ++ part.0, taken_prefix (begun_lines head runs) part.0 t.left start.left (r.text tells ∙ ap (λ (bs : List ℕ). joined (begun_lines head runs) ++ bs) part.2)));
     says = λ tells.
         (let part = n.part (r.keeps.tells ∙ tells) in
-        let lines = front_lines (begun_lines head runs) part.0 (begun_are_lines head h runs to.within) part.1 in
+        let lines = prefix_lines (begun_lines head runs) part.0 (begun_are_lines head h runs to.within) part.1 in
         record {
-          front = joined (begun_lines head runs) ++ part.0;
-          taken = taken_front (begun_lines head runs) part.0 t.left start.left (r.text tells ∙ ap (λ (bs : List ℕ). joined (begun_lines head runs) ++ bs) part.2);
+          prefix = joined (begun_lines head runs) ++ part.0;
+          taken = taken_prefix (begun_lines head runs) part.0 t.left start.left (r.text tells ∙ ap (λ (bs : List ℕ). joined (begun_lines head runs) ++ bs) part.2);
           good = suc (suc (length runs));
           whole_lines = ap (length {A = List ℕ}) lines ∙ omega (arith, length-append (map run_line runs) (part.0 ∷ []), runs_count runs);
           same = no_other (joined (begun_lines head runs) ++ part.0) head (map run_line runs ++ part.0 ∷ []) old h lines fits;
@@ -298,7 +298,7 @@ module _ (start s t : TrayState) (held held2 : List ℕ) (old new : List Plane) 
         });
   }
 
-  -- behind the last line
+  -- after the last line
   pub set_ends : {T : Type 0} → (number : ℕ) (result : Result T SetRefusal) → number ≡ length runs + 4 → Reached (set_lines head runs) start s held → EndsSet number s t held result → AppliesText start t old new result
   set_ends number (Ok v) is_number r e = record {
     keeps = kept_tray start s t r.keeps e.keeps;
@@ -317,14 +317,14 @@ module _ (start s t : TrayState) (held held2 : List ℕ) (old new : List Plane) 
     begun = e.begun;
     planes = keeps_planes;
     count = e.count ∙ r.count;
-    taken = λ tells. (let part = (e.says (r.keeps.tells ∙ tells)).2 in (joined (set_lines head runs) ++ part.0, taken_front (set_lines head runs) part.0 t.left start.left (r.text tells ∙ ap (λ (bs : List ℕ). joined (set_lines head runs) ++ bs) part.1)));
+    taken = λ tells. (let part = (e.says (r.keeps.tells ∙ tells)).2 in (joined (set_lines head runs) ++ part.0, taken_prefix (set_lines head runs) part.0 t.left start.left (r.text tells ∙ ap (λ (bs : List ℕ). joined (set_lines head runs) ++ bs) part.1)));
     says = λ tells.
         (let says = e.says (r.keeps.tells ∙ tells) in
         let whole = r.text tells in
         record {
           good = suc (suc (suc (length runs)));
           is = omega (arith, says.0, is_number);
-          bad = bad_behind start.left (held ++ s.left) head runs set_here whole says.1;
+          bad = bad_after start.left (held ++ s.left) head runs set_here whole says.1;
           same = no_other start.left head ((map run_line runs ++ end_line ∷ []) ++ lines_of (held ++ s.left)) old h (ap lines_of whole ∙ lines_of_lines (set_lines head runs) (held ++ s.left) (set_are_lines head h runs to.within)) fits;
           has = record { head = head; runs = runs; begins = begins_all start.left (held ++ s.left) head runs set_here whole; planes = have_runs (suc (suc (suc (length runs)))) (omega arith) };
         });
@@ -344,18 +344,18 @@ module _ (start s t : TrayState) (held held2 : List ℕ) (old new : List Plane) 
     begun = e.begun;
     planes = keeps_planes;
     count = rose_before start.faults s.faults t.faults r.keeps.faults e.count;
-    taken = λ tells. (joined (set_lines head runs) ++ [], taken_front (set_lines head runs) [] t.left start.left (r.text tells ∙ ap (λ (bs : List ℕ). joined (set_lines head runs) ++ bs) (e.says (r.keeps.tells ∙ tells))));
+    taken = λ tells. (joined (set_lines head runs) ++ [], taken_prefix (set_lines head runs) [] t.left start.left (r.text tells ∙ ap (λ (bs : List ℕ). joined (set_lines head runs) ++ bs) (e.says (r.keeps.tells ∙ tells))));
     says = λ tells.
         (let rest = e.says (r.keeps.tells ∙ tells) in
-        let front = joined (set_lines head runs) ++ [] in
+        let prefix = joined (set_lines head runs) ++ [] in
         let lines = lines_of_lines (set_lines head runs) [] (set_are_lines head h runs to.within) in
         record {
-          front = front;
-          taken = taken_front (set_lines head runs) [] t.left start.left (r.text tells ∙ ap (λ (bs : List ℕ). joined (set_lines head runs) ++ bs) rest);
+          prefix = prefix;
+          taken = taken_prefix (set_lines head runs) [] t.left start.left (r.text tells ∙ ap (λ (bs : List ℕ). joined (set_lines head runs) ++ bs) rest);
           good = suc (suc (suc (length runs)));
           whole_lines = ap (length {A = List ℕ}) lines ∙ omega (arith, length-append (map run_line runs ++ end_line ∷ []) ([] ∷ []), length-append (map run_line runs) (end_line ∷ []), runs_count runs);
-          same = no_other front head ((map run_line runs ++ end_line ∷ []) ++ [] ∷ []) old h lines fits;
-          has = record { head = head; runs = runs; begins = begins_all front [] head runs set_here refl; planes = have_runs (suc (suc (suc (length runs)))) (omega arith) };
+          same = no_other prefix head ((map run_line runs ++ end_line ∷ []) ++ [] ∷ []) old h lines fits;
+          has = record { head = head; runs = runs; begins = begins_all prefix [] head runs set_here refl; planes = have_runs (suc (suc (suc (length runs)))) (omega arith) };
         });
   }
 
@@ -370,22 +370,22 @@ pub record Standing (head : SetHead) (place : Place) (number : ℕ) (old planes 
 pub standing_none : (head : SetHead) (place : Place) (old : List Plane) (before : TrayState) (held0 : List ℕ) → IsHead head → place.row ≡ 0 → place.column ≡ 0 → Standing head place 3 old old before before held0 held0
 standing_none head place old before held0 h row column = record { runs = []; to = runs_none head place h row column; is_number = refl; planes_are = sym (applied_none old); text = λ start r. r }
 
-pub standing_more : {E : Type 0} (head : SetHead) (place next : Place) (number : ℕ) (old planes planes2 : List Plane) (before now after : TrayState) (held0 held held2 : List ℕ) (run : Run) → Standing head place number old planes before now held0 held → IsRun head run → IsBehind place run → next.row ≡ run.y → next.column ≡ run.x + run.count → ReadsNext {E = E} (MayCome head place) now after held held2 (Ok (Some (run_line run))) → planes2 ≡ applied (run ∷ []) planes → Standing head next (number + 1) old planes2 before after held0 held2
-standing_more head place next number old planes planes2 before now after held0 held held2 run so is behind row column n put = record {
+pub standing_more : {E : Type 0} (head : SetHead) (place next : Place) (number : ℕ) (old planes planes2 : List Plane) (before now after : TrayState) (held0 held held2 : List ℕ) (run : Run) → Standing head place number old planes before now held0 held → IsRun head run → IsAfter place run → next.row ≡ run.y → next.column ≡ run.x + run.count → ReadsNext {E = E} (MayCome head place) now after held held2 (Ok (Some (run_line run))) → planes2 ≡ applied (run ∷ []) planes → Standing head next (number + 1) old planes2 before after held0 held2
+standing_more head place next number old planes planes2 before now after held0 held held2 run so is suffix row column n put = record {
   runs = so.runs ++ run ∷ [];
-  to = runs_more head so.runs run place next so.to is behind row column;
+  to = runs_more head so.runs run place next so.to is suffix row column;
   is_number = omega (arith, so.is_number, length-append so.runs (run ∷ []));
-  planes_are = put ∙ ap (applied (run ∷ [])) so.planes_are ∙ applied_more so.runs run old ((so.to.behind run).0 behind);
+  planes_are = put ∙ ap (applied (run ∷ [])) so.planes_are ∙ applied_more so.runs run old ((so.to.suffix run).0 suffix);
   text = λ start r. reached_run (MayCome head place) head so.runs run start now after held held2 (so.text start r) n;
 }
 
 -- the place moves on with each run
-pub comes_after : (head : SetHead) (place next : Place) (run : Run) → place.column ≤ head.width → IsRun head run → IsBehind place run → next.row ≡ run.y → next.column ≡ run.x + run.count → head.height * head.width - (next.row * head.width + next.column) < head.height * head.width - (place.row * head.width + place.column)
-comes_after head place next run low is behind row column = by behind where
+pub comes_after : (head : SetHead) (place next : Place) (run : Run) → place.column ≤ head.width → IsRun head run → IsAfter place run → next.row ≡ run.y → next.column ≡ run.x + run.count → head.height * head.width - (next.row * head.width + next.column) < head.height * head.width - (place.row * head.width + place.column)
+comes_after head place next run low is suffix row column = by suffix where
   inside : run.y * head.width + head.width ≤ head.height * head.width
   inside = (let up : run.y + 1 ≤ head.height = omega (arith, is.in_rows) in let wide : head.width ≤ head.width = omega arith in let rows : (run.y + 1) * head.width ≤ head.height * head.width = mul-le-mul up wide in omega (arith, rows))
 
-  by : IsBehind place run → head.height * head.width - (next.row * head.width + next.column) < head.height * head.width - (place.row * head.width + place.column)
+  by : IsAfter place run → head.height * head.width - (next.row * head.width + next.column) < head.height * head.width - (place.row * head.width + place.column)
   by (inl less) =
       let rows : (place.row + 1) * head.width ≤ run.y * head.width = (let up : place.row + 1 ≤ run.y = omega (arith, less) in let wide : head.width ≤ head.width = omega arith in mul-le-mul up wide) in
       omega (arith, rows, low, is.some, is.in_row, inside, column, ap (λ (r : ℕ). r * head.width) row)

@@ -24,9 +24,9 @@ run_on_step old new y i w l t =
 -- numbers one after another
 pub numbers_rest : (xs : List ℕ) (i : ℕ) → i < length xs → flat_map number xs ≡ (flat_map number (take i xs) ++ number (get_or xs i 0)) ++ flat_map number (drop (i + 1) xs)
 numbers_rest xs i l =
-    let front = flat_map number (take i xs) in
-    sym (ap (flat_map number) (take-append-drop i xs)) ∙ flat_map-append number (take i xs) (drop i xs) ∙ ap (λ (ys : List ℕ). front ++ flat_map number ys) (drop_more xs i 0 l)
-    ∙ ap (λ (ys : List ℕ). front ++ ys) (flat_map-cons number (get_or xs i 0) (drop (i + 1) xs)) ∙ sym (append_assoc front (number (get_or xs i 0)) (flat_map number (drop (i + 1) xs)))
+    let prefix = flat_map number (take i xs) in
+    sym (ap (flat_map number) (take-append-drop i xs)) ∙ flat_map-append number (take i xs) (drop i xs) ∙ ap (λ (ys : List ℕ). prefix ++ flat_map number ys) (drop_more xs i 0 l)
+    ∙ ap (λ (ys : List ℕ). prefix ++ ys) (flat_map-cons number (get_or xs i 0) (drop (i + 1) xs)) ∙ sym (append_assoc prefix (number (get_or xs i 0)) (flat_map number (drop (i + 1) xs)))
 
 pub tints_next : (f : ℕ → ℕ) (c : ℕ) → flat_map number (list_below f (c + 1)) ≡ flat_map number (list_below f c) ++ number (f c)
 tints_next f c =

@@ -61,12 +61,12 @@ pub record MeetsBadLine (bytes : List ℕ) (n : ℕ) (old new : List Plane) : Ty
 -- the tray failed after a prefix of the text; none of its lines is bad, and it is not for other
 -- planes
 pub record BreaksOff (bytes : List ℕ) (after : TrayState) (old new : List Plane) : Type 0 where
-  pub front : List ℕ
-  pub taken : bytes ≡ front ++ after.left
+  pub prefix : List ℕ
+  pub taken : bytes ≡ prefix ++ after.left
   pub good : ℕ
-  pub whole_lines : length (lines_of front) ≡ good + 1
-  pub same : Differ front old → ⊥
-  pub has : HaveRuns front good old new
+  pub whole_lines : length (lines_of prefix) ≡ good + 1
+  pub same : Differ prefix old → ⊥
+  pub has : HaveRuns prefix good old new
 
 -- what the answer says of the file's bytes and of the planes
 abbrev pub SaysOf : {T : Type 0} → List ℕ → TrayState → List Plane → List Plane
@@ -103,9 +103,9 @@ CountsFaults before after (Err ReadFault) = Rose before.faults after.faults
 
 -- the bytes end with these
 abbrev pub EndsWith : List ℕ → List ℕ → Type 0
-EndsWith bytes rest = (front : List ℕ) × (bytes ≡ front ++ rest)
+EndsWith bytes rest = (prefix : List ℕ) × (bytes ≡ prefix ++ rest)
 
--- what is to come behind the last line
+-- what is to come after the last line
 abbrev pub SaysEnd : {T : Type 0} → ℕ → TrayState → List ℕ → Result T SetRefusal → Type 0
 SaysEnd number after rest (Ok done) = (rest ≡ []) × (after.left ≡ [])
 SaysEnd number after rest (Err (BadLine n)) = (n ≡ number) × (rest ≡ [] → ⊥)
@@ -113,7 +113,7 @@ SaysEnd number after rest (Err (BadLine n)) = (n ≡ number) × (rest ≡ [] →
 SaysEnd number after rest (Err Differs) = ⊥
 SaysEnd number after rest (Err ReadFault) = rest ≡ after.left
 
--- nothing stands behind the last line, or what does is a bad line of that number, or the tray fails
+-- nothing stands after the last line, or what does is a bad line of that number, or the tray fails
 pub record EndsSet {T : Type 0} (number : ℕ) (before after : TrayState) (held : List ℕ)
     (result : Result T SetRefusal) : Type 0 where
   pub keeps : KeepsTray before after

@@ -5,7 +5,7 @@ use Rattle.outside.specs.Causes.{Rose, RoseOnce}
 use Rattle.outside.specs.Rack.{RackState, KeepsRack}
 use Rattle.outside.specs.Writing.{Grows}
 
--- all of a text is written or held back, behind what the open file had at the start, and no call
+-- all of a text is written or held back, after what the open file had at the start, and no call
 -- has failed since
 pub record Holds (text held : List ℕ) (start state : RackState) : Type 0 where
   pub tells : state.tells ≡ start.tells
@@ -19,7 +19,7 @@ pub record Holds (text held : List ℕ) (start state : RackState) : Type 0 where
   pub whole : text ≡ written ++ held
   pub files : IsTrue start.tells → Grows written start state
 
--- a front of the text was written, and then a call failed
+-- a prefix of the text was written, and then a call failed
 pub record Breaks (text : List ℕ) (start state : RackState) : Type 0 where
   pub keeps : KeepsRack start state
   pub asked : state.asked ≡ start.asked
@@ -30,7 +30,7 @@ pub record Breaks (text : List ℕ) (start state : RackState) : Type 0 where
   pub cause : Rose start.faults state.faults
   pub once : RoseOnce start.faults state.faults
 
--- the piece is put behind any text that is held, or the rack fails within it
+-- the piece is put after any text that is held, or the rack fails within it
 pub record Puts {T E : Type 0} (piece held held2 : List ℕ) (before after : RackState)
     (result : Result T E) : Type 0 where
   pub well : OnOk result ((start : RackState) (text : List ℕ) → Holds text held start before

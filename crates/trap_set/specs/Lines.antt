@@ -9,7 +9,7 @@ abbrev pub before_first : ℕ → List (List ℕ) → List (List ℕ)
 before_first b [] = (b ∷ []) ∷ []
 before_first b (text ∷ later) = (b ∷ text) ∷ later
 
--- the lines of a text, each with its LF; what stands behind the last LF is a line without one
+-- the lines of a text, each with its LF; what stands after the last LF is a line without one
 abbrev pub lines_of : List ℕ → List (List ℕ)
 lines_of [] = [] ∷ []
 lines_of (b ∷ bytes) =
@@ -34,7 +34,7 @@ pub record BeginSet (bytes : List ℕ) (k : ℕ) (head : SetHead) (runs : List R
 abbrev pub BeginsSome : List ℕ → ℕ → Type 0
 BeginsSome bytes k = (head : SetHead) × (runs : List Run) × BeginSet bytes k head runs
 
--- the text is no set; its first k lines begin some set, and with the line behind them, which may be
+-- the text is no set; its first k lines begin some set, and with the line after them, which may be
 -- missing, they do not
 pub record IsBadLine (bytes : List ℕ) (k : ℕ) : Type 0 where
   pub no_set : (head : SetHead) (runs : List Run) → IsSetFile bytes head runs → ⊥

@@ -1,4 +1,4 @@
--- The numbers of a line, as they are read from its front.
+-- The numbers of a line, as they are read from its beginning.
 use Rattle.std.specs.Prelude.{◌≡◌, ℕ, ◌<◌, ◌≤◌, false, List, ◌++◌, slice_index}
 use Rattle.std.specs.Char.{is_ascii_digit}
 use Rattle.std.specs.Fmt.{decimal}

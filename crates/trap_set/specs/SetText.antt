@@ -65,7 +65,7 @@ pub record IsRun (head : SetHead) (run : Run) : Type 0 where
   pub one_each : length run.tints ≡ head.plates
   pub below : All (λ tint. tint ≤ head.maxval) run.tints
 
--- a run lies behind another: in a later row, or in its row at or after its end
+-- a run lies after another: in a later row, or in its row at or after its end
 abbrev pub Follows : Run → Run → Type 0
 Follows earlier later = (earlier.y < later.y)
     ⊎ ((earlier.y ≡ later.y) × (earlier.x + earlier.count ≤ later.x))

@@ -12,9 +12,9 @@ use Rattle.trap_set.specs.declared.steps.Next.{Next}
 use Rattle.trap_set.specs.declared.steps.Next.TheVariants as nexts
 use Rattle.trap_set.specs.declared.steps.Place.{Place}
 
--- a run begins at the place or behind it
-abbrev pub IsBehind : Place → Run → Type 0
-IsBehind place run = (place.row < run.y) ⊎ ((place.row ≡ run.y) × (place.column ≤ run.x))
+-- a run begins at the place or after it
+abbrev pub IsAfter : Place → Run → Type 0
+IsAfter place run = (place.row < run.y) ⊎ ((place.row ≡ run.y) × (place.column ≤ run.x))
 
 -- the line of a page
 abbrev pub IsPageLine : List ℕ → Type 0
@@ -23,7 +23,7 @@ IsPageLine line = (head : SetHead) × IsHead head × (line ≡ page_line head)
 -- the last line of a set, or the line of a run that may come at the place
 abbrev pub MayCome : SetHead → Place → List ℕ → Type 0
 MayCome head place line = (line ≡ end_line)
-    ⊎ ((run : Run) × IsRun head run × IsBehind place run × (line ≡ run_line run))
+    ⊎ ((run : Run) × IsRun head run × IsAfter place run × (line ≡ run_line run))
 
 -- the page line that was read, where one was
 abbrev pub found_page : {E : Type 0} → Result (Option Head) E → Result (Option (List ℕ)) E
@@ -41,11 +41,11 @@ abbrev pub found_next : {E : Type 0} → Result Next E → List ℕ → Result (
 found_next (Ok next) numbers = Ok (line_in next numbers)
 found_next (Err e) numbers = Err e
 
--- the next run may begin at the place exactly where it comes behind all of these
+-- the next run may begin at the place exactly where it comes after all of these
 pub record RunsTo (head : SetHead) (runs : List Run) (place : Place) : Type 0 where
   pub within : All (IsRun head) runs
   pub ascend : AllPairs Follows runs
-  pub behind : (run : Run) → IsBehind place run ↔ All (λ earlier. Follows earlier run) runs
+  pub suffix : (run : Run) → IsAfter place run ↔ All (λ earlier. Follows earlier run) runs
   pub few : length runs ≤ place.row * head.width + place.column
   pub row : place.row < head.height
   pub column : place.column ≤ head.width

@@ -36,7 +36,7 @@ const MOST_NUMBERS: usize = 19;
 /// Applies the set of the file of that name to the planes, run by run, and takes no memory.
 ///
 /// The text is read line by line and each line judged as it ends. After a refusal the planes have the runs of the good
-/// lines before it. Whether the set is for these planes is judged behind its second line. Whatever the answer, the planes
+/// lines before it. Whether the set is for these planes is judged after its second line. Whatever the answer, the planes
 /// keep their number, sides and maxvals, and no tint comes above a maxval where none was.
 pub fn apply_set<T: Tray>(
     tray: &mut T,
@@ -108,7 +108,7 @@ fn is_sized(head: Head, plane: &Plane) -> bool
     plane.width == head.width && plane.height == head.height && plane.maxval == head.maxval
 }
 
-// Applies the runs behind the page line.
+// Applies the runs after the page line.
 fn apply_runs<T: Tray>(
     tray: &mut T,
     buf: &mut [u8],
@@ -159,7 +159,7 @@ fn end_of(numbers: &[u32]) -> Place
     }
 }
 
-// Looks for bytes behind the last line, which would be a bad one of that number.
+// Looks for bytes after the last line, which would be a bad one of that number.
 fn end_set<T: Tray>(
     tray: &mut T,
     buf: &mut [u8],

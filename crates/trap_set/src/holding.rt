@@ -30,7 +30,7 @@ pub(crate) fn flush<R: Rack>(rack: &mut R, held: &mut Held) -> Result<(), Failed
     }
 }
 
-/// Puts a piece behind what is held back, which is written where there is no room for it.
+/// Puts a piece after what is held back, which is written where there is no room for it.
 pub(crate) fn put<R: Rack>(rack: &mut R, held: &mut Held, piece: &[u8]) -> Result<(), Failed>
     requires { IsTrue (R.state rack.old).is_open }
     ensures { Puts piece.now

@@ -1,4 +1,4 @@
-// The numbers of a line, read from its front.
+// The numbers of a line, read from its beginning.
 
 ghost use Rattle.std.specs.Prelude.{◌≡◌, ◌≤◌, ◌<◌, ◌∷◌, ◌++◌, [], ℕ, List, true, length, IfSome, IfNone, IsTrue, ◌↔◌, EachIndex, slice_index};
 ghost use Rattle.std.specs.Char.{is_ascii_digit};
@@ -9,7 +9,7 @@ ghost use Rattle.trap_set.specs.Numbers.{BeginsDigits, BeginsNumbers, IsPlain};
 // The greatest numbers of a set have five digits.
 const MOST_DIGITS: usize = 5;
 
-/// The number that the text begins with behind a space, and what stands behind it.
+/// The number that the text begins with after a space, and what stands after it.
 pub(crate) fn take_number(text: &[u8]) -> Option<(u32, &[u8])>
     ensures some { IfSome result (λ r. BeginsNumbers text.now (r.0 ∷ []) r.1.now) }
     ensures none { IfNone result
@@ -21,7 +21,7 @@ pub(crate) fn take_number(text: &[u8]) -> Option<(u32, &[u8])>
     }
 }
 
-// The number that the text begins with, and what stands behind it.
+// The number that the text begins with, and what stands after it.
 fn take_digits(text: &[u8]) -> Option<(u32, &[u8])>
     ensures some { IfSome result (λ r. BeginsDigits text.now r.0 r.1.now) }
     ensures none { IfNone result ((n : ℕ) (rest : List ℕ) → BeginsDigits text.now n rest → ⊥) }
@@ -33,7 +33,7 @@ fn take_digits(text: &[u8]) -> Option<(u32, &[u8])>
     Some((value_of(&text[..count]), &text[count..]))
 }
 
-// Whether so many digits at the front of a text may be a number.
+// Whether so many digits at the beginning of a text may be a number.
 fn is_plain(text: &[u8], count: usize) -> bool
     requires { count ≤ length text.now }
     ensures { IsTrue result ↔ IsPlain text.now count }
@@ -67,7 +67,7 @@ fn value_of(digits: &[u8]) -> u32
     value
 }
 
-/// What stands behind the word with which the text begins.
+/// What stands after the word with which the text begins.
 pub(crate) fn take_word<'a>(text: &'a [u8], word: &[u8]) -> Option<&'a [u8]>
     ensures some { IfSome result (λ rest. text.now ≡ word.now ++ rest.now) }
     ensures none { IfNone result ((rest : List ℕ) → text.now ≡ word.now ++ rest → ⊥) }
@@ -75,7 +75,7 @@ pub(crate) fn take_word<'a>(text: &'a [u8], word: &[u8]) -> Option<&'a [u8]>
     text.strip_prefix(word)
 }
 
-/// Puts the numbers that the text begins with into the list, as many as it has places, and gives what stands behind them.
+/// Puts the numbers that the text begins with into the list, as many as it has places, and gives what stands after them.
 pub(crate) fn take_numbers<'a>(text: &'a [u8], numbers: &mut [u32]) -> Option<&'a [u8]>
     requires { 0 < length numbers.old }
     ensures some { IfSome result (λ rest. BeginsNumbers text.now numbers.new rest.now) }

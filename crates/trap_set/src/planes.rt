@@ -48,7 +48,7 @@ fn put_tints(tints: &mut List<u16>, from: usize, to: usize, tint: u16)
     ensures before { (k : ℕ) → k < from
         → slice_index tints.new k ≡ slice_index tints.old k }
     ensures here { (k : ℕ) → from ≤ k → k < to → slice_index tints.new k ≡ tint }
-    ensures behind { (k : ℕ) → to ≤ k → slice_index tints.new k ≡ slice_index tints.old k }
+    ensures suffix { (k : ℕ) → to ≤ k → slice_index tints.new k ≡ slice_index tints.old k }
 {
     for place in from..to {
         let _old = tints.set(place, tint);

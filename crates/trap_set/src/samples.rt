@@ -82,7 +82,7 @@ fn span_is_same(old: &PlaneList, new: &PlaneList, y: u32, from: u32, to: u32) ->
     true
 }
 
-/// The column to go on at in a row, from column x on: behind the span that begins there if nothing changes in it, else x.
+/// The column to go on at in a row, from column x on: after the span that begins there if nothing changes in it, else x.
 pub(crate) fn skip_same(old: &PlaneList, new: &PlaneList, y: u32, x: u32, width: u32) -> u32
     requires pair { ArePair old.now new.now }
     requires width { width ≡ wide old.now }

@@ -4,7 +4,7 @@ ghost use Rattle.std.specs.Prelude.{◌≡◌, ◌⊎◌, ◌↔◌, ◌+◌, �
 ghost use Rattle.trap_set.specs.Bytes.{IsIn, ReadsNext, found_line, held_in};
 ghost use Rattle.trap_set.specs.Reading.{head_in, run_in};
 ghost use Rattle.trap_set.specs.SetText.{IsHead, IsRun, end_line, run_line, title_line};
-ghost use Rattle.trap_set.specs.Standing.{IsBehind, IsPageLine, MayCome, found_next, found_page};
+ghost use Rattle.trap_set.specs.Standing.{IsAfter, IsPageLine, MayCome, found_next, found_page};
 
 use crate::bytes::{SetLine, Unread, read_line};
 use crate::lines::{Head, read_page_line, read_run_line};
@@ -17,7 +17,7 @@ pub(crate) struct Place {
     pub(crate) column: u32,
 }
 
-/// What the line behind a page line or a run is.
+/// What the line after a page line or a run is.
 #[derive(Clone, Copy, Drop)]
 pub(crate) enum Next {
     Run,
@@ -93,7 +93,7 @@ pub(crate) fn read_next<T: Tray>(
         (held_in buf.old unread.old) (held_in buf.new unread.new)
         (found_next result numbers.new) }
     ensures run { IfOk result (λ next. next ≡ Next.Run → IsRun (head_in head) (run_in numbers.new)
-        × IsBehind place (run_in numbers.new)) }
+        × IsAfter place (run_in numbers.new)) }
     ensures within { IsIn buf.new unread.new }
 {
     let mut line = SetLine::new();
@@ -110,7 +110,7 @@ fn next_in(line: &[u8], head: Head, place: Place, numbers: &mut [u32]) -> Next
     requires many { length numbers.old ≡ head.plates + 3 }
     ensures end { result ≡ Next.End → line.now ≡ end_line }
     ensures run { result ≡ Next.Run → (line.now ≡ run_line (run_in numbers.new))
-        × IsRun (head_in head) (run_in numbers.new) × IsBehind place (run_in numbers.new) }
+        × IsRun (head_in head) (run_in numbers.new) × IsAfter place (run_in numbers.new) }
     ensures bad { result ≡ Next.Bad → MayCome (head_in head) place line.now → ⊥ }
 {
     if is_end(line) {
@@ -119,7 +119,7 @@ fn next_in(line: &[u8], head: Head, place: Place, numbers: &mut [u32]) -> Next
     if !read_run_line(line, head, numbers) {
         return Next::Bad;
     }
-    if is_behind(place, numbers) {
+    if is_after(place, numbers) {
         Next::Run
     } else {
         Next::Bad
@@ -132,10 +132,10 @@ fn is_end(line: &[u8]) -> bool
     line == b"end\n".as_slice()
 }
 
-// Whether the run of these numbers begins at the place or behind it.
-fn is_behind(place: Place, numbers: &[u32]) -> bool
+// Whether the run of these numbers begins at the place or after it.
+fn is_after(place: Place, numbers: &[u32]) -> bool
     requires { 2 < length numbers.now }
-    ensures { IsTrue result ↔ IsBehind place (run_in numbers.now) }
+    ensures { IsTrue result ↔ IsAfter place (run_in numbers.now) }
 {
     place.row < numbers[0] || (place.row == numbers[0] && place.column <= numbers[1])
 }

@@ -8,22 +8,20 @@ mod worked;
 mod workers;
 mod writing;
 
+use self::failing::{holds_up_to, is_broken};
 use band_workers::{Gate, OpenGate};
 use lists::list::List;
-use lists::names::CallList;
+use lists::memory::push;
+use lists::names::{CallList, Name, copied};
 use outside::distinct_names::have_distinct_names;
-use outside::mem_file::MemFile;
+use outside::mem_file::{FileList, MemFile};
 use outside::mem_rack::MemRack;
 use outside::mem_tray::MemTray;
-use std::alloc::{AllocError, Global};
+use std::alloc::Global;
 use std::process::Abort;
 use std::thread::Threads;
+use test_files::{CYAN, MAGENTA, calls, words_of};
 use trap_cli::top::trap_main;
-
-// Two plates of one row: on the left Cyan alone, and on the right Magenta.
-const CYAN: &[u8] = b"P5\n6 1\n255\n\0\0\0\xFF\xFF\xFF";
-
-const MAGENTA: &[u8] = b"P5\n6 1\n255\n\xFF\xFF\xFF\0\0\0";
 
 const DISABLED: &str = "<< /Enabled false >> settrapparams showpage";
 
@@ -46,8 +44,8 @@ const TALL_CYAN: &[u8] = b"P5\n1 12\n255\n\0\0\0\0\0\0\xFF\xFF\xFF\xFF\xFF\xFF";
 
 const TALL_MAGENTA: &[u8] = b"P5\n1 12\n255\n\xFF\xFF\xFF\xFF\xFF\xFF\0\0\0\0\0\0";
 
-// the files that are read: the job, and the plates in order
-const READ: &[&str] = &["job", "in0", "in1", "in2", "in3"];
+// the files of the plates that are read, in order
+const READ: &[&str] = &["in0", "in1", "in2", "in3"];
 
 const WRITTEN: &[&str] = &["out0", "out1", "out2", "out3"];
 
@@ -76,46 +74,67 @@ const USUAL: Case<'static> = Case {
     room: 10000,
 };
 
-fn words_of(alloc: Global, text: &str) -> Result<Vec<String>, AllocError> {
-    let mut words = Vec::new(alloc);
-    if text.is_empty() {
-        return Ok(words);
-    }
-    for word in text.split(' ') {
-        words.push(String::from_str(alloc, word)?)?;
-    }
-    Ok(words)
+// What is looked at where a run has ended.
+#[derive(Clone, Copy)]
+enum Look<'a> {
+    // Of the files none was created, and this is told.
+    Refused(&'a str),
+    // These plates and this report were written, and nothing is told.
+    Written(&'a [&'a [u8]], &'a str),
+    // This is told.
+    Told(&'a str),
+    // This is told, and the first plate was not created.
+    Unwritten(&'a str),
+    // Of what the usual case writes all files stand before that one, of it so many bytes, and no later one; and this is told.
+    UpTo(usize, usize, &'a str),
+    // Of what the usual case writes a file broke.
+    Broken,
+    // None of the files was created.
+    Empty,
 }
 
-// The numbers of the calls that fail: this one, or none.
-fn calls(alloc: Global, call: Option<u64>) -> Result<CallList, AllocError> {
-    let mut numbers = Vec::new(alloc);
-    if let Some(number) = call {
-        numbers.push(number)?;
-    }
-    Ok(List::from_vec(numbers))
+// Stops the test where an answer is wrong, and names the row that it is of.
+fn judge(rt: &impl Abort, is_right: bool, row: &str, number: u64) {
+    assert!(rt; is_right, "{row}, {number}");
 }
 
-// The pieces one behind the other.
-fn joined(alloc: Global, pieces: &[&str]) -> Result<Vec<u8>, AllocError> {
+fn bytes_of(rt: &impl Abort, alloc: Global, text: &[u8]) -> Name {
+    copied(alloc, text).expect(rt, "no memory")
+}
+
+fn calls_of(rt: &impl Abort, alloc: Global, call: Option<u64>) -> CallList {
+    calls(alloc, call).expect(rt, "no memory")
+}
+
+// The pieces one after the other.
+fn joined(rt: &impl Abort, alloc: Global, pieces: &[&str]) -> Vec<u8> {
     let mut bytes = Vec::new(alloc);
     for piece in pieces {
-        bytes.extend_from_slice(piece.as_bytes())?;
+        add(rt, &mut bytes, piece.as_bytes());
     }
-    Ok(bytes)
+    bytes
+}
+
+fn add(rt: &impl Abort, bytes: &mut Vec<u8>, more: &[u8]) {
+    assert!(rt; bytes.extend_from_slice(more).is_ok(), "no memory");
 }
 
 fn file_of(
+    rt: &impl Abort,
     alloc: Global,
     name: &str,
-    bytes: Vec<u8>,
+    bytes: &[u8],
     fails_at: Option<u64>,
-) -> Result<MemFile, AllocError> {
-    Ok(MemFile {
-        name: List::from_vec(name.as_bytes().to_vec(alloc)?),
-        bytes: List::from_vec(bytes),
+) -> MemFile {
+    MemFile {
+        name: bytes_of(rt, alloc, name.as_bytes()),
+        bytes: bytes_of(rt, alloc, bytes),
         fails_at,
-    })
+    }
+}
+
+fn put(rt: &impl Abort, files: &mut FileList, file: MemFile) {
+    assert!(rt; push(files, file).is_ok(), "no memory");
 }
 
 // The place at which reads of the file of that number fail.
@@ -126,66 +145,128 @@ fn place_in(case: Case<'_>, file: usize) -> Option<u64> {
     }
 }
 
-// Adds the plates, by the names of READ.
-fn add_plates(alloc: Global, files: &mut Vec<MemFile>, case: Case<'_>) -> Result<(), AllocError> {
-    for (number, (name, bytes)) in READ.iter().skip(1).zip(case.plates.iter()).enumerate() {
-        let place = place_in(case, number.saturating_add(1));
-        files.push(file_of(alloc, name, bytes.to_vec(alloc)?, place)?)?;
+fn job_of(rt: &impl Abort, alloc: Global, case: Case<'_>) -> MemFile {
+    let job = joined(rt, alloc, case.job);
+    file_of(rt, alloc, "job", &job, place_in(case, 0))
+}
+
+// Adds that plate where the case has it, by its name of READ.
+fn add_plate(rt: &impl Abort, alloc: Global, files: &mut FileList, case: Case<'_>, plate: usize) {
+    if let (Some(name), Some(bytes)) = (READ.get(plate), case.plates.get(plate)) {
+        let place = place_in(case, plate.saturating_add(1));
+        put(rt, files, file_of(rt, alloc, name, bytes, place));
     }
-    Ok(())
 }
 
-// The job and the plates, by the names of READ.
-fn files_of(alloc: Global, case: Case<'_>) -> Result<Vec<MemFile>, AllocError> {
-    let mut files = Vec::new(alloc);
-    let job = joined(alloc, case.job)?;
-    files.push(file_of(alloc, "job", job, place_in(case, 0))?)?;
-    add_plates(alloc, &mut files, case)?;
-    Ok(files)
+// The job and the plates.
+fn files_of(rt: &impl Abort, alloc: Global, case: Case<'_>) -> FileList {
+    let mut files = List::new(alloc);
+    put(rt, &mut files, job_of(rt, alloc, case));
+    for plate in 0..READ.len() {
+        add_plate(rt, alloc, &mut files, case, plate);
+    }
+    files
 }
 
-fn tray_of(rt: &impl Abort, alloc: Global, case: Case<'_>) -> Result<MemTray, AllocError> {
-    let fails = calls(alloc, case.tray_fails)?;
-    let files = files_of(alloc, case)?;
-    assert!(rt; have_distinct_names(&files));
-    Ok(MemTray::new(alloc, List::from_vec(files), 64, fails))
+fn tray_with(rt: &impl Abort, alloc: Global, files: FileList, fails: CallList) -> MemTray {
+    assert!(rt; have_distinct_names(files.as_slice()));
+    MemTray::new(alloc, files, 64, fails)
 }
 
-fn rack_of(alloc: Global, case: Case<'_>) -> Result<MemRack, AllocError> {
-    Ok(MemRack::new(alloc, 50, case.room, calls(alloc, case.rack_fails)?))
+fn tray_of(rt: &impl Abort, alloc: Global, case: Case<'_>) -> MemTray {
+    let files = files_of(rt, alloc, case);
+    tray_with(rt, alloc, files, calls_of(rt, alloc, case.tray_fails))
 }
 
-// The status, and the rack as it stands then.
+fn rack_of(rt: &impl Abort, alloc: Global, case: Case<'_>) -> MemRack {
+    MemRack::new(alloc, 50, case.room, calls_of(rt, alloc, case.rack_fails))
+}
+
+// The status, and whether the rack stands so then.
 fn ended<H: Threads + Sync, G: Gate + Sync>(
     rt: &H,
     alloc: Global,
     words: &[String],
-    mut tray: MemTray,
-    mut rack: MemRack,
+    tray: &mut MemTray,
+    rack: &mut MemRack,
     gate: &G,
-) -> (u8, MemRack) {
-    let ended = trap_main(rt, alloc, words, &mut tray, &mut rack, gate);
-    (ended.status, rack)
+    look: Look<'_>,
+) -> (u8, bool) {
+    let ended = trap_main(rt, alloc, words, tray, rack, gate);
+    (ended.status, looks(rack, look))
 }
 
+fn ended_on_rack<H: Abort + Threads + Sync, G: Gate + Sync>(
+    rt: &H,
+    alloc: Global,
+    words: &[String],
+    case: Case<'_>,
+    tray: &mut MemTray,
+    gate: &G,
+    look: Look<'_>,
+) -> (u8, bool) {
+    let mut rack = rack_of(rt, alloc, case);
+    ended(rt, alloc, words, tray, &mut rack, gate, look)
+}
+
+fn ended_on_files<H: Abort + Threads + Sync, G: Gate + Sync>(
+    rt: &H,
+    alloc: Global,
+    words: &[String],
+    case: Case<'_>,
+    gate: &G,
+    look: Look<'_>,
+) -> (u8, bool) {
+    let mut tray = tray_of(rt, alloc, case);
+    ended_on_rack(rt, alloc, words, case, &mut tray, gate, look)
+}
+
+// The status of a run, and whether its rack stands so then.
 fn run_by<H: Abort + Threads + Sync, G: Gate + Sync>(
     rt: &H,
     alloc: Global,
     case: Case<'_>,
     gate: &G,
-) -> Result<(u8, MemRack), AllocError> {
-    let words = words_of(alloc, case.words)?;
-    let rack = rack_of(alloc, case)?;
-    let tray = tray_of(rt, alloc, case)?;
-    Ok(ended(rt, alloc, &words, tray, rack, gate))
+    look: Look<'_>,
+) -> (u8, bool) {
+    let words = words_of(alloc, case.words).expect(rt, "no memory");
+    ended_on_files(rt, alloc, &words, case, gate, look)
 }
 
 fn run(
     rt: &(impl Abort + Threads + Sync),
     alloc: Global,
     case: Case<'_>,
-) -> Result<(u8, MemRack), AllocError> {
-    run_by(rt, alloc, case, &OpenGate)
+    look: Look<'_>,
+) -> (u8, bool) {
+    run_by(rt, alloc, case, &OpenGate, look)
+}
+
+// Whether a run ends with the status, and its rack stands so then.
+fn ends(
+    rt: &(impl Abort + Threads + Sync),
+    alloc: Global,
+    case: Case<'_>,
+    status: u8,
+    look: Look<'_>,
+) -> bool {
+    run(rt, alloc, case, look) == (status, true)
+}
+
+fn looks(rack: &MemRack, look: Look<'_>) -> bool {
+    match look {
+        Look::Refused(text) => tells(rack, text) && is_empty(rack),
+        Look::Written(plates, report) => tells(rack, "") && holds(rack, plates, report),
+        Look::Told(text) => tells(rack, text),
+        Look::Unwritten(text) => tells(rack, text) && has(rack, "out0", None),
+        Look::UpTo(broken, count, text) => tells(rack, text) && holds_up_to(rack, broken, count),
+        Look::Broken => is_broken(rack),
+        Look::Empty => is_empty(rack),
+    }
+}
+
+fn tells(rack: &MemRack, text: &str) -> bool {
+    rack.told() == text.as_bytes()
 }
 
 fn has(rack: &MemRack, name: &str, wanted: Option<&[u8]>) -> bool {
@@ -198,7 +279,7 @@ fn has(rack: &MemRack, name: &str, wanted: Option<&[u8]>) -> bool {
 
 // Whether the plates and the report are these.
 fn holds(rack: &MemRack, plates: &[&[u8]], report: &str) -> bool {
-    for (name, bytes) in WRITTEN.iter().zip(plates.iter()) {
+    for (name, bytes) in WRITTEN.iter().zip(plates) {
         if !has(rack, name, Some(bytes)) {
             return false;
         }
@@ -214,16 +295,4 @@ fn is_empty(rack: &MemRack) -> bool {
         }
     }
     has(rack, "report", None)
-}
-
-// Whether a run ends with the status and the text told, and creates nothing.
-fn is_refused(
-    rt: &(impl Abort + Threads + Sync),
-    alloc: Global,
-    case: Case<'_>,
-    wanted: u8,
-    text: &str,
-) -> Result<bool, AllocError> {
-    let (status, rack) = run(rt, alloc, case)?;
-    Ok(status == wanted && rack.told() == text.as_bytes() && is_empty(&rack))
 }

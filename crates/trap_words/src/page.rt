@@ -57,7 +57,7 @@ fn matches_by<'a>(
     }
 }
 
-// Want of memory is an error of its own, and every other one refuses the words.
+// Out of memory is an error of its own, and every other one refuses the words.
 fn without_matches<'a>(kind: ErrorKind) -> Result<Option<ArgMatches<'a>>, OutOfMemory>
     ensures none { IfOk result (λ r. is_some r ≡ false) }
     ensures cause { OnOk result (kind ≢ ErrorKind.OutOfMemory) }

@@ -17,13 +17,13 @@ use Rattle.trap_pool.specs.declared.outcome.Outcome.TheVariants as outcomes
 use Rattle.trap_pool.specs.Pools.{AnswersLine, InTurn, IsJudged, KeepsLimit, source_of, target_of}
 use Rattle.trap_pool.specs.Replies.{ReplyParts, IsReading, IsReply, accepted_of, all_samples, gathered_of, read_fault, read_faults}
 use Rattle.trap_pool.proofs.Turns.{keeps_in_turn}
-use Rattle.trap_report.specs.declared.refusal.Refusal.{Refusal}
-use Rattle.trap_report.specs.declared.refusal.Refusal.TheVariants as refusals
+use Rattle.refusals.specs.declared.refusal.Refusal.{Refusal}
+use Rattle.refusals.specs.declared.refusal.Refusal.TheVariants as refusals
 use Rattle.verdicts.specs.Verdicts.{IsVerdict, OneVerdict, Out, Refused as refused_verdict, outcome, written_names}
 use Rattle.trappool_cli.specs.Answers.{AnswersAll, AnswersDone, AnswersSaid, status_with}
-use Rattle.trappool_cli.specs.Cases.{AcceptsPage, AsksFronts, IsCase, LinesEnd, MakesPage, read_line, read_lines, write_line, write_lines}
-use Rattle.trappool_cli.specs.declared.answering.Said.{Said}
-use Rattle.trappool_cli.specs.declared.answering.Said.TheVariants as said
+use Rattle.trappool_cli.specs.Cases.{AcceptsPage, AsksPrefixes, IsCase, LinesEnd, MakesPage, read_line, read_lines, write_line, write_lines}
+use Rattle.trappool_cli.specs.declared.answering.LineStatus.{LineStatus}
+use Rattle.trappool_cli.specs.declared.answering.LineStatus.TheVariants as said
 
 less : (a b : ℕ) → (a < b) ⊎ (b ≤ a)
 less a b = elim (ltb a b) as (λ (v : Bool). ltb a b ≡ v → (a < b) ⊎ (b ≤ a)) [ true ↦ λ e. inl (ltb-true a b e) | false ↦ λ e. inr (ltb-false a b e) ] refl
@@ -53,7 +53,7 @@ module _ (t t' : TrayState) (used : ℕ) (line : LineParts) (m n : TrayState) (k
       let made : IsTrue t.tells → Makes one_page t.file (source_of line) (Ok page) = λ tells. subst (λ (files : List ℕ → Option (List ℕ)). Makes one_page files (source_of line) (Ok page)) keeps.file (gathers.answer.2 (keeps.tells ∙ tells)) in
       record { made = made; verdict = λ tells. (page, made tells, refl) }
 
-  done_case : (page : PageParts) → AcceptsPage t used (all_samples page) line page → (a b : RackState) (what : Said) → AnswersDone (target_of line) page a b what → IsCase t t' used (all_samples page) line a b what
+  done_case : (page : PageParts) → AcceptsPage t used (all_samples page) line page → (a b : RackState) (what : LineStatus) → AnswersDone (target_of line) page a b what → IsCase t t' used (all_samples page) line a b what
   done_case page accepts a b said.Done answer = (page, accepts, answer)
   done_case page accepts a b said.TooLarge answer = absurd answer
   done_case page accepts a b (said.Refused (refusals.Write file)) answer = (page, accepts, answer.0, answer.1)
@@ -65,7 +65,7 @@ module _ (t t' : TrayState) (used : ℕ) (line : LineParts) (m n : TrayState) (k
   done_case page accepts a b (said.Refused (refusals.Page fault)) answer = absurd answer
   done_case page accepts a b (said.Refused (refusals.Read file)) answer = absurd answer
 
-  case_of : (page : Option PageParts) (outcome : Outcome) → IsReply page outcome → Gathers (source_of line) m n (gathered_of page outcome) → KeepsLimit used page outcome → (a b : RackState) (what : Said) → AnswersSaid (target_of line) page outcome a b what → IsCase t t' used (accepted_of page outcome) line a b what
+  case_of : (page : Option PageParts) (outcome : Outcome) → IsReply page outcome → Gathers (source_of line) m n (gathered_of page outcome) → KeepsLimit used page outcome → (a b : RackState) (what : LineStatus) → AnswersSaid (target_of line) page outcome a b what → IsCase t t' used (accepted_of page outcome) line a b what
   case_of (Some page) (outcomes.Done trapped) kind gathers limit a b what answer =
       done_case page (record { is_made = makes_page page (outcomes.Done trapped) gathers; room = limit; samples = refl }) a b what answer
   case_of (Some page) outcomes.TooLarge kind gathers limit a b said.TooLarge answer = (page, makes_page page outcomes.TooLarge gathers, limit, refl, answer)
@@ -94,7 +94,7 @@ read_as (refusals.NoDetails k) = omega arith
 read_as (refusals.Plate k fault) = omega arith
 read_as (refusals.Page fault) = omega arith
 
-read_done : (line : LineParts) (page : PageParts) (a b : RackState) (what : Said) → AnswersDone (target_of line) page a b what → read_line what ≤ 0
+read_done : (line : LineParts) (page : PageParts) (a b : RackState) (what : LineStatus) → AnswersDone (target_of line) page a b what → read_line what ≤ 0
 read_done line page a b said.Done answer = omega arith
 read_done line page a b said.TooLarge answer = absurd answer
 read_done line page a b (said.Refused (refusals.Write file)) answer = omega arith
@@ -109,7 +109,7 @@ read_done line page a b (said.Refused (refusals.Read file)) answer = absurd answ
 read_same : (refusal other : Refusal) → other ≡ refusal → read_line (said.Refused other) ≤ read_fault (outcomes.Refused refusal)
 read_same refusal other same = subst (λ (r : Refusal). read_line (said.Refused r) ≤ read_fault (outcomes.Refused refusal)) (sym same) (read_as refusal)
 
-read_one : (line : LineParts) (page : Option PageParts) (outcome : Outcome) (a b : RackState) (what : Said) → AnswersSaid (target_of line) page outcome a b what → read_line what ≤ read_fault outcome
+read_one : (line : LineParts) (page : Option PageParts) (outcome : Outcome) (a b : RackState) (what : LineStatus) → AnswersSaid (target_of line) page outcome a b what → read_line what ≤ read_fault outcome
 read_one line (Some page) (outcomes.Done trapped) a b what answer = read_done line page a b what answer
 read_one line None (outcomes.Done trapped) a b said.Done answer = absurd answer
 read_one line None (outcomes.Done trapped) a b said.TooLarge answer = absurd answer
@@ -130,9 +130,9 @@ read_one line None outcomes.TooLarge a b (said.Refused other) answer = absurd an
 -- All lines end in their cases.
 module _ (t t' : TrayState) where
   abbrev pub Ended : ℕ → ℕ → ℕ → List LineParts → List ReplyParts → RackState → RackState → ℕ → Type 0
-  Ended k used so_far lines replies a b status = (whats : List Said) × LinesEnd t t' k used so_far lines whats a b status × (read_lines whats ≤ read_faults replies)
+  Ended k used so_far lines replies a b status = (whats : List LineStatus) × LinesEnd t t' k used so_far lines whats a b status × (read_lines whats ≤ read_faults replies)
 
-  line_ends : (k used : ℕ) (line : LineParts) (reply : ReplyParts) (m n : TrayState) (a b : RackState) (what : Said) → KeepsTray t m → n.faults ≤ t'.faults → AnswersLine k used line m n reply → KeepsRack a b → (IsTrue a.tells → b.told ≡ a.told) → AnswersSaid (target_of line) reply.page reply.outcome a b what → IsCase t t' used (accepted_of reply.page reply.outcome) line a b what
+  line_ends : (k used : ℕ) (line : LineParts) (reply : ReplyParts) (m n : TrayState) (a b : RackState) (what : LineStatus) → KeepsTray t m → n.faults ≤ t'.faults → AnswersLine k used line m n reply → KeepsRack a b → (IsTrue a.tells → b.told ≡ a.told) → AnswersSaid (target_of line) reply.page reply.outcome a b what → IsCase t t' used (accepted_of reply.page reply.outcome) line a b what
   line_ends k used line reply m n a b what keeps later answers kept told answer =
       case_of t t' used line m n keeps answers.gathers.keeps.faults later reply.page reply.outcome answers.kind answers.gathers answers.limit a b what answer
 
@@ -175,7 +175,7 @@ module _ (t t' : TrayState) where
       )
 
   -- The rack's count never falls.
-  pub racks_up : (k used so_far : ℕ) (lines : List LineParts) (whats : List Said) (a b : RackState) (status : ℕ) → LinesEnd t t' k used so_far lines whats a b status → a.faults ≤ b.faults
+  pub racks_up : (k used so_far : ℕ) (lines : List LineParts) (whats : List LineStatus) (a b : RackState) (status : ℕ) → LinesEnd t t' k used so_far lines whats a b status → a.faults ≤ b.faults
   racks_up k used so_far [] [] a b status all = let same : b.faults ≡ a.faults = ap (λ (r : RackState). r.faults) all.0 in omega arith
   racks_up k used so_far [] (what ∷ whats) a b status all = absurd all
   racks_up k used so_far (line ∷ lines) [] a b status all = absurd all
@@ -198,7 +198,7 @@ module _ (t t' : TrayState) where
   up_by_one a b low (inl up) = omega arith
   up_by_one a b low (inr last) = absurd (omega arith)
 
-  write_one : (used taken : ℕ) (line : LineParts) (a b : RackState) (what : Said) → b.faults < 2 ^ 64 - 1 → a.faults ≤ b.faults → IsCase t t' used taken line a b what → a.faults + write_line what ≤ b.faults
+  write_one : (used taken : ℕ) (line : LineParts) (a b : RackState) (what : LineStatus) → b.faults < 2 ^ 64 - 1 → a.faults ≤ b.faults → IsCase t t' used taken line a b what → a.faults + write_line what ≤ b.faults
   write_one used taken line a b (said.Refused (refusals.Write file)) low up ends = up_by_one a.faults b.faults low (broke (length line.outs) (outcome (target_of line) ends.0) file a b ends.2)
   write_one used taken line a b said.Done low up ends = omega arith
   write_one used taken line a b said.TooLarge low up ends = omega arith
@@ -210,7 +210,7 @@ module _ (t t' : TrayState) where
   write_one used taken line a b (said.Refused (refusals.Plate k fault)) low up ends = omega arith
   write_one used taken line a b (said.Refused (refusals.Page fault)) low up ends = omega arith
 
-  pub writes_rise : (k used so_far : ℕ) (lines : List LineParts) (whats : List Said) (a b : RackState) (status : ℕ) → LinesEnd t t' k used so_far lines whats a b status → b.faults < 2 ^ 64 - 1 → a.faults + write_lines whats ≤ b.faults
+  pub writes_rise : (k used so_far : ℕ) (lines : List LineParts) (whats : List LineStatus) (a b : RackState) (status : ℕ) → LinesEnd t t' k used so_far lines whats a b status → b.faults < 2 ^ 64 - 1 → a.faults + write_lines whats ≤ b.faults
   writes_rise k used so_far [] [] a b status all low = let same : b.faults ≡ a.faults = ap (λ (r : RackState). r.faults) all.0 in omega arith
   writes_rise k used so_far [] (what ∷ whats) a b status all low = absurd all
   writes_rise k used so_far (line ∷ lines) [] a b status all low = absurd all
@@ -228,11 +228,11 @@ module _ (t t' : TrayState) where
 
 -- ## Names
 
-none_asked : (a : Option (List (List ℕ))) (groups : List (List (List ℕ))) → AsksFronts a a groups
+none_asked : (a : Option (List (List ℕ))) (groups : List (List (List ℕ))) → AsksPrefixes a a groups
 none_asked a [] = refl
 none_asked a (names ∷ groups) = (a, asks_none_of a names, none_asked a groups)
 
-pub asked_reading : (k used : ℕ) (lines : List LineParts) (replies : List ReplyParts) (m n : TrayState) → InTurn k used lines m n replies → AsksFronts m.asked n.asked (map (λ (l : LineParts). read_files (source_of l)) lines)
+pub asked_reading : (k used : ℕ) (lines : List LineParts) (replies : List ReplyParts) (m n : TrayState) → InTurn k used lines m n replies → AsksPrefixes m.asked n.asked (map (λ (l : LineParts). read_files (source_of l)) lines)
 asked_reading k used [] [] m n turn = ap (λ (s : TrayState). s.asked) turn
 asked_reading k used [] (reply ∷ replies) m n turn = absurd turn
 asked_reading k used (line ∷ lines) [] m n turn = absurd turn
@@ -242,19 +242,19 @@ abbrev made_names : List LineParts → List (List (List ℕ))
 made_names = map (λ (l : LineParts). written_names (target_of l))
 
 module _ (t t' : TrayState) where
-  pub asked_writing : (k used so_far : ℕ) (lines : List LineParts) (whats : List Said) (a b : RackState) (status : ℕ) → LinesEnd t t' k used so_far lines whats a b status → AsksFronts a.asked b.asked (made_names lines)
+  pub asked_writing : (k used so_far : ℕ) (lines : List LineParts) (whats : List LineStatus) (a b : RackState) (status : ℕ) → LinesEnd t t' k used so_far lines whats a b status → AsksPrefixes a.asked b.asked (made_names lines)
   asked_writing k used so_far [] [] a b status all = ap (λ (r : RackState). r.asked) all.0
   asked_writing k used so_far [] (what ∷ whats) a b status all = absurd all
   asked_writing k used so_far (line ∷ lines) [] a b status all = absurd all
   asked_writing k used so_far (line ∷ lines) (what ∷ whats) a b status (taken, between, ends, inl on) = (
     between.asked,
     ends.asked,
-    subst (λ (o : Option (List (List ℕ))). AsksFronts o b.asked (made_names lines)) on.1.files.asked (asked_writing (k + 1) (used + taken) (status_with so_far what) lines whats on.0 b status on.2),
+    subst (λ (o : Option (List (List ℕ))). AsksPrefixes o b.asked (made_names lines)) on.1.files.asked (asked_writing (k + 1) (used + taken) (status_with so_far what) lines whats on.0 b status on.2),
   )
   asked_writing k used so_far (line ∷ lines) (what ∷ whats) a b status (taken, between, ends, inr last) = (
     between.asked,
     ends.asked,
-    subst (λ (o : Option (List (List ℕ))). AsksFronts between.asked o (made_names lines)) (sym last.0.files.asked) (none_asked between.asked (made_names lines)),
+    subst (λ (o : Option (List (List ℕ))). AsksPrefixes between.asked o (made_names lines)) (sym last.0.files.asked) (none_asked between.asked (made_names lines)),
   )
 
 -- ## Without a rise
@@ -264,27 +264,27 @@ never_nil [] x ys is = absurd (cc)
 never_nil (z ∷ xs) x ys is = absurd (cc)
 
 module _ (t t' : TrayState) where
-  abbrev HasCase : LineParts → Said → RackState → RackState → Type 0
+  abbrev HasCase : LineParts → LineStatus → RackState → RackState → Type 0
   HasCase line what a b = (used : ℕ) × (taken : ℕ) × (x : RackState) × (y : RackState) × IsCase t t' used taken line x y what × (a.faults ≤ x.faults) × (x.faults ≤ y.faults) × (y.faults ≤ b.faults)
 
-  case_at : (k used so_far : ℕ) (before : List LineParts) (line : LineParts) (behind : List LineParts) (earlier : List Said) (what : Said) (later : List Said) (a b : RackState) (status : ℕ) → length before ≡ length earlier → LinesEnd t t' k used so_far (before ++ line ∷ behind) (earlier ++ what ∷ later) a b status → HasCase line what a b
-  case_at k used so_far [] line behind [] what later a b status same (taken, between, ends, inl on) =
-      let up = racks_up t t' (k + 1) (used + taken) (status_with so_far what) behind later on.0 b status on.2 in
+  case_at : (k used so_far : ℕ) (before : List LineParts) (line : LineParts) (suffix : List LineParts) (earlier : List LineStatus) (what : LineStatus) (later : List LineStatus) (a b : RackState) (status : ℕ) → length before ≡ length earlier → LinesEnd t t' k used so_far (before ++ line ∷ suffix) (earlier ++ what ∷ later) a b status → HasCase line what a b
+  case_at k used so_far [] line suffix [] what later a b status same (taken, between, ends, inl on) =
+      let up = racks_up t t' (k + 1) (used + taken) (status_with so_far what) suffix later on.0 b status on.2 in
       let calm = on.1.calm in
       (used, taken, a, between, ends.ends, omega arith, ends.keeps.faults, omega arith)
-  case_at k used so_far [] line behind [] what later a b status same (taken, between, ends, inr last) =
+  case_at k used so_far [] line suffix [] what later a b status same (taken, between, ends, inr last) =
       (used, taken, a, between, ends.ends, omega arith, ends.keeps.faults, last.0.files.keeps.faults)
-  case_at k used so_far [] line behind (w ∷ earlier) what later a b status same all = absurd (omega arith)
-  case_at k used so_far (l ∷ before) line behind [] what later a b status same all = absurd (omega arith)
-  case_at k used so_far (l ∷ before) line behind (w ∷ earlier) what later a b status same (taken, between, ends, inl on) =
-      let found = case_at (k + 1) (used + taken) (status_with so_far w) before line behind earlier what later on.0 b status (omega arith) on.2 in
+  case_at k used so_far [] line suffix (w ∷ earlier) what later a b status same all = absurd (omega arith)
+  case_at k used so_far (l ∷ before) line suffix [] what later a b status same all = absurd (omega arith)
+  case_at k used so_far (l ∷ before) line suffix (w ∷ earlier) what later a b status same (taken, between, ends, inl on) =
+      let found = case_at (k + 1) (used + taken) (status_with so_far w) before line suffix earlier what later on.0 b status (omega arith) on.2 in
       let first = ends.keeps.faults in
       let calm = on.1.calm in
       let low = found.5 in
       (found.0, found.1, found.2, found.3, found.4, omega arith, found.6, found.7)
-  case_at k used so_far (l ∷ before) line behind (w ∷ earlier) what later a b status same (taken, between, ends, inr last) = absurd (never_nil earlier what later last.1)
+  case_at k used so_far (l ∷ before) line suffix (w ∷ earlier) what later a b status same (taken, between, ends, inr last) = absurd (never_nil earlier what later last.1)
 
-  calm_case : OneVerdict one_page → (used taken : ℕ) (line : LineParts) (x y : RackState) (what : Said) (written : List Written) → IsCase t t' used taken line x y what → IsTrue t.tells → IsVerdict one_page t.file (source_of line) (target_of line) (Out written) → ¬ Rose t.faults t'.faults → ¬ Rose x.faults y.faults → (what ≡ said.Done) ⊎ ((what ≡ said.TooLarge) ⊎ (what ≡ said.Refused refusals.Memory))
+  calm_case : OneVerdict one_page → (used taken : ℕ) (line : LineParts) (x y : RackState) (what : LineStatus) (written : List Written) → IsCase t t' used taken line x y what → IsTrue t.tells → IsVerdict one_page t.file (source_of line) (target_of line) (Out written) → ¬ Rose t.faults t'.faults → ¬ Rose x.faults y.faults → (what ≡ said.Done) ⊎ ((what ≡ said.TooLarge) ⊎ (what ≡ said.Refused refusals.Memory))
   calm_case one used taken line x y said.Done written ends tells out calm still = inl refl
   calm_case one used taken line x y said.TooLarge written ends tells out calm still = inr (inl refl)
   calm_case one used taken line x y (said.Refused refusals.Memory) written ends tells out calm still = inr (inr refl)
@@ -300,8 +300,8 @@ module _ (t t' : TrayState) where
   calm_case one used taken line x y (said.Refused (refusals.Page fault)) written ends tells out calm still =
       let same : refused_verdict (refusals.Page fault) ≡ Out written = one t.file (source_of line) (target_of line) (refused_verdict (refusals.Page fault)) (Out written) (ends.0 tells) out in absurd (cc)
 
-  pub calm_at : OneVerdict one_page → (lines : List LineParts) (whats : List Said) (a b : RackState) (status : ℕ) → LinesEnd t t' 0 0 0 lines whats a b status → (before : List LineParts) (line : LineParts) (behind : List LineParts) (earlier : List Said) (what : Said) (later : List Said) (written : List Written) → lines ≡ before ++ line ∷ behind → whats ≡ earlier ++ what ∷ later → length before ≡ length earlier → IsTrue t.tells → IsVerdict one_page t.file (source_of line) (target_of line) (Out written) → ¬ Rose t.faults t'.faults → ¬ Rose a.faults b.faults → (what ≡ said.Done) ⊎ ((what ≡ said.TooLarge) ⊎ (what ≡ said.Refused refusals.Memory))
-  calm_at one lines whats a b status all before line behind earlier what later written those these same tells out calm still =
-      let split = subst (λ (l : List LineParts). LinesEnd t t' 0 0 0 l (earlier ++ what ∷ later) a b status) those (subst (λ (w : List Said). LinesEnd t t' 0 0 0 lines w a b status) these all) in
-      let at = case_at 0 0 0 before line behind earlier what later a b status same split in
+  pub calm_at : OneVerdict one_page → (lines : List LineParts) (whats : List LineStatus) (a b : RackState) (status : ℕ) → LinesEnd t t' 0 0 0 lines whats a b status → (before : List LineParts) (line : LineParts) (suffix : List LineParts) (earlier : List LineStatus) (what : LineStatus) (later : List LineStatus) (written : List Written) → lines ≡ before ++ line ∷ suffix → whats ≡ earlier ++ what ∷ later → length before ≡ length earlier → IsTrue t.tells → IsVerdict one_page t.file (source_of line) (target_of line) (Out written) → ¬ Rose t.faults t'.faults → ¬ Rose a.faults b.faults → (what ≡ said.Done) ⊎ ((what ≡ said.TooLarge) ⊎ (what ≡ said.Refused refusals.Memory))
+  calm_at one lines whats a b status all before line suffix earlier what later written those these same tells out calm still =
+      let split = subst (λ (l : List LineParts). LinesEnd t t' 0 0 0 l (earlier ++ what ∷ later) a b status) those (subst (λ (w : List LineStatus). LinesEnd t t' 0 0 0 lines w a b status) these all) in
+      let at = case_at 0 0 0 before line suffix earlier what later a b status same split in
       calm_case one at.0 at.1 line at.2 at.3 what written at.4 tells out calm (λ rose. still (rose_within a.faults at.2.faults at.3.faults b.faults at.5 at.6 at.7 rose))

@@ -20,34 +20,34 @@ use Rattle.verdicts.specs.Verdicts.{Targets, outcome, written_names}
 use Rattle.trap_pool.specs.Replies.{ReplyParts}
 use Rattle.trappool_cli.specs.Answers.{AllHaveOuts, AnswersAll, AnswersOne, AnswersSaid, status_with}
 use Rattle.trappool_cli.proofs.Outs.{made_outs}
-use Rattle.trappool_cli.proofs.Writing.{as_many_planes}
+use Rattle.trap_report.proofs.ReportLemmas.{as_many_planes}
 use Rattle.trappool_cli.specs.Clauses.{AnswersLines, IsAnswer, IsStatus, LeavesFiles, RefusedList, Success, Untold, Usage, all_written, done_text}
 use Rattle.trappool_cli.specs.Endings.{Ends, fault_status}
 use Rattle.trappool_cli.specs.Endings.Ends.{answered, no_list, no_words}
 use Rattle.trappool_cli.specs.Text.{job_line}
 use Rattle.trappool_cli.specs.Words.{AskedWords, asked_of}
-use Rattle.trappool_cli.specs.declared.answering.Said.{Said}
-use Rattle.trappool_cli.specs.declared.answering.Said.TheVariants as said
-use Rattle.trappool_cli.specs.declared.lines.ListFault.{ListFault}
-use Rattle.trappool_cli.specs.declared.lines.ListFault.TheVariants.{BadLine, NotRead, Memory}
+use Rattle.trappool_cli.specs.declared.answering.LineStatus.{LineStatus}
+use Rattle.trappool_cli.specs.declared.answering.LineStatus.TheVariants as said
+use Rattle.trappool_cli.specs.declared.lines.TrappoolError.{TrappoolError}
+use Rattle.trappool_cli.specs.declared.lines.TrappoolError.TheVariants.{BadLine, NotRead, Memory}
 
 -- a line is told done, or the status is that of a refused line
-kind : (what : Said) → ((what ≡ said.Done) × (status_with 0 what ≡ 0)) ⊎ (status_with 0 what ≡ 9)
+kind : (what : LineStatus) → ((what ≡ said.Done) × (status_with 0 what ≡ 0)) ⊎ (status_with 0 what ≡ 9)
 kind said.Done = inl (refl, refl)
 kind (said.Refused refusal) = inr refl
 kind said.TooLarge = inr refl
 
-still_refused : (what : Said) → status_with 9 what ≡ 9
+still_refused : (what : LineStatus) → status_with 9 what ≡ 9
 still_refused said.Done = refl
 still_refused (said.Refused refusal) = refl
 still_refused said.TooLarge = refl
 
-not_six : (so_far : ℕ) (what : Said) → (so_far ≡ 6 → ⊥) → status_with so_far what ≡ 6 → ⊥
+not_six : (so_far : ℕ) (what : LineStatus) → (so_far ≡ 6 → ⊥) → status_with so_far what ≡ 6 → ⊥
 not_six so_far said.Done never is = never is
 not_six so_far (said.Refused refusal) never is = absurd (omega arith)
 not_six so_far said.TooLarge never is = absurd (omega arith)
 
--- the statuses behind a refused line
+-- the statuses after a refused line
 refused_on : (k : ℕ) (lines : List LineParts) (replies : List ReplyParts) (a b : RackState) (status : ℕ) → AnswersAll k 9 lines replies a b status → (status ≡ 9) ⊎ (status ≡ 6)
 refused_on k [] [] a b status all = inl all.1
 refused_on k [] (reply ∷ replies) a b status all = absurd all
@@ -77,11 +77,11 @@ rose_in k so_far (line ∷ lines) (reply ∷ replies) a b status never (inl one)
 rose_in k so_far (line ∷ lines) (reply ∷ replies) a b status never (inr untold) six = rose_before a.faults untold.0.1.faults b.faults untold.0.2.keeps.faults (rose_once untold.0.1.faults b.faults untold.0.3.once)
 
 -- what one line that is done adds to the told text
-told_one : (k : ℕ) (line : LineParts) (reply : ReplyParts) (a b : RackState) (what : Said) → what ≡ said.Done → AnswersOne k line reply a b (Some what) → IsTrue a.tells → IsTrue b.tells × (b.told ≡ a.told ++ job_line k said.Done)
+told_one : (k : ℕ) (line : LineParts) (reply : ReplyParts) (a b : RackState) (what : LineStatus) → what ≡ said.Done → AnswersOne k line reply a b (Some what) → IsTrue a.tells → IsTrue b.tells × (b.told ≡ a.told ++ job_line k said.Done)
 told_one k line reply a b what is one tells =
     let kept = told_on a one.0 one.1.keeps tells in (
       told_on one.0 b one.2.files.keeps kept,
-      one.2.told kept ∙ ap (λ (t : List ℕ). t ++ job_line k what) (one.1.told tells) ∙ ap (λ (w : Said). a.told ++ job_line k w) is,
+      one.2.told kept ∙ ap (λ (t : List ℕ). t ++ job_line k what) (one.1.told tells) ∙ ap (λ (w : LineStatus). a.told ++ job_line k w) is,
     )
 
 told_done : (k : ℕ) (lines : List LineParts) (replies : List ReplyParts) (a b : RackState) (status : ℕ) → AnswersAll k 0 lines replies a b status → status ≡ 0 → IsTrue a.tells → b.told ≡ a.told ++ done_text k lines
@@ -122,7 +122,7 @@ finished_done k (line ∷ lines) [] a b status outs all is tells = absurd all
 finished_done k (line ∷ lines) (reply ∷ replies) a b status outs (inl one) is tells = elim (kind one.0) [
   | inl done ↦
       let between = one.2.0 in
-      let wrote = said_finished (target_of line) reply.page reply.outcome a between outs.0 (subst (λ (w : Said). AnswersSaid (target_of line) reply.page reply.outcome a between w) done.0 one.2.1.answer) tells in
+      let wrote = said_finished (target_of line) reply.page reply.outcome a between outs.0 (subst (λ (w : LineStatus). AnswersSaid (target_of line) reply.page reply.outcome a between w) done.0 one.2.1.answer) tells in
       let first = subst (λ (names : Option (List (List ℕ))). Asks a.finished names (written_names (target_of line))) (sym one.2.2.files.finished) wrote in
       let kept = told_on between one.1 one.2.2.files.keeps (told_on a between one.2.1.keeps tells) in
       let rest = finished_done (k + 1) lines replies one.1 b status outs.1 (subst (λ (n : ℕ). AnswersAll (k + 1) n lines replies one.1 b status) done.1 one.3) is kept in
@@ -135,12 +135,12 @@ finished_done k (line ∷ lines) (reply ∷ replies) a b status outs (inl one) i
 finished_done k (line ∷ lines) (reply ∷ replies) a b status outs (inr untold) is tells = let six = untold.1 in absurd (omega arith)
 
 -- the statuses of a list that is refused
-fault_statuses : (fault : ListFault) → (fault_status fault ≡ 3) ⊎ ((fault_status fault ≡ 5) ⊎ (fault_status fault ≡ 7))
+fault_statuses : (fault : TrappoolError) → (fault_status fault ≡ 3) ⊎ ((fault_status fault ≡ 5) ⊎ (fault_status fault ≡ 7))
 fault_statuses (BadLine k) = inl refl
 fault_statuses NotRead = inr (inl refl)
 fault_statuses Memory = inr (inr refl)
 
-pub no_answer : (fault : ListFault) → IsAnswer (fault_status fault) → ⊥
+pub no_answer : (fault : TrappoolError) → IsAnswer (fault_status fault) → ⊥
 no_answer (BadLine k) (inl is) = absurd (omega arith)
 no_answer (BadLine k) (inr (inl is)) = absurd (omega arith)
 no_answer (BadLine k) (inr (inr is)) = absurd (omega arith)
@@ -151,7 +151,7 @@ no_answer Memory (inl is) = absurd (omega arith)
 no_answer Memory (inr (inl is)) = absurd (omega arith)
 no_answer Memory (inr (inr is)) = absurd (omega arith)
 
-no_usage : (fault : ListFault) → fault_status fault ≡ 2 → ⊥
+no_usage : (fault : TrappoolError) → fault_status fault ≡ 2 → ⊥
 no_usage (BadLine k) is = absurd (omega arith)
 no_usage NotRead is = absurd (omega arith)
 no_usage Memory is = absurd (omega arith)

@@ -17,10 +17,10 @@ use Rattle.trappool_cli.specs.Endings.Ends.{answered, no_list, no_words}
 use Rattle.trappool_cli.specs.Reading.{MakesReplies, TakesList}
 use Rattle.trappool_cli.specs.Text.{bad_line}
 use Rattle.trappool_cli.specs.Words.{AskedWords, asked_of}
-use Rattle.trappool_cli.specs.declared.answering.Said.{Said}
-use Rattle.trappool_cli.specs.declared.lines.ListFault.{ListFault}
-use Rattle.trappool_cli.specs.declared.lines.ListFault.TheVariants.{BadLine, NotRead, Memory}
-use Rattle.trap_report.specs.Telling.{TellsText}
+use Rattle.trappool_cli.specs.declared.answering.LineStatus.{LineStatus}
+use Rattle.trappool_cli.specs.declared.lines.TrappoolError.{TrappoolError}
+use Rattle.trappool_cli.specs.declared.lines.TrappoolError.TheVariants.{BadLine, NotRead, Memory}
+use Rattle.refusals.specs.Telling.{TellsText}
 use Rattle.trappool_cli.proofs.Cases.{asked_reading, asked_writing, calm_at, lines_end, writes_rise}
 use Rattle.trappool_cli.proofs.Clauses.{answer_status, both, no_answer, rose_in, usage_no_answer}
 
@@ -52,7 +52,7 @@ unread_rose : (name : List ℕ) (t t' : TrayState) → MakesReplies name t t' (E
 unread_rose name t t' (inl reads) = rose_once t.faults t'.faults reads.answer
 unread_rose name t t' (inr full) = let never = full.0 in absurd (cc)
 
-list_taken : (name : List ℕ) (t t' : TrayState) (fault : ListFault) → MakesReplies name t t' (Err fault) → Asks t.asked t'.asked (name ∷ []) × TakesList name t t'
+list_taken : (name : List ℕ) (t t' : TrayState) (fault : TrappoolError) → MakesReplies name t t' (Err fault) → Asks t.asked t'.asked (name ∷ []) × TakesList name t t'
 list_taken name t t' fault (inl reads) = (reads.asked, reads.few)
 list_taken name t t' fault (inr full) = (full.2.asked, full.2.few)
 
@@ -114,7 +114,7 @@ module _ (words : List (List ℕ)) (t t' : TrayState) (r r' : RackState) (status
       subst (λ (a : AskedWords). Asks t.asked t'.asked (a.list ∷ []) × TakesList a.list t t') (one_meaning words made_for asked also means) (list_taken made_for.list t t' fault made)
   begins_list (answered made_for lines replies also made all) asked means other = absurd (other (answer_status 0 lines replies r r' status all))
 
-  all_answered : OneVerdict one_page → (asked : AskedWords) (lines : List LineParts) (replies : List ReplyParts) → MakesReplies asked.list t t' (Ok (lines, replies)) → AnswersAll 0 0 lines replies r r' status → (whats : List Said) × Answered asked t t' r r' status lines whats
+  all_answered : OneVerdict one_page → (asked : AskedWords) (lines : List LineParts) (replies : List ReplyParts) → MakesReplies asked.list t t' (Ok (lines, replies)) → AnswersAll 0 0 lines replies r r' status → (whats : List LineStatus) × Answered asked t t' r r' status lines whats
   all_answered law asked lines replies made all =
       let list = made.1 in
       let pools = made.2 in
@@ -129,7 +129,7 @@ module _ (words : List (List ℕ)) (t t' : TrayState) (r r' : RackState) (status
           created = asked_writing t t' 0 0 0 lines ended.0 r r' status ended.1;
           reads = λ low. let rise = pools.reads low in omega arith;
           writes = λ low. writes_rise t t' 0 0 0 lines ended.0 r r' status ended.1 low;
-          calm = λ before line behind earlier what later written those these same tells out calm still. calm_at t t' law lines ended.0 r r' status ended.1 before line behind earlier what later written those these same tells out calm still;
+          calm = λ before line suffix earlier what later written those these same tells out calm still. calm_at t t' law lines ended.0 r r' status ended.1 before line suffix earlier what later written those these same tells out calm still;
         },
       )
 

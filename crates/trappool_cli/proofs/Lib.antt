@@ -1,6 +1,6 @@
 pub mod Steps
 pub mod Writing
-pub mod Fronts
+pub mod Prefixes
 pub mod Telling
 pub mod Outs
 pub mod Clauses

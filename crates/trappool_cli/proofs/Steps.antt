@@ -5,7 +5,7 @@ use Rattle.std.proofs.lemmas.List.{length-drop}
 use Rattle.outside.specs.Rack.{RackState}
 use Rattle.job_list.specs.Lines.{LineParts}
 use Rattle.trap_pool.specs.Replies.{ReplyParts}
-use Rattle.trappool_cli.specs.declared.answering.Said.{Said}
+use Rattle.trappool_cli.specs.declared.answering.LineStatus.{LineStatus}
 use Rattle.trappool_cli.specs.Answers.{AllHaveOuts, AnswersAll, AnswersOne, HasOuts, status_with}
 
 -- Where a reply is left, a line is.
@@ -22,7 +22,7 @@ left_first lines n line here is =
     let one : suc n ≡ n + 1 = omega arith in
     drop-cons lines n line here ∙ ap (λ (l : LineParts). l ∷ drop (suc n) lines) (sym is) ∙ ap (λ (m : ℕ). line ∷ drop m lines) one
 
-pub answered_on : (n so_far : ℕ) (lines left : List LineParts) (line : LineParts) (reply : ReplyParts) (rest : List ReplyParts) (before between after : RackState) (said : Said) (status : ℕ) → left ≡ line ∷ lines → AnswersOne n line reply before between (Some said) → AnswersAll (n + 1) (status_with so_far said) lines rest between after status → AnswersAll n so_far left (reply ∷ rest) before after status
+pub answered_on : (n so_far : ℕ) (lines left : List LineParts) (line : LineParts) (reply : ReplyParts) (rest : List ReplyParts) (before between after : RackState) (said : LineStatus) (status : ℕ) → left ≡ line ∷ lines → AnswersOne n line reply before between (Some said) → AnswersAll (n + 1) (status_with so_far said) lines rest between after status → AnswersAll n so_far left (reply ∷ rest) before after status
 answered_on n so_far lines left line reply rest before between after said status is one later =
     subst (λ (l : List LineParts). AnswersAll n so_far l (reply ∷ rest) before after status) (sym is) (inl (said, between, one, later))
 
@@ -33,7 +33,7 @@ untold_here n so_far lines left line reply rest before after status is one ends 
 pub next_left : (lines : List LineParts) (n : ℕ) (line : LineParts) (reply : ReplyParts) (rest : List ReplyParts) → n < length lines → line ≡ get_or lines n line → AllHaveOuts (drop n lines) (reply ∷ rest) → HasOuts line reply × AllHaveOuts (drop (n + 1) lines) rest
 next_left lines n line reply rest here is outs = subst (λ (l : List LineParts). AllHaveOuts l (reply ∷ rest)) (left_first lines n line here is) outs
 
--- no line is left behind the last reply
+-- no line is left after the last reply
 pub none_left : (lines : List LineParts) → AllHaveOuts lines [] → lines ≡ []
 none_left [] outs = refl
 none_left (line ∷ lines) outs = absurd outs

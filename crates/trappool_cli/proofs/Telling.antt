@@ -6,7 +6,7 @@ use Rattle.outside.specs.Rack.{RackState, Tells}
 use Rattle.outside.proofs.Steps.{kept_then, once_before, told_on}
 use Rattle.trappool_cli.specs.Answers.{TellsPart, TellsWhole}
 
--- A front of the first piece is told.
+-- A prefix of the first piece is told.
 pub told_none : {T E : Type 0} (name text : List ℕ) (a b : RackState) (e : E) → Tells {T = T} {E = E} name a b (Err e) → TellsPart (name ++ text) a b
 told_none name text a b e one = record {
   files = record { keeps = one.keeps; asked = one.asked; finished = one.finished; is_open = one.is_open; files = one.files };

@@ -1,26 +1,24 @@
 -- The files of one line are written.
-use Rattle.std.proofs.Common.{◌≡◌, ℕ, List, length, Option, Some, None, Result, Ok, Err, refl, subst, arith}
-use Rattle.lists.proofs.ListBelow.{length-list_below}
+use Rattle.std.proofs.Common.{◌≡◌, ℕ, List, Option, Some, None, Result, Ok, Err, refl, subst, arith}
 use Rattle.outside.specs.Rack.{RackState, KeepsRack}
 use Rattle.outside.proofs.Names.{asks_none_of}
 use Rattle.page_model.specs.declared.parts.PageParts.{PageParts}
 use Rattle.page_model.specs.declared.parts.Plane.{Plane}
-use Rattle.page_model.specs.Counts.{page_counts, plate_changed, zone_changed, zone_samples}
-use Rattle.page_model.specs.Tints.{trapped_plane, trapped_planes}
-use Rattle.page_model.specs.Page.{plates}
+use Rattle.page_model.specs.Counts.{page_counts}
+use Rattle.page_model.specs.Tints.{trapped_planes}
 use Rattle.page_writing.specs.Writing.{WritesPage}
 use Rattle.job_list.specs.Lines.{LineParts}
-use Rattle.strip_engine.specs.declared.alone.Trapped.{Trapped}
+use Rattle.page_tally.specs.declared.outcome.Trapped.{Trapped}
 use Rattle.trap_pool.specs.declared.outcome.Outcome.TheVariants as outcomes
 use Rattle.trap_pool.specs.Pools.{target_of}
 use Rattle.trap_pool.specs.Replies.{reply_parts}
-use Rattle.trap_report.specs.declared.refusal.Refusal.{Refusal}
-use Rattle.trap_report.specs.declared.refusal.Refusal.TheVariants as refusals
-use Rattle.trap_report.specs.Report.{AreCounts, report_of}
+use Rattle.refusals.specs.declared.refusal.Refusal.{Refusal}
+use Rattle.refusals.specs.declared.refusal.Refusal.TheVariants as refusals
+use Rattle.trap_report.specs.Report.{report_of}
 use Rattle.verdicts.specs.Verdicts.{written_names}
 use Rattle.trappool_cli.specs.Answers.{AnswersDone, AnswersSaid, WritesDone, WritesReply}
-use Rattle.trappool_cli.specs.declared.answering.Said.{Said}
-use Rattle.trappool_cli.specs.declared.answering.Said.TheVariants as said
+use Rattle.trappool_cli.specs.declared.answering.LineStatus.{LineStatus}
+use Rattle.trappool_cli.specs.declared.answering.LineStatus.TheVariants as said
 
 kept_same : (r : RackState) → KeepsRack r r
 kept_same r = record { tells = refl; faults = omega arith }
@@ -50,7 +48,7 @@ large_kept line k page r = record {
   answer = large_as line page r;
 }
 
-pub done_written : (line : LineParts) (k : ℕ) (page : PageParts) (trapped : Trapped) (a b : RackState) (what : Said) → WritesDone line page a b what → WritesReply line (reply_parts k (Some page) (outcomes.Done trapped)) a b what
+pub done_written : (line : LineParts) (k : ℕ) (page : PageParts) (trapped : Trapped) (a b : RackState) (what : LineStatus) → WritesDone line page a b what → WritesReply line (reply_parts k (Some page) (outcomes.Done trapped)) a b what
 done_written line k page trapped a b what done = record { keeps = done.keeps; told = done.told; asked = done.asked; answer = done.answer }
 
 -- There was no memory for the report.
@@ -63,7 +61,7 @@ no_report line page r = record {
 }
 
 -- what is said of the writing's answer
-abbrev pub said_of : {T : Type 0} → Result T Refusal → Said
+abbrev pub said_of : {T : Type 0} → Result T Refusal → LineStatus
 said_of (Ok x) = said.Done
 said_of (Err refusal) = said.Refused refusal
 
@@ -87,17 +85,3 @@ module _ {T : Type 0} (line : LineParts) (page : PageParts) (a b : RackState) wh
       (subst (λ (p : List Plane). WritesPage line.outs p report text a b result) tints
       (subst (λ (o : List (List ℕ)). WritesPage o planes report text a b result) names wrote))) in
       record { keeps = whole.keeps; told = whole.told; asked = whole.asked; answer = written_as result whole }
-
--- The counts of a page are as many as a report asks for.
-pub counts_fit : (page : PageParts) → AreCounts page (page_counts page)
-unfolding page_counts
-counts_fit page = record {
-  zone_samples = length-list_below (zone_samples page) (length page.zones);
-  zone_changed = length-list_below (zone_changed page) (length page.zones);
-  plate_changed = length-list_below (plate_changed page) (plates page);
-}
-
--- A page has as many plates after trapping as before.
-pub as_many_planes : (page : PageParts) → length (trapped_planes page) ≡ plates page
-unfolding trapped_planes
-as_many_planes page = length-list_below (trapped_plane page) (plates page)

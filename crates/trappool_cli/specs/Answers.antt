@@ -1,7 +1,7 @@
 -- How the lines of a list are answered: files are written, and a line is told.
 use Rattle.std.specs.Prelude.{◌≡◌, ◌⊎◌, ℕ, ◌+◌, IsTrue, List, [], ◌∷◌, ◌++◌, length, take, Option}
 use Rattle.std.specs.Prelude.{Some, None}
-use Rattle.outside.specs.Causes.{RoseOnce, AsksFront}
+use Rattle.outside.specs.Causes.{RoseOnce, AsksPrefix}
 use Rattle.outside.specs.Rack.{RackState, KeepsRack}
 use Rattle.page_model.specs.declared.parts.PageParts.{PageParts}
 use Rattle.page_model.specs.Page.{plates}
@@ -11,17 +11,17 @@ use Rattle.trap_pool.specs.declared.outcome.Outcome.{Outcome}
 use Rattle.trap_pool.specs.declared.outcome.Outcome.TheVariants as outcomes
 use Rattle.trap_pool.specs.Pools.{target_of}
 use Rattle.trap_pool.specs.Replies.{ReplyParts}
-use Rattle.trap_report.specs.declared.refusal.Refusal.TheVariants as refusals
-use Rattle.trap_report.specs.Statuses.{lines_refused, not_written}
-use Rattle.trap_report.specs.Telling.{KeepsFiles}
+use Rattle.refusals.specs.declared.refusal.Refusal.TheVariants as refusals
+use Rattle.refusals.specs.Statuses.{lines_refused, not_written}
+use Rattle.refusals.specs.Telling.{KeepsFiles}
 use Rattle.verdicts.specs.Verdicts.{Targets, outcome, written_names}
-use Rattle.trappool_cli.specs.declared.answering.Said.{Said}
-use Rattle.trappool_cli.specs.declared.answering.Said.TheVariants as said
+use Rattle.trappool_cli.specs.declared.answering.LineStatus.{LineStatus}
+use Rattle.trappool_cli.specs.declared.answering.LineStatus.TheVariants as said
 use Rattle.trappool_cli.specs.Text.{job_line}
 
 -- A page that is done is written, unless one call of the rack failed or there is no memory for its
 -- report.
-abbrev pub AnswersDone : Targets → PageParts → RackState → RackState → Said → Type 0
+abbrev pub AnswersDone : Targets → PageParts → RackState → RackState → LineStatus → Type 0
 AnswersDone target page before after said.Done = WritesAll (outcome target page) before after
 AnswersDone target page before after (said.Refused (refusals.Write file)) =
     Breaks (length target.outputs) (outcome target page) file before after
@@ -31,7 +31,7 @@ AnswersDone target page before after other = ⊥
 
 -- What becomes of the files, and what is said: a page that is done is written, unless the rack has
 -- a fault or there is no memory for its report; all else is said as it is, and no file is touched.
-abbrev pub AnswersSaid : Targets → Option PageParts → Outcome → RackState → RackState → Said
+abbrev pub AnswersSaid : Targets → Option PageParts → Outcome → RackState → RackState → LineStatus
     → Type 0
 AnswersSaid target (Some page) (outcomes.Done trapped) before after what =
     AnswersDone target page before after what
@@ -42,10 +42,10 @@ AnswersSaid target page outcome before after other = ⊥
 
 -- The files of a line are written, as far as they are; no text is told.
 pub record WritesReply (line : LineParts) (reply : ReplyParts) (before after : RackState)
-    (said : Said) : Type 0 where
+    (said : LineStatus) : Type 0 where
   pub keeps : KeepsRack before after
   pub told : IsTrue before.tells → after.told ≡ before.told
-  pub asked : AsksFront before.asked after.asked (written_names (target_of line))
+  pub asked : AsksPrefix before.asked after.asked (written_names (target_of line))
   pub answer : AnswersSaid (target_of line) reply.page reply.outcome before after said
 
 -- The line writes a file for each plate of the reply's page.
@@ -61,10 +61,10 @@ AllHaveOuts (line ∷ lines) [] = ⊥
 
 -- The files of a line whose page is done are written, as far as they are.
 pub record WritesDone (line : LineParts) (page : PageParts) (before after : RackState)
-    (said : Said) : Type 0 where
+    (said : LineStatus) : Type 0 where
   pub keeps : KeepsRack before after
   pub told : IsTrue before.tells → after.told ≡ before.told
-  pub asked : AsksFront before.asked after.asked (written_names (target_of line))
+  pub asked : AsksPrefix before.asked after.asked (written_names (target_of line))
   pub answer : AnswersDone (target_of line) page before after said
 
 -- The text is told whole, and no file is touched.
@@ -80,14 +80,15 @@ pub record TellsPart (text : List ℕ) (before after : RackState) : Type 0 where
   pub told : IsTrue before.tells → (count : ℕ) × (after.told ≡ before.told ++ take count text)
 
 -- Line k is answered, and told if there is something said.
-abbrev pub AnswersOne : ℕ → LineParts → ReplyParts → RackState → RackState → Option Said → Type 0
+abbrev pub AnswersOne : ℕ → LineParts → ReplyParts → RackState → RackState → Option LineStatus
+    → Type 0
 AnswersOne k line reply before after (Some said) = (between : RackState)
     × WritesReply line reply before between said × TellsWhole (job_line k said) between after
-AnswersOne k line reply before after None = (said : Said) × (between : RackState)
+AnswersOne k line reply before after None = (said : LineStatus) × (between : RackState)
     × WritesReply line reply before between said × TellsPart (job_line k said) between after
 
 -- the status, after what is said of one line more
-abbrev pub status_with : ℕ → Said → ℕ
+abbrev pub status_with : ℕ → LineStatus → ℕ
 status_with status said.Done = status
 status_with status (said.Refused refusal) = lines_refused
 status_with status said.TooLarge = lines_refused
@@ -100,6 +101,7 @@ AnswersAll k so_far [] [] before after status = (after ≡ before) × (status �
 AnswersAll k so_far [] (reply ∷ replies) before after status = ⊥
 AnswersAll k so_far (line ∷ lines) [] before after status = ⊥
 AnswersAll k so_far (line ∷ lines) (reply ∷ replies) before after status =
-    ((said : Said) × (between : RackState) × AnswersOne k line reply before between (Some said)
+    ((said : LineStatus) × (between : RackState)
+    × AnswersOne k line reply before between (Some said)
     × AnswersAll (k + 1) (status_with so_far said) lines replies between after status)
     ⊎ (AnswersOne k line reply before after None × (status ≡ not_written))

@@ -1,6 +1,6 @@
 -- What becomes of each line of a list, beside the verdict on its files.
 use Rattle.std.specs.Prelude.{◌≡◌, ◌⊎◌, ℕ, ◌+◌, ◌<◌, ◌≤◌, IsTrue, List, [], ◌∷◌, length, Option, Ok}
-use Rattle.outside.specs.Causes.{Rose, RoseOnce, AsksFront}
+use Rattle.outside.specs.Causes.{Rose, RoseOnce, AsksPrefix}
 use Rattle.outside.specs.Rack.{RackState, KeepsRack}
 use Rattle.outside.specs.Tray.{TrayState}
 use Rattle.page_gather.specs.Inputs.{Makes, one_page}
@@ -9,14 +9,14 @@ use Rattle.page_writing.specs.Writing.{Breaks, WritesAll}
 use Rattle.job_list.specs.Lines.{LineParts}
 use Rattle.trap_pool.specs.Pools.{source_of, target_of}
 use Rattle.trap_pool.specs.Replies.{all_samples, most_in_all}
-use Rattle.trap_report.specs.declared.refusal.Refusal.TheVariants as refusals
-use Rattle.trap_report.specs.Statuses.{not_written}
+use Rattle.refusals.specs.declared.refusal.Refusal.TheVariants as refusals
+use Rattle.refusals.specs.Statuses.{not_written}
 use Rattle.verdicts.specs.Verdicts.{IsVerdict, Out, Refused as refused_verdict, outcome}
 use Rattle.verdicts.specs.Verdicts.{written_names}
 use Rattle.trappool_cli.specs.Answers.{TellsPart, TellsWhole, status_with}
 use Rattle.trappool_cli.specs.Text.{job_line}
-use Rattle.trappool_cli.specs.declared.answering.Said.{Said}
-use Rattle.trappool_cli.specs.declared.answering.Said.TheVariants as said
+use Rattle.trappool_cli.specs.declared.answering.LineStatus.{LineStatus}
+use Rattle.trappool_cli.specs.declared.answering.LineStatus.TheVariants as said
 
 -- The line's files make this page, so that their verdict is its outcome.
 pub record MakesPage (tray : TrayState) (line : LineParts) (page : PageParts) : Type 0 where
@@ -37,7 +37,7 @@ pub record AcceptsPage (tray : TrayState) (used taken : ℕ) (line : LineParts)
 -- large after the accepted ones before it; one write failed, and the files are written as far as
 -- that; there was no memory; a read failed, and the tray's count rose; or its refusal is the
 -- verdict. Where it is refused without a failed write, no file is touched.
-abbrev pub IsCase : TrayState → TrayState → ℕ → ℕ → LineParts → RackState → RackState → Said
+abbrev pub IsCase : TrayState → TrayState → ℕ → ℕ → LineParts → RackState → RackState → LineStatus
     → Type 0
 IsCase tray tray' used taken line before after said.Done = (page : PageParts)
     × AcceptsPage tray used taken line page × WritesAll (outcome (target_of line) page) before after
@@ -61,16 +61,17 @@ IsCase tray tray' used taken line before after (said.Refused refusal) =
 -- A line is in one of the cases. No text is told, and the names that are handed to `create` are the
 -- first of its outputs and its report.
 pub record LineEnds (tray tray' : TrayState) (used taken : ℕ) (line : LineParts)
-    (before after : RackState) (what : Said) : Type 0 where
+    (before after : RackState) (what : LineStatus) : Type 0 where
   pub keeps : KeepsRack before after
   pub told : IsTrue before.tells → after.told ≡ before.told
-  pub asked : AsksFront before.asked after.asked (written_names (target_of line))
+  pub asked : AsksPrefix before.asked after.asked (written_names (target_of line))
   pub ends : IsCase tray tray' used taken line before after what
 
 -- The lines from number k on end one after another, and of each is told what is said of it. The
 -- first that cannot be told is the last of which something is said; what comes later is not
 -- touched.
-abbrev pub LinesEnd : TrayState → TrayState → ℕ → ℕ → ℕ → List LineParts → List Said → RackState
+abbrev pub LinesEnd : TrayState → TrayState → ℕ → ℕ → ℕ → List LineParts → List LineStatus
+    → RackState
     → RackState → ℕ → Type 0
 LinesEnd tray tray' k used so_far [] [] before after status = (after ≡ before) × (status ≡ so_far)
 LinesEnd tray tray' k used so_far [] (what ∷ whats) before after status = ⊥
@@ -83,28 +84,28 @@ LinesEnd tray tray' k used so_far (line ∷ lines) (what ∷ whats) before after
     ⊎ (TellsPart (job_line k what) between after × (whats ≡ []) × (status ≡ not_written)))
 
 -- 1 where a failed read is told
-abbrev pub read_line : Said → ℕ
+abbrev pub read_line : LineStatus → ℕ
 read_line (said.Refused (refusals.Read file)) = 1
 read_line other = 0
 
 -- how many lines tell one
-abbrev pub read_lines : List Said → ℕ
+abbrev pub read_lines : List LineStatus → ℕ
 read_lines [] = 0
 read_lines (what ∷ whats) = read_line what + read_lines whats
 
 -- 1 where a failed write is told
-abbrev pub write_line : Said → ℕ
+abbrev pub write_line : LineStatus → ℕ
 write_line (said.Refused (refusals.Write file)) = 1
 write_line other = 0
 
 -- how many lines tell one
-abbrev pub write_lines : List Said → ℕ
+abbrev pub write_lines : List LineStatus → ℕ
 write_lines [] = 0
 write_lines (what ∷ whats) = write_line what + write_lines whats
 
 -- Of each group of names, one after another, the first so many are handed out.
-abbrev pub AsksFronts : Option (List (List ℕ)) → Option (List (List ℕ)) → List (List (List ℕ))
+abbrev pub AsksPrefixes : Option (List (List ℕ)) → Option (List (List ℕ)) → List (List (List ℕ))
     → Type 0
-AsksFronts before after [] = after ≡ before
-AsksFronts before after (names ∷ groups) = (between : Option (List (List ℕ)))
-    × AsksFront before between names × AsksFronts between after groups
+AsksPrefixes before after [] = after ≡ before
+AsksPrefixes before after (names ∷ groups) = (between : Option (List (List ℕ)))
+    × AsksPrefix before between names × AsksPrefixes between after groups

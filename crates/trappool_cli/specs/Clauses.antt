@@ -12,19 +12,19 @@ use Rattle.job_list.specs.Lines.{LineParts}
 use Rattle.job_list.specs.Lists.{IsBadLine, IsList}
 use Rattle.trap_pool.specs.Pools.{source_of, target_of}
 use Rattle.trap_pool.specs.Replies.{ReplyParts}
-use Rattle.trap_report.specs.Refusals.{line_of}
-use Rattle.trap_report.specs.Statuses.{done, job_refused, not_read, not_written, out_of_memory}
-use Rattle.trap_report.specs.Statuses.{usage, lines_refused}
-use Rattle.trap_report.specs.Telling.{KeepsFiles, TellsText}
-use Rattle.trap_report.specs.declared.refusal.Refusal.TheVariants as refusals
+use Rattle.refusals.specs.Refusals.{line_of}
+use Rattle.refusals.specs.Statuses.{done, job_refused, not_read, not_written, out_of_memory}
+use Rattle.refusals.specs.Statuses.{usage, lines_refused}
+use Rattle.refusals.specs.Telling.{KeepsFiles, TellsText}
+use Rattle.refusals.specs.declared.refusal.Refusal.TheVariants as refusals
 use Rattle.trappool_cli.specs.Answers.{AnswersAll}
-use Rattle.trappool_cli.specs.Cases.{AsksFronts, LinesEnd, read_lines, write_lines}
+use Rattle.trappool_cli.specs.Cases.{AsksPrefixes, LinesEnd, read_lines, write_lines}
 use Rattle.trappool_cli.specs.Reading.{MakesReplies, TakesList}
 use Rattle.verdicts.specs.Verdicts.{IsVerdict, Out, written_names}
-use Rattle.trappool_cli.specs.declared.answering.Said.{Said}
+use Rattle.trappool_cli.specs.declared.answering.LineStatus.{LineStatus}
 use Rattle.trappool_cli.specs.Text.{bad_line, job_line, unread_line, usage_line}
 use Rattle.trappool_cli.specs.Words.{AskedWords, asked_of}
-use Rattle.trappool_cli.specs.declared.answering.Said.TheVariants as said
+use Rattle.trappool_cli.specs.declared.answering.LineStatus.TheVariants as said
 
 -- Status 2 comes exactly where the words mean nothing. The usage line is then told, and nothing is
 -- read.
@@ -110,18 +110,19 @@ pub record JudgesList (words : List (List ℕ)) (tray tray' : TrayState) (rack r
 -- by; and where no count rose, a line whose verdict is a list of files is done, or too large, or
 -- there was no memory for it.
 pub record Answered (asked : AskedWords) (tray tray' : TrayState) (rack rack' : RackState)
-    (status : ℕ) (lines : List LineParts) (whats : List Said) : Type 0 where
+    (status : ℕ) (lines : List LineParts) (whats : List LineStatus) : Type 0 where
   pub list : IsTrue tray.tells → Holds tray.file asked.list (λ bytes. IsList bytes lines)
   pub each : LinesEnd tray tray' 0 0 done lines whats rack rack' status
-  pub begun : AsksFronts tray.asked tray'.asked
+  pub begun : AsksPrefixes tray.asked tray'.asked
       ((asked.list ∷ []) ∷ map (λ (l : LineParts). read_files (source_of l)) lines)
-  pub created : AsksFronts rack.asked rack'.asked
+  pub created : AsksPrefixes rack.asked rack'.asked
       (map (λ (l : LineParts). written_names (target_of l)) lines)
   pub reads : tray'.faults < 2 ^ 64 - 1 → tray.faults + read_lines whats ≤ tray'.faults
   pub writes : rack'.faults < 2 ^ 64 - 1 → rack.faults + write_lines whats ≤ rack'.faults
-  pub calm : (before : List LineParts) (line : LineParts) (behind : List LineParts)
-      (earlier : List Said) (what : Said) (later : List Said) (written : List Written)
-      → lines ≡ before ++ line ∷ behind → whats ≡ earlier ++ what ∷ later
+  pub calm : (before : List LineParts) (line : LineParts) (suffix : List LineParts)
+      (earlier : List LineStatus) (what : LineStatus) (later : List LineStatus)
+      (written : List Written)
+      → lines ≡ before ++ line ∷ suffix → whats ≡ earlier ++ what ∷ later
       → length before ≡ length earlier → IsTrue tray.tells
       → IsVerdict one_page tray.file (source_of line) (target_of line) (Out written)
       → ¬ Rose tray.faults tray'.faults → ¬ Rose rack.faults rack'.faults → (what ≡ said.Done)
@@ -131,7 +132,7 @@ pub record Answered (asked : AskedWords) (tray tray' : TrayState) (rack rack' : 
 -- lines, up to the first that cannot be told.
 abbrev pub AnswersEach : List (List ℕ) → TrayState → TrayState → RackState → RackState → ℕ → Type 0
 AnswersEach words tray tray' rack rack' status = IsAnswer status → (asked : AskedWords)
-    × (lines : List LineParts) × (whats : List Said) × (asked_of words ≡ Some asked)
+    × (lines : List LineParts) × (whats : List LineStatus) × (asked_of words ≡ Some asked)
     × Answered asked tray tray' rack rack' status lines whats
 
 -- At every other status no name but that of the list was handed to `begin`, and no more of it was

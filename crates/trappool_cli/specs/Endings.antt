@@ -4,16 +4,16 @@ use Rattle.outside.specs.Tray.{TrayState}
 use Rattle.outside.specs.Rack.{RackState}
 use Rattle.job_list.specs.Lines.{LineParts}
 use Rattle.trap_pool.specs.Replies.{ReplyParts}
-use Rattle.trap_report.specs.Refusals.{line_of}
-use Rattle.trap_report.specs.declared.refusal.Refusal.TheVariants as refusals
-use Rattle.trap_report.specs.Statuses.{job_refused, not_read, out_of_memory, usage}
-use Rattle.trap_report.specs.Telling.{KeepsFiles, TellsText}
+use Rattle.refusals.specs.Refusals.{line_of}
+use Rattle.refusals.specs.declared.refusal.Refusal.TheVariants as refusals
+use Rattle.refusals.specs.Statuses.{job_refused, not_read, out_of_memory, usage}
+use Rattle.refusals.specs.Telling.{KeepsFiles, TellsText}
 use Rattle.trappool_cli.specs.Answers.{AnswersAll}
 use Rattle.trappool_cli.specs.Reading.{MakesReplies}
 use Rattle.trappool_cli.specs.Text.{bad_line, unread_line, usage_line}
 use Rattle.trappool_cli.specs.Words.{AskedWords, asked_of}
-use Rattle.trappool_cli.specs.declared.lines.ListFault.{ListFault}
-use Rattle.trappool_cli.specs.declared.lines.ListFault.TheVariants.{BadLine, NotRead, Memory}
+use Rattle.trappool_cli.specs.declared.lines.TrappoolError.{TrappoolError}
+use Rattle.trappool_cli.specs.declared.lines.TrappoolError.TheVariants.{BadLine, NotRead, Memory}
 
 -- A line is told that says why nothing is written.
 pub record Refuses (line : List ℕ) (its : ℕ) (before after : RackState) (status : ℕ) : Type 0 where
@@ -22,12 +22,12 @@ pub record Refuses (line : List ℕ) (its : ℕ) (before after : RackState) (sta
   pub status_is : status ≡ its
 
 -- the line and the status of a list that is refused
-abbrev pub fault_line : ListFault → List ℕ
+abbrev pub fault_line : TrappoolError → List ℕ
 fault_line (BadLine k) = bad_line k
 fault_line NotRead = unread_line
 fault_line Memory = line_of refusals.Memory
 
-abbrev pub fault_status : ListFault → ℕ
+abbrev pub fault_status : TrappoolError → ℕ
 fault_status (BadLine k) = job_refused
 fault_status NotRead = not_read
 fault_status Memory = out_of_memory
@@ -37,7 +37,7 @@ pub data Ends (words : List (List ℕ)) (tray tray' : TrayState) (rack rack' : R
     (status : ℕ) : Type 0 where
   no_words : asked_of words ≡ None → tray' ≡ tray → Refuses usage_line usage rack rack' status
       → Ends words tray tray' rack rack' status
-  no_list : (asked : AskedWords) (fault : ListFault) → asked_of words ≡ Some asked
+  no_list : (asked : AskedWords) (fault : TrappoolError) → asked_of words ≡ Some asked
       → MakesReplies asked.list tray tray' (Err fault)
       → Refuses (fault_line fault) (fault_status fault) rack rack' status
       → Ends words tray tray' rack rack' status

@@ -10,8 +10,8 @@ use Rattle.job_list.specs.declared.reading.ListRefusal.{ListRefusal}
 use Rattle.job_list.specs.declared.reading.ListRefusal.TheVariants as refused
 use Rattle.trap_pool.specs.Pools.{Pools}
 use Rattle.trap_pool.specs.Replies.{ReplyParts}
-use Rattle.trappool_cli.specs.declared.lines.ListFault.{ListFault}
-use Rattle.trappool_cli.specs.declared.lines.ListFault.TheVariants.{BadLine, NotRead, Memory}
+use Rattle.trappool_cli.specs.declared.lines.TrappoolError.{TrappoolError}
+use Rattle.trappool_cli.specs.declared.lines.TrappoolError.TheVariants.{BadLine, NotRead, Memory}
 
 -- each job writes a file for each one that it reads a plate from
 abbrev pub AllPaired : List LineParts → Type 0
@@ -24,7 +24,8 @@ AreJobs lines = (length lines ≤ most_lines) × AllPaired lines
 
 -- What the answer says of the list's bytes, where they are told; only a failed read raises the
 -- count, by one.
-abbrev pub AnswersList : List ℕ → TrayState → TrayState → Result (List LineParts) ListFault → Type 0
+abbrev pub AnswersList : List ℕ → TrayState → TrayState → Result (List LineParts) TrappoolError
+    → Type 0
 AnswersList name before after (Ok lines) = (after.faults ≡ before.faults) × AreJobs lines
     × (IsTrue before.tells → Holds before.file name (λ bytes. IsList bytes lines))
 AnswersList name before after (Err (BadLine k)) = (after.faults ≡ before.faults)
@@ -43,14 +44,15 @@ TakesList name before after =
 
 -- The list of that name is read.
 pub record ReadsLines (name : List ℕ) (before after : TrayState)
-    (result : Result (List LineParts) ListFault) : Type 0 where
+    (result : Result (List LineParts) TrappoolError) : Type 0 where
   pub keeps : KeepsTray before after
   pub asked : Asks before.asked after.asked (name ∷ [])
   pub few : TakesList name before after
   pub answer : AnswersList name before after result
 
 -- the list that was read, or its refusal as the program tells it
-abbrev pub Judges : Result (List LineParts) ListRefusal → Result (List LineParts) ListFault → Type 0
+abbrev pub Judges : Result (List LineParts) ListRefusal → Result (List LineParts) TrappoolError
+    → Type 0
 Judges (Ok lines) result = result ≡ Ok lines
 Judges (Err (refused.BadLine k)) result = result ≡ Err (BadLine k)
 Judges (Err refused.OutOfMemory) result = result ≡ Err Memory
@@ -58,7 +60,7 @@ Judges (Err refused.OutOfMemory) result = result ≡ Err Memory
 -- The list is read, and then the pages of its lines; or the list is refused, or there is no room
 -- for the replies, and nothing more is read.
 abbrev pub MakesReplies : List ℕ → TrayState → TrayState
-    → Result (List LineParts × List ReplyParts) ListFault → Type 0
+    → Result (List LineParts × List ReplyParts) TrappoolError → Type 0
 MakesReplies name before after (Ok made) = (between : TrayState)
     × ReadsLines name before between (Ok made.0) × Pools made.0 between after made.1
 MakesReplies name before after (Err fault) = ReadsLines name before after (Err fault)

@@ -1,12 +1,12 @@
 -- What a pool tells.
 use Rattle.std.specs.Prelude.{ℕ, List, ◌++◌, codes, decimal}
-use Rattle.trap_report.specs.Refusals.{line_of}
-use Rattle.trap_report.specs.Report.{line}
-use Rattle.trappool_cli.specs.declared.answering.Said.{Said}
-use Rattle.trappool_cli.specs.declared.answering.Said.TheVariants.{Done, Refused, TooLarge}
+use Rattle.refusals.specs.Refusals.{line_of}
+use Rattle.refusals.specs.Lines.{line}
+use Rattle.trappool_cli.specs.declared.answering.LineStatus.{LineStatus}
+use Rattle.trappool_cli.specs.declared.answering.LineStatus.TheVariants.{Done, Refused, TooLarge}
 
 -- what is said of a line
-abbrev pub said_text : Said → List ℕ
+abbrev pub said_text : LineStatus → List ℕ
 said_text Done = line (codes "done")
 said_text TooLarge = line (codes "TooLarge")
 said_text (Refused refusal) = line_of refusal
@@ -16,7 +16,7 @@ abbrev pub job_name : ℕ → List ℕ
 job_name number = codes "job " ++ decimal number ++ codes ": "
 
 -- all of that line
-abbrev pub job_line : ℕ → Said → List ℕ
+abbrev pub job_line : ℕ → LineStatus → List ℕ
 job_line number said = job_name number ++ said_text said
 
 -- the line of the first bad line of a list

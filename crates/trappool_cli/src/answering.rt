@@ -9,18 +9,18 @@ use outside::rack::Rack;
 use outside::tray::Failed;
 use page_model::laws::trapped_planes_law;
 use page_model::page::Page;
+use page_tally::Trapped;
 use page_writing::writing::write_page;
+use refusals::refusal::Refusal;
+use refusals::statuses::{DONE, LINES_REFUSED, NOT_WRITTEN};
 use std::alloc::Global;
-use strip_engine::Trapped;
 use trap_pool::outcome::Outcome;
 use trap_pool::reply::{Reply, ReplyList};
-use trap_report::refusal::Refusal;
 use trap_report::report::report;
-use trap_report::statuses::{DONE, LINES_REFUSED, NOT_WRITTEN};
 
 // What is said of a line.
 #[derive(Clone, Copy, Debug, Drop, PartialEq, Eq)]
-pub(crate) enum Said {
+pub(crate) enum LineStatus {
     // Its files are written.
     Done,
     Refused(Refusal),
@@ -43,7 +43,7 @@ pub(crate) fn answer_all<R: Rack>(
     for reply in replies.into_vec() {
         let line = &lines.as_slice()[number];
         match answer_line(alloc, rack, number as u32, line, reply) {
-            Some(Said::Done) => number += 1,
+            Some(LineStatus::Done) => number += 1,
             Some(_) => {
                 status = LINES_REFUSED;
                 number += 1;
@@ -61,7 +61,7 @@ fn answer_line<R: Rack>(
     number: u32,
     line: &ListLine,
     reply: Reply,
-) -> Option<Said>
+) -> Option<LineStatus>
     requires { HasOuts line.now reply }
     ensures { AnswersOne number line.now reply (R.state rack.old) (R.state rack.new) result }
 {
@@ -73,7 +73,7 @@ fn answer_line<R: Rack>(
 }
 
 // Writes the files of a line whose page is done, and says what became of it.
-fn write_reply<R: Rack>(alloc: Global, rack: &mut R, line: &ListLine, reply: Reply) -> Said
+fn write_reply<R: Rack>(alloc: Global, rack: &mut R, line: &ListLine, reply: Reply) -> LineStatus
     requires { HasOuts line.now reply }
     ensures { WritesReply line.now reply (R.state rack.old) (R.state rack.new) result }
 {
@@ -83,8 +83,8 @@ fn write_reply<R: Rack>(alloc: Global, rack: &mut R, line: &ListLine, reply: Rep
             Some(page) => write_done(alloc, rack, line, &page, trapped),
             None => unreachable!(),
         },
-        Outcome::Refused(refusal) => Said::Refused(refusal),
-        Outcome::TooLarge => Said::TooLarge,
+        Outcome::Refused(refusal) => LineStatus::Refused(refusal),
+        Outcome::TooLarge => LineStatus::TooLarge,
     }
 }
 
@@ -94,14 +94,14 @@ fn write_done<R: Rack>(
     line: &ListLine,
     page: &Page,
     trapped: Trapped,
-) -> Said
+) -> LineStatus
     requires trapped { IsTrapOf page.now trapped }
     requires outs { plates page.now ≡ length line.now.outs }
     ensures { WritesDone line.now page.now (R.state rack.old) (R.state rack.new) result }
 {
     let _valid = page.plates();
     let Ok(text) = report(alloc, page, &trapped.counts) else {
-        return Said::Refused(Refusal::Memory);
+        return LineStatus::Refused(Refusal::Memory);
     };
     trapped_planes_law(page);
     match write_page(
@@ -111,7 +111,7 @@ fn write_done<R: Rack>(
         line.report(),
         text.as_slice(),
     ) {
-        Ok(()) => Said::Done,
-        Err(refusal) => Said::Refused(refusal),
+        Ok(()) => LineStatus::Done,
+        Err(refusal) => LineStatus::Refused(refusal),
     }
 }

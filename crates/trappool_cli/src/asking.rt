@@ -2,24 +2,24 @@ ghost use Rattle.std.specs.Prelude.{◌≡◌, ◌≤◌, length};
 ghost use Rattle.trappool_cli.specs.Endings.{Refuses, fault_line, fault_status};
 ghost use Rattle.trappool_cli.specs.Reading.{MakesReplies};
 ghost use Rattle.trappool_cli.specs.Text.{bad_line as bad_line_meant, usage_line};
-ghost use Rattle.trap_report.specs.Statuses.{usage};
+ghost use Rattle.refusals.specs.Statuses.{usage};
 
-use crate::lines::{ListFault, read_lines};
+use crate::lines::{TrappoolError, read_lines};
 use crate::words::Asked;
 use job_list::line::LineList;
 use lists::names::OutOfMemory;
 use outside::rack::Rack;
 use outside::tray::Tray;
+use refusals::line::Line;
+use refusals::refusal::Refusal;
+use refusals::statuses::{JOB_REFUSED, NOT_READ, USAGE};
+use refusals::telling::{refuse, tell_line};
 use std::alloc::Global;
 use std::sync::Wait;
 use std::thread::Threads;
 use trap_pool::TakeGate;
 use trap_pool::pool::pool_run;
 use trap_pool::reply::ReplyList;
-use trap_report::line::Line;
-use trap_report::refusal::Refusal;
-use trap_report::statuses::{JOB_REFUSED, NOT_READ, USAGE};
-use trap_report::telling::{refuse, tell_line};
 
 // Reads the list and all pages of its lines, and traps them. Nothing is written.
 pub(crate) fn make_replies<H: Threads + Wait + Sync, T: Tray, G: TakeGate + Sync>(
@@ -28,7 +28,7 @@ pub(crate) fn make_replies<H: Threads + Wait + Sync, T: Tray, G: TakeGate + Sync
     asked: Asked<'_>,
     tray: &mut T,
     gate: &G,
-) -> Result<(LineList, ReplyList), ListFault>
+) -> Result<(LineList, ReplyList), TrappoolError>
     requires some { 1 ≤ asked.workers }
     requires few { asked.workers ≤ 64 }
     ensures { MakesReplies asked.entry.list.now (T.state tray.old) (T.state tray.new) result }
@@ -36,25 +36,25 @@ pub(crate) fn make_replies<H: Threads + Wait + Sync, T: Tray, G: TakeGate + Sync
     let lines = read_lines(alloc, tray, asked.list)?;
     match pool_run(rt, alloc, tray, &lines, asked.workers, gate) {
         Ok(replies) => Ok((lines, replies)),
-        Err(OutOfMemory) => Err(ListFault::Memory),
+        Err(OutOfMemory) => Err(TrappoolError::Memory),
     }
 }
 
 // Tells why nothing was written, and gives the status of it.
-pub(crate) fn refuse_list<R: Rack>(rack: &mut R, fault: ListFault) -> u8
+pub(crate) fn refuse_list<R: Rack>(rack: &mut R, fault: TrappoolError) -> u8
     ensures { Refuses (fault_line fault) (fault_status fault) (R.state rack.old)
         (R.state rack.new) result }
 {
     match fault {
-        ListFault::BadLine(number) => {
-            tell_line(rack, &bad_line(number));
+        TrappoolError::BadLine(number) => {
+            tell_line(rack, &Line::of_number(b"list: BadLine ", number));
             JOB_REFUSED
         }
-        ListFault::NotRead => {
-            tell_line(rack, &text_line(b"read fault: list\n"));
+        TrappoolError::NotRead => {
+            tell_line(rack, &Line::of_text(b"read fault: list"));
             NOT_READ
         }
-        ListFault::Memory => refuse(rack, &Refusal::Memory),
+        TrappoolError::Memory => refuse(rack, &Refusal::Memory),
     }
 }
 
@@ -62,25 +62,6 @@ pub(crate) fn refuse_list<R: Rack>(rack: &mut R, fault: ListFault) -> u8
 pub(crate) fn refuse_words<R: Rack>(rack: &mut R) -> u8
     ensures { Refuses usage_line usage (R.state rack.old) (R.state rack.new) result }
 {
-    tell_line(rack, &text_line(b"usage: trappool WORKERS LIST\n"));
+    tell_line(rack, &Line::of_text(b"usage: trappool WORKERS LIST"));
     USAGE
-}
-
-fn text_line(text: &[u8]) -> Line
-    requires { length text.now ≤ 160 }
-    ensures { result ≡ text.now }
-{
-    let mut line = Line::new();
-    line.push(text);
-    line
-}
-
-fn bad_line(number: u32) -> Line
-    ensures { result ≡ bad_line_meant number }
-{
-    let mut line = Line::new();
-    line.push(b"list: BadLine ");
-    line.push_number(number as u64);
-    line.push(b"\n");
-    line
 }

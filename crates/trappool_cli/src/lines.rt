@@ -11,7 +11,7 @@ const MOST_LIST: u32 = 1_048_577;
 
 // Why nothing is written.
 #[derive(Clone, Copy, Debug, Drop, PartialEq, Eq)]
-pub(crate) enum ListFault {
+pub(crate) enum TrappoolError {
     // This line of the list is the first bad one.
     BadLine(u32),
     // The list could not be read.
@@ -24,22 +24,22 @@ pub(crate) fn read_lines<T: Tray>(
     alloc: Global,
     tray: &mut T,
     name: &str,
-) -> Result<LineList, ListFault>
+) -> Result<LineList, TrappoolError>
     ensures { ReadsLines name.now (T.state tray.old) (T.state tray.new) result }
 {
     match read_file(alloc, tray, name, MOST_LIST) {
-        Ok(bytes) => judged(read_list(alloc, bytes.as_slice())),
-        Err(ReadRefusal::ReadFault) => Err(ListFault::NotRead),
-        Err(ReadRefusal::OutOfMemory) => Err(ListFault::Memory),
+        Ok(bytes) => lines_or_fault(read_list(alloc, bytes.as_slice())),
+        Err(ReadRefusal::ReadFault) => Err(TrappoolError::NotRead),
+        Err(ReadRefusal::OutOfMemory) => Err(TrappoolError::Memory),
     }
 }
 
-fn judged(read: Result<LineList, ListRefusal>) -> Result<LineList, ListFault>
+fn lines_or_fault(read: Result<LineList, ListRefusal>) -> Result<LineList, TrappoolError>
     ensures { Judges read result }
 {
     match read {
         Ok(lines) => Ok(lines),
-        Err(ListRefusal::BadLine(line)) => Err(ListFault::BadLine(line)),
-        Err(ListRefusal::OutOfMemory) => Err(ListFault::Memory),
+        Err(ListRefusal::BadLine(line)) => Err(TrappoolError::BadLine(line)),
+        Err(ListRefusal::OutOfMemory) => Err(TrappoolError::Memory),
     }
 }

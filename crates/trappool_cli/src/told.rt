@@ -5,14 +5,14 @@ ghost use Rattle.outside.specs.Rack.{Tells};
 ghost use Rattle.trappool_cli.specs.Answers.{TellsPart, TellsWhole};
 ghost use Rattle.trappool_cli.specs.Text.{job_line, job_name as name_meant, said_text};
 
-use crate::answering::Said;
+use crate::answering::LineStatus;
 use outside::rack::Rack;
 use outside::tray::Failed;
-use trap_report::fault_line::fault_line;
-use trap_report::line::Line;
+use refusals::fault_line::fault_line;
+use refusals::line::Line;
 
-// Tells what is said of a job of the list, or a front of it where the rack has a fault.
-pub(crate) fn tell_job<R: Rack>(rack: &mut R, number: u32, said: &Said) -> Result<(), Failed>
+// Tells what is said of a job of the list, or a prefix of it where the rack has a fault.
+pub(crate) fn tell_job<R: Rack>(rack: &mut R, number: u32, said: &LineStatus) -> Result<(), Failed>
     ensures { MatchResult result
         (λ _. TellsWhole (job_line number said.now) (R.state rack.old) (R.state rack.new))
         (λ _. TellsPart (job_line number said.now) (R.state rack.old) (R.state rack.new)) }
@@ -23,17 +23,17 @@ pub(crate) fn tell_job<R: Rack>(rack: &mut R, number: u32, said: &Said) -> Resul
     }
 }
 
-fn tell_said<R: Rack>(rack: &mut R, said: &Said) -> Result<(), Failed>
+fn tell_said<R: Rack>(rack: &mut R, said: &LineStatus) -> Result<(), Failed>
     ensures { Tells (said_text said.now) (R.state rack.old) (R.state rack.new) result }
 {
     match said {
-        Said::Done => rack.tell(b"done\n"),
-        Said::TooLarge => rack.tell(b"TooLarge\n"),
-        Said::Refused(refusal) => rack.tell(fault_line(refusal).as_slice()),
+        LineStatus::Done => rack.tell(b"done\n"),
+        LineStatus::TooLarge => rack.tell(b"TooLarge\n"),
+        LineStatus::Refused(refusal) => rack.tell(fault_line(refusal).as_slice()),
     }
 }
 
-// The front of the line, which names the job.
+// The prefix of the line, which names the job.
 fn job_name(number: u32) -> Line
     ensures { result ≡ name_meant number }
 {

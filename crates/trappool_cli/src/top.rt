@@ -23,7 +23,7 @@ use verdicts::laws::one_verdict;
 /// TooLarge`. A line whose files cannot be written is refused, and the next line goes on.
 ///
 /// The status is 0 where every line is done; 2 where the words mean nothing; 3 where the list has a bad line; 5 where the list
-/// could not be read; 6 where a line could not be told, after which nothing is written; 7 where memory was wanted before the
+/// could not be read; 6 where a line could not be told, after which nothing is written; 7 where memory ran out before the
 /// first write; and 9 where some line was refused.
 pub fn trappool_main<H: Threads + Wait + Sync, T: Tray, R: Rack, G: TakeGate + Sync>(
     rt: &H,

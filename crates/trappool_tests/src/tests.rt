@@ -5,22 +5,17 @@ mod worked;
 mod workers;
 
 use lists::list::List;
-use lists::names::CallList;
 use outside::distinct_names::have_distinct_names;
-use outside::mem_file::{FileList, MemFile};
+use outside::mem_file::FileList;
 use outside::mem_rack::MemRack;
 use outside::mem_tray::MemTray;
 use std::alloc::{AllocError, Global};
 use std::process::Abort;
 use std::sync::Wait;
 use std::thread::Threads;
+use test_files::{CYAN, MAGENTA, calls, file_of, words_of};
 use trap_pool::TakeGate;
 use trappool_cli::top::trappool_main;
-
-// Two plates of one row: on the left Cyan alone, and on the right Magenta.
-const CYAN: &[u8] = b"P5\n6 1\n255\n\0\0\0\xFF\xFF\xFF";
-
-const MAGENTA: &[u8] = b"P5\n6 1\n255\n\xFF\xFF\xFF\0\0\0";
 
 const JOB: &[u8] =
     b"<< /HWResolution [72 72] /TrappingDetails << /Type 1001 /ColorantDetails << /Cyan << /NeutralDensity 0.61 >> /Magenta << /NeutralDensity 0.76 >> /Yellow << /NeutralDensity 0.16 >> /Black << /NeutralDensity 1.70 >> >> >> >> setpagedevice << /TrapWidth 2 >> settrapparams showpage";
@@ -69,38 +64,12 @@ struct Wanted<'a> {
     written: &'a [(&'a str, Option<&'a [u8]>)],
 }
 
-// Words with single spaces between them.
-fn words_of(alloc: Global, text: &str) -> Result<Vec<String>, AllocError> {
-    let mut words = Vec::new(alloc);
-    for word in text.split(' ') {
-        words.push(String::from_str(alloc, word)?)?;
-    }
-    Ok(words)
-}
-
-// The numbers of the calls that fail: this one, or none.
-fn calls(alloc: Global, call: Option<u64>) -> Result<CallList, AllocError> {
-    let mut numbers = Vec::new(alloc);
-    if let Some(number) = call {
-        numbers.push(number)?;
-    }
-    Ok(List::from_vec(numbers))
-}
-
-fn file_of(alloc: Global, name: &str, bytes: &[u8]) -> Result<MemFile, AllocError> {
-    Ok(MemFile {
-        name: List::from_vec(name.as_bytes().to_vec(alloc)?),
-        bytes: List::from_vec(bytes.to_vec(alloc)?),
-        fails_at: None,
-    })
-}
-
 // The list, and all files that jobs are read from.
 fn files_of(alloc: Global, list: &[u8]) -> Result<FileList, AllocError> {
     let mut files = Vec::new(alloc);
-    files.push(file_of(alloc, "list", list)?)?;
+    files.push(file_of(alloc, "list", &[list])?)?;
     for (name, bytes) in READ {
-        files.push(file_of(alloc, *name, *bytes)?)?;
+        files.push(file_of(alloc, *name, &[*bytes])?)?;
     }
     Ok(List::from_vec(files))
 }

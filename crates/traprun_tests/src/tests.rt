@@ -7,7 +7,6 @@ mod worked;
 
 use band_workers::OpenGate;
 use lists::list::List;
-use lists::names::CallList;
 use outside::distinct_names::have_distinct_names;
 use outside::mem_file::{FileList, MemFile};
 use outside::mem_rack::MemRack;
@@ -16,11 +15,7 @@ use page_run::top::traprun_main;
 use std::alloc::{AllocError, Global};
 use std::process::Abort;
 use std::thread::Threads;
-
-// Two plates of one row: on the left Cyan alone, and on the right Magenta.
-const CYAN: &[u8] = b"P5\n6 1\n255\n\0\0\0\xFF\xFF\xFF";
-
-const MAGENTA: &[u8] = b"P5\n6 1\n255\n\xFF\xFF\xFF\0\0\0";
+use test_files::{CYAN, MAGENTA, calls, file_of, words_of};
 
 // A job begins with its inks, and a page may set parameters and be shown.
 const INKS: &[u8] =
@@ -71,39 +66,6 @@ fn case_of<'a>(files: &'a [&'a [&'a [u8]]]) -> Case<'a> {
         tray_fails: None,
         rack_fails: None,
     }
-}
-
-fn put_word(alloc: Global, words: &mut Vec<String>, word: &str) -> Result<(), AllocError> {
-    words.push(String::from_str(alloc, word)?)?;
-    Ok(())
-}
-
-// Words with single spaces between them; no words where the text is empty.
-fn words_of(alloc: Global, text: &str) -> Result<Vec<String>, AllocError> {
-    let mut words = Vec::new(alloc);
-    for word in text.split_terminator(' ') {
-        put_word(alloc, &mut words, word)?;
-    }
-    Ok(words)
-}
-
-// The numbers of the calls that fail: this one, or none.
-fn calls(alloc: Global, call: Option<u64>) -> Result<CallList, AllocError> {
-    let mut numbers = Vec::new(alloc);
-    if let Some(number) = call {
-        numbers.push(number)?;
-    }
-    Ok(List::from_vec(numbers))
-}
-
-// The file of that name, of these pieces one after the other.
-fn file_of(alloc: Global, name: &str, pieces: &[&[u8]]) -> Result<MemFile, AllocError> {
-    let bytes = pieces.concat(alloc)?;
-    Ok(MemFile {
-        name: List::from_vec(name.as_bytes().to_vec(alloc)?),
-        bytes: List::from_vec(bytes),
-        fails_at: None,
-    })
 }
 
 fn put_file(

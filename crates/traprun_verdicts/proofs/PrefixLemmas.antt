@@ -11,38 +11,10 @@ use Rattle.pgm_plates.specs.Plates.{IsPlate, IsPlateFile, raster, spelled}
 use Rattle.pgm_plates.specs.Reading.{IsTruncated}
 use Rattle.pgm_plates.specs.Sequences.{IsSequence, IsOfImage}
 use Rattle.pgm_plates.proofs.Causes.{one_decided}
-use Rattle.pgm_plates.proofs.Facts.{fault_stays, moment_of, no_front, not_both}
+use Rattle.pgm_plates.proofs.Facts.{cut_or_not, fault_stays, moment_of, no_prefix, not_both}
 use Rattle.pgm_plates.proofs.Moments.{stands_now}
+use Rattle.pgm_plates.proofs.OneSequence.{one_image, some_bytes}
 use Rattle.pgm_plates.proofs.Spelling.{spelled_reads}
-
--- the shorter of two prefixes of the same bytes is a prefix of the longer
-longer : (i l j k : List ℕ) → i ++ l ≡ j ++ k → length i ≤ length j → j ≡ i ++ drop (length i) j
-longer i l j k same le =
-    let front : i ≡ take (length i) j = sym (take-append_seam i l) ∙ ap (take (length i)) same ∙ take-append-le (length i) j k le in
-    sym (take-append-drop (length i) j) ∙ ap (λ (x : List ℕ). x ++ drop (length i) j) (sym front)
-
--- two plate files at the start of the same bytes, of which one is no longer, are one
-front_is : (i l j k : List ℕ) (p q : Plate) → i ++ l ≡ j ++ k → length i ≤ length j → IsPlateFile i p → IsPlateFile j q → i ≡ j
-front_is i l j k p q same le first second =
-    let whole = longer i l j k same le in
-    let none : drop (length i) j ≡ [] = no_front i (drop (length i) j) p q first (subst (λ (x : List ℕ). IsPlateFile x q) whole second) in
-    sym (whole ∙ ap (λ (x : List ℕ). i ++ x) none ∙ append-nil i)
-
--- two plate files at the start of the same bytes are one
-pub one_image : (i l j k : List ℕ) (p q : Plate) → i ++ l ≡ j ++ k → IsPlateFile i p → IsPlateFile j q → i ≡ j
-one_image i l j k p q same first second =
-    elim (cases_lt (length j) (length i)) [
-      | inl less ↦ sym (front_is j k i l q p (sym same) (omega arith) second first)
-      | inr le ↦ front_is i l j k p q same le first second
-    ]
-
--- a plate file has some bytes
-some_bytes : (bytes : List ℕ) (plate : Plate) → IsPlateFile bytes plate → 0 < length bytes
-some_bytes bytes plate file =
-    let header = file.is_header in
-    let long : length bytes ≡ length header.0 + 1 + length (raster plate.maxval plate.samples) =
-    ap length file.whole ∙ length-append file.header (raster plate.maxval plate.samples) ∙ ap (λ (n : ℕ). n + length (raster plate.maxval plate.samples)) (ap length header.4 ∙ length-append header.0 (header.1 ∷ [])) in
-    omega (arith, long)
 
 -- bytes that begin with a plate file
 pub record Begins (bytes : List ℕ) : Type 0 where
@@ -56,8 +28,8 @@ pub nothing_begins : (bytes : List ℕ) → [] ≡ bytes → Begins bytes → �
 nothing_begins bytes none begins = omega (arith, some_bytes begins.file begins.plate begins.is_file, ap length none, ap length begins.whole, length-append begins.file begins.later)
 
 -- what stands after a plate file is its fault
-behind_file : (file : List ℕ) (b : ℕ) (bs : List ℕ) (plate : Plate) → IsPlateFile file plate → FaultAt (file ++ b ∷ bs) (length file + 1) (TrailingBytes (length file))
-behind_file file b bs plate is =
+after_file : (file : List ℕ) (b : ℕ) (bs : List ℕ) (plate : Plate) → IsPlateFile file plate → FaultAt (file ++ b ∷ bs) (length file + 1) (TrailingBytes (length file))
+after_file file b bs plate is =
     let whole : take (length file + 1) (file ++ b ∷ bs) ≡ is.header ++ raster plate.maxval plate.samples ++ b ∷ [] =
     take-append-add file (b ∷ bs) 1 ∙ ap (λ (x : List ℕ). x ++ b ∷ []) is.whole in (
       omega (arith, length-append file (b ∷ bs)),
@@ -91,7 +63,7 @@ within_file file more plate found is_file is le d =
 no_other_fault : (file more : List ℕ) (plate : Plate) (found : PlateFault) → IsPlateFile file plate → IsFault (file ++ more) found → IsOfImage found → ⊥
 no_other_fault file [] plate found is_file is of_image = not_both file plate found is_file (subst (λ (x : List ℕ). IsFault x found) (append-nil file) is)
 no_other_fault file (b ∷ bs) plate found is_file is of_image =
-    let at = behind_file file b bs plate is_file in
+    let at = after_file file b bs plate is_file in
     let le : is.moment ≤ length file + 1 = is.first (length file + 1) (TrailingBytes (length file)) at in
     elim (moment_of (file ++ b ∷ bs) is.moment found is.stands) [
       | inr end ↦ omega (arith, end.0, le, length-append file (b ∷ bs))
@@ -106,16 +78,6 @@ no_other_fault file (b ∷ bs) plate found is_file is of_image =
 
 pub begins_faultless : (bytes : List ℕ) (found : PlateFault) → Begins bytes → IsFault bytes found → IsOfImage found → ⊥
 begins_faultless bytes found begins is of_image = no_other_fault begins.file begins.later begins.plate found begins.is_file (subst (λ (x : List ℕ). IsFault x found) begins.whole is) of_image
-
-pub cut_or_not : (fault : PlateFault) → IsTruncated fault ⊎ (IsTruncated fault → ⊥)
-cut_or_not (Truncated at) = inl tt
-cut_or_not (BadMagic at) = inr (λ cut. cut)
-cut_or_not (BadHeader at) = inr (λ cut. cut)
-cut_or_not (SideRange at) = inr (λ cut. cut)
-cut_or_not (TooManySamples at) = inr (λ cut. cut)
-cut_or_not (MaxvalRange at) = inr (λ cut. cut)
-cut_or_not (SampleAboveMaxval at) = inr (λ cut. cut)
-cut_or_not (TrailingBytes at) = inr (λ cut. cut)
 
 cut_at_once : (found : PlateFault) → IsTruncated found → IsFault [] found → IsOfImage found → ⊥
 cut_at_once (Truncated at) cut is some = let place = is.stands.place in omega arith
@@ -157,7 +119,7 @@ pub record Further (f g x y : List ℕ) (ps qs : List Plate) : Type 0 where
   pub rest : List Plate
   pub sequence : IsSequence mid rest
   pub counted : length qs ≡ length ps + length rest
-  pub behind : x ≡ mid ++ y
+  pub suffix : x ≡ mid ++ y
   pub longer : g ≡ f ++ mid
 
 pub further : (f g x y : List ℕ) (ps qs : List Plate) → f ++ x ≡ g ++ y → IsSequence f ps → IsSequence g qs → length ps ≤ length qs → Further f g x y ps qs
@@ -166,7 +128,7 @@ further f g x y [] qs same first second le = record {
   rest = qs;
   sequence = second;
   counted = omega arith;
-  behind = ap (λ (z : List ℕ). z ++ x) (sym first) ∙ same;
+  suffix = ap (λ (z : List ℕ). z ++ x) (sym first) ∙ same;
   longer = ap (λ (z : List ℕ). z ++ g) (sym first);
 }
 further f g x y (p ∷ ps) [] same first second le = absurd (omega arith)
@@ -184,7 +146,7 @@ further f g x y (p ∷ ps) (q ∷ qs) same first second le =
       rest = rest.rest;
       sequence = rest.sequence;
       counted = omega (arith, rest.counted);
-      behind = rest.behind;
+      suffix = rest.suffix;
       longer = second.2 ∙ ap (λ (z : List ℕ). z ++ m) (sym image) ∙ ap (λ (z : List ℕ). i ++ z) rest.longer ∙ sym (append_assoc i l rest.mid) ∙ ap (λ (z : List ℕ). z ++ rest.mid) (sym first.2);
     }
 

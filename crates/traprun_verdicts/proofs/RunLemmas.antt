@@ -11,15 +11,15 @@ use Rattle.pgm_plates.specs.declared.plate.Plate.{Plate as PlateRead}
 use Rattle.pgm_plates.specs.declared.plate.PlateFault.{PlateFault}
 use Rattle.job_reader.specs.declared.job.Job.{Job as JobRead}
 use Rattle.ps_tokens.specs.declared.faults.JobFault.{JobFault}
-use Rattle.traprun_verdicts.specs.declared.stop.RunStop.{RunStop}
-use Rattle.traprun_verdicts.specs.declared.stop.RunStop.TheVariants.{Whole, TooManyPages, AtPage, Ends, Extra}
+use Rattle.traprun_verdicts.specs.declared.stop.TraprunError.{TraprunError}
+use Rattle.traprun_verdicts.specs.declared.stop.TraprunError.TheVariants.{Whole, TooManyPages, AtPage, Ends, Extra}
 use Rattle.traprun_verdicts.specs.Images.{HasImage, HasImageFault, HasNoImage, page_spelling}
 use Rattle.traprun_verdicts.specs.Pages.{AreMade, pages_of, run_files, target_at}
 use Rattle.traprun_verdicts.specs.RunVerdicts.{RunVerdict, HasPages, ComesTo, PlateEnds, AllMade, AllEnd, LooksLast, IsRunVerdict, OneRunVerdict}
 use Rattle.traprun_verdicts.specs.RunVerdicts.RunVerdict.{Stopped, Out}
 use Rattle.traprun_verdicts.proofs.ImageLemmas.{page_laws, image_or_end, image_or_fault, fault_or_end, fault_one}
-use Rattle.trap_report.specs.declared.refusal.Refusal.{Refusal}
-use Rattle.trap_report.specs.declared.refusal.Refusal.TheVariants.{Usage, Job, NoDetails, Plate, Page, Read, Write, Memory}
+use Rattle.refusals.specs.declared.refusal.Refusal.{Refusal}
+use Rattle.refusals.specs.declared.refusal.Refusal.TheVariants.{Usage, Job, NoDetails, Plate, Page, Read, Write, Memory}
 use Rattle.verdicts.specs.Verdicts.{Verdict, Targets, IsVerdict, outcome}
 use Rattle.verdicts.specs.Verdicts.Verdict.{Refused, Out as PageOut}
 use Rattle.verdicts.proofs.VerdictLemmas.{one_verdict}
@@ -43,7 +43,7 @@ order j k = elim (cases_lt j k) [
 ]
 
 -- the stop that a whole job's refusal is
-abbrev pub stop_of : RunRefusal → RunStop
+abbrev pub stop_of : RunRefusal → TraprunError
 stop_of (Fault fault) = Whole (Job fault)
 stop_of (HasTooMany at) = TooManyPages at
 stop_of OutOfMemory = Whole Memory
@@ -112,7 +112,7 @@ module _ (files : List ℕ → Option (List ℕ)) (source : Sources) (target : T
         let there = subst (λ (n : ℕ). Holds files (name_at source.inputs n) (λ bytes. HasImageFault k bytes fault)) one fails.broken in
         let both = held_both files (name_at source.inputs plate) (λ bytes. HasImageFault k bytes fault) (HasNoImage k) there ends.ended in
         fault_or_end k both.0 fault both.1 both.2
-    | more behind ↦ read_or_end k p plate fails.plates behind fails.before ends.ended
+    | more suffix ↦ read_or_end k p plate fails.plates suffix fails.before ends.ended
   ]
 
   job_or_ends : (k plate : ℕ) (fault : JobFault) → Holds files source.job (λ bytes. (page_spelling k).job bytes ≡ Err fault) → PlateEnds files source k plate → ⊥
@@ -135,19 +135,19 @@ module _ (files : List ℕ → Option (List ℕ)) (source : Sources) (target : T
   one_end k p q a b = elim (order p q) [
     | less before ↦ absurd (read_or_end k q p b.plates before b.before a.ended)
     | same one ↦ one
-    | more behind ↦ absurd (read_or_end k p q a.plates behind a.before b.ended)
+    | more suffix ↦ absurd (read_or_end k p q a.plates suffix a.before b.ended)
   ]
 
   -- what stops a run at a page
-  data Stops (k : ℕ) (stop : RunStop) : Type 0 where
+  data Stops (k : ℕ) (stop : TraprunError) : Type 0 where
     refused : (refusal : Refusal) → stop ≡ AtPage k refusal → PageSays k (Refused refusal) → Stops k stop
     ends : (plate : ℕ) → stop ≡ Ends k plate → PlateEnds files source k plate → Stops k stop
 
-  made_or_stops : (k : ℕ) (stop : RunStop) → Made k → Stops k stop → ⊥
+  made_or_stops : (k : ℕ) (stop : TraprunError) → Made k → Stops k stop → ⊥
   made_or_stops k stop made (refused refusal is says) = made_or_refused k refusal made says
   made_or_stops k stop made (ends plate is ended) = makes_or_ends k plate (Ok made.0) made.1 ended
 
-  same_stop : (k : ℕ) (s t : RunStop) → Stops k s → Stops k t → s ≡ t
+  same_stop : (k : ℕ) (s t : TraprunError) → Stops k s → Stops k t → s ≡ t
   same_stop k s t (refused r is a) (refused q also b) =
       let same : Refused r ≡ Refused q = one_page_verdict k (Refused r) (Refused q) a b in
       let one : r ≡ q = cc in
@@ -157,17 +157,17 @@ module _ (files : List ℕ → Option (List ℕ)) (source : Sources) (target : T
   same_stop k s t (ends p is a) (ends q also b) = is ∙ ap (λ (n : ℕ). Ends k n) (one_end k p q a b) ∙ sym also
 
   -- a page before one that the run comes to does not stop it
-  stops_later : (j k : ℕ) (stop : RunStop) → ComesTo files source k → Stops j stop → j < k → ⊥
+  stops_later : (j k : ℕ) (stop : TraprunError) → ComesTo files source k → Stops j stop → j < k → ⊥
   stops_later j k stop comes stops before = made_or_stops j stop (made_at comes.pages j comes.made (omega (arith, comes.number))) stops
 
-  one_stop : (j k : ℕ) (s t : RunStop) → ComesTo files source j → ComesTo files source k → Stops j s → Stops k t → s ≡ t
+  one_stop : (j k : ℕ) (s t : TraprunError) → ComesTo files source j → ComesTo files source k → Stops j s → Stops k t → s ≡ t
   one_stop j k s t first second a b = elim (order j k) [
     | less before ↦ absurd (stops_later j k s second a before)
     | same one ↦ same_stop k s t (subst (λ (n : ℕ). Stops n s) one a) b
-    | more behind ↦ absurd (stops_later k j t first b behind)
+    | more suffix ↦ absurd (stops_later k j t first b suffix)
   ]
 
-  stops_or_all : (k : ℕ) (stop : RunStop) → ComesTo files source k → Stops k stop → AllMade files source → ⊥
+  stops_or_all : (k : ℕ) (stop : TraprunError) → ComesTo files source k → Stops k stop → AllMade files source → ⊥
   stops_or_all k stop comes stops all =
       let count : comes.count ≡ length all.pages = one_count comes.count (length all.pages) comes.has all.has in
       made_or_stops k stop (made_at all.pages k all.made (omega (arith, comes.within))) stops
@@ -187,11 +187,11 @@ module _ (files : List ℕ → Option (List ℕ)) (source : Sources) (target : T
   all_same a b = one_count (length a.pages) (length b.pages) a.has b.has
 
   -- what stops a run after its last page
-  data Last (stop : RunStop) : Type 0 where
+  data Last (stop : TraprunError) : Type 0 where
     fails : (plate : ℕ) (fault : PlateFault) → stop ≡ Whole (Plate plate fault) → LooksLast files source plate (λ count bytes. HasImageFault count bytes fault) → Last stop
     extra : (plate : ℕ) → stop ≡ Extra plate → LooksLast files source plate (λ count bytes. (another : PlateRead) × HasImage count bytes another) → Last stop
 
-  all_of : (stop : RunStop) → Last stop → AllMade files source
+  all_of : (stop : TraprunError) → Last stop → AllMade files source
   all_of stop (fails plate fault is looks) = looks.all
   all_of stop (extra plate is looks) = looks.all
 
@@ -226,7 +226,7 @@ module _ (files : List ℕ → Option (List ℕ)) (source : Sources) (target : T
       elim (order p q) [
         | less before ↦ absurd (not_f (length b.all.pages) p (subst (λ (n : ℕ). At n p F) count a.here) (b.before p before))
         | same one ↦ one
-        | more behind ↦ absurd (not_g (length a.all.pages) q (subst (λ (n : ℕ). At n q G) (sym count) b.here) (a.before q behind))
+        | more suffix ↦ absurd (not_g (length a.all.pages) q (subst (λ (n : ℕ). At n q G) (sym count) b.here) (a.before q suffix))
       ]
 
   -- both facts hold of that plate
@@ -241,7 +241,7 @@ module _ (files : List ℕ → Option (List ℕ)) (source : Sources) (target : T
   abbrev More : ℕ → List ℕ → Type 0
   More count bytes = (another : PlateRead) × HasImage count bytes another
 
-  one_last : (s t : RunStop) → Last s → Last t → s ≡ t
+  one_last : (s t : TraprunError) → Last s → Last t → s ≡ t
   one_last s t (fails p f is a) (fails q g also b) =
       let one : p ≡ q = one_plate_last p q (Faulty f) (Faulty g) (λ count plate. fails_or_ended count plate f) (λ count plate. fails_or_ended count plate g) a b in
       let fault : f ≡ g = same_fault (length b.all.pages) q f g (both_last p q (Faulty f) (Faulty g) one a b) b.here in
@@ -256,15 +256,15 @@ module _ (files : List ℕ → Option (List ℕ)) (source : Sources) (target : T
       let one : p ≡ q = one_plate_last p q More More extra_or_ended extra_or_ended a b in
       is ∙ ap (λ (n : ℕ). Extra n) one ∙ sym also
 
-  ended_or_last : (stop : RunStop) (all : AllMade files source) → AllEnd files source (length all.pages) (length source.inputs) → Last stop → ⊥
+  ended_or_last : (stop : TraprunError) (all : AllMade files source) → AllEnd files source (length all.pages) (length source.inputs) → Last stop → ⊥
   ended_or_last stop all ended (fails p f is a) = fails_or_ended (length a.all.pages) p f a.here (subst (λ (n : ℕ). Holds files (name_at source.inputs p) (HasNoImage n)) (all_same all a.all) (ended p a.known))
   ended_or_last stop all ended (extra p is a) = extra_or_ended (length a.all.pages) p a.here (subst (λ (n : ℕ). Holds files (name_at source.inputs p) (HasNoImage n)) (all_same all a.all) (ended p a.known))
 
   -- A verdict is that of the whole job, of a page, of the last look, or what is written.
   data View (v : RunVerdict) : Type 0 where
     of_job : (r : RunRefusal) → v ≡ Stopped (stop_of r) → Says (Err r) → View v
-    of_page : (k : ℕ) (stop : RunStop) → v ≡ Stopped stop → ComesTo files source k → Stops k stop → View v
-    of_last : (stop : RunStop) → v ≡ Stopped stop → Last stop → View v
+    of_page : (k : ℕ) (stop : TraprunError) → v ≡ Stopped stop → ComesTo files source k → Stops k stop → View v
+    of_last : (stop : TraprunError) → v ≡ Stopped stop → Last stop → View v
     of_out : (all : AllMade files source) → AllEnd files source (length all.pages) (length source.inputs) → v ≡ Out (run_files target all.pages) → View v
 
   view : (v : RunVerdict) → IsRunVerdict files source target v → View v
@@ -288,12 +288,12 @@ module _ (files : List ℕ → Option (List ℕ)) (source : Sources) (target : T
   same_verdict v w (of_job r is a) (of_last stop also b) = absurd (pages_or_refusal (length (all_of stop b).pages) r (all_of stop b).has a)
   same_verdict v w (of_job r is a) (of_out all ended also) = absurd (pages_or_refusal (length all.pages) r all.has a)
   same_verdict v w (of_page k stop is comes a) (of_job s also b) = absurd (pages_or_refusal comes.count s comes.has b)
-  same_verdict v w (of_page k stop is comes a) (of_page j other also reaches b) = is ∙ ap (λ (x : RunStop). Stopped x) (one_stop k j stop other comes reaches a b) ∙ sym also
+  same_verdict v w (of_page k stop is comes a) (of_page j other also reaches b) = is ∙ ap (λ (x : TraprunError). Stopped x) (one_stop k j stop other comes reaches a b) ∙ sym also
   same_verdict v w (of_page k stop is comes a) (of_last other also b) = absurd (stops_or_all k stop comes a (all_of other b))
   same_verdict v w (of_page k stop is comes a) (of_out all ended also) = absurd (stops_or_all k stop comes a all)
   same_verdict v w (of_last stop is a) (of_job s also b) = absurd (pages_or_refusal (length (all_of stop a).pages) s (all_of stop a).has b)
   same_verdict v w (of_last stop is a) (of_page j other also reaches b) = absurd (stops_or_all j other reaches b (all_of stop a))
-  same_verdict v w (of_last stop is a) (of_last other also b) = is ∙ ap (λ (x : RunStop). Stopped x) (one_last stop other a b) ∙ sym also
+  same_verdict v w (of_last stop is a) (of_last other also b) = is ∙ ap (λ (x : TraprunError). Stopped x) (one_last stop other a b) ∙ sym also
   same_verdict v w (of_last stop is a) (of_out all ended also) = absurd (ended_or_last stop all ended a)
   same_verdict v w (of_out all ended is) (of_job s also b) = absurd (pages_or_refusal (length all.pages) s all.has b)
   same_verdict v w (of_out all ended is) (of_page j other also reaches b) = absurd (stops_or_all j other reaches b all)

@@ -7,7 +7,7 @@ use Rattle.pgm_plates.specs.declared.plate.Plate.{Plate}
 use Rattle.pgm_plates.specs.declared.plate.PlateFault.{PlateFault}
 use Rattle.pgm_plates.specs.declared.plate.PlateFault.TheVariants.{BadMagic, BadHeader, SideRange, TooManySamples, MaxvalRange, SampleAboveMaxval, Truncated, TrailingBytes}
 use Rattle.pgm_plates.specs.Faults.{IsFault}
-use Rattle.pgm_plates.specs.Sequences.{IsOfImage, StandsBehind, further}
+use Rattle.pgm_plates.specs.Sequences.{IsOfImage, StandsAfter, further}
 use Rattle.pgm_plates.proofs.Judging.{plate_or_fault}
 use Rattle.traprun_verdicts.specs.Images.{HasImage, HasImageFault, HasNoImage}
 use Rattle.traprun_verdicts.proofs.PrefixLemmas.{Begins}
@@ -44,11 +44,11 @@ abbrev pub Judged : ℕ → List ℕ → Type 0
 Judged k bytes = ((plate : Plate) × HasImage k bytes plate) ⊎ (((fault : PlateFault) × HasImageFault k bytes fault) ⊎ HasNoImage k bytes)
 
 -- nothing stands before these bytes
-abbrev at_front : (k : ℕ) (bytes : List ℕ) → StandsBehind bytes k bytes
-at_front k bytes = record { front = []; plates = []; sequence = refl; few = omega arith; whole = refl }
+abbrev at_prefix : (k : ℕ) (bytes : List ℕ) → StandsAfter bytes k bytes
+at_prefix k bytes = record { prefix = []; plates = []; sequence = refl; few = omega arith; whole = refl }
 
 fails_here : (k : ℕ) (bytes : List ℕ) (fault : PlateFault) → IsFault bytes fault → IsOfImage fault → Judged k bytes
-fails_here k bytes fault is of_image = inr (inl (further 0 fault, record { image = bytes; front = at_front k bytes; found = fault; is_fault = is; of_image = of_image; place = refl }))
+fails_here k bytes fault is of_image = inr (inl (further 0 fault, record { image = bytes; prefix = at_prefix k bytes; found = fault; is_fault = is; of_image = of_image; place = refl }))
 
 none_here : (k : ℕ) (bytes : List ℕ) → bytes ≡ [] → Judged k bytes
 none_here k bytes is = inr (inr ([], is, omega arith))
@@ -59,20 +59,20 @@ begins_here bytes begun = inl (
   record {
     image = begun.file;
     later = begun.later;
-    front = subst (λ (x : List ℕ). StandsBehind bytes 0 x) begun.whole (at_front 0 bytes);
+    prefix = subst (λ (x : List ℕ). StandsAfter bytes 0 x) begun.whole (at_prefix 0 bytes);
     counted = refl;
     is_image = begun.is_file;
   },
 )
 
 -- one plate file more stands before it
-abbrev behind_one : (bytes image : List ℕ) (k : ℕ) (begun : Begins bytes) → StandsBehind begun.later k image → StandsBehind bytes (suc k) image
-behind_one bytes image k begun s = record {
-  front = begun.file ++ s.front;
+abbrev after_one : (bytes image : List ℕ) (k : ℕ) (begun : Begins bytes) → StandsAfter begun.later k image → StandsAfter bytes (suc k) image
+after_one bytes image k begun s = record {
+  prefix = begun.file ++ s.prefix;
   plates = begun.plate ∷ s.plates;
-  sequence = (begun.file, s.front, refl, begun.is_file, s.sequence);
+  sequence = (begun.file, s.prefix, refl, begun.is_file, s.sequence);
   few = omega (arith, s.few);
-  whole = begun.whole ∙ ap (λ (x : List ℕ). begun.file ++ x) s.whole ∙ sym (append_assoc begun.file s.front image);
+  whole = begun.whole ∙ ap (λ (x : List ℕ). begun.file ++ x) s.whole ∙ sym (append_assoc begun.file s.prefix image);
 }
 
 one_more : (k : ℕ) (bytes : List ℕ) (begun : Begins bytes) → Judged k begun.later → Judged (suc k) bytes
@@ -83,21 +83,21 @@ one_more k bytes begun (inl image) =
       record {
         image = is.image;
         later = is.later;
-        front = behind_one bytes (is.image ++ is.later) k begun is.front;
+        prefix = after_one bytes (is.image ++ is.later) k begun is.prefix;
         counted = ap suc is.counted;
         is_image = is.is_image;
       },
     )
 one_more k bytes begun (inr (inl fault)) =
     let is = fault.1 in
-    let front = behind_one bytes is.image k begun is.front in
-    inr (inl (further (length front.front) is.found, record { image = is.image; front = front; found = is.found; is_fault = is.is_fault; of_image = is.of_image; place = refl }))
+    let prefix = after_one bytes is.image k begun is.prefix in
+    inr (inl (further (length prefix.prefix) is.found, record { image = is.image; prefix = prefix; found = is.found; is_fault = is.is_fault; of_image = is.of_image; place = refl }))
 one_more k bytes begun (inr (inr ended)) = inr (inr (begun.plate ∷ ended.0, (begun.file, begun.later, begun.whole, begun.is_file, ended.1), omega (arith, ended.2)))
 
 later_bytes : (bytes : List ℕ) (begun : Begins bytes) → AreBytes bytes → AreBytes begun.later
 later_bytes bytes begun byte =
-    let behind : drop (length begun.file) bytes ≡ begun.later = ap (drop (length begun.file)) begun.whole ∙ drop-append_seam begun.file begun.later in
-    subst AreBytes behind (All-drop (λ (b : ℕ). b < 256) (length begun.file) bytes byte)
+    let suffix : drop (length begun.file) bytes ≡ begun.later = ap (drop (length begun.file)) begun.whole ∙ drop-append_seam begun.file begun.later in
+    subst AreBytes suffix (All-drop (λ (b : ℕ). b < 256) (length begun.file) bytes byte)
 
 by_first_0 : (bytes : List ℕ) → First bytes → Judged 0 bytes
 by_first_0 bytes (none is) = none_here 0 bytes is
@@ -105,9 +105,9 @@ by_first_0 bytes (begins begun) = begins_here bytes begun
 by_first_0 bytes (fails fault is of_image) = fails_here 0 bytes fault is of_image
 
 by_first : (k : ℕ) (bytes : List ℕ) → ((later : List ℕ) → AreBytes later → Judged k later) → AreBytes bytes → First bytes → Judged (suc k) bytes
-by_first k bytes behind byte (none is) = none_here (suc k) bytes is
-by_first k bytes behind byte (begins begun) = one_more k bytes begun (behind begun.later (later_bytes bytes begun byte))
-by_first k bytes behind byte (fails fault is of_image) = fails_here (suc k) bytes fault is of_image
+by_first k bytes suffix byte (none is) = none_here (suc k) bytes is
+by_first k bytes suffix byte (begins begun) = one_more k bytes begun (suffix begun.later (later_bytes bytes begun byte))
+by_first k bytes suffix byte (fails fault is of_image) = fails_here (suc k) bytes fault is of_image
 
 -- Bytes have image k, or its fault, or they end before it.
 pub image_judged : (k : ℕ) (bytes : List ℕ) → AreBytes bytes → Judged k bytes

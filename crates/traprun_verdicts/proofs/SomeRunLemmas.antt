@@ -14,19 +14,19 @@ use Rattle.pgm_plates.specs.declared.plate.PlateFault.{PlateFault}
 use Rattle.pgm_plates.specs.declared.plate.PlateFault.TheVariants.{TrailingBytes}
 use Rattle.ps_tokens.specs.declared.faults.JobFault.{JobFault}
 use Rattle.ps_tokens.specs.declared.object.Object.{Object}
-use Rattle.traprun_verdicts.specs.declared.stop.RunStop.{RunStop}
-use Rattle.traprun_verdicts.specs.declared.stop.RunStop.TheVariants.{Whole, TooManyPages, AtPage, Ends, Extra}
+use Rattle.traprun_verdicts.specs.declared.stop.TraprunError.{TraprunError}
+use Rattle.traprun_verdicts.specs.declared.stop.TraprunError.TheVariants.{Whole, TooManyPages, AtPage, Ends, Extra}
 use Rattle.traprun_verdicts.specs.Images.{HasImage, HasImageFault, HasNoImage, page_spelling}
 use Rattle.traprun_verdicts.specs.Pages.{AreMade, pages_of, run_files, target_at}
 use Rattle.traprun_verdicts.specs.RunVerdicts.{RunVerdict, AllEnd, AllMade, ComesTo, HasPages, IsRunVerdict, SomeRunVerdict}
 use Rattle.traprun_verdicts.specs.RunVerdicts.RunVerdict.{Stopped, Out}
 use Rattle.traprun_verdicts.proofs.SomeImageLemmas.{Judged, image_judged}
-use Rattle.trap_report.specs.declared.refusal.Refusal.TheVariants.{Usage, Job, NoDetails, Plate, Page, Read, Write, Memory}
+use Rattle.refusals.specs.declared.refusal.Refusal.TheVariants.{Usage, Job, NoDetails, Plate, Page, Read, Write, Memory}
 use Rattle.verdicts.specs.Verdicts.{Verdict, IsFile, IsVerdict, Targets}
 use Rattle.verdicts.specs.Verdicts.Verdict.{Refused, Out as PageOut}
 use Rattle.verdicts.proofs.SomeLemmas.{some_verdict}
 
--- A job of many pages is counted or refused, and never for want of memory.
+-- A job of many pages is counted or refused, and never for lack of memory.
 no_memory_refusal : (end : Option JobFault) (more : Option Passage) → or_else (option_map Fault end) (excess more) ≡ Some OutOfMemory → ⊥
 no_memory_refusal (Some fault) more is = let e : Some (Fault fault) ≡ Some OutOfMemory = is in absurd cc
 no_memory_refusal None (Some p) is = let e : Some (HasTooMany p.at) ≡ Some OutOfMemory = is in absurd cc
@@ -77,7 +77,7 @@ module _ (files : List ℕ → Option (List ℕ)) (source : Sources) (target : T
   -- Page k is made, or the run stops there.
   data PageEnd (k : ℕ) : Type 0 where
     made : (page : PageParts) → Makes (page_spelling k) files source (Ok page) → PageEnd k
-    stops : (stop : RunStop) → (ComesTo files source k → IsRunVerdict files source target (Stopped stop)) → PageEnd k
+    stops : (stop : TraprunError) → (ComesTo files source k → IsRunVerdict files source target (Stopped stop)) → PageEnd k
 
   are_read : (k n : ℕ) (plates : List PlateRead) → AreRead (with_ends k) files source.inputs n plates → AreRead (page_spelling k) files source.inputs n plates
   are_read k n plates read = record { all = read.all; each = read.each }

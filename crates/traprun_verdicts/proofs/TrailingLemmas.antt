@@ -23,17 +23,17 @@ use Rattle.traprun_verdicts.proofs.PrefixLemmas.{Begins}
 
 -- No prefix of these bytes decides a fault.
 abbrev Quiet : List ℕ → Type 0
-Quiet bytes = (front back : List ℕ) (fault : PlateFault) → front ++ back ≡ bytes → Decides front fault → ⊥
+Quiet bytes = (prefix back : List ℕ) (fault : PlateFault) → prefix ++ back ≡ bytes → Decides prefix fault → ⊥
 
 -- The bytes are a header in range.
 abbrev InRange : List ℕ → Type 0
 InRange bytes = (header : Header) × WholeHeader bytes header × (length bytes ≤ 65536)
 
 -- a header whose last byte is this one
-header_ends : (front bs ns : List ℕ) (header : Header) → WholeHeader front header → length front ≤ 65536 → run Start [] (front ++ bs) ≡ Some (reached Ended ns) → InRange (front ++ bs)
-header_ends front bs ns header whole le ran =
-    let none : bs ≡ [] = through front bs (header.maxval ∷ header.height ∷ header.width ∷ []) (reached Ended ns) (header_run front header.width header.height header.maxval whole.is_header) ran in
-    subst InRange (sym (append-nil front) ∙ ap (λ (x : List ℕ). front ++ x) (sym none)) (header, whole, le)
+header_ends : (prefix bs ns : List ℕ) (header : Header) → WholeHeader prefix header → length prefix ≤ 65536 → run Start [] (prefix ++ bs) ≡ Some (reached Ended ns) → InRange (prefix ++ bs)
+header_ends prefix bs ns header whole le ran =
+    let none : bs ≡ [] = through prefix bs (header.maxval ∷ header.height ∷ header.width ∷ []) (reached Ended ns) (header_run prefix header.width header.height header.maxval whole.is_header) ran in
+    subst InRange (sym (append-nil prefix) ∙ ap (λ (x : List ℕ). prefix ++ x) (sym none)) (header, whole, le)
 
 -- A header of which no prefix decides a fault is in range.
 header_in_range : (bytes rest ns : List ℕ) (scan : Scan) → Scanned bytes scan → (scan.stand ≡ Ended → ⊥) → length bytes ≤ 65536 → run Start [] (bytes ++ rest) ≡ Some (reached Ended ns) → Quiet (bytes ++ rest) → InRange (bytes ++ rest)
@@ -74,8 +74,8 @@ header_in_range bytes (b ∷ bs) ns scan scanned going le ran quiet =
 -- A header and as many samples as it says, of which no prefix decides a fault, are a plate file.
 module _ (header : List ℕ) (w h m : ℕ) (samples : List ℕ) (is_header : IsHeader header w h m) (all : length samples ≡ w * h) (quiet : Quiet (header ++ raster m samples)) where
   quiet_header : Quiet header
-  quiet_header front back fault whole decides =
-      quiet front (back ++ raster m samples) fault (sym (append_assoc front back (raster m samples)) ∙ ap (λ (x : List ℕ). x ++ raster m samples) whole) decides
+  quiet_header prefix back fault whole decides =
+      quiet prefix (back ++ raster m samples) fault (sym (append_assoc prefix back (raster m samples)) ∙ ap (λ (x : List ℕ). x ++ raster m samples) whole) decides
 
   in_range : InRange header
   in_range = header_in_range [] header (m ∷ h ∷ w ∷ []) fresh scanned_none (λ e. let f : Start ≡ Ended = e in cc) (omega arith) (header_run header w h m is_header) quiet_header
@@ -88,12 +88,12 @@ module _ (header : List ℕ) (w h m : ℕ) (samples : List ℕ) (is_header : IsH
       let ys = drop (suc k) samples in
       let few : length xs ≡ k = length-take-le k samples (omega (arith, within)) in
       let split : raster m samples ≡ raster m xs ++ (sample_bytes m s ++ raster m ys) = ap (raster m) (split_at samples k d within) ∙ raster_both m xs (s ∷ ys) in
-      let front = header ++ raster m xs in
-      let whole : (front ++ sample_bytes m s) ++ raster m ys ≡ header ++ raster m samples =
-      append_assoc front (sample_bytes m s) (raster m ys) ∙ append_assoc header (raster m xs) (sample_bytes m s ++ raster m ys) ∙ ap (λ (x : List ℕ). header ++ x) (sym split) in
+      let prefix = header ++ raster m xs in
+      let whole : (prefix ++ sample_bytes m s) ++ raster m ys ≡ header ++ raster m samples =
+      append_assoc prefix (sample_bytes m s) (raster m ys) ∙ append_assoc header (raster m xs) (sample_bytes m s ++ raster m ys) ∙ ap (λ (x : List ℕ). header ++ x) (sym split) in
       elim (cases_lt m s) [
         | inr le ↦ omega (arith, le)
-        | inl over ↦ absurd (quiet (front ++ sample_bytes m s) (raster m ys) (SampleAboveMaxval (length front)) whole (record {
+        | inl over ↦ absurd (quiet (prefix ++ sample_bytes m s) (raster m ys) (SampleAboveMaxval (length prefix)) whole (record {
           header = header;
           width = w;
           height = h;
@@ -139,11 +139,11 @@ trailing_begins bytes at is =
     let whole : bytes ≡ file ++ later = sym (take-append-drop is.moment bytes) ∙ ap (λ (x : List ℕ). x ++ drop is.moment bytes) d.whole ∙ append_assoc file (d.last ∷ []) (drop is.moment bytes) in
     let moment : is.moment ≡ length file + 1 = sym (length-take-le is.moment bytes is.stands.0) ∙ ap length d.whole ∙ length_push file d.last in
     let quiet : Quiet file =
-    λ front back fault within decides.
-    let longer : bytes ≡ front ++ (back ++ later) = whole ∙ ap (λ (x : List ℕ). x ++ later) (sym within) ∙ append_assoc front back later in
-    let here : take (length front) bytes ≡ front = ap (take (length front)) longer ∙ take-append_seam front (back ++ later) in
-    let few : length front ≤ length file = omega (arith, ap length within, length-append front back) in
-    let first : is.moment ≤ length front = is.first (length front) fault (stands_now bytes (length front) fault (omega (arith, few, moment, is.stands.0)) (subst (λ (x : List ℕ). Decides x fault) (sym here) decides)) in
+    λ prefix back fault within decides.
+    let longer : bytes ≡ prefix ++ (back ++ later) = whole ∙ ap (λ (x : List ℕ). x ++ later) (sym within) ∙ append_assoc prefix back later in
+    let here : take (length prefix) bytes ≡ prefix = ap (take (length prefix)) longer ∙ take-append_seam prefix (back ++ later) in
+    let few : length prefix ≤ length file = omega (arith, ap length within, length-append prefix back) in
+    let first : is.moment ≤ length prefix = is.first (length prefix) fault (stands_now bytes (length prefix) fault (omega (arith, few, moment, is.stands.0)) (subst (λ (x : List ℕ). Decides x fault) (sym here) decides)) in
     omega (arith, first, few, moment) in
     record {
       file = file;

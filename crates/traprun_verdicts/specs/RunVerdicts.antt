@@ -7,20 +7,21 @@ use Rattle.page_model.specs.declared.parts.PageParts.{PageParts}
 use Rattle.page_writing.specs.Files.{Written}
 use Rattle.pgm_plates.specs.declared.plate.Plate.{Plate as PlateRead}
 use Rattle.job_reader.specs.declared.job.Job.{Job as JobRead}
-use Rattle.traprun_verdicts.specs.declared.stop.RunStop.{RunStop}
-use Rattle.traprun_verdicts.specs.declared.stop.RunStop.TheVariants.{Whole, TooManyPages, AtPage}
-use Rattle.traprun_verdicts.specs.declared.stop.RunStop.TheVariants.{Ends, Extra}
+use Rattle.traprun_verdicts.specs.declared.stop.TraprunError.{TraprunError}
+use Rattle.traprun_verdicts.specs.declared.stop.TraprunError.TheVariants.{Whole, TooManyPages}
+use Rattle.traprun_verdicts.specs.declared.stop.TraprunError.TheVariants.{AtPage}
+use Rattle.traprun_verdicts.specs.declared.stop.TraprunError.TheVariants.{Ends, Extra}
 use Rattle.traprun_verdicts.specs.Images.{HasImage, HasImageFault, HasNoImage, page_spelling}
 use Rattle.traprun_verdicts.specs.Pages.{AreMade, pages_of, run_files, target_at}
-use Rattle.trap_report.specs.declared.refusal.Refusal.TheVariants.{Job, Plate}
-use Rattle.trap_report.specs.Statuses.{done}
+use Rattle.refusals.specs.declared.refusal.Refusal.TheVariants.{Job, Plate}
+use Rattle.refusals.specs.Statuses.{done}
 use Rattle.traprun_verdicts.specs.Stops.{status_of_stop}
 use Rattle.verdicts.specs.Verdicts.{Targets, IsFile, IsVerdict, Refused as PageRefused}
 
 -- what is to come
 pub data RunVerdict : Type 0 where
   -- the run stops so
-  Stopped : RunStop → RunVerdict
+  Stopped : TraprunError → RunVerdict
   -- these files are to be written, in this order
   Out : List Written → RunVerdict
 

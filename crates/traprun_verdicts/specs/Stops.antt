@@ -1,19 +1,20 @@
 -- What is told where a run stops.
 use Rattle.std.specs.Prelude.{◌≡◌, ℕ, List, ◌++◌, codes, decimal}
 use Rattle.outside.specs.Rack.{RackState}
-use Rattle.traprun_verdicts.specs.declared.stop.RunStop.{RunStop}
-use Rattle.traprun_verdicts.specs.declared.stop.RunStop.TheVariants.{Whole, TooManyPages, AtPage}
-use Rattle.traprun_verdicts.specs.declared.stop.RunStop.TheVariants.{Ends, Extra}
-use Rattle.trap_report.specs.declared.refusal.Refusal.{Refusal}
-use Rattle.trap_report.specs.declared.refusal.Refusal.TheVariants.{Usage, Job, NoDetails, Plate}
-use Rattle.trap_report.specs.declared.refusal.Refusal.TheVariants.{Page, Read, Write, Memory}
-use Rattle.trap_report.specs.Refusals.{line_of, numbered_line, status_of}
-use Rattle.trap_report.specs.Report.{line}
-use Rattle.trap_report.specs.Statuses.{job_refused, page_refused}
-use Rattle.trap_report.specs.Telling.{KeepsFiles, TellsText}
+use Rattle.traprun_verdicts.specs.declared.stop.TraprunError.{TraprunError}
+use Rattle.traprun_verdicts.specs.declared.stop.TraprunError.TheVariants.{Whole, TooManyPages}
+use Rattle.traprun_verdicts.specs.declared.stop.TraprunError.TheVariants.{AtPage}
+use Rattle.traprun_verdicts.specs.declared.stop.TraprunError.TheVariants.{Ends, Extra}
+use Rattle.refusals.specs.declared.refusal.Refusal.{Refusal}
+use Rattle.refusals.specs.declared.refusal.Refusal.TheVariants.{Usage, Job, NoDetails, Plate}
+use Rattle.refusals.specs.declared.refusal.Refusal.TheVariants.{Page, Read, Write, Memory}
+use Rattle.refusals.specs.Refusals.{line_of, numbered_line, status_of}
+use Rattle.refusals.specs.Lines.{line}
+use Rattle.refusals.specs.Statuses.{job_refused, page_refused}
+use Rattle.refusals.specs.Telling.{KeepsFiles, TellsText}
 
 -- the line that a stop tells
-abbrev pub line_of_stop : RunStop → List ℕ
+abbrev pub line_of_stop : TraprunError → List ℕ
 line_of_stop (Whole refusal) = line_of refusal
 line_of_stop (TooManyPages at) = line (codes "run: TooManyPages at " ++ decimal at)
 line_of_stop (AtPage page refusal) = numbered_line page refusal
@@ -22,15 +23,15 @@ line_of_stop (Ends page plate) =
 line_of_stop (Extra plate) = line (codes "run: plate " ++ decimal plate ++ codes ": Extra")
 
 -- the status that the program ends with
-abbrev pub status_of_stop : RunStop → ℕ
+abbrev pub status_of_stop : TraprunError → ℕ
 status_of_stop (Whole refusal) = status_of refusal
 status_of_stop (TooManyPages at) = job_refused
 status_of_stop (AtPage page refusal) = status_of refusal
 status_of_stop (Ends page plate) = page_refused
 status_of_stop (Extra plate) = page_refused
 
--- the stop that a page's refusal is; want of memory belongs to no page
-abbrev pub stop_at : ℕ → Refusal → RunStop
+-- the stop that a page's refusal is; out of memory belongs to no page
+abbrev pub stop_at : ℕ → Refusal → TraprunError
 stop_at page Memory = Whole Memory
 stop_at page Usage = AtPage page Usage
 stop_at page (Job fault) = AtPage page (Job fault)
@@ -41,7 +42,7 @@ stop_at page (Read file) = AtPage page (Read file)
 stop_at page (Write file) = AtPage page (Write file)
 
 -- A stop tells its line and gives its status.
-pub record RefusesRun (stop : RunStop) (before after : RackState) (status : ℕ) : Type 0 where
+pub record RefusesRun (stop : TraprunError) (before after : RackState) (status : ℕ) : Type 0 where
   pub files : KeepsFiles before after
   pub line : TellsText (line_of_stop stop) before after
   pub status_is : status ≡ status_of_stop stop

@@ -1,15 +1,15 @@
 ghost use Rattle.std.specs.Prelude.{◌≡◌, ◌++◌, ◌≤◌, length, decimal};
-ghost use Rattle.trap_report.specs.Report.{line};
+ghost use Rattle.refusals.specs.Lines.{line};
 ghost use Rattle.traprun_verdicts.specs.Stops.{RefusesRun, line_of_stop};
 
-use crate::stop::{RunStop, stop_status};
+use crate::stop::{TraprunError, stop_status};
 use outside::rack::Rack;
-use trap_report::fault_line::{fault_line, numbered_line};
-use trap_report::line::Line;
-use trap_report::telling::tell_line;
+use refusals::fault_line::{fault_line, numbered_line};
+use refusals::line::Line;
+use refusals::telling::tell_line;
 
 /// Tells the line of a stop, and gives its status, which stays where the line cannot be told.
-pub fn refuse_run<R: Rack>(rack: &mut R, stop: &RunStop) -> u8
+pub fn refuse_run<R: Rack>(rack: &mut R, stop: &TraprunError) -> u8
     ensures { RefusesRun stop.now (R.state rack.old) (R.state rack.new) result }
 {
     tell_line(rack, &stop_line(stop));
@@ -17,20 +17,20 @@ pub fn refuse_run<R: Rack>(rack: &mut R, stop: &RunStop) -> u8
 }
 
 /// The line that a stop tells, its LF included. The form is this project's own.
-pub fn stop_line(stop: &RunStop) -> Line
+pub fn stop_line(stop: &TraprunError) -> Line
     ensures { result ≡ line_of_stop stop.now }
 {
     match stop {
-        RunStop::Whole(refusal) => fault_line(refusal),
-        RunStop::TooManyPages(at) => number_line(b"run: TooManyPages at ", *at, b""),
-        RunStop::AtPage(page, refusal) => numbered_line(*page, refusal),
-        RunStop::Ends(page, plate) => ends_line(*page, *plate),
-        RunStop::Extra(plate) => number_line(b"run: plate ", *plate, b": Extra"),
+        TraprunError::Whole(refusal) => fault_line(refusal),
+        TraprunError::TooManyPages(at) => number_line(b"run: TooManyPages at ", *at, b""),
+        TraprunError::AtPage(page, refusal) => numbered_line(*page, refusal),
+        TraprunError::Ends(page, plate) => ends_line(*page, *plate),
+        TraprunError::Extra(plate) => number_line(b"run: plate ", *plate, b": Extra"),
     }
 }
 
 fn ends_line(page: u32, plate: u32) -> Line
-    ensures { result ≡ line_of_stop (RunStop.Ends page plate) }
+    ensures { result ≡ line_of_stop (TraprunError.Ends page plate) }
 {
     let mut told = Line::new();
     told.push(b"page ");
@@ -43,15 +43,15 @@ fn ends_line(page: u32, plate: u32) -> Line
 }
 
 // A line of a number between two texts.
-fn number_line(before: &[u8], number: u32, behind: &[u8]) -> Line
+fn number_line(before: &[u8], number: u32, suffix: &[u8]) -> Line
     requires before { length before.now ≤ 50 }
-    requires behind { length behind.now ≤ 50 }
-    ensures { result ≡ line (before.now ++ decimal number ++ behind.now) }
+    requires suffix { length suffix.now ≤ 50 }
+    ensures { result ≡ line (before.now ++ decimal number ++ suffix.now) }
 {
     let mut told = Line::new();
     told.push(before);
     told.push_number(number as u64);
-    told.push(behind);
+    told.push(suffix);
     told.push(b"\n");
     told
 }

@@ -1,10 +1,10 @@
 -- How `apply` ends, from how its plates and its set are read and its plates written.
 use Rattle.std.proofs.Common.{◌≡◌, ◌⊎◌, ℕ, ◌+◌, ◌<◌, ◌≤◌, Bool, true, false, min, List, [], ◌∷◌, ◌++◌, length, map, take, Option, Some, None, Result, Ok, Err, MatchResult, IsTrue, inl, inr, refl, sym, ap, ◌∙◌, subst, arith}
 use Rattle.std.proofs.lemmas.List.{length-map, take-append-le, take_min}
-use Rattle.outside.specs.Causes.{Asks, AsksFront}
+use Rattle.outside.specs.Causes.{Asks, AsksPrefix}
 use Rattle.outside.specs.Tray.{TrayState}
 use Rattle.outside.specs.Rack.{RackState, KeepsRack}
-use Rattle.outside.proofs.Names.{asks_all, asks_front, asks_none_of, asks_then}
+use Rattle.outside.proofs.Names.{asks_all, asks_prefix, asks_none_of, asks_then}
 use Rattle.outside.proofs.Steps.{rose_before}
 use Rattle.page_gather.specs.Steps.{AnswersPlates, ReadsPlates}
 use Rattle.page_gather.proofs.GatherLemmas.{refused_count}
@@ -15,16 +15,16 @@ use Rattle.page_writing.proofs.Steps.{plates_length, plates_names}
 use Rattle.pgm_plates.specs.declared.plate.Plate.{Plate as PlateRead}
 use Rattle.pgm_plates.specs.Planes.{plane_of}
 use Rattle.plain_words.specs.Parts.{CopyNames, copy_of}
-use Rattle.trapset_cli.specs.declared.cause.Cause.{Cause}
-use Rattle.trapset_cli.specs.declared.cause.Cause.TheVariants as causes
+use Rattle.trapset_cli.specs.declared.cause.TrapsetError.{TrapsetError}
+use Rattle.trapset_cli.specs.declared.cause.TrapsetError.TheVariants as causes
 use Rattle.trapset_cli.specs.Commands.{inputs_of, read_names}
 use Rattle.trapset_cli.specs.Endings.{Answers, CarriesOut, NotRead, SetInHand}
 use Rattle.trapset_cli.specs.Putting.{AnswersPatch, AreInRange, Patches, PatchesPlanes, PutsPlates, ReadsPlanes}
 use Rattle.trapset_cli.proofs.PlanesInRange.{kept_in_range, read_in_range}
 use Rattle.trapset_cli.proofs.TrapsLemmas.{nothing_written}
 use Rattle.trapset_cli.specs.Words.{ApplyWords, Apply, outputs_of}
-use Rattle.trap_report.specs.declared.refusal.Refusal.{Refusal}
-use Rattle.trap_report.specs.declared.refusal.Refusal.TheVariants as refusals
+use Rattle.refusals.specs.declared.refusal.Refusal.{Refusal}
+use Rattle.refusals.specs.declared.refusal.Refusal.TheVariants as refusals
 use Rattle.trap_set.specs.Applying.{AppliesSet, EndsWith}
 use Rattle.trap_set.specs.declared.apply.SetRefusal.{SetRefusal}
 use Rattle.trap_set.specs.declared.apply.SetRefusal.TheVariants as set_refusals
@@ -58,24 +58,24 @@ planes_read names a b plates (Err refusal) reads is =
       answer = asks_all a.asked b.asked names reads.answer.0;
     })
 
--- the names up to the plate that was refused are a front of all that are read
-front_on : (a b : Option (List (List ℕ))) (names more : List (List ℕ)) → AsksFront a b names → AsksFront a b (names ++ more)
-front_on a None names more f = tt
-front_on a (Some all) names more f =
+-- the names up to the plate that was refused are a prefix of all that are read
+prefix_on : (a b : Option (List (List ℕ))) (names more : List (List ℕ)) → AsksPrefix a b names → AsksPrefix a b (names ++ more)
+prefix_on a None names more f = tt
+prefix_on a (Some all) names more f =
     let n = min f.1 (length names) in
     let same : take f.1 names ≡ take n (names ++ more) = sym (take-append-le n names more (omega arith) ∙ take_min f.1 names) in
     (f.0, n, f.2, f.3 ∙ ap (λ (l : List (List ℕ)). f.0 ++ l) same)
 
-plates_front : (names : List (List ℕ)) (a b : TrayState) (refusal : Refusal) → AnswersPlates names a b (Err refusal) → AsksFront a.asked b.asked names
-plates_front names a b (refusals.Plate k fault) answer = asks_front a.asked b.asked (k + 1) names answer.0.asked
-plates_front names a b (refusals.Read (Some k)) answer = asks_front a.asked b.asked (k + 1) names answer.0.asked
-plates_front names a b refusals.Memory answer = answer
-plates_front names a b refusals.Usage answer = absurd answer
-plates_front names a b (refusals.Job fault) answer = absurd answer
-plates_front names a b (refusals.NoDetails k) answer = absurd answer
-plates_front names a b (refusals.Page fault) answer = absurd answer
-plates_front names a b (refusals.Read None) answer = absurd answer
-plates_front names a b (refusals.Write file) answer = absurd answer
+plates_prefix : (names : List (List ℕ)) (a b : TrayState) (refusal : Refusal) → AnswersPlates names a b (Err refusal) → AsksPrefix a.asked b.asked names
+plates_prefix names a b (refusals.Plate k fault) answer = asks_prefix a.asked b.asked (k + 1) names answer.0.asked
+plates_prefix names a b (refusals.Read (Some k)) answer = asks_prefix a.asked b.asked (k + 1) names answer.0.asked
+plates_prefix names a b refusals.Memory answer = answer
+plates_prefix names a b refusals.Usage answer = absurd answer
+plates_prefix names a b (refusals.Job fault) answer = absurd answer
+plates_prefix names a b (refusals.NoDetails k) answer = absurd answer
+plates_prefix names a b (refusals.Page fault) answer = absurd answer
+plates_prefix names a b (refusals.Read None) answer = absurd answer
+plates_prefix names a b (refusals.Write file) answer = absurd answer
 
 -- a plate is refused
 module _ (words : ApplyWords) (a b : TrayState) where
@@ -102,7 +102,7 @@ module _ (words : ApplyWords) (a b : TrayState) where
 
   plate_refused : (refusal : Refusal) → 0 < length (inputs_of words) → ReadsPlanes (inputs_of words) a b (Err refusal) → PatchesPlanes words a b (Err (causes.Page refusal))
   plate_refused refusal some reads = record {
-    asked = front_on a.asked b.asked (inputs_of words) (words.set ∷ []) (plates_front (inputs_of words) a b refusal reads.answer);
+    asked = prefix_on a.asked b.asked (inputs_of words) (words.set ∷ []) (plates_prefix (inputs_of words) a b refusal reads.answer);
     in_hand = inr (inl (reads.few some));
     answer = not_patched refusal reads;
   }
@@ -130,7 +130,7 @@ begun_or false = inr refl
 was_begun : {T : Type 0} (name : List ℕ) (b c : TrayState) (old new : List Plane) (result : Result T SetRefusal) → AppliesSet name b c old new result → (result ≡ Err set_refusals.ReadFault → ⊥) → IsTrue c.begun
 was_begun name b c old new result app other = elim (begun_or c.begun) [ inl begun ↦ begun | inr none ↦ absurd (other (app.not_begun none).1) ]
 
--- the set behind the plates
+-- the set after the plates
 module _ (words : ApplyWords) (a b c : TrayState) (old : List Plane) (reads : ReadsPlanes (inputs_of words) a b (Ok old)) where
   all_asked : Asks b.asked c.asked (words.set ∷ []) → Asks a.asked c.asked (read_names (Apply words))
   all_asked set = asks_then a.asked b.asked c.asked (inputs_of words) (words.set ∷ []) reads.answer.0 set
@@ -138,7 +138,7 @@ module _ (words : ApplyWords) (a b c : TrayState) (old : List Plane) (reads : Re
   same_file : (bytes : List ℕ) → b.file words.set ≡ Some bytes → a.file words.set ≡ Some bytes
   same_file bytes is = ap (λ (files : List ℕ → Option (List ℕ)). files words.set) (sym reads.keeps.file) ∙ is
 
-  patch_answer : (result : Result (List Plane) Cause) → Patches words.set old b c result → AnswersPatch words a c result
+  patch_answer : (result : Result (List Plane) TrapsetError) → Patches words.set old b c result → AnswersPatch words a c result
   patch_answer (Ok new) app =
       let begun = was_begun words.set b c old new (Ok tt) app (λ (e : ◌≡◌ {A = Result (Unit {0}) SetRefusal} (Ok tt) (Err set_refusals.ReadFault)). absurd cc) in (
         app.count ∙ reads.count,
@@ -173,7 +173,7 @@ module _ (words : ApplyWords) (a b c : TrayState) (old : List Plane) (reads : Re
   abbrev SetTaken : Type 0
   SetTaken = Asks b.asked c.asked (words.set ∷ []) × (IsTrue c.begun → IsTrue b.tells → (bytes : List ℕ) × (b.file words.set ≡ Some bytes) × EndsWith bytes c.left)
 
-  set_taken : (result : Result (List Plane) Cause) → Patches words.set old b c result → SetTaken
+  set_taken : (result : Result (List Plane) TrapsetError) → Patches words.set old b c result → SetTaken
   set_taken (Ok new) app = (app.asked, app.taken)
   set_taken (Err (causes.BadLine n)) (new, app) = (app.asked, app.taken)
   set_taken (Err causes.Differs) (new, app) = (app.asked, app.taken)
@@ -192,12 +192,12 @@ module _ (words : ApplyWords) (a b c : TrayState) (old : List Plane) (reads : Re
         (here.0, same_file here.0 here.1, here.2);
   }
 
-  set_put_on : (result : Result (List Plane) Cause) → Patches words.set old b c result → PatchesPlanes words a c result
+  set_put_on : (result : Result (List Plane) TrapsetError) → Patches words.set old b c result → PatchesPlanes words a c result
   set_put_on result app =
       let set = set_taken result app in
       record { asked = asks_all a.asked c.asked (read_names (Apply words)) (all_asked set.0); in_hand = inr (inr (set_in_hand set)); answer = patch_answer result app }
 
-pub plates_patched : (words : ApplyWords) (a b c : TrayState) (names : List (List ℕ)) (old : List Plane) (result : Result (List Plane) Cause) → names ≡ inputs_of words → ReadsPlanes names a b (Ok old) → Patches words.set old b c result → PatchesPlanes words a c result
+pub plates_patched : (words : ApplyWords) (a b c : TrayState) (names : List (List ℕ)) (old : List Plane) (result : Result (List Plane) TrapsetError) → names ≡ inputs_of words → ReadsPlanes names a b (Ok old) → Patches words.set old b c result → PatchesPlanes words a c result
 plates_patched words a b c names old result named reads app = set_put_on words a b c old (subst (λ (ns : List (List ℕ)). ReadsPlanes ns a b (Ok old)) named reads) result app
 
 -- the plates that are written
@@ -206,7 +206,7 @@ plates_patched words a b c names old result named reads app = set_put_on words a
 pub as_many : (words : ApplyWords) → length (inputs_of words) ≡ length (outputs_of words.plates)
 as_many words = length-map words.plates (λ (p : CopyNames). p.input) ∙ sym (length-map words.plates (λ (p : CopyNames). p.output))
 
-pub not_patched_out : (words : ApplyWords) (a b : TrayState) (r : RackState) (cause : Cause) → PatchesPlanes words a b (Err cause) → CarriesOut (Apply words) a b r r (Err cause)
+pub not_patched_out : (words : ApplyWords) (a b : TrayState) (r : RackState) (cause : TrapsetError) → PatchesPlanes words a b (Err cause) → CarriesOut (Apply words) a b r r (Err cause)
 not_patched_out words a b r cause patches = nothing_written (Apply words) a b r cause patches.asked patches.in_hand patches.answer
 
 module _ (words : ApplyWords) (planes : List Plane) (a b : TrayState) (r r' : RackState) (patches : PatchesPlanes words a b (Ok planes)) where
@@ -216,7 +216,7 @@ module _ (words : ApplyWords) (planes : List Plane) (a b : TrayState) (r r' : Ra
   in_words : length planes ≡ length words.plates
   in_words = patches.answer.2.as_many ∙ length-map words.plates (λ (p : CopyNames). p.input)
 
-  wrote_answer : (result : Result (Unit {0}) Cause) → 0 < length words.plates → PutsPlates (outputs_of words.plates) planes r r' result → Answers (Apply words) a b r r' result
+  wrote_answer : (result : Result (Unit {0}) TrapsetError) → 0 < length words.plates → PutsPlates (outputs_of words.plates) planes r r' result → Answers (Apply words) a b r r' result
   wrote_answer (Ok nothing) some puts = record {
     calm = patches.answer.0;
     begun = patches.answer.1;
@@ -255,9 +255,9 @@ module _ (words : ApplyWords) (planes : List Plane) (a b : TrayState) (r r' : Ra
 
   -- what holds of the writing, whatever its answer
   abbrev Wrote : Type 0
-  Wrote = KeepsRack r r' × (IsTrue r.tells → r'.told ≡ r.told) × AsksFront r.asked r'.asked (outputs_of words.plates)
+  Wrote = KeepsRack r r' × (IsTrue r.tells → r'.told ≡ r.told) × AsksPrefix r.asked r'.asked (outputs_of words.plates)
 
-  wrote_some : (result : Result (Unit {0}) Cause) → PutsPlates (outputs_of words.plates) planes r r' result → Wrote
+  wrote_some : (result : Result (Unit {0}) TrapsetError) → PutsPlates (outputs_of words.plates) planes r r' result → Wrote
   wrote_some (Ok nothing) puts = (puts.keeps, puts.told, puts.asked)
   wrote_some (Err (causes.Page refusal)) puts = (puts.keeps, puts.told, puts.asked)
   wrote_some (Err causes.NoCommand) puts = absurd puts
@@ -266,10 +266,10 @@ module _ (words : ApplyWords) (planes : List Plane) (a b : TrayState) (r r' : Ra
   wrote_some (Err (causes.BadLine n)) puts = absurd puts
   wrote_some (Err causes.Differs) puts = absurd puts
 
-  wrote_out : (result : Result (Unit {0}) Cause) → 0 < length words.plates → PutsPlates (outputs_of words.plates) planes r r' result → CarriesOut (Apply words) a b r r' result
+  wrote_out : (result : Result (Unit {0}) TrapsetError) → 0 < length words.plates → PutsPlates (outputs_of words.plates) planes r r' result → CarriesOut (Apply words) a b r r' result
   wrote_out result some puts =
       let wrote = wrote_some result puts in
       record { asked = patches.asked; in_hand = patches.in_hand; rack_keeps = wrote.0; told = wrote.1; created = wrote.2; answer = wrote_answer result some puts }
 
-pub patched_out : (words : ApplyWords) (planes : List Plane) (a b : TrayState) (r r' : RackState) (outputs : List (List ℕ)) (result : Result (Unit {0}) Cause) → outputs ≡ outputs_of words.plates → 0 < length words.plates → PatchesPlanes words a b (Ok planes) → PutsPlates outputs planes r r' result → CarriesOut (Apply words) a b r r' result
+pub patched_out : (words : ApplyWords) (planes : List Plane) (a b : TrayState) (r r' : RackState) (outputs : List (List ℕ)) (result : Result (Unit {0}) TrapsetError) → outputs ≡ outputs_of words.plates → 0 < length words.plates → PatchesPlanes words a b (Ok planes) → PutsPlates outputs planes r r' result → CarriesOut (Apply words) a b r r' result
 patched_out words planes a b r r' outputs result named some patches puts = wrote_out words planes a b r r' patches result some (subst (λ (os : List (List ℕ)). PutsPlates os planes r r' result) named puts)

@@ -1,7 +1,7 @@
 -- The clauses of the top call, by how the command of the words ended.
 use Rattle.std.proofs.Common.{◌≡◌, ◌≢◌, ◌⊎◌, ℕ, ◌≤◌, List, [], ◌∷◌, ◌++◌, take, Option, Some, None, Result, Ok, Err, IsTrue, inl, inr, refl, sym, ap, ◌∙◌, subst, arith}
 use Rattle.std.proofs.lemmas.Bool.{cases_lt}
-use Rattle.outside.specs.Causes.{Rose, RoseOnce, Asks, AsksFront}
+use Rattle.outside.specs.Causes.{Rose, RoseOnce, Asks, AsksPrefix}
 use Rattle.outside.specs.Tray.{TrayState}
 use Rattle.outside.specs.Rack.{RackState, KeepsRack}
 use Rattle.outside.specs.Writing.{BreaksFile}
@@ -9,8 +9,8 @@ use Rattle.page_gather.specs.Inputs.{one_page}
 use Rattle.page_writing.proofs.Told.{breaks_then, line_after}
 use Rattle.page_writing.specs.Files.{Written, put_all, names_of}
 use Rattle.page_writing.specs.Writing.{BreaksAt}
-use Rattle.trapset_cli.specs.declared.cause.Cause.{Cause}
-use Rattle.trapset_cli.specs.declared.cause.Cause.TheVariants as causes
+use Rattle.trapset_cli.specs.declared.cause.TrapsetError.{TrapsetError}
+use Rattle.trapset_cli.specs.declared.cause.TrapsetError.TheVariants as causes
 use Rattle.trapset_cli.specs.Causes.{RefusesCause, cause_line, cause_status}
 use Rattle.trapset_cli.specs.Clauses.{Mean, Success, Usage, RefusesInput, RefusedInput, IsOfSet, SetFault, ReadFault, WriteFault, LeavesFiles, FaultLine, Completeness}
 use Rattle.trapset_cli.specs.Commands.{written_names}
@@ -18,11 +18,11 @@ use Rattle.trapset_cli.specs.Endings.{Breaks, CarriesOut, Closes, Ends, EndsComm
 use Rattle.trapset_cli.specs.Verdicts.{IsVerdict, Refused, Out}
 use Rattle.trapset_cli.proofs.OneVerdict.{one_cause, out_or_refused}
 use Rattle.trapset_cli.specs.Words.{ApplyWords, Command, Traps, Apply, command_of}
-use Rattle.trap_report.specs.declared.refusal.Refusal.TheVariants as refusals
-use Rattle.trap_report.specs.Telling.{KeepsFiles, TellsText, TellsAfterFault}
+use Rattle.refusals.specs.declared.refusal.Refusal.TheVariants as refusals
+use Rattle.refusals.specs.Telling.{KeepsFiles, TellsText, TellsAfterFault}
 use Rattle.verdicts.proofs.VerdictLemmas.{PlateLaws}
 
-not_written_then : (command : Command) (t t' : TrayState) (a b c : RackState) (cause : Cause) → KeepsRack a b → NotWritten command t t' a b cause → KeepsFiles b c → NotWritten command t t' a c cause
+not_written_then : (command : Command) (t t' : TrayState) (a b c : RackState) (cause : TrapsetError) → KeepsRack a b → NotWritten command t t' a b cause → KeepsFiles b c → NotWritten command t t' a c cause
 not_written_then command t t' a b c cause keeps broke files = record {
   calm = broke.calm;
   begun = broke.begun;
@@ -34,12 +34,12 @@ not_written_then command t t' a b c cause keeps broke files = record {
 }
 
 -- the status of a file that was not written
-unwritten_status : (command : Command) (cause : Cause) (place : ℕ) → IsUnwritten command cause place → cause_status cause ≡ 6
+unwritten_status : (command : Command) (cause : TrapsetError) (place : ℕ) → IsUnwritten command cause place → cause_status cause ≡ 6
 unwritten_status (Traps words) cause place is = ap cause_status is.0
 unwritten_status (Apply words) cause place is = ap cause_status is
 
 -- the statuses of input that is refused
-input_status : (command : Command) (cause : Cause) → IsOfInput command cause → (cause_status cause ≡ 3) ⊎ (cause_status cause ≡ 4) ⊎ (cause_status cause ≡ 8)
+input_status : (command : Command) (cause : TrapsetError) → IsOfInput command cause → (cause_status cause ≡ 3) ⊎ (cause_status cause ≡ 4) ⊎ (cause_status cause ≡ 8)
 input_status (Traps words) cause (inl is) = inl is
 input_status (Traps words) cause (inr is) = inr (inl is)
 input_status (Apply words) cause (inl is) = inr (inl is)
@@ -48,23 +48,23 @@ input_status (Apply words) cause (inr is) = inr (inr is)
 -- How a command ended.
 data Ending (command : Command) (t t' : TrayState) (r r' : RackState) (status : ℕ) : Type 0 where
   done : status ≡ 0 → (IsTrue r.tells → r'.told ≡ r.told) → IsDone command t t' r r' → Ending command t t' r r' status
-  refused : (cause : Cause) → IsOfInput command cause → Passes cause t t' → Asks t.asked t'.asked (names_to command cause) → (IsTrue t.tells → IsVerdict t.file command (Refused cause)) → RefusesCause cause r r' status → Ending command t t' r r' status
-  unread : (cause : Cause) → cause_status cause ≡ 5 → Rose t.faults t'.faults → Asks t.asked t'.asked (names_to command cause) → Breaks command cause t t' → RefusesCause cause r r' status → Ending command t t' r r' status
-  unwritten : (cause : Cause) → cause_status cause ≡ 6 → status ≡ cause_status cause → NotWritten command t t' r r' cause → TellsAfterFault (cause_line cause) r r' → Ending command t t' r r' status
+  refused : (cause : TrapsetError) → IsOfInput command cause → Passes cause t t' → Asks t.asked t'.asked (names_to command cause) → (IsTrue t.tells → IsVerdict t.file command (Refused cause)) → RefusesCause cause r r' status → Ending command t t' r r' status
+  unread : (cause : TrapsetError) → cause_status cause ≡ 5 → Rose t.faults t'.faults → Asks t.asked t'.asked (names_to command cause) → Breaks command cause t t' → RefusesCause cause r r' status → Ending command t t' r r' status
+  unwritten : (cause : TrapsetError) → cause_status cause ≡ 6 → status ≡ cause_status cause → NotWritten command t t' r r' cause → TellsAfterFault (cause_line cause) r r' → Ending command t t' r r' status
   no_memory : t'.faults ≡ t.faults → RefusesCause (causes.Page refusals.Memory) r r' status → Ending command t t' r r' status
 
 module _ (command : Command) (t t' : TrayState) (r r' : RackState) (status : ℕ) where
-  not_read : (cause : Cause) → NotRead command t t' cause → RefusesCause cause r r' status → Ending command t t' r r' status
+  not_read : (cause : TrapsetError) → NotRead command t t' cause → RefusesCause cause r r' status → Ending command t t' r r' status
   not_read cause (NotRead.refused input passes asks verdict) closed = refused cause input passes asks verdict closed
   not_read cause (NotRead.unread is rose asks breaks) closed = unread cause is rose asks breaks closed
-  not_read cause (NotRead.no_memory is calm) closed = no_memory calm (subst (λ (c : Cause). RefusesCause c r r' status) is closed)
+  not_read cause (NotRead.no_memory is calm) closed = no_memory calm (subst (λ (c : TrapsetError). RefusesCause c r r' status) is closed)
 
-  not_done : (cause : Cause) (between : RackState) → KeepsRack r between → (IsTrue r.tells → between.told ≡ r.told) → (NotRead command t t' cause × (between ≡ r)) ⊎ (NotWritten command t t' r between cause × RoseOnce r.faults between.faults) → RefusesCause cause between r' status → Ending command t t' r r' status
+  not_done : (cause : TrapsetError) (between : RackState) → KeepsRack r between → (IsTrue r.tells → between.told ≡ r.told) → (NotRead command t t' cause × (between ≡ r)) ⊎ (NotWritten command t t' r between cause × RoseOnce r.faults between.faults) → RefusesCause cause between r' status → Ending command t t' r r' status
   not_done cause between keeps told (inl none) closed = not_read cause none.0 (subst (λ (s : RackState). RefusesCause cause s r' status) none.1 closed)
   not_done cause between keeps told (inr (broke, once)) closed =
       unwritten cause (unwritten_status command cause broke.place broke.is) closed.status_is (not_written_then command t t' r between r' cause keeps broke closed.files) (line_after (cause_line cause) r between r' told keeps.tells once closed.line)
 
-  ending_of : (result : Result (Unit {0}) Cause) (between : RackState) → CarriesOut command t t' r between result → Closes result between r' status → Ending command t t' r r' status
+  ending_of : (result : Result (Unit {0}) TrapsetError) (between : RackState) → CarriesOut command t t' r between result → Closes result between r' status → Ending command t t' r r' status
   ending_of (Ok nothing) between carried closed = subst (λ (s : RackState). Ending command t t' r s status) (sym closed.0) (done closed.1 carried.told carried.answer)
   ending_of (Err cause) between carried closed = not_done cause between carried.rack_keeps carried.told carried.answer closed
 
@@ -79,21 +79,21 @@ module _ (command : Command) (t t' : TrayState) (r r' : RackState) (status : ℕ
   done_by (no_memory calm closed) s = absurd (omega (arith, closed.status_is))
 
   -- the input is refused, with one of its statuses
-  refused_by : Ending command t t' r r' status → (status ≡ 3) ⊎ (status ≡ 4) ⊎ (status ≡ 8) → (cause : Cause) × RefusesInput command t t' r r' status cause
+  refused_by : Ending command t t' r r' status → (status ≡ 3) ⊎ (status ≡ 4) ⊎ (status ≡ 8) → (cause : TrapsetError) × RefusesInput command t t' r r' status cause
   refused_by (refused cause input passes asks verdict closed) s = (cause, record { status_is = closed.status_is; verdict = verdict; begun = asks; count = passes; line = closed.line })
   refused_by (done is told work) s = absurd (elim s [ inl a ↦ omega arith | inr (inl a) ↦ omega arith | inr (inr a) ↦ omega arith ])
   refused_by (unread cause is rose asks breaks closed) s = absurd (elim s [ inl a ↦ omega (arith, closed.status_is) | inr (inl a) ↦ omega (arith, closed.status_is) | inr (inr a) ↦ omega (arith, closed.status_is) ])
   refused_by (unwritten cause is so broke line) s = absurd (elim s [ inl a ↦ omega arith | inr (inl a) ↦ omega arith | inr (inr a) ↦ omega arith ])
   refused_by (no_memory calm closed) s = absurd (elim s [ inl a ↦ omega (arith, closed.status_is) | inr (inl a) ↦ omega (arith, closed.status_is) | inr (inr a) ↦ omega (arith, closed.status_is) ])
 
-  unread_by : Ending command t t' r r' status → status ≡ 5 → Rose t.faults t'.faults × ((cause : Cause) × (status ≡ cause_status cause) × Asks t.asked t'.asked (names_to command cause) × Breaks command cause t t' × TellsText (cause_line cause) r r')
+  unread_by : Ending command t t' r r' status → status ≡ 5 → Rose t.faults t'.faults × ((cause : TrapsetError) × (status ≡ cause_status cause) × Asks t.asked t'.asked (names_to command cause) × Breaks command cause t t' × TellsText (cause_line cause) r r')
   unread_by (unread cause is rose asks breaks closed) s = (rose, (cause, closed.status_is, asks, breaks, closed.line))
   unread_by (done is told work) s = absurd (omega arith)
   unread_by (refused cause input passes asks verdict closed) s = absurd (elim (input_status command cause input) [ inl a ↦ omega (arith, closed.status_is) | inr (inl a) ↦ omega (arith, closed.status_is) | inr (inr a) ↦ omega (arith, closed.status_is) ])
   unread_by (unwritten cause is so broke line) s = absurd (omega arith)
   unread_by (no_memory calm closed) s = absurd (omega (arith, closed.status_is))
 
-  unwritten_by : Ending command t t' r r' status → status ≡ 6 → (cause : Cause) × NotWritten command t t' r r' cause × TellsAfterFault (cause_line cause) r r'
+  unwritten_by : Ending command t t' r r' status → status ≡ 6 → (cause : TrapsetError) × NotWritten command t t' r r' cause × TellsAfterFault (cause_line cause) r r'
   unwritten_by (unwritten cause is so broke line) s = (cause, broke, line)
   unwritten_by (done is told work) s = absurd (omega arith)
   unwritten_by (refused cause input passes asks verdict closed) s = absurd (elim (input_status command cause input) [ inl a ↦ omega (arith, closed.status_is) | inr (inl a) ↦ omega (arith, closed.status_is) | inr (inr a) ↦ omega (arith, closed.status_is) ])
@@ -101,7 +101,7 @@ module _ (command : Command) (t t' : TrayState) (r r' : RackState) (status : ℕ
   unwritten_by (no_memory calm closed) s = absurd (omega (arith, closed.status_is))
 
   -- neither 6 nor 7 is the status of a refused input
-  not_input : (cause : Cause) → IsOfInput command cause → status ≡ cause_status cause → (status ≡ 6) ⊎ (status ≡ 7) → ⊥
+  not_input : (cause : TrapsetError) → IsOfInput command cause → status ≡ cause_status cause → (status ≡ 6) ⊎ (status ≡ 7) → ⊥
   not_input cause input is (inl six) = elim (input_status command cause input) [ inl a ↦ omega (arith, is) | inr (inl a) ↦ omega (arith, is) | inr (inr a) ↦ omega (arith, is) ]
   not_input cause input is (inr seven) = elim (input_status command cause input) [ inl a ↦ omega (arith, is) | inr (inl a) ↦ omega (arith, is) | inr (inr a) ↦ omega (arith, is) ]
 
@@ -114,14 +114,14 @@ module _ (command : Command) (t t' : TrayState) (r r' : RackState) (status : ℕ
   calm_by (unwritten cause is so broke line) s = broke.calm
 
   -- a status that is neither 0 nor 6 leaves the files alone, and tells the line of its cause
-  closed_by : Ending command t t' r r' status → status ≢ 0 → status ≢ 6 → (cause : Cause) × RefusesCause cause r r' status
+  closed_by : Ending command t t' r r' status → status ≢ 0 → status ≢ 6 → (cause : TrapsetError) × RefusesCause cause r r' status
   closed_by (done is told work) some other = absurd (some is)
   closed_by (refused cause input passes asks verdict closed) some other = (cause, closed)
   closed_by (unread cause is rose asks breaks closed) some other = (cause, closed)
   closed_by (unwritten cause is so broke line) some other = absurd (other (so ∙ is))
   closed_by (no_memory calm closed) some other = (causes.Page refusals.Memory, closed)
 
-  always_by : PlateLaws one_page → (cause : Cause) → Ending command t t' r r' status → IsTrue t.tells → IsVerdict t.file command (Refused cause) → ¬ Rose t.faults t'.faults → (status ≡ cause_status cause) ⊎ (status ≡ 7)
+  always_by : PlateLaws one_page → (cause : TrapsetError) → Ending command t t' r r' status → IsTrue t.tells → IsVerdict t.file command (Refused cause) → ¬ Rose t.faults t'.faults → (status ≡ cause_status cause) ⊎ (status ≡ 7)
   always_by laws cause (done is told work) tells judged still = absurd (out_or_refused laws t.file command work.written cause (work.to_write.1 tells) judged)
   always_by laws cause (refused other input passes asks verdict closed) tells judged still = inl (closed.status_is ∙ ap cause_status (one_cause laws t.file command other cause (verdict tells) judged))
   always_by laws cause (unread other is rose asks breaks closed) tells judged still = absurd (still rose)
@@ -144,12 +144,12 @@ module _ (command : Command) (t t' : TrayState) (r r' : RackState) (status : ℕ
   status_by (no_memory calm closed) = inr (omega (arith, closed.status_is), omega (arith, closed.status_is))
 
   -- the names handed to `create`, after the line was told
-  created_by : (result : Result (Unit {0}) Cause) (between : RackState) → CarriesOut command t t' r between result → Closes result between r' status → AsksFront r.asked r'.asked (written_names command)
-  created_by (Ok nothing) between carried closed = subst (λ (s : RackState). AsksFront r.asked s.asked (written_names command)) (sym closed.0) carried.created
-  created_by (Err cause) between carried closed = subst (λ (names : Option (List (List ℕ))). AsksFront r.asked names (written_names command)) (sym closed.files.asked) carried.created
+  created_by : (result : Result (Unit {0}) TrapsetError) (between : RackState) → CarriesOut command t t' r between result → Closes result between r' status → AsksPrefix r.asked r'.asked (written_names command)
+  created_by (Ok nothing) between carried closed = subst (λ (s : RackState). AsksPrefix r.asked s.asked (written_names command)) (sym closed.0) carried.created
+  created_by (Err cause) between carried closed = subst (λ (names : Option (List (List ℕ))). AsksPrefix r.asked names (written_names command)) (sym closed.files.asked) carried.created
 
 -- a cause of status 8 is one of the set
-of_set : (cause : Cause) → cause_status cause ≡ 8 → IsOfSet cause
+of_set : (cause : TrapsetError) → cause_status cause ≡ 8 → IsOfSet cause
 of_set (causes.BadLine n) is = inl (n, refl)
 of_set causes.Differs is = inr refl
 of_set causes.NoCommand is = absurd (omega arith)
@@ -219,7 +219,7 @@ module _ (words : List (List ℕ)) (t t' : TrayState) (r r' : RackState) (status
   }
 
   -- a command that ends with status 8 is one of `apply`
-  set_by : (command : Command) → Mean words command → Ending command t t' r r' status → status ≡ 8 → (apply : ApplyWords) × Mean words (Apply apply) × ((cause : Cause) × IsOfSet cause × RefusesInput (Apply apply) t t' r r' status cause)
+  set_by : (command : Command) → Mean words command → Ending command t t' r r' status → status ≡ 8 → (apply : ApplyWords) × Mean words (Apply apply) × ((cause : TrapsetError) × IsOfSet cause × RefusesInput (Apply apply) t t' r r' status cause)
   set_by (Apply apply) means ended s =
       let by = refused_by (Apply apply) t t' r r' status ended (inr (inr s)) in
       (apply, means, (by.0, of_set by.0 (sym by.1.status_is ∙ s), by.1))
@@ -230,7 +230,7 @@ module _ (words : List (List ℕ)) (t t' : TrayState) (r r' : RackState) (status
   set_by (Traps traps) means (unwritten cause is so broke line) s = absurd (omega arith)
   set_by (Traps traps) means (no_memory calm closed) s = absurd (omega (arith, closed.status_is))
 
-  set_of : Ends words t t' r r' status → status ≡ 8 → (apply : ApplyWords) × Mean words (Apply apply) × ((cause : Cause) × IsOfSet cause × RefusesInput (Apply apply) t t' r r' status cause)
+  set_of : Ends words t t' r r' status → status ≡ 8 → (apply : ApplyWords) × Mean words (Apply apply) × ((cause : TrapsetError) × IsOfSet cause × RefusesInput (Apply apply) t t' r r' status cause)
   set_of (Ends.no_command none same refuses) s = absurd (omega (arith, refuses.status_is))
   set_of (Ends.command command also ended) s = set_by command also (ending command t t' r r' status ended) s
 
@@ -270,7 +270,7 @@ module _ (words : List (List ℕ)) (t t' : TrayState) (r r' : RackState) (status
         created_by command t t' r r' status ends.result ends.between ends.carried ends.closed);
   }
 
-  closed_of : Ends words t t' r r' status → status ≢ 0 → status ≢ 6 → (cause : Cause) × RefusesCause cause r r' status
+  closed_of : Ends words t t' r r' status → status ≢ 0 → status ≢ 6 → (cause : TrapsetError) × RefusesCause cause r r' status
   closed_of (Ends.no_command none same refuses) some other = (causes.NoCommand, refuses)
   closed_of (Ends.command command also ended) some other = closed_by command t t' r r' status (ending command t t' r r' status ended) some other
 

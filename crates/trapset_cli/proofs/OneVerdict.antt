@@ -12,13 +12,13 @@ use Rattle.pgm_plates.specs.declared.plate.PlateFault.{PlateFault}
 use Rattle.pgm_plates.specs.Faults.{IsFault}
 use Rattle.pgm_plates.specs.Planes.{plane_of}
 use Rattle.pgm_plates.specs.Plates.{IsPlateFile}
-use Rattle.trapset_cli.specs.declared.cause.Cause.{Cause}
-use Rattle.trapset_cli.specs.declared.cause.Cause.TheVariants as causes
+use Rattle.trapset_cli.specs.declared.cause.TrapsetError.{TrapsetError}
+use Rattle.trapset_cli.specs.declared.cause.TrapsetError.TheVariants as causes
 use Rattle.trapset_cli.specs.Commands.{inputs_of, sources_of}
 use Rattle.trapset_cli.specs.Verdicts.{ArePlanes, Gives, HasBadLine, IsApply, IsTraps, IsVerdict, OnPlanes, PlateRefused, Refused, Out, no_files}
 use Rattle.trapset_cli.specs.Words.{TrapsWords, ApplyWords, Command, Traps, Apply}
-use Rattle.trap_report.specs.declared.refusal.Refusal.{Refusal}
-use Rattle.trap_report.specs.declared.refusal.Refusal.TheVariants as refusals
+use Rattle.refusals.specs.declared.refusal.Refusal.{Refusal}
+use Rattle.refusals.specs.declared.refusal.Refusal.TheVariants as refusals
 use Rattle.trap_set.specs.Applying.{Differ, Fits}
 use Rattle.trap_set.specs.Lines.{BeginsSome, IsBadLine, lines_of}
 use Rattle.trap_set.specs.Runs.{Run}
@@ -93,7 +93,7 @@ module _ (laws : PlateLaws one_page) (files : List ℕ → Option (List ℕ)) wh
     | inr more ↦ elim (cases_lt k j) [ inl less ↦ absurd (read_or_fault names k j a.plates g less a.before b.broken) | inr other ↦ omega arith ]
   ]
 
-  one_plate_fault : (names : List (List ℕ)) (j k : ℕ) (f g : PlateFault) → PlateRefused files names j f → PlateRefused files names k g → ◌≡◌ {A = Cause} (causes.Page (refusals.Plate j f)) (causes.Page (refusals.Plate k g))
+  one_plate_fault : (names : List (List ℕ)) (j k : ℕ) (f g : PlateFault) → PlateRefused files names j f → PlateRefused files names k g → ◌≡◌ {A = TrapsetError} (causes.Page (refusals.Plate j f)) (causes.Page (refusals.Plate k g))
   one_plate_fault names j k f g a b =
       let place : j ≡ k = same_place names j k f g a b in
       let there = subst (λ (n : ℕ). Holds files (name_at names n) (λ bytes. IsFault bytes f)) place a.broken in
@@ -113,12 +113,12 @@ module _ (laws : PlateLaws one_page) (files : List ℕ → Option (List ℕ)) wh
     read_or_refused F k fault on refused = read_or_fault (inputs_of words) k (length (inputs_of words)) on.read.plates fault refused.known on.read.read refused.broken
 
     -- a cause is a plate's fault, a bad line, or a set for other planes
-    data View (cause : Cause) : Type 0 where
+    data View (cause : TrapsetError) : Type 0 where
       of_plate : (k : ℕ) (fault : PlateFault) → cause ≡ causes.Page (refusals.Plate k fault) → PlateRefused files (inputs_of words) k fault → View cause
       of_line : (n : ℕ) → cause ≡ causes.BadLine n → OnPlanes files words (HasBadLine n) → View cause
       of_others : cause ≡ causes.Differs → OnPlanes files words Differ → View cause
 
-    view : (cause : Cause) → IsApply files words (Refused cause) → View cause
+    view : (cause : TrapsetError) → IsApply files words (Refused cause) → View cause
     view (causes.Page (refusals.Plate k fault)) is = of_plate k fault refl is
     view (causes.BadLine n) is = of_line n refl is
     view causes.Differs is = of_others refl is
@@ -144,7 +144,7 @@ module _ (laws : PlateLaws one_page) (files : List ℕ → Option (List ℕ)) wh
     line_or_others : (n : ℕ) → OnPlanes files words (HasBadLine n) → OnPlanes files words Differ → ⊥
     line_or_others n a b = (let both = both_on (HasBadLine n) Differ a b in both.2.same both.3)
 
-    same_cause : (one two : Cause) → View one → View two → one ≡ two
+    same_cause : (one two : TrapsetError) → View one → View two → one ≡ two
     same_cause one two (of_plate j f is a) (of_plate k g also b) = is ∙ one_plate_fault (inputs_of words) j k f g a b ∙ sym also
     same_cause one two (of_plate j f is a) (of_line n also b) = absurd (read_or_refused (HasBadLine n) j f b a)
     same_cause one two (of_plate j f is a) (of_others also b) = absurd (read_or_refused Differ j f b a)
@@ -155,14 +155,14 @@ module _ (laws : PlateLaws one_page) (files : List ℕ → Option (List ℕ)) wh
     same_cause one two (of_others is a) (of_line n also b) = absurd (line_or_others n b a)
     same_cause one two (of_others is a) (of_others also b) = is ∙ sym also
 
-    given_or_refused : (new : List Plane) (cause : Cause) → OnPlanes files words (Gives new) → View cause → ⊥
+    given_or_refused : (new : List Plane) (cause : TrapsetError) → OnPlanes files words (Gives new) → View cause → ⊥
     given_or_refused new cause on (of_plate k fault is a) = read_or_refused (Gives new) k fault on a
     given_or_refused new cause on (of_line n is a) = (let both = both_on (Gives new) (HasBadLine n) on a in both.3.bad.no_set both.2.head both.2.runs both.2.is_file)
     given_or_refused new cause on (of_others is a) = (let both = both_on (Gives new) Differ on a in fits_or_differs both.0 both.2.head both.2.runs both.1 both.2.is_file both.2.fits both.3)
 
   module _ (words : TrapsWords) where
     -- a cause is a refusal of the page
-    page_of : (cause : Cause) → IsTraps files words (Refused cause) → (refusal : Refusal) × (cause ≡ causes.Page refusal) × IsPageVerdict one_page files (sources_of words) no_files (page_refused refusal)
+    page_of : (cause : TrapsetError) → IsTraps files words (Refused cause) → (refusal : Refusal) × (cause ≡ causes.Page refusal) × IsPageVerdict one_page files (sources_of words) no_files (page_refused refusal)
     page_of (causes.Page refusal) is = (refusal, refl, is)
     page_of causes.NoCommand is = absurd is
     page_of causes.SetUnread is = absurd is
@@ -170,7 +170,7 @@ module _ (laws : PlateLaws one_page) (files : List ℕ → Option (List ℕ)) wh
     page_of (causes.BadLine n) is = absurd is
     page_of causes.Differs is = absurd is
 
-    same_page_cause : (one two : Cause) → IsTraps files words (Refused one) → IsTraps files words (Refused two) → one ≡ two
+    same_page_cause : (one two : TrapsetError) → IsTraps files words (Refused one) → IsTraps files words (Refused two) → one ≡ two
     same_page_cause one two a b =
         let x = page_of one a in
         let y = page_of two b in
@@ -178,18 +178,18 @@ module _ (laws : PlateLaws one_page) (files : List ℕ → Option (List ℕ)) wh
         let refusals_same : x.0 ≡ y.0 = cc in
         x.1 ∙ ap (λ (r : Refusal). causes.Page r) refusals_same ∙ sym y.1
 
-    made_or_refused : (page : PageParts) (cause : Cause) → Makes one_page files (sources_of words) (Ok page) → IsTraps files words (Refused cause) → ⊥
+    made_or_refused : (page : PageParts) (cause : TrapsetError) → Makes one_page files (sources_of words) (Ok page) → IsTraps files words (Refused cause) → ⊥
     made_or_refused page cause made is =
         let x = page_of cause is in
         let same : ◌≡◌ {A = PageVerdict} (page_out (outcome no_files page)) (page_refused x.0) = one_verdict one_page laws files (sources_of words) no_files (page_out (outcome no_files page)) (page_refused x.0) (page, made, refl) x.2 in
         absurd cc
 
   -- where files are to be written, the input is not refused
-  pub out_or_refused : (command : Command) (written : List Written) (cause : Cause) → IsVerdict files command (Out written) → IsVerdict files command (Refused cause) → ⊥
+  pub out_or_refused : (command : Command) (written : List Written) (cause : TrapsetError) → IsVerdict files command (Out written) → IsVerdict files command (Refused cause) → ⊥
   out_or_refused (Traps words) written cause out is = made_or_refused words out.0 cause out.1 is
   out_or_refused (Apply words) written cause out is = given_or_refused words out.0 cause out.1 (view words cause is)
 
   -- the input is refused for one cause
-  pub one_cause : (command : Command) (one two : Cause) → IsVerdict files command (Refused one) → IsVerdict files command (Refused two) → one ≡ two
+  pub one_cause : (command : Command) (one two : TrapsetError) → IsVerdict files command (Refused one) → IsVerdict files command (Refused two) → one ≡ two
   one_cause (Traps words) one two a b = same_page_cause words one two a b
   one_cause (Apply words) one two a b = same_cause words one two (view words one a) (view words two b)

@@ -12,22 +12,11 @@ use Rattle.page_model.specs.Tints.{trapped_plane, trapped_planes}
 use Rattle.pgm_plates.specs.declared.plate.Plate.{Plate}
 use Rattle.pgm_plates.specs.Planes.{plane_of}
 use Rattle.pgm_plates.specs.Plates.{IsPlate}
+use Rattle.page_gather.proofs.AssemblyLemmas.{plane_ok}
 use Rattle.plane_shapes.specs.Shapes.{AreOneShape}
 use Rattle.trapset_cli.specs.Putting.{AreInRange, IsSmall}
 use Rattle.trap_set.specs.Applying.{IsBelow, IsFull, KeepsPlane, KeepsPlanes}
 use Rattle.trap_set.specs.Runs.{ArePair}
-
-plane_ok : (plate : Plate) → IsPlate plate → IsPlane (plane_of plate)
-plane_ok plate is = record {
-  some_width = is.width.0;
-  narrow = is.width.1;
-  some_height = is.height.0;
-  low = is.height.1;
-  some_maxval = is.positive;
-  maxval_fits = is.maxval;
-  full = length-map plate.samples (λ s. plate.maxval - s) ∙ is.count;
-  below = All-map (λ t. t ≤ plate.maxval) (λ s. plate.maxval - s) plate.samples (λ k d within. omega arith);
-}
 
 -- the planes of plates
 pub read_in_range : (plates : List Plate) → All IsPlate plates → AreInRange (map plane_of plates) (length plates)

@@ -1,6 +1,6 @@
 -- How `traps` ends, from how its page is read and its set written.
 use Rattle.std.proofs.Common.{◌≡◌, ℕ, List, [], ◌∷◌, Some, None, Result, Ok, Err, inl, inr, refl, sym, ap, ◌∙◌, subst, arith}
-use Rattle.outside.specs.Causes.{AsksFront}
+use Rattle.outside.specs.Causes.{AsksPrefix}
 use Rattle.outside.specs.Tray.{TrayState}
 use Rattle.outside.specs.Rack.{RackState, KeepsRack}
 use Rattle.outside.specs.Writing.{WritesFile}
@@ -15,22 +15,22 @@ use Rattle.page_model.specs.Conditions.{IsPage}
 use Rattle.page_model.specs.Tints.{trapped_planes}
 use Rattle.page_writing.specs.Writing.{BreaksAt, WritesAll}
 use Rattle.page_writing.proofs.Steps.{breaks_next, wrote_more, wrote_none}
-use Rattle.trapset_cli.specs.declared.cause.Cause.{Cause}
-use Rattle.trapset_cli.specs.declared.cause.Cause.TheVariants as causes
+use Rattle.trapset_cli.specs.declared.cause.TrapsetError.{TrapsetError}
+use Rattle.trapset_cli.specs.declared.cause.TrapsetError.TheVariants as causes
 use Rattle.trapset_cli.specs.Commands.{read_names, sources_of, written_names}
 use Rattle.trapset_cli.specs.Endings.{Answers, CarriesOut, HasInHand, NotRead}
 use Rattle.trapset_cli.specs.Putting.{AnswersPut, PutsSet}
 use Rattle.trapset_cli.specs.Verdicts.{set_files}
 use Rattle.trapset_cli.specs.Words.{TrapsWords, Command, Traps}
-use Rattle.trap_report.specs.declared.refusal.Refusal.{Refusal}
-use Rattle.trap_report.specs.declared.refusal.Refusal.TheVariants as refusals
+use Rattle.refusals.specs.declared.refusal.Refusal.{Refusal}
+use Rattle.refusals.specs.declared.refusal.Refusal.TheVariants as refusals
 use Rattle.trap_set.specs.SetText.{set_text}
 
 pub unchanged : (a : RackState) → KeepsRack a a
 unchanged a = record { tells = refl; faults = omega arith }
 
 -- Nothing is written, since not all was read.
-pub nothing_written : (command : Command) (a b : TrayState) (r : RackState) (cause : Cause) → AsksFront a.asked b.asked (read_names command) → HasInHand command a b → NotRead command a b cause → CarriesOut command a b r r (Err cause)
+pub nothing_written : (command : Command) (a b : TrayState) (r : RackState) (cause : TrapsetError) → AsksPrefix a.asked b.asked (read_names command) → HasInHand command a b → NotRead command a b cause → CarriesOut command a b r r (Err cause)
 nothing_written command a b r cause asked in_hand not_read = record {
   asked = asked;
   in_hand = in_hand;
@@ -103,7 +103,7 @@ page_unread words a b r refusal (inl none) =
 page_unread words a b r refusal (inr reads) = nothing_written (Traps words) a b r (causes.Page refusal) reads.asked (inr reads.in_hand) (not_gathered words a b refusal reads.answer reads.count)
 
 module _ (words : TrapsWords) (page : PageParts) (a b : TrayState) (r r' : RackState) (reads : Gathers (sources_of words) a b (Ok page)) (valid : IsPage page) where
-  put_answer : (result : Result (Unit {0}) Cause) → AnswersPut words.set page r r' result → Answers (Traps words) a b r r' result
+  put_answer : (result : Result (Unit {0}) TrapsetError) → AnswersPut words.set page r r' result → Answers (Traps words) a b r r' result
   put_answer (Ok nothing) answer = record {
     calm = reads.count;
     begun = reads.answer.1;
@@ -140,7 +140,7 @@ module _ (words : TrapsWords) (page : PageParts) (a b : TrayState) (r r' : RackS
   put_answer (Err causes.Differs) answer = absurd answer
 
 -- A page that was read is trapped, and its set written.
-pub page_put : (words : TrapsWords) (page : PageParts) (a b : TrayState) (r r' : RackState) (result : Result (Unit {0}) Cause) → ReadsPage (sources_of words) a b (Ok page) → PutsSet words.set page r r' result → CarriesOut (Traps words) a b r r' result
+pub page_put : (words : TrapsWords) (page : PageParts) (a b : TrayState) (r r' : RackState) (result : Result (Unit {0}) TrapsetError) → ReadsPage (sources_of words) a b (Ok page) → PutsSet words.set page r r' result → CarriesOut (Traps words) a b r r' result
 page_put words page a b r r' result read puts =
     let reads = gathered (sources_of words) a b page read in
     record {

@@ -1,21 +1,21 @@
 -- What the top call promises, clause by clause, of the words and of what stands before and, primed,
 -- after the call.
 use Rattle.std.specs.Prelude.{◌≡◌, ◌≢◌, ◌⊎◌, ℕ, ◌≤◌, IsTrue, IsFalse, List, Some, None}
-use Rattle.outside.specs.Causes.{Rose, Asks, AsksFront}
+use Rattle.outside.specs.Causes.{Rose, Asks, AsksPrefix}
 use Rattle.outside.specs.Tray.{TrayState}
 use Rattle.outside.specs.Rack.{RackState}
 use Rattle.page_writing.specs.Files.{Written, put_all}
 use Rattle.page_writing.specs.Writing.{BreaksAt, FinishesAll}
-use Rattle.trapset_cli.specs.declared.cause.Cause.{Cause}
-use Rattle.trapset_cli.specs.declared.cause.Cause.TheVariants.{NoCommand, BadLine, Differs}
+use Rattle.trapset_cli.specs.declared.cause.TrapsetError.{TrapsetError}
+use Rattle.trapset_cli.specs.declared.cause.TrapsetError.TheVariants.{NoCommand, BadLine, Differs}
 use Rattle.trapset_cli.specs.Causes.{cause_line, cause_status}
 use Rattle.trapset_cli.specs.Commands.{read_names, written_names}
 use Rattle.trapset_cli.specs.Endings.{Breaks, HasInHand, IsToWrite, IsUnwritten, Passes, names_to}
 use Rattle.trapset_cli.specs.Verdicts.{IsVerdict, Refused, Out}
 use Rattle.trapset_cli.specs.Words.{ApplyWords, Command, Apply, command_of}
-use Rattle.trap_report.specs.Statuses.{done, usage, job_refused, page_refused, not_read}
-use Rattle.trap_report.specs.Statuses.{not_written, out_of_memory, set_refused}
-use Rattle.trap_report.specs.Telling.{TellsText, TellsAfterFault}
+use Rattle.refusals.specs.Statuses.{done, usage, job_refused, page_refused, not_read}
+use Rattle.refusals.specs.Statuses.{not_written, out_of_memory, set_refused}
+use Rattle.refusals.specs.Telling.{TellsText, TellsAfterFault}
 
 -- The words mean this command.
 abbrev pub Mean : List (List ℕ) → Command → Type 0
@@ -54,7 +54,7 @@ pub record Usage (words : List (List ℕ)) (tray tray' : TrayState) (rack rack' 
 -- handed to `begin`, none after that of the file that is refused, the line, and that no fault of
 -- the tray was passed over.
 pub record RefusesInput (command : Command) (tray tray' : TrayState) (rack rack' : RackState)
-    (status : ℕ) (cause : Cause) : Type 0 where
+    (status : ℕ) (cause : TrapsetError) : Type 0 where
   pub status_is : status ≡ cause_status cause
   pub verdict : IsTrue tray.tells → IsVerdict tray.file command (Refused cause)
   pub begun : Asks tray.asked tray'.asked (names_to command cause)
@@ -67,21 +67,21 @@ pub record RefusesInput (command : Command) (tray tray' : TrayState) (rack rack'
 pub record RefusedInput (words : List (List ℕ)) (tray tray' : TrayState) (rack rack' : RackState)
     (status : ℕ) : Type 0 where
   pub only : (command : Command) → Mean words command → (status ≡ job_refused)
-      ⊎ (status ≡ page_refused) → (cause : Cause)
+      ⊎ (status ≡ page_refused) → (cause : TrapsetError)
       × RefusesInput command tray tray' rack rack' status cause
-  pub always : (command : Command) (cause : Cause) → Mean words command → IsTrue tray.tells
+  pub always : (command : Command) (cause : TrapsetError) → Mean words command → IsTrue tray.tells
       → IsVerdict tray.file command (Refused cause) → ¬ Rose tray.faults tray'.faults
       → (status ≡ cause_status cause) ⊎ (status ≡ out_of_memory)
 
 -- a bad line of the set, or a set for other plates
-abbrev pub IsOfSet : Cause → Type 0
+abbrev pub IsOfSet : TrapsetError → Type 0
 IsOfSet cause = ((n : ℕ) × (cause ≡ BadLine n)) ⊎ (cause ≡ Differs)
 
 -- Status 8 comes only of `apply`, and only where all plates are read and the set has that bad line,
 -- or is for other plates.
 abbrev pub SetFault : List (List ℕ) → TrayState → TrayState → RackState → RackState → ℕ → Type 0
 SetFault words tray tray' rack rack' status = status ≡ set_refused → (apply : ApplyWords)
-    × Mean words (Apply apply) × ((cause : Cause) × IsOfSet cause
+    × Mean words (Apply apply) × ((cause : TrapsetError) × IsOfSet cause
     × RefusesInput (Apply apply) tray tray' rack rack' status cause)
 
 -- Status 5 comes only where the tray's count rose. The names handed to `begin` end with the one
@@ -91,11 +91,11 @@ SetFault words tray tray' rack rack' status = status ≡ set_refused → (apply 
 pub record ReadFault (words : List (List ℕ)) (tray tray' : TrayState) (rack rack' : RackState)
     (status : ℕ) : Type 0 where
   pub cause : status ≡ not_read → Rose tray.faults tray'.faults
-  pub breaks : (command : Command) → Mean words command → status ≡ not_read → (cause : Cause)
+  pub breaks : (command : Command) → Mean words command → status ≡ not_read → (cause : TrapsetError)
       × (status ≡ cause_status cause) × Asks tray.asked tray'.asked (names_to command cause)
       × Breaks command cause tray tray' × TellsText (cause_line cause) rack rack'
   pub asked : (command : Command) → Mean words command
-      → AsksFront tray.asked tray'.asked (read_names command)
+      → AsksPrefix tray.asked tray'.asked (read_names command)
   pub in_hand : (command : Command) → Mean words command → HasInHand command tray tray'
   pub calm : (status ≡ not_written) ⊎ (status ≡ out_of_memory) → tray'.faults ≡ tray.faults
 
@@ -109,12 +109,13 @@ pub record WriteFault (words : List (List ℕ)) (tray tray' : TrayState) (rack r
   pub cause : status ≡ not_written → Rose rack.faults rack'.faults
   pub begun : (command : Command) → Mean words command → status ≡ not_written
       → Asks tray.asked tray'.asked (read_names command)
-  pub breaks : (command : Command) → Mean words command → status ≡ not_written → (cause : Cause)
+  pub breaks : (command : Command) → Mean words command → status ≡ not_written
+      → (cause : TrapsetError)
       × ((written : List Written) × (place : ℕ) × IsToWrite command tray written
       × IsUnwritten command cause place × BreaksAt written place rack rack')
       × TellsAfterFault (cause_line cause) rack rack'
   pub asked : (command : Command) → Mean words command
-      → AsksFront rack.asked rack'.asked (written_names command)
+      → AsksPrefix rack.asked rack'.asked (written_names command)
 
 -- For every status but 0 and 6 no file is created, and the rack's files are as before. Status 7 is
 -- out of memory.
@@ -125,7 +126,7 @@ LeavesFiles rack rack' status = status ≢ done → status ≢ not_written → (
 -- Every status but 0 tells the line of a cause and nothing else; that of a failed write is the line
 -- of `write_fault`.
 abbrev pub FaultLine : RackState → RackState → ℕ → Type 0
-FaultLine rack rack' status = status ≢ done → status ≢ not_written → (cause : Cause)
+FaultLine rack rack' status = status ≢ done → status ≢ not_written → (cause : TrapsetError)
     × (status ≡ cause_status cause) × TellsText (cause_line cause) rack rack'
 
 -- Where the verdict is a list of files and no count rose, the status is 0 or 7. Every status is 0

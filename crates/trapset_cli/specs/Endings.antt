@@ -1,7 +1,7 @@
 -- How the steps of a command end.
 use Rattle.std.specs.Prelude.{◌≡◌, ◌⊎◌, ℕ, ◌+◌, ◌<◌, IsTrue, List, length, take, All, Some, None}
 use Rattle.std.specs.Prelude.{Result, Ok, Err}
-use Rattle.outside.specs.Causes.{Rose, RoseOnce, Asks, AsksFront}
+use Rattle.outside.specs.Causes.{Rose, RoseOnce, Asks, AsksPrefix}
 use Rattle.outside.specs.Tray.{TrayState}
 use Rattle.outside.specs.Rack.{RackState, KeepsRack}
 use Rattle.page_gather.specs.Gathering.{BreaksReading, InHand, files_to}
@@ -13,15 +13,15 @@ use Rattle.page_model.specs.Conditions.{IsPage, IsPlane}
 use Rattle.page_writing.specs.Files.{Written, plate_files}
 use Rattle.page_writing.specs.Writing.{FinishesAll, WritesAll, BreaksAt}
 use Rattle.pgm_plates.specs.declared.plate.Plate.{Plate as PlateRead}
-use Rattle.trapset_cli.specs.declared.cause.Cause.{Cause}
-use Rattle.trapset_cli.specs.declared.cause.Cause.TheVariants.{NoCommand, Page, SetUnread}
-use Rattle.trapset_cli.specs.declared.cause.Cause.TheVariants.{SetUnwritten}
+use Rattle.trapset_cli.specs.declared.cause.TrapsetError.{TrapsetError}
+use Rattle.trapset_cli.specs.declared.cause.TrapsetError.TheVariants.{NoCommand, Page, SetUnread}
+use Rattle.trapset_cli.specs.declared.cause.TrapsetError.TheVariants.{SetUnwritten}
 use Rattle.trapset_cli.specs.Causes.{RefusesCause, cause_status}
 use Rattle.trapset_cli.specs.Commands.{inputs_of, read_names, sources_of, written_names}
 use Rattle.trapset_cli.specs.Verdicts.{ArePlanes, IsVerdict, Refused, Out, set_files}
 use Rattle.trapset_cli.specs.Words.{ApplyWords, Command, Traps, Apply, command_of, outputs_of}
-use Rattle.trap_report.specs.declared.refusal.Refusal.TheVariants.{Plate, Read, Write, Memory}
-use Rattle.trap_report.specs.Statuses.{done, job_refused, page_refused, not_read, set_refused}
+use Rattle.refusals.specs.declared.refusal.Refusal.TheVariants.{Plate, Read, Write, Memory}
+use Rattle.refusals.specs.Statuses.{done, job_refused, page_refused, not_read, set_refused}
 use Rattle.trap_set.specs.Applying.{BreaksOff, EndsWith}
 
 -- What a command may write, whatever its files: of `traps` the set of a page, of `apply` planes in
@@ -39,7 +39,7 @@ IsToWrite command tray written = MayWrite command written
     × (IsTrue tray.tells → IsVerdict tray.file command (Out written))
 
 -- the files that are begun where that cause comes: none comes after the one that is refused
-abbrev pub names_to : Command → Cause → List (List ℕ)
+abbrev pub names_to : Command → TrapsetError → List (List ℕ)
 names_to (Traps words) (Page refusal) = files_to (sources_of words) refusal
 names_to (Apply words) (Page (Plate plate fault)) = take (plate + 1) (inputs_of words)
 names_to (Apply words) (Page (Read (Some plate))) = take (plate + 1) (inputs_of words)
@@ -62,7 +62,7 @@ pub record SetBreaks (words : ApplyWords) (before after : TrayState) : Type 0 wh
       × (before.file words.set ≡ Some bytes) × BreaksOff bytes after planes new
 
 -- What was read before the read that failed.
-abbrev pub Breaks : Command → Cause → TrayState → TrayState → Type 0
+abbrev pub Breaks : Command → TrapsetError → TrayState → TrayState → Type 0
 Breaks (Traps words) (Page (Read file)) before after =
     BreaksReading (sources_of words) file before after
 Breaks (Apply words) (Page (Read (Some plate))) before after = PlateBreaks words plate before after
@@ -70,14 +70,14 @@ Breaks (Apply words) SetUnread before after = SetBreaks words before after
 Breaks command other before after = ⊥
 
 -- the input is refused: of `traps` the job, a plate or the page, of `apply` a plate or the set
-abbrev pub IsOfInput : Command → Cause → Type 0
+abbrev pub IsOfInput : Command → TrapsetError → Type 0
 IsOfInput (Traps words) cause = (cause_status cause ≡ job_refused)
     ⊎ (cause_status cause ≡ page_refused)
 IsOfInput (Apply words) cause = (cause_status cause ≡ page_refused)
     ⊎ (cause_status cause ≡ set_refused)
 
 -- No fault of the tray is passed over where the input is refused.
-abbrev pub Passes : Cause → TrayState → TrayState → Type 0
+abbrev pub Passes : TrapsetError → TrayState → TrayState → Type 0
 Passes (Page refusal) before after = PassesNoFault {T = Unit {0}} before after (Err refusal)
 Passes other before after = after.faults ≡ before.faults
 
@@ -96,7 +96,8 @@ HasInHand (Apply words) before after = (after ≡ before) ⊎ PlateInHand (input
     ⊎ SetInHand words before after
 
 -- Why there is nothing to write: the input is refused, a read failed, or there was no memory.
-pub data NotRead (command : Command) (before after : TrayState) (cause : Cause) : Type 0 where
+pub data NotRead (command : Command) (before after : TrayState)
+    (cause : TrapsetError) : Type 0 where
   refused : IsOfInput command cause → Passes cause before after
       → Asks before.asked after.asked (names_to command cause)
       → (IsTrue before.tells → IsVerdict before.file command (Refused cause))
@@ -108,13 +109,13 @@ pub data NotRead (command : Command) (before after : TrayState) (cause : Cause) 
       → NotRead command before after cause
 
 -- the file of that number was not written
-abbrev pub IsUnwritten : Command → Cause → ℕ → Type 0
+abbrev pub IsUnwritten : Command → TrapsetError → ℕ → Type 0
 IsUnwritten (Traps words) cause place = (cause ≡ SetUnwritten) × (place ≡ 0)
 IsUnwritten (Apply words) cause place = cause ≡ Page (Write (Some place))
 
 -- All is read, and one of the files breaks.
 pub record NotWritten (command : Command) (tray tray' : TrayState) (rack rack' : RackState)
-    (cause : Cause) : Type 0 where
+    (cause : TrapsetError) : Type 0 where
   pub calm : tray'.faults ≡ tray.faults
   pub begun : Asks tray.asked tray'.asked (read_names command)
   pub written : List Written
@@ -137,7 +138,7 @@ pub record IsDone (command : Command) (tray tray' : TrayState)
 
 -- What the answer says. A failed write is one failed call.
 abbrev pub Answers : Command → TrayState → TrayState → RackState → RackState
-    → Result (Unit {0}) Cause → Type 0
+    → Result (Unit {0}) TrapsetError → Type 0
 Answers command tray tray' rack rack' (Ok nothing) = IsDone command tray tray' rack rack'
 Answers command tray tray' rack rack' (Err cause) =
     (NotRead command tray tray' cause × (rack' ≡ rack))
@@ -145,23 +146,23 @@ Answers command tray tray' rack rack' (Err cause) =
 
 -- A command is carried out: all is read, and only then written. Nothing is told.
 pub record CarriesOut (command : Command) (tray tray' : TrayState) (rack rack' : RackState)
-    (result : Result (Unit {0}) Cause) : Type 0 where
-  pub asked : AsksFront tray.asked tray'.asked (read_names command)
+    (result : Result (Unit {0}) TrapsetError) : Type 0 where
+  pub asked : AsksPrefix tray.asked tray'.asked (read_names command)
   pub in_hand : HasInHand command tray tray'
   pub rack_keeps : KeepsRack rack rack'
   pub told : IsTrue rack.tells → rack'.told ≡ rack.told
-  pub created : AsksFront rack.asked rack'.asked (written_names command)
+  pub created : AsksPrefix rack.asked rack'.asked (written_names command)
   pub answer : Answers command tray tray' rack rack' result
 
 -- the status, and the line where there is a cause
-abbrev pub Closes : Result (Unit {0}) Cause → RackState → RackState → ℕ → Type 0
+abbrev pub Closes : Result (Unit {0}) TrapsetError → RackState → RackState → ℕ → Type 0
 Closes (Ok nothing) before after status = (after ≡ before) × (status ≡ done)
 Closes (Err cause) before after status = RefusesCause cause before after status
 
 -- A command is carried out and closed.
 pub record EndsCommand (command : Command) (tray tray' : TrayState) (rack rack' : RackState)
     (status : ℕ) : Type 0 where
-  pub result : Result (Unit {0}) Cause
+  pub result : Result (Unit {0}) TrapsetError
   pub between : RackState
   pub carried : CarriesOut command tray tray' rack between result
   pub closed : Closes result between rack' status

@@ -1,7 +1,7 @@
 -- The steps of `traps` and of `apply`.
 use Rattle.std.specs.Prelude.{◌≡◌, ℕ, ◌*◌, ◌<◌, ◌≤◌, IsTrue, List, [], ◌∷◌, length, All, Result, Ok}
 use Rattle.std.specs.Prelude.{Err}
-use Rattle.outside.specs.Causes.{Asks, AsksFront, RoseOnce}
+use Rattle.outside.specs.Causes.{Asks, AsksPrefix, RoseOnce}
 use Rattle.outside.specs.Tray.{TrayState, KeepsTray}
 use Rattle.outside.specs.Rack.{RackState, KeepsRack}
 use Rattle.page_gather.specs.Steps.{AnswersPlates, PassesNoFault, PlateInHand}
@@ -10,22 +10,22 @@ use Rattle.page_model.specs.declared.parts.Plane.{Plane}
 use Rattle.page_model.specs.Conditions.{IsPage, IsPlane}
 use Rattle.page_model.specs.Limits.{most_samples}
 use Rattle.page_writing.specs.Writing.{WritesAll, WritesPlates, BreaksAt}
-use Rattle.trapset_cli.specs.declared.cause.Cause.{Cause}
-use Rattle.trapset_cli.specs.declared.cause.Cause.TheVariants.{Page, SetUnread, SetUnwritten}
-use Rattle.trapset_cli.specs.declared.cause.Cause.TheVariants.{BadLine, Differs}
+use Rattle.trapset_cli.specs.declared.cause.TrapsetError.{TrapsetError}
+use Rattle.trapset_cli.specs.declared.cause.TrapsetError.TheVariants.{Page, SetUnread, SetUnwritten}
+use Rattle.trapset_cli.specs.declared.cause.TrapsetError.TheVariants.{BadLine, Differs}
 use Rattle.trapset_cli.specs.Commands.{inputs_of, read_names}
 use Rattle.trapset_cli.specs.Endings.{HasInHand, NotRead}
 use Rattle.trapset_cli.specs.Verdicts.{ArePlanes, Gives, OnPlanes, set_files}
 use Rattle.trapset_cli.specs.Words.{ApplyWords, Apply}
-use Rattle.trap_report.specs.declared.refusal.Refusal.{Refusal}
-use Rattle.trap_report.specs.declared.refusal.Refusal.TheVariants.{Memory}
+use Rattle.refusals.specs.declared.refusal.Refusal.{Refusal}
+use Rattle.refusals.specs.declared.refusal.Refusal.TheVariants.{Memory}
 use Rattle.trap_set.specs.Applying.{AppliesSet}
 use Rattle.trap_set.specs.declared.apply.SetRefusal.TheVariants.{BadLine as bad_line}
 use Rattle.trap_set.specs.declared.apply.SetRefusal.TheVariants.{Differs as differs}
 use Rattle.trap_set.specs.declared.apply.SetRefusal.TheVariants.{ReadFault as read_fault}
 
 -- What the answer says where a page is trapped and its set written.
-abbrev pub AnswersPut : List ℕ → PageParts → RackState → RackState → Result (Unit {0}) Cause
+abbrev pub AnswersPut : List ℕ → PageParts → RackState → RackState → Result (Unit {0}) TrapsetError
     → Type 0
 AnswersPut name page before after (Ok nothing) = WritesAll (set_files name page) before after
 AnswersPut name page before after (Err SetUnwritten) = BreaksAt (set_files name page) 0 before after
@@ -35,11 +35,11 @@ AnswersPut name page before after (Err other) = ⊥
 
 -- A page is trapped, and the set of what changed is written.
 pub record PutsSet (name : List ℕ) (page : PageParts) (before after : RackState)
-    (result : Result (Unit {0}) Cause) : Type 0 where
+    (result : Result (Unit {0}) TrapsetError) : Type 0 where
   pub valid : IsPage page
   pub keeps : KeepsRack before after
   pub told : IsTrue before.tells → after.told ≡ before.told
-  pub asked : AsksFront before.asked after.asked (name ∷ [])
+  pub asked : AsksPrefix before.asked after.asked (name ∷ [])
   pub answer : AnswersPut name page before after result
 
 -- a plane with no more samples than a page may have
@@ -68,7 +68,7 @@ pub record ReadsPlanes (names : List (List ℕ)) (before after : TrayState)
   pub answer : AnswersPlanes names before after result
 
 -- The set of that name is put onto the planes.
-abbrev pub Patches : List ℕ → List Plane → TrayState → TrayState → Result (List Plane) Cause
+abbrev pub Patches : List ℕ → List Plane → TrayState → TrayState → Result (List Plane) TrapsetError
     → Type 0
 Patches name old before after (Ok new) = AppliesSet {T = Unit {0}} name before after old new (Ok tt)
 Patches name old before after (Err (BadLine n)) = (new : List Plane)
@@ -80,7 +80,8 @@ Patches name old before after (Err SetUnread) = (new : List Plane)
 Patches name old before after (Err other) = ⊥
 
 -- What the answer says where the planes are to be written.
-abbrev pub AnswersPatch : ApplyWords → TrayState → TrayState → Result (List Plane) Cause → Type 0
+abbrev pub AnswersPatch : ApplyWords → TrayState → TrayState → Result (List Plane) TrapsetError
+    → Type 0
 AnswersPatch words before after (Ok new) = (after.faults ≡ before.faults)
     × Asks before.asked after.asked (read_names (Apply words))
     × AreInRange new (length (inputs_of words))
@@ -89,13 +90,14 @@ AnswersPatch words before after (Err cause) = NotRead (Apply words) before after
 
 -- The plates are read, and the set is put onto them.
 pub record PatchesPlanes (words : ApplyWords) (before after : TrayState)
-    (result : Result (List Plane) Cause) : Type 0 where
-  pub asked : AsksFront before.asked after.asked (read_names (Apply words))
+    (result : Result (List Plane) TrapsetError) : Type 0 where
+  pub asked : AsksPrefix before.asked after.asked (read_names (Apply words))
   pub in_hand : HasInHand (Apply words) before after
   pub answer : AnswersPatch words before after result
 
 -- The planes are written as plates.
-abbrev pub PutsPlates : List (List ℕ) → List Plane → RackState → RackState → Result (Unit {0}) Cause
+abbrev pub PutsPlates : List (List ℕ) → List Plane → RackState → RackState
+    → Result (Unit {0}) TrapsetError
     → Type 0
 PutsPlates outputs planes before after (Ok nothing) =
     WritesPlates {T = Unit {0}} outputs planes before after (Ok tt)

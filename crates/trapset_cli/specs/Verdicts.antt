@@ -9,11 +9,11 @@ use Rattle.pgm_plates.specs.declared.plate.Plate.{Plate as PlateRead}
 use Rattle.pgm_plates.specs.declared.plate.PlateFault.{PlateFault}
 use Rattle.pgm_plates.specs.Faults.{IsFault}
 use Rattle.pgm_plates.specs.Planes.{plane_of}
-use Rattle.trapset_cli.specs.declared.cause.Cause.{Cause}
-use Rattle.trapset_cli.specs.declared.cause.Cause.TheVariants.{Page, BadLine, Differs}
+use Rattle.trapset_cli.specs.declared.cause.TrapsetError.{TrapsetError}
+use Rattle.trapset_cli.specs.declared.cause.TrapsetError.TheVariants.{Page, BadLine, Differs}
 use Rattle.trapset_cli.specs.Commands.{inputs_of, sources_of}
 use Rattle.trapset_cli.specs.Words.{TrapsWords, ApplyWords, Command, Traps, Apply, outputs_of}
-use Rattle.trap_report.specs.declared.refusal.Refusal.TheVariants.{Plate}
+use Rattle.refusals.specs.declared.refusal.Refusal.TheVariants.{Plate}
 use Rattle.trap_set.specs.Applied.{applied}
 use Rattle.trap_set.specs.Applying.{Differ, Fits}
 use Rattle.trap_set.specs.Lines.{IsBadLine}
@@ -24,7 +24,7 @@ use Rattle.verdicts.specs.Verdicts.{Targets, IsVerdict as IsPageVerdict, Refused
 -- what is to come
 pub data Verdict : Type 0 where
   -- the job, a plate, the page or the set is refused
-  Refused : Cause → Verdict
+  Refused : TrapsetError → Verdict
   -- these files are to be written, in this order
   Out : List Written → Verdict
 

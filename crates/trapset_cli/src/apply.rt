@@ -5,16 +5,16 @@ ghost use Rattle.plain_words.specs.Inputs.{AreFew};
 ghost use Rattle.trapset_cli.specs.Held.{apply_in};
 ghost use Rattle.trapset_cli.specs.Words.{Apply as apply};
 
-use crate::cause::Cause;
+use crate::cause::TrapsetError;
 use crate::command::ApplyCommand;
-use crate::files::outputs_of;
 use crate::planes::patched_planes;
 use outside::rack::Rack;
 use outside::tray::Tray;
 use page_model::parts::PlaneList;
 use page_writing::writing::write_plates;
+use plain_words::files::copy_outputs;
+use refusals::refusal::Refusal;
 use std::alloc::Global;
-use trap_report::refusal::Refusal;
 
 // Carries out a command `apply`: reads the plates and then the set, and only then writes the plates. All memory that is
 // wanted is taken before the first file is created.
@@ -23,13 +23,13 @@ pub(crate) fn carry_out_apply<T: Tray, R: Rack>(
     command: &ApplyCommand<'_>,
     tray: &mut T,
     rack: &mut R,
-) -> Result<(), Cause>
+) -> Result<(), TrapsetError>
     requires { AreFew (length command.now.plates.now) }
     ensures { CarriesOut (apply (apply_in command.now)) (T.state tray.old) (T.state tray.new)
         (R.state rack.old) (R.state rack.new) result }
 {
-    let Ok(outputs) = outputs_of(alloc, command) else {
-        return Err(Cause::Page(Refusal::Memory));
+    let Ok(outputs) = copy_outputs(alloc, command.plates) else {
+        return Err(TrapsetError::Page(Refusal::Memory));
     };
     match patched_planes(alloc, command, tray) {
         Ok(planes) => put_plates(rack, outputs.as_slice(), planes),
@@ -37,7 +37,11 @@ pub(crate) fn carry_out_apply<T: Tray, R: Rack>(
     }
 }
 
-fn put_plates<R: Rack>(rack: &mut R, outputs: &[&str], planes: PlaneList) -> Result<(), Cause>
+fn put_plates<R: Rack>(
+    rack: &mut R,
+    outputs: &[&str],
+    planes: PlaneList,
+) -> Result<(), TrapsetError>
     requires few { length outputs.now ≤ 16 }
     requires planes { AreInRange planes (length outputs.now) }
     ensures { PutsPlates (map (λ file. file.now) outputs.now) planes (R.state rack.old)
@@ -45,6 +49,6 @@ fn put_plates<R: Rack>(rack: &mut R, outputs: &[&str], planes: PlaneList) -> Res
 {
     match write_plates(rack, outputs, planes) {
         Ok(()) => Ok(()),
-        Err(refusal) => Err(Cause::Page(refusal)),
+        Err(refusal) => Err(TrapsetError::Page(refusal)),
     }
 }

@@ -2,13 +2,13 @@ ghost use Rattle.trapset_cli.specs.Endings.{CarriesOut, EndsCommand};
 ghost use Rattle.trapset_cli.specs.Held.{IsWithin, command_in};
 
 use crate::apply::carry_out_apply;
-use crate::cause::{Cause, refuse_by};
+use crate::cause::{TrapsetError, refuse_by};
 use crate::command::Command;
 use crate::traps::carry_out_traps;
 use outside::rack::Rack;
 use outside::tray::Tray;
+use refusals::statuses::DONE;
 use std::alloc::Global;
-use trap_report::statuses::DONE;
 
 // Carries out a command, and gives the status that the program ends with.
 pub(crate) fn run_command<T: Tray, R: Rack>(
@@ -32,7 +32,7 @@ fn carry_out<T: Tray, R: Rack>(
     command: &Command<'_>,
     tray: &mut T,
     rack: &mut R,
-) -> Result<(), Cause>
+) -> Result<(), TrapsetError>
     requires { IsWithin command.now }
     ensures { CarriesOut (command_in command.now) (T.state tray.old) (T.state tray.new)
         (R.state rack.old) (R.state rack.new) result }

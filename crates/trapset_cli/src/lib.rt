@@ -5,7 +5,6 @@ mod apply;
 mod carry;
 pub mod cause;
 mod command;
-mod files;
 mod planes;
 mod plates;
 pub mod top;

@@ -3,7 +3,7 @@ ghost use Rattle.trapset_cli.specs.Clauses.{Success, Usage, RefusedInput, ReadFa
 ghost use Rattle.trapset_cli.specs.Endings.{Ends};
 
 use crate::carry::run_command;
-use crate::cause::{Cause, refuse_by};
+use crate::cause::{TrapsetError, refuse_by};
 use crate::command::read_words;
 use outside::rack::Rack;
 use outside::tray::Tray;
@@ -18,7 +18,7 @@ use std::alloc::Global;
 ///
 /// The status is 0 where the work is done; 2 where the words mean no command; 3 where the job has a fault or lacks the
 /// details of a plate's colorant; 4 where a plate's file has a fault, or the plates are no page; 5 where a read failed; 6
-/// where a write failed; 7 where memory was wanted; and 8 where the set has a bad line or is for other plates. Each refusal
+/// where a write failed; 7 where memory ran out; and 8 where the set has a bad line or is for other plates. Each refusal
 /// tells one line that names the cause.
 pub fn trapset_main<T: Tray, R: Rack>(
     alloc: Global,
@@ -55,6 +55,6 @@ fn run<T: Tray, R: Rack>(alloc: Global, words: &[String], tray: &mut T, rack: &m
 {
     match read_words(words) {
         Some(command) => run_command(alloc, &command, tray, rack),
-        None => refuse_by(rack, &Cause::NoCommand),
+        None => refuse_by(rack, &TrapsetError::NoCommand),
     }
 }

@@ -7,17 +7,17 @@ ghost use Rattle.plain_words.specs.Inputs.{AreFew};
 ghost use Rattle.trapset_cli.specs.Held.{traps_in};
 ghost use Rattle.trapset_cli.specs.Words.{Traps as traps};
 
-use crate::cause::Cause;
+use crate::cause::TrapsetError;
 use crate::command::TrapsCommand;
-use crate::files::{inputs_of, names_of};
 use outside::rack::Rack;
 use outside::tray::{Failed, Tray};
 use page_gather::gather::gather;
 use page_model::page::Page;
+use plain_words::files::{input_files, input_names};
 use plane_shapes::laws::page_planes_law;
+use refusals::refusal::Refusal;
 use std::alloc::Global;
 use strip_engine::trap_alone;
-use trap_report::refusal::Refusal;
 use trap_set::write_set;
 
 // Carries out a command `traps`: reads the page, traps it, and only then writes the set.
@@ -26,14 +26,14 @@ pub(crate) fn carry_out_traps<T: Tray, R: Rack>(
     command: &TrapsCommand<'_>,
     tray: &mut T,
     rack: &mut R,
-) -> Result<(), Cause>
+) -> Result<(), TrapsetError>
     requires { AreFew (length command.now.plates.now) }
     ensures { CarriesOut (traps (traps_in command.now)) (T.state tray.old) (T.state tray.new)
         (R.state rack.old) (R.state rack.new) result }
 {
     match read_page(alloc, command, tray) {
         Ok(page) => put_set(alloc, &page, command.set, rack),
-        Err(refusal) => Err(Cause::Page(refusal)),
+        Err(refusal) => Err(TrapsetError::Page(refusal)),
     }
 }
 
@@ -47,23 +47,31 @@ fn read_page<T: Tray>(
     ensures { ReadsPage (sources_of (traps_in command.now)) (T.state tray.old)
         (T.state tray.new) result }
 {
-    match (names_of(alloc, command), inputs_of(alloc, command)) {
+    match (
+        input_names(alloc, command.plates),
+        input_files(alloc, command.plates),
+    ) {
         (Ok(names), Ok(inputs)) => gather(alloc, tray, command.job, &names, inputs.as_slice()),
         _ => Err(Refusal::Memory),
     }
 }
 
 // Traps the page, and writes the set of what changed.
-fn put_set<R: Rack>(alloc: Global, page: &Page, name: &str, rack: &mut R) -> Result<(), Cause>
+fn put_set<R: Rack>(
+    alloc: Global,
+    page: &Page,
+    name: &str,
+    rack: &mut R,
+) -> Result<(), TrapsetError>
     ensures { PutsSet name.now page.now (R.state rack.old) (R.state rack.new) result }
 {
     let _valid = page.plates();
     page_planes_law(page);
     let Ok(trapped) = trap_alone(alloc, page) else {
-        return Err(Cause::Page(Refusal::Memory));
+        return Err(TrapsetError::Page(Refusal::Memory));
     };
     match write_set(rack, name, page.planes(), &trapped.planes) {
         Ok(()) => Ok(()),
-        Err(Failed) => Err(Cause::SetUnwritten),
+        Err(Failed) => Err(TrapsetError::SetUnwritten),
     }
 }

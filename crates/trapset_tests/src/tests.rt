@@ -6,19 +6,14 @@ mod words;
 mod worked;
 
 use lists::list::List;
-use lists::names::CallList;
 use outside::distinct_names::have_distinct_names;
-use outside::mem_file::{FileList, MemFile};
+use outside::mem_file::FileList;
 use outside::mem_rack::MemRack;
 use outside::mem_tray::MemTray;
 use std::alloc::{AllocError, Global};
 use std::process::Abort;
+use test_files::{CYAN, MAGENTA, calls, file_of, words_of};
 use trapset_cli::top::trapset_main;
-
-// Two plates of one row: on the left Cyan alone, and on the right Magenta.
-const CYAN: &[u8] = b"P5\n6 1\n255\n\0\0\0\xFF\xFF\xFF";
-
-const MAGENTA: &[u8] = b"P5\n6 1\n255\n\xFF\xFF\xFF\0\0\0";
 
 const DISABLED: &[u8] = b"<< /Enabled false >> settrapparams showpage";
 
@@ -67,39 +62,10 @@ fn onto_plates<'a>(files: &'a [(&'a str, &'a [u8])]) -> Case<'a> {
     }
 }
 
-// Words with single spaces between them; no words where the text is empty.
-fn words_of(alloc: Global, text: &str) -> Result<Vec<String>, AllocError> {
-    let mut words = Vec::new(alloc);
-    if text.is_empty() {
-        return Ok(words);
-    }
-    for word in text.split(' ') {
-        words.push(String::from_str(alloc, word)?)?;
-    }
-    Ok(words)
-}
-
-// The numbers of the calls that fail: this one, or none.
-fn calls(alloc: Global, call: Option<u64>) -> Result<CallList, AllocError> {
-    let mut numbers = Vec::new(alloc);
-    if let Some(number) = call {
-        numbers.push(number)?;
-    }
-    Ok(List::from_vec(numbers))
-}
-
-fn file_of(alloc: Global, name: &str, bytes: &[u8]) -> Result<MemFile, AllocError> {
-    Ok(MemFile {
-        name: List::from_vec(name.as_bytes().to_vec(alloc)?),
-        bytes: List::from_vec(bytes.to_vec(alloc)?),
-        fails_at: None,
-    })
-}
-
 fn files_of(alloc: Global, found: &[(&str, &[u8])]) -> Result<FileList, AllocError> {
     let mut files = Vec::new(alloc);
     for (name, bytes) in found {
-        files.push(file_of(alloc, name, bytes)?)?;
+        files.push(file_of(alloc, name, &[bytes])?)?;
     }
     Ok(List::from_vec(files))
 }

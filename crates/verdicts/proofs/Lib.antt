@@ -1,2 +1,3 @@
 pub mod VerdictLemmas
 pub mod SomeLemmas
+pub mod LocalityLemmas

@@ -9,8 +9,8 @@ use Rattle.page_gather.specs.Assembly.{assembly, assembled, without_details}
 use Rattle.page_gather.specs.Inputs.{Sources, Spelling, Holds, AreRead, PlateFails, Makes, name_at}
 use Rattle.page_gather.proofs.GatherLemmas.{NoneOther, none_other}
 use Rattle.page_gather.proofs.PlateLemmas.{read_more}
-use Rattle.trap_report.specs.declared.refusal.Refusal.{Refusal}
-use Rattle.trap_report.specs.declared.refusal.Refusal.TheVariants.{Usage, Job, NoDetails, Plate, Page, Read, Write, Memory}
+use Rattle.refusals.specs.declared.refusal.Refusal.{Refusal}
+use Rattle.refusals.specs.declared.refusal.Refusal.TheVariants.{Usage, Job, NoDetails, Plate, Page, Read, Write, Memory}
 use Rattle.verdicts.specs.Verdicts.{Verdict, Targets, IsVerdict, IsFile, SomeVerdict, outcome}
 use Rattle.verdicts.specs.Verdicts.Verdict.{Refused, Out}
 

@@ -12,8 +12,8 @@ use Rattle.pgm_plates.specs.declared.plate.PlateFault.{PlateFault}
 use Rattle.page_gather.specs.Assembly.{assembly}
 use Rattle.page_gather.specs.Inputs.{Sources, Spelling, Holds, AreRead, PlateFails, Makes, name_at, plate_at, no_plate}
 use Rattle.page_writing.specs.Files.{Written}
-use Rattle.trap_report.specs.declared.refusal.Refusal.{Refusal}
-use Rattle.trap_report.specs.declared.refusal.Refusal.TheVariants.{Usage, Job, NoDetails, Plate, Page, Read, Write, Memory}
+use Rattle.refusals.specs.declared.refusal.Refusal.{Refusal}
+use Rattle.refusals.specs.declared.refusal.Refusal.TheVariants.{Usage, Job, NoDetails, Plate, Page, Read, Write, Memory}
 use Rattle.verdicts.specs.Verdicts.{Verdict, Targets, IsVerdict, OneVerdict, outcome}
 use Rattle.verdicts.specs.Verdicts.Verdict.{Refused, Out}
 

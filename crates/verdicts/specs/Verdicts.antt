@@ -5,8 +5,8 @@ use Rattle.page_model.specs.Counts.{page_counts}
 use Rattle.page_model.specs.Tints.{trapped_planes}
 use Rattle.page_gather.specs.Inputs.{Sources, Spelling, Holds, PlateFails, Makes, name_at}
 use Rattle.page_writing.specs.Files.{Written, page_files}
-use Rattle.trap_report.specs.declared.refusal.Refusal.{Refusal}
-use Rattle.trap_report.specs.declared.refusal.Refusal.TheVariants.{Job, NoDetails, Plate, Page}
+use Rattle.refusals.specs.declared.refusal.Refusal.{Refusal}
+use Rattle.refusals.specs.declared.refusal.Refusal.TheVariants.{Job, NoDetails, Plate, Page}
 use Rattle.trap_report.specs.Report.{report_of}
 
 -- what is to come

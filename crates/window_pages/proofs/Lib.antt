@@ -1,1 +1,3 @@
 mod Covering
+pub mod FormLemmas
+mod Showing

@@ -62,7 +62,8 @@ fn limits_of(alloc: Global, limits: &[Limit]) -> Result<LimitList, OutOfMemory>
     Ok(copies)
 }
 
-fn vertex_of(vertex: &Vertex, right: u64, up: u64) -> Vertex
+/// The vertex from a corner that stands so far to the right and up.
+pub fn vertex_of(vertex: &Vertex, right: u64, up: u64) -> Vertex
     requires vertex { IsVertex vertex.now }
     requires right { right < 2 ^ 50 }
     requires up { up < 2 ^ 50 }

@@ -2,6 +2,7 @@
 //! zones from the window's corner.
 #![tactic(auto)]
 
-mod copies;
+pub mod copies;
 mod planes;
+mod refill;
 pub mod sheet;

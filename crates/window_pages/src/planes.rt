@@ -12,7 +12,7 @@ use sheet_windows::cuts::Cut;
 use std::alloc::Global;
 
 /// So many tints, from one on.
-fn run_of(tints: &[u16], from: usize, count: usize) -> &[u16]
+pub fn run_of(tints: &[u16], from: usize, count: usize) -> &[u16]
     requires { from + count ≤ length tints.now }
     ensures len { length result.now ≡ count }
     ensures each { (k : ℕ) → k < count

@@ -1,12 +1,15 @@
 ghost use Rattle.std.specs.Prelude.{◌≡◌, ◌<◌, ◌≤◌, ◌^◌, IfOk, length};
+ghost use Rattle.page_model.specs.Conditions.{IsPage};
 ghost use Rattle.page_model.specs.Limits.{most_resolution};
-ghost use Rattle.page_model.specs.Page.{height, plates, width};
+ghost use Rattle.page_model.specs.Page.{height, maxval, plates, width};
 ghost use Rattle.sheet_windows.specs.Sheets.{IsNearSheet, IsSheet, IsSmall};
 ghost use Rattle.sheet_windows.specs.Windows.{IsCut, points_of, right_of, up_of, window};
+ghost use Rattle.window_pages.specs.Forms.{form_of};
 ghost use Rattle.window_pages.specs.Sheets.{IsCuttable};
 
 use crate::copies::{inks_of, zones_of};
 use crate::planes::planes_of;
+use crate::refill::{move_zones, show_planes};
 use page_model::page::Page;
 use page_model::parts::{OutOfMemory, PageParts};
 use sheet_windows::cuts::Cut;
@@ -46,6 +49,12 @@ pub fn points(resolution: u32, samples: u32) -> u64
     }
 }
 
+/// How far to the right and up a window's lower left corner stands from its sheet's, in ten-thousandths of a point.
+struct Corner {
+    right: u64,
+    up: u64,
+}
+
 impl Sheet {
     /// The sheet of these parts.
     pub fn of(parts: PageParts) -> Sheet
@@ -73,6 +82,31 @@ impl Sheet {
         planes[0].height
     }
 
+    /// The tint of full ink, from 1 to 65,535.
+    pub fn maxval(&self) -> u32
+        ensures value { result ≡ maxval self.now }
+        ensures valid { IsCuttable self.now }
+    {
+        let planes = self.parts.planes.as_slice();
+        planes[0].maxval
+    }
+
+    /// What it is made of.
+    pub fn parts(&self) -> &PageParts
+        ensures value { result.now ≡ self.now }
+        ensures valid { IsCuttable self.now }
+    {
+        &self.parts
+    }
+
+    /// What it is made of, handed back; nothing is copied.
+    pub fn into_parts(self) -> PageParts
+        ensures parts { result ≡ self }
+        ensures valid { IsCuttable result }
+    {
+        self.parts
+    }
+
     /// How many plates there are.
     pub fn plates(&self) -> u32
         ensures value { result ≡ plates self.now }
@@ -89,18 +123,32 @@ impl Sheet {
         self.parts.zones.len() as u32
     }
 
+    /// Where a window's lower left corner stands.
+    fn corner_of(&self, cut: &Cut) -> Corner
+        requires cut { IsCut self.now cut.now }
+        ensures right { result.right ≡ right_of self.now cut.now }
+        ensures up { result.up ≡ up_of self.now cut.now }
+        ensures few_right { result.right < 2 ^ 50 }
+        ensures few_up { result.up < 2 ^ 50 }
+    {
+        let _valid = self.width();
+        let below = self.height() - (cut.top + cut.height);
+        Corner {
+            right: points(self.parts.resolution, cut.left),
+            up: points(self.parts.resolution, below),
+        }
+    }
+
     /// What a window of it is made of.
     fn parts_of(&self, alloc: Global, cut: &Cut) -> Result<PageParts, OutOfMemory>
         requires cut { IsCut self.now cut.now }
         ensures { IfOk result (λ parts. parts ≡ window self.now cut.now) }
     {
-        let wide = self.width();
-        let below = self.height() - (cut.top + cut.height);
-        let right = points(self.parts.resolution, cut.left);
-        let up = points(self.parts.resolution, below);
+        let wide = self.width() as usize;
+        let Corner { right, up } = self.corner_of(cut);
         Ok(PageParts {
             resolution: self.parts.resolution,
-            planes: planes_of(alloc, self.parts.planes.as_slice(), wide as usize, cut)?,
+            planes: planes_of(alloc, self.parts.planes.as_slice(), wide, cut)?,
             inks: inks_of(alloc, self.parts.inks.as_slice())?,
             zones: zones_of(alloc, self.parts.zones.as_slice(), right, up)?,
         })
@@ -114,9 +162,50 @@ impl Sheet {
     {
         let _valid = self.width();
         let parts = self.parts_of(alloc, cut)?;
-        match Page::new(parts) {
-            Ok(page) => Ok(page),
-            Err(_) => unreachable!(),
-        }
+        Ok(page_of(parts))
+    }
+
+    /// The window as a page, put in the place of a page with the sheet's form and the window's sides, as an earlier window
+    /// of it or of another sheet of its form is. It takes no memory: the allocator is that of lists that stay empty.
+    pub fn refill(&self, alloc: Global, cut: &Cut, page: Page) -> Page
+        requires cut { IsCut self.now cut.now }
+        requires small { IsSmall self.now cut.now }
+        requires form { form_of page ≡ form_of self.now }
+        requires wide { width page ≡ cut.now.width }
+        requires tall { height page ≡ cut.now.height }
+        ensures { result ≡ window self.now cut.now }
+    {
+        let _valid = self.width();
+        page_of(self.put_parts(alloc, cut, page.into_parts()))
+    }
+
+    /// What a window is made of, in the place of the parts of such a page.
+    fn put_parts(&self, alloc: Global, cut: &Cut, parts: PageParts) -> PageParts
+        requires cut { IsCut self.now cut.now }
+        requires page { IsPage parts }
+        requires form { form_of parts ≡ form_of self.now }
+        requires wide { width parts ≡ cut.now.width }
+        requires tall { height parts ≡ cut.now.height }
+        ensures { result ≡ window self.now cut.now }
+    {
+        let wide = self.width() as usize;
+        let Corner { right, up } = self.corner_of(cut);
+        let mut parts = parts;
+        parts.resolution = self.parts.resolution;
+        let planes = self.parts.planes.as_slice();
+        show_planes(alloc, planes, wide, cut, &mut parts.planes);
+        move_zones(self.parts.zones.as_slice(), right, up, &mut parts.zones);
+        parts
+    }
+}
+
+/// The page of parts that make one.
+fn page_of(parts: PageParts) -> Page
+    requires { IsPage parts }
+    ensures { result ≡ parts }
+{
+    match Page::new(parts) {
+        Ok(page) => page,
+        Err(_) => unreachable!(),
     }
 }

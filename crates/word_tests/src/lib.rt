@@ -3,6 +3,6 @@
 #![tactic(auto)]
 
 #[cfg(test)]
-mod refusals;
+mod refusal_lines;
 #[cfg(test)]
 mod words;

@@ -33,7 +33,7 @@ segment_end-near start v h k = pick v.starts where
   pick true = h
   pick false = k
 
--- a path begins with the turns behind its first vertex
+-- a path begins with the turns after its first vertex
 pub turns-first : (r : ℕ) (p : Point) (path : List Vertex) (d : Vertex) → 0 < length path → turns r p (slice_index_or path 0 d) (slice_index_or path 0 d) (drop 1 path) ≡ winding r p path
 turns-first r p [] d l = absurd (omega (arith, l))
 turns-first r p (v ∷ vs) d l = refl

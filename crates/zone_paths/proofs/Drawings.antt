@@ -78,14 +78,14 @@ line-some false at p = omega arith
 
 lined_by : (b : Bool) (vs : List Vertex) (pen : Pen) (p : Point) (d : Drawing) → is_near p ≡ b → IsPath vs → IsPen vs (Some pen)
     → cond b (with_vertices vs (line_vertices pen p) (record { first = pen.first; at = p; closed = false })) (Err CoordinateRange) ≡ Ok d → IsDrawing d
-lined_by true vs pen p d near path behind is =
-    with_vertices-drawing (nat_le (length vs + length (line_vertices pen p)) 4096) vs (line_vertices pen p) (record { first = pen.first; at = p; closed = false }) d refl path (begins-more vs (line_vertices pen p) behind.2 path.begun) (line-near pen.closed pen.at p behind.1 near) (line-some pen.closed pen.at p) behind.0 near is
-lined_by false vs pen p d near path behind is = absurd (cc)
+lined_by true vs pen p d near path suffix is =
+    with_vertices-drawing (nat_le (length vs + length (line_vertices pen p)) 4096) vs (line_vertices pen p) (record { first = pen.first; at = p; closed = false }) d refl path (begins-more vs (line_vertices pen p) suffix.2 path.begun) (line-near pen.closed pen.at p suffix.1 near) (line-some pen.closed pen.at p) suffix.0 near is
+lined_by false vs pen p d near path suffix is = absurd (cc)
 
 -- a line that was drawn
 pub lined_to-drawing : (vs : List Vertex) (pen : Pen) (p : Point) (d : Drawing) → IsPath vs → IsPen vs (Some pen) → lined_to vs pen p ≡ Ok d → IsDrawing d
 unfolding lined_to
-lined_to-drawing vs pen p d path behind is = lined_by (is_near p) vs pen p d refl path behind is
+lined_to-drawing vs pen p d path suffix is = lined_by (is_near p) vs pen p d refl path suffix is
 
 -- nothing is drawn to a point that is far away
 begun_at-far : (vs : List Vertex) (p : Point) → is_near p ≡ false → begun_at vs p ≡ Err CoordinateRange

@@ -39,7 +39,7 @@ vertex_at p starts = record { x = p.x; y = p.y; starts = starts }
 abbrev pub offset_point : Point → ℤ → ℤ → Point
 offset_point p dx dy = record { x = p.x +ℤ dx; y = p.y +ℤ dy }
 
--- these vertices more and the pen behind them, unless these are too many
+-- these vertices more and the pen after them, unless these are too many
 abbrev pub with_vertices : List Vertex → List Vertex → Pen → Result Drawing FaultKind
 with_vertices vertices more pen =
     if nat_le (length vertices + length more) most_path_vertices
@@ -53,7 +53,7 @@ begun_at vertices p =
     (record { first = p; at = p; closed = false })
     else Err CoordinateRange
 
--- the vertices of a line to a point: behind a closed subpath it first begins one at the current
+-- the vertices of a line to a point: after a closed subpath it first begins one at the current
 -- point
 abbrev pub line_vertices : Pen → Point → List Vertex
 line_vertices pen p =
@@ -87,7 +87,7 @@ lineto x y d = from_pen d.pen (λ pen. lined_to d.vertices pen (record { x = x; 
 abbrev pub rlineto : ℤ → ℤ → Drawing → Result Drawing FaultKind
 rlineto dx dy d = from_pen d.pen (λ pen. lined_to d.vertices pen (offset_point pen.at dx dy))
 
--- the pen behind `closepath` stands at the first point of the subpath, which is closed
+-- the pen after `closepath` stands at the first point of the subpath, which is closed
 abbrev pub closed_pen : Option Pen → Option Pen
 closed_pen None = None
 closed_pen (Some pen) = Some (record { first = pen.first; at = pen.first; closed = true })
@@ -96,13 +96,13 @@ closed_pen (Some pen) = Some (record { first = pen.first; at = pen.first; closed
 abbrev pub closepath : Drawing → Drawing
 closepath d = record { vertices = d.vertices; pen = closed_pen d.pen }
 
--- a pen stands within a million points of the origin, behind at least one vertex
+-- a pen stands within a million points of the origin, after at least one vertex
 abbrev pub IsPen : List Vertex → Option Pen → Type 0
 IsPen vertices None = Unit {0}
 IsPen vertices (Some pen) =
     (is_near pen.first ≡ true) × (is_near pen.at ≡ true) × (0 < length vertices)
 
--- the path of a zone, and a pen behind it
+-- the path of a zone, and a pen after it
 pub record IsDrawing (d : Drawing) : Type 0 where
   pub path : IsPath d.vertices
   pub pen : IsPen d.vertices d.pen

@@ -7,7 +7,7 @@ use Rattle.zone_paths.specs.declared.path.PathRefusal.TheVariants.{Fault, OutOfM
 use Rattle.zone_paths.specs.declared.pen.Pen.{Pen}
 use Rattle.zone_paths.specs.Paths.{Drawing}
 
--- a refusal is the fault that is meant, or want of memory, and leaves all as it was
+-- a refusal is the fault that is meant, or out of memory, and leaves all as it was
 abbrev pub Refuses : {X : Type 0} → PathRefusal → X → X → Result Drawing FaultKind → Type 0
 Refuses (Fault kind) old new meant = (meant ≡ Err kind) × (new ≡ old)
 Refuses OutOfMemory old new meant = new ≡ old

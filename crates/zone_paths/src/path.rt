@@ -89,7 +89,7 @@ impl Path {
         }
     }
 
-    /// Adds a vertex, in ten-thousandths of a point; behind `close` it first begins a subpath at the current point.
+    /// Adds a vertex, in ten-thousandths of a point; after `close` it first begins a subpath at the current point.
     ///
     /// `NoCurrentPoint` where the path has none, and then the faults of `moveto`.
     pub fn lineto(&mut self, x: i64, y: i64) -> Result<(), PathRefusal>
@@ -107,7 +107,7 @@ impl Path {
         }
     }
 
-    /// Adds a vertex so far from the current point; behind `close` it first begins a subpath there.
+    /// Adds a vertex so far from the current point; after `close` it first begins a subpath there.
     ///
     /// `NoCurrentPoint` where the path has none, and then the faults of `moveto`.
     pub fn rlineto(&mut self, dx: i64, dy: i64) -> Result<(), PathRefusal>

@@ -28,11 +28,11 @@ fn plate_of(alloc: Global, page: Covered<'_>, bare: usize) -> Result<Vec<u8>, Al
 // A job without trapping, and the plates.
 fn files_of(alloc: Global, page: Covered<'_>) -> Result<FileList, AllocError> {
     let mut files = Vec::new(alloc);
-    files.push(file_of(alloc, "job", DISABLED.as_bytes().to_vec(alloc)?)?)?;
+    files.push(file_of(alloc, "job", &[DISABLED.as_bytes()])?)?;
     for (plate, bare) in page.bare.iter().enumerate() {
         let name = format!(in alloc; "in{plate}")?;
         let bytes = plate_of(alloc, page, *bare)?;
-        files.push(file_of(alloc, name.as_str(), bytes)?)?;
+        files.push(file_of(alloc, name.as_str(), &[bytes.as_slice()])?)?;
     }
     Ok(List::from_vec(files))
 }

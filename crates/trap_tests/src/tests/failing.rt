@@ -1,8 +1,7 @@
-use super::{CYAN, Case, DISABLED, MAGENTA, USUAL, has, is_empty, is_refused, run};
+use super::{CYAN, Case, DISABLED, Look, MAGENTA, USUAL, ends, has, judge, run};
 use outside::mem_rack::MemRack;
-use std::alloc::{AllocError, Global};
+use std::alloc::Global;
 use std::process::Abort;
-use std::test::Fail;
 use std::thread::Threads;
 
 // what the usual case writes, in order
@@ -20,109 +19,126 @@ const LINES: [&str; 3] = [
     "write fault: report\n",
 ];
 
-// Whether Cyan's file, cut to so many bytes, is told as such.
-fn is_cut(
+// Whether a run whose reads of that file fail from that place on is refused with that line.
+fn is_unread(
     rt: &(impl Abort + Threads + Sync),
     alloc: Global,
-    count: usize,
-) -> Result<bool, AllocError> {
-    let front = CYAN.get(..count).unwrap_or(CYAN);
+    job: &[&str],
+    failing: (usize, u64),
+    line: &str,
+) -> bool {
     let case = Case {
-        plates: &[front, MAGENTA],
+        job,
+        failing: Some(failing),
         ..USUAL
     };
-    let line = format!(in alloc; "plate 0: Truncated at {count}\n")?;
-    is_refused(rt, alloc, case, 4, line.as_str())
+    ends(rt, alloc, case, 5, Look::Refused(line))
 }
 
 #[test]
-fn files_that_fail_or_are_cut_are_told_of(rt: HostRuntime) -> Result<(), Fail> {
+fn a_job_that_fails_is_told_of(rt: HostRuntime) {
     for place in 0..44 {
-        let job = Case {
-            job: &[DISABLED],
-            failing: Some((0, place)),
-            ..USUAL
-        };
-        assert!(rt;
-            is_refused(&rt, rt.alloc(), job, 5, "read fault: job\n")?,
-            "job at {place}"
+        let is = is_unread(
+            &rt,
+            rt.alloc(),
+            &[DISABLED],
+            (0, place),
+            "read fault: job\n",
         );
+        judge(&rt, is, "the job at", place);
     }
+}
+
+#[test]
+fn a_plate_that_fails_is_told_of(rt: HostRuntime) {
     for place in 0..18 {
-        let plate = Case {
-            failing: Some((1, place)),
-            ..USUAL
-        };
-        assert!(rt;
-            is_refused(&rt, rt.alloc(), plate, 5, "read fault: plate 0\n")?,
-            "at {place}"
+        let is = is_unread(
+            &rt,
+            rt.alloc(),
+            USUAL.job,
+            (1, place),
+            "read fault: plate 0\n",
         );
+        judge(&rt, is, "the plate at", place);
     }
+}
+
+// What is told where Cyan's file is cut to so many bytes.
+fn cut_line(rt: &impl Abort, alloc: Global, count: usize) -> String {
+    format!(in alloc; "plate 0: Truncated at {count}\n").expect(rt, "no memory")
+}
+
+fn is_cut(rt: &(impl Abort + Threads + Sync), alloc: Global, count: usize) -> bool {
+    let prefix = CYAN.get(..count).unwrap_or(CYAN);
+    let case = Case {
+        plates: &[prefix, MAGENTA],
+        ..USUAL
+    };
+    let line = cut_line(rt, alloc, count);
+    ends(rt, alloc, case, 4, Look::Refused(line.as_str()))
+}
+
+#[test]
+fn a_plate_that_is_cut_is_told_of(rt: HostRuntime) {
     for count in 0..17 {
-        assert!(rt; is_cut(&rt, rt.alloc(), count)?, "cut to {count}");
+        judge(&rt, is_cut(&rt, rt.alloc(), count), "cut to", count as u64);
     }
-    Ok(())
 }
 
 // Whether the rack holds all files before that one, of it so many bytes, and no later one.
-fn holds_up_to(rack: &MemRack, broken: usize, count: usize) -> bool {
-    for (number, (name, bytes)) in NAMES.iter().zip(TRAPPED.iter()).enumerate() {
-        let wanted = if number < broken {
-            Some(*bytes)
-        } else if number == broken {
-            bytes.get(..count)
-        } else {
-            None
-        };
-        if !has(rack, name, wanted) {
-            return false;
-        }
-    }
-    true
+pub(super) fn holds_up_to(rack: &MemRack, broken: usize, count: usize) -> bool {
+    holds_file(rack, 0, broken, count)
+        && holds_file(rack, 1, broken, count)
+        && holds_file(rack, 2, broken, count)
 }
 
-// Whether a run with so much room ends with the status and the line, and holds what fits.
-fn fits(
-    rt: &(impl Abort + Threads + Sync),
-    alloc: Global,
-    room: usize,
-    wanted: u8,
-    broken: usize,
-    line: &str,
-) -> Result<bool, AllocError> {
+fn holds_file(rack: &MemRack, number: usize, broken: usize, count: usize) -> bool {
+    match (NAMES.get(number), TRAPPED.get(number)) {
+        (Some(name), Some(bytes)) => has(rack, name, part_of(bytes, number, broken, count)),
+        _ => false,
+    }
+}
+
+// Of the bytes of that file those that stand where a file is broken to so many.
+fn part_of(bytes: &[u8], number: usize, broken: usize, count: usize) -> Option<&[u8]> {
+    if number < broken {
+        Some(bytes)
+    } else if number == broken {
+        bytes.get(..count)
+    } else {
+        None
+    }
+}
+
+// How a run with so much room ends: the status, the file that is broken, how many of its bytes stand, and the line.
+fn end_with(room: usize) -> (u8, usize, usize, &'static str) {
+    match room {
+        0..=16 => (6, 0, room, "write fault: plate 0\n"),
+        17..=33 => (6, 1, room.saturating_sub(17), "write fault: plate 1\n"),
+        34..=151 => (6, 2, room.saturating_sub(34), "write fault: report\n"),
+        _ => (0, 3, room.saturating_sub(34), ""),
+    }
+}
+
+fn fits(rt: &(impl Abort + Threads + Sync), alloc: Global, room: usize) -> bool {
     let case = Case {
         room: room as u64,
         ..USUAL
     };
-    let count = match broken {
-        0 => room,
-        1 => room.saturating_sub(17),
-        _ => room.saturating_sub(34),
-    };
-    let (status, rack) = run(rt, alloc, case)?;
-    Ok(status == wanted && rack.told() == line.as_bytes() && holds_up_to(&rack, broken, count))
+    let (status, broken, count, line) = end_with(room);
+    ends(rt, alloc, case, status, Look::UpTo(broken, count, line))
 }
 
 #[test]
-fn a_rack_without_room_holds_what_fits(rt: HostRuntime) -> Result<(), Fail> {
+fn a_rack_without_room_holds_what_fits(rt: HostRuntime) {
     for room in 0..153 {
-        let (wanted, broken, line) = match room {
-            0..=16 => (6, 0, "write fault: plate 0\n"),
-            17..=33 => (6, 1, "write fault: plate 1\n"),
-            34..=151 => (6, 2, "write fault: report\n"),
-            _ => (0, 3, ""),
-        };
-        assert!(rt;
-            fits(&rt, rt.alloc(), room, wanted, broken, line)?,
-            "room {room}"
-        );
+        judge(&rt, fits(&rt, rt.alloc(), room), "room", room as u64);
     }
-    Ok(())
 }
 
-// Whether the rack tells of a file that broke: the earlier ones are whole, of it there is a front or nothing, and no
+// Whether the rack tells of a file that broke: the earlier ones are whole, of it there is a prefix or nothing, and no
 // later one was created.
-fn is_broken(rack: &MemRack) -> bool {
+pub(super) fn is_broken(rack: &MemRack) -> bool {
     let mut is_later = false;
     for ((name, bytes), line) in NAMES.iter().zip(TRAPPED.iter()).zip(LINES.iter()) {
         let is_broken = rack.told() == line.as_bytes();
@@ -138,53 +154,55 @@ fn is_broken(rack: &MemRack) -> bool {
     is_later
 }
 
-// Whether a run with a call that fails ends as it has to, with this status; `None` where it has no such call.
-fn ends_at_a_call(
-    rt: &(impl Abort + Threads + Sync),
-    alloc: Global,
-    case: Case<'_>,
-    wanted: u8,
-) -> Result<Option<bool>, AllocError> {
-    let (status, rack) = run(rt, alloc, case)?;
-    if status == 0 {
-        return Ok(None);
-    }
-    let is_right = if status == 6 {
-        is_broken(&rack)
-    } else {
-        is_empty(&rack)
+// Whether a run in which that call of the tray fails is refused so; `None` where it has no such call.
+fn ends_at_read(rt: &(impl Abort + Threads + Sync), alloc: Global, call: u64) -> Option<bool> {
+    let case = Case {
+        tray_fails: Some(call),
+        ..USUAL
     };
-    Ok(Some(status == wanted && is_right))
+    match run(rt, alloc, case, Look::Empty) {
+        (0, _) => None,
+        end => Some(end == (5, true)),
+    }
+}
+
+// Whether a run in which that call of the rack fails breaks a file so; `None` where it has no such call.
+fn ends_at_write(rt: &(impl Abort + Threads + Sync), alloc: Global, call: u64) -> Option<bool> {
+    let case = Case {
+        rack_fails: Some(call),
+        ..USUAL
+    };
+    match run(rt, alloc, case, Look::Broken) {
+        (0, _) => None,
+        end => Some(end == (6, true)),
+    }
+}
+
+// Judges the end of a run in which that call fails, and gives how many calls there are so far: each before has failed.
+fn judge_end(rt: &impl Abort, end: Option<bool>, call: u64, calls: u64) -> u64 {
+    match end {
+        Some(is_right) => {
+            judge(rt, is_right && calls == call, "call", call);
+            call.saturating_add(1)
+        }
+        None => calls,
+    }
 }
 
 #[test]
-fn each_call_fails_in_turn(rt: HostRuntime) -> Result<(), Fail> {
-    let mut last_calls = (0, 0);
+fn each_read_fails_in_turn(rt: HostRuntime) {
+    let mut calls = 0;
     for call in 0..100 {
-        let of_tray = Case {
-            tray_fails: Some(call),
-            ..USUAL
-        };
-        match ends_at_a_call(&rt, rt.alloc(), of_tray, 5)? {
-            Some(is_right) => {
-                assert!(rt; is_right && last_calls.0 == call, "call {call} of the tray");
-                last_calls.0 = call.saturating_add(1);
-            }
-            None => {}
-        }
-        let of_rack = Case {
-            rack_fails: Some(call),
-            ..USUAL
-        };
-        match ends_at_a_call(&rt, rt.alloc(), of_rack, 6)? {
-            Some(is_right) => {
-                assert!(rt; is_right && last_calls.1 == call, "call {call} of the rack");
-                last_calls.1 = call.saturating_add(1);
-            }
-            None => {}
-        }
+        calls = judge_end(&rt, ends_at_read(&rt, rt.alloc(), call), call, calls);
     }
-    assert!(rt; 0 < last_calls.0 && last_calls.0 < 100);
-    assert!(rt; 0 < last_calls.1 && last_calls.1 < 100);
-    Ok(())
+    assert!(rt; 0 < calls && calls < 100);
+}
+
+#[test]
+fn each_write_fails_in_turn(rt: HostRuntime) {
+    let mut calls = 0;
+    for call in 0..100 {
+        calls = judge_end(&rt, ends_at_write(&rt, rt.alloc(), call), call, calls);
+    }
+    assert!(rt; 0 < calls && calls < 100);
 }

@@ -1,17 +1,17 @@
-use super::file_of;
+use super::{bytes_of, file_of, put};
 use lists::list::List;
-use lists::names::NameList;
+use lists::memory::push;
+use lists::names::{Name, NameList};
 use outside::distinct_names::have_distinct_names;
-use outside::mem_file::MemFile;
+use outside::mem_file::FileList;
 use outside::mem_tray::MemTray;
 use page_gather::gather::gather;
 use page_model::page::PageFault;
 use pgm_plates::plate::PlateFault;
 use ps_tokens::faults::{FaultKind, JobFault};
-use std::alloc::{AllocError, Global};
+use refusals::refusal::Refusal;
+use std::alloc::Global;
 use std::process::Abort;
-use std::test::Fail;
-use trap_report::refusal::Refusal;
 
 const JOB: &str = "<< /Enabled false >> settrapparams showpage";
 
@@ -20,7 +20,7 @@ const CYAN: &str = "P5 1 1 255 .";
 const BLACK: &str = "P5 1 1 255 \x03";
 
 // The job, two plates, the file that cannot be read to its end (0 being the job), and the refusal.
-const CASES: [([&str; 3], Option<usize>, Option<Refusal>); 9] = [
+const CASES: &[([&str; 3], Option<usize>, Option<Refusal>)] = &[
     ([JOB, CYAN, BLACK], None, None),
     (
         ["", CYAN, BLACK],
@@ -63,66 +63,78 @@ const CASES: [([&str; 3], Option<usize>, Option<Refusal>); 9] = [
     ),
 ];
 
-// Adds the three files.
-fn add_files(
-    alloc: Global,
-    files: &mut Vec<MemFile>,
-    texts: [&str; 3],
-    broken: Option<usize>,
-) -> Result<(), AllocError> {
-    for (place, (name, text)) in ["job", "c", "k"].iter().zip(texts.iter()).enumerate() {
-        let fails_at = if broken == Some(place) {
-            Some(text.len() as u64)
-        } else {
-            None
-        };
-        files.push(file_of(alloc, name, text.as_bytes().to_vec(alloc)?, fails_at)?)?;
+// The names of the three files.
+const NAMES: [&str; 3] = ["job", "c", "k"];
+
+// Where a file of this text breaks off, if it is the broken one.
+fn end_of(text: &str, is_broken: bool) -> Option<u64> {
+    if is_broken {
+        Some(text.len() as u64)
+    } else {
+        None
     }
-    Ok(())
 }
 
-fn files_of(
-    alloc: Global,
-    texts: [&str; 3],
-    broken: Option<usize>,
-) -> Result<Vec<MemFile>, AllocError> {
-    let mut files = Vec::new(alloc);
-    add_files(alloc, &mut files, texts, broken)?;
-    Ok(files)
+fn files_of(rt: &impl Abort, alloc: Global, texts: &[&str; 3], broken: Option<usize>) -> FileList {
+    let mut files = List::new(alloc);
+    for place in 0..3usize {
+        let text = texts[place];
+        let fails_at = end_of(text, broken == Some(place));
+        put(
+            rt,
+            &mut files,
+            file_of(rt, alloc, NAMES[place], text.as_bytes(), fails_at),
+        );
+    }
+    files
 }
 
-fn names_of(alloc: Global) -> Result<NameList, AllocError> {
-    let mut names = Vec::new(alloc);
-    names.push(List::from_vec(b"Cyan".to_vec(alloc)?))?;
-    names.push(List::from_vec(b"Black".to_vec(alloc)?))?;
-    Ok(List::from_vec(names))
+fn names_of(rt: &impl Abort, alloc: Global) -> NameList {
+    let mut names = List::new(alloc);
+    put_name(rt, &mut names, bytes_of(rt, alloc, b"Cyan"));
+    put_name(rt, &mut names, bytes_of(rt, alloc, b"Black"));
+    names
 }
 
-fn refusal_by(alloc: Global, mut tray: MemTray, names: &NameList) -> Option<Refusal> {
+fn put_name(rt: &impl Abort, names: &mut NameList, name: Name) {
+    assert!(rt; push(names, name).is_ok(), "no memory");
+}
+
+fn refusal_by(alloc: Global, tray: &mut MemTray, names: &NameList) -> Option<Refusal> {
     if names.len() != 2 {
         return None;
     }
-    gather(alloc, &mut tray, "job", names, &["c", "k"]).err()
+    match gather(alloc, tray, "job", names, &["c", "k"]) {
+        Ok(_) => None,
+        Err(refusal) => Some(refusal),
+    }
+}
+
+fn refusal_on(
+    rt: &impl Abort,
+    alloc: Global,
+    files: FileList,
+    names: &NameList,
+) -> Option<Refusal> {
+    assert!(rt; have_distinct_names(files.as_slice()));
+    let mut tray = MemTray::new(alloc, files, 4096, List::new(alloc));
+    refusal_by(alloc, &mut tray, names)
 }
 
 fn refusal_of(
     rt: &impl Abort,
     alloc: Global,
-    texts: [&str; 3],
+    texts: &[&str; 3],
     broken: Option<usize>,
-) -> Result<Option<Refusal>, AllocError> {
-    let names = names_of(alloc)?;
-    let files = files_of(alloc, texts, broken)?;
-    assert!(rt; have_distinct_names(&files));
-    let tray = MemTray::new(alloc, List::from_vec(files), 4096, List::new(alloc));
-    Ok(refusal_by(alloc, tray, &names))
+) -> Option<Refusal> {
+    let names = names_of(rt, alloc);
+    refusal_on(rt, alloc, files_of(rt, alloc, texts, broken), &names)
 }
 
 #[test]
-fn a_page_is_gathered_up_to_the_first_refusal(rt: HostRuntime) -> Result<(), Fail> {
-    for (place, (texts, broken, wanted)) in CASES.iter().enumerate() {
-        let found = refusal_of(&rt, rt.alloc(), *texts, *broken)?;
-        assert!(rt; found == *wanted, "case {place}");
+fn a_page_is_gathered_up_to_the_first_refusal(rt: HostRuntime) {
+    for (texts, broken, wanted) in CASES {
+        let found = refusal_of(&rt, rt.alloc(), texts, *broken);
+        assert!(rt; found == *wanted, "{texts:?}, {broken:?} breaks off");
     }
-    Ok(())
 }

@@ -1,15 +1,14 @@
-use super::{TWO_PLATES, file_of, is_empty, words_of};
+use super::{Look, TWO_PLATES, add, file_of, looks, put, words_of};
 use band_workers::OpenGate;
 use lists::list::List;
 use outside::distinct_names::have_distinct_names;
 use outside::endless_tray::EndlessTray;
-use outside::mem_file::MemFile;
+use outside::mem_file::FileList;
 use outside::mem_rack::MemRack;
 use outside::mem_tray::MemTray;
 use outside::tray::Tray;
-use std::alloc::{AllocError, Global};
+use std::alloc::Global;
 use std::process::Abort;
-use std::test::Fail;
 use std::thread::Threads;
 use trap_cli::top::trap_main;
 
@@ -28,60 +27,74 @@ const LONG_JOBS: &[(&str, &str, usize, &str)] = &[
 
 const TOO_LONG: &str = "job: JobTooLong at 1048576\n";
 
-fn repeated(alloc: Global, head: &str, piece: &str, count: usize) -> Result<Vec<u8>, AllocError> {
-    let mut job = head.as_bytes().to_vec(alloc)?;
+fn repeated(rt: &impl Abort, alloc: Global, head: &str, piece: &str, count: usize) -> Vec<u8> {
+    let mut job = head.as_bytes().to_vec(alloc).expect(rt, "no memory");
     for _ in 0..count {
-        job.extend_from_slice(piece.as_bytes())?;
+        add(rt, &mut job, piece.as_bytes());
     }
-    Ok(job)
+    job
 }
 
 // The job alone.
-fn files_of(alloc: Global, job: Vec<u8>) -> Result<Vec<MemFile>, AllocError> {
-    let mut files = Vec::new(alloc);
-    files.push(file_of(alloc, "job", job, None)?)?;
-    Ok(files)
+fn files_of(rt: &impl Abort, alloc: Global, job: &[u8]) -> FileList {
+    let mut files = List::new(alloc);
+    put(rt, &mut files, file_of(rt, alloc, "job", job, None));
+    files
 }
 
 // Whether the job of the tray is refused with that line, and nothing is created.
-fn is_judged<H: Threads + Sync, T: Tray + Drop>(
+fn judged<H: Threads + Sync, T: Tray>(
     rt: &H,
     alloc: Global,
     words: &[String],
-    mut tray: T,
+    tray: &mut T,
+    rack: &mut MemRack,
     line: &str,
 ) -> bool {
+    let ended = trap_main(rt, alloc, words, tray, rack, &OpenGate);
+    ended.status == 3 && looks(rack, Look::Refused(line))
+}
+
+fn is_judged<H: Abort + Threads + Sync, T: Tray>(
+    rt: &H,
+    alloc: Global,
+    tray: &mut T,
+    line: &str,
+) -> bool {
+    let words = words_of(alloc, TWO_PLATES).expect(rt, "no memory");
     let mut rack = MemRack::new(alloc, 50, 1000, List::new(alloc));
-    let ended = trap_main(rt, alloc, words, &mut tray, &mut rack, &OpenGate);
-    ended.status == 3 && rack.told() == line.as_bytes() && is_empty(&rack)
+    judged(rt, alloc, &words, tray, &mut rack, line)
+}
+
+fn tray_of(rt: &impl Abort, alloc: Global, job: &[u8]) -> MemTray {
+    let files = files_of(rt, alloc, job);
+    assert!(rt; have_distinct_names(files.as_slice()));
+    MemTray::new(alloc, files, 4096, List::new(alloc))
+}
+
+fn is_refused(rt: &(impl Abort + Threads + Sync), alloc: Global, job: &[u8], line: &str) -> bool {
+    let mut tray = tray_of(rt, alloc, job);
+    is_judged(rt, alloc, &mut tray, line)
 }
 
 fn is_too_long(
     rt: &(impl Abort + Threads + Sync),
     alloc: Global,
-    job: Vec<u8>,
-    line: &str,
-) -> Result<bool, AllocError> {
-    let words = words_of(alloc, TWO_PLATES)?;
-    let files = files_of(alloc, job)?;
-    assert!(rt; have_distinct_names(&files));
-    let tray = MemTray::new(alloc, List::from_vec(files), 4096, List::new(alloc));
-    Ok(is_judged(rt, alloc, &words, tray, line))
+    (head, piece, count, line): (&str, &str, usize, &str),
+) -> bool {
+    let job = repeated(rt, alloc, head, piece, count);
+    is_refused(rt, alloc, &job, line)
 }
 
 #[test]
-fn jobs_beyond_a_limit_are_refused(rt: HostRuntime) -> Result<(), Fail> {
-    for (head, piece, count, line) in LONG_JOBS {
-        let job = repeated(rt.alloc(), head, piece, *count)?;
-        assert!(rt; is_too_long(&rt, rt.alloc(), job, line)?, "{line}");
+fn jobs_beyond_a_limit_are_refused(rt: HostRuntime) {
+    for job in LONG_JOBS {
+        assert!(rt; is_too_long(&rt, rt.alloc(), *job), "{}", job.3);
     }
-    Ok(())
 }
 
 #[test]
-fn a_job_without_end_is_too_long(rt: HostRuntime) -> Result<(), Fail> {
-    let words = words_of(rt.alloc(), TWO_PLATES)?;
-    let endless = EndlessTray::new(List::new(rt.alloc()), b' ');
-    assert!(rt; is_judged(&rt, rt.alloc(), &words, endless, TOO_LONG));
-    Ok(())
+fn a_job_without_end_is_too_long(rt: HostRuntime) {
+    let mut endless = EndlessTray::new(List::new(rt.alloc()), b' ');
+    assert!(rt; is_judged(&rt, rt.alloc(), &mut endless, TOO_LONG));
 }

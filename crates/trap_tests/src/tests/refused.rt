@@ -1,5 +1,9 @@
-use super::{CYAN, Case, END, HEAD, INKS, MAGENTA, ONE_PLATE, SET, TWO_PLATES, USUAL, is_refused};
-use std::test::Fail;
+use super::{
+    CYAN, Case, END, HEAD, INKS, Look, MAGENTA, ONE_PLATE, SET, TWO_PLATES, USUAL, ends, judge,
+};
+use std::alloc::Global;
+use std::process::Abort;
+use std::thread::Threads;
 
 // A page that is refused: its words, job and plates, the file that fails and where, and the status and the line told.
 #[derive(Clone, Copy)]
@@ -215,21 +219,26 @@ const PAGES: &[Refused] = &[
     },
 ];
 
+// The table stands in a function of its own: a function that names it is proved with all its rows.
+fn pages() -> &'static [Refused] {
+    PAGES
+}
+
+fn is_refused(rt: &(impl Abort + Threads + Sync), alloc: Global, page: &Refused) -> bool {
+    let case = Case {
+        words: page.words,
+        job: page.job,
+        plates: page.plates,
+        failing: page.failing,
+        ..USUAL
+    };
+    ends(rt, alloc, case, page.status, Look::Refused(page.line))
+}
+
 #[test]
-fn refused_pages_tell_their_line(rt: HostRuntime) -> Result<(), Fail> {
-    for page in PAGES {
-        let case = Case {
-            words: page.words,
-            job: page.job,
-            plates: page.plates,
-            failing: page.failing,
-            ..USUAL
-        };
-        assert!(rt;
-            is_refused(&rt, rt.alloc(), case, page.status, page.line)?,
-            "{}",
-            page.line
-        );
+fn refused_pages_tell_their_line(rt: HostRuntime) {
+    for page in pages() {
+        let is = is_refused(&rt, rt.alloc(), page);
+        judge(&rt, is, page.line, u64::from(page.status));
     }
-    Ok(())
 }

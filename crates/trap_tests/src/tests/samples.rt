@@ -1,5 +1,4 @@
-use super::{Case, USUAL, is_refused};
-use std::test::Fail;
+use super::{Case, Look, USUAL, ends, judge};
 
 // The words of a sample page, the call of the rack that fails, the status, and the text that is told.
 const SAMPLES: &[(&str, Option<u64>, u8, &str)] = &[
@@ -21,17 +20,14 @@ const SAMPLES: &[(&str, Option<u64>, u8, &str)] = &[
 ];
 
 #[test]
-fn sample_pages_tell_their_report(rt: HostRuntime) -> Result<(), Fail> {
+fn sample_pages_tell_their_report(rt: HostRuntime) {
     for (words, rack_fails, wanted, text) in SAMPLES {
         let case = Case {
             words,
             rack_fails: *rack_fails,
             ..USUAL
         };
-        assert!(rt;
-            is_refused(&rt, rt.alloc(), case, *wanted, text)?,
-            "{words}"
-        );
+        let is = ends(&rt, rt.alloc(), case, *wanted, Look::Refused(text));
+        judge(&rt, is, words, u64::from(*wanted));
     }
-    Ok(())
 }

@@ -1,9 +1,7 @@
-use super::{Case, END, HEAD, INKS, SET, TALL_CYAN, TALL_MAGENTA, USUAL, holds, run_by};
+use super::{Case, END, HEAD, INKS, Look, SET, TALL_CYAN, TALL_MAGENTA, USUAL, run_by};
 use band_claims::Pass;
 use band_workers::Gate;
-use outside::mem_rack::MemRack;
 use std::sync::atomic::{AtomicU64, Ordering};
-use std::test::Fail;
 
 // The pieces of the first phase of a page of twelve rows, in bands of one row.
 const PIECES: u32 = 12;
@@ -52,32 +50,31 @@ fn case_of(words: &str) -> Case<'_> {
     }
 }
 
-// Whether the page of one column is trapped as it has to be.
-fn is_whole(rack: &MemRack) -> bool {
-    holds(
-        rack,
-        &[b"P5\n1 12\n255\n\0\0\0\0\0\0\0\0\0\0\0\xFF", TALL_MAGENTA],
-        "trap report\npage 1 12 255 plates 2\nzone 0 samples 12 changed 5\nedges 1\nplate Cyan changed 5\nplate Magenta changed 0\nend\n",
-    )
+// The page of one column, trapped as it has to be.
+const WHOLE: Look<'static> = Look::Written(
+    &[b"P5\n1 12\n255\n\0\0\0\0\0\0\0\0\0\0\0\xFF", TALL_MAGENTA],
+    "trap report\npage 1 12 255 plates 2\nzone 0 samples 12 changed 5\nedges 1\nplate Cyan changed 5\nplate Magenta changed 0\nend\n",
+);
+
+fn met(gate: &PairGate) -> u64 {
+    gate.met.load(Ordering::SeqCst)
 }
 
 #[test]
-fn two_workers_hold_both_pieces_of_each_pair_at_once(rt: HostRuntime) -> Result<(), Fail> {
+fn two_workers_hold_both_pieces_of_each_pair_at_once(rt: HostRuntime) {
     let gate = pair_gate(200_000_000);
-    let words = "page --workers 2 --band 1 job report Cyan:in0:out0 Magenta:in1:out1";
-    let (status, rack) = run_by(&rt, rt.alloc(), case_of(words), &gate)?;
-    assert!(rt; status == 0 && is_whole(&rack));
-    assert_eq!(rt; gate.met.load(Ordering::SeqCst), 0b1111_1111_1111);
-    Ok(())
+    let case = case_of("page --workers 2 --band 1 job report Cyan:in0:out0 Magenta:in1:out1");
+    let is = run_by(&rt, rt.alloc(), case, &gate, WHOLE);
+    assert!(rt; is == (0, true));
+    assert!(rt; met(&gate) == 0b1111_1111_1111);
 }
 
 // The second piece of each pair is claimed when the call for the first one has given up.
 #[test]
-fn one_worker_ends_without_a_meeting(rt: HostRuntime) -> Result<(), Fail> {
+fn one_worker_ends_without_a_meeting(rt: HostRuntime) {
     let gate = pair_gate(1_000_000);
-    let words = "page --workers 1 --band 1 job report Cyan:in0:out0 Magenta:in1:out1";
-    let (status, rack) = run_by(&rt, rt.alloc(), case_of(words), &gate)?;
-    assert!(rt; status == 0 && is_whole(&rack));
-    assert_eq!(rt; gate.met.load(Ordering::SeqCst), 0b1010_1010_1010);
-    Ok(())
+    let case = case_of("page --workers 1 --band 1 job report Cyan:in0:out0 Magenta:in1:out1");
+    let is = run_by(&rt, rt.alloc(), case, &gate, WHOLE);
+    assert!(rt; is == (0, true));
+    assert!(rt; met(&gate) == 0b1010_1010_1010);
 }

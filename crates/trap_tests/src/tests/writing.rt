@@ -1,47 +1,65 @@
-ghost use Rattle.std.specs.Prelude.{◌≡◌, ◌<◌, ◌≤◌, ◌*◌, IfOk, length};
+ghost use Rattle.std.specs.Prelude.{◌≡◌, ◌<◌, ◌≤◌, ◌*◌, ◌++◌, ◌∷◌, [], length};
 ghost use Rattle.std.specs.List.{All};
 ghost use Rattle.page_model.specs.Conditions.{IsPlane};
 ghost use Rattle.page_model.specs.Limits.{most_samples};
 
-use super::{calls, has};
+use super::{calls_of, has, judge};
 use lists::list::List;
+use lists::memory::push;
 use outside::mem_rack::MemRack;
-use page_model::parts::{Plane, PlaneList};
+use page_model::parts::{OutOfMemory, Plane, PlaneList};
 use page_writing::writing::write_page;
-use std::alloc::{AllocError, Global};
-use std::test::Fail;
-use trap_report::refusal::Refusal;
+use refusals::refusal::Refusal;
+use std::alloc::Global;
+use std::process::Abort;
 
 // A plane of two samples.
-fn plane(alloc: Global, maxval: u32, left: u16, right: u16) -> Result<Plane, AllocError>
+fn plane(rt: &impl Abort, alloc: Global, maxval: u32, row: &[u16]) -> Plane
     requires some { 0 < maxval }
     requires most { maxval ≤ 65535 }
-    requires left { left ≤ maxval }
-    requires right { right ≤ maxval }
-    ensures plane { IfOk result IsPlane }
-    ensures samples { IfOk result (λ p. p.width * p.height ≤ most_samples) }
+    requires two { length row.now ≡ 2 }
+    requires deep { All (λ t. t ≤ maxval) row.now }
+    ensures plane { IsPlane result }
+    ensures samples { result.width * result.height ≤ most_samples }
 {
-    let mut tints = Vec::new(alloc);
-    tints.push(left)?;
-    tints.push(right)?;
-    Ok(Plane {
-        width: 2,
-        height: 1,
-        maxval,
-        tints: List::from_vec(tints),
-    })
+    match Vec::from_slice(alloc, row) {
+        Ok(tints) => Plane {
+            width: 2,
+            height: 1,
+            maxval,
+            tints: List::from_vec(tints),
+        },
+        Err(_) => panic!(rt; "no memory"),
+    }
+}
+
+fn put_plane(rt: &impl Abort, planes: &mut PlaneList, plane: Plane)
+    ensures { planes.new ≡ planes.old ++ plane ∷ [] }
+{
+    match push(planes, plane) {
+        Ok(()) => {}
+        Err(OutOfMemory) => panic!(rt; "no memory"),
+    }
+}
+
+fn both(rt: &impl Abort, alloc: Global, one: Plane, two: Plane) -> PlaneList
+    ensures { result ≡ one ∷ two ∷ [] }
+{
+    let mut planes = List::new(alloc);
+    put_plane(rt, &mut planes, one);
+    put_plane(rt, &mut planes, two);
+    planes
 }
 
 // Two planes, the samples of the first with one byte each and of the second with two.
-fn two_planes(alloc: Global) -> Result<PlaneList, AllocError>
-    ensures count { IfOk result (λ planes. length planes ≡ 2) }
-    ensures planes { IfOk result (λ planes. All IsPlane planes) }
-    ensures samples { IfOk result (λ planes. All (λ p. p.width * p.height ≤ most_samples) planes) }
+fn two_planes(rt: &impl Abort, alloc: Global) -> PlaneList
+    ensures count { length result ≡ 2 }
+    ensures planes { All IsPlane result }
+    ensures samples { All (λ p. p.width * p.height ≤ most_samples) result }
 {
-    let mut planes = Vec::new(alloc);
-    planes.push(plane(alloc, 255, 209, 220)?)?;
-    planes.push(plane(alloc, 300, 11, 265)?)?;
-    Ok(List::from_vec(planes))
+    let cyan = plane(rt, alloc, 255, &[209, 220]);
+    let black = plane(rt, alloc, 300, &[11, 265]);
+    both(rt, alloc, cyan, black)
 }
 
 const NAMES: [&str; 2] = ["cyan.pgm", "black.pgm"];
@@ -72,7 +90,7 @@ const ROOMS: [(u64, Option<Refusal>, [Option<usize>; 3]); 8] = [
 ];
 
 // The call that fails, the answer, and how many bytes each file has. A plate is created, written by `P5` and its LF,
-// each number and the byte behind it, and the samples, and finished; the report is created, written and finished.
+// each number and the byte after it, and the samples, and finished; the report is created, written and finished.
 const CALLS: [(u64, Option<Refusal>, [Option<usize>; 3]); 24] = [
     (0, AT_CYAN, [None, None, None]),
     (1, AT_CYAN, [Some(0), None, None]),
@@ -100,66 +118,75 @@ const CALLS: [(u64, Option<Refusal>, [Option<usize>; 3]); 24] = [
     (23, None, [Some(13), Some(15), Some(4)]),
 ];
 
+// The first bytes of a file that stand, so many.
+fn part_of(whole: &str, count: Option<usize>) -> Option<&[u8]> {
+    match count {
+        Some(count) => whole.as_bytes().get(..count),
+        None => None,
+    }
+}
+
 // Whether the rack holds so many bytes of each file, and has told nothing.
-fn holds_fronts(rack: &MemRack, counts: [Option<usize>; 3]) -> bool {
-    for ((name, whole), count) in FILES.iter().zip(counts.iter()) {
-        let wanted = match *count {
-            Some(count) => whole.as_bytes().get(..count),
-            None => None,
-        };
-        if !has(rack, name, wanted) {
+fn holds_prefixes(rack: &MemRack, counts: &[Option<usize>; 3]) -> bool {
+    for ((name, whole), count) in FILES.iter().zip(counts) {
+        if !has(rack, name, part_of(whole, *count)) {
             return false;
         }
     }
     rack.told().is_empty()
 }
 
+// Why the planes and the report are not written.
+fn refusal_of(rack: &mut MemRack, planes: PlaneList) -> Option<Refusal>
+    requires count { length planes ≡ 2 }
+    requires planes { All IsPlane planes }
+    requires samples { All (λ p. p.width * p.height ≤ most_samples) planes }
+{
+    match write_page(rack, &NAMES, planes, "page.txt", b"end\n") {
+        Ok(_) => None,
+        Err(refusal) => Some(refusal),
+    }
+}
+
 // Writes the planes and the report, and looks at the answer and the files.
 fn ends(
-    mut rack: MemRack,
+    rack: &mut MemRack,
     planes: PlaneList,
     wanted: Option<Refusal>,
-    counts: [Option<usize>; 3],
+    counts: &[Option<usize>; 3],
 ) -> bool
     requires count { length planes ≡ 2 }
     requires planes { All IsPlane planes }
     requires samples { All (λ p. p.width * p.height ≤ most_samples) planes }
 {
-    let refusal = write_page(&mut rack, &NAMES, planes, "page.txt", b"end\n").err();
-    refusal == wanted && holds_fronts(&rack, counts)
+    refusal_of(rack, planes) == wanted && holds_prefixes(rack, counts)
 }
 
 // Whether such a rack gives the answer and the files.
 fn is_written(
+    rt: &impl Abort,
     alloc: Global,
-    room: u64,
-    call: u64,
+    (room, call): (u64, u64),
     wanted: Option<Refusal>,
-    counts: [Option<usize>; 3],
-) -> Result<bool, AllocError> {
-    let fails = calls(alloc, Some(call))?;
-    let planes = two_planes(alloc)?;
-    Ok(ends(
-        MemRack::new(alloc, 4096, room, fails),
-        planes,
-        wanted,
-        counts,
-    ))
+    counts: &[Option<usize>; 3],
+) -> bool {
+    let planes = two_planes(rt, alloc);
+    let mut rack = MemRack::new(alloc, 4096, room, calls_of(rt, alloc, Some(call)));
+    ends(&mut rack, planes, wanted, counts)
 }
 
 #[test]
-fn a_page_is_written_up_to_the_first_fault(rt: HostRuntime) -> Result<(), Fail> {
+fn a_page_is_written_as_far_as_there_is_room(rt: HostRuntime) {
     for (room, wanted, counts) in ROOMS {
-        assert!(rt;
-            is_written(rt.alloc(), room, 1000, wanted, counts)?,
-            "room {room}"
-        );
+        let is = is_written(&rt, rt.alloc(), (room, 1000), wanted, &counts);
+        judge(&rt, is, "room", room);
     }
+}
+
+#[test]
+fn a_page_is_written_up_to_the_first_fault(rt: HostRuntime) {
     for (call, wanted, counts) in CALLS {
-        assert!(rt;
-            is_written(rt.alloc(), 1000, call, wanted, counts)?,
-            "call {call}"
-        );
+        let is = is_written(&rt, rt.alloc(), (1000, call), wanted, &counts);
+        judge(&rt, is, "call", call);
     }
-    Ok(())
 }

@@ -145,7 +145,7 @@ fn a_list_that_is_too_long_is_bad_where_it_becomes_so(rt: HostRuntime) -> Result
     Ok(())
 }
 
-// Words with CR behind them, and an output that is read by another line.
+// Words with CR after them, and an output that is read by another line.
 #[test]
 fn all_reading_comes_before_all_writing(rt: HostRuntime) -> Result<(), Fail> {
     let run = Run {

@@ -6,7 +6,7 @@ use std::test::Fail;
 use std::thread::Threads;
 use trap_pool::OpenTakes;
 
-// What stands in a line behind the report's name, before the outputs' numbers, and what is told of it.
+// What stands in a line after the report's name, before the outputs' numbers, and what is told of it.
 const KINDS: &[(&str, &str, &str, &str)] = &[
     ("job", "Cyan:cyan:a", "Magenta:magenta:b", "done"),
     ("unslid", "Cyan:cyan:a", "Magenta:magenta:b", "done"),

@@ -70,7 +70,7 @@ fn read_stop(status: u8, rack: &MemRack) -> Option<usize> {
 }
 
 // Whether so many files stand whole, and of the next one a prefix of its bytes or nothing, and no more.
-fn holds_front(rack: &MemRack, count: usize) -> bool {
+fn holds_prefix(rack: &MemRack, count: usize) -> bool {
     for (place, name) in WRITTEN.iter().enumerate() {
         let wanted = FILES.get(place).copied();
         let is_so = match rack.file(name) {
@@ -91,7 +91,7 @@ fn write_stop(status: u8, rack: &MemRack) -> Option<usize> {
         return Some(WRITES.len());
     }
     let stop = stop_of(WRITES, rack.told())?;
-    if status == 6 && holds_front(rack, WRITES.get(stop)?.1) {
+    if status == 6 && holds_prefix(rack, WRITES.get(stop)?.1) {
         Some(stop)
     } else {
         None

@@ -101,7 +101,7 @@ fn each_read_fails_in_turn(rt: HostRuntime) -> Result<(), Fail> {
     Ok(())
 }
 
-// Whether all files before the one that broke are whole, of it there is a front or nothing, and none of the later ones.
+// Whether all files before the one that broke are whole, of it there is a prefix or nothing, and none of the later ones.
 fn is_broken(rack: &MemRack, files: &[Option<&[u8]>], lines: &[&str]) -> bool {
     let mut is_later = false;
     for ((name, bytes), line) in WRITTEN.iter().zip(files.iter()).zip(lines.iter()) {

@@ -71,7 +71,7 @@ const BAD: &[(&[&str], u32)] = &[
     (&[TITLE, PAGE, RUN, "en\n"], 4),
     (&[TITLE, PAGE, RUN, "end\r\n"], 4),
     (&[TITLE, PAGE, RUN, "\n", "end\n"], 4),
-    // bytes behind it
+    // bytes after it
     (&[TITLE, PAGE, RUN, "end\n", "\n"], 5),
     (&[TITLE, PAGE, RUN, "end\n", "end\n"], 5),
     (&[TITLE, PAGE, RUN, "end\n", " "], 5),
@@ -118,9 +118,9 @@ fn ended(text: &[u8]) -> u32 {
 #[test]
 fn a_set_that_is_cut_lacks_a_line(rt: HostRuntime) -> Result<(), Fail> {
     for count in 0..SET.len() {
-        let front = SET.get(..count).unwrap_or(SET);
-        let line = ended(front).saturating_add(1);
-        assert!(rt; is_bad_at(&rt, rt.alloc(), front, line)?, "cut to {count}");
+        let prefix = SET.get(..count).unwrap_or(SET);
+        let line = ended(prefix).saturating_add(1);
+        assert!(rt; is_bad_at(&rt, rt.alloc(), prefix, line)?, "cut to {count}");
     }
     Ok(())
 }

@@ -129,9 +129,9 @@ const MANY_SAMPLES: [&[u8]; 16] = [
 
 fn many_files(alloc: Global) -> Result<FileList, AllocError> {
     let mut files = Vec::new(alloc);
-    files.push(super::file_of(alloc, "set", MANY_SET)?)?;
+    files.push(super::file_of(alloc, "set", &[MANY_SET])?)?;
     for (name, _) in NAMES {
-        let file: MemFile = super::file_of(alloc, name, b"P5 2 1 65535\n\x12\x34\x56\x78")?;
+        let file: MemFile = super::file_of(alloc, name, &[b"P5 2 1 65535\n\x12\x34\x56\x78"])?;
         files.push(file)?;
     }
     Ok(List::from_vec(files))

@@ -7,8 +7,8 @@ use Rattle.page_model.specs.Edges.{IsEdge}
 use Rattle.engine_tests.proofs.slow_traps.slow_deciders.Goals as goal
 
 pub loop-k-preserved : goal.loop-k-preserved
-loop-k-preserved c = record {
+loop-k-preserved g c = record {
   end = c.loop-k.invariant.end;
-  count = omega (arith, ap (λ (deciders : List (Option EdgeAt)). length deciders) c.in_ok-push.ensures, length-append c.loop-k.deciders (c.first_for.result ∷ []), c.loop-k.invariant.count);
-  edges = subst (λ (deciders : List (Option EdgeAt)). All (λ decider. ForSome decider (IsEdge c.args.page.now)) deciders) (sym c.in_ok-push.ensures) (All-push (λ decider. ForSome decider (IsEdge c.args.page.now)) c.loop-k.deciders c.first_for.result c.loop-k.invariant.edges c.first_for.ensures);
+  count = omega (arith, ap (λ (deciders : List (Option EdgeAt)). length deciders) c.put.ensures, length-append c.loop-k.deciders (c.first_for.result ∷ []), c.loop-k.invariant.count);
+  edges = subst (λ (deciders : List (Option EdgeAt)). All (λ decider. ForSome decider (IsEdge c.args.page.now)) deciders) (sym c.put.ensures) (All-push (λ decider. ForSome decider (IsEdge c.args.page.now)) c.loop-k.deciders c.first_for.result c.loop-k.invariant.edges c.first_for.ensures);
 }

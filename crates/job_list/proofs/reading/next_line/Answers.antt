@@ -5,13 +5,13 @@ use Rattle.job_list.proofs.Steps.{judged, no_line, too_long}
 use Rattle.job_list.proofs.reading.next_line.Goals as goal
 
 pub returns-then-seen-text-ge-MOST_BYTES : goal.returns-then-seen-text-ge-MOST_BYTES
-returns-then-seen-text-ge-MOST_BYTES c = too_long c.args.seen c.args.lines.now c.args.rest.now c.in-Some.text.now c.in-Some.behind.now c.in-Some.ensures (omega arith)
+returns-then-seen-text-ge-MOST_BYTES c = too_long c.args.seen c.args.lines.now c.args.rest.now c.in-Some.text.now c.in-Some.suffix.now c.in-Some.ensures (omega arith)
 
 pub returns-in-Some-2 : goal.returns-in-Some-2
 returns-in-Some-2 c =
     let is : Some c.in-Some-2.line ≡ line_of c.in-Some.text.now = sym c.in-Some-2.is ∙ c.in_ok-line.ensures in
     subst (λ (n : Option (LineParts × List ℕ)). NextLine c.args.seen c.args.lines.now c.args.rest.now n) (sym c.if_new.ensures)
-    (judged c.args.seen c.args.lines.now c.args.rest.now c.in-Some.text.now c.in-Some.behind.now c.in-Some.ensures c.in-Some-2.line is (omega arith) (omega arith))
+    (judged c.args.seen c.args.lines.now c.args.rest.now c.in-Some.text.now c.in-Some.suffix.now c.in-Some.ensures c.in-Some-2.line is (omega arith) (omega arith))
 
 pub returns-in-None : goal.returns-in-None
-returns-in-None c = no_line c.args.seen c.args.lines.now c.args.rest.now c.in-Some.text.now c.in-Some.behind.now c.in-Some.ensures (sym c.in-None.is ∙ c.in_ok-line.ensures)
+returns-in-None c = no_line c.args.seen c.args.lines.now c.args.rest.now c.in-Some.text.now c.in-Some.suffix.now c.in-Some.ensures (sym c.in-None.is ∙ c.in_ok-line.ensures)

@@ -15,11 +15,11 @@ pub loop-number-preserved : goal.loop-number-preserved
 loop-number-preserved c =
     let left = c.loop-number.rest.now in
     let next : NextLine (length c.args.bytes.now - length left) c.loop-number.lines left (next_in c.in-Ok-Some.field-0) = c.in-Ok-Some.ensures in
-    let found : NextLine (length c.args.bytes.now - length left) c.loop-number.lines left (Some (c.in-Ok-Some.line, c.in-Ok-Some.behind.now)) = rw c.in-Ok-Some.field-0-is at next in
+    let found : NextLine (length c.args.bytes.now - length left) c.loop-number.lines left (Some (c.in-Ok-Some.line, c.in-Ok-Some.suffix.now)) = rw c.in-Ok-Some.field-0-is at next in
     let pushed : c.push.new.self ≡ c.loop-number.lines ++ c.in-Ok-Some.line ∷ [] = c.in-Ok.ensures.pushed in
     let count : length c.push.new.self ≡ length c.loop-number.lines + 1 = ap length pushed ∙ length-append c.loop-number.lines (c.in-Ok-Some.line ∷ []) in
     record {
-      stands = subst (λ (l : List LineParts). Stands c.args.bytes.now l c.in-Ok-Some.behind.now) (sym pushed) (next_stands c.args.bytes.now c.loop-number.lines left c.in-Ok-Some.line c.in-Ok-Some.behind.now c.loop-number.invariant.stands found);
+      stands = subst (λ (l : List LineParts). Stands c.args.bytes.now l c.in-Ok-Some.suffix.now) (sym pushed) (next_stands c.args.bytes.now c.loop-number.lines left c.in-Ok-Some.line c.in-Ok-Some.suffix.now c.loop-number.invariant.stands found);
       count = omega arith;
     }
 

@@ -1,8 +1,8 @@
 use Rattle.std.proofs.Common.{◌≡◌, take}
 use Rattle.std.specs.Prelude.{filter, fold}
-use Rattle.job_pages.specs.PageText.{blanked, is_left_behind}
+use Rattle.job_pages.specs.PageText.{blanked, is_left_after}
 use Rattle.job_pages.proofs.page.blank_earlier.Given as goal
 
--- the statements so far are blanked where they are left behind
+-- the statements so far are blanked where they are left after
 abbrev pub invariant-loop-passage : goal.invariant-loop-passage
-invariant-loop-passage l = l.text ≡ fold blanked l.initial.text (filter (is_left_behind l.start) (take l.passage-index l.passages))
+invariant-loop-passage l = l.text ≡ fold blanked l.initial.text (filter (is_left_after l.start) (take l.passage-index l.passages))

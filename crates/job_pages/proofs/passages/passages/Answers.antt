@@ -14,11 +14,11 @@ loop-place-preserved c =
           let found : c.match-call_at.found ≡ c.loop-place.found ++ passage_at c.args.objects.now c.loop-place.from c.loop-place.place w.in-Some.call ∷ [] = search rules in
           let from : c.match-call_at.from ≡ c.loop-place.place + 1 = search rules in
           let step = so_far_call c.args.objects.now c.loop-place.found c.loop-place.from c.loop-place.place w.in-Some.call (omega arith) at in
-          record { same = rw (found, from) (sym step ∙ c.loop-place.invariant.same); behind = omega (arith, from) }
+          record { same = rw (found, from) (sym step ∙ c.loop-place.invariant.same); suffix = omega (arith, from) }
       | in-None w ↦
           let at : call_of (slice_get c.args.objects.now c.loop-place.place) ≡ None = rw c.as_slice-all.ensures at (sym w.in-None.ensures) in
           let step = so_far_none c.args.objects.now c.loop-place.found c.loop-place.from c.loop-place.place (omega arith) at in
-          record { same = rw (w.found-is, w.from-is) (sym step ∙ c.loop-place.invariant.same); behind = omega arith }
+          record { same = rw (w.found-is, w.from-is) (sym step ∙ c.loop-place.invariant.same); suffix = omega arith }
     ]
 
 pub returns : goal.returns

@@ -7,5 +7,5 @@ use Rattle.job_pages.proofs.passages.passages.Given as goal
 abbrev pub invariant-loop-place : goal.invariant-loop-place
 invariant-loop-place l = record {
   same : l.found ++ passages_from l.objects l.from l.place ≡ passages_of l.objects;
-  behind : l.from ≤ l.place;
+  suffix : l.from ≤ l.place;
 }

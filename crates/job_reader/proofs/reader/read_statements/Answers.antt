@@ -29,11 +29,11 @@ loop-place-preserved c =
       | in-Some+in-Some-operator+else-is_showpage+in-Ok w ↦
           let at : call_of (slice_get c.args.objects.now c.loop-place.place) ≡ Some w.in-Some.call = rw c.as_slice-all.ensures at (sym w.in-Some.ensures) in
           let step = read_on-state_after c.args.objects.now c.args.len c.loop-place.state _ c.loop-place.from c.loop-place.place w.in-Some.call w.in-Some-operator.operator (omega arith) at w.in-Some-operator.is (sym w.is_showpage.ensures ∙ w.if-is_showpage.false) w.in-Ok.ensures in
-          record { same = rw (w.state-is, w.from-is) (sym step ∙ c.loop-place.invariant.same); behind = omega arith }
+          record { same = rw (w.state-is, w.from-is) (sym step ∙ c.loop-place.invariant.same); suffix = omega arith }
       | in-None w ↦
           let at : call_of (slice_get c.args.objects.now c.loop-place.place) ≡ None = rw c.as_slice-all.ensures at (sym w.in-None.ensures) in
           let step = read_on-none c.args.objects.now c.args.len c.loop-place.state c.loop-place.from c.loop-place.place (omega arith) at in
-          record { same = rw (w.state-is, w.from-is) (sym step ∙ c.loop-place.invariant.same); behind = omega arith }
+          record { same = rw (w.state-is, w.from-is) (sym step ∙ c.loop-place.invariant.same); suffix = omega arith }
     ]
 
 pub returns : goal.returns

@@ -7,5 +7,5 @@ use Rattle.job_reader.proofs.reader.read_statements.Given as goal
 abbrev pub invariant-loop-place : goal.invariant-loop-place
 invariant-loop-place l = record {
   same : read_on l.objects l.len l.state l.from l.place ≡ read_on l.objects l.len nothing_read 0 0;
-  behind : l.from ≤ l.place;
+  suffix : l.from ≤ l.place;
 }

@@ -1,8 +1,8 @@
 use Rattle.std.proofs.Common.{sym, subst}
 use Rattle.page_model.specs.declared.parts.Counts.{Counts}
 use Rattle.trap_report.specs.Report.{AreCounts}
-use Rattle.page_output.proofs.OutcomeLemmas.{counts_fit}
+use Rattle.trap_report.proofs.ReportLemmas.{counts_fit}
 use Rattle.page_output.proofs.outcome.outcome_of.Goals as goal
 
-pub reported-requires : goal.reported-requires
-reported-requires g c = record { counts = subst (λ (counts : Counts). AreCounts c.args.page.now counts) (sym c.in_ok-trapped.ensures.counts) (counts_fit c.args.page.now) }
+pub report_trapped-requires : goal.report_trapped-requires
+report_trapped-requires g c = record { counts = subst (λ (counts : Counts). AreCounts c.args.page.now counts) (sym c.in_ok-trapped.ensures.counts) (counts_fit c.args.page.now) }

@@ -2,9 +2,10 @@ use Rattle.std.proofs.Common.{List, Result, All, length, map, refl, ap, sym, ◌
 use Rattle.std.proofs.lemmas.List.{length-map}
 use Rattle.page_model.specs.declared.parts.Plane.{Plane}
 use Rattle.page_model.specs.Conditions.{IsPlane}
-use Rattle.trap_report.specs.declared.refusal.Refusal.{Refusal}
+use Rattle.refusals.specs.declared.refusal.Refusal.{Refusal}
 use Rattle.page_output.specs.Output.{PutsOut, targets}
-use Rattle.page_output.proofs.OutcomeLemmas.{as_many_planes, handed, not_put_out, puts_out}
+use Rattle.page_output.proofs.OutcomeLemmas.{handed, not_put_out, puts_out}
+use Rattle.trap_report.proofs.ReportLemmas.{as_many_planes}
 use Rattle.page_output.proofs.output.put_out.Goals as goal
 
 pub returns-in_default : goal.returns-in_default

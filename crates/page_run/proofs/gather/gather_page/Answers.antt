@@ -3,11 +3,11 @@ use Rattle.page_run.specs.Gathering.{GathersPage}
 use Rattle.page_run.specs.Opened.{order_in}
 use Rattle.page_run.specs.Words.{sources_of}
 use Rattle.page_run.proofs.GatherLemmas.{job_stopped}
-use Rattle.traprun_verdicts.specs.declared.stop.RunStop.{RunStop}
+use Rattle.traprun_verdicts.specs.declared.stop.TraprunError.{TraprunError}
 use Rattle.page_run.proofs.gather.gather_page.Goals as goal
 
 pub returns-in-Err : goal.returns-in-Err
 returns-in-Err g c =
     let source = sources_of (order_in c.args.opened.now.order.now) in
     let tray = g.T.Tray.state c.args.tray.now in
-    subst (λ (stop : RunStop). GathersPage source c.args.opened.now.job c.args.page tray tray (Err stop)) (sym c.job_stop.ensures) (job_stopped source c.args.opened.now.job c.args.page tray tray c.in-Err.refusal c.in-Err.ensures.given)
+    subst (λ (stop : TraprunError). GathersPage source c.args.opened.now.job c.args.page tray tray (Err stop)) (sym c.job_stop.ensures) (job_stopped source c.args.opened.now.job c.args.page tray tray c.in-Err.refusal c.in-Err.ensures.given)

@@ -5,7 +5,7 @@ use Rattle.page_run.proofs.PutLemmas.{as_many_outputs, files_named, not_put, pag
 use Rattle.page_run.specs.Opened.{order_in}
 use Rattle.page_run.specs.Words.{targets_of}
 use Rattle.traprun_verdicts.specs.Pages.{target_at}
-use Rattle.trap_report.specs.declared.refusal.Refusal.{Refusal}
+use Rattle.refusals.specs.declared.refusal.Refusal.{Refusal}
 use Rattle.page_run.proofs.page.put_page.Goals as goal
 
 pub returns-in_default : goal.returns-in_default

@@ -1,5 +1,5 @@
 use Rattle.std.proofs.Common.{◌≡◌, ℕ, List, Bor, map, ap, ◌∙◌, subst, arith}
-use Rattle.page_run.proofs.RunLemmas.{looked_behind, same_count}
+use Rattle.page_run.proofs.RunLemmas.{looked_after, same_count}
 use Rattle.page_run.specs.Opened.{order_in}
 use Rattle.page_run.specs.Reading.{ExpectsEnd}
 use Rattle.page_run.specs.Words.{sources_of, targets_of}
@@ -14,7 +14,7 @@ returns-in-Ok g c tray opened =
     let order = order_in c.args.opened.now.order.now in
     let named = ap (λ (fs : List (Bor (List ℕ))). map (λ (f : Bor (List ℕ)). f.now) fs) c.as_slice.ensures.value ∙ c.requires.inputs in
     let same : c.count.result ≡ opened.count = same_count c.args.opened.now.job opened.count c.count.result opened.has c.count.ensures in
-    looked_behind (sources_of order) (targets_of order) c.args.opened.now.job c.count.result opened.count tray (g.T.Tray.state c.trap_pages.new.tray) (g.T.Tray.state c.expect_end.new.tray) (g.R.Rack.state c.args.rack.now) (g.R.Rack.state c.trap_pages.new.rack) c.expect_end.result same opened.known opened.has
+    looked_after (sources_of order) (targets_of order) c.args.opened.now.job c.count.result opened.count tray (g.T.Tray.state c.trap_pages.new.tray) (g.T.Tray.state c.expect_end.new.tray) (g.R.Rack.state c.args.rack.now) (g.R.Rack.state c.trap_pages.new.rack) c.expect_end.result same opened.known opened.has
     (c.in-Ok.ensures tray opened)
     (subst (λ (l : List (List ℕ)). ExpectsEnd c.count.result l (g.T.Tray.state c.trap_pages.new.tray) (g.T.Tray.state c.expect_end.new.tray) c.expect_end.result) named c.expect_end.ensures)
 

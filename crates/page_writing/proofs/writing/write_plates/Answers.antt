@@ -22,7 +22,7 @@ pub loop-plane-preserved : goal.loop-plane-preserved
 loop-plane-preserved g c =
     let before = g.R.Rack.state c.args.rack.now in
     let here = g.R.Rack.state c.loop-plane.rack in
-    let after = g.R.Rack.state c.write_plane.new.rack in
+    let after = g.R.Rack.state c.write_encoded.new.rack in
     let so_far = c.loop-plane.invariant in
     let whole : c.args.planes ≡ c.loop-plane.yielded ++ c.in-Some.plane ∷ into_iter_items c.next.new.self = search rules in
     record {
@@ -37,7 +37,7 @@ pub returns-in-Err : goal.returns-in-Err
 returns-in-Err g c =
     let so_far = c.loop-plane.invariant in
     let whole : c.args.planes ≡ c.loop-plane.yielded ++ c.in-Some.plane ∷ into_iter_items c.next.new.self = search rules in
-    plate_broke g.S.AsStr.text c.args.names.now c.args.planes c.loop-plane.yielded c.in-Some.plane _ c.loop-plane.place c.index-names-place.result c.as_str.result.now (g.R.Rack.state c.args.rack.now) (g.R.Rack.state c.loop-plane.rack) (g.R.Rack.state c.write_plane.new.rack) _ (c.as_str.ensures ∙ ap g.S.AsStr.text c.index-names-place.is) c.requires.count whole so_far.place so_far.keeps so_far.told so_far.wrote c.in-Err.ensures
+    plate_broke g.S.AsStr.text c.args.names.now c.args.planes c.loop-plane.yielded c.in-Some.plane _ c.loop-plane.place c.index-names-place.result c.as_str.result.now (g.R.Rack.state c.args.rack.now) (g.R.Rack.state c.loop-plane.rack) (g.R.Rack.state c.write_encoded.new.rack) _ (c.as_str.ensures ∙ ap g.S.AsStr.text c.index-names-place.is) c.requires.count whole so_far.place so_far.keeps so_far.told so_far.wrote c.in-Err.ensures
 
 pub returns : goal.returns
 returns g c =

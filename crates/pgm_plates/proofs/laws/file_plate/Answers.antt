@@ -1,5 +1,6 @@
+use Rattle.pgm_plates.specs.declared.bounds.Bounds.TheVariants.{Page}
 use Rattle.pgm_plates.proofs.Facts.{file_plate}
 use Rattle.pgm_plates.proofs.laws.file_plate.Goals as goal
 
 pub returns : goal.returns
-returns c = file_plate
+returns c = file_plate Page

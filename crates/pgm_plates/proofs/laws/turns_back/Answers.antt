@@ -1,5 +1,6 @@
+use Rattle.pgm_plates.specs.declared.bounds.Bounds.TheVariants.{Page}
 use Rattle.pgm_plates.proofs.Facts.{turns_back}
 use Rattle.pgm_plates.proofs.laws.turns_back.Goals as goal
 
 pub returns : goal.returns
-returns c = turns_back
+returns c = turns_back Page

@@ -1,4 +1,5 @@
 use Rattle.std.proofs.Common.{◌*◌, ◌+◌, ap, ℕ}
+use Rattle.pgm_plates.specs.declared.bounds.Bounds.TheVariants.{Page}
 use Rattle.pgm_plates.proofs.Sequences.{image_read}
 use Rattle.pgm_plates.proofs.Wholes.{raster_refused}
 use Rattle.pgm_plates.proofs.pages.read_image.Goals as goal
@@ -12,5 +13,5 @@ returns-in-Ok-read_raster-clause-answer g c =
 
 pub returns-in-Err-read_raster-clause-answer : goal.returns-in-Err-read_raster-clause-answer
 returns-in-Err-read_raster-clause-answer g c =
-    raster_refused (g.T.Tray.state c.args.tray.now) (g.T.Tray.state c.read_header.new.tray) (g.T.Tray.state c.read_raster.new.tray)
+    raster_refused Page (g.T.Tray.state c.args.tray.now) (g.T.Tray.state c.read_header.new.tray) (g.T.Tray.state c.read_raster.new.tray)
     c.in-Ok.read.0 c.in-Ok.read.1 c.in-Err-read_raster.refusal c.in-Ok.ensures.answer c.in-Err-read_raster.ensures.answer

@@ -4,17 +4,17 @@ use Rattle.pgm_plates.proofs.reading.read_begun.Goals as goal
 
 pub returns-in-Err-read_raster-clause-answer : goal.returns-in-Err-read_raster-clause-answer
 returns-in-Err-read_raster-clause-answer g c =
-    raster_refused (g.T.Tray.state c.args.tray.now) (g.T.Tray.state c.read_header.new.tray) (g.T.Tray.state c.read_raster.new.tray)
+    raster_refused c.args.bounds (g.T.Tray.state c.args.tray.now) (g.T.Tray.state c.read_header.new.tray) (g.T.Tray.state c.read_raster.new.tray)
     c.in-Ok.read.0 c.in-Ok.read.1 c.in-Err-read_raster.refusal c.in-Ok.ensures.answer c.in-Err-read_raster.ensures.answer
 
 pub returns-in-Ok-end_of_file-clause-answer : goal.returns-in-Ok-end_of_file-clause-answer
 returns-in-Ok-end_of_file-clause-answer g c =
-    plate_read (g.T.Tray.state c.args.tray.now) (g.T.Tray.state c.read_header.new.tray) (g.T.Tray.state c.read_raster.new.tray) (g.T.Tray.state c.end_of_file.new.tray)
+    plate_read c.args.bounds (g.T.Tray.state c.args.tray.now) (g.T.Tray.state c.read_header.new.tray) (g.T.Tray.state c.read_raster.new.tray) (g.T.Tray.state c.end_of_file.new.tray)
     c.in-Ok.read.0 c.in-Ok.read.1 c.in-Ok-read_raster.samples c.in-Ok.ensures.answer c.in-Ok-read_raster.ensures.answer c.in-Ok-end_of_file.ensures.answer
 
 pub returns-in-Err-end_of_file-clause-answer : goal.returns-in-Err-end_of_file-clause-answer
 returns-in-Err-end_of_file-clause-answer g c =
     let header = c.in-Ok.read.0 in
-    end_refused (g.T.Tray.state c.args.tray.now) (g.T.Tray.state c.read_header.new.tray) (g.T.Tray.state c.read_raster.new.tray) (g.T.Tray.state c.end_of_file.new.tray)
+    end_refused c.args.bounds (g.T.Tray.state c.args.tray.now) (g.T.Tray.state c.read_header.new.tray) (g.T.Tray.state c.read_raster.new.tray) (g.T.Tray.state c.end_of_file.new.tray)
     header c.in-Ok.read.1 (c.in-Ok.read.1 + header.width * header.height * c.sample_size.result) c.in-Ok-read_raster.samples c.in-Err-end_of_file.refusal c.in-Ok.ensures.answer c.in-Ok-read_raster.ensures.answer
     (ap (λ (n : ℕ). c.in-Ok.read.1 + header.width * header.height * n) c.sample_size.ensures) c.in-Err-end_of_file.ensures.answer

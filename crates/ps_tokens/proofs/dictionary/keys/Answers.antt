@@ -11,16 +11,16 @@ pub entries-preserved : goal.entries-preserved
 entries-preserved c =
     let end = c.args.dict + 1 + length c.within-rest.result.now in
     let rest = c.entries.rest.now in
-    let behind = c.behind_entry-rest.result.now in
+    let suffix = c.after_entry-rest.result.now in
     let place = end - length rest in
     let some : 0 < length rest = omega (arith, false-eqb (length rest) 0 c.entries-test.ensures) in
     let pushed : c.push.new.self.items ≡ c.entries.keys.items ++ place ∷ [] = search (rules, c.in-Ok.ensures.items) in
     record {
       same =
-          ap (λ ks. ks ++ keys_from (end - length behind) 0 behind) pushed
-          ∙ append_assoc c.entries.keys.items (place ∷ []) (keys_from (end - length behind) 0 behind)
-          ∙ ap (λ ks. c.entries.keys.items ++ ks) (sym (keys_from-entry end rest behind some c.entries.invariant.left c.behind_entry-rest.ensures.value))
+          ap (λ ks. ks ++ keys_from (end - length suffix) 0 suffix) pushed
+          ∙ append_assoc c.entries.keys.items (place ∷ []) (keys_from (end - length suffix) 0 suffix)
+          ∙ ap (λ ks. c.entries.keys.items ++ ks) (sym (keys_from-entry end rest suffix some c.entries.invariant.left c.after_entry-rest.ensures.value))
           ∙ c.entries.invariant.same;
-      left = omega (arith, c.behind_entry-rest.ensures.less, c.entries.invariant.left);
+      left = omega (arith, c.after_entry-rest.ensures.less, c.entries.invariant.left);
       fits = λ more. c.entries.invariant.fits some;
     }

@@ -19,16 +19,16 @@ entries-preserved c =
     let name = c.args.key.now in
     let end = c.args.dict + 1 + length c.within-rest.result.now in
     let rest = c.entries.rest.now in
-    let behind = c.behind_entry-rest.result.now in
+    let suffix = c.after_entry-rest.result.now in
     let place = end - length rest in
     let some : 0 < length rest = omega (arith, false-eqb (length rest) 0 c.entries-test.ensures) in
     let found : c.if-names.found ≡ cond (names name (slice_get all place)) (Some (place + 1)) c.entries.found =
     elim c.if-names.branch [ then-names w ↦ search rules | else-names w ↦ search rules ] in
     record {
       same =
-          ap (λ o. last_among all name o (keys_from (end - length behind) 0 behind)) found
-          ∙ ap (last_among all name c.entries.found) (sym (keys_from-entry end rest behind some c.entries.invariant.left c.behind_entry-rest.ensures.value))
+          ap (λ o. last_among all name o (keys_from (end - length suffix) 0 suffix)) found
+          ∙ ap (last_among all name c.entries.found) (sym (keys_from-entry end rest suffix some c.entries.invariant.left c.after_entry-rest.ensures.value))
           ∙ c.entries.invariant.same;
-      left = omega (arith, c.behind_entry-rest.ensures.less, c.entries.invariant.left);
+      left = omega (arith, c.after_entry-rest.ensures.less, c.entries.invariant.left);
       fits = λ more. c.entries.invariant.fits some;
     }

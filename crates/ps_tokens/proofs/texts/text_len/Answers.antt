@@ -1,6 +1,6 @@
 use Rattle.std.proofs.Common.{arith}
 use Rattle.std.proofs.lemmas.Bool.Decides.{nat_tests}
-use Rattle.ps_tokens.proofs.Fronts.{text_end-drop}
+use Rattle.ps_tokens.proofs.Prefixes.{text_end-drop}
 use Rattle.ps_tokens.proofs.texts.text_len.Goals as goal
 use Rattle.ps_tokens.proofs.texts.text_len.Goals.{then-escaped, else-escaped+then-b-eq92, else-escaped+else-b-eq92+then-b-eq40, else-escaped+else-b-eq92+else-b-eq40+then-b-eq41+else-depth-eq0, else-escaped+else-b-eq92+else-b-eq40+else-b-eq41}
 

@@ -1,9 +1,9 @@
 use Rattle.std.proofs.Common.{◌≡◌, ℕ, ◌+◌, ◌-◌, ◌*◌, ◌/◌, ◌^◌, ap, ◌∙◌, arith}
 use Rattle.row_cells.specs.Packing.{lane}
-use Rattle.row_cells.proofs.Lanes.{lane_behind}
+use Rattle.row_cells.proofs.Lanes.{lane_after}
 use Rattle.row_cells.proofs.packing.without_lanes.Goals as goal
 
 pub returns-clause-rest : goal.returns-clause-rest
 returns-clause-rest c j =
     let n : ℕ = (c.args.cell - 1) / 2 ^ (c.args.bits * c.args.skip) in let e : 1 + n - 1 ≡ n = omega arith in
-    ap (λ (k : ℕ). lane c.args.bits k j) e ∙ lane_behind c.args.bits (c.args.cell - 1) c.args.skip j
+    ap (λ (k : ℕ). lane c.args.bits k j) e ∙ lane_after c.args.bits (c.args.cell - 1) c.args.skip j

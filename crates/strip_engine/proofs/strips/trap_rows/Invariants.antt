@@ -1,6 +1,6 @@
 use Rattle.std.proofs.Common.{◌≡◌, ◌+◌}
 use Rattle.strip_engine.specs.Bench.{IsBench}
-use Rattle.strip_engine.specs.Standing.{HasRows}
+use Rattle.page_tally.specs.Standing.{HasRows}
 use Rattle.strip_engine.proofs.strips.trap_rows.Given as goal
 
 abbrev pub invariant-loop-k : goal.invariant-loop-k

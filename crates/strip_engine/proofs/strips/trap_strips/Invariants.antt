@@ -1,7 +1,7 @@
 use Rattle.std.proofs.Common.{◌≡◌, ◌≤◌, ◌-◌, length}
 use Rattle.page_model.specs.Page.{height}
 use Rattle.strip_engine.specs.Bench.{IsBench}
-use Rattle.strip_engine.specs.Standing.{HasRows}
+use Rattle.page_tally.specs.Standing.{HasRows}
 use Rattle.strip_engine.proofs.strips.trap_strips.Given as goal
 
 abbrev pub invariant-loop-first : goal.invariant-loop-first

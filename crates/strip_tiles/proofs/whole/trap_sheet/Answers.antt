@@ -1,14 +1,16 @@
-use Rattle.std.proofs.Common.{◌≡◌, ℕ, ◌+◌, ◌≤◌, get_or, sym, subst, arith, drop, List}
+use Rattle.std.proofs.Common.{◌≡◌, ℕ, ◌+◌, ◌≤◌, get_or, sym, subst, arith, drop, length, List, ap, ◌∙◌}
 use Rattle.std.specs.List.{All}
+use Rattle.std.proofs.lemmas.List.{with_items_is}
 use Rattle.page_model.specs.Page.{height, width}
 use Rattle.sheet_windows.specs.declared.spans.Span.{Span}
 use Rattle.sheet_windows.specs.Spans.{AreSpans}
 use Rattle.strip_tiles.specs.Strips.{IsSomeSpan}
-use Rattle.strip_tiles.specs.Whole.{AreTintsTo}
+use Rattle.strip_tiles.specs.Whole.{AreTintsTo, IsKept}
 use Rattle.strip_tiles.proofs.Walking.{next_span, spans_end, spans_order}
-use Rattle.strip_tiles.proofs.Wholes.{all_counted, all_some, all_tints, none_room, rows_add, some_span, strip_added, strip_room}
+use Rattle.strip_tiles.proofs.Wholes.{all_counted, all_some, all_tints, none_room, rows_add, strip_added, strip_room}
 use Rattle.tile_counts.specs.Growth.{AddsArea}
 use Rattle.tile_counts.proofs.Growing.{area_none}
+use Rattle.window_pages.specs.Forms.{form_of}
 use Rattle.strip_tiles.proofs.whole.trap_sheet.Goals as goal
 
 pub loop-row-init : goal.loop-row-init
@@ -19,18 +21,12 @@ loop-row-init g c =
       spans = subst (λ (n : ℕ). AreSpans c.args.down.now 0 rows n) c.requires.rulers.tall (subst (λ (xs : List Span). AreSpans c.args.down.now 0 xs c.args.down.now.side) (sym c.as_slice-row-items.ensures.value) c.in_ok-rows.ensures);
       tints = c.in_ok-tints.ensures;
       counts = area_none sheet 0 0 (width sheet) c.in_ok-counts.counts;
+      line = omega (arith, c.in_ok-line.ensures, c.in_ok-line.line.ok, c.width.ensures.value);
+      kept = tt;
     }
 
-pub trap_strip-requires-clause-row : goal.trap_strip-requires-clause-row
-trap_strip-requires-clause-row g c = λ κs alive.
-    let sheet = c.args.sheet.now in
-    let rows = c.as_slice-row-items.result.now in
-    let none : Span = record { from = 0; wide = 0; skip = 0; core = 0 } in
-    let next = next_span c.args.down.now rows c.loop-row.row-index c.loop-row.at (height sheet) none c.loop-row-test.true c.loop-row.invariant.spans in
-    next.0
-
-pub trap_strip-requires-clause-room : goal.trap_strip-requires-clause-room
-trap_strip-requires-clause-room g c = λ κs alive.
+pub trap_row-requires-clause-room : goal.trap_row-requires-clause-room
+trap_row-requires-clause-room g c = λ κs alive.
     let sheet = c.args.sheet.now in
     let rows = c.as_slice-row-items.result.now in
     let none : Span = record { from = 0; wide = 0; skip = 0; core = 0 } in
@@ -41,21 +37,9 @@ trap_strip-requires-clause-room g c = λ κs alive.
     let valid = c.width-valid.ensures.valid in
     strip_room sheet (width sheet) c.loop-row.at core (height sheet) c.in_ok-counts.counts c.loop-row.counts (none_room sheet c.in_ok-counts.counts empty valid.narrow valid.low) c.loop-row.invariant.counts inside
 
-pub add_strip-requires-clause-columns : goal.add_strip-requires-clause-columns
-add_strip-requires-clause-columns g c =
-    subst (λ (xs : List Span). All (IsSomeSpan c.args.across.now) xs) (sym c.as_slice-in-loop-row-2.ensures.value) (all_some c.args.across.now c.in_ok-columns.columns.items 0 c.args.across.now.side c.in_ok-columns.ensures)
-
-pub add_strip-requires-clause-row : goal.add_strip-requires-clause-row
-add_strip-requires-clause-row g c =
-    let sheet = c.args.sheet.now in
-    let rows = c.as_slice-row-items.result.now in
-    let none : Span = record { from = 0; wide = 0; skip = 0; core = 0 } in
-    let next = next_span c.args.down.now rows c.loop-row.row-index c.loop-row.at (height sheet) none c.loop-row-test.true c.loop-row.invariant.spans in
-    some_span c.args.down.now c.loop-row.at (get_or rows c.loop-row.row-index none) next.0
-
-pub add_strip-requires-clause-plates : goal.add_strip-requires-clause-plates
-add_strip-requires-clause-plates g c =
-    c.loop-row.invariant.tints.count
+pub trap_row-requires-clause-some : goal.trap_row-requires-clause-some
+trap_row-requires-clause-some g c = λ κs alive.
+    subst (λ (xs : List Span). All (IsSomeSpan c.args.across.now) xs) (sym c.as_slice.ensures.value) (all_some c.args.across.now c.in_ok-columns.columns.items 0 c.args.across.now.side c.in_ok-columns.ensures)
 
 pub overflow_add-at : goal.overflow_add-at
 overflow_add-at g c =
@@ -78,14 +62,17 @@ loop-row-preserved g c =
     let core : ℕ = (get_or rows c.loop-row.row-index none).core in
     let inside : c.loop-row.at + core ≤ height sheet = spans_order c.args.down.now (drop (c.loop-row.row-index + 1) rows) (c.loop-row.at + core) (height sheet) next.1 in
     let valid = c.width-valid.ensures.valid in
-    let columns = c.as_slice-in-loop-row-2.result.now in
-    let spans : AreSpans c.args.across.now 0 columns (width sheet) = subst (λ (n : ℕ). AreSpans c.args.across.now 0 columns n) c.requires.rulers.wide (subst (λ (xs : List Span). AreSpans c.args.across.now 0 xs c.args.across.now.side) (sym c.as_slice-in-loop-row-2.ensures.value) c.in_ok-columns.ensures) in
+    let columns = c.as_slice.result.now in
+    let spans : AreSpans c.args.across.now 0 columns (width sheet) = subst (λ (n : ℕ). AreSpans c.args.across.now 0 columns n) c.requires.rulers.wide (subst (λ (xs : List Span). AreSpans c.args.across.now 0 xs c.args.across.now.side) (sym c.as_slice.ensures.value) c.in_ok-columns.ensures) in
     let at : c.loop-row.at ≡ 0 + c.loop-row.at = omega arith in
     record {
       spans = next.1;
-      tints = strip_added sheet c.args.across.now c.args.down.now columns (get_or rows c.loop-row.row-index none) c.loop-row.at c.loop-row.tints c.add_strip.new.out valid.ranges.parts.some_plates valid.ranges.parts.some_zones c.requires.rulers spans next.0 c.loop-row.invariant.tints c.in_ok-add_strip.ensures;
-      counts = rows_add sheet 0 0 (width sheet) c.loop-row.at core c.in_ok-counts.counts c.loop-row.counts c.trap_strip.new.counts c.loop-row.invariant.counts
-          (subst (λ (n : ℕ). AddsArea sheet 0 n (width sheet) core c.loop-row.counts c.trap_strip.new.counts) at c.in_ok-tiles.ensures.counts);
+      tints = strip_added sheet c.args.across.now c.args.down.now columns (get_or rows c.loop-row.row-index none) c.loop-row.at c.loop-row.tints c.trap_row.new.tints valid.ranges.parts.some_plates valid.ranges.parts.some_zones c.requires.rulers spans next.0 c.loop-row.invariant.tints c.in_ok-room.ensures.tints;
+      counts = rows_add sheet 0 0 (width sheet) c.loop-row.at core c.in_ok-counts.counts c.loop-row.counts c.trap_row.new.counts c.loop-row.invariant.counts
+          (subst (λ (n : ℕ). AddsArea sheet 0 n (width sheet) core c.loop-row.counts c.trap_row.new.counts) at c.in_ok-room.ensures.counts);
+      line = (let same = c.trap_row.ensures.line ∙ ap length c.deref_mut.ensures.value in
+          ap length (with_items_is c.loop-row.line c.trap_row.new.line (omega (arith, same, c.loop-row.line.ok))) ∙ same ∙ c.loop-row.invariant.line);
+      kept = subst (λ (cs : List Span). IsKept (form_of sheet) cs c.in_ok-room.room) c.as_slice.ensures.value c.in_ok-room.ensures.kept;
     }
 
 pub returns-clause-tints : goal.returns-clause-tints

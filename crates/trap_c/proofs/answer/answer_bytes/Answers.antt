@@ -1,5 +1,7 @@
 -- Goals of answer_bytes that want a lemma by name.
 use Rattle.std.proofs.Common.{ℕ, List, subst}
+use Rattle.page_model.specs.Counts.{page_counts}
+use Rattle.trap_report.specs.Report.{report_of}
 use Rattle.trap_c.specs.Calls.{Tells}
 use Rattle.trap_c.specs.Requests.{asked}
 use Rattle.trap_c.proofs.AnswerLemmas.{done_well}
@@ -7,16 +9,16 @@ use Rattle.trap_c.proofs.WorkLemmas.{all_lie, each_full, few_lie, each_narrow}
 use Rattle.trap_c.proofs.answer.answer_bytes.Goals as goal
 
 pub put_bytes-requires-clause-all : goal.put_bytes-requires-clause-all
-put_bytes-requires-clause-all c = all_lie 255 c.args.request.now.layout c.args.samples.now c.in-Ok.ensures.0 c.in-Ok.done c.in-Ok.ensures.2
+put_bytes-requires-clause-all c = all_lie 255 c.args.request.now.layout c.args.samples.now c.in-Ok.ensures.0 (report_of c.in-Ok.ensures.0 (page_counts c.in-Ok.ensures.0)) c.in-Ok.done c.in-Ok.ensures.2
 
 pub put_bytes-requires-clause-full : goal.put_bytes-requires-clause-full
-put_bytes-requires-clause-full c = each_full 255 c.args.request.now.layout c.args.samples.now c.in-Ok.ensures.0 c.in-Ok.done c.in-Ok.ensures.2
+put_bytes-requires-clause-full c = each_full 255 c.args.request.now.layout c.args.samples.now c.in-Ok.ensures.0 (report_of c.in-Ok.ensures.0 (page_counts c.in-Ok.ensures.0)) c.in-Ok.done c.in-Ok.ensures.2
 
 pub put_bytes-requires-clause-narrow : goal.put_bytes-requires-clause-narrow
-put_bytes-requires-clause-narrow c = each_narrow c.args.request.now.layout c.args.samples.now c.in-Ok.ensures.0 c.in-Ok.done c.in-Ok.ensures.2
+put_bytes-requires-clause-narrow c = each_narrow c.args.request.now.layout c.args.samples.now c.in-Ok.ensures.0 (report_of c.in-Ok.ensures.0 (page_counts c.in-Ok.ensures.0)) c.in-Ok.done c.in-Ok.ensures.2
 
 pub put_bytes-requires-clause-few : goal.put_bytes-requires-clause-few
-put_bytes-requires-clause-few c = few_lie 255 c.args.request.now.layout c.args.samples.now c.in-Ok.ensures.0 c.in-Ok.done c.in-Ok.ensures.2
+put_bytes-requires-clause-few c = few_lie 255 c.args.request.now.layout c.args.samples.now c.in-Ok.ensures.0 (report_of c.in-Ok.ensures.0 (page_counts c.in-Ok.ensures.0)) c.in-Ok.done c.in-Ok.ensures.2
 
 pub returns-in-Ok : goal.returns-in-Ok
 returns-in-Ok c = done_well 255 (asked c.args.request.now) c.args.samples.now c.put_bytes.new.samples c.args.text.now c.put_text.new.text c.put_text.new.text_len c.in-Ok.done c.in-Ok.ensures c.put_bytes.ensures.planes c.put_bytes.ensures.gaps (subst (λ (t : List ℕ). Tells t c.args.text.now c.put_text.new.text c.put_text.new.text_len) c.as_slice.ensures c.put_text.ensures)

@@ -1,8 +1,8 @@
 use Rattle.std.proofs.Common.{◌≡◌, ◌<◌, length}
 use Rattle.std.specs.Prelude.{slice_index_or}
 use Rattle.page_model.specs.Page.{height}
-use Rattle.strip_engine.specs.Standing.{KeepsRoom}
-use Rattle.strip_engine.specs.Tallies.{HasPlates}
+use Rattle.page_tally.specs.Standing.{KeepsRoom}
+use Rattle.page_tally.specs.Tallies.{HasPlates}
 use Rattle.trap_engine.specs.declared.parts.Part.{Part}
 use Rattle.trap_engine.proofs.parts.add_parts.Given as goal
 

@@ -4,8 +4,8 @@ use Rattle.lists.specs.Words.{count_below}
 use Rattle.page_model.specs.Counts.{plate_changes}
 use Rattle.page_model.specs.Page.{height, plates, sample_at, width}
 use Rattle.page_model.specs.Planes.{plane_at}
-use Rattle.strip_engine.specs.Standing.{IsTrappedTo, KeepsRoom}
-use Rattle.strip_engine.specs.Tallies.{HasTallies}
+use Rattle.page_tally.specs.Standing.{IsTrappedTo, KeepsRoom}
+use Rattle.page_tally.specs.Tallies.{HasTallies}
 use Rattle.trap_engine.specs.declared.plates.PlateWork.{PlateWork}
 use Rattle.trap_engine.specs.Taking.{IsTakenPlate}
 use Rattle.trap_engine.proofs.plates.put_works.Given as goal

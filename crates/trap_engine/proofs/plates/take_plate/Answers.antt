@@ -1,5 +1,5 @@
 use Rattle.std.proofs.Common.{◌∙◌, arith, refl}
-use Rattle.strip_engine.proofs.CountLemmas.{row_counted}
+use Rattle.page_tally.proofs.CountLemmas.{row_counted}
 use Rattle.trap_engine.proofs.TakeLemmas.{changed_fits, none_changed, plane_begun, plate_all}
 use Rattle.trap_engine.proofs.plates.take_plate.Goals as goal
 

@@ -2,7 +2,7 @@ use Rattle.std.proofs.Common.{◌≡◌, ◌*◌, length}
 use Rattle.lists.specs.Words.{count_below}
 use Rattle.page_model.specs.Counts.{plate_changes}
 use Rattle.page_model.specs.Page.{height, sample_at, width}
-use Rattle.strip_engine.specs.Standing.{IsTrappedTo}
+use Rattle.page_tally.specs.Standing.{IsTrappedTo}
 use Rattle.trap_engine.proofs.plates.take_plate.Given as goal
 
 abbrev pub invariant-loop-y : goal.invariant-loop-y

@@ -2,7 +2,7 @@ use Rattle.std.proofs.Common.{◌≡◌, ℕ, ◌<◌, ◌≤◌, length}
 use Rattle.std.specs.Prelude.{slice_index_or}
 use Rattle.page_model.specs.Page.{plates}
 use Rattle.page_model.specs.Planes.{plane_at}
-use Rattle.strip_engine.specs.Standing.{IsTrappedTo}
+use Rattle.page_tally.specs.Standing.{IsTrappedTo}
 use Rattle.trap_engine.specs.declared.plates.PlateWork.{PlateWork}
 use Rattle.trap_engine.specs.Taking.{AreSeatedWorks, IsPlateWork}
 use Rattle.trap_engine.proofs.room.works_of.Given as goal

@@ -20,7 +20,7 @@ loop-number-preserved g c =
       turn = subst (λ (l : List ReplyParts). InTurn 0 0 (take (n + 1) c.args.lines.now) a d l) (sym pushed)
           (next_turn c.args.lines.now n c.loop-number.used line a b d c.loop-number.gathered.items reply (omega arith) before.count before.used item before.turn c.gather_line-line.ensures.answer);
       count = ap length pushed ∙ length-append c.loop-number.gathered.items (reply ∷ []) ∙ ap (λ (m : ℕ). m + 1) before.count;
-      used = ap (λ (m : ℕ). c.loop-number.used + m) c.accepted-used.ensures ∙ ap (λ (m : ℕ). m + accepted_of reply.page reply.outcome) before.used ∙ sym (ap accepted pushed ∙ accepted_more c.loop-number.gathered.items reply);
-      few = let limit = c.gather_line-line.ensures.limit in let took = c.accepted-used.ensures in omega arith;
+      used = ap (λ (m : ℕ). c.loop-number.used + m) c.accepted_samples-used.ensures ∙ ap (λ (m : ℕ). m + accepted_of reply.page reply.outcome) before.used ∙ sym (ap accepted pushed ∙ accepted_more c.loop-number.gathered.items reply);
+      few = let limit = c.gather_line-line.ensures.limit in let took = c.accepted_samples-used.ensures in omega arith;
       room = let kept = c.in-Ok.ensures.capacity in let room = before.room in omega arith;
     }

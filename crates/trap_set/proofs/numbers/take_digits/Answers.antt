@@ -2,7 +2,7 @@ use Rattle.std.proofs.Common.{◌-◌, sym, subst, take, drop, length}
 use Rattle.std.specs.Str.Parse.{digits_value}
 use Rattle.std.proofs.lemmas.Bool.{both_ways}
 use Rattle.std.proofs.lemmas.List.{take_rest}
-use Rattle.trap_set.proofs.NumberLemmas.{counted, counted_digits, begins_digits, plain_front}
+use Rattle.trap_set.proofs.NumberLemmas.{counted, counted_digits, begins_digits, plain_prefix}
 use Rattle.trap_set.specs.Numbers.{BeginsDigits, IsPlain}
 use Rattle.trap_set.proofs.numbers.take_digits.Goals as goal
 
@@ -14,7 +14,7 @@ value_of-requires-clause-digits c = counted_digits c.args.text.now c.count_digit
 
 pub returns-then-not-is_plain-clause-none : goal.returns-then-not-is_plain-clause-none
 returns-then-not-is_plain-clause-none c n rest h =
-    let plain = subst (IsPlain c.args.text.now) (sym c.count_digits-count.ensures) (plain_front c.args.text.now n rest h) in
+    let plain = subst (IsPlain c.args.text.now) (sym c.count_digits-count.ensures) (plain_prefix c.args.text.now n rest h) in
     both_ways _ c.if-not-is_plain.true (c.is_plain.ensures.1 plain)
 
 pub returns-clause-some : goal.returns-clause-some

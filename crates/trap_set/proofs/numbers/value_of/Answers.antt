@@ -1,16 +1,16 @@
 use Rattle.std.proofs.Common.{arith}
 use Rattle.std.proofs.lemmas.Int.Digits.{digits_value_more}
-use Rattle.trap_set.proofs.NumberLemmas.{digit_range, digit_worth, front_short}
+use Rattle.trap_set.proofs.NumberLemmas.{digit_range, digit_worth, prefix_short}
 use Rattle.trap_set.proofs.numbers.value_of.Goals as goal
 
 pub overflow_mul-value : goal.overflow_mul-value
 overflow_mul-value c =
-    let below = front_short c.args.digits.now c.loop-digit.digit-index c.requires.digits (omega arith) c.requires.few in
+    let below = prefix_short c.args.digits.now c.loop-digit.digit-index c.requires.digits (omega arith) c.requires.few in
     omega (arith, below, c.loop-digit.invariant)
 
 pub overflow_add-value : goal.overflow_add-value
 overflow_add-value c =
-    let below = front_short c.args.digits.now c.loop-digit.digit-index c.requires.digits (omega arith) c.requires.few in
+    let below = prefix_short c.args.digits.now c.loop-digit.digit-index c.requires.digits (omega arith) c.requires.few in
     let range = digit_range c.args.digits.now c.loop-digit.digit-index c.requires.digits (omega arith) in
     omega (arith, below, c.loop-digit.invariant, range.1, c.from.ensures)
 

@@ -12,4 +12,4 @@ returns c =
     let tint = get_or-drop 3 ns c.args.c 0 ∙ ap (slice_index ns) place in
     same_plane _ _ refl refl refl
     (put_plane (run_in ns) c.args.c c.args.plane.now c.put_tints.new.tints c.requires.some c.requires.in_row c.put_tints.ensures.many c.put_tints.ensures.before
-    (λ k low high. c.put_tints.ensures.here k low high ∙ sym tint) c.put_tints.ensures.behind)
+    (λ k low high. c.put_tints.ensures.here k low high ∙ sym tint) c.put_tints.ensures.suffix)

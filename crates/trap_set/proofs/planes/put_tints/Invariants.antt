@@ -6,5 +6,5 @@ invariant-loop-place l = record {
   many : length l.tints ≡ length l.initial.tints;
   before : (k : ℕ) → k < l.from → slice_index l.tints k ≡ slice_index l.initial.tints k;
   here : (k : ℕ) → l.from ≤ k → k < l.place → slice_index l.tints k ≡ l.tint;
-  behind : (k : ℕ) → l.place ≤ k → slice_index l.tints k ≡ slice_index l.initial.tints k;
+  suffix : (k : ℕ) → l.place ≤ k → slice_index l.tints k ≡ slice_index l.initial.tints k;
 }

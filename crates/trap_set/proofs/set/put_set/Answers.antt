@@ -2,7 +2,7 @@ use Rattle.std.proofs.Common.{◌++◌, sym, refl}
 use Rattle.plane_shapes.specs.Shapes.{tall}
 use Rattle.trap_set.specs.Rows.{rows_text}
 use Rattle.trap_set.specs.SetText.{head_of, page_line, title_line, end_line, set_text}
-use Rattle.trap_set.proofs.HoldingLemmas.{puts_as, puts_then, puts_front}
+use Rattle.trap_set.proofs.HoldingLemmas.{puts_as, puts_then, puts_prefix}
 use Rattle.trap_set.proofs.TextLemmas.{set_is}
 use Rattle.trap_set.proofs.set.put_set.Goals as goal
 
@@ -11,4 +11,4 @@ returns-in-Ok g c = puts_as c.put.result (((title_line ++ page_line (head_of c.a
     (g.R.Rack.state c.args.rack.now) (g.R.Rack.state c.put_lines.new.rack) (g.R.Rack.state c.put.new.rack) c.in-Ok.ensures c.put.ensures)
 
 pub returns-in-Err : goal.returns-in-Err
-returns-in-Err g c = puts_front c.in-Err.field-0 _ ((title_line ++ page_line (head_of c.args.old.now)) ++ rows_text c.args.old.now c.args.new.now (tall c.args.old.now)) end_line (set_text c.args.old.now c.args.new.now) c.args.held.now.items c.put_lines.new.held.items c.put_lines.new.held.items (g.R.Rack.state c.args.rack.now) (g.R.Rack.state c.put_lines.new.rack) (sym (set_is c.args.old.now c.args.new.now)) c.in-Err.ensures
+returns-in-Err g c = puts_prefix c.in-Err.field-0 _ ((title_line ++ page_line (head_of c.args.old.now)) ++ rows_text c.args.old.now c.args.new.now (tall c.args.old.now)) end_line (set_text c.args.old.now c.args.new.now) c.args.held.now.items c.put_lines.new.held.items c.put_lines.new.held.items (g.R.Rack.state c.args.rack.now) (g.R.Rack.state c.put_lines.new.rack) (sym (set_is c.args.old.now c.args.new.now)) c.in-Err.ensures

@@ -1,6 +1,6 @@
 use Rattle.std.proofs.Common.{[], ◌++◌, sym, refl}
 use Rattle.trap_set.specs.SetText.{set_text}
-use Rattle.trap_set.proofs.HoldingLemmas.{puts_as, puts_then, puts_front}
+use Rattle.trap_set.proofs.HoldingLemmas.{puts_as, puts_then, puts_prefix}
 use Rattle.std.proofs.lemmas.List.{append-nil}
 use Rattle.trap_set.proofs.set.put_whole.Goals as goal
 
@@ -9,4 +9,4 @@ returns-in-Ok-clause-puts g c = puts_as c.flush.result ((set_text c.args.old.now
     (g.R.Rack.state c.args.rack.now) (g.R.Rack.state c.put_set.new.rack) (g.R.Rack.state c.flush.new.rack) c.in-Ok.ensures c.flush.ensures.puts)
 
 pub returns-in-Err-clause-puts : goal.returns-in-Err-clause-puts
-returns-in-Err-clause-puts g c = puts_front c.in-Err.field-0 _ (set_text c.args.old.now c.args.new.now) [] (set_text c.args.old.now c.args.new.now) c.args.held.now.items c.put_set.new.held.items c.put_set.new.held.items (g.R.Rack.state c.args.rack.now) (g.R.Rack.state c.put_set.new.rack) (sym (append-nil (set_text c.args.old.now c.args.new.now))) c.in-Err.ensures
+returns-in-Err-clause-puts g c = puts_prefix c.in-Err.field-0 _ (set_text c.args.old.now c.args.new.now) [] (set_text c.args.old.now c.args.new.now) c.args.held.now.items c.put_set.new.held.items c.put_set.new.held.items (g.R.Rack.state c.args.rack.now) (g.R.Rack.state c.put_set.new.rack) (sym (append-nil (set_text c.args.old.now c.args.new.now))) c.in-Err.ensures

@@ -2,7 +2,7 @@ use Rattle.std.proofs.Common.{◌≡◌, ℕ, List, [], ◌∷◌, ◌++◌, len
 use Rattle.std.specs.Prelude.{codes}
 use Rattle.std.specs.List.{flat_map}
 use Rattle.trap_set.specs.SetText.{head_of, number, page_line, title_line}
-use Rattle.trap_set.proofs.HoldingLemmas.{puts_as, puts_then, puts_front}
+use Rattle.trap_set.proofs.HoldingLemmas.{puts_as, puts_then, puts_prefix}
 use Rattle.trap_set.proofs.TextLemmas.{head_is}
 use Rattle.std.proofs.lemmas.List.{get_or_default}
 use Rattle.page_model.specs.declared.parts.Plane.{Plane}
@@ -20,5 +20,5 @@ returns-in-Ok g c =
 pub returns-in-Err : goal.returns-in-Err
 returns-in-Err g c =
     let first : c.index-as_slice-0.result ≡ plane_at c.args.planes.now 0 = c.index-as_slice-0.is ∙ ap (λ (ps : List Plane). get_or ps 0 c.index-as_slice-0.result) c.as_slice.ensures ∙ get_or_default c.args.planes.now 0 c.index-as_slice-0.result no_plane c.requires.shape.some in
-    puts_front c.in-Err.field-0 _ ((title_line ++ codes "page") ++ flat_map number (c.index-as_slice-0.result.width ∷ c.index-as_slice-0.result.height ∷ c.index-as_slice-0.result.maxval ∷ [])) ((codes " plates" ++ number (length c.args.planes.now)) ++ 10 ∷ []) (title_line ++ page_line (head_of c.args.planes.now)) c.args.held.now.items c.put_sides.new.held.items c.put_sides.new.held.items
+    puts_prefix c.in-Err.field-0 _ ((title_line ++ codes "page") ++ flat_map number (c.index-as_slice-0.result.width ∷ c.index-as_slice-0.result.height ∷ c.index-as_slice-0.result.maxval ∷ [])) ((codes " plates" ++ number (length c.args.planes.now)) ++ 10 ∷ []) (title_line ++ page_line (head_of c.args.planes.now)) c.args.held.now.items c.put_sides.new.held.items c.put_sides.new.held.items
     (g.R.Rack.state c.args.rack.now) (g.R.Rack.state c.put_sides.new.rack) (sym (ap (λ (p : Plane). ((title_line ++ codes "page") ++ flat_map number (p.width ∷ p.height ∷ p.maxval ∷ [])) ++ ((codes " plates" ++ number (length c.args.planes.now)) ++ 10 ∷ [])) first ∙ head_is (head_of c.args.planes.now))) c.in-Err.ensures

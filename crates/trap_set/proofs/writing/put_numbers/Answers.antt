@@ -1,7 +1,7 @@
 use Rattle.std.proofs.Common.{◌++◌, get_or, take, drop, Err, ◌+◌}
 use Rattle.std.specs.List.{flat_map}
 use Rattle.trap_set.specs.SetText.{number}
-use Rattle.trap_set.proofs.HoldingLemmas.{puts_front, puts_then}
+use Rattle.trap_set.proofs.HoldingLemmas.{puts_prefix, puts_then}
 use Rattle.trap_set.proofs.TextLemmas.{numbers_rest}
 use Rattle.trap_set.proofs.writing.put_numbers.Goals as goal
 
@@ -9,7 +9,7 @@ pub returns-in-Err : goal.returns-in-Err
 returns-in-Err g c =
     let xs = c.args.numbers.now in
     let i = c.loop-n.n-index in
-    let front = flat_map number (take i xs) in
-    puts_front c.in-Err.field-0 _ (front ++ number (get_or xs i 0)) (flat_map number (drop (i + 1) xs)) (flat_map number xs) c.args.held.now.items c.put_number.new.held.items c.put_number.new.held.items
+    let prefix = flat_map number (take i xs) in
+    puts_prefix c.in-Err.field-0 _ (prefix ++ number (get_or xs i 0)) (flat_map number (drop (i + 1) xs)) (flat_map number xs) c.args.held.now.items c.put_number.new.held.items c.put_number.new.held.items
     (g.R.Rack.state c.args.rack.now) (g.R.Rack.state c.put_number.new.rack) (numbers_rest xs i c.loop-n-test.true)
-    (puts_then tt (Err c.in-Err.field-0) front (number (get_or xs i 0)) c.args.held.now.items c.loop-n.held.items c.put_number.new.held.items (g.R.Rack.state c.args.rack.now) (g.R.Rack.state c.loop-n.rack) (g.R.Rack.state c.put_number.new.rack) c.loop-n.invariant c.in-Err.ensures)
+    (puts_then tt (Err c.in-Err.field-0) prefix (number (get_or xs i 0)) c.args.held.now.items c.loop-n.held.items c.put_number.new.held.items (g.R.Rack.state c.args.rack.now) (g.R.Rack.state c.loop-n.rack) (g.R.Rack.state c.put_number.new.rack) c.loop-n.invariant c.in-Err.ensures)

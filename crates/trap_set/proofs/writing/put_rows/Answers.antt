@@ -1,14 +1,14 @@
 use Rattle.std.proofs.Common.{◌++◌, ◌+◌, sym, refl, arith, Ok, Err}
 use Rattle.plane_shapes.specs.Shapes.{wide, tall}
 use Rattle.trap_set.specs.Rows.{row_text, rows_text}
-use Rattle.trap_set.proofs.HoldingLemmas.{puts_as, puts_then, puts_front}
+use Rattle.trap_set.proofs.HoldingLemmas.{puts_as, puts_then, puts_prefix}
 use Rattle.trap_set.proofs.TextLemmas.{rows_next, rows_after}
 use Rattle.trap_set.proofs.writing.put_rows.Goals as goal
 
 pub returns-in-Err : goal.returns-in-Err
 returns-in-Err g c =
     let more = rows_after c.args.old.now c.args.new.now c.loop-y.y (tall c.args.old.now) (omega arith) in
-    puts_front c.in-Err.field-0 _ ((rows_text c.args.old.now c.args.new.now c.loop-y.y) ++ (row_text c.args.old.now c.args.new.now c.loop-y.y (wide c.args.old.now))) more.0 (rows_text c.args.old.now c.args.new.now (tall c.args.old.now)) c.args.held.now.items c.put_row.new.held.items c.put_row.new.held.items
+    puts_prefix c.in-Err.field-0 _ ((rows_text c.args.old.now c.args.new.now c.loop-y.y) ++ (row_text c.args.old.now c.args.new.now c.loop-y.y (wide c.args.old.now))) more.0 (rows_text c.args.old.now c.args.new.now (tall c.args.old.now)) c.args.held.now.items c.put_row.new.held.items c.put_row.new.held.items
     (g.R.Rack.state c.args.rack.now) (g.R.Rack.state c.put_row.new.rack) more.1
     (puts_then tt (Err c.in-Err.field-0) (rows_text c.args.old.now c.args.new.now c.loop-y.y) (row_text c.args.old.now c.args.new.now c.loop-y.y (wide c.args.old.now)) c.args.held.now.items c.loop-y.held.items c.put_row.new.held.items (g.R.Rack.state c.args.rack.now) (g.R.Rack.state c.loop-y.rack) (g.R.Rack.state c.put_row.new.rack) c.loop-y.invariant c.in-Err.ensures)
 

@@ -4,7 +4,7 @@ use Rattle.std.specs.List.{flat_map}
 use Rattle.lists.specs.Words.{list_below}
 use Rattle.trap_set.specs.Runs.{run_at, tint_at}
 use Rattle.trap_set.specs.SetText.{number, run_line}
-use Rattle.trap_set.proofs.HoldingLemmas.{puts_as, puts_then, puts_front}
+use Rattle.trap_set.proofs.HoldingLemmas.{puts_as, puts_then, puts_prefix}
 use Rattle.trap_set.proofs.TextLemmas.{run_line_is}
 use Rattle.trap_set.proofs.writing.put_run.Goals as goal
 
@@ -14,5 +14,5 @@ returns-in-Ok g c = puts_as c.put_last_tints.result ((codes "run" ++ flat_map nu
     (g.R.Rack.state c.args.rack.now) (g.R.Rack.state c.put_place.new.rack) (g.R.Rack.state c.put_last_tints.new.rack) c.in-Ok.ensures c.put_last_tints.ensures)
 
 pub returns-in-Err : goal.returns-in-Err
-returns-in-Err g c = puts_front c.in-Err.field-0 _ (codes "run" ++ flat_map number (c.args.y ∷ c.args.x ∷ c.run_length-count.result ∷ [])) (flat_map number (list_below (λ (k : ℕ). tint_at c.args.new.now k c.args.x c.args.y) (length c.args.new.now)) ++ 10 ∷ []) (run_line (run_at c.args.old.now c.args.new.now c.args.x c.args.y)) c.args.held.now.items c.put_place.new.held.items c.put_place.new.held.items
+returns-in-Err g c = puts_prefix c.in-Err.field-0 _ (codes "run" ++ flat_map number (c.args.y ∷ c.args.x ∷ c.run_length-count.result ∷ [])) (flat_map number (list_below (λ (k : ℕ). tint_at c.args.new.now k c.args.x c.args.y) (length c.args.new.now)) ++ 10 ∷ []) (run_line (run_at c.args.old.now c.args.new.now c.args.x c.args.y)) c.args.held.now.items c.put_place.new.held.items c.put_place.new.held.items
     (g.R.Rack.state c.args.rack.now) (g.R.Rack.state c.put_place.new.rack) (sym (ap (λ (n : ℕ). (codes "run" ++ flat_map number (c.args.y ∷ c.args.x ∷ n ∷ [])) ++ (flat_map number (list_below (λ (k : ℕ). tint_at c.args.new.now k c.args.x c.args.y) (length c.args.new.now)) ++ 10 ∷ [])) c.run_length-count.ensures ∙ run_line_is (run_at c.args.old.now c.args.new.now c.args.x c.args.y))) c.in-Err.ensures

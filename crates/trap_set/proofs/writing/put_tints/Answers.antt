@@ -3,7 +3,7 @@ use Rattle.std.specs.List.{flat_map}
 use Rattle.lists.specs.Words.{list_below}
 use Rattle.trap_set.specs.Runs.{tint_at}
 use Rattle.trap_set.specs.SetText.{number}
-use Rattle.trap_set.proofs.HoldingLemmas.{puts_front, puts_then, puts_as}
+use Rattle.trap_set.proofs.HoldingLemmas.{puts_prefix, puts_then, puts_as}
 use Rattle.trap_set.proofs.TextLemmas.{tints_next, tints_rest}
 use Rattle.trap_set.proofs.writing.put_tints.Goals as goal
 
@@ -12,20 +12,20 @@ returns-in-Err g c =
     let f = λ (k : ℕ). tint_at c.args.planes.now k c.args.x c.args.y in
     let k = c.loop-c.c in
     let n = length c.args.planes.now in
-    let front = flat_map number (list_below f k) in
+    let prefix = flat_map number (list_below f k) in
     let here : c.from.result ≡ f k = cc in
     let in_range : k < n = omega arith in
-    puts_front c.in-Err.field-0 _ (front ++ number (f k)) (flat_map number (list_below (λ (i : ℕ). f (k + 1 + i)) (n - (k + 1)))) (flat_map number (list_below f n)) c.args.held.now.items c.put_number.new.held.items c.put_number.new.held.items
+    puts_prefix c.in-Err.field-0 _ (prefix ++ number (f k)) (flat_map number (list_below (λ (i : ℕ). f (k + 1 + i)) (n - (k + 1)))) (flat_map number (list_below f n)) c.args.held.now.items c.put_number.new.held.items c.put_number.new.held.items
     (g.R.Rack.state c.args.rack.now) (g.R.Rack.state c.put_number.new.rack) (tints_rest f k n in_range)
-    (puts_then tt (Err c.in-Err.field-0) front (number (f k)) c.args.held.now.items c.loop-c.held.items c.put_number.new.held.items (g.R.Rack.state c.args.rack.now) (g.R.Rack.state c.loop-c.rack) (g.R.Rack.state c.put_number.new.rack) c.loop-c.invariant
+    (puts_then tt (Err c.in-Err.field-0) prefix (number (f k)) c.args.held.now.items c.loop-c.held.items c.put_number.new.held.items (g.R.Rack.state c.args.rack.now) (g.R.Rack.state c.loop-c.rack) (g.R.Rack.state c.put_number.new.rack) c.loop-c.invariant
     (puts_as (Err c.in-Err.field-0) (number c.from.result) (number (f k)) c.loop-c.held.items c.loop-c.held.items c.put_number.new.held.items (g.R.Rack.state c.loop-c.rack) (g.R.Rack.state c.put_number.new.rack) (ap number here) refl c.in-Err.ensures))
 
 pub loop-c-preserved : goal.loop-c-preserved
 loop-c-preserved g c =
     let f = λ (k : ℕ). tint_at c.args.planes.now k c.args.x c.args.y in
     let k = c.loop-c.c in
-    let front = flat_map number (list_below f k) in
+    let prefix = flat_map number (list_below f k) in
     let here : c.from.result ≡ f k = cc in
-    puts_as (Ok tt) (front ++ number (f k)) (flat_map number (list_below f (k + 1))) c.args.held.now.items c.args.held.now.items c.put_number.new.held.items (g.R.Rack.state c.args.rack.now) (g.R.Rack.state c.put_number.new.rack) (sym (tints_next f k)) refl
-    (puts_then tt (Ok tt) front (number (f k)) c.args.held.now.items c.loop-c.held.items c.put_number.new.held.items (g.R.Rack.state c.args.rack.now) (g.R.Rack.state c.loop-c.rack) (g.R.Rack.state c.put_number.new.rack) c.loop-c.invariant
+    puts_as (Ok tt) (prefix ++ number (f k)) (flat_map number (list_below f (k + 1))) c.args.held.now.items c.args.held.now.items c.put_number.new.held.items (g.R.Rack.state c.args.rack.now) (g.R.Rack.state c.put_number.new.rack) (sym (tints_next f k)) refl
+    (puts_then tt (Ok tt) prefix (number (f k)) c.args.held.now.items c.loop-c.held.items c.put_number.new.held.items (g.R.Rack.state c.args.rack.now) (g.R.Rack.state c.loop-c.rack) (g.R.Rack.state c.put_number.new.rack) c.loop-c.invariant
     (puts_as (Ok tt) (number c.from.result) (number (f k)) c.loop-c.held.items c.loop-c.held.items c.put_number.new.held.items (g.R.Rack.state c.loop-c.rack) (g.R.Rack.state c.put_number.new.rack) (ap number here) refl c.in-Ok.ensures))

@@ -3,7 +3,8 @@ use Rattle.std.proofs.lemmas.List.{length-map}
 use Rattle.page_model.specs.declared.parts.Counts.{Counts}
 use Rattle.page_model.specs.declared.parts.Plane.{Plane}
 use Rattle.trap_report.specs.Report.{AreCounts, report_of}
-use Rattle.trappool_cli.proofs.Writing.{counts_fit, as_many_planes, page_written}
+use Rattle.trappool_cli.proofs.Writing.{page_written}
+use Rattle.trap_report.proofs.ReportLemmas.{as_many_planes, counts_fit}
 use Rattle.trappool_cli.proofs.answering.write_done.Goals as goal
 
 pub report-requires : goal.report-requires

@@ -2,7 +2,7 @@ use Rattle.std.proofs.Common.{◌∙◌, sym, ap, subst}
 use Rattle.trap_pool.specs.declared.outcome.Outcome.{Outcome}
 use Rattle.trap_pool.specs.Replies.{ReplyParts, reply_parts}
 use Rattle.trappool_cli.specs.Answers.{WritesReply}
-use Rattle.trappool_cli.specs.declared.answering.Said.TheVariants as said
+use Rattle.trappool_cli.specs.declared.answering.LineStatus.TheVariants as said
 use Rattle.trappool_cli.proofs.Writing.{large_kept, refused_kept}
 use Rattle.trappool_cli.proofs.answering.write_reply.Goals as goal
 

@@ -1,9 +1,9 @@
 use Rattle.std.proofs.Common.{ℕ, List, refl, subst}
-use Rattle.trap_report.specs.Telling.{TellsText}
+use Rattle.refusals.specs.Telling.{TellsText}
 use Rattle.trappool_cli.proofs.asking.refuse_words.Goals as goal
 
 pub returns : goal.returns
 returns g c =
     let a = g.R.Rack.state c.args.rack.now in
     let b = g.R.Rack.state c.tell_line.new.rack in
-    record { files = c.tell_line.ensures.files; text = subst (λ (l : List ℕ). TellsText l a b) c.text_line.ensures c.tell_line.ensures.text; status_is = refl }
+    record { files = c.tell_line.ensures.files; text = subst (λ (l : List ℕ). TellsText l a b) c.of_text.ensures.value c.tell_line.ensures.text; status_is = refl }

@@ -6,7 +6,7 @@ use Rattle.trapset_cli.proofs.planes.patched_planes.Goals as goal
 pub returns-in-Ok-read_planes : goal.returns-in-Ok-read_planes
 returns-in-Ok-read_planes g c =
     let named = ap (λ (fs : List (Bor (List ℕ))). map (λ (f : Bor (List ℕ)). f.now) fs) c.as_slice.ensures.value ∙ c.in-Ok.ensures in
-    plates_patched (apply_in c.args.command.now) (g.T.Tray.state c.args.tray.now) (g.T.Tray.state c.read_planes.new.tray) (g.T.Tray.state c.patched.new.tray) (map (λ (f : Bor (List ℕ)). f.now) c.as_slice.result.now) c.in-Ok-read_planes.planes c.patched.result named c.in-Ok-read_planes.ensures c.patched.ensures
+    plates_patched (apply_in c.args.command.now) (g.T.Tray.state c.args.tray.now) (g.T.Tray.state c.read_planes.new.tray) (g.T.Tray.state c.patch_planes.new.tray) (map (λ (f : Bor (List ℕ)). f.now) c.as_slice.result.now) c.in-Ok-read_planes.planes c.patch_planes.result named c.in-Ok-read_planes.ensures c.patch_planes.ensures
 
 pub returns : goal.returns
 returns g c =

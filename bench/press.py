@@ -1,0 +1,109 @@
+#!/usr/bin/env python3
+"""Measures a run of many pages through `press/farm`.
+
+    bench/press.py [--pages 200] [--jobs 2] [--in FILE] [--folder DIR] [FARM'S OPTION ..]
+
+The pages are those of FILE over and over, of the label of `examples/label` where none is named, with the tables of inks and the zones
+that lie beside it. It prints what a page took of a processor, pages an hour a processor, the most memory that all processes had at
+once, each page that is shared counted once, and what OUT takes on the disk. Any other option is handed to `press/farm`.
+"""
+import argparse
+import os
+import shutil
+import subprocess
+import sys
+import tempfile
+import threading
+import time
+
+from timing import TOP
+
+LABEL = os.path.join(TOP, "examples", "label", "label.pdf")
+LOOK_SECONDS = 0.5
+
+
+def make_book(source, pages, folder):
+    """A PDF of so many pages, and beside it what lies beside the source."""
+    book, before = os.path.join(folder, "book.pdf"), os.path.splitext(source)[0]
+    count = int(subprocess.run([os.path.join(TOP, "press", "plates"), "--count", source], check=True, stdout=subprocess.PIPE).stdout)
+    copies, rest = divmod(pages, count)
+    words = [source] * copies + ([source, "1-%d" % rest] if rest else [])
+    subprocess.run(["mutool", "merge", "-o", book, *words], check=True)
+    for ending in (".inks", ".zones"):
+        if os.path.exists(before + ending):
+            shutil.copy(before + ending, os.path.join(folder, "book" + ending))
+    return book
+
+
+def below(first):
+    """The process and all that it started, which keep its session."""
+    found = []
+    for name in filter(str.isdigit, os.listdir("/proc")):
+        try:
+            with open("/proc/%s/stat" % name, encoding="utf-8", errors="replace") as file:
+                session = int(file.read().rpartition(")")[2].split()[3])
+        except (OSError, ValueError, IndexError):
+            continue
+        if session == first:
+            found.append(name)
+    return found
+
+
+def memory_of(process):
+    """Its bytes, a page that several have being shared among them; nothing where it has just ended."""
+    try:
+        with open("/proc/%s/smaps_rollup" % process, encoding="ascii") as file:
+            return sum(int(line.split()[1]) * 1024 for line in file if line.startswith("Pss:"))
+    except (OSError, ValueError):
+        return 0
+
+
+class Watch(threading.Thread):
+    """Looks at the memory of a session until it is told to stop."""
+
+    def __init__(self, session):
+        super().__init__(daemon=True)
+        self.session, self.most, self.ended = session, 0, threading.Event()
+
+    def run(self):
+        while not self.ended.wait(LOOK_SECONDS):
+            self.most = max(self.most, sum(map(memory_of, below(self.session))))
+
+
+def run(command):
+    """Runs it in a session of its own. Answers its status, the seconds that passed, those of processors, and its most bytes."""
+    start = time.perf_counter()
+    child = subprocess.Popen(command, stdout=subprocess.DEVNULL, start_new_session=True)
+    watch = Watch(child.pid)
+    watch.start()
+    _, status, used = os.wait4(child.pid, 0)
+    watch.ended.set()
+    child.returncode = os.waitstatus_to_exitcode(status)
+    return child.returncode, time.perf_counter() - start, used.ru_utime + used.ru_stime, watch.most
+
+
+def on_disk(folder):
+    return sum(os.lstat(os.path.join(at, name)).st_blocks * 512 for at, _, names in os.walk(folder) for name in names)
+
+
+def main():
+    parser = argparse.ArgumentParser(description="Measures a run of many pages through press/farm.")
+    parser.add_argument("--pages", type=int, default=200)
+    parser.add_argument("--jobs", type=int, default=2)
+    parser.add_argument("--in", dest="source", default=LABEL)
+    parser.add_argument("--folder", help="where the pages are made; else in a temporary folder")
+    asked, more = parser.parse_known_args()
+    with tempfile.TemporaryDirectory(dir=asked.folder) as folder:
+        book, out = make_book(asked.source, asked.pages, folder), os.path.join(folder, "out")
+        command = [os.path.join(TOP, "press", "farm"), book, out, "--jobs", str(asked.jobs), "--quiet", *more]
+        status, seconds, worked, most = run(command)
+        done = sum(os.path.exists(os.path.join(out, name, "trapped", "report")) for name in os.listdir(out))
+        print("%d pages asked, %d done, status %d; load %.1f" % (asked.pages, done, status, os.getloadavg()[2]))
+        print("  %.0f s by the clock, %.0f s of processors: %.2f s a page, %.0f pages an hour a processor"
+              % (seconds, worked, worked / max(1, done), 3600 * done / worked))
+        print("  at most %.2f GB of memory, %.2f GB on the disk: %.0f MB a page"
+              % (most / 1e9, on_disk(out) / 1e9, on_disk(out) / 1e6 / max(1, done)))
+    sys.exit(status)
+
+
+main()

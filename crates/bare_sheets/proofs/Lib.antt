@@ -1,0 +1,4 @@
+pub mod BareLemmas
+pub mod BegunLemmas
+pub mod StripLemmas
+pub mod CoreLemmas

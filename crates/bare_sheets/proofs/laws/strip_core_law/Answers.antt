@@ -1,0 +1,5 @@
+use Rattle.bare_sheets.proofs.CoreLemmas.{core_law}
+use Rattle.bare_sheets.proofs.laws.strip_core_law.Goals as goal
+
+pub returns : goal.returns
+returns c = λ sheet across down at row ok near are is. core_law sheet across down at row ok near are is

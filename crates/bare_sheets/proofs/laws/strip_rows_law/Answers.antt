@@ -1,0 +1,5 @@
+use Rattle.bare_sheets.proofs.StripLemmas.{planes_are}
+use Rattle.bare_sheets.proofs.laws.strip_rows_law.Goals as goal
+
+pub returns : goal.returns
+returns c = λ sheet row planes is inside hold. planes_are sheet row is inside planes hold

@@ -1,0 +1,12 @@
+use Rattle.std.proofs.Common.{arith}
+use Rattle.page_model.specs.Page.{plates}
+use Rattle.sheet_cuts.proofs.SizeLemmas.{least_few}
+use Rattle.bare_sheets.proofs.plan.plan_by.Goals as goal
+
+pub rulers_of-requires-else-samples-le-MOST_SAMPLES-clause-few_samples : goal.rulers_of-requires-else-samples-le-MOST_SAMPLES-clause-few_samples
+rulers_of-requires-else-samples-le-MOST_SAMPLES-clause-few_samples c =
+    let least = c.requires.least in
+    let columns = least.columns_are in
+    let near = least.near in
+    let short = least.short in
+    least_few c.args.least.columns (plates c.args.sheet.now) (omega (arith, columns, near, short)) c.requires.sheet.parts.few_plates

@@ -1,0 +1,9 @@
+//! Bare sheets: all of a sheet but its tints. Whether a sheet is refused, and by which rulers it is cut, rests on that
+//! alone, so it is judged before any tint is read.
+#![tactic(auto)]
+
+mod far;
+mod judging;
+pub mod laws;
+pub mod plan;
+mod steps;

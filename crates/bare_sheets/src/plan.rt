@@ -1,0 +1,172 @@
+// How a sheet is to be trapped, before its tints are read.
+
+ghost use Rattle.std.specs.Prelude.{◌≡◌, ◌+◌, ◌-◌, ◌*◌, ◌<◌, ◌≤◌, ◌^◌, max, length, IfErr, IfOk, OnOk, None, Some};
+ghost use Rattle.page_model.specs.Columns.{halo};
+ghost use Rattle.page_model.specs.Limits.{most_plates, most_samples, most_side};
+ghost use Rattle.page_model.specs.Page.{height, plates, width};
+ghost use Rattle.page_model.specs.Reach.{page_reach};
+ghost use Rattle.sheet_cuts.specs.Refusals.{cut_fault, large_fault, most_step, sheet_refusal, uncut};
+ghost use Rattle.sheet_windows.specs.Plans.{IsStep};
+ghost use Rattle.bare_sheets.specs.Planned.{IsLeast, FitRulers, IsCutBy, IsPlan};
+ghost use Rattle.bare_sheets.specs.Bare.{IsBareSheet, IsBareParts};
+
+use crate::judging::{cut_fault_of, halo_of, is_large_sheet, parts_fault_of};
+use crate::steps::sheet_step;
+use page_model::bounds::MOST_SAMPLES;
+use page_model::parts::PageParts;
+use sheet_cuts::budget::{Budget, most_columns, most_rows};
+use sheet_cuts::refusal::SheetRefusal;
+use sheet_windows::spans::Ruler;
+
+/// Rulers for the columns and the rows of a sheet.
+#[derive(Clone, Copy, Drop)]
+pub struct Rulers {
+    pub across: Ruler,
+    pub down: Ruler,
+}
+
+/// How a sheet is trapped.
+#[derive(Clone, Copy, Drop)]
+pub enum Plan {
+    /// Strip by strip, each of as many rows: no more of them are held at a time.
+    Strips(Rulers),
+    /// Window by window, all rows at once, since no strips of one height are small enough.
+    Windows(Rulers),
+    /// As one page, since it is one, and cannot be cut.
+    Page,
+}
+
+/// How a sheet is trapped within a budget for each window, or the first of its faults: of the first plate that differs
+/// from plate 0, then of the first zone that reaches too far, and then, above the limits of a page, of the first zone with
+/// a vertex too far from a corner of the sheet, and of the step. No tint is looked at.
+#[tactic(auto, using(crate::proofs::BareLemmas::bare_from))]
+pub fn plan_sheet(sheet: &PageParts, budget: &Budget) -> Result<Plan, SheetRefusal>
+    requires parts { IsBareParts sheet.now }
+    requires narrow { width sheet.now < 2 ^ 30 }
+    requires low { height sheet.now < 2 ^ 30 }
+    ensures plan { IfOk result (IsPlan sheet.now budget.now) }
+    ensures accepted { OnOk result (sheet_refusal sheet.now ≡ None) }
+    ensures valid { OnOk result (IsBareSheet sheet.now) }
+    ensures refused { IfErr result (λ refusal. sheet_refusal sheet.now ≡ Some refusal) }
+{
+    match parts_fault_of(sheet) {
+        Some(fault) => Err(SheetRefusal::Fault(fault)),
+        None => plan_agreed(sheet, budget),
+    }
+}
+
+// How a sheet without a fault of a page is trapped, or why it cannot be.
+fn plan_agreed(sheet: &PageParts, budget: &Budget) -> Result<Plan, SheetRefusal>
+    requires sheet { IsBareSheet sheet.now }
+    requires narrow { width sheet.now < 2 ^ 30 }
+    requires low { height sheet.now < 2 ^ 30 }
+    ensures plan { IfOk result (IsPlan sheet.now budget.now) }
+    ensures accepted { OnOk result (large_fault sheet.now ≡ None) }
+    ensures refused { IfErr result (λ refusal. large_fault sheet.now ≡ Some refusal) }
+{
+    match cut_fault_of(sheet) {
+        None => Ok(plan_cut(sheet, budget)),
+        Some(refusal) => {
+            if is_large_sheet(sheet) {
+                Err(refusal)
+            } else {
+                Ok(Plan::Page)
+            }
+        }
+    }
+}
+
+// The least window of a sheet: a halo on each side, and a step beside. Rows that are as many in each strip want a step more,
+// less a row.
+#[derive(Clone, Copy, Drop)]
+struct Least {
+    halo: u32,
+    step: u32,
+    columns: u32,
+    rows: u32,
+}
+
+// How a sheet that can be cut is trapped.
+fn plan_cut(sheet: &PageParts, budget: &Budget) -> Plan
+    requires sheet { IsBareSheet sheet.now }
+    requires narrow { width sheet.now < 2 ^ 30 }
+    requires low { height sheet.now < 2 ^ 30 }
+    requires cut { cut_fault sheet.now ≡ None }
+    ensures { IsPlan sheet.now budget.now result }
+{
+    plan_by(sheet, least_of(sheet), budget)
+}
+
+fn least_of(sheet: &PageParts) -> Least
+    requires sheet { IsBareSheet sheet.now }
+    requires cut { cut_fault sheet.now ≡ None }
+    ensures { IsLeast sheet.now result }
+{
+    least_by(sheet)
+}
+
+fn least_by(sheet: &PageParts) -> Least
+    requires sheet { IsBareSheet sheet.now }
+    requires cut { uncut sheet.now ≡ None }
+    ensures { IsLeast sheet.now result }
+{
+    let step = sheet_step(sheet);
+    let halo = halo_of(sheet);
+    let columns = 2 * halo.max(1) + step;
+    Least {
+        halo,
+        step,
+        columns,
+        rows: columns + step - 1,
+    }
+}
+
+fn plan_by(sheet: &PageParts, least: Least, budget: &Budget) -> Plan
+    requires sheet { IsBareSheet sheet.now }
+    requires narrow { width sheet.now < 2 ^ 30 }
+    requires low { height sheet.now < 2 ^ 30 }
+    requires cut { cut_fault sheet.now ≡ None }
+    requires least { IsLeast sheet.now least }
+    ensures { IsPlan sheet.now budget.now result }
+{
+    let plates = sheet.planes.len() as u32;
+    let samples = u64::from(least.columns) * u64::from(least.rows) * u64::from(plates);
+    if samples <= MOST_SAMPLES {
+        Plan::Strips(rulers_of(sheet, least, least.rows, budget))
+    } else {
+        Plan::Windows(rulers_of(sheet, least, least.columns, budget))
+    }
+}
+
+// The rulers within a budget for windows of so many rows at least.
+fn rulers_of(sheet: &PageParts, least: Least, rows: u32, budget: &Budget) -> Rulers
+    requires sheet { IsBareSheet sheet.now }
+    requires narrow { width sheet.now < 2 ^ 30 }
+    requires low { height sheet.now < 2 ^ 30 }
+    requires least { IsLeast sheet.now least }
+    requires room { least.columns ≤ rows }
+    requires few_rows { rows ≤ most_side }
+    requires few_samples { least.columns * rows * plates sheet.now ≤ most_samples }
+    ensures { IsCutBy sheet.now budget.now least rows result }
+{
+    let planes = sheet.planes.as_slice();
+    let plates = planes.len() as u32;
+    let rows = most_rows(least.columns, rows, plates, budget);
+    let columns = most_columns(least.columns, rows, plates, budget);
+    Rulers {
+        across: Ruler {
+            side: planes[0].width,
+            halo: least.halo,
+            step: least.step,
+            most: columns,
+            from_end: false,
+        },
+        down: Ruler {
+            side: planes[0].height,
+            halo: least.halo,
+            step: least.step,
+            most: rows,
+            from_end: true,
+        },
+    }
+}

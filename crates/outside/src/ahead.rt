@@ -1,0 +1,69 @@
+ghost use Rattle.std.specs.Prelude.{◌≡◌, ◌<◌, ◌≤◌, IfOk, length};
+
+use std::io;
+use std::io::{ErrorKind, Read};
+
+// How often a read that is interrupted is made again.
+const TRIES: u32 = 1_000_000;
+
+// So many bytes are read at once where fewer are asked for.
+const PIECE: usize = 4096;
+
+// What was read of a file and not given yet: the bytes from `start` to `end`.
+#[derive(Drop)]
+pub(crate) struct Ahead {
+    bytes: [u8; PIECE],
+    start: usize,
+    end: usize,
+    ghost within: { (start ≤ end) × (end ≤ 4096) },
+}
+
+impl Ahead {
+    pub(crate) fn empty() -> Ahead {
+        Ahead {
+            bytes: [0; PIECE],
+            start: 0,
+            end: 0,
+        }
+    }
+
+    // Lets go what was not given.
+    pub(crate) fn forget(&mut self)
+        ensures start { self.new.start ≡ 0 }
+        ensures end { self.new.end ≡ 0 }
+    {
+        self.start = 0;
+        self.end = 0;
+    }
+
+    // Reads on in the file, a whole piece where less is asked for.
+    pub(crate) fn read<F: Read>(&mut self, file: &mut F, buf: &mut [u8]) -> io::Result<usize>
+        ensures within { IfOk result (λ n. n ≤ length buf.new) }
+    {
+        if self.start == self.end {
+            if buf.len() >= PIECE {
+                return read_once(file, buf);
+            }
+            self.forget();
+            self.end = read_once(file, &mut self.bytes)?;
+        }
+        let count = buf.len().min(self.end - self.start);
+        buf[..count].copy_from_slice(&self.bytes[self.start..self.start + count]);
+        self.start += count;
+        Ok(count)
+    }
+}
+
+// Reads, and goes on where that is interrupted.
+pub(crate) fn read_once<F: Read>(file: &mut F, buf: &mut [u8]) -> io::Result<usize>
+    ensures within { IfOk result (λ n. n ≤ length buf.new) }
+    ensures same { length buf.new ≡ length buf.old }
+{
+    for _ in 0..TRIES {
+        match file.read(buf) {
+            Err(error) if error.kind() == ErrorKind::Interrupted => {}
+            answer => return answer,
+        }
+    }
+    Err(io::Error::from(ErrorKind::Interrupted))
+}

@@ -1,0 +1,102 @@
+use std::alloc::Allocator;
+use std::fs::OpenFile;
+use std::io::{ErrorKind, Seek};
+use std::rt::Files;
+use std::{fs, io};
+
+// What the system answers where a process may open no more files.
+const TOO_MANY_OPEN: i32 = 24;
+
+// A file that is read. Where it has a name it is kept by that one when another is begun.
+#[derive(Drop)]
+pub(crate) struct Input<F: Drop, A: Allocator> {
+    name: Option<String<A>>,
+    pub(crate) file: F,
+    pub(crate) is_regular: bool,
+}
+
+// Files that were begun before, under the names that they were opened by.
+#[derive(Drop)]
+pub(crate) struct KeptInputs<F: Drop, A: Allocator> {
+    inputs: Vec<Input<F, A>, A>,
+    most: usize,
+}
+
+impl<F: Drop, A: Allocator> KeptInputs<F, A> {
+    // Keeps none yet, and at most so many.
+    pub(crate) fn new(alloc: A, most: usize) -> KeptInputs<F, A> {
+        KeptInputs {
+            inputs: Vec::new(alloc),
+            most,
+        }
+    }
+
+    // Keeps a file that has a name. Where there is no room it is closed.
+    pub(crate) fn keep(&mut self, input: Input<F, A>) {
+        if input.name.is_some() && self.inputs.len() < self.most {
+            let _closed = self.inputs.push(input);
+        }
+    }
+
+    // Gives back the file that was opened by that name.
+    fn take(&mut self, name: &str) -> Option<Input<F, A>> {
+        for place in 0..self.inputs.len() {
+            if self.inputs[place].is_named(name) {
+                return Some(self.inputs.swap_remove(place));
+            }
+        }
+        None
+    }
+}
+
+impl<F: Drop, A: Allocator> Input<F, A> {
+    fn is_named(&self, name: &str) -> bool {
+        match &self.name {
+            Some(own) => own.as_str() == name,
+            None => false,
+        }
+    }
+}
+
+// Begins the file of that name: the one that is kept by it, from its first byte on, or else the one that stands there now.
+pub(crate) fn begin_input<R: Files + Alloc>(
+    files: &R,
+    kept: &mut KeptInputs<R::File, R::A>,
+    name: &str,
+) -> io::Result<Input<R::File, R::A>> {
+    if let Some(mut input) = kept.take(name) {
+        input.file.rewind()?;
+        return Ok(input);
+    }
+    match fs::open(files, name) {
+        Ok(file) => Ok(opened(files, kept.most, name, file)),
+        Err(error) if error.raw_os_error() == Some(TOO_MANY_OPEN) && !kept.inputs.is_empty() => {
+            kept.inputs.clear();
+            Ok(opened(files, 0, name, fs::open(files, name)?))
+        }
+        Err(error) => Err(error),
+    }
+}
+
+// A file that was opened. Only a regular one can be begun again, and so is kept; for lack of memory none is.
+fn opened<R: Files + Alloc>(
+    files: &R,
+    most: usize,
+    name: &str,
+    file: R::File,
+) -> Input<R::File, R::A> {
+    let is_regular = match file.metadata() {
+        Ok(metadata) => metadata.is_file(),
+        Err(_) => false,
+    };
+    let name = if is_regular && most > 0 {
+        String::from_str(files.alloc(), name).ok()
+    } else {
+        None
+    };
+    Input {
+        name,
+        file,
+        is_regular,
+    }
+}

@@ -1,5 +1,0 @@
-use Rattle.std.proofs.Common.{length}
-use Rattle.page_run.proofs.words.+have_distinct_outputs.Given as goal
-
-abbrev pub decreases-have_distinct_outputs : goal.decreases-have_distinct_outputs
-decreases-have_distinct_outputs l = length l.words.now

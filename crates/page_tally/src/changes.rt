@@ -1,0 +1,253 @@
+// What trapping changes in a row: its new tints compared with the page's own, plate by plate, while it is at hand.
+
+ghost use Rattle.std.specs.Prelude.{◌≡◌, ◌<◌, ◌≤◌, ◌+◌, ◌*◌, ◌==◌, ◌||◌, not, false, true, ℕ, length, slice_index, slice_index_or};
+ghost use Rattle.page_model.specs.Counts.{plate_changes, sample_changes};
+ghost use Rattle.page_model.specs.Page.{height, plates, width};
+ghost use Rattle.page_model.specs.Zones.{AreZones};
+ghost use Rattle.lists.specs.Words.{count_below};
+ghost use Rattle.page_tally.specs.Standing.{ArePlatesCounted, AreTrappedTo, AreZonesCounted, IsNewRow, IsTrappedTo};
+
+use crate::blocks::{BLOCK, are_clear, are_same, part_of};
+use crate::counting::one_if;
+use page_model::page::Page;
+use page_model::parts::Plane;
+use row_values::{row_of, tints_of_row};
+
+/// The new tints of plate c, out of those of a row.
+pub fn plate_row<'a>(page: &Page, row: &'a [u16], y: u32, c: u32) -> &'a [u16]
+    requires row { IsNewRow page.now y row.now }
+    requires plate { c < plates page.now }
+    ensures len { length result.now ≡ width page.now }
+    ensures each { (x : ℕ) → x < width page.now → slice_index result.now x
+        ≡ slice_index row.now (c * width page.now + x) }
+{
+    let _valid = page.plates();
+    row_of(row, page.width() as usize, c as usize)
+}
+
+/// How many tints of a block differ.
+fn differences_here(before: &[u16], after: &[u16]) -> u64
+    requires { length before.now ≡ length after.now }
+    ensures count { result
+        ≡ count_below (λ k. not (slice_index after.now k == slice_index before.now k))
+        (length after.now) }
+    ensures few { result ≤ length after.now }
+{
+    let mut count = 0;
+    for k in 0..after.len() {
+        count += one_if(after[k] != before[k]);
+    }
+    count
+}
+
+/// How many tints differ. Blocks that are the same are not gone over.
+pub fn differences(before: &[u16], after: &[u16]) -> u64
+    requires { length before.now ≡ length after.now }
+    ensures count { result
+        ≡ count_below (λ k. not (slice_index after.now k == slice_index before.now k))
+        (length after.now) }
+    ensures few { result ≤ length after.now }
+{
+    let mut count = 0;
+    let mut from = 0;
+    while from < after.len() {
+        let size = (after.len() - from).min(BLOCK);
+        let one = part_of(before, from, size);
+        let other = part_of(after, from, size);
+        if !are_same(one, other) {
+            count += differences_here(one, other);
+        }
+        from += size;
+    }
+    count
+}
+
+/// How many samples of plate c change in row y.
+fn changed_in(page: &Page, row: &[u16], y: u32, c: u32) -> u64
+    requires row { IsNewRow page.now y row.now }
+    requires line { y < height page.now }
+    requires plate { c < plates page.now }
+    ensures count { result ≡ count_below (λ x. plate_changes page.now c (record { x = x; y = y }))
+        (width page.now) }
+    ensures few { result ≤ width page.now }
+{
+    differences(tints_of_row(page, c, y), plate_row(page, row, y, c))
+}
+
+/// Counts for each plate the samples of row y that change.
+pub fn count_plates(page: &Page, row: &[u16], y: u32, counts: &mut [u64])
+    requires row { IsNewRow page.now y row.now }
+    requires line { y < height page.now }
+    requires counts { ArePlatesCounted page.now (y * width page.now) counts.old }
+    ensures { ArePlatesCounted page.now ((y + 1) * width page.now) counts.new }
+{
+    let _valid = page.plates();
+    for c in 0..page.plates() {
+        counts[c as usize] += changed_in(page, row, y, c);
+    }
+}
+
+/// Notes where the tints differ.
+fn note_differences(before: &[u16], after: &[u16], changes: &mut [bool])
+    requires before { length before.now ≡ length after.now }
+    requires changes { length changes.old ≡ length after.now }
+    ensures len { length changes.new ≡ length changes.old }
+    ensures each { (k : ℕ) → k < length after.now → slice_index_or changes.new k false
+        ≡ (slice_index_or changes.old k false
+        || not (slice_index after.now k == slice_index before.now k)) }
+{
+    for k in 0..after.len() {
+        // both are worked out first, without a branch, so that many samples go at once
+        let earlier = changes[k];
+        let differs = after[k] != before[k];
+        changes[k] = earlier | differs;
+    }
+}
+
+/// Notes the samples of row y at which plate c changes.
+fn note_plate(page: &Page, row: &[u16], y: u32, c: u32, changes: &mut [bool])
+    requires row { IsNewRow page.now y row.now }
+    requires line { y < height page.now }
+    requires plate { c < plates page.now }
+    requires changes { length changes.old ≡ width page.now }
+    ensures len { length changes.new ≡ width page.now }
+    ensures each { (x : ℕ) → x < width page.now → slice_index_or changes.new x false
+        ≡ (slice_index_or changes.old x false
+        || plate_changes page.now c (record { x = x; y = y })) }
+{
+    note_differences(
+        tints_of_row(page, c, y),
+        plate_row(page, row, y, c),
+        changes,
+    );
+}
+
+/// Notes the samples of row y at which plate c, whose plane has all its new tints, changes.
+fn note_plane(page: &Page, plane: &Plane, y: u32, c: u32, changes: &mut [bool])
+    requires plane { IsTrappedTo page.now c (height page.now * width page.now) plane.now }
+    requires line { y < height page.now }
+    requires plate { c < plates page.now }
+    requires changes { length changes.old ≡ width page.now }
+    ensures len { length changes.new ≡ width page.now }
+    ensures each { (x : ℕ) → x < width page.now → slice_index_or changes.new x false
+        ≡ (slice_index_or changes.old x false
+        || plate_changes page.now c (record { x = x; y = y })) }
+{
+    let before = tints_of_row(page, c, y);
+    let after = row_of(plane.tints.as_slice(), page.width() as usize, y as usize);
+    if !are_same(before, after) {
+        note_differences(before, after, changes);
+    }
+}
+
+/// Notes the samples of row y at which some plate changes. These planes have all their new tints.
+pub fn note_taken(page: &Page, planes: &[Plane], y: u32, changes: &mut [bool])
+    requires planes { AreTrappedTo page.now planes.now (height page.now * width page.now) }
+    requires line { y < height page.now }
+    requires changes { length changes.old ≡ width page.now }
+    ensures len { length changes.new ≡ width page.now }
+    ensures each { (x : ℕ) → x < width page.now → slice_index_or changes.new x false
+        ≡ sample_changes page.now (record { x = x; y = y }) }
+{
+    changes.fill(false);
+    for c in 0..page.plates() {
+        note_plane(page, &planes[c as usize], y, c, changes);
+    }
+}
+
+/// Notes the samples of row y at which some plate changes.
+pub fn note_changes(page: &Page, row: &[u16], y: u32, changes: &mut [bool])
+    requires row { IsNewRow page.now y row.now }
+    requires line { y < height page.now }
+    requires changes { length changes.old ≡ width page.now }
+    ensures len { length changes.new ≡ width page.now }
+    ensures each { (x : ℕ) → x < width page.now → slice_index_or changes.new x false
+        ≡ sample_changes page.now (record { x = x; y = y }) }
+{
+    changes.fill(false);
+    for c in 0..page.plates() {
+        note_plate(page, row, y, c, changes);
+    }
+}
+
+/// Counts sample x of row y in its zone, where it changes.
+#[tactic(auto, using(crate::proofs::CountLemmas::zone_known))]
+fn count_sample(
+    page: &Page,
+    zones: &[u8],
+    first: u32,
+    y: u32,
+    x: usize,
+    changes: &[bool],
+    counts: &mut [u64],
+)
+    requires zones { AreZones page.now y zones.now }
+    requires line { y < height page.now }
+    requires column { x < width page.now }
+    requires changes { length changes.now ≡ width page.now }
+    requires each { (x : ℕ) → x < width page.now → slice_index_or changes.now x false
+        ≡ sample_changes page.now (record { x = x; y = y }) }
+    requires counts { AreZonesCounted page.now first (y * width page.now + x) counts.old }
+    ensures { AreZonesCounted page.now first (y * width page.now + x + 1) counts.new }
+{
+    let _valid = page.plates();
+    if !changes[x] {
+        return;
+    }
+    let zone = usize::from(zones[x]);
+    counts[zone] += 1;
+}
+
+/// Counts for each zone the samples of row y that change, of some samples from one on.
+fn count_block(
+    page: &Page,
+    zones: &[u8],
+    first: u32,
+    y: u32,
+    from: usize,
+    to: usize,
+    changes: &[bool],
+    counts: &mut [u64],
+)
+    requires zones { AreZones page.now y zones.now }
+    requires line { y < height page.now }
+    requires order { from ≤ to }
+    requires inside { to ≤ width page.now }
+    requires changes { length changes.now ≡ width page.now }
+    requires each { (x : ℕ) → x < width page.now → slice_index_or changes.now x false
+        ≡ sample_changes page.now (record { x = x; y = y }) }
+    requires counts { AreZonesCounted page.now first (y * width page.now + from) counts.old }
+    ensures { AreZonesCounted page.now first (y * width page.now + to) counts.new }
+{
+    for x in from..to {
+        count_sample(page, zones, first, y, x, changes, counts);
+    }
+}
+
+/// Counts for each zone the samples of row y that change. Blocks in which none does are not gone over. The counts are those
+/// of the rows from `first` on.
+pub fn count_changed(
+    page: &Page,
+    zones: &[u8],
+    first: u32,
+    y: u32,
+    changes: &[bool],
+    counts: &mut [u64],
+)
+    requires zones { AreZones page.now y zones.now }
+    requires line { y < height page.now }
+    requires changes { length changes.now ≡ width page.now }
+    requires each { (x : ℕ) → x < width page.now → slice_index_or changes.now x false
+        ≡ sample_changes page.now (record { x = x; y = y }) }
+    requires counts { AreZonesCounted page.now first (y * width page.now) counts.old }
+    ensures { AreZonesCounted page.now first ((y + 1) * width page.now) counts.new }
+{
+    let mut x = 0;
+    while x < changes.len() {
+        let count = (changes.len() - x).min(BLOCK);
+        if !are_clear(changes, x, count) {
+            count_block(page, zones, first, y, x, x + count, changes, counts);
+        }
+        x += count;
+    }
+}

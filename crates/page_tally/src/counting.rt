@@ -1,0 +1,112 @@
+// What a row has of each zone, and of edges that decide.
+
+ghost use Rattle.std.specs.Prelude.{◌≡◌, ℕ, ◌<◌, ◌≤◌, ◌+◌, ◌*◌, ◌/◌, ◌%◌, if◌then◌else◌, length, slice_index};
+ghost use Rattle.lists.specs.Words.{sum_below};
+ghost use Rattle.page_model.specs.Page.{height, width};
+ghost use Rattle.page_model.specs.Zones.{AreZones};
+ghost use Rattle.page_tally.specs.Standing.{AreSamplesCounted};
+
+use crate::blocks::{BLOCK, are_alike};
+use page_model::page::Page;
+
+/// 1 where the test holds, else 0.
+pub fn one_if(test: bool) -> u64
+    ensures { result ≡ (if test then 1 else 0) }
+{
+    if test { 1 } else { 0 }
+}
+
+/// How many edges these marks tell of: a mark of 1 or 2 of one edge, and one of 3 of two.
+pub fn edges_in(marks: &[u8]) -> u64
+    requires { length marks.now ≤ 16384 }
+    ensures count { result
+        ≡ sum_below (λ x. slice_index marks.now x % 2 + slice_index marks.now x / 2)
+        (length marks.now) }
+    ensures few { result ≤ 128 * length marks.now }
+{
+    let mut count = 0;
+    for x in 0..marks.len() {
+        let mark = marks[x];
+        count += u64::from(mark % 2 + mark / 2);
+    }
+    count
+}
+
+/// Counts the samples of row y in their zones, block by block. The counts are those of the rows from `first` on.
+pub fn count_zones(page: &Page, zones: &[u8], first: u32, y: u32, counts: &mut [u64])
+    requires zones { AreZones page.now y zones.now }
+    requires line { y < height page.now }
+    requires counts { AreSamplesCounted page.now first (y * width page.now) counts.old }
+    ensures { AreSamplesCounted page.now first ((y + 1) * width page.now) counts.new }
+{
+    let mut x = 0;
+    while x < zones.len() {
+        let count = (zones.len() - x).min(BLOCK);
+        if are_alike(zones, x, count) {
+            count_run(page, zones, first, y, x, count, counts);
+        } else {
+            count_each(page, zones, first, y, x, x + count, counts);
+        }
+        x += count;
+    }
+}
+
+/// Counts so many samples of row y, from sample x on, in the zone that they all lie in.
+#[tactic(auto, using(crate::proofs::CountLemmas::zone_known))]
+fn count_run(
+    page: &Page,
+    zones: &[u8],
+    first: u32,
+    y: u32,
+    x: usize,
+    count: usize,
+    counts: &mut [u64],
+)
+    requires zones { AreZones page.now y zones.now }
+    requires line { y < height page.now }
+    requires some { 1 ≤ count }
+    requires inside { x + count ≤ width page.now }
+    requires alike { (k : ℕ) → k < count → slice_index zones.now (x + k) ≡ slice_index zones.now x }
+    requires counts { AreSamplesCounted page.now first (y * width page.now + x) counts.old }
+    ensures { AreSamplesCounted page.now first (y * width page.now + (x + count)) counts.new }
+{
+    let _valid = page.plates();
+    let zone = usize::from(zones[x]);
+    counts[zone] += count as u64;
+}
+
+/// Counts the samples of row y from one on and before another, each in its zone.
+fn count_each(
+    page: &Page,
+    zones: &[u8],
+    first: u32,
+    y: u32,
+    from: usize,
+    to: usize,
+    counts: &mut [u64],
+)
+    requires zones { AreZones page.now y zones.now }
+    requires line { y < height page.now }
+    requires order { from ≤ to }
+    requires inside { to ≤ width page.now }
+    requires counts { AreSamplesCounted page.now first (y * width page.now + from) counts.old }
+    ensures { AreSamplesCounted page.now first (y * width page.now + to) counts.new }
+{
+    for x in from..to {
+        count_zone(page, zones, first, y, x, counts);
+    }
+}
+
+/// Counts sample x of row y in its zone.
+#[tactic(auto, using(crate::proofs::CountLemmas::zone_known))]
+fn count_zone(page: &Page, zones: &[u8], first: u32, y: u32, x: usize, counts: &mut [u64])
+    requires zones { AreZones page.now y zones.now }
+    requires line { y < height page.now }
+    requires column { x < width page.now }
+    requires counts { AreSamplesCounted page.now first (y * width page.now + x) counts.old }
+    ensures { AreSamplesCounted page.now first (y * width page.now + x + 1) counts.new }
+{
+    let _valid = page.plates();
+    let zone = usize::from(zones[x]);
+    counts[zone] += 1;
+}

@@ -1,0 +1,15 @@
+//! What comes of a page: its planes after trapping, and what is counted of it, row by row, for whichever engine traps it.
+#![tactic(auto)]
+
+mod blocks;
+mod changes;
+mod counting;
+mod outcome;
+mod planes;
+mod sums;
+
+pub use changes::{count_changed, note_taken};
+pub use counting::{count_zones, edges_in};
+pub use outcome::{Outcome, Trapped};
+pub use planes::put_plate_row;
+pub use sums::add_counts;

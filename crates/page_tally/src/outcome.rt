@@ -1,0 +1,198 @@
+// What comes of a page: its planes after trapping, and what is counted. It is taken in row by row from the top; or the planes are
+// put in whole, and then what is counted is added, some rows after others.
+
+ghost use Rattle.std.specs.Prelude.{◌≡◌, ◌<◌, ◌≤◌, ◌+◌, ◌*◌, IfOk, MatchOption, length, slice_set};
+ghost use Rattle.page_model.specs.Counts.{page_counts};
+ghost use Rattle.page_model.specs.Page.{height, plates, width};
+ghost use Rattle.page_model.specs.Tints.{trapped_planes};
+ghost use Rattle.page_model.specs.Zones.{AreZones};
+ghost use Rattle.page_tally.specs.Standing.{AreMarks, ArePlatesCounted, AreTrappedTo, AreZonesCounted, HasRows, IsNewRow, KeepsRoom, KeepsRow};
+ghost use Rattle.page_tally.specs.Shapes.{HasShape, shape_of};
+ghost use Rattle.page_tally.specs.Tallies.{AreRowsCounted, HasPlates};
+
+use crate::changes::{count_changed, count_plates, note_changes};
+use crate::counting::{count_zones, edges_in};
+use crate::planes::{copies_of, copy_all_over, put_row};
+use crate::sums::add_counts;
+use lists::list::List;
+use lists::memory::{filled, no_counts};
+use page_model::page::Page;
+use page_model::parts::{Counts, OutOfMemory, Plane, PlaneList};
+use row_values::Rows;
+use std::alloc::Global;
+
+/// A page after trapping: its planes, and what changed.
+#[derive(Drop)]
+pub struct Trapped {
+    pub planes: PlaneList,
+    pub counts: Counts,
+}
+
+/// The planes of a page after trapping and what is counted in it, for the rows that were taken in so far. The other
+/// rows of the planes are as they were.
+#[derive(Drop)]
+pub struct Outcome {
+    pub planes: PlaneList,
+    /// Of each zone, how many samples lie in it.
+    pub zone_samples: Vec<u64>,
+    /// Of each zone, how many samples in it change.
+    pub zone_changed: Vec<u64>,
+    /// Of each plate, how many samples change.
+    pub plate_changed: Vec<u64>,
+    /// How many edges decide.
+    pub edges: u64,
+    /// Room to note which samples of a row change. What stands in it between calls has no meaning.
+    pub changes: Vec<bool>,
+}
+
+impl Outcome {
+    /// The outcome with no row of the page taken in. It takes all memory that it needs.
+    pub fn new(alloc: Global, page: &Page) -> Result<Outcome, OutOfMemory>
+        ensures { IfOk result (λ outcome. HasRows page.now 0 outcome) }
+    {
+        let zones = page.zones() as usize;
+        Ok(Outcome {
+            planes: copies_of(alloc, page)?,
+            zone_samples: no_counts(alloc, zones)?,
+            zone_changed: no_counts(alloc, zones)?,
+            plate_changed: no_counts(alloc, page.plates() as usize)?,
+            edges: 0,
+            changes: filled(alloc, false, page.width() as usize)?,
+        })
+    }
+
+    /// The outcome with no row taken in of another page, of the shape that it was made for. It takes no memory.
+    pub fn start(&mut self, page: &Page)
+        requires shape { HasShape (shape_of page.now) self.old }
+        ensures rows { HasRows page.now 0 self.new }
+        ensures room { KeepsRoom self.old self.new }
+    {
+        let _valid = page.plates();
+        let alloc = *self.changes.allocator();
+        copy_all_over(alloc, page, &mut self.planes);
+        self.zone_samples.as_mut_slice().fill(0);
+        self.zone_changed.as_mut_slice().fill(0);
+        self.plate_changed.as_mut_slice().fill(0);
+        self.edges = 0;
+    }
+
+    /// Takes in row y, the next one: its zones, its marks and its new tints, plate after plate. `None` stands for the
+    /// tints of a row that keeps those of the page; it is left as it was copied.
+    pub fn take_in(
+        &mut self,
+        page: &Page,
+        y: u32,
+        zones: &[u8],
+        marks: &[u8],
+        tints: Option<&[u16]>,
+    )
+        requires rows { HasRows page.now y self.old }
+        requires line { y < height page.now }
+        requires zones { AreZones page.now y zones.now }
+        requires marks { AreMarks page.now y marks.now }
+        requires tints { MatchOption tints (KeepsRow page.now y)
+            (λ row. IsNewRow page.now y row.now) }
+        ensures rows { HasRows page.now (y + 1) self.new }
+        ensures room { KeepsRoom self.old self.new }
+    {
+        let _valid = page.plates();
+        self.edges += edges_in(marks);
+        count_zones(page, zones, 0, y, &mut self.zone_samples);
+        if let Some(row) = tints {
+            self.take_tints(page, y, zones, row);
+        }
+    }
+
+    // Takes in the new tints of row y alone.
+    fn take_tints(&mut self, page: &Page, y: u32, zones: &[u8], row: &[u16])
+        requires line { y < height page.now }
+        requires zones { AreZones page.now y zones.now }
+        requires row { IsNewRow page.now y row.now }
+        requires planes { AreTrappedTo page.now self.old.planes (y * width page.now) }
+        requires zone_changed { AreZonesCounted page.now 0 (y * width page.now)
+            self.old.zone_changed.items }
+        requires plate_changed { ArePlatesCounted page.now (y * width page.now)
+            self.old.plate_changed.items }
+        requires changes { length self.old.changes.items ≡ width page.now }
+        ensures planes { AreTrappedTo page.now self.new.planes ((y + 1) * width page.now) }
+        ensures zone_changed { AreZonesCounted page.now 0 ((y + 1) * width page.now)
+            self.new.zone_changed.items }
+        ensures plate_changed { ArePlatesCounted page.now ((y + 1) * width page.now)
+            self.new.plate_changed.items }
+        ensures changes { length self.new.changes.items ≡ width page.now }
+        ensures room { KeepsRoom self.old self.new }
+        ensures zone_samples { self.new.zone_samples ≡ self.old.zone_samples }
+        ensures edges { self.new.edges ≡ self.old.edges }
+    {
+        put_row(page, row, y, &mut self.planes);
+        count_plates(page, row, y, &mut self.plate_changed);
+        note_changes(page, row, y, &mut self.changes);
+        count_changed(page, zones, 0, y, &self.changes, &mut self.zone_changed);
+    }
+
+    /// Puts in plate c, and how many of its samples change. All else stays.
+    pub fn put_in(&mut self, c: usize, plane: Plane, changed: u64)
+        requires plane { c < length self.old.planes }
+        requires count { c < length self.old.plate_changed.items }
+        ensures planes { self.new.planes ≡ slice_set self.old.planes c plane }
+        ensures plate_changed { self.new.plate_changed.items
+            ≡ slice_set self.old.plate_changed.items c changed }
+        ensures room { KeepsRoom self.old self.new }
+        ensures zone_samples { self.new.zone_samples ≡ self.old.zone_samples }
+        ensures zone_changed { self.new.zone_changed ≡ self.old.zone_changed }
+        ensures edges { self.new.edges ≡ self.old.edges }
+        ensures changes { self.new.changes ≡ self.old.changes }
+    {
+        self.plate_changed[c] = changed;
+        let _empty = self.planes.set(c, plane);
+    }
+
+    /// Adds what is counted in the next rows: the samples of each zone, those that change, and the edges that decide.
+    pub fn add(
+        &mut self,
+        page: &Page,
+        rows: Rows,
+        zone_samples: &[u64],
+        zone_changed: &[u64],
+        edges: u64,
+    )
+        requires plates { HasPlates page.now rows.first self.old }
+        requires inside { rows.first + rows.count ≤ height page.now }
+        requires counted { AreRowsCounted page.now rows.first (rows.first + rows.count)
+            zone_samples.now zone_changed.now edges }
+        ensures plates { HasPlates page.now (rows.first + rows.count) self.new }
+        ensures room { KeepsRoom self.old self.new }
+    {
+        let _valid = page.plates();
+        self.edges += edges;
+        add_counts(&mut self.zone_samples, zone_samples);
+        add_counts(&mut self.zone_changed, zone_changed);
+    }
+
+    /// The page after trapping, when all its rows are taken in.
+    #[tactic(auto, unfolding(page_model::specs::Counts::page_counts))]
+    pub fn into_trapped(self, page: &Page) -> Trapped
+        requires { HasRows page.now (height page.now) self }
+        ensures planes { result.planes ≡ trapped_planes page.now }
+        ensures counts { result.counts ≡ page_counts page.now }
+    {
+        let _valid = page.plates();
+        let Outcome {
+            planes,
+            zone_samples,
+            zone_changed,
+            plate_changed,
+            edges,
+            changes: _,
+        } = self;
+        Trapped {
+            planes,
+            counts: Counts {
+                zone_samples: List::from_vec(zone_samples),
+                zone_changed: List::from_vec(zone_changed),
+                edges,
+                plate_changed: List::from_vec(plate_changed),
+            },
+        }
+    }
+}

@@ -1,0 +1,5 @@
+use Rattle.pgm_plates.proofs.Facts.{page_in_sheet}
+use Rattle.pgm_plates.proofs.laws.page_in_sheet.Goals as goal
+
+pub returns : goal.returns
+returns c = page_in_sheet

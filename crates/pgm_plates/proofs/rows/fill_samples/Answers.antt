@@ -1,0 +1,37 @@
+use Rattle.std.proofs.Common.{arith, ◌≡◌, ◌≤◌, ◌*◌, ◌+◌, ◌-◌, length, ap, ℕ, ◌∙◌}
+use Rattle.std.proofs.lemmas.Grind.{common_steps}
+use borrow.Rule.Slice.PartMut.{put_mid}
+use Rattle.pgm_plates.proofs.RowLemmas.{filled_takes, filled_fit, filled_refused}
+use Rattle.pgm_plates.proofs.rows.fill_samples.Goals as goal
+
+pub loop-done-preserved : goal.loop-done-preserved
+loop-done-preserved g c =
+    let done = c.loop-done.done in
+    let want = c.min-want.result in
+    let k = done + want - done in
+    let buf = c.loop-done.samples in
+    let part = c.read_piece.new.samples in
+    let m = c.args.maxval in
+    let a = g.T.Tray.state c.args.tray.now in
+    let b = g.T.Tray.state c.loop-done.tray in
+    let d = g.T.Tray.state c.read_piece.new.tray in
+    let all : length part ≡ want = grind (arith, common_steps) in
+    let taken = c.in-Ok.ensures.answer in
+    record {
+      takes = filled_takes m want a b d buf part done k c.loop-done.invariant.within all c.loop-done.invariant.takes taken;
+      count = c.in-Ok.ensures.count ∙ c.loop-done.invariant.count;
+      fit = filled_fit m want buf part done k c.loop-done.invariant.within all c.loop-done.invariant.fit taken.fit;
+      within = grind (arith, common_steps);
+    }
+
+pub returns-in-Err-clause-answer : goal.returns-in-Err-clause-answer
+returns-in-Err-clause-answer g c =
+    let done = c.loop-done.done in
+    let want = c.min-want.result in
+    let buf = c.loop-done.samples in
+    let part = c.read_piece.new.samples in
+    let m = c.args.maxval in
+    let count = length (put_mid done (done + want - done) buf part) in
+    let few : done + length part ≤ count = grind (arith, common_steps) in
+    filled_refused m count c.args.start (c.args.start + done * c.sample_size-size.result) done (length part) (g.T.Tray.state c.args.tray.now) (g.T.Tray.state c.loop-done.tray) (g.T.Tray.state c.read_piece.new.tray) buf c.in-Err.refusal
+    c.loop-done.invariant.within few (ap (λ (n : ℕ). c.args.start + done * n) c.sample_size-size.ensures) c.loop-done.invariant.takes c.loop-done.invariant.fit c.in-Err.ensures.answer

@@ -1,0 +1,127 @@
+ghost use Rattle.std.specs.Prelude.{IsTrue, ◌≢◌, ◌≤◌, ◌+◌, ◌^◌, length, Err};
+ghost use Rattle.pgm_plates.specs.Limits.{most_header};
+ghost use Rattle.pgm_plates.specs.Readers.{OpensPlate, ReadsPiece};
+ghost use Rattle.pgm_plates.specs.Reading.{KeepsCount};
+ghost use Rattle.pgm_plates.specs.Rows.{BeginsPlate, EndsPlate, ReadsRows, samples_of};
+
+use crate::bounds::Bounds;
+pub use crate::header::Header;
+use crate::plate::PlateRefusal;
+use crate::raster::read_piece;
+use crate::reading::{end_of_file, read_header};
+use crate::samples::sample_size;
+use outside::tray::{Failed, Tray};
+
+/// A plate file that is begun: its header, and how many bytes that has.
+#[derive(Clone, Copy, Debug, Drop, PartialEq, Eq)]
+pub struct OpenPlate {
+    pub header: Header,
+    pub size: u64,
+}
+
+/// Begins the file of that name and reads the header of the plate within these bounds that it spells.
+///
+/// With `read_rows` and `end_plate` after it, it reads what `read_plate_within` reads, and takes no memory. A refusal
+/// of any of them is the one of the whole plate.
+pub fn begin_plate<T: Tray>(
+    tray: &mut T,
+    name: &str,
+    bounds: Bounds,
+) -> Result<OpenPlate, PlateRefusal>
+    ensures begun { BeginsPlate bounds name.now (T.state tray.old) (T.state tray.new) result }
+    ensures memory { result ≢ Err PlateRefusal.OutOfMemory }
+{
+    match tray.begin(name) {
+        Ok(()) => open_plate(tray, bounds),
+        Err(Failed) => Err(PlateRefusal::ReadFault),
+    }
+}
+
+// Reads the header of the file that is begun.
+fn open_plate<T: Tray>(tray: &mut T, bounds: Bounds) -> Result<OpenPlate, PlateRefusal>
+    requires { IsTrue (T.state tray.old).begun }
+    ensures answer { OpensPlate bounds (T.state tray.old) (T.state tray.new) result }
+    ensures count { KeepsCount (T.state tray.old) (T.state tray.new) result }
+    ensures memory { result ≢ Err PlateRefusal.OutOfMemory }
+{
+    match read_header(tray, bounds) {
+        Ok((header, size)) => Ok(OpenPlate { header, size }),
+        Err(refusal) => Err(refusal),
+    }
+}
+
+/// Reads the next samples of a plate, of which so many were read before, row by row from the top: as many as there is
+/// room for in `samples`, by pieces of as many bytes as there is room for in `bytes`.
+pub fn read_rows<T: Tray>(
+    tray: &mut T,
+    plate: OpenPlate,
+    done: u64,
+    samples: &mut [u16],
+    bytes: &mut [u8],
+) -> Result<(), PlateRefusal>
+    requires begun { IsTrue (T.state tray.old).begun }
+    requires header { plate.size ≤ most_header }
+    requires count { done + length samples.old ≤ 2 ^ 36 }
+    requires room { 2 ≤ length bytes.old }
+    ensures rows { ReadsRows plate done samples.new (T.state tray.old) (T.state tray.new) result }
+    ensures begun { IsTrue (T.state tray.new).begun }
+    ensures memory { result ≢ Err PlateRefusal.OutOfMemory }
+{
+    let maxval = plate.header.maxval;
+    let start = plate.size + done * sample_size(maxval) as u64;
+    fill_samples(tray, samples, bytes, maxval, start)
+}
+
+/// Looks for what stands after the last sample of a plate: nothing, if it is a whole plate file.
+pub fn end_plate<T: Tray>(tray: &mut T, plate: OpenPlate) -> Result<(), PlateRefusal>
+    requires begun { IsTrue (T.state tray.old).begun }
+    requires header { plate.size ≤ most_header }
+    requires count { samples_of plate.header ≤ 2 ^ 36 }
+    ensures ended { EndsPlate plate (T.state tray.old) (T.state tray.new) result }
+    ensures memory { result ≢ Err PlateRefusal.OutOfMemory }
+{
+    let Header {
+        width,
+        height,
+        maxval,
+    } = plate.header;
+    let count = width as u64 * height as u64;
+    end_of_file(tray, plate.size + count * sample_size(maxval) as u64)
+}
+
+// Reads samples until there are as many as there is room for.
+fn fill_samples<T: Tray>(
+    tray: &mut T,
+    samples: &mut [u16],
+    bytes: &mut [u8],
+    maxval: u32,
+    start: u64,
+) -> Result<(), PlateRefusal>
+    requires begun { IsTrue (T.state tray.old).begun }
+    requires start { start ≤ 2 ^ 38 }
+    requires count { length samples.old ≤ 2 ^ 36 }
+    requires room { 2 ≤ length bytes.old }
+    ensures answer { let count = length samples.new in
+        ReadsPiece maxval count start (T.state tray.old) (T.state tray.new) result samples.new }
+    ensures begun { IsTrue (T.state tray.new).begun }
+    ensures count { KeepsCount (T.state tray.old) (T.state tray.new) result }
+    ensures memory { result ≢ Err PlateRefusal.OutOfMemory }
+{
+    let size = sample_size(maxval);
+    let most = bytes.len() / size;
+    let mut done = 0usize;
+    while done < samples.len() {
+        let want = most.min(samples.len() - done);
+        match read_piece(
+            tray,
+            &mut samples[done..done + want],
+            &mut bytes[..want * size],
+            maxval,
+            start + (done * size) as u64,
+        ) {
+            Ok(()) => done += want,
+            Err(refusal) => return Err(refusal),
+        }
+    }
+    Ok(())
+}

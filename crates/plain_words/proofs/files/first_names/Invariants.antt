@@ -1,0 +1,6 @@
+use Rattle.std.proofs.Common.{◌≡◌, map, string_bytes, take}
+use Rattle.plain_words.specs.Parts.{before_colon}
+use Rattle.plain_words.proofs.files.first_names.Given as goal
+
+abbrev pub invariant-loop-word : goal.invariant-loop-word
+invariant-loop-word l = l.names ≡ map before_colon (map string_bytes (take l.word-index l.words))

@@ -1,0 +1,5 @@
+use Rattle.std.proofs.Common.{length}
+use Rattle.plain_words.proofs.plates.+has_name.Given as goal
+
+abbrev pub decreases-has_name : goal.decreases-has_name
+decreases-has_name g l = length l.words.now

@@ -1,0 +1,6 @@
+pub mod EachLemmas
+pub mod JudgeLemmas
+pub mod ReadLemmas
+pub mod StopLemmas
+pub mod WriteLemmas
+pub mod JudgedLemmas

@@ -1,0 +1,41 @@
+use Rattle.std.proofs.Common.{◌<◌, ℕ, List, Ok, Err, length, map, get_or, arith, ap, sym, subst, ◌∙◌}
+use Rattle.std.specs.Prelude.{slice_set}
+use Rattle.std.proofs.lemmas.List.{length-map}
+use Rattle.refusals.specs.declared.refusal.Refusal.{Refusal}
+use Rattle.plate_rows.specs.Judging.{JudgesPlate, JudgesPlates}
+use Rattle.plate_rows.proofs.JudgeLemmas.{named, one_judged, one_refused, plates_refused}
+use Rattle.plate_rows.proofs.judging.judge_each.Goals as goal
+
+pub loop-place-preserved : goal.loop-place-preserved
+loop-place-preserved g c =
+    let state = g.T.Tray.state in
+    let text = g.S.AsStr.text in
+    let inputs = c.args.inputs.now in
+    let trays = c.loop-place.trays in
+    let k = c.loop-place.place in
+    let old = c.index-trays-place.result in
+    let new = c.judge_plate.new.tray in
+    let within : k < length inputs = omega arith in
+    let held : k < length trays = omega arith in
+    let shown : k < length c.loop-place.headers = omega arith in
+    one_judged state (map text inputs) c.loop-place.headers (map state c.args.trays.now) trays k old new held c.loop-place.invariant c.in-Ok.header shown
+    (subst (λ (n : List ℕ). JudgesPlate n (state (get_or trays k old)) (state new) (Ok c.in-Ok.header)) (c.as_str.ensures ∙ ap text c.index-inputs-place.is ∙ sym (named text inputs k c.index-inputs-place.result within)) c.in-Ok.ensures.answer)
+
+pub returns-in-Err : goal.returns-in-Err
+returns-in-Err g c =
+    let state = g.T.Tray.state in
+    let text = g.S.AsStr.text in
+    let inputs = c.args.inputs.now in
+    let trays = c.loop-place.trays in
+    let k = c.loop-place.place in
+    let old = c.index-trays-place.result in
+    let new = c.judge_plate.new.tray in
+    let within : k < length inputs = omega arith in
+    let held : k < length trays = omega arith in
+    let known : k < length (map text inputs) = omega (arith, length-map inputs text) in
+    let a = map state c.args.trays.now in
+    let b = map state (slice_set trays k new) in
+    subst (λ (r : Refusal). JudgesPlates (map text inputs) c.loop-place.headers a b (Err r)) (sym c.numbered.ensures)
+    (plates_refused (map text inputs) c.loop-place.headers a b k c.in-Err.refusal c.in-Err.ensures.memory
+    (one_refused state (map text inputs) c.loop-place.headers a trays k old new held c.loop-place.invariant c.in-Err.refusal known
+    (subst (λ (n : List ℕ). JudgesPlate n (state (get_or trays k old)) (state new) (Err c.in-Err.refusal)) (c.as_str.ensures ∙ ap text c.index-inputs-place.is ∙ sym (named text inputs k c.index-inputs-place.result within)) c.in-Err.ensures.answer)))

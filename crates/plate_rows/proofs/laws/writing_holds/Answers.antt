@@ -1,0 +1,5 @@
+use Rattle.plate_rows.proofs.WriteLemmas.{writing_holds}
+use Rattle.plate_rows.proofs.laws.writing_holds.Goals as goal
+
+pub returns : goal.returns
+returns c = writing_holds

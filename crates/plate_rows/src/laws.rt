@@ -1,0 +1,53 @@
+//! Laws of reading and writing by rows, each the contract of an empty function: a caller that calls it has the law.
+
+ghost use Rattle.plate_rows.specs.Judged.{JudgingEnds, JudgingStops};
+ghost use Rattle.plate_rows.specs.Laws.{EndsStop, NoChange, ReadingBegins, ReadingEnds, ReadingGrows, ReadingStops, RowsStop, WritingBreaks, WritingEnds, WritingGrows, WritingHolds, WritingLeaves};
+
+use pgm_plates::bounds::Bounds;
+use pgm_plates::laws::{file_fault_within, file_plate_within, not_both_within, top_of_file_within};
+
+/// What is so of plates that were judged: of all of them, and of those before one that is refused.
+pub fn plates_judged()
+    ensures ends { JudgingEnds }
+    ensures stops { JudgingStops }
+{
+    file_plate_within(Bounds::Sheet);
+}
+
+/// A plate whose file the tray tells does not change between two readings.
+pub fn no_change()
+    ensures { NoChange }
+{
+    file_fault_within(Bounds::Sheet);
+    not_both_within(Bounds::Sheet);
+    top_of_file_within(Bounds::Sheet);
+}
+
+/// What was read of each plate: nothing where the plates are begun, and so much more with each call for the next rows;
+/// after all samples the plates are read whole.
+pub fn reading_goes_on()
+    ensures begins { ReadingBegins }
+    ensures grows { ReadingGrows }
+    ensures ends { ReadingEnds }
+{}
+
+/// What is so of a second reading that stops: where the plates are begun, where rows are read, and where the plates end.
+pub fn reading_stops()
+    ensures begun { ReadingStops }
+    ensures rows { RowsStop }
+    ensures ended { EndsStop }
+{}
+
+/// What was written of each plate: so much more with each call for the next rows, or where that fails a prefix of each
+/// file; and the whole where the files are finished.
+pub fn writing_goes_on()
+    ensures grows { WritingGrows }
+    ensures breaks { WritingBreaks }
+    ensures ends { WritingEnds }
+    ensures leaves { WritingLeaves }
+{}
+
+/// What stands under a plate's name while it is written: a prefix of its bytes, and all else as it was.
+pub fn writing_holds()
+    ensures { WritingHolds }
+{}

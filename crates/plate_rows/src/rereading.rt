@@ -1,0 +1,229 @@
+ghost use Rattle.std.specs.Prelude.{◌≡◌, ◌≢◌, ◌<◌, ◌≤◌, ◌-◌, ◌^◌, ℕ, IsTrue, length, map, Err};
+ghost use Rattle.std.specs.List.{All};
+ghost use Rattle.page_model.specs.Limits.{most_maxval};
+ghost use Rattle.page_model.specs.Planes.{plane_at};
+ghost use Rattle.pgm_plates.specs.Limits.{most_header};
+ghost use Rattle.pgm_plates.specs.Rows.{samples_of};
+ghost use Rattle.plate_rows.specs.Rereading.{BeginsOne, BeginsPlates, EndsPlates, IsReadTo, ReadsBehind, ReadsNext, ReadsPlane, ReadsTints, stop_at, turned, wanted};
+ghost use Rattle.plate_rows.specs.Trays.{open_at, tray_at};
+
+use crate::stop::RereadError;
+use lists::list::List;
+use outside::tray::Tray;
+use page_model::parts::Plane;
+use pgm_plates::bounds::Bounds;
+use pgm_plates::plate::PlateRefusal;
+use pgm_plates::rows::{Header, OpenPlate, begin_plate, end_plate, read_rows};
+use std::alloc::Global;
+use std::convert::AsStr;
+
+/// Which rows of plates are read next: those after so many samples of each, into each plane behind so many tints.
+#[derive(Clone, Copy, Debug, Drop, PartialEq, Eq)]
+pub struct NextRows {
+    pub done: u64,
+    pub kept: usize,
+}
+
+/// Begins the plates of these files once more, each by the tray of its number, and gives in `plates` how they were begun.
+/// It takes no memory.
+///
+/// It stops at the first plate whose header is not the one of `headers` or has a fault now, and at the first that cannot
+/// be read. No later plate is begun.
+pub fn begin_plates<T: Tray, S: AsStr>(
+    trays: &mut [T],
+    inputs: &[S],
+    headers: &[Header],
+    plates: &mut [OpenPlate],
+) -> Result<(), RereadError>
+    requires few { length inputs.now ≤ 16 }
+    requires trays { length inputs.now ≤ length trays.old }
+    requires headers { length inputs.now ≤ length headers.now }
+    requires plates { length inputs.now ≤ length plates.old }
+    ensures { BeginsPlates (map S.text inputs.now) headers.now plates.new
+        (map T.state trays.old) (map T.state trays.new) result }
+{
+    for place in 0..inputs.len() {
+        match begin_one(
+            &mut trays[place],
+            place as u32,
+            inputs[place].as_str(),
+            headers[place],
+        ) {
+            Ok(plate) => plates[place] = plate,
+            Err(stop) => return Err(stop),
+        }
+    }
+    Ok(())
+}
+
+// Begins one plate once more, the one of that number.
+fn begin_one<T: Tray>(
+    tray: &mut T,
+    plate: u32,
+    name: &str,
+    header: Header,
+) -> Result<OpenPlate, RereadError>
+    ensures { BeginsOne name.now header plate (T.state tray.old) (T.state tray.new) result }
+{
+    match begin_plate(tray, name, Bounds::Sheet) {
+        Ok(begun) => {
+            if begun.header == header {
+                Ok(begun)
+            } else {
+                Err(RereadError::Changed(plate))
+            }
+        }
+        Err(refusal) => Err(stop_of(plate, refusal)),
+    }
+}
+
+// Where the reading stops: a fault is a change, since the plate had none.
+fn stop_of(plate: u32, refusal: PlateRefusal) -> RereadError
+    ensures { result ≡ stop_at plate refusal }
+{
+    match refusal {
+        PlateRefusal::Fault(_) => RereadError::Changed(plate),
+        PlateRefusal::ReadFault | PlateRefusal::OutOfMemory => RereadError::Unread(plate),
+    }
+}
+
+/// Reads the next rows of each plate by the tray of its number, and turns their samples into tints of the plane of its
+/// number: the planes are filled to their ends, behind the tints that are kept. It reads by pieces of as many bytes as
+/// there is room for in `bytes`, and takes no memory.
+///
+/// It stops at the first plate that has a fault now or cannot be read; the planes' tints are of no use then.
+pub fn read_next<T: Tray>(
+    alloc: Global,
+    trays: &mut [T],
+    plates: &[OpenPlate],
+    next: NextRows,
+    planes: &mut [Plane],
+    bytes: &mut [u8],
+) -> Result<(), RereadError>
+    requires few { length plates.now ≤ 16 }
+    requires trays { length plates.now ≤ length trays.old }
+    requires planes { length planes.old ≡ length plates.now }
+    requires kept { (k : ℕ) → k < length plates.now
+        → next.kept ≤ length (plane_at planes.old k).tints }
+    requires read { (k : ℕ) → k < length plates.now
+        → IsReadTo (open_at plates.now k) next.done (wanted next.kept planes.old k)
+        (tray_at (map T.state trays.old) k) }
+    requires room { 2 ≤ length bytes.old }
+    ensures { ReadsNext plates.now next planes.old planes.new (map T.state trays.old)
+        (map T.state trays.new) result }
+{
+    for place in 0..plates.len() {
+        match read_plane(
+            alloc,
+            &mut trays[place],
+            plates[place],
+            next,
+            &mut planes[place],
+            bytes,
+        ) {
+            Ok(()) => {}
+            Err(refusal) => return Err(stop_of(place as u32, refusal)),
+        }
+    }
+    Ok(())
+}
+
+// Fills a plane with the next rows of a plate, behind the tints that are kept.
+fn read_plane<T: Tray>(
+    alloc: Global,
+    tray: &mut T,
+    plate: OpenPlate,
+    next: NextRows,
+    plane: &mut Plane,
+    bytes: &mut [u8],
+) -> Result<(), PlateRefusal>
+    requires kept { next.kept ≤ length plane.old.tints }
+    requires read { let more = length plane.old.tints - next.kept in
+        IsReadTo plate next.done more (T.state tray.old) }
+    requires room { 2 ≤ length bytes.old }
+    ensures answer { ReadsPlane plate next plane.old plane.new (T.state tray.old)
+        (T.state tray.new) result }
+    ensures memory { result ≢ Err PlateRefusal.OutOfMemory }
+{
+    let mut tints = std::mem::replace(&mut plane.tints, List::new(alloc)).into_vec();
+    let result = read_behind(tray, plate, next, tints.as_mut_slice(), bytes);
+    plane.tints = List::from_vec(tints);
+    result
+}
+
+// Fills tints with the next rows of a plate, behind those that are kept.
+fn read_behind<T: Tray>(
+    tray: &mut T,
+    plate: OpenPlate,
+    next: NextRows,
+    tints: &mut [u16],
+    bytes: &mut [u8],
+) -> Result<(), PlateRefusal>
+    requires kept { next.kept ≤ length tints.old }
+    requires read { let more = length tints.old - next.kept in
+        IsReadTo plate next.done more (T.state tray.old) }
+    requires room { 2 ≤ length bytes.old }
+    ensures answer { ReadsBehind plate next tints.old tints.new (T.state tray.old)
+        (T.state tray.new) result }
+    ensures memory { result ≢ Err PlateRefusal.OutOfMemory }
+{
+    read_tints(tray, plate, next.done, &mut tints[next.kept..], bytes)
+}
+
+/// Reads the next samples of a plate, of which so many were read before, and turns them into tints: as many as there is
+/// room for in `tints`, by pieces of as many bytes as there is room for in `bytes`.
+pub fn read_tints<T: Tray>(
+    tray: &mut T,
+    plate: OpenPlate,
+    done: u64,
+    tints: &mut [u16],
+    bytes: &mut [u8],
+) -> Result<(), PlateRefusal>
+    requires read { IsReadTo plate done (length tints.old) (T.state tray.old) }
+    requires room { 2 ≤ length bytes.old }
+    ensures answer { ReadsTints plate done tints.new (T.state tray.old) (T.state tray.new) result }
+    ensures memory { result ≢ Err PlateRefusal.OutOfMemory }
+{
+    match read_rows(tray, plate, done, tints, bytes) {
+        Ok(()) => {
+            turn(tints, plate.header.maxval);
+            Ok(())
+        }
+        Err(refusal) => Err(refusal),
+    }
+}
+
+// Turns samples into tints.
+fn turn(values: &mut [u16], maxval: u32)
+    requires maxval { maxval ≤ most_maxval }
+    requires fits { All (λ v. v ≤ maxval) values.old }
+    ensures { values.new ≡ turned maxval values.old }
+{
+    let most = maxval as u16;
+    for at in 0..values.len() {
+        values[at] = most - values[at];
+    }
+}
+
+/// Looks for what stands after the last sample of each plate, by the tray of its number: nothing, if it is what it was.
+///
+/// It stops at the first plate that has a fault now or cannot be read.
+pub fn end_plates<T: Tray>(trays: &mut [T], plates: &[OpenPlate]) -> Result<(), RereadError>
+    requires few { length plates.now ≤ 16 }
+    requires trays { length plates.now ≤ length trays.old }
+    requires begun { (k : ℕ) → k < length plates.now
+        → IsTrue (tray_at (map T.state trays.old) k).begun }
+    requires headers { (k : ℕ) → k < length plates.now
+        → (open_at plates.now k).size ≤ most_header }
+    requires counts { (k : ℕ) → k < length plates.now
+        → samples_of (open_at plates.now k).header ≤ 2 ^ 36 }
+    ensures { EndsPlates plates.now (map T.state trays.old) (map T.state trays.new) result }
+{
+    for place in 0..plates.len() {
+        match end_plate(&mut trays[place], plates[place]) {
+            Ok(()) => {}
+            Err(refusal) => return Err(stop_of(place as u32, refusal)),
+        }
+    }
+    Ok(())
+}

@@ -1,7 +1,0 @@
-use Rattle.std.proofs.Common.{◌≡◌, map, string_bytes, take}
-use Rattle.plain_words.specs.Parts.{input_of}
-use Rattle.plain_words.specs.Inputs.{inputs_of}
-use Rattle.press_check.proofs.files.inputs_of.Given as goal
-
-abbrev pub invariant-loop-word : goal.invariant-loop-word
-invariant-loop-word l = map (λ file. file.now) l.files.items ≡ inputs_of (map input_of (map string_bytes (take l.word-index l.words)))

@@ -1,5 +1,0 @@
-use Rattle.ps_laws.proofs.Reading.{before_fault-spelled}
-use Rattle.ps_laws.proofs.laws.front_of_fault_is_spelled.Goals as goal
-
-pub returns : goal.returns
-returns c = before_fault-spelled

@@ -1,0 +1,5 @@
+use Rattle.ps_laws.proofs.Reading.{before_fault-spelled}
+use Rattle.ps_laws.proofs.laws.prefix_of_fault_is_spelled.Goals as goal
+
+pub returns : goal.returns
+returns c = before_fault-spelled

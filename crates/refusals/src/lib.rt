@@ -1,0 +1,10 @@
+//! Why a command did not do its work: each refusal, its status, its line, and how lines are told to a rack.
+#![tactic(auto)]
+
+pub mod fault_line;
+mod kind_names;
+pub mod line;
+pub mod refusal;
+pub mod statuses;
+pub mod telling;
+pub mod words;

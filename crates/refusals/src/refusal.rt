@@ -1,0 +1,42 @@
+ghost use Rattle.std.specs.Prelude.{◌≡◌};
+ghost use Rattle.refusals.specs.Refusals.{status_of};
+
+use crate::statuses::{JOB_REFUSED, NOT_READ, NOT_WRITTEN, OUT_OF_MEMORY, PAGE_REFUSED, USAGE};
+use page_model::page::PageFault;
+use pgm_plates::plate::PlateFault;
+use ps_tokens::faults::JobFault;
+
+/// Why a command did not do its work. Plates are numbered from 0 in the order of the words.
+#[derive(Clone, Copy, Debug, Drop, PartialEq, Eq)]
+pub enum Refusal {
+    /// The words are no command.
+    Usage,
+    /// The job has a fault.
+    Job(JobFault),
+    /// Some zone is enabled, and this plate's colorant has no details in the job.
+    NoDetails(u32),
+    /// This plate's file has a fault.
+    Plate(u32, PlateFault),
+    /// The plates are no page.
+    Page(PageFault),
+    /// This plate could not be read, or where none is named the job.
+    Read(Option<u32>),
+    /// This plate could not be written, or where none is named the report.
+    Write(Option<u32>),
+    /// There was no memory.
+    Memory,
+}
+
+/// The status that the program ends with after a refusal: one of `crate::statuses`.
+pub fn status(refusal: &Refusal) -> u8
+    ensures { result ≡ status_of refusal.now }
+{
+    match refusal {
+        Refusal::Usage => USAGE,
+        Refusal::Job(_) | Refusal::NoDetails(_) => JOB_REFUSED,
+        Refusal::Plate(_, _) | Refusal::Page(_) => PAGE_REFUSED,
+        Refusal::Read(_) => NOT_READ,
+        Refusal::Write(_) => NOT_WRITTEN,
+        Refusal::Memory => OUT_OF_MEMORY,
+    }
+}

@@ -1,0 +1,191 @@
+-- A sheet of plates of which nothing is kept but the headers: the plates are there all the same.
+use Rattle.std.proofs.Common.{◌≡◌, ℕ, zero, suc, ◌+◌, ◌<◌, ◌≤◌, List, length, take, get_or, Option, Some, None, Result, Ok, Err, IsTrue, inl, refl, sym, ap, ◌∙◌, subst, arith}
+use Rattle.std.specs.List.{All}
+use Rattle.std.proofs.lemmas.List.{get_or-map, length-map}
+use Rattle.job_reader.specs.declared.job.Job.{Job}
+use Rattle.outside.specs.Tray.{KeepsTray, TrayState}
+use Rattle.page_gather.specs.Assembly.{assembled}
+use Rattle.page_gather.specs.Inputs.{Sources, name_at, no_plate, plate_at}
+use Rattle.page_model.specs.declared.parts.PageParts.{PageParts}
+use Rattle.page_model.specs.declared.parts.Plane.{Plane}
+use Rattle.page_model.specs.Page.{height, maxval, width}
+use Rattle.page_model.specs.Planes.{no_plane, plane_at}
+use Rattle.pgm_plates.specs.declared.bounds.Bounds.TheVariants.{Sheet}
+use Rattle.pgm_plates.specs.declared.header.Header.{Header}
+use Rattle.pgm_plates.specs.declared.plate.Plate.{Plate as PlateRead}
+use Rattle.pgm_plates.specs.declared.plate.PlateRefusal.TheVariants.{Fault, ReadFault}
+use Rattle.pgm_plates.specs.Laws.{FileFaultWithin}
+use Rattle.pgm_plates.specs.Planes.{plane_of}
+use Rattle.pgm_plates.specs.Rows.{IsWithin}
+use Rattle.plate_rows.specs.Judged.{AreJudged, AreJudgedTo, ArePlates, JudgingStops}
+use Rattle.plate_rows.specs.Judging.{JudgesPlates}
+use Rattle.plate_rows.specs.Trays.{TakesFile as FileTaken, TakesFiles as FilesTaken, header_in as header_there}
+use Rattle.refusals.specs.declared.refusal.Refusal.{Refusal}
+use Rattle.refusals.specs.declared.refusal.Refusal.TheVariants.{Job as JobFails, Memory, NoDetails, Page, Plate, Read, Usage, Write}
+use Rattle.sheet_cuts.specs.declared.budget.Budget.{Budget}
+use Rattle.sheet_cuts.specs.declared.cutting.Cutting.{Cutting}
+use Rattle.sheet_cuts.specs.Refusals.{sheet_refusal}
+use Rattle.bare_sheets.proofs.BareLemmas.{height_is, law_of, maxval_is, width_is}
+use Rattle.sheet_gather.specs.declared.planning.PlannedSheet.{PlannedSheet}
+use Rattle.sheet_gather.specs.declared.stop.TrapsheetError.{TrapsheetError}
+use Rattle.sheet_gather.specs.declared.stop.TrapsheetError.TheVariants.{Common}
+use Rattle.sheet_gather.specs.Gathering.{AnswersSheet, GathersSheet}
+use Rattle.sheet_gather.specs.Inputs.{AreSpelled, Spells, plates_by}
+use Rattle.sheet_gather.specs.Judging.{AnswersJudging, JudgesSheet, header_in}
+use Rattle.sheet_gather.specs.Planning.{CanPlan, HaveHeaders, MakesWhole, PlansSheet, header_of}
+use Rattle.sheet_gather.specs.SheetFiles.{IsSheetFile, IsSheetPlate}
+use Rattle.sheet_gather.specs.Steps.{CutsSheet, ReadsFirst, ReadsPlates, StopsAt, TakesFile, TakesFiles}
+use Rattle.sheet_gather.specs.Trays.{AllTell, tray_at}
+use Rattle.sheet_gather.proofs.GatherLemmas.{IsReady, plates_refused, sheet_made, sheet_ready}
+use Rattle.sheet_gather.proofs.TrayLemmas.{keeps_is}
+
+-- ---- how plates that were judged were read
+
+taken_file : (name : List ℕ) (a b : TrayState) → FileTaken name a b → TakesFile name a b
+taken_file name a b takes = record {
+  keeps = takes.keeps;
+  asked = takes.asked;
+  few = record { bytes = takes.bytes; taken = takes.taken; few = takes.few };
+}
+
+taken_files : (names : List (List ℕ)) (count : ℕ) (a b : List TrayState) → FilesTaken names count a b → TakesFiles names count a b
+taken_files names count a b takes = record {
+  each = λ k less. taken_file (name_at names k) (tray_at a k) (tray_at b k) (takes.each k less);
+  others = takes.others;
+}
+
+spelled : (names : List (List ℕ)) (headers : List Header) (count : ℕ) (a : List TrayState) (read : List PlateRead) → ArePlates names headers count a read → AllTell count a → AreSpelled (plates_by a names) count read
+spelled names headers count a read are tells = record { all = are.all; each = λ k less. are.told k less (tells k less) }
+
+stops : (names : List (List ℕ)) (headers : List Header) (k : ℕ) (a b : List TrayState) → AreJudgedTo names headers k a b → StopsAt names k a b
+stops names headers k a b to = record {
+  known = to.known;
+  takes = taken_files names (k + 1) a b to.takes;
+  calm = λ j less. to.calm j (inl less);
+  plates = to.plates;
+  before_it = spelled names headers k a to.plates to.are_plates;
+}
+
+-- a plate is refused
+pub read_refused : JudgingStops → FileFaultWithin Sheet → (names : List (List ℕ)) (headers : List Header) (a b : List TrayState) (refusal : Refusal) → length names ≤ length headers → JudgesPlates names headers a b (Err refusal) → ReadsPlates names a b (Err (Common refusal))
+read_refused law faults names headers a b (Plate k fault) long there =
+    let reads = there.here in
+    ReadsPlates.fails k fault refl (stops names headers k a b (law names headers k (Fault fault) a b long there)) reads.count (faults (name_at names k) (tray_at a k) (tray_at b k) fault reads)
+read_refused law faults names headers a b (Read (Some k)) long there =
+    let reads = there.here in
+    ReadsPlates.unread k refl (stops names headers k a b (law names headers k ReadFault a b long there)) reads.answer.0 (λ begun tells. (reads.bytes, reads.taken begun tells, reads.answer.1))
+read_refused law faults names headers a b (Read None) long there = absurd there
+read_refused law faults names headers a b (JobFails fault) long there = absurd there
+read_refused law faults names headers a b (NoDetails plate) long there = absurd there
+read_refused law faults names headers a b (Page fault) long there = absurd there
+read_refused law faults names headers a b (Write file) long there = absurd there
+read_refused law faults names headers a b Memory long there = absurd there
+read_refused law faults names headers a b Usage long there = absurd there
+
+-- ---- an answer that is a refusal, of whichever kind of sheet
+
+module _ (source : Sources) (budget : Budget) (a c : List TrayState) where
+  same_stop : (one two : TrapsheetError) → ◌≡◌ {A = Result Cutting TrapsheetError} (Err one) (Err two) → ◌≡◌ {A = Result PlannedSheet TrapsheetError} (Err one) (Err two)
+  same_stop one two is = let same : one ≡ two = cc in ap (λ (s : TrapsheetError). Err s) same
+
+  answer_of : (stop : TrapsheetError) → AnswersSheet source budget a c (Err stop) → AnswersJudging source budget a c (Err stop)
+  answer_of stop (AnswersSheet.made cutting sheet is cuts made asks calm) = absurd (cc)
+  answer_of stop (AnswersSheet.refused other is refuses) = AnswersJudging.refused other (same_stop stop other is) refuses
+  answer_of stop (AnswersSheet.unread file is fails) = AnswersJudging.unread file (same_stop stop (Common (Read file)) is) fails
+  answer_of stop (AnswersSheet.no_memory is calm) = AnswersJudging.no_memory (same_stop stop (Common Memory) is) calm
+
+  pub refused_as : (stop : TrapsheetError) → GathersSheet source budget a c (Err stop) → JudgesSheet source budget a c (Err stop)
+  refused_as stop gathers = record { takes = gathers.takes; answer = answer_of stop gathers.answer }
+
+pub plate_refused : JudgingStops → FileFaultWithin Sheet → (source : Sources) (budget : Budget) (headers : List Header) (a b c : List TrayState) (job : Job) (refusal : Refusal) → 1 ≤ length source.inputs → length source.names ≡ length source.inputs → length source.inputs ≤ length headers → ReadsFirst source.job a b (Ok job) → JudgesPlates source.inputs headers b c (Err refusal) → JudgesSheet source budget a c (Err (Common refusal))
+plate_refused law faults source budget headers a b c job refusal some named long first there =
+    refused_as source budget a c (Common refusal) (plates_refused source budget a b c job (Common refusal) some named first (read_refused law faults source.inputs headers b c refusal long there))
+
+-- ---- all plates are judged
+
+-- the headers of the plates can be planned
+pub can_plan : (names inputs : List (List ℕ)) (headers : List Header) (a b : List TrayState) → AreJudged inputs headers a b → 1 ≤ length inputs → length inputs ≤ 16 → length names ≡ length inputs → CanPlan (take (length inputs) headers) names
+can_plan names inputs headers a b judged some few named =
+    let are = judged.are_plates in
+    let count : length (take (length inputs) headers) ≡ length inputs = sym (ap length are.same) ∙ length-map judged.plates header_there ∙ are.all in
+    record {
+      some = omega (arith, some, count);
+      few = omega (arith, few, count);
+      named = named ∙ sym count;
+      in_range = subst (All (IsWithin Sheet)) are.same (λ k d within.
+          (let here : k < length judged.plates = omega (arith, within, length-map judged.plates header_there) in
+          subst (IsWithin Sheet) (sym (get_or-map header_there judged.plates k no_plate d here)) (plate_header (get_or judged.plates k no_plate) (are.in_range k no_plate here))));
+    } where
+      plate_header : (plate : PlateRead) → IsSheetPlate plate → IsWithin Sheet (header_there plate)
+      plate_header plate is = record { width = is.width; height = is.height; product = is.product; positive = is.positive; maxval = is.maxval }
+
+module _ (source : Sources) (budget : Budget) (headers : List Header) (a b c : List TrayState) (job : Job) (some : 1 ≤ length source.inputs) (named : length source.names ≡ length source.inputs) (first : ReadsFirst source.job a b (Ok job)) (judged : AreJudged source.inputs headers b c) where
+  abbrev read : List PlateRead
+  read = judged.plates
+
+  have : HaveHeaders read (take (length source.inputs) headers)
+  have = record { in_range = judged.are_plates.in_range; same = judged.are_plates.same }
+
+  takes : TakesFiles source.inputs (length source.inputs) b c
+  takes = taken_files source.inputs (length source.inputs) b c judged.takes
+
+  told : AllTell (length source.inputs) b → AreSpelled (plates_by b source.inputs) (length source.inputs) read
+  told = spelled source.inputs headers (length source.inputs) b read judged.are_plates
+
+  reads : ReadsPlates source.inputs b c (Ok read)
+  reads = ReadsPlates.read read refl judged.are_plates.all judged.are_plates.in_range takes judged.calm told
+
+  -- the job left each tray of the same files
+  job_keeps : (k : ℕ) → KeepsTray (tray_at a k) (tray_at b k)
+  job_keeps zero = first.first.keeps
+  job_keeps (suc k) = keeps_is (tray_at a (suc k)) (tray_at b (suc k)) (first.others (suc k) (omega arith))
+
+  plane_is : (k : ℕ) → k < length read → plane_at (assembled job read source.names).planes k ≡ plane_of (plate_at read k)
+  plane_is k l = get_or-map plane_of read k no_plate no_plane l
+
+  -- each plate has the sheet's header
+  header_is : (bare : PageParts) (k : ℕ) → MakesWhole job read source.names bare → k < length read → header_of (plate_at read k) ≡ header_in bare
+  header_is bare k whole l =
+      let sheet = assembled job read source.names in
+      let plane = plane_is k l in
+      let agrees = whole.sheet.agree k (omega (arith, l, length-map read plane_of)) in
+      let wide : (plate_at read k).width ≡ width bare = sym (ap (λ (p : Plane). p.width) plane) ∙ agrees.wide ∙ sym (width_is sheet) ∙ ap width whole.same in
+      let tall : (plate_at read k).height ≡ height bare = sym (ap (λ (p : Plane). p.height) plane) ∙ agrees.tall ∙ sym (height_is sheet) ∙ ap height whole.same in
+      let deep : (plate_at read k).maxval ≡ maxval bare = sym (ap (λ (p : Plane). p.maxval) plane) ∙ agrees.deep ∙ sym (maxval_is sheet) ∙ ap maxval whole.same in
+      λ i. record { width = wide i; height = tall i; maxval = deep i }
+
+  header_told : (bare : PageParts) (k : ℕ) → MakesWhole job read source.names bare → k < length source.inputs → IsTrue (tray_at a k).tells → Spells (plates_by a source.inputs k) (λ bytes. (plate : PlateRead) × IsSheetFile bytes plate × (header_of plate ≡ header_in bare))
+  header_told bare k whole less tells =
+      let there = judged.are_plates.told k less ((job_keeps k).tells ∙ tells) in (
+        there.0,
+        ap (λ (files : List ℕ → Option (List ℕ)). files (name_at source.inputs k)) (sym (job_keeps k).file) ∙ there.1,
+        (plate_at read k, there.2, header_is bare k whole (omega (arith, less, judged.are_plates.all))),
+      )
+
+  ready : (planned : PlannedSheet) → MakesWhole job read source.names planned.bare → sheet_refusal planned.bare ≡ None → IsReady source a c (assembled job read source.names)
+  ready planned whole accepted = sheet_ready source a b c job read (assembled job read source.names) some named first judged.are_plates.all takes judged.calm told whole.made whole.sheet
+      (sym (law_of (assembled job read source.names)).refusal ∙ ap sheet_refusal whole.same ∙ accepted)
+
+  pub sheet_judged : (result : Result PlannedSheet TrapsheetError) → PlansSheet budget job (take (length source.inputs) headers) source.names result → JudgesSheet source budget a c result
+  sheet_judged result (PlansSheet.planned planned is valid blank accepted count plan makes) =
+      let whole = makes read have in
+      let here = ready planned whole accepted in
+      record {
+        takes = here.takes;
+        answer = AnswersJudging.judged planned is (record {
+          valid = valid;
+          blank = blank;
+          accepted = accepted;
+          plan = plan;
+          sheet = assembled job read source.names;
+          made = here.made;
+          same = whole.same;
+          headers = λ k less tells. header_told planned.bare k whole less tells;
+        }) here.asks here.calm;
+      }
+  sheet_judged result (PlansSheet.refused stop is refuses) =
+      subst (λ (r : Result PlannedSheet TrapsheetError). JudgesSheet source budget a c r) (sym is)
+      (refused_as source budget a c stop (sheet_made source budget a b c job read (Err stop) some named first reads (CutsSheet.refused stop refl (refuses read have))))
+  sheet_judged result (PlansSheet.no_memory is) =
+      subst (λ (r : Result PlannedSheet TrapsheetError). JudgesSheet source budget a c r) (sym is)
+      (refused_as source budget a c (Common Memory) (sheet_made source budget a b c job read (Err (Common Memory)) some named first reads (CutsSheet.no_memory refl)))

@@ -1,0 +1,9 @@
+pub mod TrayLemmas
+pub mod PlateLemmas
+pub mod SheetLemmas
+pub mod PlanLemmas
+pub mod GatherLemmas
+pub mod JudgeLemmas
+pub mod RereadLemmas
+pub mod VerdictLemmas
+pub mod SomeLemmas

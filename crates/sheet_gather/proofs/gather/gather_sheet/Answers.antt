@@ -1,0 +1,13 @@
+use Rattle.std.proofs.Common.{◌≤◌, length, map, arith}
+use Rattle.page_gather.specs.Inputs.{sources}
+use Rattle.sheet_gather.proofs.GatherLemmas.{as_many, job_refused}
+use Rattle.sheet_gather.proofs.gather.gather_sheet.Goals as goal
+
+pub returns-in-Ok : goal.returns-in-Ok
+returns-in-Ok g c = c.gather_plates.ensures c.args.job.now (map g.T.Tray.state c.args.trays.now) c.in-Ok.ensures
+
+pub returns-in-Err : goal.returns-in-Err
+returns-in-Err g c =
+    let inputs = map g.S.AsStr.text c.args.inputs.now in
+    let some : 1 ≤ length inputs = omega (arith, as_many g.S.AsStr.text c.args.inputs.now) in
+    job_refused (sources c.args.job.now c.args.names.now inputs) c.args.budget.now (map g.T.Tray.state c.args.trays.now) (map g.T.Tray.state c.read_first.new.trays) c.in-Err.stop some c.in-Err.ensures

@@ -1,0 +1,17 @@
+use Rattle.std.proofs.Common.{◌≤◌, length, map, arith}
+use Rattle.page_gather.specs.Inputs.{sources}
+use Rattle.sheet_gather.proofs.GatherLemmas.{as_many, job_refused}
+use Rattle.sheet_gather.proofs.JudgeLemmas.{refused_as}
+use Rattle.sheet_gather.proofs.judging.judge_sheet.Goals as goal
+
+pub returns-in-Ok : goal.returns-in-Ok
+returns-in-Ok g c = c.judge_rest.ensures c.args.job.now (map g.T.Tray.state c.args.trays.now) c.in-Ok.ensures
+
+pub returns-in-Err : goal.returns-in-Err
+returns-in-Err g c =
+    let inputs = map g.S.AsStr.text c.args.inputs.now in
+    let some : 1 ≤ length inputs = omega (arith, as_many g.S.AsStr.text c.args.inputs.now) in
+    let source = sources c.args.job.now c.args.names.now inputs in
+    let a = map g.T.Tray.state c.args.trays.now in
+    let b = map g.T.Tray.state c.read_first.new.trays in
+    refused_as source c.args.budget.now a b c.in-Err.stop (job_refused source c.args.budget.now a b c.in-Err.stop some c.in-Err.ensures)

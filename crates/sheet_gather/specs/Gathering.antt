@@ -1,0 +1,160 @@
+-- What it means to read a job and plates, and to make a sheet of them.
+use Rattle.std.specs.Prelude.{◌≡◌, ◌⊎◌, ℕ, zero, suc, ◌<◌, ◌≤◌, IsTrue, List, [], ◌∷◌, length}
+use Rattle.std.specs.Prelude.{Option, Some, None, Result, Ok, Err}
+use Rattle.job_reader.specs.declared.job.Job.{Job}
+use Rattle.job_reader.specs.Jobs.{job_of}
+use Rattle.outside.specs.Causes.{Rose, Asks, AsksPrefix}
+use Rattle.outside.specs.Tray.{TrayState, KeepsTray}
+use Rattle.page_gather.specs.Inputs.{Sources, name_at, sources}
+use Rattle.page_gather.specs.Steps.{TakesJob, TakesPlate}
+use Rattle.page_model.specs.declared.parts.PageParts.{PageParts}
+use Rattle.page_model.specs.Page.{plates}
+use Rattle.pgm_plates.specs.declared.plate.Plate.{Plate as PlateRead}
+use Rattle.pgm_plates.specs.declared.plate.PlateRefusal.TheVariants.{Fault}
+use Rattle.pgm_plates.specs.Reading.{KeepsCount}
+use Rattle.refusals.specs.declared.refusal.Refusal.TheVariants.{Job as JobFails, Memory, NoDetails}
+use Rattle.refusals.specs.declared.refusal.Refusal.TheVariants.{Plate, Read}
+use Rattle.sheet_cuts.specs.declared.budget.Budget.{Budget}
+use Rattle.sheet_cuts.specs.declared.cutting.Cutting.{Cutting}
+use Rattle.sheet_cuts.specs.Cuttings.{IsCutting}
+use Rattle.sheet_cuts.specs.Refusals.{sheet_refusal}
+use Rattle.sheet_windows.specs.Sheets.{IsSheet}
+use Rattle.sheet_gather.specs.Inputs.{AreSpelled, MakesSheet, Spells, held_by, plates_by}
+use Rattle.sheet_gather.specs.Steps.{IsFaultless, ReadsFirst}
+use Rattle.sheet_gather.specs.Trays.{AllTell, IsCalm, tray_at, tray_files}
+use Rattle.sheet_gather.specs.Verdicts.{IsSheetVerdict, Refused}
+use Rattle.sheet_gather.specs.declared.stop.TrapsheetError.{TrapsheetError}
+use Rattle.sheet_gather.specs.declared.stop.TrapsheetError.TheVariants.{Common, OfSheet}
+
+-- Tray k is as it was, or no more was taken of the file that it has in hand than is owed, be it
+-- the job or its plate.
+abbrev pub InHand : Sources → ℕ → TrayState → TrayState → Type 0
+InHand source zero before after = (after ≡ before) ⊎ TakesJob source.job before after
+    ⊎ TakesPlate (name_at source.inputs zero) before after
+InHand source (suc k) before after =
+    (after ≡ before) ⊎ TakesPlate (name_at source.inputs (suc k)) before after
+
+-- Each tray is asked for its own files alone, and those of no plate are as they were.
+pub record TakesTrays (source : Sources) (before after : List TrayState) : Type 0 where
+  pub keeps : (k : ℕ) → KeepsTray (tray_at before k) (tray_at after k)
+  pub asked : (k : ℕ)
+      → AsksPrefix (tray_at before k).asked (tray_at after k).asked (tray_files source k)
+  pub in_hand : (k : ℕ) → InHand source k (tray_at before k) (tray_at after k)
+  pub beyond : (k : ℕ) → length source.inputs ≤ k → tray_at after k ≡ tray_at before k
+
+-- Tray k was asked for all of its files.
+abbrev pub AsksAll : Sources → List TrayState → List TrayState → ℕ → Type 0
+AsksAll source before after k =
+    Asks (tray_at before k).asked (tray_at after k).asked (tray_files source k)
+
+-- the files that were begun where that stop comes; of the plates after the one that is refused
+-- nothing is said
+abbrev pub AsksTo : Sources → TrapsheetError → List TrayState → List TrayState → Type 0
+AsksTo source (Common (JobFails fault)) before after =
+    Asks (tray_at before 0).asked (tray_at after 0).asked (source.job ∷ [])
+AsksTo source (Common (Read None)) before after =
+    Asks (tray_at before 0).asked (tray_at after 0).asked (source.job ∷ [])
+AsksTo source (Common (Plate plate fault)) before after =
+    (k : ℕ) → k ≤ plate → AsksAll source before after k
+AsksTo source (Common (Read (Some plate))) before after =
+    (k : ℕ) → k ≤ plate → AsksAll source before after k
+AsksTo source other before after =
+    (k : ℕ) → k < length source.inputs → AsksAll source before after k
+
+-- No fault of a tray is passed over where that stop comes, but of the plates after the one that
+-- is refused. A sample above the maxval may be among the bytes that came before a failed read.
+abbrev pub CalmTo : TrapsheetError → List TrayState → List TrayState → Type 0
+CalmTo (Common (JobFails fault)) before after = IsCalm before after 0
+CalmTo (Common (Plate plate fault)) before after = ((k : ℕ) → k < plate → IsCalm before after k)
+    × KeepsCount {T = PlateRead} (tray_at before plate) (tray_at after plate) (Err (Fault fault))
+CalmTo (Common (Read None)) before after = Unit {0}
+CalmTo (Common (Read (Some plate))) before after =
+    (k : ℕ) → k < plate → IsCalm before after k
+CalmTo other before after = (k : ℕ) → IsCalm before after k
+
+-- whether a stop is for what the files are
+abbrev pub IsOfInput : TrapsheetError → Type 0
+IsOfInput (Common (JobFails fault)) = Unit {0}
+IsOfInput (Common (NoDetails plate)) = Unit {0}
+IsOfInput (Common (Plate plate fault)) = Unit {0}
+IsOfInput (Common other) = ⊥
+IsOfInput (OfSheet refusal) = Unit {0}
+
+-- The files are refused.
+pub record RefusesFiles (source : Sources) (before after : List TrayState)
+    (stop : TrapsheetError) : Type 0 where
+  pub of_input : IsOfInput stop
+  pub verdict : AllTell (length source.inputs) before
+      → IsSheetVerdict (held_by before source) source.names (Refused stop)
+  pub begun : AsksTo source stop before after
+  pub count : CalmTo stop before after
+
+-- the tray of a file that is read: that of the plate, or the first one for the job
+abbrev pub tray_of : Option ℕ → ℕ
+tray_of None = 0
+tray_of (Some plate) = plate
+
+-- The read of a plate failed: the job and the plates before it are read, and of its own bytes
+-- those that were taken have no fault but an early end.
+pub record PlateBreaks (source : Sources) (plate : ℕ)
+    (before after : List TrayState) : Type 0 where
+  pub known : plate < length source.inputs
+  pub job : Job
+  pub plates : List PlateRead
+  pub job_read : IsTrue (tray_at before 0).tells
+      → Spells ((tray_at before 0).file source.job) (λ bytes. job_of bytes ≡ Ok job)
+  pub before_it : AllTell plate before
+      → AreSpelled (plates_by before source.inputs) plate plates
+  pub taken : IsFaultless (name_at source.inputs plate) (tray_at before plate)
+      (tray_at after plate)
+
+-- what was read before the read that failed
+abbrev pub BreaksReading : Sources → Option ℕ → List TrayState → List TrayState → Type 0
+BreaksReading source None before after = Unit {0}
+BreaksReading source (Some plate) before after = PlateBreaks source plate before after
+
+-- The read of that file failed.
+pub record FailsToRead (source : Sources) (before after : List TrayState)
+    (file : Option ℕ) : Type 0 where
+  pub rose : Rose (tray_at before (tray_of file)).faults (tray_at after (tray_of file)).faults
+  pub begun : AsksTo source (Common (Read file)) before after
+  pub count : CalmTo (Common (Read file)) before after
+  pub breaks : BreaksReading source file before after
+
+-- A sheet without a fault, of as many plates as there are files, and the one that the job and the
+-- plates make, where the trays tell their bytes.
+pub record IsMadeSheet (source : Sources) (trays : List TrayState)
+    (sheet : PageParts) : Type 0 where
+  pub valid : IsSheet sheet
+  pub accepted : sheet_refusal sheet ≡ None
+  pub count : plates sheet ≡ length source.inputs
+  pub made : AllTell (length source.inputs) trays
+      → MakesSheet (held_by trays source) source.names (Ok sheet)
+
+-- what the answer says of the files' bytes, where they are told, and of the names that were handed
+-- out
+pub data AnswersSheet (source : Sources) (budget : Budget) (before after : List TrayState)
+    (result : Result Cutting TrapsheetError) : Type 0 where
+  made : (cutting : Cutting) (sheet : PageParts) → result ≡ Ok cutting
+      → IsCutting sheet budget cutting → IsMadeSheet source before sheet
+      → ((k : ℕ) → k < length source.inputs → AsksAll source before after k)
+      → ((k : ℕ) → IsCalm before after k) → AnswersSheet source budget before after result
+  refused : (stop : TrapsheetError) → result ≡ Err stop → RefusesFiles source before after stop
+      → AnswersSheet source budget before after result
+  unread : (file : Option ℕ) → result ≡ Err (Common (Read file))
+      → FailsToRead source before after file → AnswersSheet source budget before after result
+  no_memory : result ≡ Err (Common Memory) → ((k : ℕ) → IsCalm before after k)
+      → AnswersSheet source budget before after result
+
+-- The job and the plates are read, and the sheet is made of them and cut.
+pub record GathersSheet (source : Sources) (budget : Budget) (before after : List TrayState)
+    (result : Result Cutting TrapsheetError) : Type 0 where
+  pub takes : TakesTrays source before after
+  pub answer : AnswersSheet source budget before after result
+
+-- After a job that was read, the rest of the sheet is read.
+abbrev pub GathersRest : List (List ℕ) → List (List ℕ) → Budget → Job → List TrayState
+    → List TrayState → Result Cutting TrapsheetError → Type 0
+GathersRest names inputs budget job between after result = (name : List ℕ)
+    (before : List TrayState) → ReadsFirst name before between (Ok job)
+    → GathersSheet (sources name names inputs) budget before after result

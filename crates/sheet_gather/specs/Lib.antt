@@ -1,0 +1,10 @@
+pub mod Stops
+pub mod Trays
+pub mod SheetFiles
+pub mod Inputs
+pub mod Verdicts
+pub mod Steps
+pub mod Planning
+pub mod Gathering
+pub mod Judging
+pub mod Rereading

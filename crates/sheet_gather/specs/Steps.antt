@@ -1,0 +1,122 @@
+-- The steps in which a sheet is read: the job, and each plate by its own tray.
+use Rattle.std.specs.Prelude.{◌≡◌, ◌≢◌, ℕ, ◌<◌, ◌≤◌, ◌+◌, ◌++◌, IsTrue, List, [], ◌∷◌, length, All}
+use Rattle.std.specs.Prelude.{Some, None, Result, Ok, Err}
+use Rattle.job_reader.specs.declared.job.Job.{Job}
+use Rattle.outside.specs.Causes.{Rose, Asks}
+use Rattle.outside.specs.Tray.{TrayState, KeepsTray}
+use Rattle.page_gather.specs.Inputs.{name_at}
+use Rattle.page_gather.specs.Steps.{ReadsJob, TakesPlate}
+use Rattle.page_model.specs.declared.parts.PageParts.{PageParts}
+use Rattle.pgm_plates.specs.declared.plate.Plate.{Plate as PlateRead}
+use Rattle.pgm_plates.specs.declared.plate.PlateFault.{PlateFault}
+use Rattle.pgm_plates.specs.declared.plate.PlateRefusal.TheVariants.{Fault}
+use Rattle.pgm_plates.specs.Reading.{IsTruncated, KeepsCount}
+use Rattle.refusals.specs.declared.refusal.Refusal.{Refusal}
+use Rattle.refusals.specs.declared.refusal.Refusal.TheVariants.{Memory, Plate, Read}
+use Rattle.sheet_cuts.specs.declared.budget.Budget.{Budget}
+use Rattle.sheet_cuts.specs.declared.cutting.Cutting.{Cutting}
+use Rattle.sheet_cuts.specs.Cuttings.{IsCutting}
+use Rattle.sheet_cuts.specs.Refusals.{sheet_refusal}
+use Rattle.sheet_windows.specs.Sheets.{IsSheet}
+use Rattle.sheet_gather.specs.Inputs.{AreSpelled, Spells, plates_by}
+use Rattle.sheet_gather.specs.SheetFiles.{IsSheetFault, IsSheetFile, IsSheetPlate}
+use Rattle.sheet_gather.specs.Trays.{AllTell, IsCalm, tray_at}
+use Rattle.sheet_gather.specs.declared.stop.TrapsheetError.{TrapsheetError}
+use Rattle.sheet_gather.specs.declared.stop.TrapsheetError.TheVariants.{Common}
+
+-- a step that is refused as one of a page is
+abbrev pub common : {T : Type 0} → Result T Refusal → Result T TrapsheetError
+common (Ok value) = Ok value
+common (Err refusal) = Err (Common refusal)
+
+-- The job of that name is read by the first tray; the others are as they were.
+pub record ReadsFirst (name : List ℕ) (before after : List TrayState)
+    (result : Result Job TrapsheetError) : Type 0 where
+  pub read : Result Job Refusal
+  pub same : result ≡ common read
+  pub first : ReadsJob name (tray_at before 0) (tray_at after 0) read
+  pub others : (k : ℕ) → k ≢ 0 → tray_at after k ≡ tray_at before k
+
+-- Some bytes were taken off the beginning of the plate's file that is in hand: but for an early end
+-- they have no fault.
+abbrev pub IsFaultless : List ℕ → TrayState → TrayState → Type 0
+IsFaultless name before after = IsTrue after.begun → IsTrue before.tells
+    → (bytes : List ℕ) × (before.file name ≡ Some (bytes ++ after.left))
+    × ((fault : PlateFault) → IsSheetFault bytes fault → IsTruncated fault)
+
+-- what the answer says of the file of plate k
+pub data AnswersPlate (k : ℕ) (name : List ℕ) (before after : TrayState)
+    (result : Result PlateRead TrapsheetError) : Type 0 where
+  read : (plate : PlateRead) → result ≡ Ok plate → IsSheetPlate plate
+      → after.faults ≡ before.faults
+      → (IsTrue before.tells → Spells (before.file name) (λ bytes. IsSheetFile bytes plate))
+      → AnswersPlate k name before after result
+  fails : (fault : PlateFault) → result ≡ Err (Common (Plate k fault))
+      → KeepsCount {T = PlateRead} before after (Err (Fault fault))
+      → (IsTrue before.tells → Spells (before.file name) (λ bytes. IsSheetFault bytes fault))
+      → AnswersPlate k name before after result
+  unread : result ≡ Err (Common (Read (Some k))) → Rose before.faults after.faults
+      → IsFaultless name before after → AnswersPlate k name before after result
+  no_memory : result ≡ Err (Common Memory) → after.faults ≡ before.faults
+      → AnswersPlate k name before after result
+
+-- The file of that name is asked for, and no more is taken of it than is owed.
+pub record TakesFile (name : List ℕ) (before after : TrayState) : Type 0 where
+  pub keeps : KeepsTray before after
+  pub asked : Asks before.asked after.asked (name ∷ [])
+  pub few : TakesPlate name before after
+
+-- Plate k is read from the file of that name.
+pub record ReadsOne (k : ℕ) (name : List ℕ) (before after : TrayState)
+    (result : Result PlateRead TrapsheetError) : Type 0 where
+  pub takes : TakesFile name before after
+  pub answer : AnswersPlate k name before after result
+
+-- The first so many files are asked for, each of its own tray. The trays after them are as they
+-- were.
+pub record TakesFiles (names : List (List ℕ)) (count : ℕ)
+    (before after : List TrayState) : Type 0 where
+  pub each : (k : ℕ) → k < count
+      → TakesFile (name_at names k) (tray_at before k) (tray_at after k)
+  pub others : (k : ℕ) → count ≤ k → tray_at after k ≡ tray_at before k
+
+-- Plate k is asked for, and the plates before it are read.
+pub record StopsAt (names : List (List ℕ)) (k : ℕ) (before after : List TrayState) : Type 0 where
+  pub known : k < length names
+  pub takes : TakesFiles names (k + 1) before after
+  pub calm : (j : ℕ) → j < k → IsCalm before after j
+  pub plates : List PlateRead
+  pub before_it : AllTell k before → AreSpelled (plates_by before names) k plates
+
+-- The plates of these files are read, each by its own tray, up to the first that is refused.
+pub data ReadsPlates (names : List (List ℕ)) (before after : List TrayState)
+    (result : Result (List PlateRead) TrapsheetError) : Type 0 where
+  read : (plates : List PlateRead) → result ≡ Ok plates → length plates ≡ length names
+      → All IsSheetPlate plates → TakesFiles names (length names) before after
+      → ((k : ℕ) → IsCalm before after k)
+      → (AllTell (length names) before
+      → AreSpelled (plates_by before names) (length names) plates)
+      → ReadsPlates names before after result
+  fails : (k : ℕ) (fault : PlateFault) → result ≡ Err (Common (Plate k fault))
+      → StopsAt names k before after
+      → KeepsCount {T = PlateRead} (tray_at before k) (tray_at after k) (Err (Fault fault))
+      → (IsTrue (tray_at before k).tells
+      → Spells (plates_by before names k) (λ bytes. IsSheetFault bytes fault))
+      → ReadsPlates names before after result
+  unread : (k : ℕ) → result ≡ Err (Common (Read (Some k))) → StopsAt names k before after
+      → Rose (tray_at before k).faults (tray_at after k).faults
+      → IsFaultless (name_at names k) (tray_at before k) (tray_at after k)
+      → ReadsPlates names before after result
+  no_memory : (k : ℕ) → result ≡ Err (Common Memory) → k ≤ length names
+      → TakesFiles names k before after → ((j : ℕ) → IsCalm before after j)
+      → ReadsPlates names before after result
+
+-- A sheet that is made is cut, or it is one page. A refusal is its own, or out of memory.
+pub data CutsSheet (budget : Budget) (made : Result PageParts TrapsheetError)
+    (result : Result Cutting TrapsheetError) : Type 0 where
+  cut : (cutting : Cutting) (sheet : PageParts) → result ≡ Ok cutting → made ≡ Ok sheet
+      → IsSheet sheet → sheet_refusal sheet ≡ None → IsCutting sheet budget cutting
+      → CutsSheet budget made result
+  refused : (stop : TrapsheetError) → result ≡ Err stop → made ≡ Err stop
+      → CutsSheet budget made result
+  no_memory : result ≡ Err (Common Memory) → CutsSheet budget made result

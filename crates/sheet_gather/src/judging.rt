@@ -1,0 +1,77 @@
+ghost use Rattle.std.specs.Prelude.{◌≡◌, ◌≤◌, length, map};
+ghost use Rattle.job_reader.specs.InRange.{IsJob};
+ghost use Rattle.page_gather.specs.Inputs.{sources};
+ghost use Rattle.sheet_gather.specs.Judging.{JudgesRest, JudgesSheet};
+
+use crate::gather::read_first;
+use crate::planning::{PlannedSheet, plan_headers};
+use crate::stop::TrapsheetError;
+use job_reader::job::Job;
+use lists::names::NameList;
+use outside::tray::Tray;
+use pgm_plates::bounds::Bounds;
+use pgm_plates::laws::file_fault_within;
+use pgm_plates::rows::Header;
+use plate_rows::judging::judge_plates;
+use plate_rows::laws::plates_judged;
+use sheet_cuts::budget::Budget;
+use std::alloc::Global;
+use std::convert::AsStr;
+
+/// Reads the job of that name from the first tray, and then each plate in the order of its file, plate k from tray k, to
+/// their ends, and judges the sheet that they make; nothing is kept of a plate but its header. The names are those of the
+/// plates' colorants.
+///
+/// A refusal is the first of these: a read that fails, the job's fault, a plate's fault, a plate without details, a fault of
+/// the sheet, or out of memory.
+pub fn judge_sheet<T: Tray, S: AsStr>(
+    alloc: Global,
+    trays: &mut [T],
+    job: &str,
+    names: &NameList,
+    inputs: &[S],
+    budget: &Budget,
+) -> Result<PlannedSheet, TrapsheetError>
+    requires some { 1 ≤ length inputs.now }
+    requires few { length inputs.now ≤ 16 }
+    requires named { length names.now ≡ length inputs.now }
+    requires trays { length inputs.now ≤ length trays.old }
+    ensures { JudgesSheet (sources job.now names.now (map S.text inputs.now)) budget.now
+        (map T.state trays.old) (map T.state trays.new) result }
+{
+    match read_first(alloc, trays, job) {
+        Ok(read) => judge_rest(alloc, trays, read, names, inputs, budget),
+        Err(stop) => Err(stop),
+    }
+}
+
+// Judges the plates after the job, and the sheet of both.
+fn judge_rest<T: Tray, S: AsStr>(
+    alloc: Global,
+    trays: &mut [T],
+    job: Job,
+    names: &NameList,
+    inputs: &[S],
+    budget: &Budget,
+) -> Result<PlannedSheet, TrapsheetError>
+    requires some { 1 ≤ length inputs.now }
+    requires few { length inputs.now ≤ 16 }
+    requires named { length names.now ≡ length inputs.now }
+    requires trays { length inputs.now ≤ length trays.old }
+    requires job { IsJob job }
+    ensures { JudgesRest names.now (map S.text inputs.now) budget.now job (map T.state trays.old)
+        (map T.state trays.new) result }
+{
+    plates_judged();
+    file_fault_within(Bounds::Sheet);
+    let none = Header {
+        width: 0,
+        height: 0,
+        maxval: 0,
+    };
+    let mut headers = [none; 16];
+    match judge_plates(trays, inputs, &mut headers) {
+        Ok(()) => plan_headers(alloc, job, &headers[..inputs.len()], names, budget),
+        Err(refusal) => Err(TrapsheetError::Common(refusal)),
+    }
+}

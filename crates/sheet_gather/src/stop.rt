@@ -1,0 +1,25 @@
+ghost use Rattle.std.specs.Prelude.{◌≡◌};
+ghost use Rattle.sheet_gather.specs.Stops.{status_of_stop};
+
+use refusals::refusal::{Refusal, status};
+use refusals::statuses::PAGE_REFUSED;
+use sheet_cuts::refusal::SheetRefusal;
+
+/// Why a command of a sheet did not do its work.
+#[derive(Clone, Copy, Debug, Drop, PartialEq, Eq)]
+pub enum TrapsheetError {
+    /// The words, a file or memory, or a plate without details, as of a page.
+    Common(Refusal),
+    /// The sheet that the plates make.
+    OfSheet(SheetRefusal),
+}
+
+/// The status that the program ends with: one of `refusals::statuses`.
+pub fn stop_status(stop: &TrapsheetError) -> u8
+    ensures { result ≡ status_of_stop stop.now }
+{
+    match stop {
+        TrapsheetError::Common(refusal) => status(refusal),
+        TrapsheetError::OfSheet(_) => PAGE_REFUSED,
+    }
+}

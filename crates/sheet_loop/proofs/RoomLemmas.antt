@@ -1,0 +1,143 @@
+-- A strip of no ink is a strip of a sheet.
+use Rattle.std.proofs.Common.{◌≡◌, ℕ, ◌+◌, ◌*◌, ◌<◌, ◌≤◌, List, length, drop, sym, ap, ◌∙◌, subst, arith}
+use Rattle.std.specs.Prelude.{replicate}
+use Rattle.std.proofs.Math.Nat.{mul-le-mul}
+use Rattle.std.proofs.lemmas.List.{get_or-map, length-map, length-replicate}
+use Rattle.std.proofs.lemmas.List.Elements.{All-replicate}
+use Rattle.bare_sheets.specs.Begun.{BeginsWith, MayBegin}
+use Rattle.bare_sheets.specs.StripCores.{StripCoreLaw}
+use Rattle.bare_sheets.proofs.BegunLemmas.{some_sheet}
+use Rattle.bare_sheets.proofs.CoreLemmas.{core_law}
+use Rattle.page_model.specs.declared.parts.PageParts.{PageParts}
+use Rattle.page_model.specs.declared.parts.Plane.{Plane}
+use Rattle.page_model.specs.Page.{height, maxval, plates, width}
+use Rattle.page_model.specs.Planes.{no_plane, tints_of}
+use Rattle.sheet_loop.specs.Going.{IsNextRow, not_begun}
+use Rattle.sheet_loop.specs.Rooms.{CanBeCut, CanStream, IsBlankStrip, IsStreamRoom}
+use Rattle.sheet_loop.specs.declared.room.StreamRoom.{StreamRoom}
+use Rattle.sheet_loop.proofs.OnSheets.{cuttable, height_same, rulers_same, small_same}
+use Rattle.sheet_loop.proofs.StepLemmas.{form_same}
+use Rattle.sheet_stream.specs.Holding.{HoldRowsFrom}
+use Rattle.sheet_stream.specs.Strips.{IsStripOf, blank_plane}
+use Rattle.sheet_stream.proofs.HoldLemmas.{strip_made}
+use Rattle.sheet_stream.proofs.TurnLemmas.{have_form}
+use Rattle.sheet_windows.specs.declared.spans.Span.{Span}
+use Rattle.sheet_windows.specs.Plans.{AreRulers, AreSmall}
+use Rattle.sheet_windows.specs.Spans.{AreSpans, IsSpan}
+use Rattle.sheet_windows.specs.Strips.{StripLaw, strip_parts, strip_tile}
+use Rattle.sheet_windows.proofs.Parts.{height-is, width-is}
+use Rattle.sheet_windows.proofs.StripLemmas.{strip_law}
+use Rattle.strip_rows.specs.declared.parts.StripPlan.{StripPlan}
+use Rattle.strip_rows.specs.OnSheet.{strip_cut}
+use Rattle.strip_tiles.specs.Rooms.{IsStripRoom, columns_in}
+use Rattle.strip_tiles.specs.Works.{AreNone}
+use Rattle.tile_counts.specs.declared.counts.SheetCounts.{SheetCounts}
+use Rattle.window_pages.specs.Forms.{Form, form_of, zone_form}
+use Rattle.window_pages.specs.Sheets.{IsCuttable}
+
+no_rows : (w : ℕ) → 0 ≡ 0 * w
+no_rows w = omega arith
+
+module _ (bare : PageParts) (plan : StripPlan) (row : Span) (strip : PageParts) (can : CanStream bare plan) (next : IsNextRow plan.down not_begun row) (blank : IsBlankStrip bare row strip) where
+  top : row.from ≡ 0
+  top = (let a = next.above in omega (arith, a))
+
+  inside : row.from + row.wide ≤ height bare
+  inside = (let a = next.span.inside in let t = can.rulers.tall in omega (arith, a, t))
+
+  abbrev tints : ℕ → List ℕ
+  tints c = replicate (row.wide * width bare) 0
+
+  plane_is : (c : ℕ) → c < plates bare → tints_of strip.planes c ≡ tints c
+  plane_is c l =
+      ap (λ (ps : List Plane). tints_of ps c) blank.blank
+      ∙ ap (λ (p : Plane). p.tints) (get_or-map (blank_plane row.wide) bare.planes c no_plane no_plane l)
+      ∙ ap (λ (n : ℕ). replicate n 0) (ap (λ (n : ℕ). n * row.wide) (can.valid.agree c l).wide ∙ (let e : width bare * row.wide ≡ row.wide * width bare = omega arith in e))
+
+  held : HoldRowsFrom bare row.from row.wide tints strip.planes
+  held = record {
+    count = blank.strip_is.planes.count;
+    read = λ c l. length-replicate {A = ℕ} (row.wide * width bare) 0 ∙ ap (λ (n : ℕ). n * width bare) (let t = top in let e : row.wide ≡ row.from + row.wide = omega (arith, t) in e);
+    wide = blank.strip_is.planes.wide;
+    tall = blank.strip_is.planes.tall;
+    deep = blank.strip_is.planes.deep;
+    held = λ c l. plane_is c l ∙ (let e : 0 ≡ row.from * width bare = no_rows (width bare) ∙ ap (λ (n : ℕ). n * width bare) (sym top) in ap (λ (n : ℕ). drop n (tints c)) e);
+  }
+
+  may : MayBegin bare tints
+  may = record {
+    few = λ c l. (let e = length-replicate {A = ℕ} (row.wide * width bare) 0 in
+        let i : row.wide ≤ height bare = (let i = inside in omega (arith, i)) in
+        let m : row.wide * width bare ≤ height bare * width bare = mul-le-mul i (omega arith) in
+        omega (arith, e, m));
+    below = λ c l. All-replicate (λ (t : ℕ). t ≤ maxval bare) (row.wide * width bare) 0 (omega arith);
+  }
+
+  some : (sheet : PageParts) × BeginsWith bare tints sheet
+  some = some_sheet bare tints can.valid can.blank may
+
+  abbrev sheet : PageParts
+  sheet = some.0
+
+  begins : BeginsWith bare tints sheet
+  begins = some.1
+
+  cut_is : IsCuttable sheet
+  cut_is = cuttable bare sheet tints begins can.cut can.narrow can.low
+
+  made : strip ≡ strip_parts sheet row
+  made = strip_made bare sheet row tints strip blank.strip_is held begins (let e = height_same bare sheet tints begins in let i = inside in omega (arith, e, i))
+
+  rulers : AreRulers sheet plan.across plan.down
+  rulers = rulers_same bare sheet tints begins plan.across plan.down can.rulers
+
+  some_wide : 1 ≤ width sheet
+  some_wide = (begins.valid.parts.planes_in_range 0 no_plane (let p = begins.valid.parts.some_plates in omega (arith, p))).some_width
+
+  law : StripLaw sheet 0 row
+  law = strip_law sheet plan.across plan.down 0 row begins.valid cut_is.near rulers next.span some_wide
+
+  core : StripCoreLaw sheet plan.across plan.down 0 row
+  core = core_law sheet plan.across plan.down 0 row begins.valid cut_is.near rulers next.span
+
+  parts_cuttable : IsCuttable (strip_parts sheet row)
+  parts_cuttable = record {
+    ranges = law.ranges;
+    near = law.near;
+    narrow = (let w = width-is sheet (strip_tile sheet row).cut law.tile.cut in let n = cut_is.narrow in omega (arith, w, n));
+    low = (let h = height-is sheet (strip_tile sheet row).cut law.tile.cut in let n = can.low in let i = inside in omega (arith, h, n, i));
+  }
+
+  pub strip_cuttable : IsCuttable strip
+  strip_cuttable = subst IsCuttable (sym made) parts_cuttable
+
+  pub can_be_cut : CanBeCut strip (strip_cut plan.across plan.down row)
+  can_be_cut = record {
+    rulers = subst (λ (s : PageParts). AreRulers s plan.across (strip_cut plan.across plan.down row).down) (sym made) core.rulers;
+    small = subst (λ (s : PageParts). AreSmall s plan.across (strip_cut plan.across plan.down row).down) (sym made) (core.small (small_same bare sheet tints begins plan.across plan.down can.small));
+    row = (let e : row.skip ≡ 0 + row.skip = omega arith in subst (λ (n : ℕ). IsSpan (strip_cut plan.across plan.down row).down n (strip_cut plan.across plan.down row).row) e core.span);
+  }
+
+  form_is : form_of strip ≡ form_of bare
+  form_is = form_same strip bare held.count blank.strip_is.inks (have_form bare row strip blank.strip_is)
+
+  pub room_made : (room : StreamRoom) → room.strip ≡ strip → AreSpans plan.across 0 (columns_in room.core.windows) (width bare) → IsStripRoom (form_of strip) row.wide room.core.windows → length room.core.line.items ≡ plates bare * width bare → 2 ≤ length room.core.bytes.items → IsStreamRoom bare plan room
+  room_made room same columns windows line bytes = record {
+    last = row;
+    tall = next.wide;
+    strip = subst (λ (s : PageParts). IsStripOf bare row s) (sym same) blank.strip_is;
+    columns = columns;
+    windows = subst (λ (n : ℕ). IsStripRoom (form_of bare) n room.core.windows) next.wide (subst (λ (f : Form). IsStripRoom f row.wide room.core.windows) form_is windows);
+    line = line;
+    bytes = bytes;
+  }
+
+  pub none_counted : (counts : SheetCounts) → AreNone strip counts → AreNone bare counts
+  none_counted counts none = record {
+    zone_samples = none.zone_samples ∙ ap (λ (n : ℕ). replicate n 0) zones;
+    zone_changed = none.zone_changed ∙ ap (λ (n : ℕ). replicate n 0) zones;
+    plate_changed = none.plate_changed ∙ ap (λ (n : ℕ). replicate n 0) held.count;
+    edges = none.edges;
+  } where
+    zones : length strip.zones ≡ length bare.zones
+    zones = (let a = ap length (have_form bare row strip blank.strip_is) in let b = length-map strip.zones zone_form in let d = length-map bare.zones zone_form in omega (arith, a, b, d))

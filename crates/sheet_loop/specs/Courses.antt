@@ -1,0 +1,153 @@
+-- The course of a sheet that streams: what is read, written and counted of it by then.
+use Rattle.std.specs.Prelude.{◌≡◌, ℕ, ◌*◌, ◌<◌, ◌≤◌, List, [], length, Result, Ok, Err, Some}
+use Rattle.bare_sheets.specs.Begun.{BeginsWith}
+use Rattle.bare_sheets.specs.StripCores.{new_from}
+use Rattle.outside.specs.Rack.{RackState}
+use Rattle.outside.specs.Tray.{TrayState}
+use Rattle.page_model.specs.declared.parts.PageParts.{PageParts}
+use Rattle.page_model.specs.Page.{height, plates, width}
+use Rattle.pgm_plates.specs.declared.rows.OpenPlate.{OpenPlate}
+use Rattle.pgm_plates.specs.Rows.{samples_of}
+use Rattle.plate_rows.specs.Images.{BreaksRows, HaveWritten}
+use Rattle.plate_rows.specs.Laws.{header_of}
+use Rattle.plate_rows.specs.Rereading.{HaveRead, StopsReading}
+use Rattle.plate_rows.specs.Trays.{open_at}
+use Rattle.plate_rows.specs.declared.stop.RereadError.{RereadError}
+use Rattle.refusals.specs.declared.refusal.Refusal.TheVariants.{Write}
+use Rattle.sheet_loop.specs.declared.room.StreamRoom.{StreamRoom}
+use Rattle.sheet_loop.specs.declared.rows.Progress.{Progress}
+use Rattle.sheet_loop.specs.declared.stop.StreamStop.{StreamStop}
+use Rattle.sheet_loop.specs.declared.stop.StreamStop.TheVariants.{Unread, Unwritten}
+use Rattle.sheet_loop.specs.Reading.{HoldsTo}
+use Rattle.sheet_stream.specs.Growing.{new_rows}
+use Rattle.sheet_stream.specs.Reading.{tints_for}
+use Rattle.sheet_stream.specs.Writing.{RowsAreWritten}
+use Rattle.sheet_windows.specs.Spans.{even_wide}
+use Rattle.strip_rows.specs.declared.parts.StripPlan.{StripPlan}
+use Rattle.strip_tiles.specs.Works.{AreNone}
+use Rattle.tile_counts.specs.Growth.{AddsArea}
+use Rattle.tile_counts.specs.declared.counts.SheetCounts.{SheetCounts}
+
+-- How a second reading began: the names of the files, and the trays and racks as they were.
+pub record Course : Type 0 where
+  pub inputs : List (List ℕ)
+  pub outputs : List (List ℕ)
+  pub trays : List TrayState
+  pub racks : List RackState
+
+-- What is so of each sheet that begins with these samples.
+abbrev pub OfEach : PageParts → (ℕ → List ℕ) → (PageParts → Type 0) → Type 0
+OfEach bare samples Fact =
+    (sheet : PageParts) → BeginsWith bare (tints_for bare samples) sheet → Fact sheet
+
+-- The new tints of so many rows are written.
+abbrev pub RowsStand : Course → PageParts → StripPlan → ℕ → List RackState → PageParts → Type 0
+RowsStand course bare plan rows racks sheet =
+    RowsAreWritten course.outputs plan.header (plates bare) sheet rows course.racks racks
+
+-- What was counted since counts of none is what is counted in so many rows.
+abbrev pub RowsCount : SheetCounts → SheetCounts → ℕ → PageParts → Type 0
+RowsCount none counts rows sheet = AddsArea sheet 0 0 (width sheet) rows none counts
+
+-- Up to the strips above the next one a sheet has streamed: of each sheet that begins with what was
+-- read so far, the rows above are written and counted.
+pub record StandsAt (course : Course) (bare : PageParts) (plan : StripPlan)
+    (begun : List OpenPlate) (none : SheetCounts) (progress : Progress) (trays : List TrayState)
+    (racks : List RackState) (room : StreamRoom) : Type 0 where
+  pub holds : HoldsTo course.inputs bare begun (even_wide plan.down) progress course.trays trays
+      room.strip
+  pub written : OfEach bare holds.samples (RowsStand course bare plan progress.at racks)
+  pub counted : OfEach bare holds.samples (RowsCount none room.counts progress.at)
+
+-- some course leads there
+pub record IsUnderWay (bare : PageParts) (plan : StripPlan) (begun : List OpenPlate)
+    (progress : Progress) (trays : List TrayState) (racks : List RackState) (room : StreamRoom)
+    : Type 0 where
+  pub course : Course
+  pub none : SheetCounts
+  pub empty : AreNone bare none
+  pub stands : StandsAt course bare plan begun none progress trays racks room
+
+-- The reading stops. Of each sheet that begins with what was read before, some first rows are
+-- written.
+pub record StopsUnread (course : Course) (bare : PageParts) (plan : StripPlan)
+    (begun : List OpenPlate) (trays : List TrayState) (racks : List RackState)
+    (stop : RereadError) : Type 0 where
+  pub stops : StopsReading course.inputs (header_of begun) (length begun) course.trays trays stop
+  pub samples : ℕ → List ℕ
+  pub between : List TrayState
+  pub read : HaveRead course.inputs begun (length begun) samples course.trays between
+  pub rows : ℕ
+  pub few : rows ≤ height bare
+  pub written : OfEach bare samples (RowsStand course bare plan rows racks)
+
+-- A row of a sheet could not be written of plate k.
+abbrev pub RowBreaks : Course → PageParts → StripPlan → ℕ → List RackState → PageParts → Type 0
+RowBreaks course bare plan k racks sheet = (row : ℕ) × (row < height bare)
+    × BreaksRows course.outputs plan.header (plates bare) k (λ c. new_rows sheet c row)
+    (λ c. new_from sheet c (row * width sheet) (width sheet)) course.racks racks
+
+-- The writing stops at plate k, of each sheet that begins with what was read.
+pub record StopsUnwritten (course : Course) (bare : PageParts) (plan : StripPlan)
+    (begun : List OpenPlate) (trays : List TrayState) (racks : List RackState)
+    (k : ℕ) : Type 0 where
+  pub samples : ℕ → List ℕ
+  pub read : HaveRead course.inputs begun (length begun) samples course.trays trays
+  pub written : OfEach bare samples (RowBreaks course bare plan k racks)
+
+-- What a stop says of a course.
+abbrev pub Stops : Course → PageParts → StripPlan → List OpenPlate → List TrayState
+    → List RackState → StreamStop → Type 0
+Stops course bare plan begun trays racks (Unread stop) =
+    StopsUnread course bare plan begun trays racks stop
+Stops course bare plan begun trays racks (Unwritten (Write (Some k))) =
+    StopsUnwritten course bare plan begun trays racks k
+Stops course bare plan begun trays racks (Unwritten other) = ⊥
+
+-- The plates are begun, and so are the files: their headers are read and written, and no more.
+pub record Starts (course : Course) (bare : PageParts) (plan : StripPlan)
+    (begun : List OpenPlate) (trays : List TrayState) (racks : List RackState) : Type 0 where
+  pub read : HaveRead course.inputs begun (length begun) (λ k. []) course.trays trays
+  pub written : HaveWritten course.outputs plan.header (plates bare) (λ c. []) course.racks racks
+
+-- The sheet has streamed: all samples of its plates are read, and of each sheet that begins with
+-- them all rows are written and counted.
+pub record HasStreamed (course : Course) (bare : PageParts) (plan : StripPlan)
+    (begun : List OpenPlate) (none counts : SheetCounts) (trays : List TrayState)
+    (racks : List RackState) : Type 0 where
+  pub samples : ℕ → List ℕ
+  pub read : HaveRead course.inputs begun (length begun) samples course.trays trays
+  pub all : (k : ℕ) → k < length begun
+      → length (samples k) ≡ samples_of (open_at begun k).header
+  pub written : OfEach bare samples (RowsStand course bare plan (height bare) racks)
+  pub counted : OfEach bare samples (RowsCount none counts (height bare))
+
+-- From where its plates and files are begun a sheet streams to its end, or to a stop.
+abbrev pub Streams : PageParts → StripPlan → List OpenPlate → SheetCounts → SheetCounts
+    → List TrayState → List TrayState → List RackState → List RackState
+    → Result (Unit {0}) StreamStop → Type 0
+Streams bare plan begun none counts trays trays' racks racks' (Ok done) = (course : Course)
+    → Starts course bare plan begun trays racks
+    → HasStreamed course bare plan begun none counts trays' racks'
+Streams bare plan begun none counts trays trays' racks racks' (Err stop) = (course : Course)
+    → Starts course bare plan begun trays racks
+    → Stops course bare plan begun trays' racks' stop
+
+-- The next strip is read, trapped, counted and written, whatever course leads to it.
+abbrev pub GoesOn : PageParts → StripPlan → List OpenPlate → Progress → Progress
+    → List TrayState → List TrayState → List RackState → List RackState
+    → StreamRoom → StreamRoom → Result (Unit {0}) StreamStop → Type 0
+GoesOn bare plan begun progress next trays trays' racks racks' old new (Ok done) =
+    (course : Course) (none : SheetCounts)
+    → StandsAt course bare plan begun none progress trays racks old
+    → StandsAt course bare plan begun none next trays' racks' new
+GoesOn bare plan begun progress next trays trays' racks racks' old new (Err stop) =
+    (course : Course) (none : SheetCounts)
+    → StandsAt course bare plan begun none progress trays racks old
+    → Stops course bare plan begun trays' racks' stop
+
+-- some course starts so
+pub record IsStarted (bare : PageParts) (plan : StripPlan) (begun : List OpenPlate)
+    (trays : List TrayState) (racks : List RackState) : Type 0 where
+  pub course : Course
+  pub starts : Starts course bare plan begun trays racks

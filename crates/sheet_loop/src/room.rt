@@ -1,0 +1,123 @@
+// The memory that a sheet is streamed through.
+
+ghost use Rattle.std.specs.Prelude.{◌≡◌, ◌*◌, ◌<◌, ◌≤◌, ◌^◌, All, IfOk, length};
+ghost use Rattle.bare_sheets.specs.Bare.{IsBareSheet};
+ghost use Rattle.page_model.specs.Page.{plates, width};
+ghost use Rattle.sheet_loop.specs.Going.{IsNextRow, not_begun};
+ghost use Rattle.sheet_loop.specs.Rooms.{CanBeCut, CanStream, IsBlankStrip, IsStreamRoom};
+ghost use Rattle.sheet_windows.specs.Spans.{AreSpans, IsRuler};
+ghost use Rattle.strip_rows.specs.OnSheet.{strip_cut};
+ghost use Rattle.strip_tiles.specs.Rooms.{IsStripRoom, columns_in};
+ghost use Rattle.strip_tiles.specs.Strips.{IsSomeSpan};
+ghost use Rattle.strip_tiles.specs.Works.{AreNone};
+ghost use Rattle.window_pages.specs.Forms.{form_of};
+
+use crate::rows::{Progress, next_row};
+use lists::memory::filled;
+use page_model::parts::{OutOfMemory, PageParts};
+use sheet_stream::strip::first_strip;
+use sheet_windows::spans::{Span, spans_of};
+use std::alloc::Global;
+use strip_rows::parts::{StripPlan, cut_of};
+use strip_rows::strip::CoreRoom;
+use strip_tiles::counting::no_sheet_counts;
+use strip_tiles::room::StripRoom;
+use tile_counts::counts::SheetCounts;
+use window_pages::sheet::Sheet;
+
+// How many bytes of a plate are read or written at a time.
+const PIECE: usize = 65_536;
+
+/// What a sheet is streamed through: the strip whose rows are held, the room that it is trapped in and its core written
+/// through, and what is counted so far.
+#[derive(Drop)]
+pub struct StreamRoom {
+    pub strip: PageParts,
+    pub core: CoreRoom,
+    pub counts: SheetCounts,
+}
+
+/// All memory that a sheet is streamed through, with counts of none. It refuses nothing but for out of memory.
+pub fn stream_room(
+    alloc: Global,
+    bare: &PageParts,
+    plan: &StripPlan,
+) -> Result<StreamRoom, OutOfMemory>
+    requires can { CanStream bare.now plan.now }
+    requires across { IsRuler plan.now.across }
+    ensures room { IfOk result (IsStreamRoom bare.now plan.now) }
+    ensures counts { IfOk result (λ room. AreNone bare.now room.counts) }
+{
+    let top = Progress {
+        at: 0,
+        from: 0,
+        read: 0,
+    };
+    let row = next_row(&plan.down, top);
+    let columns = spans_of(alloc, &plan.across)?;
+    let strip = first_strip(alloc, bare, &row)?;
+    room_of(alloc, bare, plan, &row, columns.as_slice(), strip)
+}
+
+// The same with a strip of no ink, cut into these columns.
+fn room_of(
+    alloc: Global,
+    bare: &PageParts,
+    plan: &StripPlan,
+    row: &Span,
+    columns: &[Span],
+    strip: PageParts,
+) -> Result<StreamRoom, OutOfMemory>
+    requires can { CanStream bare.now plan.now }
+    requires row { IsNextRow plan.now.down not_begun row.now }
+    requires columns { AreSpans plan.now.across 0 columns.now (width bare.now) }
+    requires strip { IsBlankStrip bare.now row.now strip }
+    ensures room { IfOk result (IsStreamRoom bare.now plan.now) }
+    ensures counts { IfOk result (λ room. AreNone bare.now room.counts) }
+{
+    let sheet = Sheet::of(strip);
+    let windows = windows_of(alloc, plan, row, columns, &sheet)?;
+    let counts = no_sheet_counts(alloc, &sheet)?;
+    let core = core_room(alloc, bare, windows)?;
+    Ok(StreamRoom {
+        strip: sheet.into_parts(),
+        core,
+        counts,
+    })
+}
+
+// The room for the windows of a strip of these rows.
+fn windows_of(
+    alloc: Global,
+    plan: &StripPlan,
+    row: &Span,
+    columns: &[Span],
+    strip: &Sheet,
+) -> Result<StripRoom, OutOfMemory>
+    requires columns { All (IsSomeSpan plan.now.across) columns.now }
+    requires cut { CanBeCut strip.now (strip_cut plan.now.across plan.now.down row.now) }
+    ensures columns { IfOk result (λ room. columns_in room ≡ columns.now) }
+    ensures room { IfOk result (IsStripRoom (form_of strip.now) row.now.wide) }
+{
+    let cut = cut_of(plan, row);
+    StripRoom::new(alloc, strip, &cut.across, &cut.down, columns, &cut.row)
+}
+
+// With room for a row of all plates, and for some bytes.
+fn core_room(alloc: Global, bare: &PageParts, windows: StripRoom) -> Result<CoreRoom, OutOfMemory>
+    requires bare { IsBareSheet bare.now }
+    requires narrow { width bare.now < 2 ^ 30 }
+    ensures windows { IfOk result (λ core. core.windows ≡ windows) }
+    ensures line { IfOk result (λ core. length core.line.items ≡ plates bare.now * width bare.now) }
+    ensures bytes { IfOk result (λ core. 2 ≤ length core.bytes.items) }
+{
+    let planes = bare.planes.as_slice();
+    let wide = planes[0].width as usize;
+    let line = filled(alloc, 0u16, planes.len() * wide)?;
+    let bytes = filled(alloc, 0u8, PIECE)?;
+    Ok(CoreRoom {
+        windows,
+        line,
+        bytes,
+    })
+}

@@ -1,0 +1,28 @@
+-- Strips that are turned to other rows.
+use Rattle.std.proofs.Common.{◌≡◌, ℕ, ◌+◌, ◌-◌, List, [], ◌∷◌, map, refl, sym, ap, ◌∙◌, subst}
+use Rattle.std.proofs.lemmas.List.{length-map}
+use Rattle.page_model.specs.declared.parts.Zone.{Zone}
+use Rattle.page_model.specs.Page.{height}
+use Rattle.sheet_stream.specs.Holding.{HaveRoomFor}
+use Rattle.sheet_stream.specs.Strips.{StripsHaveForm, TurnedIsStrip}
+use Rattle.sheet_windows.specs.Windows.{moved_vertex, moved_zone, points_of}
+use Rattle.window_pages.specs.Forms.{zone_form}
+
+zone_kept : (right up : ℕ) (zone : Zone) → zone_form (moved_zone right up zone) ≡ zone_form zone
+zone_kept right up zone = λ i. record { vertices = length-map zone.path (moved_vertex right up) i; limits = zone.limits }
+
+zones_kept : (right up : ℕ) (zones : List Zone) → map zone_form (map (moved_zone right up) zones) ≡ map zone_form zones
+zones_kept right up [] = refl
+zones_kept right up (zone ∷ zones) = λ i. zone_kept right up zone i ∷ zones_kept right up zones i
+
+pub have_form : StripsHaveForm
+have_form bare row parts is =
+    ap (map zone_form) is.zones ∙ zones_kept (points_of bare.resolution 0) (points_of bare.resolution (height bare - (row.from + row.wide))) bare.zones
+
+pub turned_is : TurnedIsStrip
+turned_is bare last row old new is same turns = record {
+  resolution = turns.resolution ∙ is.resolution;
+  inks = turns.inks ∙ is.inks;
+  zones = turns.zones;
+  planes = subst (HaveRoomFor bare row.wide) (sym turns.planes) (subst (λ (n : ℕ). HaveRoomFor bare n old.planes) same is.planes);
+}

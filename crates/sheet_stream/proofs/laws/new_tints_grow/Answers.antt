@@ -1,0 +1,8 @@
+use Rattle.sheet_stream.proofs.GrowLemmas.{all_new, grow}
+use Rattle.sheet_stream.proofs.laws.new_tints_grow.Goals as goal
+
+pub returns-clause-grow : goal.returns-clause-grow
+returns-clause-grow c = grow
+
+pub returns-clause-all : goal.returns-clause-all
+returns-clause-all c = all_new

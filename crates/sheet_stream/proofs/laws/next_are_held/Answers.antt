@@ -1,0 +1,8 @@
+use Rattle.sheet_stream.proofs.HoldLemmas.{next_held, none_held}
+use Rattle.sheet_stream.proofs.laws.next_are_held.Goals as goal
+
+pub returns-clause-first : goal.returns-clause-first
+returns-clause-first c = none_held
+
+pub returns-clause-next : goal.returns-clause-next
+returns-clause-next c = next_held

@@ -1,0 +1,5 @@
+use Rattle.sheet_stream.proofs.HoldLemmas.{strip_made}
+use Rattle.sheet_stream.proofs.laws.strip_is_made.Goals as goal
+
+pub returns : goal.returns
+returns c = strip_made

@@ -1,0 +1,8 @@
+use Rattle.sheet_stream.proofs.ReadLemmas.{first_read, next_read}
+use Rattle.sheet_stream.proofs.laws.strips_are_read.Goals as goal
+
+pub returns-clause-first : goal.returns-clause-first
+returns-clause-first c = first_read
+
+pub returns-clause-next : goal.returns-clause-next
+returns-clause-next c = next_read

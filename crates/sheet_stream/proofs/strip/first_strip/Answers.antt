@@ -1,0 +1,24 @@
+use Rattle.std.proofs.Common.{◌≡◌, ◌+◌, ◌-◌, map, refl, sym, ap, ◌∙◌}
+use Rattle.page_model.specs.declared.parts.Plane.{Plane}
+use Rattle.page_model.specs.Page.{height}
+use Rattle.sheet_stream.specs.Strips.{blank_plane}
+use Rattle.sheet_windows.specs.Windows.{moved_zone, points_of}
+use Rattle.sheet_stream.proofs.HoldLemmas.{blank_room, first_plane}
+use Rattle.sheet_stream.proofs.strip.first_strip.Goals as goal
+
+pub returns-clause-strip : goal.returns-clause-strip
+returns-clause-strip c =
+    let bare = c.args.bare.now in
+    let row = c.args.row.now in
+    let first = first_plane bare c.as_slice-planes.result.now c.index-planes-0.result c.requires.bare.parts.some_plates c.as_slice-planes.ensures c.index-planes-0.is in
+    let tall = sym c.index-planes-0.is ∙ first in
+    let up : c.points-up.result ≡ points_of bare.resolution (height bare - (row.from + row.wide)) = c.points-up.ensures.value ∙ ap (λ (p : Plane). points_of bare.resolution (p.height - (row.from + row.wide))) tall in
+    record {
+      resolution = refl;
+      inks = c.in_ok-inks_of.ensures ∙ c.as_slice-2.ensures;
+      zones = c.in_ok-zones.ensures ∙ (λ i. map (moved_zone (c.points.ensures.value i) (up i)) (c.as_slice.ensures i));
+      planes = blank_room bare row.wide c.in_ok-blank_planes.field-0 c.requires.bare (c.in_ok-blank_planes.ensures ∙ ap (map (blank_plane row.wide)) c.as_slice-planes.ensures);
+    }
+
+pub returns-clause-blank : goal.returns-clause-blank
+returns-clause-blank c = c.in_ok-blank_planes.ensures ∙ ap (map (blank_plane c.args.row.now.wide)) c.as_slice-planes.ensures

@@ -1,0 +1,13 @@
+use Rattle.std.proofs.Common.{◌≡◌, ℕ, ◌<◌, ◌≤◌, length, take}
+use Rattle.std.specs.Prelude.{map, slice_index_or}
+use Rattle.page_model.specs.declared.parts.Zone.{Zone}
+use Rattle.sheet_windows.specs.Windows.{moved_zone}
+use Rattle.window_pages.specs.Forms.{zone_form}
+use Rattle.sheet_stream.proofs.zones.move_zones.Given as goal
+
+abbrev pub invariant-loop-z : goal.invariant-loop-z
+invariant-loop-z l = record {
+  count : length l.moved ≡ length l.zones;
+  done : take l.z l.moved ≡ map (moved_zone l.right l.up) (take l.z l.zones);
+  rest : (j : ℕ) (d : Zone) → l.z ≤ j → j < length l.zones → zone_form (slice_index_or l.moved j d) ≡ zone_form (slice_index_or l.zones j d);
+}

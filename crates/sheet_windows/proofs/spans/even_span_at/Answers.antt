@@ -1,0 +1,5 @@
+use Rattle.sheet_windows.proofs.SpanLemmas.{even_window}
+use Rattle.sheet_windows.proofs.spans.even_span_at.Goals as goal
+
+pub span_of-requires-clause-window : goal.span_of-requires-clause-window
+span_of-requires-clause-window c = even_window c.args.ruler.now c.args.at c.saturating_sub.result c.min.result c.even_wide_of-wide.result c.requires.ruler c.requires.inside c.saturating_sub.ensures c.even_wide_of-wide.ensures.value c.min.ensures

@@ -1,0 +1,26 @@
+-- What is taken in of a page, and a bench for it, have the page's shape.
+use Rattle.std.proofs.Common.{ℕ, ◌∙◌, ap, length}
+use Rattle.page_model.specs.declared.parts.PageParts.{PageParts}
+use Rattle.page_tally.specs.declared.outcome.Outcome.{Outcome}
+use Rattle.page_tally.specs.Shapes.{HasShape, shape_of}
+use Rattle.page_tally.specs.Standing.{HasRows}
+use Rattle.strip_engine.specs.declared.strips.Bench.{Bench}
+use Rattle.strip_engine.specs.Bench.{HasPlaces, IsBench}
+use Rattle.strip_engine.proofs.WholeLemmas.{sample_marks-length, sample_zones-length}
+
+pub outcome_shape : (page : PageParts) (rows : ℕ) (o : Outcome) → HasRows page rows o → HasShape (shape_of page) o
+outcome_shape page rows o h = record {
+  planes = h.planes.count;
+  tints = λ c l. (h.planes.each c l).long;
+  zone_samples = h.zone_samples.long;
+  zone_changed = h.zone_changed.long;
+  plate_changed = h.plate_changed.long;
+  changes = h.changes;
+}
+
+pub bench_shape : (page : PageParts) (bench : Bench) → IsBench page bench → HasPlaces (shape_of page) bench
+bench_shape page bench h = record {
+  zones = ap length h.zones ∙ sample_zones-length page;
+  marks = ap length h.marks ∙ sample_marks-length page;
+  row = h.row;
+}

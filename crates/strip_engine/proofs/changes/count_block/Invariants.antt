@@ -1,7 +1,0 @@
-use Rattle.std.proofs.Common.{◌+◌, ◌*◌}
-use Rattle.page_model.specs.Page.{width}
-use Rattle.strip_engine.specs.Standing.{AreZonesCounted}
-use Rattle.strip_engine.proofs.changes.count_block.Given as goal
-
-abbrev pub invariant-loop-x : goal.invariant-loop-x
-invariant-loop-x l = AreZonesCounted l.page l.first (l.y * width l.page + l.x) l.counts

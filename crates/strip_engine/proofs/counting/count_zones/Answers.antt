@@ -1,6 +1,0 @@
-use Rattle.std.proofs.Common.{arith}
-use Rattle.strip_engine.proofs.CountLemmas.{samples_row}
-use Rattle.strip_engine.proofs.counting.count_zones.Goals as goal
-
-pub returns : goal.returns
-returns c = samples_row c.args.page.now c.args.first c.args.y c.loop-x.x c.loop-x.counts (omega (arith, c.requires.zones.wide, c.loop-x-test.false, c.loop-x.invariant.inside)) c.loop-x.invariant.counts

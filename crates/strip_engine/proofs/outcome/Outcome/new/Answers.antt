@@ -1,6 +1,0 @@
-use Rattle.std.proofs.Common.{arith, refl}
-use Rattle.strip_engine.proofs.OutcomeLemmas.{none_taken}
-use Rattle.strip_engine.proofs.outcome.Outcome.new.Goals as goal
-
-pub returns : goal.returns
-returns c = none_taken c.args.page.now _ c.zones-zones.ensures.value c.plates.ensures.value c.in_ok-copies_of.ensures c.in_ok-no_counts.ensures c.in_ok-no_counts-2.ensures c.in_ok-no_counts-3.ensures refl (omega (arith, c.in_ok-filled.field-0.ok, c.in_ok-filled.ensures, c.width.ensures.value))

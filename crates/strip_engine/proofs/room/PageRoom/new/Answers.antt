@@ -1,0 +1,12 @@
+use Rattle.std.proofs.Common.{arith}
+use Rattle.strip_engine.proofs.RoomLemmas.{outcome_shape}
+use Rattle.strip_engine.proofs.room.PageRoom.new.Goals as goal
+
+pub returns-clause-room : goal.returns-clause-room
+returns-clause-room c = record {
+  wide = c.in_ok-new.ensures.wide;
+  deep = c.in_ok-new.ensures.deep;
+  codes = omega (arith, c.in_ok-filled.field-0.ok, c.in_ok-filled.ensures, c.width.ensures.value);
+  bench = c.in_ok-new_bench.ensures;
+  outcome = outcome_shape c.args.page.now 0 c.in_ok-new-2.field-0 c.in_ok-new-2.ensures;
+}

@@ -1,0 +1,4 @@
+pub mod RowLemmas
+mod SheetTints
+pub mod OnSheetLemmas
+pub mod ReadyLemmas

@@ -1,0 +1,12 @@
+use Rattle.std.proofs.Common.{◌≡◌, ℕ, ◌<◌, length}
+use Rattle.page_model.specs.Page.{plates, width}
+use Rattle.plate_rows.specs.Images.{part_at}
+use Rattle.strip_rows.specs.Cores.{core_row_of}
+use Rattle.strip_rows.proofs.core_rows.put_line.Given as goal
+
+abbrev pub invariant-loop-c : goal.invariant-loop-c
+invariant-loop-c l = record {
+  end : l.c-end ≡ plates l.strip;
+  long : length l.line ≡ length l.fn.line;
+  done : (j : ℕ) → j < l.c → part_at (width l.strip) l.line j ≡ core_row_of l.strip l.cut l.k j;
+}

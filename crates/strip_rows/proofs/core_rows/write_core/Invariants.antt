@@ -1,0 +1,15 @@
+use Rattle.std.proofs.Common.{◌≡◌, ℕ, ◌*◌, ◌≤◌, List, ◌++◌, length, map}
+use Rattle.outside.specs.Rack.{RackState}
+use Rattle.page_model.specs.Page.{plates, width}
+use Rattle.plate_rows.specs.Images.{HaveWritten}
+use Rattle.strip_rows.specs.Cores.{AreOpen, core_rows_of}
+use Rattle.strip_rows.proofs.core_rows.write_core.Given as goal
+
+abbrev pub invariant-loop-k : goal.invariant-loop-k
+invariant-loop-k g l = record {
+  line_long : length l.line ≡ plates l.strip * width l.strip;
+  room_left : 2 ≤ length l.bytes;
+  racks_same : length l.racks ≡ length l.fn.racks;
+  are_open : AreOpen l.header (plates l.strip) (map g.R.Rack.state l.racks);
+  written : (names : List (List ℕ)) (tints : ℕ → List ℕ) (start : List RackState) → HaveWritten names l.header (plates l.strip) tints start (map g.R.Rack.state l.fn.racks) → HaveWritten names l.header (plates l.strip) (λ c. tints c ++ core_rows_of l.strip l.cut l.k c) start (map g.R.Rack.state l.racks);
+}

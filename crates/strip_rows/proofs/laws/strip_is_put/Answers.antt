@@ -1,0 +1,11 @@
+use Rattle.strip_rows.proofs.OnSheetLemmas.{is_broken, is_counted, is_written}
+use Rattle.strip_rows.proofs.laws.strip_is_put.Goals as goal
+
+pub returns-clause-written : goal.returns-clause-written
+returns-clause-written c = is_written
+
+pub returns-clause-counted : goal.returns-clause-counted
+returns-clause-counted c = is_counted
+
+pub returns-clause-broken : goal.returns-clause-broken
+returns-clause-broken c = is_broken

@@ -1,0 +1,14 @@
+use Rattle.std.proofs.Common.{◌∙◌, List, ap, sym, subst}
+use Rattle.std.specs.Prelude.{map}
+use Rattle.std.specs.List.{All}
+use Rattle.strip_tiles.specs.declared.room.WindowRoom.{WindowRoom}
+use Rattle.strip_tiles.specs.Rooms.{IsWindowRoom}
+use Rattle.strip_tiles.proofs.RoomLemmas.{all_more, mapped_more}
+use Rattle.window_pages.specs.Forms.{form_of}
+use Rattle.strip_tiles.proofs.room.StripRoom.new.Goals as goal
+
+pub loop-column-preserved : goal.loop-column-preserved
+loop-column-preserved c = record {
+  columns = ap (map (λ (w : WindowRoom). w.column)) c.in_ok-push.ensures ∙ mapped_more (λ (w : WindowRoom). w.column) c.loop-column.windows c.in_ok-window.window c.args.columns.now c.loop-column.column-index (record { from = 0; wide = 0; skip = 0; core = 0 }) c.loop-column-test.true c.loop-column.invariant.columns c.in_ok-window.ensures.column;
+  each = subst (λ (ws : List WindowRoom). All (IsWindowRoom (form_of c.args.strip.now) c.args.row.now.wide) ws) (sym c.in_ok-push.ensures) (all_more (IsWindowRoom (form_of c.args.strip.now) c.args.row.now.wide) c.loop-column.windows c.in_ok-window.window c.loop-column.invariant.each c.in_ok-window.ensures.room);
+}

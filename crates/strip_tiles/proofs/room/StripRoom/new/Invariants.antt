@@ -1,0 +1,13 @@
+use Rattle.std.proofs.Common.{◌≡◌, take}
+use Rattle.std.specs.Prelude.{map}
+use Rattle.std.specs.List.{All}
+use Rattle.strip_tiles.specs.declared.room.WindowRoom.{WindowRoom}
+use Rattle.strip_tiles.specs.Rooms.{IsWindowRoom}
+use Rattle.window_pages.specs.Forms.{form_of}
+use Rattle.strip_tiles.proofs.room.StripRoom.new.Given as goal
+
+abbrev pub invariant-loop-column : goal.invariant-loop-column
+invariant-loop-column l = record {
+  columns : map (λ (w : WindowRoom). w.column) l.windows ≡ take l.column-index l.columns;
+  each : All (IsWindowRoom (form_of l.strip) l.row.wide) l.windows;
+}

@@ -1,0 +1,7 @@
+use denote.Param.Send.{sendable}
+use Rattle.strip_tiles.proofs.room.RowPlan.TheSendSync as plan
+use Rattle.window_pages.proofs.sheet.Sheet.TheSendSync as sheet
+use Rattle.strip_tiles.proofs.room.trap_each_in.Goals as goal
+
+pub for_each_mut-requires-sync-F : goal.for_each_mut-requires-sync-F
+for_each_mut-requires-sync-F g c = search (sendable, sheet.the_sync, plan.the_sync) depth 14

@@ -1,0 +1,41 @@
+use Rattle.std.proofs.Common.{List, ap, arith, length, subst, sym, ◌∙◌}
+use Rattle.std.specs.Prelude.{map}
+use Rattle.std.specs.List.{All}
+use Rattle.std.proofs.lemmas.List.{with_items_is}
+use Rattle.page_model.specs.Page.{width}
+use Rattle.sheet_windows.specs.declared.spans.Span.{Span}
+use Rattle.sheet_windows.specs.Spans.{AreSpans}
+use Rattle.strip_tiles.specs.declared.room.WindowRoom.{WindowRoom}
+use Rattle.strip_tiles.specs.Rooms.{IsWindowOf}
+use Rattle.strip_tiles.specs.Strips.{planes_of}
+use Rattle.strip_tiles.proofs.RoomLemmas.{tiles_are, windows_of}
+use Rattle.strip_tiles.proofs.WorkLemmas.{maps_same}
+use Rattle.strip_tiles.proofs.room.trap_strip_in.Goals as goal
+
+pub trap_each_in-requires-clause-columns : goal.trap_each_in-requires-clause-columns
+trap_each_in-requires-clause-columns g c = λ κs within.
+    subst (λ (ws : List WindowRoom). All (IsWindowOf c.args.across.now) ws) (sym c.deref_mut.ensures.value) (windows_of c.args.across.now c.args.room.now.windows.items (width c.args.strip.now) c.requires.columns)
+
+pub add_windows-requires-clause-columns : goal.add_windows-requires-clause-columns
+add_windows-requires-clause-columns g c =
+    let ws = c.trap_each_in.new.windows in
+    let before = c.deref_mut.result.now in
+    let value = c.deref_mut.ensures.value in
+    let same = maps_same (λ (w : WindowRoom). w.column) before ws c.trap_each_in.ensures.count (λ k d l. c.trap_each_in.ensures.columns k d l) ∙ ap (map (λ (w : WindowRoom). w.column)) value in
+    let items = with_items_is c.args.room.now.windows ws (omega (arith, c.trap_each_in.ensures.count, ap length value, c.args.room.now.windows.ok)) in
+    subst (λ (cs : List Span). AreSpans c.args.across.now 0 cs (width c.args.strip.now)) (sym (ap (map (λ (w : WindowRoom). w.column)) (c.deref.ensures.value ∙ items) ∙ same)) c.requires.columns
+
+pub returns-clause-columns : goal.returns-clause-columns
+returns-clause-columns g c =
+    let ws = c.trap_each_in.new.windows in
+    let value = c.deref_mut.ensures.value in
+    let items = with_items_is c.args.room.now.windows ws (omega (arith, c.trap_each_in.ensures.count, ap length value, c.args.room.now.windows.ok)) in
+    ap (map (λ (w : WindowRoom). w.column)) items ∙ maps_same (λ (w : WindowRoom). w.column) c.deref_mut.result.now ws c.trap_each_in.ensures.count (λ k d l. c.trap_each_in.ensures.columns k d l) ∙ ap (map (λ (w : WindowRoom). w.column)) value
+
+pub returns-clause-planes : goal.returns-clause-planes
+returns-clause-planes g c =
+    let ws = c.trap_each_in.new.windows in
+    let value = c.deref_mut.ensures.value in
+    let same = maps_same (λ (w : WindowRoom). w.column) c.deref_mut.result.now ws c.trap_each_in.ensures.count (λ k d l. c.trap_each_in.ensures.columns k d l) ∙ ap (map (λ (w : WindowRoom). w.column)) value in
+    let items = with_items_is c.args.room.now.windows ws (omega (arith, c.trap_each_in.ensures.count, ap length value, c.args.room.now.windows.ok)) in
+    ap (map (λ (w : WindowRoom). w.room.outcome.planes)) items ∙ tiles_are c.args.strip.now c.args.row.now c.args.at ws c.trap_each_in.ensures.trapped ∙ ap (map (planes_of c.args.strip.now c.args.row.now)) same

@@ -1,0 +1,15 @@
+use Rattle.std.proofs.Common.{◌≡◌, drop, length, take}
+use Rattle.std.specs.Prelude.{map}
+use Rattle.page_model.specs.Page.{width}
+use Rattle.sheet_windows.specs.Plans.{tile_of}
+use Rattle.sheet_windows.specs.Spans.{AreSpans}
+use Rattle.sheet_windows.specs.Tiles.{strip_row}
+use Rattle.strip_tiles.specs.Rooms.{columns_in}
+use Rattle.strip_tiles.proofs.rows.put_strip_row.Given as goal
+
+abbrev pub invariant-loop-j : goal.invariant-loop-j
+invariant-loop-j l = record {
+  spans : AreSpans l.across l.left (drop l.j (columns_in l.room)) (width l.strip);
+  long : length l.out ≡ width l.strip;
+  done : take l.left l.out ≡ strip_row l.c l.strip l.k (map (λ column. tile_of column l.row) (take l.j (columns_in l.room)));
+}

@@ -1,7 +1,0 @@
-use denote.Param.Send.{sendable}
-use Rattle.strip_tiles.proofs.works.StripPlan.TheSendSync as plan
-use Rattle.window_pages.proofs.sheet.Sheet.TheSendSync as sheet
-use Rattle.strip_tiles.proofs.works.trap_each.Goals as goal
-
-pub for_each_mut-requires-sync-F : goal.for_each_mut-requires-sync-F
-for_each_mut-requires-sync-F g c = search (sendable, sheet.the_sync, plan.the_sync) depth 14

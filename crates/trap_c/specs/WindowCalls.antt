@@ -1,0 +1,149 @@
+-- What a window's call does, and what the call does that tells the halo.
+use Rattle.std.specs.Prelude.{◌≡◌, ◌≢◌, ◌⊎◌, ℕ, ◌+◌, ◌<◌, List, [], Result, Ok, Err, length, map}
+use Rattle.std.specs.Prelude.{slice_index}
+use Rattle.job_reader.specs.declared.job.Job.{Job}
+use Rattle.job_reader.specs.Jobs.{job_of}
+use Rattle.page_gather.specs.Assembly.{parts_of_planes}
+use Rattle.page_model.specs.declared.parts.PageParts.{PageParts}
+use Rattle.page_model.specs.Page.{height, plates, width}
+use Rattle.page_model.specs.Tints.{new}
+use Rattle.ps_tokens.specs.declared.faults.JobFault.{JobFault}
+use Rattle.ps_tokens.specs.declared.faults.JobRefusal.{JobRefusal}
+use Rattle.ps_tokens.specs.declared.faults.JobRefusal.TheVariants.{Fault, OutOfMemory}
+use Rattle.refusals.specs.declared.refusal.Refusal.TheVariants.{Job as JobFaulty, Memory}
+use Rattle.refusals.specs.Statuses.{done}
+use Rattle.sheet_windows.specs.Areas.{area_sum, changes_in, changes_plate, edges_at, lies_in}
+use Rattle.sheet_windows.specs.Sheets.{IsSheet}
+use Rattle.sheet_windows.specs.Tiles.{IsTile}
+use Rattle.sheet_windows.specs.Windows.{shown_plane, window}
+use Rattle.tile_counts.specs.Growth.{LiesOn}
+use Rattle.trap_c.specs.declared.layout.Layout.{Layout}
+use Rattle.trap_c.specs.declared.place.Place.{Place}
+use Rattle.trap_c.specs.declared.stop.Stop.{Stop}
+use Rattle.trap_c.specs.declared.stop.Stop.TheVariants.{Page}
+use Rattle.trap_c.specs.declared.work.Done.{Done}
+use Rattle.trap_c.specs.Calls.{IsWorked, Tells}
+use Rattle.trap_c.specs.Cores.{IsBeside, core_counts, core_run, sum_over}
+use Rattle.trap_c.specs.Fit.{AreSides}
+use Rattle.trap_c.specs.Names.{names_in}
+use Rattle.trap_c.specs.Places.{IsPlaced, core_of, cut_of, job_halo, tile_of}
+use Rattle.trap_c.specs.Planes.{planes_in}
+use Rattle.trap_c.specs.Requests.{Asked}
+use Rattle.trap_c.specs.Stops.{line_of_stop, status_of_stop}
+use Rattle.trap_c.specs.Windows.{call_window}
+use Rattle.trap_report.specs.Report.{sided_report_of}
+
+-- the core's part of the report of a window
+abbrev pub core_report : Place → PageParts → List ℕ
+core_report place page = sided_report_of page place.sheet_width place.sheet_height
+    (core_counts page (core_of place))
+
+-- The work for the window that was to be made; or why there is none, which may be that memory was
+-- refused.
+abbrev pub WorksWindow : ℕ → Layout → Place → List ℕ → Result PageParts Stop → Result Done Stop
+    → Type 0
+WorksWindow most layout place before made (Ok work) =
+    (page : PageParts) × (made ≡ Ok page)
+    × IsWorked most layout before page (core_report place page) work
+    × LiesOn page (core_of place)
+    × IsPlaced layout place
+    × AreSides layout
+WorksWindow most layout place before made (Err stop) = (stop ≡ Page Memory) ⊎ (made ≡ Err stop)
+
+-- A sheet of a job, with the sides that the place tells, that shows these samples in the window.
+pub record IsSheetOf (job : Job) (asked : Asked) (place : Place) (samples : List ℕ)
+    (sheet : PageParts) : Type 0 where
+  pub ranges : IsSheet sheet
+  pub wide : width sheet ≡ place.sheet_width
+  pub tall : height sheet ≡ place.sheet_height
+  pub made : sheet ≡ parts_of_planes job sheet.planes (names_in asked.names)
+  pub shown : map (shown_plane (width sheet) (cut_of asked.layout place)) sheet.planes
+      ≡ planes_in asked.layout samples (length (names_in asked.names))
+
+-- What a window's call says of a sheet: the page that was trapped is the sheet's window there, and
+-- its core a core; the samples of the core are the sheet's new tints, and all that is counted in
+-- the core is what is counted there on the sheet.
+pub record IsOnSheet (layout : Layout) (place : Place) (page sheet : PageParts) (after : List ℕ)
+    : Type 0 where
+  pub window_is : window sheet (cut_of layout place) ≡ page
+  pub tile : IsTile sheet (tile_of layout place) (place.left + place.core_left)
+      (place.top + place.core_top) place.core_height
+  pub tints : (c y x : ℕ) → c < plates sheet → y < place.core_height → x < place.core_width
+      → slice_index after (core_run layout (core_of place) c y + x) ≡ new sheet (record {
+        x = place.left + (place.core_left + x);
+        y = place.top + (place.core_top + y);
+      }) c
+  pub zone_samples : (z : ℕ) → sum_over (core_of place) (lies_in z page)
+      ≡ area_sum (lies_in z sheet) (place.left + place.core_left) (place.top + place.core_top)
+      place.core_width place.core_height
+  pub zone_changed : (z : ℕ) → sum_over (core_of place) (changes_in z page)
+      ≡ area_sum (changes_in z sheet) (place.left + place.core_left)
+      (place.top + place.core_top) place.core_width place.core_height
+  pub plate_changed : (c : ℕ) → sum_over (core_of place) (changes_plate c page)
+      ≡ area_sum (changes_plate c sheet) (place.left + place.core_left)
+      (place.top + place.core_top) place.core_width place.core_height
+  pub edges : sum_over (core_of place) (edges_at page)
+      ≡ area_sum (edges_at sheet) (place.left + place.core_left) (place.top + place.core_top)
+      place.core_width place.core_height
+
+-- A window's call that is done.
+pub record HasTrapped (most : ℕ) (asked : Asked) (place : Place) (before after text text' : List ℕ)
+    (len : ℕ) (page : PageParts) : Type 0 where
+  -- it was for that page
+  pub page_is : call_window most asked place before ≡ Ok page
+  -- the core's samples are the page's new tints
+  pub core : (c y x : ℕ) → c < plates page → y < place.core_height → x < place.core_width
+      → slice_index after (core_run asked.layout (core_of place) c y + x)
+      ≡ new page (record { x = place.core_left + x; y = place.core_top + y }) c
+  -- all other samples are as they were
+  pub rest : (k : ℕ) → ((c y : ℕ) → c < plates page → y < place.core_height
+      → IsBeside k (core_run asked.layout (core_of place) c y) place.core_width)
+      → slice_index after k ≡ slice_index before k
+  -- the text is the core's part of the report
+  pub told : Tells (core_report place page) text text' len
+  -- and whatever sheet of the job it is that shows these samples there, all that is so on it
+  pub sheets : (job : Job) (sheet : PageParts) → job_of asked.job ≡ Ok job
+      → IsSheetOf job asked place before sheet
+      → IsOnSheet asked.layout place page sheet after
+
+abbrev pub SucceedsWindow : ℕ → Asked → Place → List ℕ → List ℕ → List ℕ → List ℕ → ℕ → Type 0
+SucceedsWindow most asked place before after text text' len =
+    (page : PageParts) × HasTrapped most asked place before after text text' len page
+
+-- A window's call that is refused: all samples stay, the status and the line are those of the stop
+-- that the arguments call for, or of memory that was refused.
+abbrev pub RefusesWindow : ℕ → Asked → Place → List ℕ → List ℕ → List ℕ → List ℕ → ℕ → ℕ → Type 0
+RefusesWindow most asked place before after text text' len status =
+    (stop : Stop)
+    × (status ≡ status_of_stop stop)
+    × (after ≡ before)
+    × Tells (line_of_stop stop) text text' len
+    × ((stop ≡ Page Memory) ⊎ (call_window most asked place before ≡ Err stop))
+
+-- What a window's call does to the samples, which hold numbers up to `most`, to the text and to its
+-- length, by its status.
+pub record TrapsWindow (most : ℕ) (asked : Asked) (place : Place)
+    (before after text text' : List ℕ) (len status : ℕ) : Type 0 where
+  pub success : status ≡ done → SucceedsWindow most asked place before after text text' len
+  pub refused : status ≢ done → RefusesWindow most asked place before after text text' len status
+
+-- why a job is not read
+abbrev pub stop_of_job : JobRefusal → Stop
+stop_of_job (Fault fault) = Page (JobFaulty fault)
+stop_of_job OutOfMemory = Page Memory
+
+-- the halo of a job that was read; or why it is not told, which may be that memory was refused
+abbrev pub HaloIs : List ℕ → ℕ → Type 0
+HaloIs bytes halo = (job : Job) × (job_of bytes ≡ Ok job) × (halo ≡ job_halo job)
+
+abbrev pub HaloRefused : List ℕ → ℕ → Stop → Type 0
+HaloRefused bytes status stop =
+    (status ≡ status_of_stop stop) × ((stop ≡ Page Memory)
+    ⊎ ((fault : JobFault) × (job_of bytes ≡ Err fault) × (stop ≡ Page (JobFaulty fault))))
+
+-- What the call does that tells the halo.
+pub record TellsHalo (bytes : List ℕ) (halo halo' : ℕ) (text text' : List ℕ) (len status : ℕ)
+    : Type 0 where
+  pub success : status ≡ done → HaloIs bytes halo' × Tells [] text text' len
+  pub refused : status ≢ done → (halo' ≡ halo) × ((stop : Stop)
+      × HaloRefused bytes status stop × Tells (line_of_stop stop) text text' len)

@@ -1,0 +1,92 @@
+ghost use Rattle.std.specs.Prelude.{◌≡◌, ◌≤◌, IfOk, length};
+ghost use Rattle.job_reader.specs.InRange.{IsJob};
+ghost use Rattle.job_reader.specs.Jobs.{job_of};
+ghost use Rattle.trap_c.specs.Fit.{IsCall};
+ghost use Rattle.trap_c.specs.Pages.{Fills};
+ghost use Rattle.trap_c.specs.Places.{IsPlaced};
+ghost use Rattle.trap_c.specs.Planes.{planes_in};
+ghost use Rattle.trap_c.specs.Sources.{numbers};
+ghost use Rattle.trap_c.specs.Windows.{GivesWindow, IsMovedJob, near_window, window_by, window_with};
+
+use crate::layout::Layout;
+use crate::page::page_of_job;
+use crate::place::Place;
+use crate::shift::{first_far, moved_job, suits};
+use crate::source::Source;
+use crate::stop::{CallFault, Stop};
+use job_reader::job::Job;
+use job_reader::reader::read_job;
+use lists::names::{NameList, OutOfMemory};
+use page_model::page::Page;
+use ps_tokens::faults::JobRefusal;
+use refusals::refusal::Refusal;
+use std::alloc::Global;
+
+/// The page that a window is, of a job's bytes and of the planes that lie in the samples.
+pub fn window_of(
+    alloc: Global,
+    job: &[u8],
+    names: &NameList,
+    source: &Source<'_>,
+    layout: Layout,
+    place: &Place,
+) -> Result<Page, Stop>
+    requires call { IsCall names.now layout (length (numbers source.now)) }
+    requires placed { IsPlaced layout place.now }
+    ensures gives { GivesWindow (window_by layout place.now (job_of job.now) names.now
+        (planes_in layout (numbers source.now) (length names.now))) result }
+    ensures layout { IfOk result (Fills layout (length names.now)) }
+{
+    match read_job(alloc, job) {
+        Ok(job) => window_of_job(alloc, job, names, source, layout, place),
+        Err(JobRefusal::Fault(fault)) => Err(Stop::Page(Refusal::Job(fault))),
+        Err(JobRefusal::OutOfMemory) => Err(Stop::Page(Refusal::Memory)),
+    }
+}
+
+fn window_of_job(
+    alloc: Global,
+    job: Job,
+    names: &NameList,
+    source: &Source<'_>,
+    layout: Layout,
+    place: &Place,
+) -> Result<Page, Stop>
+    requires call { IsCall names.now layout (length (numbers source.now)) }
+    requires placed { IsPlaced layout place.now }
+    requires job { IsJob job }
+    ensures gives { GivesWindow (window_with layout place.now job names.now
+        (planes_in layout (numbers source.now) (length names.now))) result }
+    ensures layout { IfOk result (Fills layout (length names.now)) }
+{
+    if !suits(&job, layout, place) {
+        return Err(Stop::Call(CallFault::Place));
+    }
+    match moved_job(alloc, job, layout, place) {
+        Ok(moved) => window_of_moved(alloc, moved, names, source, layout),
+        Err(OutOfMemory) => Err(Stop::Page(Refusal::Memory)),
+    }
+}
+
+// The window of a job whose paths are moved. What a job is in range for is known but for its vertices.
+fn window_of_moved(
+    alloc: Global,
+    job: Job,
+    names: &NameList,
+    source: &Source<'_>,
+    layout: Layout,
+) -> Result<Page, Stop>
+    requires call { IsCall names.now layout (length (numbers source.now)) }
+    requires job { IsMovedJob job }
+    ensures gives { GivesWindow (near_window job names.now
+        (planes_in layout (numbers source.now) (length names.now))) result }
+    ensures layout { IfOk result (Fills layout (length names.now)) }
+{
+    if let Some(zone) = first_far(&job.zones) {
+        return Err(Stop::Far(zone));
+    }
+    match page_of_job(alloc, job, names, source, layout) {
+        Ok(page) => Ok(page),
+        Err(refusal) => Err(Stop::Page(refusal)),
+    }
+}

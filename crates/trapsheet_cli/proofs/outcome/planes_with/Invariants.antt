@@ -1,0 +1,10 @@
+use Rattle.std.proofs.Common.{◌≡◌, ◌++◌, map}
+use Rattle.std.specs.Vec.Iter.{into_iter_items}
+use Rattle.trapsheet_cli.specs.Trapping.{plane_with}
+use Rattle.trapsheet_cli.proofs.outcome.planes_with.Given as goal
+
+abbrev pub invariant-loop-plate : goal.invariant-loop-plate
+invariant-loop-plate l = record {
+  made : l.planes ≡ map (plane_with l.sheet) l.yielded;
+  left : l.fn.tints ≡ l.yielded ++ into_iter_items l.plate-iterator;
+}

@@ -1,0 +1,125 @@
+-- How the steps of a command end.
+use Rattle.std.specs.Prelude.{◌≡◌, ◌≢◌, ◌⊎◌, ℕ, ◌<◌, ◌≤◌, List, length, None, Some, Option, Result}
+use Rattle.std.specs.Prelude.{Ok, Err}
+use Rattle.outside.specs.Tray.{TrayState}
+use Rattle.outside.specs.Rack.{RackState}
+use Rattle.page_gather.specs.Inputs.{Sources}
+use Rattle.page_model.specs.Counts.{page_counts}
+use Rattle.page_model.specs.Tints.{trapped_planes}
+use Rattle.page_model.specs.declared.parts.PageParts.{PageParts}
+use Rattle.page_writing.specs.Files.{Written}
+use Rattle.page_writing.specs.Writing.{WritesAll}
+use Rattle.refusals.specs.declared.refusal.Refusal.TheVariants.{Memory, Read, Write}
+use Rattle.refusals.specs.Statuses.{done, usage}
+use Rattle.refusals.specs.Telling.{KeepsFiles, TellsText}
+use Rattle.sheet_cuts.specs.declared.budget.Budget.{Budget}
+use Rattle.sheet_cuts.specs.declared.cutting.Cutting.{Cutting}
+use Rattle.sheet_gather.specs.Gathering.{AsksAll, FailsToRead, GathersSheet, IsMadeSheet}
+use Rattle.sheet_gather.specs.Gathering.{RefusesFiles, TakesTrays}
+use Rattle.sheet_gather.specs.Stops.{RefusesSheet}
+use Rattle.sheet_gather.specs.Trays.{IsCalm}
+use Rattle.sheet_gather.specs.declared.stop.TrapsheetError.{TrapsheetError}
+use Rattle.sheet_gather.specs.declared.stop.TrapsheetError.TheVariants.{Common}
+use Rattle.trap_report.specs.Report.{report_of}
+use Rattle.trapsheet_cli.specs.Racks.{BreaksSheet, KeepsRacks, rack_at, rack_files}
+use Rattle.trapsheet_cli.specs.Text.{usage_line}
+use Rattle.trapsheet_cli.specs.Words.{SheetWords, order_of, sources_of, targets_of}
+use Rattle.verdicts.specs.Verdicts.{Targets}
+
+-- the report of a sheet
+abbrev pub sheet_report : PageParts → List ℕ
+sheet_report sheet = report_of sheet (page_counts sheet)
+
+-- the files that rack k writes of a sheet, in their order: its plate after trapping, and by the
+-- first rack the report
+abbrev pub sheet_files : Targets → PageParts → ℕ → List Written
+sheet_files target sheet k = rack_files target (trapped_planes sheet) (sheet_report sheet) k
+
+-- The sheet is gathered; or there was no memory for the names of its files, and none was begun.
+abbrev pub ReadsSheet : Sources → Budget → List TrayState → List TrayState
+    → Result Cutting TrapsheetError → Type 0
+ReadsSheet source budget before after result =
+    ((after ≡ before) × (result ≡ Err (Common Memory))) ⊎ GathersSheet source budget before after
+    result
+
+-- A sheet is trapped, and its files are written.
+pub data PutsOut (target : Targets) (sheet : PageParts) (before after : List RackState)
+    (result : Result (Unit {0}) TrapsheetError) : Type 0 where
+  wrote : result ≡ Ok tt → ((k : ℕ) → k < length target.outputs
+      → WritesAll (sheet_files target sheet k) (rack_at before k) (rack_at after k))
+      → KeepsRacks target before after → PutsOut target sheet before after result
+  broke : (file : Option ℕ) → result ≡ Err (Common (Write file))
+      → BreaksSheet target (trapped_planes sheet) (sheet_report sheet) file before after
+      → KeepsRacks target before after → PutsOut target sheet before after result
+  no_memory : result ≡ Err (Common Memory) → after ≡ before
+      → PutsOut target sheet before after result
+
+-- A sheet is read and put out.
+pub data Carries (source : Sources) (target : Targets) (trays trays' : List TrayState)
+    (racks racks' : List RackState) (result : Result (Unit {0}) TrapsheetError) : Type 0 where
+  carried : (sheet : PageParts) → result ≡ Ok tt → IsMadeSheet source trays sheet
+      → ((k : ℕ) → k < length source.inputs → AsksAll source trays trays' k)
+      → ((k : ℕ) → IsCalm trays trays' k)
+      → ((k : ℕ) → k < length target.outputs
+      → WritesAll (sheet_files target sheet k) (rack_at racks k) (rack_at racks' k))
+      → Carries source target trays trays' racks racks' result
+  refused : (stop : TrapsheetError) → result ≡ Err stop → RefusesFiles source trays trays' stop
+      → racks' ≡ racks → Carries source target trays trays' racks racks' result
+  unread : (file : Option ℕ) → result ≡ Err (Common (Read file))
+      → FailsToRead source trays trays' file → racks' ≡ racks
+      → Carries source target trays trays' racks racks' result
+  unwritten : (sheet : PageParts) (file : Option ℕ) → result ≡ Err (Common (Write file))
+      → IsMadeSheet source trays sheet
+      → ((k : ℕ) → k < length source.inputs → AsksAll source trays trays' k)
+      → ((k : ℕ) → IsCalm trays trays' k)
+      → BreaksSheet target (trapped_planes sheet) (sheet_report sheet) file racks racks'
+      → Carries source target trays trays' racks racks' result
+  no_memory : result ≡ Err (Common Memory) → ((k : ℕ) → IsCalm trays trays' k)
+      → racks' ≡ racks → Carries source target trays trays' racks racks' result
+
+-- the same, with what is so of the trays and the racks however it ends
+pub record CarriesOut (order : SheetWords) (trays trays' : List TrayState)
+    (racks racks' : List RackState) (result : Result (Unit {0}) TrapsheetError) : Type 0 where
+  pub takes : TakesTrays (sources_of order) trays trays'
+  pub keeps : KeepsRacks (targets_of order) racks racks'
+  pub answer : Carries (sources_of order) (targets_of order) trays trays' racks racks' result
+
+-- The line of a stop is told to the first rack.
+pub record RefusesFirst (stop : TrapsheetError) (before after : List RackState)
+    (status : ℕ) : Type 0 where
+  pub first : RefusesSheet stop (rack_at before 0) (rack_at after 0) status
+  pub others : (k : ℕ) → k ≢ 0 → rack_at after k ≡ rack_at before k
+
+-- the status, and the line of the stop where the work is not done
+abbrev pub Closes : Result (Unit {0}) TrapsheetError → List RackState → List RackState → ℕ → Type 0
+Closes (Ok x) before after status = (after ≡ before) × (status ≡ done)
+Closes (Err stop) before after status = RefusesFirst stop before after status
+
+-- A sheet is read and put out, and the command is closed.
+pub record EndsSheet (order : SheetWords) (trays trays' : List TrayState)
+    (racks racks' : List RackState) (status : ℕ) : Type 0 where
+  pub some : 1 ≤ length order.plates
+  pub result : Result (Unit {0}) TrapsheetError
+  pub between : List RackState
+  pub carried : CarriesOut order trays trays' racks between result
+  pub closed : Closes result between racks' status
+
+-- The usage line is told and nothing else.
+pub record TellsUsage (before after : RackState) : Type 0 where
+  pub files : KeepsFiles before after
+  pub line : TellsText usage_line before after
+
+-- Words that mean no sheet are refused.
+pub record RefusesWords (before after : List RackState) (status : ℕ) : Type 0 where
+  pub first : TellsUsage (rack_at before 0) (rack_at after 0)
+  pub others : (k : ℕ) → k ≢ 0 → rack_at after k ≡ rack_at before k
+  pub status_is : status ≡ usage
+
+-- The words of a command are carried out.
+pub data EndsWords (words : List (List ℕ)) (trays trays' : List TrayState)
+    (racks racks' : List RackState) (status : ℕ) : Type 0 where
+  no_sheet : order_of words ≡ None → trays' ≡ trays → RefusesWords racks racks' status
+      → EndsWords words trays trays' racks racks' status
+  sheet : (order : SheetWords) → order_of words ≡ Some order
+      → EndsSheet order trays trays' racks racks' status
+      → EndsWords words trays trays' racks racks' status

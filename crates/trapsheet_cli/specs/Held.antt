@@ -1,0 +1,21 @@
+-- What the program holds of a sheet's words, as the words that it stands for.
+use Rattle.std.specs.Prelude.{◌≤◌, length, map, string_bytes}
+use Rattle.plain_words.specs.Parts.{parts_of}
+use Rattle.trapsheet_cli.specs.Words.{SheetWords}
+use Rattle.trapsheet_cli.specs.declared.words.SheetArgs.{SheetArgs}
+
+-- the sheet of the words that are held
+abbrev pub order_in : SheetArgs → SheetWords
+order_in order = record {
+  workers = order.workers;
+  job = order.job.now;
+  report = order.report.now;
+  plates = map parts_of (map string_bytes order.plates.now);
+}
+
+-- the limits of what the words may ask for
+pub record IsWithin (order : SheetArgs) : Type 0 where
+  pub workers_from : 1 ≤ order.workers
+  pub workers_to : order.workers ≤ 64
+  pub some : 1 ≤ length order.plates.now
+  pub few : length order.plates.now ≤ 16

@@ -1,0 +1,6 @@
+-- What is told of words that mean no sheet.
+use Rattle.std.specs.Prelude.{ℕ, List, codes}
+use Rattle.refusals.specs.Lines.{line}
+
+abbrev pub usage_line : List ℕ
+usage_line = line (codes "usage: trapsheet WORKERS JOB REPORT NAME:IN:OUT ...")

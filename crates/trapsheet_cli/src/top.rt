@@ -1,0 +1,101 @@
+ghost use Rattle.std.specs.Prelude.{◌≡◌, ◌≤◌, length, map, string_bytes};
+ghost use Rattle.trapsheet_cli.specs.Clauses.{Completeness, FaultLine, LeavesFiles, Locality, ReadFault, RefusedInput, Success, Usage, WriteFault};
+ghost use Rattle.trapsheet_cli.specs.Endings.{EndsWords, RefusesWords, TellsUsage};
+
+use crate::run::run_order;
+use crate::words::read_words;
+use outside::rack::Rack;
+use outside::tray::Tray;
+use refusals::line::Line;
+use refusals::statuses::USAGE;
+use refusals::telling::tell_line;
+use sheet_cuts::budget::Budget;
+use sheet_gather::laws::one_sheet_verdict;
+use std::alloc::Global;
+use std::thread::Threads;
+
+// A window has so many rows, and so many samples in all plates, where its halo leaves room for that.
+const WINDOW: Budget = Budget {
+    rows: 512,
+    samples: 2_000_000,
+};
+
+/// Traps a sheet of any size, and answers the status that the program ends with.
+///
+/// The words are `WORKERS JOB REPORT NAME:IN:OUT ...`: the workers, from 1 to 64, the job's file, the report's, and one to
+/// sixteen plates, each with the name of its colorant, the file that is read and the one that is written. Each plate is read
+/// by the tray and written by the rack of its number. The job is read by the first tray, before its plate, and the report is
+/// written by the first rack, after all plates; lines are told to it. The sheet is trapped window by window, the windows of a
+/// strip by the workers, which are threads of `rt`. What is written is the same for every number of workers, and that of the
+/// undivided sheet.
+///
+/// The status is 0 where the work is done; 2 where the words mean no sheet; 3 where the job has a fault or lacks the details
+/// of a plate's colorant; 4 where a plate's file has a fault, or the plates are no sheet that can be trapped; 5 where a read
+/// failed; 6 where a write failed; and 7 where memory ran out. Each refusal tells one line that names the cause. No file
+/// is created before all is read and trapped.
+pub fn trapsheet_main<H: Threads + Sync, T: Tray + Send, R: Rack + Send>(
+    rt: &H,
+    alloc: Global,
+    words: &[String],
+    trays: &mut [T],
+    racks: &mut [R],
+) -> u8
+    requires trays { 16 ≤ length trays.old }
+    requires racks { 16 ≤ length racks.old }
+    ensures success { Success (map string_bytes words.now) (map T.state trays.old)
+        (map T.state trays.new) (map R.state racks.old) (map R.state racks.new) result }
+    ensures usage { Usage (map string_bytes words.now) (map T.state trays.old)
+        (map T.state trays.new) (map R.state racks.old) (map R.state racks.new) result }
+    ensures refused_input { RefusedInput (map string_bytes words.now) (map T.state trays.old)
+        (map T.state trays.new) (map R.state racks.old) (map R.state racks.new) result }
+    ensures read_fault { ReadFault (map string_bytes words.now) (map T.state trays.old)
+        (map T.state trays.new) (map R.state racks.old) (map R.state racks.new) result }
+    ensures write_fault { WriteFault (map string_bytes words.now) (map T.state trays.old)
+        (map R.state racks.old) (map R.state racks.new) result }
+    ensures memory { LeavesFiles (map R.state racks.old) (map R.state racks.new) result }
+    ensures fault_line { FaultLine (map R.state racks.old) (map R.state racks.new) result }
+    ensures locality { Locality (map string_bytes words.now) (map T.state trays.old) }
+    ensures completeness { Completeness (map string_bytes words.now) (map T.state trays.old)
+        (map T.state trays.new) (map R.state racks.old) (map R.state racks.new) result }
+{
+    one_sheet_verdict();
+    trapsheet_within(rt, alloc, words, &WINDOW, trays, racks)
+}
+
+/// As `trapsheet_main`, with windows of at most so many rows and samples.
+pub fn trapsheet_within<H: Threads + Sync, T: Tray + Send, R: Rack + Send>(
+    rt: &H,
+    alloc: Global,
+    words: &[String],
+    budget: &Budget,
+    trays: &mut [T],
+    racks: &mut [R],
+) -> u8
+    requires trays { 16 ≤ length trays.old }
+    requires racks { 16 ≤ length racks.old }
+    ensures { EndsWords (map string_bytes words.now) (map T.state trays.old)
+        (map T.state trays.new) (map R.state racks.old) (map R.state racks.new) result }
+{
+    match read_words(words) {
+        Some(order) => run_order(rt, alloc, &order, budget, trays, racks),
+        None => refuse_words(racks),
+    }
+}
+
+// Words that are no sheet are refused by this program's own usage line.
+fn refuse_words<R: Rack>(racks: &mut [R]) -> u8
+    requires { 1 ≤ length racks.old }
+    ensures { RefusesWords (map R.state racks.old) (map R.state racks.new) result }
+{
+    tell_usage(&mut racks[0]);
+    USAGE
+}
+
+fn tell_usage<R: Rack>(rack: &mut R)
+    ensures { TellsUsage (R.state rack.old) (R.state rack.new) }
+{
+    tell_line(
+        rack,
+        &Line::of_text(b"usage: trapsheet WORKERS JOB REPORT NAME:IN:OUT ..."),
+    );
+}

@@ -1,0 +1,249 @@
+mod failing;
+mod words;
+mod worked;
+
+use lists::list::List;
+use outside::distinct_names::have_distinct_names;
+use outside::mem_file::{FileList, MemFile};
+use outside::mem_rack::MemRack;
+use outside::mem_tray::MemTray;
+use sheet_cuts::budget::Budget;
+use std::alloc::{AllocError, Global};
+use std::process::Abort;
+use std::thread::Threads;
+use test_files::{calls, file_of, words_of};
+use trapsheet_cli::top::trapsheet_within;
+
+// A job begins with its inks, and a page may set parameters and be shown.
+const INKS: &[u8] =
+    b"<< /HWResolution [72 72] /TrappingDetails << /Type 1001 /ColorantDetails << /Cyan << /NeutralDensity 0.61 >> /Magenta << /NeutralDensity 0.76 >> >> >> >> setpagedevice ";
+
+const DISABLED: &[u8] = b"<< /Enabled false >> settrapparams showpage";
+
+// What is reported of the two plates where no zone is enabled.
+const AS_IT_WAS: &[u8] =
+    b"trap report\npage 6 1 255 plates 2\nzone 0 samples 6 changed 0\nedges 0\nplate Cyan changed 0\nplate Magenta changed 0\nend\n";
+
+const TWO_PLATES: &str = "4 job report Cyan:in0:out0 Magenta:in1:out1";
+
+// Windows of a few samples, and windows that every page of these tests fits into.
+const NARROW: Budget = Budget {
+    rows: 1,
+    samples: 1,
+};
+
+const WIDE: Budget = Budget {
+    rows: 512,
+    samples: 2_000_000,
+};
+
+// How many trays and racks there are.
+const DEVICES: usize = 16;
+
+// The files that are read by each tray: the job and the first plate, and then a plate each.
+const READ: &[&str] = &["in0", "in1", "in2"];
+
+const WRITTEN: &[&str] = &["out0", "out1", "out2"];
+
+type Pieces<'a> = &'a [&'a [u8]];
+
+// A call of a tray or of a rack that fails.
+#[derive(Clone, Copy)]
+struct Fault {
+    device: usize,
+    call: u64,
+}
+
+// A run of the program over files in memory: its words, the pieces of the job's file and of each plate's, and the calls that
+// fail.
+#[derive(Clone, Copy)]
+struct Case<'a> {
+    words: &'a str,
+    job: Pieces<'a>,
+    plates: &'a [Pieces<'a>],
+    windows: Budget,
+    // the most bytes that one call of a device takes
+    grain: usize,
+    tray_fails: Option<Fault>,
+    rack_fails: Option<Fault>,
+}
+
+// How a run ends: its status, the text that is told, the plates that stand then, and the report.
+#[derive(Clone, Copy)]
+struct Wanted<'a> {
+    status: u8,
+    told: &'a str,
+    plates: &'a [&'a [u8]],
+    report: Option<&'a [u8]>,
+}
+
+// A run by the usual words, in which no call fails.
+fn case_of<'a>(job: Pieces<'a>, plates: &'a [Pieces<'a>], windows: Budget) -> Case<'a> {
+    Case {
+        words: TWO_PLATES,
+        job,
+        plates,
+        windows,
+        grain: 50,
+        tray_fails: None,
+        rack_fails: None,
+    }
+}
+
+// The call of that device that fails.
+fn fault_at(fault: Option<Fault>, device: usize) -> Option<u64> {
+    match fault {
+        Some(fault) if fault.device == device => Some(fault.call),
+        _ => None,
+    }
+}
+
+fn put_file(
+    alloc: Global,
+    files: &mut Vec<MemFile>,
+    name: &str,
+    pieces: Pieces<'_>,
+) -> Result<(), AllocError> {
+    files.push(file_of(alloc, name, pieces)?)?;
+    Ok(())
+}
+
+// The files of one tray.
+fn files_of(alloc: Global, case: Case<'_>, device: usize) -> Result<FileList, AllocError> {
+    let mut files = Vec::new(alloc);
+    if device == 0 {
+        put_file(alloc, &mut files, "job", case.job)?;
+    }
+    if let (Some(name), Some(pieces)) = (READ.get(device), case.plates.get(device)) {
+        put_file(alloc, &mut files, name, pieces)?;
+    }
+    Ok(List::from_vec(files))
+}
+
+fn tray_of(
+    rt: &impl Abort,
+    alloc: Global,
+    files: FileList,
+    grain: usize,
+    fails: Option<u64>,
+) -> Result<MemTray, AllocError> {
+    let fails = calls(alloc, fails)?;
+    assert!(rt; have_distinct_names(files.as_slice()));
+    assert!(rt; 0 < grain);
+    Ok(MemTray::new(alloc, files, grain, fails))
+}
+
+fn put_tray(
+    rt: &impl Abort,
+    alloc: Global,
+    trays: &mut Vec<MemTray>,
+    case: Case<'_>,
+    device: usize,
+) -> Result<(), AllocError> {
+    let files = files_of(alloc, case, device)?;
+    let fails = fault_at(case.tray_fails, device);
+    trays.push(tray_of(rt, alloc, files, case.grain, fails)?)?;
+    Ok(())
+}
+
+fn trays_of(rt: &impl Abort, alloc: Global, case: Case<'_>) -> Result<Vec<MemTray>, AllocError> {
+    let mut trays = Vec::new(alloc);
+    for device in 0..DEVICES {
+        put_tray(rt, alloc, &mut trays, case, device)?;
+    }
+    Ok(trays)
+}
+
+fn put_rack(
+    rt: &impl Abort,
+    alloc: Global,
+    racks: &mut Vec<MemRack>,
+    grain: usize,
+    fails: Option<u64>,
+) -> Result<(), AllocError> {
+    assert!(rt; 0 < grain);
+    racks.push(MemRack::new(alloc, grain, 1_000_000, calls(alloc, fails)?))?;
+    Ok(())
+}
+
+fn racks_of(rt: &impl Abort, alloc: Global, case: Case<'_>) -> Result<Vec<MemRack>, AllocError> {
+    let mut racks = Vec::new(alloc);
+    for device in 0..DEVICES {
+        let fails = fault_at(case.rack_fails, device);
+        put_rack(rt, alloc, &mut racks, case.grain, fails)?;
+    }
+    Ok(racks)
+}
+
+// The status, and the racks as they stand then.
+fn ended(
+    rt: &(impl Abort + Threads + Sync),
+    alloc: Global,
+    words: &[String],
+    windows: &Budget,
+    mut trays: Vec<MemTray>,
+    mut racks: Vec<MemRack>,
+) -> (u8, Vec<MemRack>) {
+    assert!(rt; trays.len() >= 16);
+    assert!(rt; racks.len() >= 16);
+    let status = trapsheet_within(rt, alloc, words, windows, &mut trays, &mut racks);
+    (status, racks)
+}
+
+fn run(
+    rt: &(impl Abort + Threads + Sync),
+    alloc: Global,
+    case: Case<'_>,
+) -> Result<(u8, Vec<MemRack>), AllocError> {
+    let words = words_of(alloc, case.words)?;
+    let racks = racks_of(rt, alloc, case)?;
+    let trays = trays_of(rt, alloc, case)?;
+    Ok(ended(rt, alloc, &words, &case.windows, trays, racks))
+}
+
+// Whether the rack of that number holds its plate, and nothing else but the report where it is the first.
+fn holds(rack: &MemRack, device: usize, wanted: Wanted<'_>) -> bool {
+    let report = if device == 0 { wanted.report } else { None };
+    for (place, name) in WRITTEN.iter().enumerate() {
+        let plate = if place == device {
+            wanted.plates.get(place).copied()
+        } else {
+            None
+        };
+        if rack.file(name) != plate {
+            return false;
+        }
+    }
+    rack.file("report") == report
+}
+
+// Whether the first rack tells this text, and the others nothing.
+fn tells(rack: &MemRack, device: usize, told: &str) -> bool {
+    let text = if device == 0 { told } else { "" };
+    rack.told() == text.as_bytes()
+}
+
+fn are_left_so(racks: &[MemRack], wanted: Wanted<'_>) -> bool {
+    for (device, rack) in racks.iter().enumerate() {
+        if !holds(rack, device, wanted) || !tells(rack, device, wanted.told) {
+            return false;
+        }
+    }
+    true
+}
+
+fn is_so(status: u8, racks: Vec<MemRack>, wanted: Wanted<'_>) -> bool {
+    let are_left = are_left_so(racks.as_slice(), wanted);
+    are_left && status == wanted.status
+}
+
+// Whether the run ends so.
+fn ends(
+    rt: &(impl Abort + Threads + Sync),
+    alloc: Global,
+    case: Case<'_>,
+    wanted: Wanted<'_>,
+) -> Result<bool, AllocError> {
+    let (status, racks) = run(rt, alloc, case)?;
+    Ok(is_so(status, racks, wanted))
+}

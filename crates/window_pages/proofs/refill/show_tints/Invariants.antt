@@ -1,0 +1,9 @@
+use Rattle.std.proofs.Common.{◌≡◌, ◌*◌, length, take}
+use Rattle.window_pages.specs.Shown.{shown_tints}
+use Rattle.window_pages.proofs.refill.show_tints.Given as goal
+
+abbrev pub invariant-loop-y : goal.invariant-loop-y
+invariant-loop-y l = record {
+  long : length l.shown ≡ l.cut.width * l.cut.height;
+  done : take (l.y * l.cut.width) l.shown ≡ shown_tints l.wide l.cut l.tints (l.y * l.cut.width);
+}

@@ -1,0 +1,135 @@
+/* bands JOB REPORT NAME:IN:OUT ..: what page.c does, band by band from four threads, as a RIP that renders in bands may do it.
+ *
+ * The page is cut into bands of rows. Each band is a window of the page: its core are the band's rows, and round them stand as
+ * many rows of the neighbours as trap_halo tells. A window reads its halo as it was rendered, so each thread copies its window
+ * out of the rendered page, traps it, and puts the core's rows into the trapped page. The counts of the bands' reports are
+ * added up. It ends with the library's status, and with 1 where a file cannot be read or written. */
+#include <pthread.h>
+
+#include "plates.h"
+#include "trap.h"
+
+enum { THREADS = 4, ROWS = 37, MOST_ZONES = 251 };
+
+/* What the reports of all bands count together. */
+struct sums {
+  unsigned long long samples[MOST_ZONES], changed[MOST_ZONES], edges, plates[TRAP_MOST_PLANES];
+  int zones;
+};
+
+/* What all threads share, and none writes but to rows of its own bands. */
+struct work {
+  struct bytes job;
+  const char *names;
+  int plates;
+  unsigned halo;
+  struct planes rendered, trapped;
+};
+
+/* What one thread makes of its bands. */
+struct share {
+  const struct work *work;
+  int first;
+  trap_status status;
+  uint8_t text[TRAP_TEXT_SIZE];
+  size_t text_len;
+  struct sums sums;
+};
+
+static size_t row_at(const struct planes *planes, int c, unsigned y) { return ((size_t)c * planes->height + y) * planes->width; }
+
+/* Adds a band's report, line by line. */
+static void add_report(struct sums *sums, char *text) {
+  int zone, plate = 0;
+  unsigned long long samples, changed;
+  for (char *line = strtok_r(text, "\n", &text); line; line = strtok_r(0, "\n", &text)) {
+    if (sscanf(line, "zone %d samples %llu changed %llu", &zone, &samples, &changed) == 3) {
+      sums->samples[zone] += samples, sums->changed[zone] += changed, sums->zones = zone + 1;
+    } else if (sscanf(line, "edges %llu", &samples) == 1) {
+      sums->edges += samples;
+    } else if (sscanf(line, "plate %*s changed %llu", &changed) == 1) {
+      sums->plates[plate++] += changed;
+    }
+  }
+}
+
+/* Traps the rows from one on and before another, in a window of their own. */
+static trap_status trap_band(struct share *share, unsigned from, unsigned to) {
+  const struct work *work = share->work;
+  const struct planes *page = &work->rendered;
+  unsigned top = from > work->halo ? from - work->halo : 0;
+  unsigned end = page->height - to > work->halo ? to + work->halo : page->height;
+  struct planes window = {1, 0, page->width, end - top, page->maxval, (size_t)work->plates * page->width * (end - top)};
+  window.samples = room(window.count);
+  for (int c = 0; c < work->plates; c++)
+    memcpy((uint8_t *)window.samples + row_at(&window, c, 0), (uint8_t *)page->samples + row_at(page, c, top),
+           (size_t)page->width * window.height);
+  struct trap_place place = {page->width, page->height, 0, top, 0, from - top, page->width, to - from};
+  trap_status status = trap_window8(work->job.at, work->job.size, (const uint8_t *)work->names, strlen(work->names), window.samples,
+                                    window.count, window.width, window.height, window.width, window.maxval, &place, share->text,
+                                    sizeof share->text - 1, &share->text_len);
+  for (int c = 0; c < work->plates && status == TRAP_DONE; c++)
+    memcpy((uint8_t *)work->trapped.samples + row_at(page, c, from), (uint8_t *)window.samples + row_at(&window, c, from - top),
+           (size_t)page->width * (to - from));
+  free(window.samples);
+  return status;
+}
+
+static void *walk(void *of) {
+  struct share *share = of;
+  unsigned height = share->work->rendered.height;
+  for (unsigned from = share->first * ROWS; from < height && share->status == TRAP_DONE; from += THREADS * ROWS) {
+    share->status = trap_band(share, from, height - from > ROWS ? from + ROWS : height);
+    if (share->status != TRAP_DONE) break;
+    share->text[share->text_len] = 0;
+    add_report(&share->sums, (char *)share->text);
+  }
+  return 0;
+}
+
+static void write_report(const struct work *work, const struct share *shares, char **names, const char *name) {
+  struct sums all = {{0}, {0}, 0, {0}, shares[0].sums.zones};
+  for (int k = 0; k < THREADS; k++) {
+    for (int z = 0; z < all.zones; z++) all.samples[z] += shares[k].sums.samples[z], all.changed[z] += shares[k].sums.changed[z];
+    for (int c = 0; c < work->plates; c++) all.plates[c] += shares[k].sums.plates[c];
+    all.edges += shares[k].sums.edges;
+  }
+  FILE *file = begun(name);
+  fprintf(file, "trap report\npage %u %u %u plates %d\n", work->rendered.width, work->rendered.height, work->rendered.maxval, work->plates);
+  for (int z = 0; z < all.zones; z++) fprintf(file, "zone %d samples %llu changed %llu\n", z, all.samples[z], all.changed[z]);
+  fprintf(file, "edges %llu\n", all.edges);
+  for (int c = 0; c < work->plates; c++) fprintf(file, "plate %s changed %llu\n", names[c], all.plates[c]);
+  fprintf(file, "end\n");
+  if (fclose(file)) stop(name, strerror(errno));
+}
+
+/* The status of the first thread that was refused; its line is told. */
+static trap_status joined(const struct share *shares) {
+  for (int k = 0; k < THREADS; k++)
+    if (shares[k].status != TRAP_DONE) return fwrite(shares[k].text, 1, shares[k].text_len, stderr), shares[k].status;
+  return TRAP_DONE;
+}
+
+int main(int count, char **words) {
+  static struct share shares[THREADS];
+  struct work work = {.plates = count - 3, .rendered = {.bytes_each = 1}};
+  if (work.plates < 1 || work.plates > TRAP_MOST_PLANES) return fprintf(stderr, "usage: bands JOB REPORT NAME:IN:OUT ..\n"), 2;
+  char *outs[TRAP_MOST_PLANES], *named[TRAP_MOST_PLANES], names[TRAP_MOST_PLANES * 65 + 1];
+  work.job = whole(words[1]);
+  read_plates(&work.rendered, work.plates, words + 3, names, named, outs);
+  work.names = names, work.trapped = work.rendered;
+  work.trapped.samples = room(work.trapped.count);
+  trap_status status = trap_halo(work.job.at, work.job.size, &work.halo, shares[0].text, sizeof shares[0].text, &shares[0].text_len);
+  if (status != TRAP_DONE) return fwrite(shares[0].text, 1, shares[0].text_len, stderr), status;
+  pthread_t threads[THREADS];
+  for (int k = 0; k < THREADS; k++) {
+    shares[k].work = &work, shares[k].first = k;
+    if (pthread_create(&threads[k], 0, walk, &shares[k])) stop("threads", "could not be started");
+  }
+  for (int k = 0; k < THREADS; k++) pthread_join(threads[k], 0);
+  status = joined(shares);
+  if (status == TRAP_DONE) write_report(&work, shares, named, words[2]);
+  for (int c = 0; c < work.plates && status == TRAP_DONE; c++) write_plate(&work.trapped, c, outs[c]);
+  free(work.rendered.samples), free(work.trapped.samples), free(work.job.at);
+  return status;
+}
