@@ -31,8 +31,8 @@ pub fn words_of(alloc: Global, args: Args) -> Result<Vec<String>, u8>
     collect_words(alloc, args).map_err(|_| OUT_OF_MEMORY)
 }
 
-// The status of a program whose words cannot be had.
-fn status_without(kind: ErrorKind) -> u8
+/// The status of a program whose words cannot be had, for this reason of the system.
+pub fn status_without(kind: ErrorKind) -> u8
     ensures text { kind ≡ ErrorKind.InvalidData → result ≡ not_text }
     ensures memory { kind ≢ ErrorKind.InvalidData → result ≡ out_of_memory }
 {
