@@ -47,6 +47,9 @@ without() {
   (cd ../bin && rm -f "$@" && ln -sf "$python" python3 && pwd)
 }
 
+# same WHAT ONE TWO: the two texts are one.
+same() { [ "$2" = "$3" ] || wrong "$1: $(printf '%s\n' "$2"), and not: $(printf '%s\n' "$3")"; }
+
 plane() { tifftopnm -quiet "$1" | tail -n +4; }
 
 # The separations that press/tiff makes of the plates as they are have the names and bytes of tiffsep's.
@@ -760,7 +763,7 @@ try_living() {
     skip "a full disk" "leave to mount a small one"
   fi
   rmdir small
-  env TMPDIR=/nonexistent "$here/plates" --force two.pdf spare >../told 2>../line || wrong "living: no TMPDIR: $(cat ../line)"
+  env TMPDIR="$PWD/two.pdf/none" "$here/plates" --force two.pdf spare >../told 2>../line || wrong "living: no TMPDIR: $(cat ../line)"
   # Names: what would colour a terminal or break a line is spelled out.
   one=$(printf 'bad\033[31m\nred.pdf')
   cp pair.pdf "$one"
@@ -794,27 +797,68 @@ try_living() {
   rm -r pages20 thin spare
 }
 
-# By a stand-in for ssh that does here what is to be done on the machine near, and cannot reach the machine down: a page of that
-# one fails and is named, and is done elsewhere afterwards.
-try_machines() {
-  local status=0
+# A stand-in for ssh that does here what is to be done on the machine near. As sshd does, it begins in the home folder, and hands on
+# nothing of the environment, a name of a shell neither. The machine down cannot be reached; on the machine mute nothing can be begun,
+# since its folder for temporary files is not there.
+ssh_stands_in() {
   cat >../ssh <<'SSH'
 #!/usr/bin/env bash
 while [[ $1 == -* ]]; do case $1 in -o | -i | -p | -l | -S) shift 2 ;; *) shift ;; esac; done
-[ "$1" != down ] || { echo "ssh: down: no route" >&2; exit 255; }
+machine=$1
+[ "$machine" != down ] || { echo "ssh: down: no route" >&2; exit 255; }
 shift
 [ "$1" != -- ] || shift
-exec bash -c "$*"
+cd "$HOME" || exit 255
+mute=()
+[ "$machine" != mute ] || mute=(TMPDIR="$0/none")
+exec env -i HOME="$HOME" PATH="$PATH" "${mute[@]}" bash -c "$*"
 SSH
   chmod +x ../ssh
-  PARALLEL_SSH=$PWD/../ssh "$here/farm" --quiet --lenient --no-proof --jobs 1 --hosts near,down --page 7-9 twenty.pdf far >../told 2>../line ||
-    status=$?
-  [ "$status" = 1 ] && grep -qx 'page [789]: failed: down was lost, or cannot be reached (--again does the page)' ../told ||
-    wrong "living: a machine that is lost: $status, $(cat ../told)"
-  PARALLEL_SSH=$PWD/../ssh goes "$here/farm" --again --quiet --lenient --no-proof --jobs 1 --hosts near --page 7-9 twenty.pdf far
-  cmp <(find far -maxdepth 1 -name 'page-*' -printf '%f\n' | sort) <(printf 'page-%s\n' 007 008 009) || wrong "living: pages of a lost machine"
-  rm -r far
+}
+
+# farm_by_ssh WORD ..: press/farm by that stand-in, a page at a time. The home folder is one above, which GNU parallel takes notice of.
+farm_by_ssh() { HOME=$out PARALLEL_SSH=$out/ssh "$here/farm" --quiet --lenient --no-proof --jobs 1 "$@"; }
+
+# within FOLDER COMMAND ..: the command there.
+within() { (cd "$1" && "${@:2}"); }
+
+# farm_told STATUS LINE COMMAND ..: the farm ends with this status, and the lines that it tells match, in any order; else all that it
+# left is shown.
+farm_told() {
+  local expected=$1 line=$2 status=0
+  shift 2
+  "$@" >../told 2>../line || status=$?
+  if [ "$status" != "$expected" ] || ! grep -qE -- "$line" ../told || grep -vE -- "$line" ../told; then
+    find . -maxdepth 2 -path './far*' -printf '%p %s %T@\n' | sort
+    cat far*/farm.log ../told ../line
+    wrong "living: $* ended with $status in place of $expected, or told other lines than $line"
+  fi
   tried=$((tried + 1))
+}
+
+# A page of a machine that is lost, or does nothing, fails and is named, and is done elsewhere afterwards.
+try_machines() {
+  local done='^page [789]: done: ' name
+  ssh_stands_in
+  farm_told 1 "$done|^page [789]: failed: down was lost, or cannot be reached \(--again does the page\)$" \
+    farm_by_ssh --hosts near,down --page 7-9 twenty.pdf far
+  grep -q ': failed: down was lost' ../told || wrong "living: no page was handed to the machine down: $(cat ../told far/farm.log)"
+  farm_told 0 "$done" farm_by_ssh --again --hosts near --page 7-9 twenty.pdf far
+  same "living: pages of a lost machine" "$(find far -maxdepth 1 -name 'page-*' -printf '%f\n' | sort)" "$(printf 'page-%s\n' 007 008 009)"
+  # A page that is gone; and a log that a full disk has cut.
+  rm -r far/page-008 && printf '3\tnear\t17' >>far/farm.log
+  farm_told 0 '^page 8: done: ' farm_by_ssh --again --hosts near --page 7-9 twenty.pdf far
+  # What stands there of an earlier run is not taken for what the machine did.
+  farm_told 1 '^page 7: failed: mute began nothing, and told no reason: ' farm_by_ssh --hosts mute --page 7 twenty.pdf far
+  [ -d far/page-007 ] || wrong "living: a page of an earlier run is gone"
+  farm_told 0 '^page 7: done: ' farm_by_ssh --again --hosts near --page 7 twenty.pdf far
+  # Names with anything in them, of files and of the folder.
+  name=$(printf "{} {.} {= 1 =} %%d 'b' \"\$(touch ran)\" Gr\374n")
+  mkdir "far {#}" && cp pair.pdf "far {#}/$name.pdf"
+  farm_told 0 '^page 1: done: ' within "far {#}" farm_by_ssh --hosts near -- "$name.pdf" "o {%}"
+  [ -d "far {#}/o {%}/page-001/tiff" ] && [ -z "$(find . "$out" -maxdepth 2 -name ran)" ] || wrong "living: farm: a name: $(find far*)"
+  farm_told 0 '^page 1: done: ' "$here/farm" --quiet --lenient --no-proof -- "far {#}/$name.pdf" far1
+  rm -r far "far {#}" far1
 }
 
 # A command's refusal without the warnings before it.
