@@ -18,7 +18,7 @@ use Rattle.sheet_gather.specs.SheetFiles.{IsSheetFault, IsSheetFile}
 use Rattle.sheet_gather.specs.Verdicts.{SheetVerdict, IsSheetVerdict, OneSheetVerdict}
 use Rattle.sheet_gather.specs.Verdicts.SheetVerdict.{Accepted, Refused}
 use Rattle.sheet_gather.specs.declared.stop.TrapsheetError.{TrapsheetError}
-use Rattle.sheet_gather.specs.declared.stop.TrapsheetError.TheVariants.{Common, OfSheet}
+use Rattle.sheet_gather.specs.declared.stop.TrapsheetError.TheVariants.{Changed, Common, OfSheet}
 
 -- A file has one list of bytes.
 held_both : (held : Option (List ℕ)) (F G : List ℕ → Type 0) → Spells held F → Spells held G → (bytes : List ℕ) × F bytes × G bytes
@@ -120,6 +120,7 @@ module _ (not_both : NotBothWithin Sheet) (one_plate : OnePlateWithin Sheet) (on
   view (Refused (Common (Write file))) is = absurd is
   view (Refused (Common Memory)) is = absurd is
   view (Refused (OfSheet refusal)) is = of_made (Err (OfSheet refusal)) refl is
+  view (Refused (Changed plate)) is = absurd is
   view (Accepted sheet) is = of_made (Ok sheet) refl is
 
   same : (v w : SheetVerdict) → View v → View w → v ≡ w

@@ -1,5 +1,5 @@
 -- What it means to read a job and plates, and to make a sheet of them.
-use Rattle.std.specs.Prelude.{◌≡◌, ◌⊎◌, ℕ, zero, suc, ◌<◌, ◌≤◌, IsTrue, List, [], ◌∷◌, length}
+use Rattle.std.specs.Prelude.{◌≡◌, ◌≢◌, ◌⊎◌, ℕ, zero, suc, ◌<◌, ◌≤◌, IsTrue, List, [], ◌∷◌, length}
 use Rattle.std.specs.Prelude.{Option, Some, None, Result, Ok, Err}
 use Rattle.job_reader.specs.declared.job.Job.{Job}
 use Rattle.job_reader.specs.Jobs.{job_of}
@@ -21,10 +21,10 @@ use Rattle.sheet_cuts.specs.Refusals.{sheet_refusal}
 use Rattle.sheet_windows.specs.Sheets.{IsSheet}
 use Rattle.sheet_gather.specs.Inputs.{AreSpelled, MakesSheet, Spells, held_by, plates_by}
 use Rattle.sheet_gather.specs.Steps.{IsFaultless, ReadsFirst}
-use Rattle.sheet_gather.specs.Trays.{AllTell, IsCalm, tray_at, tray_files}
+use Rattle.sheet_gather.specs.Trays.{AllTell, IsCalm, files_twice, tray_at, tray_files}
 use Rattle.sheet_gather.specs.Verdicts.{IsSheetVerdict, Refused}
 use Rattle.sheet_gather.specs.declared.stop.TrapsheetError.{TrapsheetError}
-use Rattle.sheet_gather.specs.declared.stop.TrapsheetError.TheVariants.{Common, OfSheet}
+use Rattle.sheet_gather.specs.declared.stop.TrapsheetError.TheVariants.{Changed, Common, OfSheet}
 
 -- Tray k is as it was, or no more was taken of the file that it has in hand than is owed, be it
 -- the job or its plate.
@@ -42,10 +42,15 @@ pub record TakesTrays (source : Sources) (before after : List TrayState) : Type 
   pub in_hand : (k : ℕ) → InHand source k (tray_at before k) (tray_at after k)
   pub beyond : (k : ℕ) → length source.inputs ≤ k → tray_at after k ≡ tray_at before k
 
--- Tray k was asked for all of its files.
+-- Tray k was asked for all of its files, once.
 abbrev pub AsksAll : Sources → List TrayState → List TrayState → ℕ → Type 0
 AsksAll source before after k =
     Asks (tray_at before k).asked (tray_at after k).asked (tray_files source k)
+
+-- Tray k was asked for all of its files, and then for its plate once more.
+abbrev pub AsksTwice : Sources → List TrayState → List TrayState → ℕ → Type 0
+AsksTwice source before after k =
+    Asks (tray_at before k).asked (tray_at after k).asked (files_twice source k)
 
 -- the files that were begun where that stop comes; of the plates after the one that is refused
 -- nothing is said
@@ -79,6 +84,7 @@ IsOfInput (Common (NoDetails plate)) = Unit {0}
 IsOfInput (Common (Plate plate fault)) = Unit {0}
 IsOfInput (Common other) = ⊥
 IsOfInput (OfSheet refusal) = Unit {0}
+IsOfInput (Changed plate) = ⊥
 
 -- The files are refused.
 pub record RefusesFiles (source : Sources) (before after : List TrayState)
@@ -158,3 +164,33 @@ abbrev pub GathersRest : List (List ℕ) → List (List ℕ) → Budget → Job 
 GathersRest names inputs budget job between after result = (name : List ℕ)
     (before : List TrayState) → ReadsFirst name before between (Ok job)
     → GathersSheet (sources name names inputs) budget before after result
+
+-- The same, where each plate may be read twice.
+pub record TakesTwice (source : Sources) (before after : List TrayState) : Type 0 where
+  pub keeps : (k : ℕ) → KeepsTray (tray_at before k) (tray_at after k)
+  pub asked : (k : ℕ)
+      → AsksPrefix (tray_at before k).asked (tray_at after k).asked (files_twice source k)
+  pub in_hand : (k : ℕ) → InHand source k (tray_at before k) (tray_at after k)
+  pub beyond : (k : ℕ) → length source.inputs ≤ k → tray_at after k ≡ tray_at before k
+
+-- The second reading of the plates stops at this one: each tray was asked for its plate once or
+-- twice, that one twice, and no fault of another tray was passed over.
+pub record StopsAgain (source : Sources) (plate : ℕ) (before after : List TrayState) : Type 0 where
+  pub known : plate < length source.inputs
+  pub begun : AsksTwice source before after plate
+  pub others : (k : ℕ) → k < length source.inputs
+      → AsksAll source before after k ⊎ AsksTwice source before after k
+  pub calm : (k : ℕ) → k ≢ plate → IsCalm before after k
+
+-- The second read of that plate failed: of its bytes those that were taken again have no fault but
+-- an early end.
+pub record FailsAgain (source : Sources) (plate : ℕ) (before after : List TrayState) : Type 0 where
+  pub stops : StopsAgain source plate before after
+  pub rose : Rose (tray_at before plate).faults (tray_at after plate).faults
+  pub taken : IsFaultless (name_at source.inputs plate) (tray_at before plate)
+      (tray_at after plate)
+
+-- That plate is not what it was. Its tray does not tell its file, which would be the same.
+pub record HasChanged (source : Sources) (plate : ℕ) (before after : List TrayState) : Type 0 where
+  pub stops : StopsAgain source plate before after
+  pub untold : IsTrue (tray_at before plate).tells → ⊥

@@ -8,7 +8,7 @@ use Rattle.refusals.specs.Telling.{KeepsFiles, TellsText}
 use Rattle.sheet_cuts.specs.declared.refusal.SheetRefusal.{SheetRefusal}
 use Rattle.sheet_cuts.specs.declared.refusal.SheetRefusal.TheVariants.{Far, Fault, Uncut}
 use Rattle.sheet_gather.specs.declared.stop.TrapsheetError.{TrapsheetError}
-use Rattle.sheet_gather.specs.declared.stop.TrapsheetError.TheVariants.{Common, OfSheet}
+use Rattle.sheet_gather.specs.declared.stop.TrapsheetError.TheVariants.{Changed, Common, OfSheet}
 
 -- the line of what a sheet is refused for
 abbrev pub sheet_line : SheetRefusal → List ℕ
@@ -20,11 +20,13 @@ sheet_line Uncut = line (codes "sheet: Uncut")
 abbrev pub line_of_stop : TrapsheetError → List ℕ
 line_of_stop (Common refusal) = line_of refusal
 line_of_stop (OfSheet refusal) = sheet_line refusal
+line_of_stop (Changed plate) = line (codes "sheet: Changed in plate " ++ decimal plate)
 
 -- the status that the program ends with
 abbrev pub status_of_stop : TrapsheetError → ℕ
 status_of_stop (Common refusal) = status_of refusal
 status_of_stop (OfSheet refusal) = page_refused
+status_of_stop (Changed plate) = page_refused
 
 -- A stop tells its line and gives its status.
 pub record RefusesSheet (stop : TrapsheetError) (before after : RackState)

@@ -5,7 +5,7 @@ use Rattle.page_model.specs.declared.parts.PageParts.{PageParts}
 use Rattle.refusals.specs.declared.refusal.Refusal.TheVariants.{Job, NoDetails, Plate}
 use Rattle.sheet_gather.specs.Inputs.{HeldBytes, MakesSheet, PlateFails, Spells}
 use Rattle.sheet_gather.specs.declared.stop.TrapsheetError.{TrapsheetError}
-use Rattle.sheet_gather.specs.declared.stop.TrapsheetError.TheVariants.{Common, OfSheet}
+use Rattle.sheet_gather.specs.declared.stop.TrapsheetError.TheVariants.{Changed, Common, OfSheet}
 
 -- what is to come
 pub data SheetVerdict : Type 0 where
@@ -26,6 +26,7 @@ IsSheetVerdict held names (Refused (Common (NoDetails plate))) =
 IsSheetVerdict held names (Refused (Common other)) = ⊥
 IsSheetVerdict held names (Refused (OfSheet refusal)) =
     MakesSheet held names (Err (OfSheet refusal))
+IsSheetVerdict held names (Refused (Changed plate)) = ⊥
 IsSheetVerdict held names (Accepted sheet) = MakesSheet held names (Ok sheet)
 
 -- No two verdicts stand on the same bytes.

@@ -12,6 +12,8 @@ pub enum TrapsheetError {
     Common(Refusal),
     /// The sheet that the plates make.
     OfSheet(SheetRefusal),
+    /// This plate, from 0, is not what it was when it was judged: it has another header, or a fault now.
+    Changed(u32),
 }
 
 /// The status that the program ends with: one of `refusals::statuses`.
@@ -20,6 +22,6 @@ pub fn stop_status(stop: &TrapsheetError) -> u8
 {
     match stop {
         TrapsheetError::Common(refusal) => status(refusal),
-        TrapsheetError::OfSheet(_) => PAGE_REFUSED,
+        TrapsheetError::OfSheet(_) | TrapsheetError::Changed(_) => PAGE_REFUSED,
     }
 }

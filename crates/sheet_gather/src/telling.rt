@@ -24,6 +24,7 @@ pub fn stop_line(stop: &TrapsheetError) -> Line
     match stop {
         TrapsheetError::Common(refusal) => fault_line(refusal),
         TrapsheetError::OfSheet(refusal) => refusal_line(refusal),
+        TrapsheetError::Changed(plate) => Line::of_number(b"sheet: Changed in plate ", *plate),
     }
 }
 

@@ -4,3 +4,10 @@ pub mod RackLemmas
 pub mod EndLemmas
 pub mod LocalityLemmas
 pub mod ClauseLemmas
+pub mod AgainLemmas
+pub mod ReportingLemmas
+pub mod PartLemmas
+pub mod StreamingLemmas
+pub mod PlanLemmas
+pub mod HeldLemmas
+pub mod CarryLemmas

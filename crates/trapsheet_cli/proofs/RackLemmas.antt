@@ -1,9 +1,9 @@
 -- Planes that are written one after another, each by its own rack.
-use Rattle.std.proofs.Common.{◌≡◌, ◌≢◌, ◌⊎◌, ℕ, zero, suc, ◌+◌, ◌<◌, ◌≤◌, List, [], ◌∷◌, length, map, get_or, Option, Some, None, Result, Ok, Err, IsTrue, inl, inr, refl, sym, ap, ◌∙◌, subst, arith}
+use Rattle.std.proofs.Common.{◌≡◌, ◌≢◌, ◌⊎◌, ℕ, zero, suc, ◌+◌, ◌<◌, ◌≤◌, List, [], ◌∷◌, length, map, get_or, Some, None, Result, Ok, Err, IsTrue, inl, inr, refl, sym, ap, ◌∙◌, subst, arith}
 use Rattle.std.specs.Prelude.{slice_set}
 use Rattle.std.proofs.lemmas.Bool.{cases_eq, cases_lt}
 use Rattle.std.proofs.lemmas.List.{get_or-map, get_or_default, length-set, map-set, get_or-set_same, get_or-set_other}
-use Rattle.outside.specs.Causes.{Asks, AsksPrefix}
+use Rattle.outside.specs.Causes.{AsksPrefix}
 use Rattle.outside.specs.Rack.{RackState, KeepsRack}
 use Rattle.outside.specs.Writing.{WritesFile}
 use Rattle.outside.specs.declared.tray.Failed.{Failed}
@@ -20,7 +20,7 @@ use Rattle.refusals.specs.declared.refusal.Refusal.TheVariants.{Write}
 use Rattle.sheet_gather.specs.declared.stop.TrapsheetError.{TrapsheetError}
 use Rattle.sheet_gather.specs.declared.stop.TrapsheetError.TheVariants.{Common}
 use Rattle.verdicts.specs.Verdicts.{Targets}
-use Rattle.trapsheet_cli.specs.Racks.{BreaksSheet, KeepsRacks, WritesFirst, WritesPlates, WritesSheet, plate_file, rack_at, rack_files, rack_names, targets}
+use Rattle.trapsheet_cli.specs.Racks.{BreaksSheet, HoldsPart, KeepsRacks, WritesFirst, WritesPlates, WritesSheet, plate_file, rack_at, rack_files, rack_names, targets}
 
 -- one element of a list was changed, seen through a function
 module _ {X Y : Type 0} (f : X → Y) (none : Y) (xs : List X) (k : ℕ) (d x : X) (within : k < length xs) where
@@ -35,7 +35,7 @@ module _ {X Y : Type 0} (f : X → Y) (none : Y) (xs : List X) (k : ℕ) (d x : 
   pub state_other : (j : ℕ) → j ≢ k → get_or (map f (slice_set xs k x)) j none ≡ get_or (map f xs) j none
   state_other j other = ap (λ (l : List Y). get_or l j none) (map-set f xs k x) ∙ get_or-set_other (map f xs) k j (f x) none other
 
-keeps_same : (a : RackState) → KeepsRack a a
+pub keeps_same : (a : RackState) → KeepsRack a a
 keeps_same a = record { tells = refl; faults = omega arith }
 
 -- one file is written by a rack
@@ -43,18 +43,18 @@ pub wrote_one : {T E : Type 0} (w : Written) (a b : RackState) (x : T) → Write
 wrote_one w a b x now = wrote_more [] w a a b x (keeps_same a) (wrote_none [] a refl) now
 
 -- What becomes of a rack that is asked for a prefix of these files.
-record RackKept (names : List (List ℕ)) (a b : RackState) : Type 0 where
-  keeps : KeepsRack a b
-  told : IsTrue a.tells → b.told ≡ a.told
-  asked : AsksPrefix a.asked b.asked names
+pub record RackKept (names : List (List ℕ)) (a b : RackState) : Type 0 where
+  pub keeps : KeepsRack a b
+  pub told : IsTrue a.tells → b.told ≡ a.told
+  pub asked : AsksPrefix a.asked b.asked names
 
 kept_none : (names : List (List ℕ)) (a : RackState) → RackKept names a a
 kept_none names a = record { keeps = keeps_same a; told = λ tells. refl; asked = asks_none_of a.asked names }
 
-kept_is : (names : List (List ℕ)) (a b : RackState) → b ≡ a → RackKept names a b
+pub kept_is : (names : List (List ℕ)) (a b : RackState) → b ≡ a → RackKept names a b
 kept_is names a b same = subst (λ (r : RackState). RackKept names a r) (sym same) (kept_none names a)
 
-kept_file : {T E : Type 0} (name bytes : List ℕ) (rest : List (List ℕ)) (a b : RackState) (result : Result T E) → WritesFile name bytes a b result → RackKept (name ∷ rest) a b
+pub kept_file : {T E : Type 0} (name bytes : List ℕ) (rest : List (List ℕ)) (a b : RackState) (result : Result T E) → WritesFile name bytes a b result → RackKept (name ∷ rest) a b
 kept_file name bytes rest a b result now = record {
   keeps = now.keeps;
   told = now.told;
@@ -123,9 +123,9 @@ module _ (outputs : List (List ℕ)) (report : List ℕ) (planes : List Plane) (
     breaks_at zero at = breaks_next [] (plate_file (targets outputs report) planes 0) (record { name = report; bytes = text } ∷ []) (rack_at a 0) (rack_at a 0) (rack_at c 0) failed (keeps_same (rack_at a 0)) (wrote_none [] (rack_at a 0) refl) at
     breaks_at (suc k) at = breaks_next [] (plate_file (targets outputs report) planes (suc k)) [] (rack_at a (suc k)) (rack_at a (suc k)) (rack_at c (suc k)) failed (keeps_same (rack_at a (suc k))) (wrote_none [] (rack_at a (suc k)) refl) at
 
-    other_racks : (k : ℕ) → k ≢ count → (rack_at c k ≡ rack_at a k) ⊎ WritesAll (plate_file (targets outputs report) planes k ∷ []) (rack_at a k) (rack_at c k)
+    other_racks : (k : ℕ) → k ≢ count → (rack_at c k ≡ rack_at a k) ⊎ HoldsPart (plate_file (targets outputs report) planes k) (rack_at a k) (rack_at c k) ⊎ WritesAll (plate_file (targets outputs report) planes k ∷ []) (rack_at a k) (rack_at c k)
     other_racks k other = elim (cases_lt k count) [
-      | inl less ↦ inr (subst (λ (r : RackState). WritesAll (plate_file (targets outputs report) planes k ∷ []) (rack_at a k) r) (sym (others k other)) (whole k less))
+      | inl less ↦ inr (inr (subst (λ (r : RackState). WritesAll (plate_file (targets outputs report) planes k ∷ []) (rack_at a k) r) (sym (others k other)) (whole k less)))
       | inr more ↦ inl (others k other ∙ first.others k (omega arith))
     ]
 
@@ -161,9 +161,9 @@ module _ (outputs : List (List ℕ)) (report : List ℕ) (planes : List Plane) (
   all_wrote x now zero less = wrote_more (plate_file (targets outputs report) planes 0 ∷ []) (record { name = report; bytes = text }) (rack_at a 0) (rack_at b 0) (rack_at c 0) x (first.each 0 less).keeps (plates_whole 0 less) now
   all_wrote x now (suc k) less = subst (λ (r : RackState). WritesAll (rack_files (targets outputs report) planes text (suc k)) (rack_at a (suc k)) r) (sym (others (suc k) (omega arith))) (plates_whole (suc k) less)
 
-  report_others : (k : ℕ) → k ≢ 0 → (rack_at c k ≡ rack_at a k) ⊎ WritesAll (plate_file (targets outputs report) planes k ∷ []) (rack_at a k) (rack_at c k)
+  report_others : (k : ℕ) → k ≢ 0 → (rack_at c k ≡ rack_at a k) ⊎ HoldsPart (plate_file (targets outputs report) planes k) (rack_at a k) (rack_at c k) ⊎ WritesAll (plate_file (targets outputs report) planes k ∷ []) (rack_at a k) (rack_at c k)
   report_others k other = elim (cases_lt k (length outputs)) [
-    | inl less ↦ inr (subst (λ (r : RackState). WritesAll (plate_file (targets outputs report) planes k ∷ []) (rack_at a k) r) (sym (others k other)) (plates_whole k less))
+    | inl less ↦ inr (inr (subst (λ (r : RackState). WritesAll (plate_file (targets outputs report) planes k ∷ []) (rack_at a k) r) (sym (others k other)) (plates_whole k less)))
     | inr more ↦ inl (others k other ∙ first.others k (omega arith))
   ]
 

@@ -1,5 +1,5 @@
 -- The new tints of a sheet of any sides are at most its maxval.
-use Rattle.std.proofs.Common.{◌≡◌, ℕ, ◌+◌, ◌*◌, ◌-◌, ◌/◌, ◌<◌, ◌≤◌, ◌&&◌, List, length, Option, Some, None, inl, inr, refl, arith}
+use Rattle.std.proofs.Common.{ℕ, ◌+◌, ◌*◌, ◌-◌, ◌/◌, ◌<◌, ◌≤◌, ◌&&◌, length, Option, Some, None, inl, inr, arith}
 use Rattle.std.specs.List.{All}
 use Rattle.std.proofs.lemmas.Bool.{cases_Bool}
 use Rattle.std.proofs.lemmas.Nat.{mul-add-lt}
@@ -17,7 +17,7 @@ use Rattle.page_model.specs.Page.{InPage, height, ink_at, maxval, no_zone, param
 use Rattle.page_model.specs.Planes.{no_plane, plane_at}
 use Rattle.page_model.specs.Tints.{full, full_density, new, new_from, new_in, new_tints, scaled_in, trapped_plane, trapped_planes}
 use Rattle.page_model.specs.Trapped.{trapped_in}
-use Rattle.page_model.specs.Zones.{greatest_cover, zone_of}
+use Rattle.page_model.specs.Zones.{zone_of}
 use Rattle.page_model.proofs.DeciderLemmas.{Decides, decider-is}
 use Rattle.page_model.proofs.DensityLemmas.{density-le-full}
 use Rattle.page_model.proofs.ZoneLemmas.{greatest_cover-is}

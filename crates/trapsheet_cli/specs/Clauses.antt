@@ -15,16 +15,18 @@ use Rattle.refusals.specs.Refusals.{line_of}
 use Rattle.refusals.specs.Statuses.{done, usage, job_refused, page_refused, not_read}
 use Rattle.refusals.specs.Statuses.{not_written, out_of_memory}
 use Rattle.refusals.specs.Telling.{KeepsFiles, TellsText}
-use Rattle.sheet_gather.specs.Gathering.{AsksAll, FailsToRead, IsMadeSheet, RefusesFiles}
-use Rattle.sheet_gather.specs.Gathering.{TakesTrays}
+use Rattle.sheet_gather.specs.Gathering.{AsksTwice, FailsAgain, FailsToRead, HasChanged}
+use Rattle.sheet_gather.specs.Gathering.{IsMadeSheet, RefusesFiles, TakesTrays, TakesTwice}
 use Rattle.sheet_gather.specs.Inputs.{SheetInputs, held_by, sheet_of}
 use Rattle.sheet_gather.specs.Stops.{line_of_stop, status_of_stop}
 use Rattle.sheet_gather.specs.Trays.{AllTell, IsCalm, tray_at}
 use Rattle.sheet_gather.specs.Verdicts.{IsSheetVerdict, Accepted, Refused}
 use Rattle.sheet_gather.specs.declared.stop.TrapsheetError.{TrapsheetError}
+use Rattle.sheet_gather.specs.declared.stop.TrapsheetError.TheVariants.{Changed, Common}
 use Rattle.trapsheet_cli.specs.Endings.{sheet_files, sheet_report}
 use Rattle.verdicts.specs.Locality.{ChangesNearEdges}
-use Rattle.trapsheet_cli.specs.Racks.{BreaksSheet, KeepsRacks, rack_at, rack_names}
+use Rattle.trapsheet_cli.specs.Racks.{BreaksSheet, HoldParts, KeepsRacks, rack_at, rack_names}
+use Rattle.trapsheet_cli.specs.Strips.{IsWhole}
 use Rattle.trapsheet_cli.specs.Text.{usage_line}
 use Rattle.trapsheet_cli.specs.Words.{SheetWords, order_of, sources_of, targets_of}
 
@@ -56,7 +58,7 @@ pub record Writes (order : SheetWords) (trays : List TrayState)
       → WritesAll (sheet_files (targets_of order) sheet k) (rack_at racks k) (rack_at racks' k)
 
 -- Status 0 comes only where no count rose. The files are then written, all inputs were begun, each
--- in its order, and nothing is told.
+-- in its order and each plate twice, and nothing is told.
 pub record Success (words : List (List ℕ)) (trays trays' : List TrayState)
     (racks racks' : List RackState) (status : ℕ) : Type 0 where
   pub calm : status ≡ done → (k : ℕ) → IsCalm trays trays' k
@@ -66,7 +68,7 @@ pub record Success (words : List (List ℕ)) (trays trays' : List TrayState)
   pub silent : (order : SheetWords) → Mean words order → status ≡ done → (k : ℕ)
       → IsTrue (rack_at racks k).tells → (rack_at racks' k).told ≡ (rack_at racks k).told
   pub begun : (order : SheetWords) → Mean words order → status ≡ done → (k : ℕ)
-      → k < length (sources_of order).inputs → AsksAll (sources_of order) trays trays' k
+      → k < length (sources_of order).inputs → AsksTwice (sources_of order) trays trays' k
 
 -- Status 2 comes exactly where the words mean no sheet. The usage line is then told to the first
 -- rack, and else every tray and rack is as before.
@@ -80,44 +82,88 @@ pub record Usage (words : List (List ℕ)) (trays trays' : List TrayState)
   pub same_trays : order_of words ≡ None → trays' ≡ trays
 
 -- What comes where the files are refused: the stop's status, the verdict, the names that were
--- handed to `begin`, that no fault of a tray was passed over, and the line.
+-- handed to `begin`, that no fault of a tray was passed over, and the line. No file is created or
+-- changed.
 pub record RefusesInput (order : SheetWords) (trays trays' : List TrayState)
     (racks racks' : List RackState) (status : ℕ) (stop : TrapsheetError) : Type 0 where
   pub status_is : status ≡ status_of_stop stop
   pub files : RefusesFiles (sources_of order) trays trays' stop
   pub line : TellsText (line_of_stop stop) (rack_at racks 0) (rack_at racks' 0)
+  pub kept : (k : ℕ) → KeepsFiles (rack_at racks k) (rack_at racks' k)
 
--- Status 3 and 4 come only where the verdict is a refusal of that status; and where it is one, and
--- no tray's count rose, its status comes, or 7.
+-- A command stopped while its plates were read again, at a sheet that was made: of each plate a
+-- prefix of its bytes stands, or it was not begun; no report is. Then the line of the stop was told
+-- to the first rack, and nothing else was changed.
+pub record StopsInParts (order : SheetWords) (trays : List TrayState)
+    (racks racks' : List RackState) (stop : TrapsheetError) : Type 0 where
+  pub sheet : PageParts
+  pub made : IsMadeSheet (sources_of order) trays sheet
+  pub between : List RackState
+  pub parts : HoldParts (targets_of order) (trapped_planes sheet) racks between
+  pub silent : KeepsRacks (targets_of order) racks between
+  pub line : TellsText (line_of_stop stop) (rack_at between 0) (rack_at racks' 0)
+  pub files : KeepsFiles (rack_at between 0) (rack_at racks' 0)
+  pub others : (k : ℕ) → k ≢ 0 → rack_at racks' k ≡ rack_at between k
+
+-- A plate has changed since it was judged.
+pub record Changes (order : SheetWords) (trays trays' : List TrayState)
+    (racks racks' : List RackState) (status : ℕ) (plate : ℕ) : Type 0 where
+  pub status_is : status ≡ page_refused
+  pub changed : HasChanged (sources_of order) plate trays trays'
+  pub stops : StopsInParts order trays racks racks' (Changed plate)
+
+-- Status 3 and 4 come only where the verdict is a refusal of that status, or, status 4, where a
+-- plate has changed whose tray does not tell its file. Where the verdict is a refusal, and no
+-- tray's count rose, its status comes, or 7.
 pub record RefusedInput (words : List (List ℕ)) (trays trays' : List TrayState)
     (racks racks' : List RackState) (status : ℕ) : Type 0 where
   pub only : (order : SheetWords) → Mean words order
       → (status ≡ job_refused) ⊎ (status ≡ page_refused)
-      → (stop : TrapsheetError) × RefusesInput order trays trays' racks racks' status stop
+      → ((stop : TrapsheetError) × RefusesInput order trays trays' racks racks' status stop)
+      ⊎ ((plate : ℕ) × Changes order trays trays' racks racks' status plate)
   pub always : (order : SheetWords) (stop : TrapsheetError) → Mean words order → Tell order trays
       → IsSheetVerdict (held_by trays (sources_of order)) (sources_of order).names (Refused stop)
       → NoTrayRose trays trays'
       → (status ≡ status_of_stop stop) ⊎ (status ≡ out_of_memory)
 
--- Status 5 comes only where a tray's count rose. What was read before has no fault, and the line
--- names the file whose read failed. At every status each tray was asked for a prefix of its own
--- files alone, and no more was taken of the one in hand than is owed. A failed write passes no
--- fault of a tray over, and out of memory none of the first.
+-- The first reading failed at a file. What was read before has no fault, no file is created or
+-- changed, and each tray was asked for a prefix of its own files.
+pub record FailsAtFirst (order : SheetWords) (trays trays' : List TrayState)
+    (racks racks' : List RackState) (file : Option ℕ) : Type 0 where
+  pub fails : FailsToRead (sources_of order) trays trays' file
+  pub takes : TakesTrays (sources_of order) trays trays'
+  pub line : TellsText (line_of (Read file)) (rack_at racks 0) (rack_at racks' 0)
+  pub kept : (k : ℕ) → KeepsFiles (rack_at racks k) (rack_at racks' k)
+
+-- The second one failed at a plate.
+pub record FailsLater (order : SheetWords) (trays trays' : List TrayState)
+    (racks racks' : List RackState) (plate : ℕ) : Type 0 where
+  pub fails : FailsAgain (sources_of order) plate trays trays'
+  pub stops : StopsInParts order trays racks racks' (Common (Read (Some plate)))
+
+-- Status 5 comes only where a tray's count rose. The line names the file whose read failed. In the
+-- first reading no file is created or changed; in the second of each plate a prefix stands of what
+-- the verdict asks for, or nothing. At every status each tray was asked for a prefix of its own
+-- files alone, its plate twice at most, and no more was taken of the one in hand than is owed. A
+-- failed write and out of memory pass no fault of a tray over. Where memory ran out no plate was read
+-- twice, but of a sheet that no strips of one height can be cut of.
 pub record ReadFault (words : List (List ℕ)) (trays trays' : List TrayState)
     (racks racks' : List RackState) (status : ℕ) : Type 0 where
   pub cause : status ≡ not_read
       → (k : ℕ) × Rose (tray_at trays k).faults (tray_at trays' k).faults
   pub breaks : (order : SheetWords) → Mean words order → status ≡ not_read
-      → (file : Option ℕ) × FailsToRead (sources_of order) trays trays' file
-      × TellsText (line_of (Read file)) (rack_at racks 0) (rack_at racks' 0)
-  pub takes : (order : SheetWords) → Mean words order → TakesTrays (sources_of order) trays trays'
-  pub calm : status ≡ not_written → (k : ℕ) → IsCalm trays trays' k
-  pub first : status ≡ out_of_memory → IsCalm trays trays' 0
+      → ((file : Option ℕ) × FailsAtFirst order trays trays' racks racks' file)
+      ⊎ ((plate : ℕ) × FailsLater order trays trays' racks racks' plate)
+  pub takes : (order : SheetWords) → Mean words order → TakesTwice (sources_of order) trays trays'
+  pub calm : (status ≡ not_written) ⊎ (status ≡ out_of_memory)
+      → (k : ℕ) → IsCalm trays trays' k
+  pub once : (order : SheetWords) → Mean words order → status ≡ out_of_memory
+      → TakesTrays (sources_of order) trays trays' ⊎ IsWhole (sources_of order) trays
 
 -- What comes where a write fails, at a sheet that was made. Of the rack of that file, those before
 -- it are whole, and it holds a prefix of its bytes or is as before; each other rack is as before,
--- or has written its plate whole. Then the line was told to the first rack, and nothing else was
--- changed; it names the file.
+-- or its plate stands in part or whole. Then the line was told to the first rack, and nothing else
+-- was changed; it names the file.
 pub record FailsToWrite (order : SheetWords) (trays : List TrayState)
     (racks racks' : List RackState) : Type 0 where
   pub sheet : PageParts
@@ -145,11 +191,11 @@ pub record WriteFault (words : List (List ℕ)) (trays : List TrayState)
   pub beyond : (order : SheetWords) → Mean words order → (k : ℕ)
       → length (targets_of order).outputs ≤ k → rack_at racks' k ≡ rack_at racks k
 
--- For every status but 0 and 6 no file is created, and the racks' files are as before. Status 7 is
--- out of memory.
+-- For every status but 0, 4, 5 and 6 no file is created, and the racks' files are as before; of
+-- 4 and 5 the clauses above say when. Status 7 is out of memory.
 abbrev pub LeavesFiles : List RackState → List RackState → ℕ → Type 0
-LeavesFiles racks racks' status = status ≢ done → status ≢ not_written → (k : ℕ)
-    → KeepsFiles (rack_at racks k) (rack_at racks' k)
+LeavesFiles racks racks' status = status ≢ done → status ≢ page_refused → status ≢ not_read
+    → status ≢ not_written → (k : ℕ) → KeepsFiles (rack_at racks k) (rack_at racks' k)
 
 -- Every stop tells its line to the first rack and nothing else; that of a failed write is the line
 -- of `write_fault`, and that of words that mean no sheet the one of `usage`. Nothing is told to

@@ -12,16 +12,15 @@ use Rattle.page_writing.specs.Writing.{WritesAll}
 use Rattle.refusals.specs.declared.refusal.Refusal.TheVariants.{Memory, Read, Write}
 use Rattle.refusals.specs.Statuses.{done, usage}
 use Rattle.refusals.specs.Telling.{KeepsFiles, TellsText}
-use Rattle.sheet_cuts.specs.declared.budget.Budget.{Budget}
-use Rattle.sheet_cuts.specs.declared.cutting.Cutting.{Cutting}
-use Rattle.sheet_gather.specs.Gathering.{AsksAll, FailsToRead, GathersSheet, IsMadeSheet}
-use Rattle.sheet_gather.specs.Gathering.{RefusesFiles, TakesTrays}
+use Rattle.sheet_gather.specs.Gathering.{AsksAll, AsksTwice, FailsAgain, FailsToRead, HasChanged}
+use Rattle.sheet_gather.specs.Gathering.{IsMadeSheet, RefusesFiles, TakesTrays, TakesTwice}
 use Rattle.sheet_gather.specs.Stops.{RefusesSheet}
 use Rattle.sheet_gather.specs.Trays.{IsCalm}
 use Rattle.sheet_gather.specs.declared.stop.TrapsheetError.{TrapsheetError}
-use Rattle.sheet_gather.specs.declared.stop.TrapsheetError.TheVariants.{Common}
+use Rattle.sheet_gather.specs.declared.stop.TrapsheetError.TheVariants.{Changed, Common}
 use Rattle.trap_report.specs.Report.{report_of}
-use Rattle.trapsheet_cli.specs.Racks.{BreaksSheet, KeepsRacks, rack_at, rack_files}
+use Rattle.trapsheet_cli.specs.Racks.{BreaksSheet, HoldParts, KeepsRacks, rack_at, rack_files}
+use Rattle.trapsheet_cli.specs.Strips.{IsWhole}
 use Rattle.trapsheet_cli.specs.Text.{usage_line}
 use Rattle.trapsheet_cli.specs.Words.{SheetWords, order_of, sources_of, targets_of}
 use Rattle.verdicts.specs.Verdicts.{Targets}
@@ -35,13 +34,6 @@ sheet_report sheet = report_of sheet (page_counts sheet)
 abbrev pub sheet_files : Targets → PageParts → ℕ → List Written
 sheet_files target sheet k = rack_files target (trapped_planes sheet) (sheet_report sheet) k
 
--- The sheet is gathered; or there was no memory for the names of its files, and none was begun.
-abbrev pub ReadsSheet : Sources → Budget → List TrayState → List TrayState
-    → Result Cutting TrapsheetError → Type 0
-ReadsSheet source budget before after result =
-    ((after ≡ before) × (result ≡ Err (Common Memory))) ⊎ GathersSheet source budget before after
-    result
-
 -- A sheet is trapped, and its files are written.
 pub data PutsOut (target : Targets) (sheet : PageParts) (before after : List RackState)
     (result : Result (Unit {0}) TrapsheetError) : Type 0 where
@@ -54,33 +46,44 @@ pub data PutsOut (target : Targets) (sheet : PageParts) (before after : List Rac
   no_memory : result ≡ Err (Common Memory) → after ≡ before
       → PutsOut target sheet before after result
 
--- A sheet is read and put out.
+-- A sheet is judged, read again, trapped and put out: up to the first thing that stops it.
 pub data Carries (source : Sources) (target : Targets) (trays trays' : List TrayState)
     (racks racks' : List RackState) (result : Result (Unit {0}) TrapsheetError) : Type 0 where
   carried : (sheet : PageParts) → result ≡ Ok tt → IsMadeSheet source trays sheet
-      → ((k : ℕ) → k < length source.inputs → AsksAll source trays trays' k)
+      → ((k : ℕ) → k < length source.inputs → AsksTwice source trays trays' k)
       → ((k : ℕ) → IsCalm trays trays' k)
       → ((k : ℕ) → k < length target.outputs
       → WritesAll (sheet_files target sheet k) (rack_at racks k) (rack_at racks' k))
       → Carries source target trays trays' racks racks' result
   refused : (stop : TrapsheetError) → result ≡ Err stop → RefusesFiles source trays trays' stop
-      → racks' ≡ racks → Carries source target trays trays' racks racks' result
+      → TakesTrays source trays trays' → racks' ≡ racks
+      → Carries source target trays trays' racks racks' result
   unread : (file : Option ℕ) → result ≡ Err (Common (Read file))
-      → FailsToRead source trays trays' file → racks' ≡ racks
+      → FailsToRead source trays trays' file → TakesTrays source trays trays'
+      → racks' ≡ racks → Carries source target trays trays' racks racks' result
+  no_memory : result ≡ Err (Common Memory) → ((k : ℕ) → IsCalm trays trays' k)
+      → TakesTrays source trays trays' ⊎ IsWhole source trays → racks' ≡ racks
+      → Carries source target trays trays' racks racks' result
+  changed : (sheet : PageParts) (plate : ℕ) → result ≡ Err (Changed plate)
+      → IsMadeSheet source trays sheet → HasChanged source plate trays trays'
+      → HoldParts target (trapped_planes sheet) racks racks'
+      → Carries source target trays trays' racks racks' result
+  unread_again : (sheet : PageParts) (plate : ℕ) → result ≡ Err (Common (Read (Some plate)))
+      → IsMadeSheet source trays sheet → FailsAgain source plate trays trays'
+      → HoldParts target (trapped_planes sheet) racks racks'
       → Carries source target trays trays' racks racks' result
   unwritten : (sheet : PageParts) (file : Option ℕ) → result ≡ Err (Common (Write file))
       → IsMadeSheet source trays sheet
-      → ((k : ℕ) → k < length source.inputs → AsksAll source trays trays' k)
+      → ((k : ℕ) → k < length source.inputs
+      → AsksAll source trays trays' k ⊎ AsksTwice source trays trays' k)
       → ((k : ℕ) → IsCalm trays trays' k)
       → BreaksSheet target (trapped_planes sheet) (sheet_report sheet) file racks racks'
       → Carries source target trays trays' racks racks' result
-  no_memory : result ≡ Err (Common Memory) → ((k : ℕ) → IsCalm trays trays' k)
-      → racks' ≡ racks → Carries source target trays trays' racks racks' result
 
 -- the same, with what is so of the trays and the racks however it ends
 pub record CarriesOut (order : SheetWords) (trays trays' : List TrayState)
     (racks racks' : List RackState) (result : Result (Unit {0}) TrapsheetError) : Type 0 where
-  pub takes : TakesTrays (sources_of order) trays trays'
+  pub takes : TakesTwice (sources_of order) trays trays'
   pub keeps : KeepsRacks (targets_of order) racks racks'
   pub answer : Carries (sources_of order) (targets_of order) trays trays' racks racks' result
 

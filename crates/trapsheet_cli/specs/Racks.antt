@@ -1,9 +1,9 @@
 -- Several racks, of which each writes the file of one plate, and the first one the report after
 -- its plate.
 use Rattle.std.specs.Prelude.{◌≡◌, ◌≢◌, ◌⊎◌, ℕ, zero, suc, ◌<◌, ◌≤◌, false, IsTrue, List, [], ◌∷◌}
-use Rattle.std.specs.Prelude.{length, Option, Some, None, slice_index_or, Result, Ok, Err}
-use Rattle.outside.specs.Causes.{AsksPrefix, RoseOnce}
-use Rattle.outside.specs.Rack.{RackState, KeepsRack}
+use Rattle.std.specs.Prelude.{length, take, Option, Some, None, slice_index_or, Result, Ok, Err}
+use Rattle.outside.specs.Causes.{Asks, AsksPrefix, RoseOnce}
+use Rattle.outside.specs.Rack.{RackState, KeepsRack, put}
 use Rattle.outside.specs.Writing.{WritesFile}
 use Rattle.outside.specs.declared.tray.Failed.{Failed}
 use Rattle.page_gather.specs.Inputs.{name_at}
@@ -66,8 +66,25 @@ abbrev pub place_in : Option ℕ → ℕ
 place_in None = 1
 place_in (Some plate) = 0
 
+-- Of a file that was created a prefix of its bytes stands under its name. It is open still, and all
+-- else is as it was.
+pub record HoldsPart (file : Written) (before after : RackState) : Type 0 where
+  pub asked : Asks before.asked after.asked (file.name ∷ [])
+  pub finished : after.finished ≡ before.finished
+  pub is_open : IsTrue after.is_open
+  pub part : IsTrue before.tells
+      → (count : ℕ) × (after.file ≡ put file.name (take count file.bytes) before.file)
+  pub well : after.faults ≡ before.faults
+
+-- Of each plate a prefix stands, or it was not begun. No report is begun.
+abbrev pub HoldParts : Targets → List Plane → List RackState → List RackState → Type 0
+HoldParts target planes before after = (k : ℕ) → k < length target.outputs
+    → (rack_at after k ≡ rack_at before k)
+    ⊎ HoldsPart (plate_file target planes k) (rack_at before k) (rack_at after k)
+
 -- The write of that file failed: its rack has written the files before it whole, and of it a
--- prefix, or it is as before. Each other rack is as it was, or has written its plate whole.
+-- prefix, or it is as before. Each other rack is as it was, or of its plate a prefix stands, or its
+-- plate is whole.
 pub record BreaksSheet (target : Targets) (planes : List Plane) (text : List ℕ)
     (file : Option ℕ) (before after : List RackState) : Type 0 where
   pub known : tray_of file < length target.outputs
@@ -75,6 +92,7 @@ pub record BreaksSheet (target : Targets) (planes : List Plane) (text : List ℕ
       (rack_at before (tray_of file)) (rack_at after (tray_of file))
   pub once : RoseOnce (rack_at before (tray_of file)).faults (rack_at after (tray_of file)).faults
   pub others : (k : ℕ) → k ≢ tray_of file → (rack_at after k ≡ rack_at before k)
+      ⊎ HoldsPart (plate_file target planes k) (rack_at before k) (rack_at after k)
       ⊎ WritesAll (plate_file target planes k ∷ []) (rack_at before k) (rack_at after k)
 
 -- Each plane is written as a plate by its own rack, and then the text as the report by the first.

@@ -3,13 +3,14 @@ ghost use Rattle.page_model.specs.Counts.{page_counts};
 ghost use Rattle.page_model.specs.Page.{plates};
 ghost use Rattle.page_model.specs.Tints.{trapped_planes};
 ghost use Rattle.strip_tiles.specs.Whole.{IsCounted};
-ghost use Rattle.trap_report.specs.Report.{AreCounts, report_of};
+ghost use Rattle.trap_report.specs.Report.{report_of};
 ghost use Rattle.trapsheet_cli.specs.Trapping.{CanTrap, CanTrapCut, IsTrappedSheet, plane_with, sheet_in};
 ghost use Rattle.window_pages.specs.Sheets.{IsCuttable};
 
+use crate::reporting::told_counts;
 use lists::list::List;
 use page_model::page::Page;
-use page_model::parts::{Counts, Name, OutOfMemory, Plane, PlaneList, Tints};
+use page_model::parts::{Name, OutOfMemory, Plane, PlaneList, Tints};
 use page_tally::Trapped;
 use sheet_cuts::cutting::{CutSheet, Cutting};
 use std::alloc::Global;
@@ -110,28 +111,8 @@ fn sheet_report(alloc: Global, sheet: &Sheet, counts: SheetCounts) -> Result<Nam
     ensures { IfOk result (λ text. text ≡ report_of sheet.now (page_counts sheet.now)) }
 {
     let _valid = sheet.plates();
-    let counts = counts_of(sheet, counts);
+    let counts = told_counts(counts);
     report_parts(alloc, sheet.parts(), &counts)
-}
-
-// What is counted of a sheet, as the report tells it.
-fn counts_of(sheet: &Sheet, counts: SheetCounts) -> Counts
-    requires { IsCounted sheet.now counts }
-    ensures value { result ≡ page_counts sheet.now }
-    ensures each { AreCounts sheet.now result }
-{
-    let SheetCounts {
-        zone_samples,
-        zone_changed,
-        plate_changed,
-        edges,
-    } = counts;
-    Counts {
-        zone_samples: List::from_vec(zone_samples),
-        zone_changed: List::from_vec(zone_changed),
-        edges,
-        plate_changed: List::from_vec(plate_changed),
-    }
 }
 
 // The planes of these tints, with the sides and the maxval of a sheet.

@@ -1,23 +1,35 @@
-ghost use Rattle.std.specs.Prelude.{◌≡◌, ◌≤◌, length, map};
-ghost use Rattle.page_model.specs.Page.{plates};
-ghost use Rattle.sheet_gather.specs.Gathering.{GathersSheet};
-ghost use Rattle.trapsheet_cli.specs.Endings.{CarriesOut, EndsSheet, PutsOut, ReadsSheet, RefusesFirst};
+ghost use Rattle.std.specs.Prelude.{◌≡◌, ◌<◌, ◌≤◌, ◌^◌, length, map, None};
+ghost use Rattle.bare_sheets.specs.Bare.{IsBareSheet, bare_sheet};
+ghost use Rattle.bare_sheets.specs.Planned.{IsPlan};
+ghost use Rattle.page_model.specs.Page.{height, plates, width};
+ghost use Rattle.sheet_cuts.specs.Refusals.{sheet_refusal};
+ghost use Rattle.sheet_loop.specs.Second.{course_of};
+ghost use Rattle.trapsheet_cli.specs.Endings.{CarriesOut, EndsSheet, PutsOut, RefusesFirst};
 ghost use Rattle.trapsheet_cli.specs.Held.{IsWithin, order_in};
+ghost use Rattle.trapsheet_cli.specs.Planned.{PutsPlanned, PutsWhole};
+ghost use Rattle.trapsheet_cli.specs.Streaming.{StreamsBy, StreamsOut};
 ghost use Rattle.trapsheet_cli.specs.Trapping.{CanTrap, sheet_in};
-ghost use Rattle.trapsheet_cli.specs.Words.{sources_of, targets_of};
+ghost use Rattle.trapsheet_cli.specs.Words.{targets_of};
 ghost use Rattle.sheet_windows.specs.Sheets.{IsSheet};
 
+use crate::holding::hold;
 use crate::outcome::outcome_of;
+use crate::streaming::stream;
 use crate::words::SheetArgs;
 use crate::writing::write_sheet;
+use bare_sheets::plan::{Plan, Rulers};
 use outside::rack::Rack;
 use outside::tray::Tray;
+use page_model::parts::PageParts;
 use plain_words::files::{plate_inputs, plate_names, plate_outputs};
+use plate_rows::laws::no_change;
 use refusals::refusal::Refusal;
 use refusals::statuses::DONE;
 use sheet_cuts::budget::Budget;
-use sheet_cuts::cutting::Cutting;
-use sheet_gather::gather::gather_sheet;
+use sheet_cuts::cutting::{Cutting, cut_sheet};
+use sheet_gather::judging::judge_sheet;
+use sheet_gather::laws::sheet_is_reread;
+use sheet_gather::planning::PlannedSheet;
 use sheet_gather::stop::TrapsheetError;
 use sheet_gather::telling::refuse_sheet;
 use std::alloc::Global;
@@ -52,7 +64,7 @@ fn refuse_first<R: Rack>(racks: &mut [R], stop: &TrapsheetError) -> u8
     refuse_sheet(&mut racks[0], stop)
 }
 
-// Reads the sheet, traps it, and only then writes.
+// Judges the sheet, reads it once more, traps it and writes its files.
 fn carry_out<H: Threads + Sync, T: Tray, R: Rack>(
     rt: &H,
     alloc: Global,
@@ -67,32 +79,133 @@ fn carry_out<H: Threads + Sync, T: Tray, R: Rack>(
     ensures { CarriesOut (order_in order.now) (map T.state trays.old) (map T.state trays.new)
         (map R.state racks.old) (map R.state racks.new) result }
 {
-    match read_sheet(alloc, order, budget, trays) {
-        Ok(cutting) => put_out(rt, alloc, order, &cutting, racks),
+    no_change();
+    sheet_is_reread();
+    let (Ok(names), Ok(inputs)) = (
+        plate_names(alloc, order.plates),
+        plate_inputs(alloc, order.plates),
+    ) else {
+        return Err(TrapsheetError::Common(Refusal::Memory));
+    };
+    match judge_sheet(alloc, trays, order.job, &names, inputs.as_slice(), budget) {
+        Ok(planned) => put_planned(
+            rt,
+            alloc,
+            order,
+            budget,
+            &planned,
+            inputs.as_slice(),
+            trays,
+            racks,
+        ),
         Err(stop) => Err(stop),
     }
 }
 
-// Gathers the sheet of the job and the plates, and cuts it within a budget for each window.
-fn read_sheet<T: Tray>(
+// Reads a sheet that was judged once more, traps it and writes its files, strip by strip where it can be cut so.
+fn put_planned<H: Threads + Sync, T: Tray, R: Rack>(
+    rt: &H,
     alloc: Global,
     order: &SheetArgs<'_>,
     budget: &Budget,
+    planned: &PlannedSheet,
+    inputs: &[&str],
     trays: &mut [T],
-) -> Result<Cutting, TrapsheetError>
+    racks: &mut [R],
+) -> Result<(), TrapsheetError>
     requires within { IsWithin order.now }
     requires trays { 16 ≤ length trays.old }
-    ensures { ReadsSheet (sources_of (order_in order.now)) budget.now (map T.state trays.old)
-        (map T.state trays.new) result }
+    requires racks { 16 ≤ length racks.old }
+    requires valid { IsBareSheet planned.now.bare }
+    requires blank { bare_sheet planned.now.bare ≡ planned.now.bare }
+    requires accepted { sheet_refusal planned.now.bare ≡ None }
+    requires plan { IsPlan planned.now.bare budget.now planned.now.plan }
+    requires inputs { length inputs.now ≡ plates planned.now.bare }
+    requires count { length order.now.plates.now ≡ plates planned.now.bare }
+    ensures { PutsPlanned (targets_of (order_in order.now)) (map (λ file. file.now) inputs.now)
+        planned.now.bare (map T.state trays.old) (map T.state trays.new)
+        (map R.state racks.old) (map R.state racks.new) result }
 {
-    match (
-        plate_names(alloc, order.plates),
-        plate_inputs(alloc, order.plates),
-    ) {
-        (Ok(names), Ok(inputs)) => {
-            gather_sheet(alloc, trays, order.job, &names, inputs.as_slice(), budget)
+    let bare = &planned.bare;
+    match planned.plan {
+        Plan::Strips(rulers) => {
+            put_strips(rt, alloc, order, bare, &rulers, inputs, trays, racks)
         }
-        _ => Err(TrapsheetError::Common(Refusal::Memory)),
+        Plan::Windows(_rulers) => put_whole(rt, alloc, order, budget, bare, inputs, trays, racks),
+        Plan::Page => put_whole(rt, alloc, order, budget, bare, inputs, trays, racks),
+    }
+}
+
+// The same of a sheet that streams in strips by these rulers.
+fn put_strips<H: Threads + Sync, T: Tray, R: Rack>(
+    rt: &H,
+    alloc: Global,
+    order: &SheetArgs<'_>,
+    bare: &PageParts,
+    rulers: &Rulers,
+    inputs: &[&str],
+    trays: &mut [T],
+    racks: &mut [R],
+) -> Result<(), TrapsheetError>
+    requires within { IsWithin order.now }
+    requires trays { 16 ≤ length trays.old }
+    requires racks { 16 ≤ length racks.old }
+    requires can { StreamsBy bare.now rulers.now }
+    requires inputs { length inputs.now ≡ plates bare.now }
+    requires count { length order.now.plates.now ≡ plates bare.now }
+    ensures { let target = targets_of (order_in order.now) in
+        let course = course_of (map (λ file. file.now) inputs.now) target.outputs (map T.state trays.old) (map R.state racks.old) in
+        StreamsOut course target.report bare.now (map T.state trays.new) (map R.state racks.new)
+        result }
+{
+    let Ok(outputs) = plate_outputs(alloc, order.plates) else {
+        return Err(TrapsheetError::Common(Refusal::Memory));
+    };
+    stream(
+        rt,
+        alloc,
+        trays,
+        racks,
+        inputs,
+        outputs.as_slice(),
+        order.report,
+        order.workers,
+        bare,
+        rulers,
+    )
+}
+
+// The same of a sheet that has no strips of one height: all of its rows are held.
+fn put_whole<H: Threads + Sync, T: Tray, R: Rack>(
+    rt: &H,
+    alloc: Global,
+    order: &SheetArgs<'_>,
+    budget: &Budget,
+    bare: &PageParts,
+    inputs: &[&str],
+    trays: &mut [T],
+    racks: &mut [R],
+) -> Result<(), TrapsheetError>
+    requires within { IsWithin order.now }
+    requires trays { 16 ≤ length trays.old }
+    requires racks { 16 ≤ length racks.old }
+    requires valid { IsBareSheet bare.now }
+    requires blank { bare_sheet bare.now ≡ bare.now }
+    requires accepted { sheet_refusal bare.now ≡ None }
+    requires narrow { width bare.now < 2 ^ 30 }
+    requires low { height bare.now < 2 ^ 30 }
+    requires inputs { length inputs.now ≡ plates bare.now }
+    requires count { length order.now.plates.now ≡ plates bare.now }
+    ensures { PutsWhole (targets_of (order_in order.now)) (map (λ file. file.now) inputs.now)
+        bare.now (map T.state trays.old) (map T.state trays.new)
+        (map R.state racks.old) (map R.state racks.new) result }
+{
+    match hold(alloc, trays, inputs, bare) {
+        Ok(parts) => match cut_sheet(parts, budget) {
+            Ok(cutting) => put_out(rt, alloc, order, &cutting, racks),
+            Err(_) => unreachable!(),
+        },
+        Err(stop) => Err(stop),
     }
 }
 

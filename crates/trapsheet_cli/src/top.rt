@@ -25,14 +25,18 @@ const WINDOW: Budget = Budget {
 /// The words are `WORKERS JOB REPORT NAME:IN:OUT ...`: the workers, from 1 to 64, the job's file, the report's, and one to
 /// sixteen plates, each with the name of its colorant, the file that is read and the one that is written. Each plate is read
 /// by the tray and written by the rack of its number. The job is read by the first tray, before its plate, and the report is
-/// written by the first rack, after all plates; lines are told to it. The sheet is trapped window by window, the windows of a
-/// strip by the workers, which are threads of `rt`. What is written is the same for every number of workers, and that of the
-/// undivided sheet.
+/// written by the first rack, after all plates; lines are told to it.
+///
+/// The job and the plates are read to their ends and judged, and nothing is kept of a plate but its header. Then each plate is
+/// begun once more, and strip by strip from the top its rows are read, trapped in windows by the workers, which are threads of
+/// `rt`, and written. A sheet of which no strips of one height can be cut is held with all its rows. What is written is the
+/// same for every number of workers, and that of the undivided sheet.
 ///
 /// The status is 0 where the work is done; 2 where the words mean no sheet; 3 where the job has a fault or lacks the details
-/// of a plate's colorant; 4 where a plate's file has a fault, or the plates are no sheet that can be trapped; 5 where a read
-/// failed; 6 where a write failed; and 7 where memory ran out. Each refusal tells one line that names the cause. No file
-/// is created before all is read and trapped.
+/// of a plate's colorant; 4 where a plate's file has a fault, or the plates are no sheet that can be trapped, or a plate is not
+/// what it was when it is begun once more; 5 where a read failed; 6 where a write failed; and 7 where memory ran out. Each
+/// refusal tells one line that names the cause. No file is created before all memory is taken and each plate has its header
+/// again.
 pub fn trapsheet_main<H: Threads + Sync, T: Tray + Send, R: Rack + Send>(
     rt: &H,
     alloc: Global,

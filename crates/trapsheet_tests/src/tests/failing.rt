@@ -83,13 +83,14 @@ fn is_done(status: u8, racks: &[MemRack]) -> bool {
     status == 0 && whole_of(racks) == Some(3) && files_on(racks) == 3
 }
 
-// How a run ended where a read fails: no file is then there.
+// How a run ended where a read fails: each file is then a prefix, or not there.
 fn read_end(lines: &[&str], status: u8, racks: &[MemRack]) -> Option<End> {
     if is_done(status, racks) {
         return Some(End::Done);
     }
     let line = line_of(lines, racks)?;
-    if status == 5 && files_on(racks) == 0 {
+    let _whole = whole_of(racks)?;
+    if status == 5 {
         Some(End::Line(line))
     } else {
         None

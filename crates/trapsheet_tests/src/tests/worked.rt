@@ -75,3 +75,30 @@ fn the_workers_change_nothing(rt: HostRuntime) -> Result<(), Fail> {
     }
     Ok(())
 }
+
+// A column of twelve samples, cut into several strips: the same edge, from above to below.
+const CYAN_DOWN: &[u8] = b"P5\n1 12\n255\n\0\0\0\0\0\0\xFF\xFF\xFF\xFF\xFF\xFF";
+
+const MAGENTA_DOWN: &[u8] = b"P5\n1 12\n255\n\xFF\xFF\xFF\xFF\xFF\xFF\0\0\0\0\0\0";
+
+const BOTH_CYAN_DOWN: &[u8] = b"P5\n1 12\n255\n\0\0\0\0\0\0\0\xFF\xFF\xFF\xFF\xFF";
+
+const BOTH_MAGENTA_DOWN: &[u8] = b"P5\n1 12\n255\n\xFF\xFF\xFF\xFF\xFF\0\0\0\0\0\0\0";
+
+const DOWN_REPORT: &[u8] =
+    b"trap report\npage 1 12 255 plates 2\nzone 0 samples 12 changed 2\nedges 1\nplate Cyan changed 1\nplate Magenta changed 1\nend\n";
+
+#[test]
+fn strips_make_the_sheet(rt: HostRuntime) -> Result<(), Fail> {
+    for windows in WINDOWS {
+        let case = case_of(&[INKS, SPREAD], &[&[CYAN_DOWN], &[MAGENTA_DOWN]], *windows);
+        let wanted = Wanted {
+            status: 0,
+            told: "",
+            plates: &[BOTH_CYAN_DOWN, BOTH_MAGENTA_DOWN],
+            report: Some(DOWN_REPORT),
+        };
+        assert!(rt; ends(&rt, rt.alloc(), case, wanted)?);
+    }
+    Ok(())
+}

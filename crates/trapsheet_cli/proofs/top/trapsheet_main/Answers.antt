@@ -1,4 +1,4 @@
-use Rattle.std.proofs.Common.{map, string_bytes, Global, length}
+use Rattle.std.proofs.Common.{map, string_bytes, Global}
 use Rattle.sheet_gather.specs.Inputs.{held_by}
 use Rattle.trapsheet_cli.specs.Words.{sources_of}
 use Rattle.trapsheet_cli.proofs.ClauseLemmas.{completeness, fault_line, leaves_files, read_fault, refused_input, success, usage, write_fault}

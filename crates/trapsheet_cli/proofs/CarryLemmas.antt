@@ -1,0 +1,289 @@
+-- How a command ends, from how its sheet was judged and put out.
+use Rattle.std.proofs.Common.{◌≡◌, ℕ, ◌<◌, ◌≤◌, List, length, Some, None, Result, Ok, Err, inl, inr, refl, sym, ap, ◌∙◌, subst, arith}
+use Rattle.std.proofs.lemmas.Bool.{cases_lt}
+use Rattle.std.proofs.lemmas.List.{length-map}
+use Rattle.bare_sheets.specs.Bare.{bare_sheet}
+use Rattle.bare_sheets.specs.Begun.{BeginsWith}
+use Rattle.bare_sheets.proofs.BareLemmas.{plates_is}
+use Rattle.outside.specs.Rack.{RackState}
+use Rattle.outside.specs.Tray.{TrayState}
+use Rattle.page_gather.specs.Inputs.{Sources, name_at}
+use Rattle.page_model.specs.declared.parts.PageParts.{PageParts}
+use Rattle.page_model.specs.Page.{plates}
+use Rattle.page_model.specs.Tints.{trapped_planes}
+use Rattle.pgm_plates.specs.declared.bounds.Bounds.TheVariants.{Sheet}
+use Rattle.pgm_plates.specs.declared.rows.OpenPlate.{OpenPlate}
+use Rattle.pgm_plates.specs.Reading.{ReadsPlateWithin}
+use Rattle.pgm_plates.specs.Rows.{plate_with}
+use Rattle.plain_words.specs.Parts.{PlateNames}
+use Rattle.plate_rows.specs.Laws.{NoChange}
+use Rattle.plate_rows.specs.Rereading.{HaveRead, StopsReading}
+use Rattle.plate_rows.specs.Trays.{EachTray, TakesFiles}
+use Rattle.plate_rows.specs.declared.stop.RereadError.{RereadError}
+use Rattle.plate_rows.specs.declared.stop.RereadError.TheVariants.{Changed as ChangedAgain, Unread}
+use Rattle.plate_rows.proofs.StopLemmas.{went_whole}
+use Rattle.refusals.specs.declared.refusal.Refusal.TheVariants.{Memory, Read, Write}
+use Rattle.sheet_cuts.specs.declared.budget.Budget.{Budget}
+use Rattle.sheet_gather.specs.declared.planning.PlannedSheet.{PlannedSheet}
+use Rattle.sheet_gather.specs.declared.stop.TrapsheetError.{TrapsheetError}
+use Rattle.sheet_gather.specs.declared.stop.TrapsheetError.TheVariants.{Common}
+use Rattle.sheet_gather.specs.Gathering.{AsksAll, AsksTwice, IsMadeSheet, TakesTrays, TakesTwice}
+use Rattle.sheet_gather.specs.Judging.{AnswersJudging, IsJudged, JudgesSheet}
+use Rattle.sheet_gather.specs.Rereading.{SheetIsReread, tints_read}
+use Rattle.sheet_gather.specs.Trays.{IsCalm, tray_at}
+use Rattle.sheet_loop.specs.Courses.{Course}
+use Rattle.sheet_loop.specs.Second.{IsDone, IsUnread, IsUnwritten, course_of, sheet_header}
+use Rattle.sheet_stream.specs.Reading.{HaveHeader}
+use Rattle.strip_tiles.specs.Whole.{IsCounted}
+use Rattle.tile_counts.specs.declared.counts.SheetCounts.{SheetCounts}
+use Rattle.verdicts.specs.Verdicts.{Targets}
+use Rattle.trapsheet_cli.specs.Endings.{Carries, CarriesOut, PutsOut, sheet_report}
+use Rattle.trapsheet_cli.specs.Planned.{PutsPlanned, PutsWhole}
+use Rattle.trapsheet_cli.specs.Racks.{HoldParts, KeepsRacks, WritesFirst, rack_at}
+use Rattle.trapsheet_cli.specs.Streaming.{EndsReport, StreamsOut, error_of}
+use Rattle.trapsheet_cli.specs.Strips.{HasNoStrips}
+use Rattle.trapsheet_cli.specs.Words.{SheetWords, sources_of, targets_of}
+use Rattle.trapsheet_cli.proofs.AgainLemmas.{fails_again, has_changed, once_or_twice, takes_once, takes_to, takes_twice, twice}
+use Rattle.trapsheet_cli.proofs.EndLemmas.{trays_same}
+use Rattle.trapsheet_cli.proofs.PartLemmas.{breaks_keep, hold_parts, parts_keep, plate_breaks, writes_first}
+use Rattle.trapsheet_cli.proofs.RackLemmas.{all_keeps, all_wrote, racks_same, report_broke}
+
+-- There was no memory for the names of the files, and none was begun.
+pub none_begun : (order : SheetWords) (a : List TrayState) (r : List RackState) → CarriesOut order a a r r (Err (Common Memory))
+none_begun order a r =
+    let takes = trays_same (sources_of order) a in
+    record {
+      takes = takes_once (sources_of order) a a takes;
+      keeps = racks_same (targets_of order) r;
+      answer = Carries.no_memory refl (λ k. refl) (inl takes) refl;
+    }
+
+-- The sheet was not judged.
+module _ (order : SheetWords) (budget : Budget) (a b : List TrayState) (r : List RackState) where
+  not_made : (stop : TrapsheetError) → TakesTrays (sources_of order) a b → AnswersJudging (sources_of order) budget a b (Err stop) → Carries (sources_of order) (targets_of order) a b r r (Err stop)
+  not_made stop takes (AnswersJudging.judged sheet is judged asks calm) = absurd (cc)
+  not_made stop takes (AnswersJudging.refused other is refuses) = (let same : stop ≡ other = cc in Carries.refused other (ap (λ (s : TrapsheetError). Err s) same) refuses takes refl)
+  not_made stop takes (AnswersJudging.unread file is fails) = (let same : stop ≡ Common (Read file) = cc in Carries.unread file (ap (λ (s : TrapsheetError). Err s) same) fails takes refl)
+  not_made stop takes (AnswersJudging.no_memory is calm) = (let same : stop ≡ Common Memory = cc in Carries.no_memory (ap (λ (s : TrapsheetError). Err s) same) calm (inl takes) refl)
+
+  pub not_judged : (stop : TrapsheetError) → JudgesSheet (sources_of order) budget a b (Err stop) → CarriesOut order a b r r (Err stop)
+  not_judged stop judges = record {
+    takes = takes_once (sources_of order) a b judges.takes;
+    keeps = racks_same (targets_of order) r;
+    answer = not_made stop judges.takes judges.answer;
+  }
+
+-- What is known of a sheet that was judged.
+pub record Ready (source : Sources) (budget : Budget) (a b : List TrayState) (judged : PlannedSheet) : Type 0 where
+  pub takes : TakesTrays source a b
+  pub is : IsJudged source budget a judged
+  pub asks : (k : ℕ) → k < length source.inputs → AsksAll source a b k
+  pub calm : (k : ℕ) → IsCalm a b k
+
+ready_by : (source : Sources) (budget : Budget) (a b : List TrayState) (judged : PlannedSheet) → TakesTrays source a b → AnswersJudging source budget a b (Ok judged) → Ready source budget a b judged
+ready_by source budget a b judged takes (AnswersJudging.judged other same is asks calm) =
+    let here : other ≡ judged = cc in
+    record { takes = takes; is = subst (λ (j : PlannedSheet). IsJudged source budget a j) here is; asks = asks; calm = calm }
+ready_by source budget a b judged takes (AnswersJudging.refused stop is refuses) = absurd (cc)
+ready_by source budget a b judged takes (AnswersJudging.unread file is fails) = absurd (cc)
+ready_by source budget a b judged takes (AnswersJudging.no_memory is calm) = absurd (cc)
+
+pub ready : (source : Sources) (budget : Budget) (a b : List TrayState) (judged : PlannedSheet) → JudgesSheet source budget a b (Ok judged) → Ready source budget a b judged
+ready source budget a b judged judges = ready_by source budget a b judged judges.takes judges.answer
+
+-- as many plates as files
+pub inputs_count : (source : Sources) (budget : Budget) (a b : List TrayState) (judged : PlannedSheet) → Ready source budget a b judged → length source.inputs ≡ plates judged.bare
+inputs_count source budget a b judged read = sym read.is.made.count ∙ sym (plates_is read.is.sheet) ∙ ap plates read.is.same
+
+-- Plates that were read whole once more.
+module _ (inputs : List (List ℕ)) (count : ℕ) (bare : PageParts) (samples : ℕ → List ℕ) (b c : List TrayState) (whole : EachTray count (λ k before after. ReadsPlateWithin Sheet (name_at inputs k) before after (Ok (plate_with (sheet_header bare) (samples k)))) b c) where
+  whole_takes : TakesFiles inputs count b c
+  whole_takes = record {
+    each = λ k less. (went_whole (name_at inputs k) (tray_at b k) (tray_at c k) (plate_with (sheet_header bare) (samples k)) (whole.each k less)).takes;
+    others = whole.others;
+  }
+
+  whole_calm : (k : ℕ) → IsCalm b c k
+  whole_calm k = elim (cases_lt k count) [
+    | inl less ↦ (went_whole (name_at inputs k) (tray_at b k) (tray_at c k) (plate_with (sheet_header bare) (samples k)) (whole.each k less)).calm
+    | inr more ↦ ap (λ (t : TrayState). t.faults) (whole.others k (omega arith))
+  ]
+
+-- A sheet that was judged is put out.
+module _ (reread : SheetIsReread) (law : NoChange) (order : SheetWords) (budget : Budget) (a b : List TrayState) (r : List RackState) (judged : PlannedSheet) (read : Ready (sources_of order) budget a b judged) where
+  abbrev source : Sources
+  source = sources_of order
+
+  abbrev target : Targets
+  target = targets_of order
+
+  abbrev bare : PageParts
+  bare = judged.bare
+
+  count : length source.inputs ≡ plates bare
+  count = inputs_count source budget a b judged read
+
+  many : length target.outputs ≡ plates bare
+  many = length-map order.plates (λ (p : PlateNames). p.output) ∙ sym (length-map order.plates (λ (p : PlateNames). p.input)) ∙ count
+
+  -- the sheet of which all that was read again is the beginning
+  Made : (ℕ → List ℕ) → Type 0
+  Made samples = (sheet : PageParts) × IsMadeSheet source a sheet × BeginsWith bare (tints_read bare samples) sheet
+
+  made_of : (begun : List OpenPlate) (samples : ℕ → List ℕ) (between : List TrayState) → HaveHeader bare begun → HaveRead source.inputs begun (length begun) samples b between → Made samples
+  unfolding Made
+  made_of begun samples between headers have = reread source budget judged begun samples a b between read.takes read.is (record {
+    count = headers.count ∙ sym count;
+    headers = λ k less. headers.each k (let c = headers.count in let d = count in omega (arith, less, c, d));
+    read = subst (λ (n : ℕ). HaveRead source.inputs begun n samples b between) (headers.count ∙ sym count) have;
+  })
+
+  module _ (c : List TrayState) where
+    not_again : c ≡ b → TakesTrays source a c
+    not_again same = subst (λ (t : List TrayState). TakesTrays source a t) (sym same) read.takes
+
+    calm_still : c ≡ b → (k : ℕ) → IsCalm a c k
+    calm_still same = subst (λ (t : List TrayState). (k : ℕ) → IsCalm a t k) (sym same) read.calm
+
+    -- out of memory before the second reading
+    no_room : (s : List RackState) (result : Result (Unit {0}) TrapsheetError) → result ≡ Err (Common Memory) → c ≡ b → s ≡ r → CarriesOut order a c r s result
+    no_room s result is same stay = record {
+      takes = takes_once source a c (not_again same);
+      keeps = subst (λ (t : List RackState). KeepsRacks target r t) (sym stay) (racks_same target r);
+      answer = Carries.no_memory is (calm_still same) (inl (not_again same)) stay;
+    }
+
+    -- The second reading stopped at a plate, and of each plate a prefix stands at most.
+    module _ (s : List RackState) (sheet : PageParts) (made : IsMadeSheet source a sheet) (parts : HoldParts target (trapped_planes sheet) r s) (keeps : KeepsRacks target r s) (result : Result (Unit {0}) TrapsheetError) where
+      stops_at : (stop : RereadError) → result ≡ Err (error_of stop) → StopsReading source.inputs (λ k. sheet_header bare) (length source.inputs) b c stop → CarriesOut order a c r s result
+      stops_at (ChangedAgain k) is stops = record {
+        takes = takes_to source a b c read.takes read.asks read.calm k stops.0;
+        keeps = keeps;
+        answer = Carries.changed sheet k is made (has_changed source a b c read.takes read.asks read.calm k stops.0 law budget judged read.is stops.1) parts;
+      }
+      stops_at (Unread k) is stops = record {
+        takes = takes_to source a b c read.takes read.asks read.calm k stops.0;
+        keeps = keeps;
+        answer = Carries.unread_again sheet k is made (fails_again source a b c read.takes read.asks read.calm k stops.0 stops.1) parts;
+      }
+
+      stops_in : (stop : RereadError) → result ≡ Err (error_of stop) → StopsReading source.inputs (λ k. sheet_header bare) (plates bare) b c stop → CarriesOut order a c r s result
+      stops_in stop is stops = stops_at stop is (subst (λ (n : ℕ). StopsReading source.inputs (λ k. sheet_header bare) n b c stop) (sym count) stops)
+
+    -- .. before a file was created
+    stops_before : (s : List RackState) (result : Result (Unit {0}) TrapsheetError) (stop : RereadError) → result ≡ Err (error_of stop) → StopsReading source.inputs (λ k. sheet_header bare) (plates bare) b c stop → s ≡ r → CarriesOut order a c r s result
+    stops_before s result stop is stops stay =
+        stops_in s read.is.sheet read.is.made (λ k less. inl (ap (λ (t : List RackState). rack_at t k) stay))
+        (subst (λ (t : List RackState). KeepsRacks target r t) (sym stay) (racks_same target r)) result stop is stops
+
+    -- All plates were read once more.
+    module _ (takes : TakesFiles source.inputs (plates bare) b c) (calm : (k : ℕ) → IsCalm b c k) where
+      few : plates bare ≤ length source.inputs
+      few = (let e = count in omega (arith, e))
+
+      all_twice : (k : ℕ) → k < length source.inputs → AsksTwice source a c k
+      all_twice k less = twice source a b c read.takes read.asks (plates bare) few takes k (let e = count in omega (arith, less, e))
+
+      both_calm : (k : ℕ) → IsCalm a c k
+      both_calm k = calm k ∙ read.calm k
+
+      both_taken : TakesTwice source a c
+      both_taken = takes_twice source a b c read.takes read.asks (plates bare) few takes
+
+      -- a sheet that is held is put out
+      puts_held : (s : List RackState) (sheet : PageParts) (result : Result (Unit {0}) TrapsheetError) → IsMadeSheet source a sheet → HasNoStrips (bare_sheet sheet) → PutsOut target sheet r s result → CarriesOut order a c r s result
+      puts_held s sheet result made whole (PutsOut.wrote is wrote keeps) = record {
+        takes = both_taken;
+        keeps = keeps;
+        answer = Carries.carried sheet is made all_twice both_calm wrote;
+      }
+      puts_held s sheet result made whole (PutsOut.broke file is breaks keeps) = record {
+        takes = both_taken;
+        keeps = keeps;
+        answer = Carries.unwritten sheet file is made (λ k less. inr (all_twice k less)) both_calm breaks;
+      }
+      puts_held s sheet result made whole (PutsOut.no_memory is stay) = record {
+        takes = both_taken;
+        keeps = subst (λ (t : List RackState). KeepsRacks target r t) (sym stay) (racks_same target r);
+        answer = Carries.no_memory is both_calm (inr (record { sheet = sheet; made = made; whole = whole })) stay;
+      }
+
+      -- the report after plates that were written
+      module _ (s between : List RackState) (sheet : PageParts) (made : IsMadeSheet source a sheet) (same : bare_sheet sheet ≡ bare) (counts : SheetCounts) (first : WritesFirst target.outputs (trapped_planes sheet) (length target.outputs) r between) (counted : IsCounted sheet counts) (some : 1 ≤ length target.outputs) where
+        ends_report : (result : Result (Unit {0}) TrapsheetError) → EndsReport target.report bare counts between s result → CarriesOut order a c r s result
+        ends_report result (EndsReport.wrote is wrote) = record {
+          takes = both_taken;
+          keeps = all_keeps target.outputs target.report (trapped_planes sheet) (sheet_report sheet) r between s some first wrote.others (Ok tt) (wrote.here sheet same counted);
+          answer = Carries.carried sheet is made all_twice both_calm (all_wrote target.outputs target.report (trapped_planes sheet) (sheet_report sheet) r between s some first wrote.others tt (wrote.here sheet same counted));
+        }
+        ends_report result (EndsReport.broke failed is wrote) = record {
+          takes = both_taken;
+          keeps = all_keeps target.outputs target.report (trapped_planes sheet) (sheet_report sheet) r between s some first wrote.others (Err failed) (wrote.here sheet same counted);
+          answer = Carries.unwritten sheet None is made (λ k less. inr (all_twice k less)) both_calm (report_broke target.outputs target.report (trapped_planes sheet) (sheet_report sheet) r between s some first wrote.others failed (wrote.here sheet same counted));
+        }
+
+    abbrev course : Course
+    course = course_of source.inputs target.outputs b r
+
+    -- all plates are written, and then the report
+    streams_done : (s : List RackState) (result : Result (Unit {0}) TrapsheetError) (counts : SheetCounts) (between : List RackState) → IsDone course bare (sheet_header bare) counts c between → EndsReport target.report bare counts between s result → CarriesOut order a c r s result
+    unfolding Made
+    streams_done s result counts between done ends =
+        let was = done.was in
+        let made = made_of was.begun was.samples was.between was.headers was.read in
+        let begins = made.2 in
+        let some = read.is.valid.parts.some_plates in
+        let e = many in
+        ends_report (whole_takes source.inputs (plates bare) bare was.samples b c done.whole) (whole_calm source.inputs (plates bare) bare was.samples b c done.whole)
+        s between made.0 made.1 begins.same counts
+        (writes_first source.inputs target.outputs target.report b r bare made.0 (sheet_header bare) refl begins.same many between (done.written made.0 begins))
+        (done.counted made.0 begins) (omega (arith, some, e)) result ends
+
+    streams_unread : (s : List RackState) (result : Result (Unit {0}) TrapsheetError) (stop : RereadError) → result ≡ Err (error_of stop) → IsUnread course bare (sheet_header bare) c s stop → CarriesOut order a c r s result
+    unfolding Made
+    streams_unread s result stop is un =
+        let was = un.was in
+        let made = made_of was.begun was.samples was.between was.headers was.read in
+        let begins = made.2 in
+        let stand = un.written made.0 begins in
+        stops_in s made.0 made.1
+        (hold_parts source.inputs target.outputs target.report b r bare made.0 (sheet_header bare) refl begins.same many s stand)
+        (parts_keep source.inputs target.outputs target.report b r bare made.0 (sheet_header bare) refl begins.same many s stand)
+        result stop is un.stops
+
+    streams_unwritten : (s : List RackState) (result : Result (Unit {0}) TrapsheetError) (k : ℕ) → result ≡ Err (Common (Write (Some k))) → IsUnwritten course bare (sheet_header bare) c s k → CarriesOut order a c r s result
+    unfolding Made
+    streams_unwritten s result k is un =
+        let was = un.was in
+        let made = made_of was.begun was.samples was.between was.headers was.read in
+        let begins = made.2 in
+        let breaks = un.written made.0 begins in
+        record {
+          takes = both_taken un.takes un.calm;
+          keeps = breaks_keep source.inputs target.outputs target.report b r bare made.0 (sheet_header bare) refl begins.same many s k breaks;
+          answer = Carries.unwritten made.0 (Some k) is made.1 (once_or_twice source a b c read.takes read.asks (plates bare) (few un.takes un.calm) un.takes) (both_calm un.takes un.calm)
+              (plate_breaks source.inputs target.outputs target.report b r bare made.0 (sheet_header bare) refl begins.same many s k breaks);
+        }
+
+    streams : (s : List RackState) (result : Result (Unit {0}) TrapsheetError) → StreamsOut course target.report bare c s result → CarriesOut order a c r s result
+    streams s result (StreamsOut.done counts between done ends) = streams_done s result counts between done ends
+    streams s result (StreamsOut.not_begun stop is stops stay) = stops_before s result stop is stops stay
+    streams s result (StreamsOut.unread stop is un) = streams_unread s result stop is un
+    streams s result (StreamsOut.unwritten k is un) = streams_unwritten s result k is un
+    streams s result (StreamsOut.no_memory is same stay) = no_room s result is same stay
+
+    -- a sheet that is held is the one that the files make
+    puts_whole : (s : List RackState) (result : Result (Unit {0}) TrapsheetError) → HasNoStrips bare → PutsWhole target source.inputs bare b c r s result → CarriesOut order a c r s result
+    unfolding Made
+    puts_whole s result none (PutsWhole.held sheet held out) =
+        let made = made_of held.begun held.samples held.between held.headers held.read in
+        let begins = made.2 in
+        puts_held (whole_takes source.inputs (plates bare) bare held.samples b c held.whole) (whole_calm source.inputs (plates bare) bare held.samples b c held.whole)
+        s made.0 result made.1 (subst HasNoStrips (sym begins.same) none)
+        (subst (λ (p : PageParts). PutsOut target p r s result) (held.same made.0 begins) out)
+    puts_whole s result none (PutsWhole.stopped stop is stops stay) = stops_before s result stop is stops stay
+    puts_whole s result none (PutsWhole.no_memory is same stay) = no_room s result is same stay
+
+    pub carries_on : (s : List RackState) (result : Result (Unit {0}) TrapsheetError) → PutsPlanned target source.inputs bare b c r s result → CarriesOut order a c r s result
+    carries_on s result (PutsPlanned.streamed out) = streams s result out
+    carries_on s result (PutsPlanned.whole none out) = puts_whole s result none out

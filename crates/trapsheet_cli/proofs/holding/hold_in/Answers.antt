@@ -1,0 +1,10 @@
+use Rattle.std.proofs.Common.{Err, refl, ap}
+use Rattle.sheet_gather.specs.declared.stop.TrapsheetError.{TrapsheetError}
+use Rattle.trapsheet_cli.specs.Holding.{HoldsAll}
+use Rattle.trapsheet_cli.proofs.holding.hold_in.Goals as goal
+
+pub returns-in-Ok : goal.returns-in-Ok
+returns-in-Ok g c = HoldsAll.held c.hold_sheet.new.sheet refl c.in-Ok.ensures
+
+pub returns-in-Err : goal.returns-in-Err
+returns-in-Err g c = HoldsAll.stopped c.in-Err.stop (ap (λ (e : TrapsheetError). Err e) c.told_stop.ensures) c.in-Err.ensures

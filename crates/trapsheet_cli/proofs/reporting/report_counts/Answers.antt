@@ -1,0 +1,23 @@
+use Rattle.std.proofs.Common.{ℕ, ◌<◌, List, length, map, sym, subst, arith}
+use Rattle.outside.specs.Rack.{RackState}
+use Rattle.outside.specs.Writing.{WritesFile}
+use Rattle.trap_report.specs.Report.{report_of}
+use Rattle.trapsheet_cli.specs.Endings.{sheet_report}
+use Rattle.trapsheet_cli.specs.Racks.{no_rack, rack_at}
+use Rattle.trapsheet_cli.proofs.RackLemmas.{state_before, state_here}
+use Rattle.trapsheet_cli.proofs.ReportingLemmas.{report_is}
+use Rattle.trapsheet_cli.proofs.reporting.report_counts.Goals as goal
+
+pub returns-clause-here : goal.returns-clause-here
+returns-clause-here g c sheet same counted =
+    let racks = c.args.racks.now in
+    let old = c.index-racks-0.result in
+    let new = c.write_report.new.rack in
+    let within : 0 < length racks = (let some = c.requires.racks in omega (arith, some)) in
+    let before = state_before g.R.Rack.state no_rack racks 0 old new within in
+    let after = state_here g.R.Rack.state no_rack racks 0 old new within in
+    let is = report_is c.args.bare.now c.args.counts c.told_counts-told.result c.told_counts-told.ensures c.report_is_bare.ensures sheet same counted in
+    let text = report_of c.args.bare.now c.told_counts-told.result in
+    subst (λ (r : RackState). WritesFile c.args.name.now (sheet_report sheet) (rack_at (map g.R.Rack.state racks) 0) r c.write_report.result) (sym after)
+    (subst (λ (t : List ℕ). WritesFile c.args.name.now t (rack_at (map g.R.Rack.state racks) 0) (g.R.Rack.state new) c.write_report.result) is
+    (subst (λ (r : RackState). WritesFile c.args.name.now text r (g.R.Rack.state new) c.write_report.result) (sym before) c.write_report.ensures))

@@ -1,0 +1,14 @@
+use Rattle.std.proofs.Common.{subst}
+use Rattle.bare_sheets.specs.Planned.{IsPlan}
+use Rattle.trapsheet_cli.specs.Planned.{PutsPlanned}
+use Rattle.trapsheet_cli.proofs.PlanLemmas.{no_cut, no_strips_by}
+use Rattle.trapsheet_cli.proofs.run.put_planned.Goals as goal
+
+pub returns-in-Strips : goal.returns-in-Strips
+returns-in-Strips g c = PutsPlanned.streamed c.put_strips.ensures
+
+pub returns-in-Windows : goal.returns-in-Windows
+returns-in-Windows g c = PutsPlanned.whole (no_strips_by c.args.planned.now.bare c.args.budget.now c.in-Windows._rulers (subst (IsPlan c.args.planned.now.bare c.args.budget.now) c.in-Windows.is c.requires.plan)) c.put_whole.ensures
+
+pub returns-in-Page : goal.returns-in-Page
+returns-in-Page g c = PutsPlanned.whole (no_cut c.args.planned.now.bare c.args.budget.now (subst (IsPlan c.args.planned.now.bare c.args.budget.now) c.in-Page.is c.requires.plan)) c.put_whole-in-Page.ensures

@@ -1,0 +1,40 @@
+-- What comes of a sheet that was judged, by how it is to be trapped.
+use Rattle.std.specs.Prelude.{◌≡◌, ℕ, List, Result, Err}
+use Rattle.outside.specs.Rack.{RackState}
+use Rattle.outside.specs.Tray.{TrayState}
+use Rattle.page_model.specs.declared.parts.PageParts.{PageParts}
+use Rattle.page_model.specs.Page.{plates}
+use Rattle.plate_rows.specs.Rereading.{StopsReading}
+use Rattle.plate_rows.specs.declared.stop.RereadError.{RereadError}
+use Rattle.refusals.specs.declared.refusal.Refusal.TheVariants.{Memory}
+use Rattle.sheet_gather.specs.declared.stop.TrapsheetError.{TrapsheetError}
+use Rattle.sheet_gather.specs.declared.stop.TrapsheetError.TheVariants.{Common}
+use Rattle.sheet_loop.specs.Second.{course_of, sheet_header}
+use Rattle.sheet_loop.specs.Whole.{IsHeld}
+use Rattle.trapsheet_cli.specs.Endings.{PutsOut}
+use Rattle.trapsheet_cli.specs.Streaming.{StreamsOut, error_of}
+use Rattle.trapsheet_cli.specs.Strips.{HasNoStrips}
+use Rattle.verdicts.specs.Verdicts.{Targets}
+
+-- All rows are read once more and held, and the sheet is put out; or the reading stopped, or there
+-- was no memory for it, and no file was begun.
+pub data PutsWhole (target : Targets) (inputs : List (List ℕ)) (bare : PageParts)
+    (trays trays' : List TrayState) (racks racks' : List RackState)
+    (result : Result (Unit {0}) TrapsheetError) : Type 0 where
+  held : (sheet : PageParts) → IsHeld inputs bare sheet trays trays'
+      → PutsOut target sheet racks racks' result
+      → PutsWhole target inputs bare trays trays' racks racks' result
+  stopped : (stop : RereadError) → result ≡ Err (error_of stop)
+      → StopsReading inputs (λ k. sheet_header bare) (plates bare) trays trays' stop
+      → racks' ≡ racks → PutsWhole target inputs bare trays trays' racks racks' result
+  no_memory : result ≡ Err (Common Memory) → trays' ≡ trays → racks' ≡ racks
+      → PutsWhole target inputs bare trays trays' racks racks' result
+
+-- The sheet streams in strips, or it has none of one height.
+pub data PutsPlanned (target : Targets) (inputs : List (List ℕ)) (bare : PageParts)
+    (trays trays' : List TrayState) (racks racks' : List RackState)
+    (result : Result (Unit {0}) TrapsheetError) : Type 0 where
+  streamed : StreamsOut (course_of inputs target.outputs trays racks) target.report bare trays'
+      racks' result → PutsPlanned target inputs bare trays trays' racks racks' result
+  whole : HasNoStrips bare → PutsWhole target inputs bare trays trays' racks racks' result
+      → PutsPlanned target inputs bare trays trays' racks racks' result

@@ -1,0 +1,12 @@
+-- The counts of a sheet of which all is known but its tints.
+use Rattle.std.specs.Prelude.{◌≡◌}
+use Rattle.bare_sheets.specs.Bare.{bare_sheet}
+use Rattle.page_model.specs.declared.parts.PageParts.{PageParts}
+use Rattle.strip_tiles.specs.Whole.{IsCounted}
+use Rattle.tile_counts.specs.declared.counts.SheetCounts.{SheetCounts}
+
+-- These are the counts of a sheet that is bare so.
+pub record CountSome (bare : PageParts) (counts : SheetCounts) : Type 0 where
+  pub sheet : PageParts
+  pub same : bare_sheet sheet ≡ bare
+  pub counted : IsCounted sheet counts

@@ -1,0 +1,29 @@
+-- Sheets of which no strips of one height can be cut.
+use Rattle.std.specs.Prelude.{◌⊎◌, ◌*◌, ◌<◌, IsSome, List}
+use Rattle.bare_sheets.specs.Bare.{bare_sheet}
+use Rattle.bare_sheets.specs.Planned.{even_room}
+use Rattle.bare_sheets.specs.declared.plan.Rulers.{Rulers}
+use Rattle.outside.specs.Tray.{TrayState}
+use Rattle.page_gather.specs.Inputs.{Sources}
+use Rattle.page_model.specs.declared.parts.PageParts.{PageParts}
+use Rattle.page_model.specs.Limits.{most_samples}
+use Rattle.page_model.specs.Page.{plates}
+use Rattle.sheet_cuts.specs.Cuttings.{room}
+use Rattle.sheet_cuts.specs.Refusals.{cut_fault}
+use Rattle.sheet_gather.specs.Gathering.{IsMadeSheet}
+use Rattle.sheet_windows.specs.Plans.{AreRulers}
+
+-- By rulers of this sheet the least window of a strip has more samples than a page.
+pub record AreTooLarge (bare : PageParts) (rulers : Rulers) : Type 0 where
+  pub fit : AreRulers bare rulers.across rulers.down
+  pub large : most_samples < room rulers.across * even_room rulers.down * plates bare
+
+-- It cannot be cut, or not into strips of one height.
+abbrev pub HasNoStrips : PageParts → Type 0
+HasNoStrips bare = IsSome (cut_fault bare) ⊎ ((rulers : Rulers) × AreTooLarge bare rulers)
+
+-- Such a sheet is made of the files.
+pub record IsWhole (source : Sources) (trays : List TrayState) : Type 0 where
+  pub sheet : PageParts
+  pub made : IsMadeSheet source trays sheet
+  pub whole : HasNoStrips (bare_sheet sheet)
