@@ -1,4 +1,5 @@
 """What is outside the programs: files that are read and written by name, and a text that is told."""
+import os
 import sys
 
 MORE_THAN_IS_READ = 2000000
@@ -44,6 +45,16 @@ class Held:
         if self.files[name] != data:
             raise WriteFault(name)
 
+    def write_together(self, files):
+        """Files that grow side by side: all stand, or none where one of them can't be written."""
+        before = dict(self.files)
+        try:
+            for name, data in files:
+                self.write(name, data)
+        except WriteFault:
+            self.files = before
+            raise
+
     def tell(self, text):
         if self.mute:
             raise TellFault()
@@ -66,6 +77,17 @@ class Disk:
                 file.write(data)
         except (OSError, ValueError):
             raise WriteFault(name)
+
+    def write_together(self, files):
+        written = []
+        try:
+            for name, data in files:
+                self.write(name, data)
+                written.append(name)
+        except WriteFault:
+            for name in written:
+                os.remove(name)
+            raise
 
     def tell(self, text):
         try:

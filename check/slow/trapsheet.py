@@ -7,7 +7,7 @@ from .refusals import sheet_refusal, usage
 from .reports import report
 from .rule import rule_of
 from .words import NoCommand, named_plates, number
-from .writing import write_page
+from .writing import write_file, write_page, write_side_by_side
 
 USAGE = "trapsheet WORKERS JOB REPORT NAME:IN:OUT ..."
 LONGEST_STEP = 2048
@@ -24,10 +24,14 @@ def run(words, outside):
     judged = judged_job(read_job(outside, job))
     plates = [read_plate(outside, name, number, SHEET) for number, name in enumerate(inputs)]
     page = assemble(judged, plates, names, SHEET)
-    judge_sheet(page)
+    streams = judge_sheet(page)
     rule = rule_of(page)
     new = rule.new_planes()
-    write_page(outside, outputs, report_name, plates, new, report(rule, new))
+    if streams:
+        write_side_by_side(outside, outputs, plates, new)
+        write_file(outside, report_name, report(rule, new).encode("ascii"), "report")
+    else:
+        write_page(outside, outputs, report_name, plates, new, report(rule, new))
 
 
 def command(words):
@@ -43,15 +47,23 @@ def command(words):
 
 
 def judge_sheet(page):
-    """A sheet above a page's limits is cut into windows, so its zones may not be too far, and it needs a short step."""
+    """Whether the sheet streams, which it does cut into strips of windows: its zones may not be too far, and it needs a short step. One
+    within a page's limits is else trapped as a page, and a larger one is refused."""
+    fault = cut_fault(page)
     samples = page.width * page.height * len(page.planes)
-    if max(page.width, page.height) <= PAGE.side and samples <= PAGE.samples:
-        return
+    if fault and (max(page.width, page.height) > PAGE.side or samples > PAGE.samples):
+        raise sheet_refusal(fault)
+    return fault is None
+
+
+def cut_fault(page):
+    """Why a sheet cannot be cut, if it can't."""
     sides = [72 * POINT * side // page.resolution if page.resolution else 0 for side in (page.width, page.height)]
     for which, zone in enumerate(page.zones):
         for path in zone.path:
             for vertex in path:
                 if any(abs(coordinate) + side > FARTHEST for coordinate, side in zip(vertex, sides)):
-                    raise sheet_refusal("Far in zone %d" % which)
+                    return "Far in zone %d" % which
     if len(page.zones) > 1 and page.resolution // gcd(page.resolution, 72 * POINT) > LONGEST_STEP:
-        raise sheet_refusal("Uncut")
+        return "Uncut"
+    return None

@@ -18,6 +18,15 @@ def write_plates(outside, names, plates, planes):
         write_file(outside, name, spelled(plate_with(plate, tints)), "plate %d" % number)
 
 
+def write_side_by_side(outside, names, plates, planes):
+    """Writes the plates, with new tints, side by side: all stand, or none."""
+    files = [(name, spelled(plate_with(plate, tints))) for name, plate, tints in zip(names, plates, planes)]
+    try:
+        outside.write_together(files)
+    except WriteFault as fault:
+        raise write_refusal("plate %d" % names.index(fault.args[0]))
+
+
 def write_page(outside, names, report_name, plates, planes, report):
     """Writes the plates and then the report."""
     write_plates(outside, names, plates, planes)
