@@ -22,14 +22,14 @@ use Rattle.pgm_plates.specs.Reading.{KeepsCount}
 use Rattle.refusals.specs.declared.refusal.Refusal.{Refusal}
 use Rattle.refusals.specs.declared.refusal.Refusal.TheVariants.{Usage, Job as JobFails, NoDetails, Plate, Page, Read, Write, Memory}
 use Rattle.sheet_cuts.specs.declared.budget.Budget.{Budget}
-use Rattle.sheet_cuts.specs.declared.cutting.Cutting.{Cutting}
 use Rattle.sheet_cuts.specs.declared.refusal.SheetRefusal.{SheetRefusal}
 use Rattle.sheet_cuts.specs.Refusals.{sheet_refusal}
 use Rattle.sheet_windows.specs.Sheets.{IsSheet}
 use Rattle.sheet_gather.specs.Inputs.{AreSpelled, MakesSheet, SheetInputs, Spells, detailed, held_by, judged, plates_by, sheet_of}
-use Rattle.sheet_gather.specs.SheetFiles.{CanAssembleSheet, IsSheetFault}
-use Rattle.sheet_gather.specs.Steps.{CutsSheet, IsFaultless, ReadsFirst, ReadsPlates, StopsAt, TakesFiles, common}
-use Rattle.sheet_gather.specs.Gathering.{AnswersSheet, AsksAll, IsMadeSheet, GathersSheet, InHand, TakesTrays}
+use Rattle.sheet_gather.specs.SheetFiles.{IsSheetFault}
+use Rattle.sheet_gather.specs.Steps.{IsFaultless, ReadsFirst, ReadsPlates, StopsAt, TakesFiles, common}
+use Rattle.sheet_gather.specs.Gathering.{AsksAll, InHand, IsMadeSheet, TakesTrays}
+use Rattle.sheet_gather.specs.Judging.{AnswersJudging, JudgesSheet}
 use Rattle.sheet_gather.specs.Trays.{AllTell, IsCalm, tray_at, tray_files}
 use Rattle.sheet_gather.specs.declared.stop.TrapsheetError.{TrapsheetError}
 use Rattle.sheet_gather.specs.declared.stop.TrapsheetError.TheVariants.{Common, OfSheet}
@@ -134,20 +134,20 @@ module _ (source : Sources) (budget : Budget) (a b : List TrayState) (some : 1 �
   job_takes : KeepsTray (tray_at a 0) (tray_at b 0) → Asks (tray_at a 0).asked (tray_at b 0).asked (source.job ∷ []) → TakesJob source.job (tray_at a 0) (tray_at b 0) → TakesTrays source a b
   job_takes keeps asked few = takes_trays source 0 a b b keeps asked few others none_taken some (omega arith)
 
-  answer_job : (refusal : Refusal) → ReadsJob source.job (tray_at a 0) (tray_at b 0) (Err refusal) → AnswersJob source.job (tray_at a 0) (tray_at b 0) (Err refusal) → PassesNoFault {T = Job} (tray_at a 0) (tray_at b 0) (Err refusal) → AnswersSheet source budget a b (Err (Common refusal))
-  answer_job (JobFails fault) reads answer count = AnswersSheet.refused (Common (JobFails fault)) refl (record {
+  answer_job : (refusal : Refusal) → ReadsJob source.job (tray_at a 0) (tray_at b 0) (Err refusal) → AnswersJob source.job (tray_at a 0) (tray_at b 0) (Err refusal) → PassesNoFault {T = Job} (tray_at a 0) (tray_at b 0) (Err refusal) → AnswersJudging source budget a b (Err (Common refusal))
+  answer_job (JobFails fault) reads answer count = AnswersJudging.refused (Common (JobFails fault)) refl (record {
     of_input = tt;
     verdict = λ tells. answer (tells 0 (omega arith));
     begun = reads.asked;
     count = count;
   })
-  answer_job (Read None) reads answer count = AnswersSheet.unread None refl (record {
+  answer_job (Read None) reads answer count = AnswersJudging.unread None refl (record {
     rose = answer;
     begun = reads.asked;
     count = tt;
     breaks = tt;
   })
-  answer_job Memory reads answer count = AnswersSheet.no_memory refl (job_calm a b b others count)
+  answer_job Memory reads answer count = AnswersJudging.no_memory refl (job_calm a b b others count)
   answer_job Usage reads answer count = absurd answer
   answer_job (NoDetails plate) reads answer count = absurd answer
   answer_job (Plate plate fault) reads answer count = absurd answer
@@ -155,16 +155,16 @@ module _ (source : Sources) (budget : Budget) (a b : List TrayState) (some : 1 �
   answer_job (Read (Some plate)) reads answer count = absurd answer
   answer_job (Write file) reads answer count = absurd answer
 
-  by_refusal : (stop : TrapsheetError) (read : Result Job Refusal) → ◌≡◌ {A = Result Job TrapsheetError} (Err stop) (common read) → ReadsJob source.job (tray_at a 0) (tray_at b 0) read → GathersSheet source budget a b (Err stop)
+  by_refusal : (stop : TrapsheetError) (read : Result Job Refusal) → ◌≡◌ {A = Result Job TrapsheetError} (Err stop) (common read) → ReadsJob source.job (tray_at a 0) (tray_at b 0) read → JudgesSheet source budget a b (Err stop)
   by_refusal stop (Ok job) same reads = absurd (cc)
   by_refusal stop (Err refusal) same reads =
       let is : stop ≡ Common refusal = cc in
-      subst (λ (s : TrapsheetError). GathersSheet source budget a b (Err s)) (sym is) (record {
+      subst (λ (s : TrapsheetError). JudgesSheet source budget a b (Err s)) (sym is) (record {
         takes = job_takes reads.keeps reads.asked reads.few;
         answer = answer_job refusal reads reads.answer reads.count;
       })
 
-pub job_refused : (source : Sources) (budget : Budget) (a b : List TrayState) (stop : TrapsheetError) → 1 ≤ length source.inputs → ReadsFirst source.job a b (Err stop) → GathersSheet source budget a b (Err stop)
+pub job_refused : (source : Sources) (budget : Budget) (a b : List TrayState) (stop : TrapsheetError) → 1 ≤ length source.inputs → ReadsFirst source.job a b (Err stop) → JudgesSheet source budget a b (Err stop)
 job_refused source budget a b stop some first = by_refusal source budget a b some first.others stop first.read first.same first.first
 
 -- A sheet was made of the job and the plates.
@@ -188,8 +188,8 @@ module _ (source : Sources) (budget : Budget) (a b c : List TrayState) (job : Jo
   all_calm : ((k : ℕ) → IsCalm b c k) → (k : ℕ) → IsCalm a c k
   all_calm then k = both_calm a b c others first.count k (then k)
 
-  plate_fails : (plate : ℕ) (fault : PlateFault) → StopsAt source.inputs plate b c → KeepsCount {T = PlateRead} (tray_at b plate) (tray_at c plate) (Err (Fault fault)) → (IsTrue (tray_at b plate).tells → Spells (plates_by b source.inputs plate) (λ bytes. IsSheetFault bytes fault)) → AnswersSheet source budget a c (Err (Common (Plate plate fault)))
-  plate_fails plate fault stops count told = AnswersSheet.refused (Common (Plate plate fault)) refl (record {
+  plate_fails : (plate : ℕ) (fault : PlateFault) → StopsAt source.inputs plate b c → KeepsCount {T = PlateRead} (tray_at b plate) (tray_at c plate) (Err (Fault fault)) → (IsTrue (tray_at b plate).tells → Spells (plates_by b source.inputs plate) (λ bytes. IsSheetFault bytes fault)) → AnswersJudging source budget a c (Err (Common (Plate plate fault)))
+  plate_fails plate fault stops count told = AnswersJudging.refused (Common (Plate plate fault)) refl (record {
     of_input = tt;
     verdict = λ tells. record {
       job = job;
@@ -209,8 +209,8 @@ module _ (source : Sources) (budget : Budget) (a b c : List TrayState) (job : Jo
     before : (plate : ℕ) (stops : StopsAt source.inputs plate b c) → AllTell plate a → AreSpelled (plates_by a source.inputs) plate stops.plates
     before plate stops tells = spelled_before source (plate + 1) a b c first.keeps first.asked first.few others stops.takes some (let known = stops.known in omega arith) plate stops.plates (stops.before_it (λ k less. (job_keeps_at k).tells ∙ tells k less))
 
-  plate_breaks : (plate : ℕ) → StopsAt source.inputs plate b c → Rose (tray_at b plate).faults (tray_at c plate).faults → IsFaultless (name_at source.inputs plate) (tray_at b plate) (tray_at c plate) → AnswersSheet source budget a c (Err (Common (Read (Some plate))))
-  plate_breaks plate stops rose faultless = AnswersSheet.unread (Some plate) refl (record {
+  plate_breaks : (plate : ℕ) → StopsAt source.inputs plate b c → Rose (tray_at b plate).faults (tray_at c plate).faults → IsFaultless (name_at source.inputs plate) (tray_at b plate) (tray_at c plate) → AnswersJudging source budget a c (Err (Common (Read (Some plate))))
+  plate_breaks plate stops rose faultless = AnswersJudging.unread (Some plate) refl (record {
     rose = rose_before (tray_at a plate).faults (tray_at b plate).faults (tray_at c plate).faults (job_keeps_at plate).faults rose;
     begun = λ k less. asks (plate + 1) (let known = stops.known in omega arith) stops.takes k (omega arith);
     count = λ k less. both_calm a b c others first.count k (stops.calm k less);
@@ -230,22 +230,17 @@ module _ (source : Sources) (budget : Budget) (a b c : List TrayState) (job : Jo
   same_error : (one two : TrapsheetError) → ◌≡◌ {A = Result (List PlateRead) TrapsheetError} (Err one) (Err two) → two ≡ one
   same_error one two is = cc
 
-  by_plates : (stop : TrapsheetError) → ReadsPlates source.inputs b c (Err stop) → GathersSheet source budget a c (Err stop)
+  by_plates : (stop : TrapsheetError) → ReadsPlates source.inputs b c (Err stop) → JudgesSheet source budget a c (Err stop)
   by_plates stop (ReadsPlates.read plates is long ok takes calm told) = absurd (cc)
   by_plates stop (ReadsPlates.fails plate fault is stops count told) =
-      subst (λ (s : TrapsheetError). GathersSheet source budget a c (Err s)) (same_error stop (Common (Plate plate fault)) is) (record {
+      subst (λ (s : TrapsheetError). JudgesSheet source budget a c (Err s)) (same_error stop (Common (Plate plate fault)) is) (record {
         takes = trays (plate + 1) (let known = stops.known in omega arith) stops.takes;
         answer = plate_fails plate fault stops count told;
       })
   by_plates stop (ReadsPlates.unread plate is stops rose faultless) =
-      subst (λ (s : TrapsheetError). GathersSheet source budget a c (Err s)) (same_error stop (Common (Read (Some plate))) is) (record {
+      subst (λ (s : TrapsheetError). JudgesSheet source budget a c (Err s)) (same_error stop (Common (Read (Some plate))) is) (record {
         takes = trays (plate + 1) (let known = stops.known in omega arith) stops.takes;
         answer = plate_breaks plate stops rose faultless;
-      })
-  by_plates stop (ReadsPlates.no_memory count is within takes calm) =
-      subst (λ (s : TrapsheetError). GathersSheet source budget a c (Err s)) (same_error stop (Common Memory) is) (record {
-        takes = trays count within takes;
-        answer = AnswersSheet.no_memory refl (all_calm calm);
       })
 
   -- All plates are read: what they make.
@@ -286,34 +281,30 @@ module _ (source : Sources) (budget : Budget) (a b c : List TrayState) (job : Jo
     of_made None parts stop is = of_judged (sheet_refusal parts) parts stop is
     of_made (Some plate) parts stop is = of_details plate (let same : Common (NoDetails plate) ≡ stop = cc in sym same)
 
-    sheet_refused : (stop : TrapsheetError) → sheet_of job read source.names ≡ Err stop → OfMade stop → AnswersSheet source budget a c (Err stop)
-    sheet_refused stop is (of_details plate same) = subst (λ (s : TrapsheetError). AnswersSheet source budget a c (Err s)) (sym same) (AnswersSheet.refused (Common (NoDetails plate)) refl (record {
+    sheet_refused : (stop : TrapsheetError) → sheet_of job read source.names ≡ Err stop → OfMade stop → AnswersJudging source budget a c (Err stop)
+    sheet_refused stop is (of_details plate same) = subst (λ (s : TrapsheetError). AnswersJudging source budget a c (Err s)) (sym same) (AnswersJudging.refused (Common (NoDetails plate)) refl (record {
       of_input = tt;
       verdict = λ tells. makes (Err (Common (NoDetails plate))) (is ∙ ap (λ (s : TrapsheetError). Err s) same) tells;
       begun = asks (length source.inputs) (omega arith) next;
       count = all_calm calm;
     }))
-    sheet_refused stop is (of_sheet refusal same) = subst (λ (s : TrapsheetError). AnswersSheet source budget a c (Err s)) (sym same) (AnswersSheet.refused (OfSheet refusal) refl (record {
+    sheet_refused stop is (of_sheet refusal same) = subst (λ (s : TrapsheetError). AnswersJudging source budget a c (Err s)) (sym same) (AnswersJudging.refused (OfSheet refusal) refl (record {
       of_input = tt;
       verdict = λ tells. makes (Err (OfSheet refusal)) (is ∙ ap (λ (s : TrapsheetError). Err s) same) tells;
       begun = asks (length source.inputs) (omega arith) next;
       count = all_calm calm;
     }))
 
-    answer_cut : (result : Result Cutting TrapsheetError) → CutsSheet budget (sheet_of job read source.names) result → AnswersSheet source budget a c result
-    answer_cut result (CutsSheet.cut cutting sheet is made valid accepted cuts) = AnswersSheet.made cutting sheet is cuts (record {
-      valid = valid;
-      accepted = accepted;
-      count = sheet_count sheet made;
-      made = makes (Ok sheet) made;
-    }) (asks (length source.inputs) (omega arith) next) (all_calm calm)
-    answer_cut result (CutsSheet.refused stop is made) = subst (λ (r : Result Cutting TrapsheetError). AnswersSheet source budget a c r) (sym is) (sheet_refused stop made (of_made (without_details job source.names) (assembled job read source.names) stop made))
-    answer_cut result (CutsSheet.no_memory is) = AnswersSheet.no_memory is (all_calm calm)
-
-    pub sheet_cut : (result : Result Cutting TrapsheetError) → CutsSheet budget (sheet_of job read source.names) result → GathersSheet source budget a c result
-    sheet_cut result cuts = record {
+    pub made_refused : (stop : TrapsheetError) → sheet_of job read source.names ≡ Err stop → JudgesSheet source budget a c (Err stop)
+    made_refused stop is = record {
       takes = trays (length source.inputs) (omega arith) next;
-      answer = answer_cut result cuts;
+      answer = sheet_refused stop is (of_made (without_details job source.names) (assembled job read source.names) stop is);
+    }
+
+    pub no_memory : JudgesSheet source budget a c (Err (Common Memory))
+    no_memory = record {
+      takes = trays (length source.inputs) (omega arith) next;
+      answer = AnswersJudging.no_memory refl (all_calm calm);
     }
 
     -- what is so of a sheet that was made, whatever is done with it
@@ -330,32 +321,16 @@ first_ok : (name : List ℕ) (a b : List TrayState) (job : Job) (read : Result J
 first_ok name a b job (Ok other) same reads = let is : other ≡ job = cc in subst (λ (j : Job). ReadsJob name (tray_at a 0) (tray_at b 0) (Ok j)) is reads
 first_ok name a b job (Err refusal) same reads = absurd (cc)
 
-pub plates_refused : (source : Sources) (budget : Budget) (a b c : List TrayState) (job : Job) (stop : TrapsheetError) → 1 ≤ length source.inputs → length source.names ≡ length source.inputs → ReadsFirst source.job a b (Ok job) → ReadsPlates source.inputs b c (Err stop) → GathersSheet source budget a c (Err stop)
+pub plates_refused : (source : Sources) (budget : Budget) (a b c : List TrayState) (job : Job) (stop : TrapsheetError) → 1 ≤ length source.inputs → length source.names ≡ length source.inputs → ReadsFirst source.job a b (Ok job) → ReadsPlates source.inputs b c (Err stop) → JudgesSheet source budget a c (Err stop)
 plates_refused source budget a b c job stop some named first next = by_plates source budget a b c job some named first.others (first_ok source.job a b job first.read first.same first.first) stop next
 
-pub sheet_made : (source : Sources) (budget : Budget) (a b c : List TrayState) (job : Job) (read : List PlateRead) (result : Result Cutting TrapsheetError) → 1 ≤ length source.inputs → length source.names ≡ length source.inputs → ReadsFirst source.job a b (Ok job) → ReadsPlates source.inputs b c (Ok read) → CutsSheet budget (sheet_of job read source.names) result → GathersSheet source budget a c result
-sheet_made source budget a b c job read result some named first (ReadsPlates.read plates is long ok takes calm told) cuts =
-    let same : plates ≡ read = cc in
-    let is_job = first_ok source.job a b job first.read first.same first.first in
-    sheet_cut source budget a b c job some named first.others is_job read (subst (λ (ps : List PlateRead). length ps ≡ length source.inputs) same long) takes calm
-    (subst (λ (ps : List PlateRead). AllTell (length source.inputs) b → AreSpelled (plates_by b source.inputs) (length source.inputs) ps) same told) result cuts
-sheet_made source budget a b c job read result some named first (ReadsPlates.fails plate fault is stops count told) cuts = absurd (cc)
-sheet_made source budget a b c job read result some named first (ReadsPlates.unread plate is stops rose faultless) cuts = absurd (cc)
-sheet_made source budget a b c job read result some named first (ReadsPlates.no_memory count is within takes calm) cuts = absurd (cc)
+-- A sheet that the job and the plates make is refused, or there is no memory for what is known of it.
+module _ (source : Sources) (budget : Budget) (a b c : List TrayState) (job : Job) (read : List PlateRead) (some : 1 ≤ length source.inputs) (named : length source.names ≡ length source.inputs) (first : ReadsFirst source.job a b (Ok job)) (long : length read ≡ length source.inputs) (takes : TakesFiles source.inputs (length source.inputs) b c) (calm : (k : ℕ) → IsCalm b c k) (told : AllTell (length source.inputs) b → AreSpelled (plates_by b source.inputs) (length source.inputs) read) where
+  pub sheet_refused_as : (stop : TrapsheetError) → sheet_of job read source.names ≡ Err stop → JudgesSheet source budget a c (Err stop)
+  sheet_refused_as stop is = made_refused source budget a b c job some named first.others (first_ok source.job a b job first.read first.same first.first) read long takes calm told stop is
 
--- plates that are read can be assembled
-pub can_assemble : (inputs names : List (List ℕ)) (a b : List TrayState) (read : List PlateRead) → 1 ≤ length inputs → length inputs ≤ 16 → length names ≡ length inputs → ReadsPlates inputs a b (Ok read) → CanAssembleSheet read names
-can_assemble inputs names a b read some few named (ReadsPlates.read plates is long ok takes calm told) =
-    let same : plates ≡ read = cc in
-    subst (λ (ps : List PlateRead). CanAssembleSheet ps names) same (record {
-      some = omega (arith, long);
-      few = omega (arith, long);
-      named = named ∙ sym long;
-      in_range = ok;
-    })
-can_assemble inputs names a b read some few named (ReadsPlates.fails plate fault is stops count told) = absurd (cc)
-can_assemble inputs names a b read some few named (ReadsPlates.unread plate is stops rose faultless) = absurd (cc)
-can_assemble inputs names a b read some few named (ReadsPlates.no_memory count is within takes calm) = absurd (cc)
+  pub no_memory_left : JudgesSheet source budget a c (Err (Common Memory))
+  no_memory_left = no_memory source budget a b c job some named first.others (first_ok source.job a b job first.read first.same first.first) read long takes calm told
 
 -- as many files as inputs that give their names
 pub as_many : {X : Type 0} (text : X → List ℕ) (inputs : List X) → length (map text inputs) ≡ length inputs

@@ -23,20 +23,18 @@ use Rattle.plate_rows.specs.Trays.{TakesFile as FileTaken, TakesFiles as FilesTa
 use Rattle.refusals.specs.declared.refusal.Refusal.{Refusal}
 use Rattle.refusals.specs.declared.refusal.Refusal.TheVariants.{Job as JobFails, Memory, NoDetails, Page, Plate, Read, Usage, Write}
 use Rattle.sheet_cuts.specs.declared.budget.Budget.{Budget}
-use Rattle.sheet_cuts.specs.declared.cutting.Cutting.{Cutting}
 use Rattle.sheet_cuts.specs.Refusals.{sheet_refusal}
 use Rattle.bare_sheets.proofs.BareLemmas.{height_is, law_of, maxval_is, width_is}
 use Rattle.sheet_gather.specs.declared.planning.PlannedSheet.{PlannedSheet}
 use Rattle.sheet_gather.specs.declared.stop.TrapsheetError.{TrapsheetError}
 use Rattle.sheet_gather.specs.declared.stop.TrapsheetError.TheVariants.{Common}
-use Rattle.sheet_gather.specs.Gathering.{AnswersSheet, GathersSheet}
 use Rattle.sheet_gather.specs.Inputs.{AreSpelled, Spells, plates_by}
 use Rattle.sheet_gather.specs.Judging.{AnswersJudging, JudgesSheet, header_in}
 use Rattle.sheet_gather.specs.Planning.{CanPlan, HaveHeaders, MakesWhole, PlansSheet, header_of}
 use Rattle.sheet_gather.specs.SheetFiles.{IsSheetFile, IsSheetPlate}
-use Rattle.sheet_gather.specs.Steps.{CutsSheet, ReadsFirst, ReadsPlates, StopsAt, TakesFile, TakesFiles}
+use Rattle.sheet_gather.specs.Steps.{ReadsFirst, ReadsPlates, StopsAt, TakesFile, TakesFiles}
 use Rattle.sheet_gather.specs.Trays.{AllTell, tray_at}
-use Rattle.sheet_gather.proofs.GatherLemmas.{IsReady, plates_refused, sheet_made, sheet_ready}
+use Rattle.sheet_gather.proofs.GatherLemmas.{IsReady, no_memory_left, plates_refused, sheet_ready, sheet_refused_as}
 use Rattle.sheet_gather.proofs.TrayLemmas.{keeps_is}
 
 -- ---- how plates that were judged were read
@@ -82,24 +80,9 @@ read_refused law faults names headers a b (Write file) long there = absurd there
 read_refused law faults names headers a b Memory long there = absurd there
 read_refused law faults names headers a b Usage long there = absurd there
 
--- ---- an answer that is a refusal, of whichever kind of sheet
-
-module _ (source : Sources) (budget : Budget) (a c : List TrayState) where
-  same_stop : (one two : TrapsheetError) → ◌≡◌ {A = Result Cutting TrapsheetError} (Err one) (Err two) → ◌≡◌ {A = Result PlannedSheet TrapsheetError} (Err one) (Err two)
-  same_stop one two is = let same : one ≡ two = cc in ap (λ (s : TrapsheetError). Err s) same
-
-  answer_of : (stop : TrapsheetError) → AnswersSheet source budget a c (Err stop) → AnswersJudging source budget a c (Err stop)
-  answer_of stop (AnswersSheet.made cutting sheet is cuts made asks calm) = absurd (cc)
-  answer_of stop (AnswersSheet.refused other is refuses) = AnswersJudging.refused other (same_stop stop other is) refuses
-  answer_of stop (AnswersSheet.unread file is fails) = AnswersJudging.unread file (same_stop stop (Common (Read file)) is) fails
-  answer_of stop (AnswersSheet.no_memory is calm) = AnswersJudging.no_memory (same_stop stop (Common Memory) is) calm
-
-  pub refused_as : (stop : TrapsheetError) → GathersSheet source budget a c (Err stop) → JudgesSheet source budget a c (Err stop)
-  refused_as stop gathers = record { takes = gathers.takes; answer = answer_of stop gathers.answer }
-
 pub plate_refused : JudgingStops → FileFaultWithin Sheet → (source : Sources) (budget : Budget) (headers : List Header) (a b c : List TrayState) (job : Job) (refusal : Refusal) → 1 ≤ length source.inputs → length source.names ≡ length source.inputs → length source.inputs ≤ length headers → ReadsFirst source.job a b (Ok job) → JudgesPlates source.inputs headers b c (Err refusal) → JudgesSheet source budget a c (Err (Common refusal))
 plate_refused law faults source budget headers a b c job refusal some named long first there =
-    refused_as source budget a c (Common refusal) (plates_refused source budget a b c job (Common refusal) some named first (read_refused law faults source.inputs headers b c refusal long there))
+    plates_refused source budget a b c job (Common refusal) some named first (read_refused law faults source.inputs headers b c refusal long there)
 
 -- ---- all plates are judged
 
@@ -131,9 +114,6 @@ module _ (source : Sources) (budget : Budget) (headers : List Header) (a b c : L
 
   told : AllTell (length source.inputs) b → AreSpelled (plates_by b source.inputs) (length source.inputs) read
   told = spelled source.inputs headers (length source.inputs) b read judged.are_plates
-
-  reads : ReadsPlates source.inputs b c (Ok read)
-  reads = ReadsPlates.read read refl judged.are_plates.all judged.are_plates.in_range takes judged.calm told
 
   -- the job left each tray of the same files
   job_keeps : (k : ℕ) → KeepsTray (tray_at a k) (tray_at b k)
@@ -185,7 +165,7 @@ module _ (source : Sources) (budget : Budget) (headers : List Header) (a b c : L
       }
   sheet_judged result (PlansSheet.refused stop is refuses) =
       subst (λ (r : Result PlannedSheet TrapsheetError). JudgesSheet source budget a c r) (sym is)
-      (refused_as source budget a c stop (sheet_made source budget a b c job read (Err stop) some named first reads (CutsSheet.refused stop refl (refuses read have))))
+      (sheet_refused_as source budget a b c job read some named first judged.are_plates.all takes judged.calm told stop (refuses read have))
   sheet_judged result (PlansSheet.no_memory is) =
       subst (λ (r : Result PlannedSheet TrapsheetError). JudgesSheet source budget a c r) (sym is)
-      (refused_as source budget a c (Common Memory) (sheet_made source budget a b c job read (Err (Common Memory)) some named first reads (CutsSheet.no_memory refl)))
+      (no_memory_left source budget a b c job read some named first judged.are_plates.all takes judged.calm told)

@@ -1,5 +1,4 @@
 pub mod TrayLemmas
-pub mod PlateLemmas
 pub mod SheetLemmas
 pub mod PlanLemmas
 pub mod GatherLemmas

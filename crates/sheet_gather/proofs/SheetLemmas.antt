@@ -6,7 +6,7 @@ use Rattle.std.proofs.lemmas.List.Elements.{All-map}
 use Rattle.lists.proofs.FirstSome.{both_none}
 use Rattle.job_reader.specs.declared.job.Job.{Job}
 use Rattle.job_reader.specs.InRange.{IsJob}
-use Rattle.page_gather.specs.Assembly.{assembled, ink_of, parts_of_planes, without_details, zone_for}
+use Rattle.page_gather.specs.Assembly.{assembled, ink_of, parts_of_planes, zone_for}
 use Rattle.page_gather.proofs.AssemblyLemmas.{first_zone, ink_ok, sum_by-zones, zone_ok}
 use Rattle.page_model.specs.declared.page.PageFault.{PageFault}
 use Rattle.page_model.specs.declared.parts.PageParts.{PageParts}
@@ -22,15 +22,7 @@ use Rattle.sheet_cuts.specs.declared.refusal.SheetRefusal.TheVariants.{Fault}
 use Rattle.sheet_cuts.specs.Refusals.{large_fault, parts_fault, sheet_refusal}
 use Rattle.sheet_cuts.proofs.FaultLemmas.{sheet_from}
 use Rattle.sheet_windows.specs.Sheets.{IsSheet, IsSheetParts, IsSheetPlane}
-use Rattle.sheet_cuts.specs.declared.budget.Budget.{Budget}
-use Rattle.sheet_cuts.specs.declared.cutting.Cutting.{Cutting}
-use Rattle.sheet_cuts.specs.Cuttings.{IsCutting}
-use Rattle.sheet_gather.specs.Inputs.{detailed, judged, sheet_of}
 use Rattle.sheet_gather.specs.SheetFiles.{CanAssembleSheet, CanCutPlanes}
-use Rattle.sheet_gather.specs.Steps.{CutsSheet}
-use Rattle.refusals.specs.declared.refusal.Refusal.TheVariants.{NoDetails}
-use Rattle.sheet_gather.specs.declared.stop.TrapsheetError.{TrapsheetError}
-use Rattle.sheet_gather.specs.declared.stop.TrapsheetError.TheVariants.{Common, OfSheet}
 
 sheet_plane : (plane : Plane) → IsPlaneWithin Sheet plane → IsSheetPlane plane
 sheet_plane plane is = record {
@@ -60,10 +52,6 @@ is_sheet_parts job planes names is can = record {
       (length-map job.zones (zone_for names) ∙ alone.0, ap (λ (z : Zone). z.params.enabled) (first_zone names job.zones is.some_zones) ∙ alone.1);
 }
 
--- its sides, those of the first plane
-pub first_plane : (planes : List Plane) (names : List (List ℕ)) (none : Plane) → CanCutPlanes planes names → IsPlaneWithin Sheet (get_or planes 0 none)
-first_plane planes names none can = can.in_range 0 none (let some = can.some in omega arith)
-
 -- the planes of plates that can be assembled
 pub can_cut : (plates : List Plate) (planes : List Plane) (names : List (List ℕ)) → CanAssembleSheet plates names → planes ≡ map plane_of plates → CanCutPlanes planes names
 can_cut plates planes names can made = subst (λ (ps : List Plane). CanCutPlanes ps names) (sym made) (record {
@@ -81,24 +69,3 @@ no_fault (Some fault) none = absurd (let e : ◌≡◌ {A = Option SheetRefusal}
 pub is_accepted : (sheet : PageParts) → IsSheetParts sheet → sheet_refusal sheet ≡ None → IsSheet sheet
 is_accepted sheet parts accepted =
     sheet_from sheet parts (no_fault (parts_fault sheet) (both_none (option_map Fault (parts_fault sheet)) (large_fault sheet) accepted).0)
-
--- the sheet was cut
-pub cuts_ok : (budget : Budget) (parts sheet : PageParts) (cutting : Cutting) → sheet ≡ parts → IsSheetParts parts → sheet_refusal sheet ≡ None → IsCutting sheet budget cutting → CutsSheet budget (judged (sheet_refusal parts) parts) (Ok cutting)
-cuts_ok budget parts sheet cutting same ok accepted cuts =
-    let none : sheet_refusal parts ≡ None = ap sheet_refusal (sym same) ∙ accepted in
-    CutsSheet.cut cutting parts refl (ap (λ (o : Option SheetRefusal). judged o parts) none) (is_accepted parts ok none) none (subst (λ (s : PageParts). IsCutting s budget cutting) same cuts)
-
--- the sheet was refused
-pub cuts_err : (budget : Budget) (parts sheet : PageParts) (refusal : SheetRefusal) → sheet ≡ parts → sheet_refusal sheet ≡ Some refusal → CutsSheet budget (judged (sheet_refusal parts) parts) (Err (OfSheet refusal))
-cuts_err budget parts sheet refusal same is =
-    CutsSheet.refused (OfSheet refusal) refl (ap (λ (o : Option SheetRefusal). judged o parts) (ap sheet_refusal (sym same) ∙ is))
-
--- a plate lacks its details
-pub cuts_without : (budget : Budget) (parts : PageParts) (o : Option ℕ) (plate : ℕ) → Some plate ≡ o → CutsSheet budget (detailed o parts) (Err (Common (NoDetails plate)))
-cuts_without budget parts o plate is = CutsSheet.refused (Common (NoDetails plate)) refl (ap (λ (p : Option ℕ). detailed p parts) (sym is))
-
--- no plate does
-pub cuts_with : (budget : Budget) (job : Job) (plates : List Plate) (planes : List Plane) (names : List (List ℕ)) (result : Result Cutting TrapsheetError) → None ≡ without_details job names → planes ≡ map plane_of plates → CutsSheet budget (judged (sheet_refusal (parts_of_planes job planes names)) (parts_of_planes job planes names)) result → CutsSheet budget (sheet_of job plates names) result
-cuts_with budget job plates planes names result none made cuts =
-    subst (λ (o : Option ℕ). CutsSheet budget (detailed o (assembled job plates names)) result) none
-    (subst (λ (ps : List Plane). CutsSheet budget (judged (sheet_refusal (parts_of_planes job ps names)) (parts_of_planes job ps names)) result) made cuts)

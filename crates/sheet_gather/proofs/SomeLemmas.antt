@@ -1,5 +1,5 @@
 -- Where all files are there, a verdict on the sheet stands.
-use Rattle.std.proofs.Common.{◌≡◌, ◌⊎◌, ℕ, zero, suc, ◌<◌, ◌≤◌, ◌+◌, All, List, [], ◌∷◌, ◌++◌, length, Option, Some, None, Result, Ok, Err, inl, inr, refl, subst, arith}
+use Rattle.std.proofs.Common.{◌≡◌, ◌⊎◌, ℕ, zero, suc, ◌<◌, ◌≤◌, ◌+◌, All, List, [], ◌∷◌, ◌++◌, length, Option, Some, None, Result, Ok, Err, inl, inr, refl, subst, arith, ◌≢◌, map, get_or, IsTrue, sym, ap, ◌∙◌, length-append, below_more}
 use Rattle.job_reader.specs.declared.job.Job.{Job as JobRead}
 use Rattle.job_reader.specs.Jobs.{job_of}
 use Rattle.ps_tokens.specs.declared.faults.JobFault.{JobFault}
@@ -15,7 +15,22 @@ use Rattle.sheet_gather.specs.Inputs.{AreSpelled, HeldBytes, PlateFails, Spells}
 use Rattle.sheet_gather.specs.Verdicts.{SheetVerdict, IsSheetVerdict, SomeSheetVerdict}
 use Rattle.sheet_gather.specs.Verdicts.SheetVerdict.{Accepted, Refused}
 use Rattle.sheet_gather.specs.declared.stop.TrapsheetError.TheVariants.{Common, OfSheet}
-use Rattle.sheet_gather.proofs.PlateLemmas.{spelled_more}
+use Rattle.std.specs.List.{All}
+use Rattle.std.proofs.lemmas.List.{get_or_append_left}
+use Rattle.std.proofs.Math.Seq.{get_or-append_seam}
+use Rattle.page_gather.specs.Inputs.{plate_at, no_plate}
+use Rattle.sheet_gather.specs.SheetFiles.{IsSheetFile}
+
+-- one plate more is spelled
+spelled_more : (held : ℕ → Option (List ℕ)) (k : ℕ) (plates : List PlateRead) (plate : PlateRead) → AreSpelled held k plates → Spells (held k) (λ bytes. IsSheetFile bytes plate) → AreSpelled held (k + 1) (plates ++ plate ∷ [])
+spelled_more held k plates plate before here = record {
+  all = length-append plates (plate ∷ []) ∙ ap (λ (n : ℕ). n + 1) before.all;
+  each = below_more (λ (j : ℕ). Spells (held j) (λ bytes. IsSheetFile bytes (plate_at (plates ++ plate ∷ []) j))) k
+      (λ j less.
+      let lt : j < length plates = omega (arith, before.all) in
+      subst (λ (p : PlateRead). Spells (held j) (λ bytes. IsSheetFile bytes p)) (sym (get_or_append_left plates (plate ∷ []) no_plate j lt)) (before.each j less))
+      (subst (λ (p : PlateRead). Spells (held k) (λ bytes. IsSheetFile bytes p)) (sym (ap (λ (n : ℕ). plate_at (plates ++ plate ∷ []) n) (sym before.all) ∙ get_or-append_seam plates plate [] no_plate)) here);
+}
 
 module _ (plate_or_fault : PlateOrFaultWithin Sheet) (held : HeldBytes) (names : List (List ℕ)) (plates_there : (k : ℕ) → k < length names → Spells (held.plate k) (λ bytes. All (λ b. b < 256) bytes)) where
   abbrev Stands : Type 0

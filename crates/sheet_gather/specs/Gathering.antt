@@ -5,22 +5,19 @@ use Rattle.job_reader.specs.declared.job.Job.{Job}
 use Rattle.job_reader.specs.Jobs.{job_of}
 use Rattle.outside.specs.Causes.{Rose, Asks, AsksPrefix}
 use Rattle.outside.specs.Tray.{TrayState, KeepsTray}
-use Rattle.page_gather.specs.Inputs.{Sources, name_at, sources}
+use Rattle.page_gather.specs.Inputs.{Sources, name_at}
 use Rattle.page_gather.specs.Steps.{TakesJob, TakesPlate}
 use Rattle.page_model.specs.declared.parts.PageParts.{PageParts}
 use Rattle.page_model.specs.Page.{plates}
 use Rattle.pgm_plates.specs.declared.plate.Plate.{Plate as PlateRead}
 use Rattle.pgm_plates.specs.declared.plate.PlateRefusal.TheVariants.{Fault}
 use Rattle.pgm_plates.specs.Reading.{KeepsCount}
-use Rattle.refusals.specs.declared.refusal.Refusal.TheVariants.{Job as JobFails, Memory, NoDetails}
+use Rattle.refusals.specs.declared.refusal.Refusal.TheVariants.{Job as JobFails, NoDetails}
 use Rattle.refusals.specs.declared.refusal.Refusal.TheVariants.{Plate, Read}
-use Rattle.sheet_cuts.specs.declared.budget.Budget.{Budget}
-use Rattle.sheet_cuts.specs.declared.cutting.Cutting.{Cutting}
-use Rattle.sheet_cuts.specs.Cuttings.{IsCutting}
 use Rattle.sheet_cuts.specs.Refusals.{sheet_refusal}
 use Rattle.sheet_windows.specs.Sheets.{IsSheet}
 use Rattle.sheet_gather.specs.Inputs.{AreSpelled, MakesSheet, Spells, held_by, plates_by}
-use Rattle.sheet_gather.specs.Steps.{IsFaultless, ReadsFirst}
+use Rattle.sheet_gather.specs.Steps.{IsFaultless}
 use Rattle.sheet_gather.specs.Trays.{AllTell, IsCalm, files_twice, tray_at, tray_files}
 use Rattle.sheet_gather.specs.Verdicts.{IsSheetVerdict, Refused}
 use Rattle.sheet_gather.specs.declared.stop.TrapsheetError.{TrapsheetError}
@@ -137,35 +134,7 @@ pub record IsMadeSheet (source : Sources) (trays : List TrayState)
   pub made : AllTell (length source.inputs) trays
       → MakesSheet (held_by trays source) source.names (Ok sheet)
 
--- what the answer says of the files' bytes, where they are told, and of the names that were handed
--- out
-pub data AnswersSheet (source : Sources) (budget : Budget) (before after : List TrayState)
-    (result : Result Cutting TrapsheetError) : Type 0 where
-  made : (cutting : Cutting) (sheet : PageParts) → result ≡ Ok cutting
-      → IsCutting sheet budget cutting → IsMadeSheet source before sheet
-      → ((k : ℕ) → k < length source.inputs → AsksAll source before after k)
-      → ((k : ℕ) → IsCalm before after k) → AnswersSheet source budget before after result
-  refused : (stop : TrapsheetError) → result ≡ Err stop → RefusesFiles source before after stop
-      → AnswersSheet source budget before after result
-  unread : (file : Option ℕ) → result ≡ Err (Common (Read file))
-      → FailsToRead source before after file → AnswersSheet source budget before after result
-  no_memory : result ≡ Err (Common Memory) → ((k : ℕ) → IsCalm before after k)
-      → AnswersSheet source budget before after result
-
--- The job and the plates are read, and the sheet is made of them and cut.
-pub record GathersSheet (source : Sources) (budget : Budget) (before after : List TrayState)
-    (result : Result Cutting TrapsheetError) : Type 0 where
-  pub takes : TakesTrays source before after
-  pub answer : AnswersSheet source budget before after result
-
--- After a job that was read, the rest of the sheet is read.
-abbrev pub GathersRest : List (List ℕ) → List (List ℕ) → Budget → Job → List TrayState
-    → List TrayState → Result Cutting TrapsheetError → Type 0
-GathersRest names inputs budget job between after result = (name : List ℕ)
-    (before : List TrayState) → ReadsFirst name before between (Ok job)
-    → GathersSheet (sources name names inputs) budget before after result
-
--- The same, where each plate may be read twice.
+-- The same of trays whose plates may be read twice.
 pub record TakesTwice (source : Sources) (before after : List TrayState) : Type 0 where
   pub keeps : (k : ℕ) → KeepsTray (tray_at before k) (tray_at after k)
   pub asked : (k : ℕ)

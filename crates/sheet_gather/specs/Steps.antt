@@ -6,20 +6,14 @@ use Rattle.outside.specs.Causes.{Rose, Asks}
 use Rattle.outside.specs.Tray.{TrayState, KeepsTray}
 use Rattle.page_gather.specs.Inputs.{name_at}
 use Rattle.page_gather.specs.Steps.{ReadsJob, TakesPlate}
-use Rattle.page_model.specs.declared.parts.PageParts.{PageParts}
 use Rattle.pgm_plates.specs.declared.plate.Plate.{Plate as PlateRead}
 use Rattle.pgm_plates.specs.declared.plate.PlateFault.{PlateFault}
 use Rattle.pgm_plates.specs.declared.plate.PlateRefusal.TheVariants.{Fault}
 use Rattle.pgm_plates.specs.Reading.{IsTruncated, KeepsCount}
 use Rattle.refusals.specs.declared.refusal.Refusal.{Refusal}
-use Rattle.refusals.specs.declared.refusal.Refusal.TheVariants.{Memory, Plate, Read}
-use Rattle.sheet_cuts.specs.declared.budget.Budget.{Budget}
-use Rattle.sheet_cuts.specs.declared.cutting.Cutting.{Cutting}
-use Rattle.sheet_cuts.specs.Cuttings.{IsCutting}
-use Rattle.sheet_cuts.specs.Refusals.{sheet_refusal}
-use Rattle.sheet_windows.specs.Sheets.{IsSheet}
+use Rattle.refusals.specs.declared.refusal.Refusal.TheVariants.{Plate, Read}
 use Rattle.sheet_gather.specs.Inputs.{AreSpelled, Spells, plates_by}
-use Rattle.sheet_gather.specs.SheetFiles.{IsSheetFault, IsSheetFile, IsSheetPlate}
+use Rattle.sheet_gather.specs.SheetFiles.{IsSheetFault, IsSheetPlate}
 use Rattle.sheet_gather.specs.Trays.{AllTell, IsCalm, tray_at}
 use Rattle.sheet_gather.specs.declared.stop.TrapsheetError.{TrapsheetError}
 use Rattle.sheet_gather.specs.declared.stop.TrapsheetError.TheVariants.{Common}
@@ -44,33 +38,11 @@ IsFaultless name before after = IsTrue after.begun → IsTrue before.tells
     → (bytes : List ℕ) × (before.file name ≡ Some (bytes ++ after.left))
     × ((fault : PlateFault) → IsSheetFault bytes fault → IsTruncated fault)
 
--- what the answer says of the file of plate k
-pub data AnswersPlate (k : ℕ) (name : List ℕ) (before after : TrayState)
-    (result : Result PlateRead TrapsheetError) : Type 0 where
-  read : (plate : PlateRead) → result ≡ Ok plate → IsSheetPlate plate
-      → after.faults ≡ before.faults
-      → (IsTrue before.tells → Spells (before.file name) (λ bytes. IsSheetFile bytes plate))
-      → AnswersPlate k name before after result
-  fails : (fault : PlateFault) → result ≡ Err (Common (Plate k fault))
-      → KeepsCount {T = PlateRead} before after (Err (Fault fault))
-      → (IsTrue before.tells → Spells (before.file name) (λ bytes. IsSheetFault bytes fault))
-      → AnswersPlate k name before after result
-  unread : result ≡ Err (Common (Read (Some k))) → Rose before.faults after.faults
-      → IsFaultless name before after → AnswersPlate k name before after result
-  no_memory : result ≡ Err (Common Memory) → after.faults ≡ before.faults
-      → AnswersPlate k name before after result
-
 -- The file of that name is asked for, and no more is taken of it than is owed.
 pub record TakesFile (name : List ℕ) (before after : TrayState) : Type 0 where
   pub keeps : KeepsTray before after
   pub asked : Asks before.asked after.asked (name ∷ [])
   pub few : TakesPlate name before after
-
--- Plate k is read from the file of that name.
-pub record ReadsOne (k : ℕ) (name : List ℕ) (before after : TrayState)
-    (result : Result PlateRead TrapsheetError) : Type 0 where
-  pub takes : TakesFile name before after
-  pub answer : AnswersPlate k name before after result
 
 -- The first so many files are asked for, each of its own tray. The trays after them are as they
 -- were.
@@ -107,16 +79,3 @@ pub data ReadsPlates (names : List (List ℕ)) (before after : List TrayState)
       → Rose (tray_at before k).faults (tray_at after k).faults
       → IsFaultless (name_at names k) (tray_at before k) (tray_at after k)
       → ReadsPlates names before after result
-  no_memory : (k : ℕ) → result ≡ Err (Common Memory) → k ≤ length names
-      → TakesFiles names k before after → ((j : ℕ) → IsCalm before after j)
-      → ReadsPlates names before after result
-
--- A sheet that is made is cut, or it is one page. A refusal is its own, or out of memory.
-pub data CutsSheet (budget : Budget) (made : Result PageParts TrapsheetError)
-    (result : Result Cutting TrapsheetError) : Type 0 where
-  cut : (cutting : Cutting) (sheet : PageParts) → result ≡ Ok cutting → made ≡ Ok sheet
-      → IsSheet sheet → sheet_refusal sheet ≡ None → IsCutting sheet budget cutting
-      → CutsSheet budget made result
-  refused : (stop : TrapsheetError) → result ≡ Err stop → made ≡ Err stop
-      → CutsSheet budget made result
-  no_memory : result ≡ Err (Common Memory) → CutsSheet budget made result

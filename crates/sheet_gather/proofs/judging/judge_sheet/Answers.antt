@@ -1,7 +1,6 @@
 use Rattle.std.proofs.Common.{◌≤◌, length, map, arith}
 use Rattle.page_gather.specs.Inputs.{sources}
 use Rattle.sheet_gather.proofs.GatherLemmas.{as_many, job_refused}
-use Rattle.sheet_gather.proofs.JudgeLemmas.{refused_as}
 use Rattle.sheet_gather.proofs.judging.judge_sheet.Goals as goal
 
 pub returns-in-Ok : goal.returns-in-Ok
@@ -14,4 +13,4 @@ returns-in-Err g c =
     let source = sources c.args.job.now c.args.names.now inputs in
     let a = map g.T.Tray.state c.args.trays.now in
     let b = map g.T.Tray.state c.read_first.new.trays in
-    refused_as source c.args.budget.now a b c.in-Err.stop (job_refused source c.args.budget.now a b c.in-Err.stop some c.in-Err.ensures)
+    job_refused source c.args.budget.now a b c.in-Err.stop some c.in-Err.ensures
