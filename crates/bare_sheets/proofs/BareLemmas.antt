@@ -17,16 +17,15 @@ use Rattle.page_model.specs.Page.{height, maxval, path_at, plates, width}
 use Rattle.page_model.specs.Planes.{plane_at}
 use Rattle.page_model.specs.Reach.{page_reach}
 use Rattle.page_model.proofs.FaultLemmas.{agrees_from, near_from}
-use Rattle.sheet_cuts.specs.declared.budget.Budget.{Budget}
-use Rattle.sheet_cuts.specs.declared.refusal.SheetRefusal.TheVariants.{Far, Fault}
-use Rattle.sheet_cuts.specs.Cuttings.{room}
-use Rattle.sheet_cuts.specs.Refusals.{cut_fault, far, is_far_by, is_large, parts_fault, sheet_refusal, uncut}
-use Rattle.sheet_cuts.proofs.FarLemmas.{near_from as near_sheet}
+use Rattle.bare_sheets.specs.declared.budget.Budget.{Budget}
+use Rattle.bare_sheets.specs.declared.refusal.SheetRefusal.TheVariants.{Far, Fault}
+use Rattle.bare_sheets.specs.Planned.{room, FitRulers, IsPlan, even_room}
+use Rattle.bare_sheets.specs.Refusals.{cut_fault, far, is_far_by, is_large, parts_fault, sheet_refusal, uncut}
+use Rattle.bare_sheets.proofs.FarLemmas.{near_from as near_sheet}
 use Rattle.bare_sheets.specs.declared.plan.Plan.{Plan}
 use Rattle.bare_sheets.specs.declared.plan.Plan.TheVariants.{Page, Strips, Windows}
 use Rattle.bare_sheets.specs.declared.plan.Rulers.{Rulers}
 use Rattle.bare_sheets.specs.Law.{BareLaw}
-use Rattle.bare_sheets.specs.Planned.{FitRulers, IsPlan, even_room}
 use Rattle.bare_sheets.specs.Bare.{IsFull, IsBareSheet, IsBareParts, IsBarePlane, bare_plane, bare_sheet}
 use Rattle.sheet_windows.specs.Sheets.{IsSheet, IsSheetPlane}
 use Rattle.sheet_windows.specs.Windows.{points_of}

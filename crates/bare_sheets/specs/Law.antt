@@ -3,8 +3,8 @@ use Rattle.std.specs.Prelude.{◌≡◌}
 use Rattle.page_model.specs.declared.parts.PageParts.{PageParts}
 use Rattle.page_model.specs.Page.{height, maxval, plates, width}
 use Rattle.page_model.specs.Reach.{page_reach}
-use Rattle.sheet_cuts.specs.declared.budget.Budget.{Budget}
-use Rattle.sheet_cuts.specs.Refusals.{cut_fault, is_large, parts_fault, sheet_refusal}
+use Rattle.bare_sheets.specs.declared.budget.Budget.{Budget}
+use Rattle.bare_sheets.specs.Refusals.{cut_fault, is_large, parts_fault, sheet_refusal}
 use Rattle.bare_sheets.specs.declared.plan.Plan.{Plan}
 use Rattle.bare_sheets.specs.Planned.{IsPlan}
 use Rattle.bare_sheets.specs.Bare.{IsBareSheet, bare_sheet}

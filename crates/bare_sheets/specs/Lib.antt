@@ -1,3 +1,4 @@
+pub mod Refusals
 pub mod Bare
 pub mod Planned
 pub mod Law

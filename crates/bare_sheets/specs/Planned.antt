@@ -6,9 +6,8 @@ use Rattle.page_model.specs.Columns.{halo}
 use Rattle.page_model.specs.Limits.{most_samples}
 use Rattle.page_model.specs.Page.{plates}
 use Rattle.page_model.specs.Reach.{page_reach}
-use Rattle.sheet_cuts.specs.declared.budget.Budget.{Budget}
-use Rattle.sheet_cuts.specs.Cuttings.{room}
-use Rattle.sheet_cuts.specs.Refusals.{cut_fault, is_large, most_step}
+use Rattle.bare_sheets.specs.declared.budget.Budget.{Budget}
+use Rattle.bare_sheets.specs.Refusals.{cut_fault, is_large, most_step}
 use Rattle.bare_sheets.specs.declared.plan.Least.{Least}
 use Rattle.bare_sheets.specs.declared.plan.Plan.{Plan}
 use Rattle.bare_sheets.specs.declared.plan.Plan.TheVariants.{Page, Strips, Windows}
@@ -16,6 +15,10 @@ use Rattle.bare_sheets.specs.declared.plan.Rulers.{Rulers}
 use Rattle.sheet_windows.specs.declared.spans.Ruler.{Ruler}
 use Rattle.sheet_windows.specs.Plans.{AreRulers, AreSmall, IsStep}
 use Rattle.sheet_windows.specs.Spans.{IsEvenRuler, IsRuler}
+
+-- the least length of a window: a halo on each side, and a step beside
+abbrev pub room : Ruler → ℕ
+room ruler = 2 * max 1 ruler.halo + ruler.step
 
 -- the least rows of strips that all have as many: a halo above and below, and two steps less a row
 abbrev pub even_room : Ruler → ℕ

@@ -5,12 +5,12 @@ ghost use Rattle.std.specs.List.{list_any};
 ghost use Rattle.lists.specs.Words.{first_some, or_else};
 ghost use Rattle.page_model.specs.Limits.{most_zones};
 ghost use Rattle.page_model.specs.Page.{height, path_at, width};
-ghost use Rattle.sheet_cuts.specs.Refusals.{far, is_far_by};
+ghost use Rattle.bare_sheets.specs.Refusals.{far, is_far_by};
 ghost use Rattle.bare_sheets.specs.Bare.{IsBareSheet};
 ghost use Rattle.sheet_windows.specs.Windows.{points_of};
 
+use crate::refusal::SheetRefusal;
 use page_model::parts::{PageParts, Vertex};
-use sheet_cuts::refusal::SheetRefusal;
 use window_pages::sheet::points;
 
 const MOST_COORDINATE: u64 = 10_000_000_000;

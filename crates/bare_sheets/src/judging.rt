@@ -7,16 +7,16 @@ ghost use Rattle.page_model.specs.Faults.{too_wide};
 ghost use Rattle.page_model.specs.Limits.{most_reach};
 ghost use Rattle.page_model.specs.Page.{height, width};
 ghost use Rattle.page_model.specs.Reach.{page_reach, zone_reach};
-ghost use Rattle.sheet_cuts.specs.Refusals.{cut_fault, is_large, parts_fault};
+ghost use Rattle.bare_sheets.specs.Refusals.{cut_fault, is_large, parts_fault};
 ghost use Rattle.bare_sheets.specs.Bare.{IsBareSheet, IsBareParts};
 
 use crate::far::{earlier, first_far};
+use crate::refusal::SheetRefusal;
 use crate::steps::uncut_of;
 use page_model::bounds::{MOST_REACH, MOST_SAMPLES, MOST_SIDE};
 use page_model::page::{PageFault, first_difference};
 use page_model::parts::PageParts;
 use page_model::reach::reach_of;
-use sheet_cuts::refusal::SheetRefusal;
 
 /// Whether a sheet is above the limits of a page.
 pub fn is_large_sheet(sheet: &PageParts) -> bool

@@ -4,7 +4,7 @@ ghost use Rattle.std.specs.Prelude.{◌≡◌, ◌+◌, ◌<◌, ◌≤◌, ◌^
 ghost use Rattle.page_model.specs.declared.parts.PageParts.{PageParts};
 ghost use Rattle.page_model.specs.declared.parts.Plane.{Plane};
 ghost use Rattle.page_model.specs.Page.{height, width};
-ghost use Rattle.sheet_cuts.specs.Refusals.{cut_fault};
+ghost use Rattle.bare_sheets.specs.Refusals.{cut_fault};
 ghost use Rattle.bare_sheets.specs.Begun.{BeginsEarlier, BeginsWith, MayBegin};
 ghost use Rattle.bare_sheets.specs.Law.{BareLaw};
 ghost use Rattle.bare_sheets.specs.Bare.{IsFull, IsBareSheet, bare_sheet};

@@ -5,17 +5,17 @@ ghost use Rattle.page_model.specs.Columns.{halo};
 ghost use Rattle.page_model.specs.Limits.{most_plates, most_samples, most_side};
 ghost use Rattle.page_model.specs.Page.{height, plates, width};
 ghost use Rattle.page_model.specs.Reach.{page_reach};
-ghost use Rattle.sheet_cuts.specs.Refusals.{cut_fault, large_fault, most_step, sheet_refusal, uncut};
+ghost use Rattle.bare_sheets.specs.Refusals.{cut_fault, large_fault, most_step, sheet_refusal, uncut};
 ghost use Rattle.sheet_windows.specs.Plans.{IsStep};
 ghost use Rattle.bare_sheets.specs.Planned.{IsLeast, FitRulers, IsCutBy, IsPlan};
 ghost use Rattle.bare_sheets.specs.Bare.{IsBareSheet, IsBareParts};
 
+use crate::budget::{Budget, most_columns, most_rows};
 use crate::judging::{cut_fault_of, halo_of, is_large_sheet, parts_fault_of};
+use crate::refusal::SheetRefusal;
 use crate::steps::sheet_step;
 use page_model::bounds::MOST_SAMPLES;
 use page_model::parts::PageParts;
-use sheet_cuts::budget::{Budget, most_columns, most_rows};
-use sheet_cuts::refusal::SheetRefusal;
 use sheet_windows::spans::Ruler;
 
 /// Rulers for the columns and the rows of a sheet.

@@ -2,12 +2,12 @@
 
 ghost use Rattle.std.specs.Prelude.{◌≡◌, ◌<◌, ◌≤◌, length, Some, None};
 ghost use Rattle.page_model.specs.Limits.{most_resolution};
-ghost use Rattle.sheet_cuts.specs.Refusals.{has_step, most_step, uncut};
+ghost use Rattle.bare_sheets.specs.Refusals.{has_step, most_step, uncut};
 ghost use Rattle.sheet_windows.specs.Plans.{IsStep};
 ghost use Rattle.bare_sheets.specs.Bare.{IsBareSheet};
 
+use crate::refusal::SheetRefusal;
 use page_model::parts::PageParts;
-use sheet_cuts::refusal::SheetRefusal;
 use sheet_windows::spans::step_of;
 
 const MOST_STEP: u32 = 2_048;
@@ -34,7 +34,7 @@ pub fn uncut_of(sheet: &PageParts) -> Option<SheetRefusal>
 }
 
 /// The step of a sheet in samples: 1 where it has no paths, since then no vertex is moved.
-#[tactic(auto, using(sheet_cuts::proofs::StepLemmas::step_short))]
+#[tactic(auto, using(crate::proofs::StepLemmas::step_short))]
 pub fn sheet_step(sheet: &PageParts) -> u32
     requires sheet { IsBareSheet sheet.now }
     requires cut { uncut sheet.now ≡ None }

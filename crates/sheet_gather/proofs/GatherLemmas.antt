@@ -21,9 +21,9 @@ use Rattle.pgm_plates.specs.Planes.{plane_of}
 use Rattle.pgm_plates.specs.Reading.{KeepsCount}
 use Rattle.refusals.specs.declared.refusal.Refusal.{Refusal}
 use Rattle.refusals.specs.declared.refusal.Refusal.TheVariants.{Usage, Job as JobFails, NoDetails, Plate, Page, Read, Write, Memory}
-use Rattle.sheet_cuts.specs.declared.budget.Budget.{Budget}
-use Rattle.sheet_cuts.specs.declared.refusal.SheetRefusal.{SheetRefusal}
-use Rattle.sheet_cuts.specs.Refusals.{sheet_refusal}
+use Rattle.bare_sheets.specs.declared.budget.Budget.{Budget}
+use Rattle.bare_sheets.specs.declared.refusal.SheetRefusal.{SheetRefusal}
+use Rattle.bare_sheets.specs.Refusals.{sheet_refusal}
 use Rattle.sheet_windows.specs.Sheets.{IsSheet}
 use Rattle.sheet_gather.specs.Inputs.{AreSpelled, MakesSheet, SheetInputs, Spells, detailed, held_by, judged, plates_by, sheet_of}
 use Rattle.sheet_gather.specs.SheetFiles.{IsSheetFault}

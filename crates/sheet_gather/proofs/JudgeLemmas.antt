@@ -22,8 +22,8 @@ use Rattle.plate_rows.specs.Judging.{JudgesPlates}
 use Rattle.plate_rows.specs.Trays.{TakesFile as FileTaken, TakesFiles as FilesTaken, header_in as header_there}
 use Rattle.refusals.specs.declared.refusal.Refusal.{Refusal}
 use Rattle.refusals.specs.declared.refusal.Refusal.TheVariants.{Job as JobFails, Memory, NoDetails, Page, Plate, Read, Usage, Write}
-use Rattle.sheet_cuts.specs.declared.budget.Budget.{Budget}
-use Rattle.sheet_cuts.specs.Refusals.{sheet_refusal}
+use Rattle.bare_sheets.specs.declared.budget.Budget.{Budget}
+use Rattle.bare_sheets.specs.Refusals.{sheet_refusal}
 use Rattle.bare_sheets.proofs.BareLemmas.{height_is, law_of, maxval_is, width_is}
 use Rattle.sheet_gather.specs.declared.planning.PlannedSheet.{PlannedSheet}
 use Rattle.sheet_gather.specs.declared.stop.TrapsheetError.{TrapsheetError}

@@ -19,9 +19,9 @@ use Rattle.pgm_plates.specs.declared.rows.OpenPlate.{OpenPlate}
 use Rattle.pgm_plates.specs.Laws.{IsTopOf, TopOfFileWithin}
 use Rattle.pgm_plates.specs.Planes.{plane_of}
 use Rattle.plate_rows.specs.Trays.{open_at}
-use Rattle.sheet_cuts.specs.declared.budget.Budget.{Budget}
-use Rattle.sheet_cuts.specs.declared.refusal.SheetRefusal.{SheetRefusal}
-use Rattle.sheet_cuts.specs.Refusals.{sheet_refusal}
+use Rattle.bare_sheets.specs.declared.budget.Budget.{Budget}
+use Rattle.bare_sheets.specs.declared.refusal.SheetRefusal.{SheetRefusal}
+use Rattle.bare_sheets.specs.Refusals.{sheet_refusal}
 use Rattle.bare_sheets.specs.Begun.{BeginsWith, MayBegin}
 use Rattle.bare_sheets.proofs.BareLemmas.{law_of, plates_is}
 use Rattle.bare_sheets.proofs.BegunLemmas.{some_sheet}

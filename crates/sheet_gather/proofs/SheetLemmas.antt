@@ -17,10 +17,10 @@ use Rattle.pgm_plates.specs.declared.bounds.Bounds.TheVariants.{Sheet}
 use Rattle.pgm_plates.specs.declared.plate.Plate.{Plate}
 use Rattle.pgm_plates.specs.Planes.{IsPlaneWithin, plane_of}
 use Rattle.pgm_plates.proofs.Turned.{plane_within}
-use Rattle.sheet_cuts.specs.declared.refusal.SheetRefusal.{SheetRefusal}
-use Rattle.sheet_cuts.specs.declared.refusal.SheetRefusal.TheVariants.{Fault}
-use Rattle.sheet_cuts.specs.Refusals.{large_fault, parts_fault, sheet_refusal}
-use Rattle.sheet_cuts.proofs.FaultLemmas.{sheet_from}
+use Rattle.bare_sheets.specs.declared.refusal.SheetRefusal.{SheetRefusal}
+use Rattle.bare_sheets.specs.declared.refusal.SheetRefusal.TheVariants.{Fault}
+use Rattle.bare_sheets.specs.Refusals.{large_fault, parts_fault, sheet_refusal}
+use Rattle.bare_sheets.proofs.FaultLemmas.{sheet_from}
 use Rattle.sheet_windows.specs.Sheets.{IsSheet, IsSheetParts, IsSheetPlane}
 use Rattle.sheet_gather.specs.SheetFiles.{CanAssembleSheet, CanCutPlanes}
 

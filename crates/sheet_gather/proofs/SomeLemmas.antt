@@ -9,8 +9,8 @@ use Rattle.pgm_plates.specs.declared.plate.Plate.{Plate as PlateRead}
 use Rattle.pgm_plates.specs.declared.plate.PlateFault.{PlateFault}
 use Rattle.pgm_plates.specs.Laws.{PlateOrFaultWithin}
 use Rattle.refusals.specs.declared.refusal.Refusal.TheVariants.{Job, NoDetails, Plate}
-use Rattle.sheet_cuts.specs.declared.refusal.SheetRefusal.{SheetRefusal}
-use Rattle.sheet_cuts.specs.Refusals.{sheet_refusal}
+use Rattle.bare_sheets.specs.declared.refusal.SheetRefusal.{SheetRefusal}
+use Rattle.bare_sheets.specs.Refusals.{sheet_refusal}
 use Rattle.sheet_gather.specs.Inputs.{AreSpelled, HeldBytes, PlateFails, Spells}
 use Rattle.sheet_gather.specs.Verdicts.{SheetVerdict, IsSheetVerdict, SomeSheetVerdict}
 use Rattle.sheet_gather.specs.Verdicts.SheetVerdict.{Accepted, Refused}

@@ -14,7 +14,7 @@ use Rattle.pgm_plates.specs.declared.plate.PlateRefusal.TheVariants.{Fault}
 use Rattle.pgm_plates.specs.Reading.{KeepsCount}
 use Rattle.refusals.specs.declared.refusal.Refusal.TheVariants.{Job as JobFails, NoDetails}
 use Rattle.refusals.specs.declared.refusal.Refusal.TheVariants.{Plate, Read}
-use Rattle.sheet_cuts.specs.Refusals.{sheet_refusal}
+use Rattle.bare_sheets.specs.Refusals.{sheet_refusal}
 use Rattle.sheet_windows.specs.Sheets.{IsSheet}
 use Rattle.sheet_gather.specs.Inputs.{AreSpelled, MakesSheet, Spells, held_by, plates_by}
 use Rattle.sheet_gather.specs.Steps.{IsFaultless}

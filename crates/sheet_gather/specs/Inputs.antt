@@ -9,8 +9,8 @@ use Rattle.page_model.specs.declared.parts.PageParts.{PageParts}
 use Rattle.pgm_plates.specs.declared.plate.Plate.{Plate}
 use Rattle.pgm_plates.specs.declared.plate.PlateFault.{PlateFault}
 use Rattle.refusals.specs.declared.refusal.Refusal.TheVariants.{NoDetails}
-use Rattle.sheet_cuts.specs.Refusals.{sheet_refusal}
-use Rattle.sheet_cuts.specs.declared.refusal.SheetRefusal.{SheetRefusal}
+use Rattle.bare_sheets.specs.Refusals.{sheet_refusal}
+use Rattle.bare_sheets.specs.declared.refusal.SheetRefusal.{SheetRefusal}
 use Rattle.sheet_gather.specs.SheetFiles.{IsSheetFault, IsSheetFile}
 use Rattle.sheet_gather.specs.Trays.{tray_at}
 use Rattle.sheet_gather.specs.declared.stop.TrapsheetError.{TrapsheetError}

@@ -7,7 +7,7 @@ use Rattle.page_model.specs.Page.{maxval}
 use Rattle.pgm_plates.specs.declared.rows.OpenPlate.{OpenPlate}
 use Rattle.plate_rows.specs.Rereading.{HaveRead, turned}
 use Rattle.plate_rows.specs.Trays.{open_at}
-use Rattle.sheet_cuts.specs.declared.budget.Budget.{Budget}
+use Rattle.bare_sheets.specs.declared.budget.Budget.{Budget}
 use Rattle.sheet_gather.specs.declared.planning.PlannedSheet.{PlannedSheet}
 use Rattle.sheet_gather.specs.Gathering.{IsMadeSheet, TakesTrays}
 use Rattle.sheet_gather.specs.Judging.{IsJudged, header_in}

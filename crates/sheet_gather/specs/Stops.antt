@@ -5,8 +5,8 @@ use Rattle.refusals.specs.Lines.{line}
 use Rattle.refusals.specs.Refusals.{line_of, page_fault_line, status_of}
 use Rattle.refusals.specs.Statuses.{page_refused}
 use Rattle.refusals.specs.Telling.{KeepsFiles, TellsText}
-use Rattle.sheet_cuts.specs.declared.refusal.SheetRefusal.{SheetRefusal}
-use Rattle.sheet_cuts.specs.declared.refusal.SheetRefusal.TheVariants.{Far, Fault, Uncut}
+use Rattle.bare_sheets.specs.declared.refusal.SheetRefusal.{SheetRefusal}
+use Rattle.bare_sheets.specs.declared.refusal.SheetRefusal.TheVariants.{Far, Fault, Uncut}
 use Rattle.sheet_gather.specs.declared.stop.TrapsheetError.{TrapsheetError}
 use Rattle.sheet_gather.specs.declared.stop.TrapsheetError.TheVariants.{Changed, Common, OfSheet}
 

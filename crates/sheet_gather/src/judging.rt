@@ -14,7 +14,7 @@ use pgm_plates::laws::file_fault_within;
 use pgm_plates::rows::Header;
 use plate_rows::judging::judge_plates;
 use plate_rows::laws::plates_judged;
-use sheet_cuts::budget::Budget;
+use bare_sheets::budget::Budget;
 use std::alloc::Global;
 use std::convert::AsStr;
 

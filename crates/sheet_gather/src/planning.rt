@@ -14,7 +14,7 @@ use page_gather::assemble::{parts_of, without_details};
 use page_model::parts::{OutOfMemory, PageParts, Plane, PlaneList};
 use pgm_plates::rows::Header;
 use refusals::refusal::Refusal;
-use sheet_cuts::budget::Budget;
+use bare_sheets::budget::Budget;
 use std::alloc::Global;
 
 /// A sheet before its tints are read: all of it but these, and how it is to be trapped.

@@ -3,7 +3,7 @@ ghost use Rattle.sheet_gather.specs.Stops.{status_of_stop};
 
 use refusals::refusal::{Refusal, status};
 use refusals::statuses::PAGE_REFUSED;
-use sheet_cuts::refusal::SheetRefusal;
+use bare_sheets::refusal::SheetRefusal;
 
 /// Why a command of a sheet did not do its work.
 #[derive(Clone, Copy, Debug, Drop, PartialEq, Eq)]

@@ -7,7 +7,7 @@ use refusals::fault_line::fault_line;
 use refusals::line::Line;
 use refusals::refusal::Refusal;
 use refusals::telling::tell_line;
-use sheet_cuts::refusal::SheetRefusal;
+use bare_sheets::refusal::SheetRefusal;
 
 /// Tells the line of a stop, and gives its status, which stays where the line cannot be told.
 pub fn refuse_sheet<R: Rack>(rack: &mut R, stop: &TrapsheetError) -> u8

@@ -9,7 +9,7 @@ use Rattle.bare_sheets.proofs.BareLemmas.{cuttable_is, height_is, law_of, plates
 use Rattle.page_model.specs.declared.parts.PageParts.{PageParts}
 use Rattle.page_model.specs.Columns.{halo}
 use Rattle.page_model.specs.Page.{height, maxval, plates, width}
-use Rattle.sheet_cuts.specs.Refusals.{cut_fault}
+use Rattle.bare_sheets.specs.Refusals.{cut_fault}
 use Rattle.sheet_loop.proofs.RowReads.{GoOnTo}
 use Rattle.sheet_stream.specs.Reading.{tints_for}
 use Rattle.sheet_windows.specs.declared.spans.Ruler.{Ruler}

@@ -3,7 +3,7 @@ use Rattle.std.specs.Prelude.{◌≡◌, ◌*◌, ◌<◌, ◌≤◌, ◌^◌, l
 use Rattle.bare_sheets.specs.Bare.{IsBareSheet, bare_sheet}
 use Rattle.page_model.specs.declared.parts.PageParts.{PageParts}
 use Rattle.page_model.specs.Page.{height, maxval, plates, width}
-use Rattle.sheet_cuts.specs.Refusals.{cut_fault}
+use Rattle.bare_sheets.specs.Refusals.{cut_fault}
 use Rattle.sheet_loop.specs.declared.room.StreamRoom.{StreamRoom}
 use Rattle.sheet_stream.specs.Strips.{IsStripOf, blank_plane}
 use Rattle.sheet_windows.specs.declared.spans.Span.{Span}

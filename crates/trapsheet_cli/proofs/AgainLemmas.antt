@@ -15,7 +15,7 @@ use Rattle.plate_rows.specs.Laws.{NoChange}
 use Rattle.plate_rows.specs.Rereading.{HasChanged as PlateChanges, Interrupts}
 use Rattle.plate_rows.specs.Trays.{TakesFile, TakesFiles}
 use Rattle.plate_rows.proofs.StopLemmas.{went_rows}
-use Rattle.sheet_cuts.specs.declared.budget.Budget.{Budget}
+use Rattle.bare_sheets.specs.declared.budget.Budget.{Budget}
 use Rattle.sheet_gather.specs.declared.planning.PlannedSheet.{PlannedSheet}
 use Rattle.sheet_gather.specs.Gathering.{AsksAll, AsksTwice, FailsAgain, HasChanged, InHand, StopsAgain, TakesTrays, TakesTwice}
 use Rattle.sheet_gather.specs.Judging.{IsJudged, header_in}

@@ -23,7 +23,7 @@ use Rattle.plate_rows.specs.declared.stop.RereadError.{RereadError}
 use Rattle.plate_rows.specs.declared.stop.RereadError.TheVariants.{Changed as ChangedAgain, Unread}
 use Rattle.plate_rows.proofs.StopLemmas.{went_whole}
 use Rattle.refusals.specs.declared.refusal.Refusal.TheVariants.{Memory, Read, Write}
-use Rattle.sheet_cuts.specs.declared.budget.Budget.{Budget}
+use Rattle.bare_sheets.specs.declared.budget.Budget.{Budget}
 use Rattle.sheet_gather.specs.declared.planning.PlannedSheet.{PlannedSheet}
 use Rattle.sheet_gather.specs.declared.stop.TrapsheetError.{TrapsheetError}
 use Rattle.sheet_gather.specs.declared.stop.TrapsheetError.TheVariants.{Common}
@@ -44,19 +44,8 @@ use Rattle.trapsheet_cli.specs.Streaming.{EndsReport, StreamsOut, error_of}
 use Rattle.trapsheet_cli.specs.Strips.{HasNoStrips}
 use Rattle.trapsheet_cli.specs.Words.{SheetWords, sources_of, targets_of}
 use Rattle.trapsheet_cli.proofs.AgainLemmas.{fails_again, has_changed, once_or_twice, takes_once, takes_to, takes_twice, twice}
-use Rattle.trapsheet_cli.proofs.EndLemmas.{trays_same}
 use Rattle.trapsheet_cli.proofs.PartLemmas.{breaks_keep, hold_parts, parts_keep, plate_breaks, writes_first}
 use Rattle.trapsheet_cli.proofs.RackLemmas.{all_keeps, all_wrote, racks_same, report_broke}
-
--- There was no memory for the names of the files, and none was begun.
-pub none_begun : (order : SheetWords) (a : List TrayState) (r : List RackState) → CarriesOut order a a r r (Err (Common Memory))
-none_begun order a r =
-    let takes = trays_same (sources_of order) a in
-    record {
-      takes = takes_once (sources_of order) a a takes;
-      keeps = racks_same (targets_of order) r;
-      answer = Carries.no_memory refl (λ k. refl) (inl takes) refl;
-    }
 
 -- The sheet was not judged.
 module _ (order : SheetWords) (budget : Budget) (a b : List TrayState) (r : List RackState) where

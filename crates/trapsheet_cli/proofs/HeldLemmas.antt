@@ -1,5 +1,5 @@
 -- A sheet that is held with all its rows.
-use Rattle.std.proofs.Common.{◌≡◌, ℕ, ◌*◌, ◌<◌, ◌≤◌, List, length, None, Ok, Err, refl, sym, ap, ◌∙◌, subst, arith}
+use Rattle.std.proofs.Common.{◌≡◌, ℕ, ◌*◌, ◌<◌, ◌≤◌, List, length, Ok, Err, refl, sym, ap, ◌∙◌, subst, arith}
 use Rattle.bare_sheets.specs.Bare.{IsBareSheet, bare_sheet}
 use Rattle.bare_sheets.proofs.BareLemmas.{law_of}
 use Rattle.bare_sheets.proofs.BegunLemmas.{some_sheet}
@@ -9,7 +9,6 @@ use Rattle.page_model.specs.declared.parts.PageParts.{PageParts}
 use Rattle.page_model.specs.Page.{height, plates, width}
 use Rattle.pgm_plates.specs.declared.header.Header.{Header}
 use Rattle.refusals.specs.declared.refusal.Refusal.TheVariants.{Memory}
-use Rattle.sheet_cuts.specs.Refusals.{sheet_refusal}
 use Rattle.sheet_gather.specs.declared.stop.TrapsheetError.{TrapsheetError}
 use Rattle.sheet_gather.specs.declared.stop.TrapsheetError.TheVariants.{Common}
 use Rattle.sheet_loop.specs.Whole.{IsHeld}
@@ -45,17 +44,8 @@ held_sheet inputs bare parts b c valid blank held =
     let same = held.same some.0 some.1 in
     record { valid = subst IsSheet (sym same) some.1.valid; same = ap bare_sheet same ∙ some.1.same }
 
-pub held_width : (bare parts : PageParts) → HeldSheet bare parts → width parts ≡ width bare
-held_width bare parts held = sym (law_of parts).width ∙ ap width held.same
-
-pub held_height : (bare parts : PageParts) → HeldSheet bare parts → height parts ≡ height bare
-held_height bare parts held = sym (law_of parts).height ∙ ap height held.same
-
 pub held_plates : (bare parts : PageParts) → HeldSheet bare parts → plates parts ≡ plates bare
 held_plates bare parts held = sym (law_of parts).plates ∙ ap plates held.same
-
-pub held_accepted : (bare parts : PageParts) → sheet_refusal bare ≡ None → HeldSheet bare parts → sheet_refusal parts ≡ None
-held_accepted bare parts accepted held = sym (law_of parts).refusal ∙ ap sheet_refusal held.same ∙ accepted
 
 -- The reading stopped, or there was no memory.
 pub not_held : (target : Targets) (inputs : List (List ℕ)) (bare : PageParts) (b c : List TrayState) (r : List RackState) (stop : TrapsheetError) → HoldsAll inputs bare b c (Err stop) → PutsWhole target inputs bare b c r r (Err stop)

@@ -14,9 +14,9 @@ use Rattle.page_gather.specs.Assembly.{assembled, without_details}
 use Rattle.pgm_plates.specs.declared.bounds.Bounds.TheVariants.{Sheet}
 use Rattle.pgm_plates.specs.declared.plate.Plate.{Plate as PlateRead}
 use Rattle.pgm_plates.specs.Planes.{plane_of}
-use Rattle.sheet_cuts.specs.declared.refusal.SheetRefusal.{SheetRefusal}
-use Rattle.sheet_cuts.specs.declared.refusal.SheetRefusal.TheVariants.{Fault}
-use Rattle.sheet_cuts.specs.Refusals.{large_fault, parts_fault, sheet_refusal}
+use Rattle.bare_sheets.specs.declared.refusal.SheetRefusal.{SheetRefusal}
+use Rattle.bare_sheets.specs.declared.refusal.SheetRefusal.TheVariants.{Fault}
+use Rattle.bare_sheets.specs.Refusals.{large_fault, parts_fault, sheet_refusal}
 use Rattle.sheet_gather.specs.Inputs.{AreSpelled, HeldBytes, SheetInputs, detailed, judged, sheet_of}
 use Rattle.sheet_gather.specs.SheetFiles.{IsSheetPlate}
 use Rattle.lists.proofs.FirstSome.{both_none, each_none}

@@ -1,5 +1,5 @@
 -- What becomes of a cut sheet.
-use Rattle.std.proofs.Common.{◌≡◌, ℕ, ◌<◌, List, [], length, map, sym, ap, ◌∙◌, subst, arith}
+use Rattle.std.proofs.Common.{◌≡◌, ℕ, ◌<◌, List, [], length, map, sym, ap, ◌∙◌, arith}
 use Rattle.std.specs.Prelude.{slice_index, slice_index_or}
 use Rattle.std.proofs.lemmas.List.{get_or-map, get_or_default, length-map, same_lists}
 use Rattle.lists.specs.Words.{list_below}
@@ -9,14 +9,9 @@ use Rattle.page_model.specs.declared.parts.PageParts.{PageParts}
 use Rattle.page_model.specs.Counts.{deciding_edges, page_counts, plate_changed, zone_changed, zone_samples}
 use Rattle.page_model.specs.Page.{plates}
 use Rattle.page_model.specs.Tints.{new_tints, trapped_plane, trapped_planes}
-use Rattle.sheet_cuts.specs.declared.budget.Budget.{Budget}
-use Rattle.sheet_cuts.specs.declared.cutting.Cutting.{Cutting}
-use Rattle.sheet_cuts.specs.declared.cutting.Cutting.TheVariants.{Page, Windows}
-use Rattle.sheet_cuts.specs.Cuttings.{IsCutting}
-use Rattle.sheet_windows.specs.Plans.{AreRulers, AreSmall}
 use Rattle.strip_tiles.specs.Whole.{IsCounted}
 use Rattle.tile_counts.specs.declared.counts.SheetCounts.{SheetCounts}
-use Rattle.trapsheet_cli.specs.Trapping.{CanTrap, plane_with, sheet_in}
+use Rattle.trapsheet_cli.specs.Trapping.{plane_with}
 
 -- a list of numbers by their places
 counted : (f : ℕ → ℕ) (n : ℕ) (xs : List ℕ) → length xs ≡ n → ((k : ℕ) → k < n → slice_index xs k ≡ f k) → xs ≡ list_below f n
@@ -46,20 +41,6 @@ planes_are sheet tints long each = same_lists (map (plane_with sheet) tints) (li
     let here : k < length tints = omega (arith, length-map tints (plane_with sheet)) in
     let below : k < plates sheet = omega (arith, long) in
     get_or-map (plane_with sheet) tints k [] d here ∙ ap (plane_with sheet) (each k below) ∙ sym (list_below-at (trapped_plane sheet) (plates sheet) k d below))
-
--- a sheet that was cut can be trapped
-pub can_trap : (sheet : PageParts) (budget : Budget) (cutting : Cutting) → IsCutting sheet budget cutting → (sheet_in cutting ≡ sheet) × CanTrap cutting
-can_trap sheet budget (Windows cut) is =
-    let same = is.1.same in (
-      same,
-      record {
-        rulers = subst (λ (s : PageParts). AreRulers s cut.across cut.down) (sym same) is.1.rulers;
-        small = subst (λ (s : PageParts). AreSmall s cut.across cut.down) (sym same) is.1.small;
-        columns = is.1.columns;
-        rows = is.1.rows;
-      },
-    )
-can_trap sheet budget (Page page) is = (is.2, tt)
 
 pub trapped_count : (sheet : PageParts) → length (trapped_planes sheet) ≡ plates sheet
 unfolding trapped_planes

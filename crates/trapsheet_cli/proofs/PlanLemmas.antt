@@ -1,32 +1,23 @@
 -- A sheet that was judged, by how it is planned.
-use Rattle.std.proofs.Common.{◌≡◌, ◌*◌, ◌<◌, ◌^◌, nat_lt, ◌||◌, inl, inr, arith}
+use Rattle.std.proofs.Common.{◌≡◌, ◌*◌, ◌<◌, ◌^◌, false, nat_lt, ◌||◌, inl, inr, sym, subst, arith}
 use Rattle.std.proofs.lemmas.Bool.{ltb-false, or_parts}
-use Rattle.bare_sheets.specs.Bare.{IsBareSheet, bare_sheet}
+use Rattle.bare_sheets.specs.Bare.{bare_sheet}
 use Rattle.bare_sheets.specs.Planned.{IsPlan}
-use Rattle.bare_sheets.specs.declared.plan.Plan.TheVariants.{Page, Strips, Windows}
+use Rattle.bare_sheets.specs.Refusals.{is_large}
+use Rattle.bare_sheets.proofs.BareLemmas.{cuttable_is, law_of}
+use Rattle.bare_sheets.specs.declared.plan.Plan.{Plan}
+use Rattle.bare_sheets.specs.declared.plan.Plan.TheVariants.{Page, Windows}
 use Rattle.bare_sheets.specs.declared.plan.Rulers.{Rulers}
 use Rattle.page_model.specs.declared.parts.PageParts.{PageParts}
+use Rattle.page_model.specs.Conditions.{IsPage}
 use Rattle.page_model.specs.Limits.{most_samples, most_side}
 use Rattle.page_model.specs.Page.{height, plates, width}
-use Rattle.sheet_cuts.specs.declared.budget.Budget.{Budget}
-use Rattle.trapsheet_cli.specs.Streaming.{StreamsBy}
+use Rattle.bare_sheets.specs.declared.budget.Budget.{Budget}
+use Rattle.sheet_windows.specs.Sheets.{IsSheet}
+use Rattle.sheet_windows.proofs.Pages.{sheet_is_page}
+use Rattle.trapsheet_cli.specs.Holding.{CanHold}
+use Rattle.trapsheet_cli.specs.Trapping.{CanCut}
 use Rattle.trapsheet_cli.specs.Strips.{HasNoStrips}
-
--- It is to stream.
-pub streams_by : (bare : PageParts) (budget : Budget) (rulers : Rulers) → IsBareSheet bare → bare_sheet bare ≡ bare → IsPlan bare budget (Strips rulers) → StreamsBy bare rulers
-streams_by bare budget rulers valid blank is =
-    let fits = is.1 in
-    record {
-      valid = valid;
-      blank = blank;
-      cut = is.0;
-      narrow = (let side = fits.columns.few_samples in let same = fits.fit.wide in omega (arith, side, same));
-      low = (let side = fits.rows.few_samples in let same = fits.fit.tall in omega (arith, side, same));
-      fit = fits.fit;
-      small = fits.small;
-      across = fits.columns;
-      even = is.2;
-    }
 
 -- A sheet that is planned otherwise has no strips of one height.
 pub no_strips_by : (bare : PageParts) (budget : Budget) (rulers : Rulers) → IsPlan bare budget (Windows rulers) → HasNoStrips bare
@@ -56,3 +47,35 @@ page_sides bare budget is =
       narrow = (let a = ltb-false _ _ one.0 in omega (arith, a));
       low = (let a = ltb-false _ _ two.0 in omega (arith, a));
     }
+
+page_from_sheet : (sheet : PageParts) → IsSheet sheet → is_large sheet ≡ false → IsPage sheet
+page_from_sheet sheet is small =
+    let one = or_parts (nat_lt most_side (width sheet)) (nat_lt most_side (height sheet) || nat_lt most_samples (width sheet * height sheet * plates sheet)) small in
+    let two = or_parts (nat_lt most_side (height sheet)) (nat_lt most_samples (width sheet * height sheet * plates sheet)) one.1 in
+    sheet_is_page sheet is (let a = ltb-false _ _ one.0 in omega (arith, a)) (let a = ltb-false _ _ two.0 in omega (arith, a)) (let a = ltb-false _ _ two.1 in omega (arith, a))
+
+-- A sheet that is bare so has the same plan.
+plan_of : (bare sheet : PageParts) (budget : Budget) (plan : Plan) → IsPlan bare budget plan → bare_sheet sheet ≡ bare → IsPlan sheet budget plan
+plan_of bare sheet budget plan is same = (law_of sheet).plan budget plan (subst (λ (b : PageParts). IsPlan b budget plan) (sym same) is)
+
+cuts_by : (bare sheet : PageParts) (budget : Budget) (rulers : Rulers) → IsPlan bare budget (Windows rulers) → IsSheet sheet → bare_sheet sheet ≡ bare → CanCut sheet rulers
+cuts_by bare sheet budget rulers is valid same =
+    let here = plan_of bare sheet budget (Windows rulers) is same in
+    let sides = sides_by sheet budget rulers here in
+    record {
+      cuttable = cuttable_is sheet valid here.0 sides.narrow sides.low;
+      fit = here.1.fit;
+      small = here.1.small;
+      columns = here.1.columns;
+      rows = here.1.rows;
+    }
+
+pub hold_windows : (bare : PageParts) (budget : Budget) (rulers : Rulers) → IsPlan bare budget (Windows rulers) → CanHold bare (Windows rulers)
+hold_windows bare budget rulers is =
+    let sides = sides_by bare budget rulers is in
+    record { narrow = sides.narrow; low = sides.low; can = λ sheet valid same. cuts_by bare sheet budget rulers is valid same }
+
+pub hold_page : (bare : PageParts) (budget : Budget) → IsPlan bare budget Page → CanHold bare Page
+hold_page bare budget is =
+    let sides = page_sides bare budget is in
+    record { narrow = sides.narrow; low = sides.low; can = λ sheet valid same. page_from_sheet sheet valid (plan_of bare sheet budget Page is same).1 }

@@ -1,8 +1,10 @@
 -- What comes of a sheet that is read once more with all its rows.
-use Rattle.std.specs.Prelude.{◌≡◌, ℕ, List, Result, Ok, Err}
+use Rattle.std.specs.Prelude.{◌≡◌, ℕ, ◌<◌, ◌^◌, List, Result, Ok, Err}
+use Rattle.bare_sheets.specs.Bare.{bare_sheet}
+use Rattle.bare_sheets.specs.declared.plan.Plan.{Plan}
 use Rattle.outside.specs.Tray.{TrayState}
 use Rattle.page_model.specs.declared.parts.PageParts.{PageParts}
-use Rattle.page_model.specs.Page.{plates}
+use Rattle.page_model.specs.Page.{height, plates, width}
 use Rattle.plate_rows.specs.Rereading.{StopsReading}
 use Rattle.plate_rows.specs.declared.stop.RereadError.{RereadError}
 use Rattle.refusals.specs.declared.refusal.Refusal.TheVariants.{Memory}
@@ -10,7 +12,15 @@ use Rattle.sheet_gather.specs.declared.stop.TrapsheetError.{TrapsheetError}
 use Rattle.sheet_gather.specs.declared.stop.TrapsheetError.TheVariants.{Common}
 use Rattle.sheet_loop.specs.Second.{sheet_header}
 use Rattle.sheet_loop.specs.Whole.{IsHeld}
+use Rattle.sheet_windows.specs.Sheets.{IsSheet}
 use Rattle.trapsheet_cli.specs.Streaming.{error_of}
+use Rattle.trapsheet_cli.specs.Trapping.{CanTrap}
+
+-- Each sheet that is bare so can be trapped as it is planned.
+pub record CanHold (bare : PageParts) (plan : Plan) : Type 0 where
+  pub narrow : width bare < 2 ^ 30
+  pub low : height bare < 2 ^ 30
+  pub can : (sheet : PageParts) → IsSheet sheet → bare_sheet sheet ≡ bare → CanTrap sheet plan
 
 -- All of the sheet is held; or the reading stopped, or there was no memory and no file was begun.
 pub data HoldsAll (inputs : List (List ℕ)) (bare : PageParts) (before after : List TrayState)

@@ -12,7 +12,7 @@ use Rattle.plate_rows.specs.Rereading.{StopsReading}
 use Rattle.plate_rows.specs.declared.stop.RereadError.{RereadError}
 use Rattle.plate_rows.specs.declared.stop.RereadError.TheVariants.{Changed, Unread}
 use Rattle.refusals.specs.declared.refusal.Refusal.TheVariants.{Memory, Read, Write}
-use Rattle.sheet_cuts.specs.Refusals.{cut_fault}
+use Rattle.bare_sheets.specs.Refusals.{cut_fault}
 use Rattle.sheet_gather.specs.declared.stop.TrapsheetError.{TrapsheetError}
 use Rattle.sheet_gather.specs.declared.stop.TrapsheetError.TheVariants.{Changed as HasChanged}
 use Rattle.sheet_gather.specs.declared.stop.TrapsheetError.TheVariants.{Common}

@@ -8,8 +8,8 @@ use Rattle.page_gather.specs.Inputs.{Sources}
 use Rattle.page_model.specs.declared.parts.PageParts.{PageParts}
 use Rattle.page_model.specs.Limits.{most_samples}
 use Rattle.page_model.specs.Page.{plates}
-use Rattle.sheet_cuts.specs.Cuttings.{room}
-use Rattle.sheet_cuts.specs.Refusals.{cut_fault}
+use Rattle.bare_sheets.specs.Planned.{room}
+use Rattle.bare_sheets.specs.Refusals.{cut_fault}
 use Rattle.sheet_gather.specs.Gathering.{IsMadeSheet}
 use Rattle.sheet_windows.specs.Plans.{AreRulers}
 

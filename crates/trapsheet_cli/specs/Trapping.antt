@@ -1,33 +1,32 @@
--- A cut sheet that can be trapped, and its planes and counts after trapping.
+-- A sheet that can be trapped as it is planned, and its planes and counts after trapping.
 use Rattle.std.specs.Prelude.{◌≡◌, ℕ, ◌<◌, List, [], length, slice_index_or}
+use Rattle.bare_sheets.specs.declared.plan.Plan.{Plan}
+use Rattle.bare_sheets.specs.declared.plan.Plan.TheVariants.{Page, Strips, Windows}
+use Rattle.bare_sheets.specs.declared.plan.Rulers.{Rulers}
+use Rattle.page_model.specs.Conditions.{IsPage}
 use Rattle.page_model.specs.declared.parts.PageParts.{PageParts}
 use Rattle.page_model.specs.declared.parts.Plane.{Plane}
 use Rattle.page_model.specs.Page.{height, maxval, plates, width}
 use Rattle.page_model.specs.Tints.{new_tints}
-use Rattle.sheet_cuts.specs.declared.cutting.Cutting.{Cutting}
-use Rattle.sheet_cuts.specs.declared.cutting.Cutting.TheVariants.{Page, Windows}
-use Rattle.sheet_cuts.specs.declared.cutting.CutSheet.{CutSheet}
 use Rattle.strip_tiles.specs.Whole.{IsCounted}
 use Rattle.strip_tiles.specs.declared.whole.TrappedSheet.{TrappedSheet}
 use Rattle.sheet_windows.specs.Plans.{AreRulers, AreSmall}
 use Rattle.sheet_windows.specs.Spans.{IsRuler}
+use Rattle.window_pages.specs.Sheets.{IsCuttable}
 
--- the rulers fit the sheet
-pub record CanTrapCut (cut : CutSheet) : Type 0 where
-  pub rulers : AreRulers cut.sheet cut.across cut.down
-  pub small : AreSmall cut.sheet cut.across cut.down
-  pub columns : IsRuler cut.across
-  pub rows : IsRuler cut.down
+-- a sheet that these rulers cut into windows
+pub record CanCut (sheet : PageParts) (rulers : Rulers) : Type 0 where
+  pub cuttable : IsCuttable sheet
+  pub fit : AreRulers sheet rulers.across rulers.down
+  pub small : AreSmall sheet rulers.across rulers.down
+  pub columns : IsRuler rulers.across
+  pub rows : IsRuler rulers.down
 
--- the sheet that is cut
-abbrev pub sheet_in : Cutting → PageParts
-sheet_in (Windows cut) = cut.sheet
-sheet_in (Page page) = page
-
--- the same of either kind of cutting
-abbrev pub CanTrap : Cutting → Type 0
-CanTrap (Windows cut) = CanTrapCut cut
-CanTrap (Page page) = Unit {0}
+-- a sheet that can be trapped as it is planned
+abbrev pub CanTrap : PageParts → Plan → Type 0
+CanTrap sheet (Strips rulers) = CanCut sheet rulers
+CanTrap sheet (Windows rulers) = CanCut sheet rulers
+CanTrap sheet Page = IsPage sheet
 
 -- a plane of a sheet's sides and maxval
 abbrev pub plane_with : PageParts → List ℕ → Plane

@@ -4,15 +4,15 @@ ghost use Rattle.page_model.specs.Page.{plates};
 ghost use Rattle.page_model.specs.Tints.{trapped_planes};
 ghost use Rattle.strip_tiles.specs.Whole.{IsCounted};
 ghost use Rattle.trap_report.specs.Report.{report_of};
-ghost use Rattle.trapsheet_cli.specs.Trapping.{CanTrap, CanTrapCut, IsTrappedSheet, plane_with, sheet_in};
-ghost use Rattle.window_pages.specs.Sheets.{IsCuttable};
+ghost use Rattle.trapsheet_cli.specs.Trapping.{CanCut, CanTrap, IsTrappedSheet, plane_with};
+ghost use Rattle.page_model.specs.Conditions.{IsPage};
 
 use crate::reporting::told_counts;
+use bare_sheets::plan::{Plan, Rulers};
 use lists::list::List;
 use page_model::page::Page;
-use page_model::parts::{Name, OutOfMemory, Plane, PlaneList, Tints};
+use page_model::parts::{Name, OutOfMemory, PageParts, Plane, PlaneList, Tints};
 use page_tally::Trapped;
-use sheet_cuts::cutting::{CutSheet, Cutting};
 use std::alloc::Global;
 use std::thread::Threads;
 use strip_engine::trap_alone;
@@ -29,23 +29,35 @@ pub struct SheetOutcome {
     pub report: Name,
 }
 
-/// Traps a sheet that is cut, window by window, the windows of a strip by so many workers; or the page that it is, by one
+/// Traps a sheet as it is planned: window by window, the windows of a strip by so many workers; or as the page that it is, by one
 /// thread. The one refusal is out of memory.
 pub fn outcome_of<H: Threads + Sync>(
     rt: &H,
     alloc: Global,
-    cutting: &Cutting,
+    parts: PageParts,
+    plan: Plan,
     workers: u32,
 ) -> Result<SheetOutcome, OutOfMemory>
     requires some_workers { 1 ≤ workers }
-    requires cutting { CanTrap cutting.now }
-    ensures planes { IfOk result (λ o. o.planes ≡ trapped_planes (sheet_in cutting.now)) }
-    ensures report { let sheet = sheet_in cutting.now in
-        IfOk result (λ o. o.report ≡ report_of sheet (page_counts sheet)) }
+    requires can { CanTrap parts plan }
+    ensures planes { IfOk result (λ o. o.planes ≡ trapped_planes parts) }
+    ensures report { IfOk result (λ o. o.report ≡ report_of parts (page_counts parts)) }
 {
-    match cutting {
-        Cutting::Windows(cut) => sheet_outcome(rt, alloc, cut, workers),
-        Cutting::Page(page) => page_outcome(alloc, page),
+    match plan {
+        Plan::Strips(rulers) => sheet_outcome(rt, alloc, &Sheet::of(parts), &rulers, workers),
+        Plan::Windows(rulers) => sheet_outcome(rt, alloc, &Sheet::of(parts), &rulers, workers),
+        Plan::Page => page_outcome(alloc, &page_of(parts)),
+    }
+}
+
+// The page that a sheet is.
+fn page_of(parts: PageParts) -> Page
+    requires { IsPage parts }
+    ensures { result ≡ parts }
+{
+    match Page::new(parts) {
+        Ok(page) => page,
+        Err(_) => unreachable!(),
     }
 }
 
@@ -66,24 +78,18 @@ fn page_outcome(alloc: Global, page: &Page) -> Result<SheetOutcome, OutOfMemory>
 fn sheet_outcome<H: Threads + Sync>(
     rt: &H,
     alloc: Global,
-    cut: &CutSheet,
+    sheet: &Sheet,
+    rulers: &Rulers,
     workers: u32,
 ) -> Result<SheetOutcome, OutOfMemory>
     requires some_workers { 1 ≤ workers }
-    requires cut { CanTrapCut cut.now }
-    ensures planes { IfOk result (λ o. o.planes ≡ trapped_planes cut.now.sheet) }
-    ensures report { let sheet = cut.now.sheet in
-        IfOk result (λ o. o.report ≡ report_of sheet (page_counts sheet)) }
+    requires can { CanCut sheet.now rulers.now }
+    ensures planes { IfOk result (λ o. o.planes ≡ trapped_planes sheet.now) }
+    ensures report { IfOk result (λ o. o.report ≡ report_of sheet.now (page_counts sheet.now)) }
 {
-    match trap_sheet(
-        rt,
-        alloc,
-        &cut.sheet,
-        &cut.across,
-        &cut.down,
-        workers as usize,
-    ) {
-        Ok(trapped) => reported(alloc, &cut.sheet, trapped),
+    let workers = workers as usize;
+    match trap_sheet(rt, alloc, sheet, &rulers.across, &rulers.down, workers) {
+        Ok(trapped) => reported(alloc, sheet, trapped),
         Err(OutOfMemory) => Err(OutOfMemory),
     }
 }

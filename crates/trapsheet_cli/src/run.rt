@@ -1,14 +1,14 @@
-ghost use Rattle.std.specs.Prelude.{◌≡◌, ◌<◌, ◌≤◌, ◌^◌, length, map, None};
+ghost use Rattle.std.specs.Prelude.{◌≡◌, ◌≤◌, length, map};
 ghost use Rattle.bare_sheets.specs.Bare.{IsBareSheet, bare_sheet};
 ghost use Rattle.bare_sheets.specs.Planned.{IsPlan};
-ghost use Rattle.page_model.specs.Page.{height, plates, width};
-ghost use Rattle.sheet_cuts.specs.Refusals.{sheet_refusal};
+ghost use Rattle.page_model.specs.Page.{plates};
 ghost use Rattle.sheet_loop.specs.Second.{course_of};
 ghost use Rattle.trapsheet_cli.specs.Endings.{CarriesOut, EndsSheet, PutsOut, RefusesFirst};
 ghost use Rattle.trapsheet_cli.specs.Held.{IsWithin, order_in};
 ghost use Rattle.trapsheet_cli.specs.Planned.{PutsPlanned, PutsWhole};
 ghost use Rattle.trapsheet_cli.specs.Streaming.{StreamsBy, StreamsOut};
-ghost use Rattle.trapsheet_cli.specs.Trapping.{CanTrap, sheet_in};
+ghost use Rattle.trapsheet_cli.specs.Holding.{CanHold};
+ghost use Rattle.trapsheet_cli.specs.Trapping.{CanTrap};
 ghost use Rattle.trapsheet_cli.specs.Words.{targets_of};
 ghost use Rattle.sheet_windows.specs.Sheets.{IsSheet};
 
@@ -17,6 +17,7 @@ use crate::outcome::outcome_of;
 use crate::streaming::stream;
 use crate::words::SheetArgs;
 use crate::writing::write_sheet;
+use bare_sheets::budget::Budget;
 use bare_sheets::plan::{Plan, Rulers};
 use outside::rack::Rack;
 use outside::tray::Tray;
@@ -25,8 +26,6 @@ use plain_words::files::{plate_inputs, plate_names, plate_outputs};
 use plate_rows::laws::no_change;
 use refusals::refusal::Refusal;
 use refusals::statuses::DONE;
-use sheet_cuts::budget::Budget;
-use sheet_cuts::cutting::{Cutting, cut_sheet};
 use sheet_gather::judging::judge_sheet;
 use sheet_gather::laws::sheet_is_reread;
 use sheet_gather::planning::PlannedSheet;
@@ -118,7 +117,6 @@ fn put_planned<H: Threads + Sync, T: Tray, R: Rack>(
     requires racks { 16 ≤ length racks.old }
     requires valid { IsBareSheet planned.now.bare }
     requires blank { bare_sheet planned.now.bare ≡ planned.now.bare }
-    requires accepted { sheet_refusal planned.now.bare ≡ None }
     requires plan { IsPlan planned.now.bare budget.now planned.now.plan }
     requires inputs { length inputs.now ≡ plates planned.now.bare }
     requires count { length order.now.plates.now ≡ plates planned.now.bare }
@@ -131,8 +129,8 @@ fn put_planned<H: Threads + Sync, T: Tray, R: Rack>(
         Plan::Strips(rulers) => {
             put_strips(rt, alloc, order, bare, &rulers, inputs, trays, racks)
         }
-        Plan::Windows(_rulers) => put_whole(rt, alloc, order, budget, bare, inputs, trays, racks),
-        Plan::Page => put_whole(rt, alloc, order, budget, bare, inputs, trays, racks),
+        Plan::Windows(_rulers) => put_whole(rt, alloc, order, planned, inputs, trays, racks),
+        Plan::Page => put_whole(rt, alloc, order, planned, inputs, trays, racks),
     }
 }
 
@@ -180,8 +178,7 @@ fn put_whole<H: Threads + Sync, T: Tray, R: Rack>(
     rt: &H,
     alloc: Global,
     order: &SheetArgs<'_>,
-    budget: &Budget,
-    bare: &PageParts,
+    planned: &PlannedSheet,
     inputs: &[&str],
     trays: &mut [T],
     racks: &mut [R],
@@ -189,46 +186,42 @@ fn put_whole<H: Threads + Sync, T: Tray, R: Rack>(
     requires within { IsWithin order.now }
     requires trays { 16 ≤ length trays.old }
     requires racks { 16 ≤ length racks.old }
-    requires valid { IsBareSheet bare.now }
-    requires blank { bare_sheet bare.now ≡ bare.now }
-    requires accepted { sheet_refusal bare.now ≡ None }
-    requires narrow { width bare.now < 2 ^ 30 }
-    requires low { height bare.now < 2 ^ 30 }
-    requires inputs { length inputs.now ≡ plates bare.now }
-    requires count { length order.now.plates.now ≡ plates bare.now }
+    requires valid { IsBareSheet planned.now.bare }
+    requires blank { bare_sheet planned.now.bare ≡ planned.now.bare }
+    requires can { CanHold planned.now.bare planned.now.plan }
+    requires inputs { length inputs.now ≡ plates planned.now.bare }
+    requires count { length order.now.plates.now ≡ plates planned.now.bare }
     ensures { PutsWhole (targets_of (order_in order.now)) (map (λ file. file.now) inputs.now)
-        bare.now (map T.state trays.old) (map T.state trays.new)
+        planned.now.bare (map T.state trays.old) (map T.state trays.new)
         (map R.state racks.old) (map R.state racks.new) result }
 {
-    match hold(alloc, trays, inputs, bare) {
-        Ok(parts) => match cut_sheet(parts, budget) {
-            Ok(cutting) => put_out(rt, alloc, order, &cutting, racks),
-            Err(_) => unreachable!(),
-        },
+    match hold(alloc, trays, inputs, &planned.bare) {
+        Ok(parts) => put_out(rt, alloc, order, parts, planned.plan, racks),
         Err(stop) => Err(stop),
     }
 }
 
-// Traps the sheet and writes its files. All memory that is wanted is taken before the first file is created.
+// Traps a sheet and writes its files. All memory that is wanted is taken before the first file is created.
 fn put_out<H: Threads + Sync, R: Rack>(
     rt: &H,
     alloc: Global,
     order: &SheetArgs<'_>,
-    cutting: &Cutting,
+    parts: PageParts,
+    plan: Plan,
     racks: &mut [R],
 ) -> Result<(), TrapsheetError>
     requires within { IsWithin order.now }
     requires racks { 16 ≤ length racks.old }
-    requires cutting { CanTrap cutting.now }
-    requires sheet { IsSheet (sheet_in cutting.now) }
-    requires count { plates (sheet_in cutting.now) ≡ length order.now.plates.now }
-    ensures { PutsOut (targets_of (order_in order.now)) (sheet_in cutting.now)
+    requires can { CanTrap parts plan }
+    requires sheet { IsSheet parts }
+    requires count { plates parts ≡ length order.now.plates.now }
+    ensures { PutsOut (targets_of (order_in order.now)) parts
         (map R.state racks.old) (map R.state racks.new) result }
 {
     let Ok(outputs) = plate_outputs(alloc, order.plates) else {
         return Err(TrapsheetError::Common(Refusal::Memory));
     };
-    let Ok(outcome) = outcome_of(rt, alloc, cutting, order.workers) else {
+    let Ok(outcome) = outcome_of(rt, alloc, parts, plan, order.workers) else {
         return Err(TrapsheetError::Common(Refusal::Memory));
     };
     write_sheet(

@@ -4,12 +4,12 @@ ghost use Rattle.trapsheet_cli.specs.Endings.{EndsWords, RefusesWords, TellsUsag
 
 use crate::run::run_order;
 use crate::words::read_words;
+use bare_sheets::budget::Budget;
 use outside::rack::Rack;
 use outside::tray::Tray;
 use refusals::line::Line;
 use refusals::statuses::USAGE;
 use refusals::telling::tell_line;
-use sheet_cuts::budget::Budget;
 use sheet_gather::laws::one_sheet_verdict;
 use std::alloc::Global;
 use std::thread::Threads;

@@ -7,7 +7,7 @@ use outside::distinct_names::have_distinct_names;
 use outside::mem_file::{FileList, MemFile};
 use outside::mem_rack::MemRack;
 use outside::mem_tray::MemTray;
-use sheet_cuts::budget::Budget;
+use bare_sheets::budget::Budget;
 use std::alloc::{AllocError, Global};
 use std::process::Abort;
 use std::thread::Threads;

@@ -1,5 +1,5 @@
 use super::{AS_IT_WAS, DISABLED, INKS, NARROW, Pieces, WIDE, Wanted, case_of, ends};
-use sheet_cuts::budget::Budget;
+use bare_sheets::budget::Budget;
 use std::test::Fail;
 use test_files::{CYAN, MAGENTA};
 

@@ -1,6 +1,6 @@
 use Rattle.std.proofs.Common.{◌≡◌, length}
 use Rattle.lists.specs.Words.{first_some}
-use Rattle.sheet_cuts.specs.Refusals.{far}
+use Rattle.bare_sheets.specs.Refusals.{far}
 use Rattle.bare_sheets.proofs.far.first_far.Given as goal
 
 abbrev pub invariant-loop-z : goal.invariant-loop-z

@@ -1,6 +1,6 @@
 use Rattle.std.proofs.Common.{◌≡◌, take}
 use Rattle.std.specs.List.{list_any}
-use Rattle.sheet_cuts.specs.Refusals.{is_far_by}
+use Rattle.bare_sheets.specs.Refusals.{is_far_by}
 use Rattle.bare_sheets.proofs.far.has_far.Given as goal
 
 abbrev pub invariant-loop-vertex : goal.invariant-loop-vertex

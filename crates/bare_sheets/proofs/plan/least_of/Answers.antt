@@ -1,7 +1,7 @@
 use Rattle.std.proofs.Common.{length}
 use Rattle.lists.specs.Words.{first_some}
 use Rattle.lists.proofs.FirstSome.{both_none}
-use Rattle.sheet_cuts.specs.Refusals.{far, uncut}
+use Rattle.bare_sheets.specs.Refusals.{far, uncut}
 use Rattle.bare_sheets.proofs.plan.least_of.Goals as goal
 
 pub least_by-requires-clause-cut : goal.least_by-requires-clause-cut

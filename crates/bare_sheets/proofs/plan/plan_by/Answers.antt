@@ -1,6 +1,6 @@
 use Rattle.std.proofs.Common.{arith}
 use Rattle.page_model.specs.Page.{plates}
-use Rattle.sheet_cuts.proofs.SizeLemmas.{least_few}
+use Rattle.bare_sheets.proofs.SizeLemmas.{least_few}
 use Rattle.bare_sheets.proofs.plan.plan_by.Goals as goal
 
 pub rulers_of-requires-else-samples-le-MOST_SAMPLES-clause-few_samples : goal.rulers_of-requires-else-samples-le-MOST_SAMPLES-clause-few_samples

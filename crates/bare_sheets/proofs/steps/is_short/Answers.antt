@@ -1,4 +1,4 @@
-use Rattle.sheet_cuts.proofs.StepLemmas.{short-is}
+use Rattle.bare_sheets.proofs.StepLemmas.{short-is}
 use Rattle.bare_sheets.proofs.steps.is_short.Goals as goal
 
 pub returns : goal.returns

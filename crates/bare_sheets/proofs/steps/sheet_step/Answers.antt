@@ -1,5 +1,5 @@
 use Rattle.std.proofs.Common.{arith}
-use Rattle.sheet_cuts.proofs.StepLemmas.{step_short}
+use Rattle.bare_sheets.proofs.StepLemmas.{step_short}
 use Rattle.bare_sheets.proofs.steps.sheet_step.Goals as goal
 
 pub returns-then-len-gt1-clause-short : goal.returns-then-len-gt1-clause-short

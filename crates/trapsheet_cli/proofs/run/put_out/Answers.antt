@@ -6,7 +6,6 @@ use Rattle.page_model.specs.Limits.{most_maxval}
 use Rattle.plain_words.specs.Parts.{PlateNames, parts_of}
 use Rattle.trapsheet_cli.specs.Held.{order_in}
 use Rattle.trapsheet_cli.specs.Racks.{WritesSheet, targets}
-use Rattle.trapsheet_cli.specs.Trapping.{sheet_in}
 use Rattle.trapsheet_cli.specs.Words.{targets_of}
 use Rattle.trapsheet_cli.proofs.EndLemmas.{puts_out}
 use Rattle.trapsheet_cli.proofs.OutcomeLemmas.{trapped_count}
@@ -15,7 +14,7 @@ use Rattle.trapsheet_cli.proofs.run.put_out.Goals as goal
 
 pub write_sheet-requires-clause-count : goal.write_sheet-requires-clause-count
 write_sheet-requires-clause-count g c =
-    let sheet = sheet_in c.args.cutting.now in
+    let sheet = c.args.parts in
     let words = map (string_bytes {Z = Global}) c.args.order.now.plates.now in
     let are = c.as_slice-2.ensures ∙ c.in-Ok-outcome_of.ensures.planes in
     let named = ap (λ (fs : List (Bor (List ℕ))). map (λ (f : Bor (List ℕ)). f.now) fs) c.as_slice.ensures.value ∙ c.in-Ok.ensures in
@@ -24,19 +23,19 @@ write_sheet-requires-clause-count g c =
 
 pub write_sheet-requires-clause-maxvals : goal.write_sheet-requires-clause-maxvals
 write_sheet-requires-clause-maxvals g c =
-    let sheet = sheet_in c.args.cutting.now in
+    let sheet = c.args.parts in
     let are = c.as_slice-2.ensures ∙ c.in-Ok-outcome_of.ensures.planes in
     subst (λ (ps : List Plane). All (λ (plane : Plane). plane.maxval ≤ most_maxval) ps) (sym are) (maxvals_fit sheet c.requires.sheet)
 
 pub write_sheet-requires-clause-fits : goal.write_sheet-requires-clause-fits
 write_sheet-requires-clause-fits g c =
-    let sheet = sheet_in c.args.cutting.now in
+    let sheet = c.args.parts in
     let are = c.as_slice-2.ensures ∙ c.in-Ok-outcome_of.ensures.planes in
     subst (λ (ps : List Plane). All (λ (plane : Plane). All (λ (t : ℕ). t ≤ plane.maxval) plane.tints) ps) (sym are) (tints_fit sheet c.requires.sheet)
 
 pub returns : goal.returns
 returns g c =
-    let sheet = sheet_in c.args.cutting.now in
+    let sheet = c.args.parts in
     let are = c.as_slice-2.ensures ∙ c.in-Ok-outcome_of.ensures.planes in
     let is = c.as_slice-3.ensures ∙ c.in-Ok-outcome_of.ensures.report in
     let named = ap (λ (fs : List (Bor (List ℕ))). map (λ (f : Bor (List ℕ)). f.now) fs) c.as_slice.ensures.value ∙ c.in-Ok.ensures in

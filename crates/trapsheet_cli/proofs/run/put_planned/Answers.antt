@@ -1,8 +1,15 @@
-use Rattle.std.proofs.Common.{subst}
+use Rattle.std.proofs.Common.{subst, sym}
 use Rattle.bare_sheets.specs.Planned.{IsPlan}
+use Rattle.trapsheet_cli.specs.Holding.{CanHold}
 use Rattle.trapsheet_cli.specs.Planned.{PutsPlanned}
-use Rattle.trapsheet_cli.proofs.PlanLemmas.{no_cut, no_strips_by}
+use Rattle.trapsheet_cli.proofs.PlanLemmas.{hold_page, hold_windows, no_cut, no_strips_by}
 use Rattle.trapsheet_cli.proofs.run.put_planned.Goals as goal
+
+pub put_whole-requires-clause-can : goal.put_whole-requires-clause-can
+put_whole-requires-clause-can g c κs alive = subst (CanHold c.args.planned.now.bare) (sym c.in-Windows.is) (hold_windows c.args.planned.now.bare c.args.budget.now c.in-Windows._rulers (subst (IsPlan c.args.planned.now.bare c.args.budget.now) c.in-Windows.is c.requires.plan))
+
+pub put_whole-requires-in-Page-clause-can : goal.put_whole-requires-in-Page-clause-can
+put_whole-requires-in-Page-clause-can g c κs alive = subst (CanHold c.args.planned.now.bare) (sym c.in-Page.is) (hold_page c.args.planned.now.bare c.args.budget.now (subst (IsPlan c.args.planned.now.bare c.args.budget.now) c.in-Page.is c.requires.plan))
 
 pub returns-in-Strips : goal.returns-in-Strips
 returns-in-Strips g c = PutsPlanned.streamed c.put_strips.ensures

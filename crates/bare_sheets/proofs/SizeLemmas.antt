@@ -1,19 +1,7 @@
 -- Sizes: what is within the limits of a page, and how much fits a window.
-use Rattle.std.proofs.Common.{◌≡◌, ◌⊎◌, ℕ, ◌+◌, ◌*◌, ◌/◌, ◌<◌, ◌≤◌, false, nat_lt, ◌||◌, inl, inr, min, max, arith, subst, ap, sym, ◌∙◌, mul-le-mul, div-mul-le_self}
-use Rattle.std.proofs.lemmas.Bool.{cases_lt, ltb-false, or_parts}
-use Rattle.page_model.specs.declared.parts.PageParts.{PageParts}
-use Rattle.page_model.specs.Conditions.{IsPage}
-use Rattle.page_model.specs.Limits.{most_samples, most_side}
-use Rattle.page_model.specs.Page.{height, plates, width}
-use Rattle.sheet_cuts.specs.Refusals.{is_large}
-use Rattle.sheet_windows.specs.Sheets.{IsSheet}
-use Rattle.sheet_windows.proofs.Pages.{sheet_is_page}
-
-pub page_from_sheet : (sheet : PageParts) → IsSheet sheet → is_large sheet ≡ false → IsPage sheet
-page_from_sheet sheet is small =
-    let one = or_parts (nat_lt most_side (width sheet)) (nat_lt most_side (height sheet) || nat_lt most_samples (width sheet * height sheet * plates sheet)) small in
-    let two = or_parts (nat_lt most_side (height sheet)) (nat_lt most_samples (width sheet * height sheet * plates sheet)) one.1 in
-    sheet_is_page sheet is (let a = ltb-false _ _ one.0 in omega (arith, a)) (let a = ltb-false _ _ two.0 in omega (arith, a)) (let a = ltb-false _ _ two.1 in omega (arith, a))
+use Rattle.std.proofs.Common.{◌≡◌, ℕ, ◌*◌, ◌/◌, ◌≤◌, inl, inr, min, max, arith, subst, mul-le-mul, div-mul-le_self}
+use Rattle.std.proofs.lemmas.Bool.{cases_lt}
+use Rattle.page_model.specs.Page.{plates}
 
 -- what is a share of so many is not more than they are
 pub share : (most part n : ℕ) → n ≤ most / part → n * part ≤ most

@@ -11,8 +11,8 @@ use Rattle.page_model.specs.declared.page.PageFault.{PageFault}
 use Rattle.page_model.specs.Faults.{difference, too_wide}
 use Rattle.page_model.specs.Limits.{most_coordinate, most_samples, most_side, scale}
 use Rattle.page_model.specs.Page.{height, path_at, plates, width}
-use Rattle.sheet_cuts.specs.declared.refusal.SheetRefusal.{SheetRefusal}
-use Rattle.sheet_cuts.specs.declared.refusal.SheetRefusal.TheVariants.{Far, Fault, Uncut}
+use Rattle.bare_sheets.specs.declared.refusal.SheetRefusal.{SheetRefusal}
+use Rattle.bare_sheets.specs.declared.refusal.SheetRefusal.TheVariants.{Far, Fault, Uncut}
 use Rattle.sheet_windows.specs.Windows.{points_of}
 
 -- the longest step that sheets are cut by, in samples

@@ -1,12 +1,12 @@
 -- Parts without a fault are a sheet.
-use Rattle.std.proofs.Common.{◌≡◌, ℕ, length, None}
+use Rattle.std.proofs.Common.{◌≡◌, length, None}
 use Rattle.lists.specs.Words.{first_some}
 use Rattle.lists.proofs.FirstSome.{both_none, each_none}
 use Rattle.page_model.specs.declared.parts.PageParts.{PageParts}
 use Rattle.page_model.specs.Faults.{difference, too_wide}
 use Rattle.page_model.specs.Page.{plates}
 use Rattle.page_model.proofs.FaultLemmas.{agrees_from, near_from}
-use Rattle.sheet_cuts.specs.Refusals.{far, parts_fault, uncut}
+use Rattle.bare_sheets.specs.Refusals.{parts_fault}
 use Rattle.sheet_windows.specs.Sheets.{IsSheet, IsSheetParts}
 
 pub sheet_from : (sheet : PageParts) → IsSheetParts sheet → parts_fault sheet ≡ None → IsSheet sheet

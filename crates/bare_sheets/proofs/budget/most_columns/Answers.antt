@@ -1,6 +1,6 @@
 use Rattle.std.proofs.Common.{◌*◌, ◌/◌, ◌≤◌, arith}
-use Rattle.sheet_cuts.proofs.SizeLemmas.{bounded, columns_few}
-use Rattle.sheet_cuts.proofs.budget.most_columns.Goals as goal
+use Rattle.bare_sheets.proofs.SizeLemmas.{bounded, columns_few}
+use Rattle.bare_sheets.proofs.budget.most_columns.Goals as goal
 
 pub returns-clause-few_samples : goal.returns-clause-few_samples
 returns-clause-few_samples c =

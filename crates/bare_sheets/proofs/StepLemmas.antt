@@ -1,14 +1,13 @@
 -- The least step is short where some step is.
-use Rattle.std.proofs.Common.{◌≡◌, ◌≢◌, ℕ, suc, ◌*◌, ◌-◌, ◌%◌, ◌<◌, ◌≤◌, Bool, true, false, nat_le, nat_lt, not, ◌&&◌, inl, inr, refl, sym, ◌∙◌, ap, arith, length, Option, Some, None}
+use Rattle.std.proofs.Common.{◌≡◌, ◌≢◌, ℕ, suc, ◌*◌, ◌-◌, ◌%◌, ◌<◌, ◌≤◌, Bool, true, false, nat_le, nat_lt, not, ◌&&◌, inl, inr, refl, sym, ◌∙◌, ap, arith, length, Some, None}
 use Rattle.std.specs.Prelude.{◌==◌, if◌then◌else◌}
 use Rattle.std.proofs.lemmas.Bool.{cases_Bool, cases_lt, eq-eqb, eqb-true, false_from_ne_true, false≢true, le-leb, leb-true, lt-ltb}
-use Rattle.lists.specs.Words.{any_below}
 use Rattle.lists.proofs.AnyBelow.{any_below-from}
 use Rattle.lists.proofs.FirstSome.{some_is_none}
 use Rattle.lists.proofs.Sums.{any_below-at}
 use Rattle.page_model.specs.declared.parts.PageParts.{PageParts}
-use Rattle.sheet_cuts.specs.declared.refusal.SheetRefusal.TheVariants.{Uncut}
-use Rattle.sheet_cuts.specs.Refusals.{has_step, most_step, uncut}
+use Rattle.bare_sheets.specs.declared.refusal.SheetRefusal.TheVariants.{Uncut}
+use Rattle.bare_sheets.specs.Refusals.{has_step, uncut}
 use Rattle.sheet_windows.specs.Plans.{IsStep}
 
 found : (resolution step : ℕ) → 1 ≤ step → step ≤ 2048 → IsStep resolution step → has_step resolution ≡ true

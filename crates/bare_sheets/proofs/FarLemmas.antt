@@ -1,18 +1,17 @@
 -- No zone is too far where each vertex is in range from each corner of the sheet, and only there.
-use Rattle.std.proofs.Common.{◌≡◌, ℕ, zero, suc, ◌+◌, ◌<◌, ◌≤◌, Bool, true, false, nat_lt, ◌||◌, inl, inr, refl, sym, ◌∙◌, ap, subst, arith, List, [], ◌∷◌, length, None}
+use Rattle.std.proofs.Common.{◌≡◌, ℕ, zero, suc, ◌+◌, ◌<◌, Bool, false, nat_lt, inl, inr, subst, arith, List, [], ◌∷◌, length, None}
 use Rattle.std.specs.Prelude.{nat_abs, slice_index_or}
 use Rattle.std.specs.List.{All, list_any}
-use Rattle.std.proofs.lemmas.Bool.{cases_Bool, le-ltb, ltb-false, or_parts}
-use Rattle.std.proofs.lemmas.List.Folds.{list_any_none}
+use Rattle.std.proofs.lemmas.Bool.{cases_Bool, ltb-false, or_parts}
 use Rattle.lists.specs.Words.{first_some}
-use Rattle.lists.proofs.FirstSome.{all_none, each_none, some_is_none}
+use Rattle.lists.proofs.FirstSome.{each_none, some_is_none}
 use Rattle.page_model.specs.declared.parts.PageParts.{PageParts}
 use Rattle.page_model.specs.declared.parts.Vertex.{Vertex}
 use Rattle.page_model.specs.declared.parts.Zone.{Zone}
 use Rattle.page_model.specs.Limits.{most_coordinate}
 use Rattle.page_model.specs.Page.{height, no_zone, path_at, width}
-use Rattle.sheet_cuts.specs.declared.refusal.SheetRefusal.TheVariants.{Far}
-use Rattle.sheet_cuts.specs.Refusals.{far, is_far}
+use Rattle.bare_sheets.specs.declared.refusal.SheetRefusal.TheVariants.{Far}
+use Rattle.bare_sheets.specs.Refusals.{far, is_far}
 use Rattle.sheet_windows.specs.Sheets.{IsNearSheet, IsNearVertex}
 use Rattle.sheet_windows.specs.Windows.{points_of}
 use Rattle.sheet_windows.proofs.Pages.{any_default}
@@ -30,12 +29,6 @@ near_vertex sheet v h =
       y = (let a = ltb-false _ _ both.1 in omega (arith, a));
     }
 
-not_far : (sheet : PageParts) (v : Vertex) → IsNearVertex sheet v → is_far sheet v ≡ false
-not_far sheet v near =
-    let x : nat_lt most_coordinate (nat_abs v.x + points_of sheet.resolution (width sheet)) ≡ false = le-ltb _ _ near.x in
-    let y : nat_lt most_coordinate (nat_abs v.y + points_of sheet.resolution (height sheet)) ≡ false = le-ltb _ _ near.y in
-    rw (x, y) refl
-
 near_path : (sheet : PageParts) (z : ℕ) → far sheet z ≡ None → All (IsNearVertex sheet) (path_at sheet z)
 near_path sheet z h = elim (cases_Bool (list_any (is_far sheet) (path_at sheet z))) [
   | inl t ↦ absurd (some_is_none (Far z) (rw t at h))
@@ -44,7 +37,3 @@ near_path sheet z h = elim (cases_Bool (list_any (is_far sheet) (path_at sheet z
 
 pub near_from : (sheet : PageParts) → first_some (far sheet) (length sheet.zones) ≡ None → IsNearSheet sheet
 near_from sheet h = λ k d l. subst (λ (z : Zone). All (IsNearVertex sheet) z.path) (any_default sheet.zones k no_zone d l) (near_path sheet k (each_none (far sheet) (length sheet.zones) h k l))
-
-pub none_far : (sheet : PageParts) → IsNearSheet sheet → first_some (far sheet) (length sheet.zones) ≡ None
-none_far sheet near = all_none (far sheet) (length sheet.zones) (λ z l.
-    (let none : list_any (is_far sheet) (path_at sheet z) ≡ false = list_any_none (is_far sheet) (path_at sheet z) (λ k d m. not_far sheet _ (near z no_zone l k d m)) in rw none refl))

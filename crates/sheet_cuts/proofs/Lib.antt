@@ -1,4 +1,0 @@
-pub mod StepLemmas
-pub mod FarLemmas
-pub mod SizeLemmas
-pub mod FaultLemmas

@@ -1,7 +1,0 @@
-use Rattle.std.proofs.Common.{◌≡◌, take}
-use Rattle.std.specs.List.{list_any}
-use Rattle.sheet_cuts.specs.Refusals.{is_far_by}
-use Rattle.sheet_cuts.proofs.far.has_far.Given as goal
-
-abbrev pub invariant-loop-vertex : goal.invariant-loop-vertex
-invariant-loop-vertex l = l.found ≡ list_any (is_far_by l.wide l.tall) (take l.vertex-index l.path)

@@ -1,5 +1,0 @@
-use Rattle.sheet_cuts.proofs.StepLemmas.{short-is}
-use Rattle.sheet_cuts.proofs.steps.is_short.Goals as goal
-
-pub returns : goal.returns
-returns c = short-is c.args.resolution c.step_of.result c.step_of.ensures.some c.step_of.ensures.exact c.step_of.ensures.least
