@@ -30,7 +30,8 @@ use Rattle.sheet_gather.specs.SheetFiles.{IsSheetFault}
 use Rattle.sheet_gather.specs.Steps.{IsFaultless, ReadsFirst, ReadsPlates, StopsAt, TakesFiles, common}
 use Rattle.sheet_gather.specs.Gathering.{AsksAll, InHand, IsMadeSheet, TakesTrays}
 use Rattle.sheet_gather.specs.Judging.{AnswersJudging, JudgesSheet}
-use Rattle.sheet_gather.specs.Trays.{AllTell, IsCalm, tray_at, tray_files}
+use Rattle.plate_rows.specs.Trays.{IsCalm, tray_at}
+use Rattle.sheet_gather.specs.Trays.{AllTell, tray_files}
 use Rattle.sheet_gather.specs.declared.stop.TrapsheetError.{TrapsheetError}
 use Rattle.sheet_gather.specs.declared.stop.TrapsheetError.TheVariants.{Common, OfSheet}
 use Rattle.sheet_gather.proofs.TrayLemmas.{calm_is, keeps_is, takes_before}

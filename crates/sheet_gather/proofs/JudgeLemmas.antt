@@ -33,7 +33,8 @@ use Rattle.sheet_gather.specs.Judging.{AnswersJudging, JudgesSheet, header_in}
 use Rattle.sheet_gather.specs.Planning.{CanPlan, HaveHeaders, MakesWhole, PlansSheet, header_of}
 use Rattle.sheet_gather.specs.SheetFiles.{IsSheetFile, IsSheetPlate}
 use Rattle.sheet_gather.specs.Steps.{ReadsFirst, ReadsPlates, StopsAt, TakesFile, TakesFiles}
-use Rattle.sheet_gather.specs.Trays.{AllTell, tray_at}
+use Rattle.plate_rows.specs.Trays.{tray_at}
+use Rattle.sheet_gather.specs.Trays.{AllTell}
 use Rattle.sheet_gather.proofs.GatherLemmas.{IsReady, no_memory_left, plates_refused, sheet_ready, sheet_refused_as}
 use Rattle.sheet_gather.proofs.TrayLemmas.{keeps_is}
 

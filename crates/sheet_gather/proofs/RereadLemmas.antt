@@ -31,7 +31,8 @@ use Rattle.sheet_gather.specs.Inputs.{Spells, detailed, judged as judged_of, pla
 use Rattle.sheet_gather.specs.Judging.{IsJudged}
 use Rattle.sheet_gather.specs.Rereading.{IsReread, tints_read}
 use Rattle.sheet_gather.specs.SheetFiles.{IsSheetFile}
-use Rattle.sheet_gather.specs.Trays.{AllTell, tray_at}
+use Rattle.plate_rows.specs.Trays.{tray_at}
+use Rattle.sheet_gather.specs.Trays.{AllTell}
 
 -- all of the first trays tell, or one does not
 all_or_one : (n : ℕ) (trays : List TrayState) → AllTell n trays ⊎ ((k : ℕ) × (k < n) × (IsTrue (tray_at trays k).tells → ⊥))

@@ -1,12 +1,12 @@
 -- The parts that a job and plates make are those of a sheet.
-use Rattle.std.proofs.Common.{◌≡◌, ℕ, ◌≤◌, List, map, get_or, Option, Some, None, Result, Ok, Err, refl, sym, ap, ◌∙◌, subst, arith}
+use Rattle.std.proofs.Common.{◌≡◌, ℕ, ◌≤◌, List, map, get_or, Option, Some, None, refl, sym, ap, ◌∙◌, subst, arith}
 use Rattle.std.specs.Option.{option_map}
 use Rattle.std.proofs.lemmas.List.{length-map}
 use Rattle.std.proofs.lemmas.List.Elements.{All-map}
 use Rattle.lists.proofs.FirstSome.{both_none}
 use Rattle.job_reader.specs.declared.job.Job.{Job}
 use Rattle.job_reader.specs.InRange.{IsJob}
-use Rattle.page_gather.specs.Assembly.{assembled, ink_of, parts_of_planes, zone_for}
+use Rattle.page_gather.specs.Assembly.{ink_of, parts_of_planes, zone_for}
 use Rattle.page_gather.proofs.AssemblyLemmas.{first_zone, ink_ok, sum_by-zones, zone_ok}
 use Rattle.page_model.specs.declared.page.PageFault.{PageFault}
 use Rattle.page_model.specs.declared.parts.PageParts.{PageParts}

@@ -1,5 +1,5 @@
 -- Where all files are there, a verdict on the sheet stands.
-use Rattle.std.proofs.Common.{◌≡◌, ◌⊎◌, ℕ, zero, suc, ◌<◌, ◌≤◌, ◌+◌, All, List, [], ◌∷◌, ◌++◌, length, Option, Some, None, Result, Ok, Err, inl, inr, refl, subst, arith, ◌≢◌, map, get_or, IsTrue, sym, ap, ◌∙◌, length-append, below_more}
+use Rattle.std.proofs.Common.{◌≡◌, ◌⊎◌, ℕ, zero, suc, ◌<◌, ◌≤◌, ◌+◌, All, List, [], ◌∷◌, ◌++◌, length, Option, Some, None, Result, Ok, Err, inl, inr, refl, subst, arith, sym, ap, ◌∙◌, length-append, below_more}
 use Rattle.job_reader.specs.declared.job.Job.{Job as JobRead}
 use Rattle.job_reader.specs.Jobs.{job_of}
 use Rattle.ps_tokens.specs.declared.faults.JobFault.{JobFault}

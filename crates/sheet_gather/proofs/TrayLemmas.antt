@@ -8,7 +8,7 @@ use Rattle.outside.specs.Tray.{TrayState, KeepsTray}
 use Rattle.page_gather.specs.Inputs.{name_at}
 use Rattle.page_gather.specs.Steps.{TakesPlate}
 use Rattle.sheet_gather.specs.Steps.{TakesFile, TakesFiles}
-use Rattle.sheet_gather.specs.Trays.{IsCalm, tray_at}
+use Rattle.plate_rows.specs.Trays.{IsCalm, tray_at}
 
 -- one element of a list was changed, seen through a function
 module _ {X Y : Type 0} (f : X → Y) (none : Y) (xs : List X) (k : ℕ) (d x : X) (within : k < length xs) where

@@ -1,6 +1,6 @@
 -- What it means to read a job and plates, and to make a sheet of them.
 use Rattle.std.specs.Prelude.{◌≡◌, ◌≢◌, ◌⊎◌, ℕ, zero, suc, ◌<◌, ◌≤◌, IsTrue, List, [], ◌∷◌, length}
-use Rattle.std.specs.Prelude.{Option, Some, None, Result, Ok, Err}
+use Rattle.std.specs.Prelude.{Option, Some, None, Ok, Err}
 use Rattle.job_reader.specs.declared.job.Job.{Job}
 use Rattle.job_reader.specs.Jobs.{job_of}
 use Rattle.outside.specs.Causes.{Rose, Asks, AsksPrefix}
@@ -18,7 +18,8 @@ use Rattle.bare_sheets.specs.Refusals.{sheet_refusal}
 use Rattle.sheet_windows.specs.Sheets.{IsSheet}
 use Rattle.sheet_gather.specs.Inputs.{AreSpelled, MakesSheet, Spells, held_by, plates_by}
 use Rattle.sheet_gather.specs.Steps.{IsFaultless}
-use Rattle.sheet_gather.specs.Trays.{AllTell, IsCalm, files_twice, tray_at, tray_files}
+use Rattle.plate_rows.specs.Trays.{IsCalm, tray_at}
+use Rattle.sheet_gather.specs.Trays.{AllTell, files_twice, tray_files}
 use Rattle.sheet_gather.specs.Verdicts.{IsSheetVerdict, Refused}
 use Rattle.sheet_gather.specs.declared.stop.TrapsheetError.{TrapsheetError}
 use Rattle.sheet_gather.specs.declared.stop.TrapsheetError.TheVariants.{Changed, Common, OfSheet}

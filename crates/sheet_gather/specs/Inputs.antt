@@ -12,7 +12,7 @@ use Rattle.refusals.specs.declared.refusal.Refusal.TheVariants.{NoDetails}
 use Rattle.bare_sheets.specs.Refusals.{sheet_refusal}
 use Rattle.bare_sheets.specs.declared.refusal.SheetRefusal.{SheetRefusal}
 use Rattle.sheet_gather.specs.SheetFiles.{IsSheetFault, IsSheetFile}
-use Rattle.sheet_gather.specs.Trays.{tray_at}
+use Rattle.plate_rows.specs.Trays.{tray_at}
 use Rattle.sheet_gather.specs.declared.stop.TrapsheetError.{TrapsheetError}
 use Rattle.sheet_gather.specs.declared.stop.TrapsheetError.TheVariants.{Common, OfSheet}
 

@@ -19,7 +19,7 @@ use Rattle.sheet_gather.specs.Inputs.{Spells, plates_by}
 use Rattle.sheet_gather.specs.Planning.{header_of}
 use Rattle.sheet_gather.specs.SheetFiles.{IsSheetFile}
 use Rattle.sheet_gather.specs.Steps.{ReadsFirst}
-use Rattle.sheet_gather.specs.Trays.{IsCalm, tray_at}
+use Rattle.plate_rows.specs.Trays.{IsCalm, tray_at}
 use Rattle.bare_sheets.specs.Bare.{IsBareSheet, bare_sheet}
 use Rattle.bare_sheets.specs.Planned.{IsPlan}
 

@@ -1,6 +1,6 @@
 -- The steps in which a sheet is read: the job, and each plate by its own tray.
 use Rattle.std.specs.Prelude.{◌≡◌, ◌≢◌, ℕ, ◌<◌, ◌≤◌, ◌+◌, ◌++◌, IsTrue, List, [], ◌∷◌, length, All}
-use Rattle.std.specs.Prelude.{Some, None, Result, Ok, Err}
+use Rattle.std.specs.Prelude.{Some, Result, Ok, Err}
 use Rattle.job_reader.specs.declared.job.Job.{Job}
 use Rattle.outside.specs.Causes.{Rose, Asks}
 use Rattle.outside.specs.Tray.{TrayState, KeepsTray}
@@ -14,7 +14,8 @@ use Rattle.refusals.specs.declared.refusal.Refusal.{Refusal}
 use Rattle.refusals.specs.declared.refusal.Refusal.TheVariants.{Plate, Read}
 use Rattle.sheet_gather.specs.Inputs.{AreSpelled, Spells, plates_by}
 use Rattle.sheet_gather.specs.SheetFiles.{IsSheetFault, IsSheetPlate}
-use Rattle.sheet_gather.specs.Trays.{AllTell, IsCalm, tray_at}
+use Rattle.plate_rows.specs.Trays.{IsCalm, tray_at}
+use Rattle.sheet_gather.specs.Trays.{AllTell}
 use Rattle.sheet_gather.specs.declared.stop.TrapsheetError.{TrapsheetError}
 use Rattle.sheet_gather.specs.declared.stop.TrapsheetError.TheVariants.{Common}
 

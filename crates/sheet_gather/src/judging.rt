@@ -6,6 +6,7 @@ ghost use Rattle.sheet_gather.specs.Judging.{JudgesRest, JudgesSheet};
 use crate::gather::read_first;
 use crate::planning::{PlannedSheet, plan_headers};
 use crate::stop::TrapsheetError;
+use bare_sheets::budget::Budget;
 use job_reader::job::Job;
 use lists::names::NameList;
 use outside::tray::Tray;
@@ -14,7 +15,6 @@ use pgm_plates::laws::file_fault_within;
 use pgm_plates::rows::Header;
 use plate_rows::judging::judge_plates;
 use plate_rows::laws::plates_judged;
-use bare_sheets::budget::Budget;
 use std::alloc::Global;
 use std::convert::AsStr;
 

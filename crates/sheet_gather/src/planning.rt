@@ -6,6 +6,7 @@ ghost use Rattle.sheet_gather.specs.Planning.{CanPlan, CanPlanPlanes, PlansParts
 ghost use Rattle.bare_sheets.specs.Bare.{IsBareParts};
 
 use crate::stop::TrapsheetError;
+use bare_sheets::budget::Budget;
 use bare_sheets::plan::{Plan, plan_sheet};
 use job_reader::job::Job;
 use lists::list::List;
@@ -14,7 +15,6 @@ use page_gather::assemble::{parts_of, without_details};
 use page_model::parts::{OutOfMemory, PageParts, Plane, PlaneList};
 use pgm_plates::rows::Header;
 use refusals::refusal::Refusal;
-use bare_sheets::budget::Budget;
 use std::alloc::Global;
 
 /// A sheet before its tints are read: all of it but these, and how it is to be trapped.

@@ -1,9 +1,9 @@
 ghost use Rattle.std.specs.Prelude.{◌≡◌};
 ghost use Rattle.sheet_gather.specs.Stops.{status_of_stop};
 
+use bare_sheets::refusal::SheetRefusal;
 use refusals::refusal::{Refusal, status};
 use refusals::statuses::PAGE_REFUSED;
-use bare_sheets::refusal::SheetRefusal;
 
 /// Why a command of a sheet did not do its work.
 #[derive(Clone, Copy, Debug, Drop, PartialEq, Eq)]

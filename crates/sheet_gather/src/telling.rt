@@ -2,12 +2,12 @@ ghost use Rattle.std.specs.Prelude.{◌≡◌};
 ghost use Rattle.sheet_gather.specs.Stops.{RefusesSheet, line_of_stop, sheet_line};
 
 use crate::stop::{TrapsheetError, stop_status};
+use bare_sheets::refusal::SheetRefusal;
 use outside::rack::Rack;
 use refusals::fault_line::fault_line;
 use refusals::line::Line;
 use refusals::refusal::Refusal;
 use refusals::telling::tell_line;
-use bare_sheets::refusal::SheetRefusal;
 
 /// Tells the line of a stop, and gives its status, which stays where the line cannot be told.
 pub fn refuse_sheet<R: Rack>(rack: &mut R, stop: &TrapsheetError) -> u8

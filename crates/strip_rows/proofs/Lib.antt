@@ -1,4 +1,4 @@
 pub mod RowLemmas
-mod SheetTints
+pub mod SheetTints
 pub mod OnSheetLemmas
 pub mod ReadyLemmas

@@ -13,12 +13,14 @@ use Rattle.page_model.specs.Density.{density, spreads}
 use Rattle.page_model.specs.Edges.{IsEdge, across, on_first_side}
 use Rattle.page_model.specs.Page.{InPage, height, ink_at, maxval, no_zone, params_at, place, plates, sample_at, samples, tint, width}
 use Rattle.page_model.specs.Planes.{no_plane, plane_at}
-use Rattle.page_model.specs.Tints.{full, full_density, new, new_from, new_in, scaled_in}
+use Rattle.page_model.specs.Tints.{full, full_density, new, new_from, new_in, new_tints, scaled_in, trapped_plane, trapped_planes}
 use Rattle.page_model.specs.Trapped.{trapped_in}
 use Rattle.page_model.specs.Zones.{zone_of}
 use Rattle.page_model.proofs.DeciderLemmas.{Decides, decider-is}
 use Rattle.page_model.proofs.DensityLemmas.{density-le-full}
 use Rattle.page_model.proofs.ZoneLemmas.{greatest_cover-is}
+use Rattle.page_model.specs.Limits.{most_maxval}
+use Rattle.page_model.specs.declared.parts.Plane.{Plane}
 use Rattle.bare_sheets.specs.StripCores.{new_from as new_from_sample}
 use Rattle.sheet_windows.specs.Sheets.{IsSheet, IsSheetPlane}
 
@@ -88,3 +90,16 @@ module _ (sheet : PageParts) (valid : IsSheet sheet) where
 
   pub row_fits : (c first count : ℕ) → c < plates sheet → first + count ≤ samples sheet → All (λ (t : ℕ). t ≤ maxval sheet) (new_from_sample sheet c first count)
   row_fits c first count l within = all_below (λ (t : ℕ). t ≤ maxval sheet) (λ i. new sheet (sample_at sheet (first + i)) c) count (λ i below. new_at_most (sample_at sheet (first + i)) c l (sample_in (first + i) (omega (arith, below, within))))
+
+  tints_at_most : (c : ℕ) → c < plates sheet → All (λ (t : ℕ). t ≤ maxval sheet) (new_tints sheet c)
+  unfolding new_tints
+  tints_at_most c l = all_below (λ (t : ℕ). t ≤ maxval sheet) (λ k. new sheet (sample_at sheet k) c) (samples sheet) (λ k below. new_at_most (sample_at sheet k) c l (sample_in k below))
+
+  -- the trapped planes have a maxval in range, and no tint above it
+  pub maxvals_fit : All (λ (plane : Plane). plane.maxval ≤ most_maxval) (trapped_planes sheet)
+  unfolding trapped_planes
+  maxvals_fit = all_below (λ (plane : Plane). plane.maxval ≤ most_maxval) (trapped_plane sheet) (plates sheet) (λ c l. (plane_in 0 (omega arith)).maxval_fits)
+
+  pub tints_fit : All (λ (plane : Plane). All (λ (t : ℕ). t ≤ plane.maxval) plane.tints) (trapped_planes sheet)
+  unfolding trapped_planes
+  tints_fit = all_below (λ (plane : Plane). All (λ (t : ℕ). t ≤ plane.maxval) plane.tints) (trapped_plane sheet) (plates sheet) tints_at_most

@@ -19,7 +19,8 @@ use Rattle.bare_sheets.specs.declared.budget.Budget.{Budget}
 use Rattle.sheet_gather.specs.declared.planning.PlannedSheet.{PlannedSheet}
 use Rattle.sheet_gather.specs.Gathering.{AsksAll, AsksTwice, FailsAgain, HasChanged, InHand, StopsAgain, TakesTrays, TakesTwice}
 use Rattle.sheet_gather.specs.Judging.{IsJudged, header_in}
-use Rattle.sheet_gather.specs.Trays.{IsCalm, files_twice, tray_at, tray_files}
+use Rattle.plate_rows.specs.Trays.{IsCalm, tray_at}
+use Rattle.sheet_gather.specs.Trays.{files_twice, tray_files}
 use Rattle.sheet_gather.proofs.TrayLemmas.{takes_before}
 
 -- the first so many of some names, with others after them

@@ -30,7 +30,7 @@ use Rattle.sheet_gather.specs.declared.stop.TrapsheetError.TheVariants.{Common}
 use Rattle.sheet_gather.specs.Gathering.{AsksAll, AsksTwice, IsMadeSheet, TakesTrays, TakesTwice}
 use Rattle.sheet_gather.specs.Judging.{AnswersJudging, IsJudged, JudgesSheet}
 use Rattle.sheet_gather.specs.Rereading.{SheetIsReread, tints_read}
-use Rattle.sheet_gather.specs.Trays.{IsCalm, tray_at}
+use Rattle.plate_rows.specs.Trays.{IsCalm, tray_at}
 use Rattle.sheet_loop.specs.Courses.{Course}
 use Rattle.sheet_loop.specs.Second.{IsDone, IsUnread, IsUnwritten, course_of, sheet_header}
 use Rattle.sheet_stream.specs.Reading.{HaveHeader}
@@ -39,7 +39,8 @@ use Rattle.tile_counts.specs.declared.counts.SheetCounts.{SheetCounts}
 use Rattle.verdicts.specs.Verdicts.{Targets}
 use Rattle.trapsheet_cli.specs.Endings.{Carries, CarriesOut, PutsOut, sheet_report}
 use Rattle.trapsheet_cli.specs.Planned.{PutsPlanned, PutsWhole}
-use Rattle.trapsheet_cli.specs.Racks.{HoldParts, KeepsRacks, WritesFirst, rack_at}
+use Rattle.plate_rows.specs.Racks.{rack_at}
+use Rattle.trapsheet_cli.specs.Racks.{HoldParts, KeepsRacks, WritesFirst}
 use Rattle.trapsheet_cli.specs.Streaming.{EndsReport, StreamsOut, error_of}
 use Rattle.trapsheet_cli.specs.Strips.{HasNoStrips}
 use Rattle.trapsheet_cli.specs.Words.{SheetWords, sources_of, targets_of}

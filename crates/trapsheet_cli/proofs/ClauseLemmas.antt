@@ -15,14 +15,15 @@ use Rattle.refusals.specs.Telling.{KeepsFiles, TellsText}
 use Rattle.sheet_gather.specs.Gathering.{AsksTwice, FailsAgain, FailsToRead, HasChanged, IsMadeSheet, IsOfInput, RefusesFiles, TakesTrays, tray_of}
 use Rattle.sheet_gather.specs.Inputs.{held_by}
 use Rattle.sheet_gather.specs.Stops.{line_of_stop, status_of_stop}
-use Rattle.sheet_gather.specs.Trays.{IsCalm, tray_at}
+use Rattle.plate_rows.specs.Trays.{IsCalm, tray_at}
 use Rattle.sheet_gather.specs.Verdicts.{SheetVerdict, IsSheetVerdict, OneSheetVerdict}
 use Rattle.sheet_gather.specs.Verdicts.SheetVerdict.{Accepted, Refused}
 use Rattle.sheet_gather.specs.declared.stop.TrapsheetError.{TrapsheetError}
 use Rattle.sheet_gather.specs.declared.stop.TrapsheetError.TheVariants.{Changed, Common, OfSheet}
 use Rattle.trapsheet_cli.specs.Clauses.{Changes, Completeness, FailsAtFirst, FailsLater, FailsToWrite, FaultLine, LeavesFiles, Mean, NoRackRose, NoTrayRose, ReadFault, RefusedInput, RefusesInput, StopsInParts, Success, Tell, Usage as UsageClause, WriteFault, Writes}
 use Rattle.trapsheet_cli.specs.Endings.{Carries, Closes, EndsSheet, EndsWords, RefusesFirst, RefusesWords, sheet_files, sheet_report}
-use Rattle.trapsheet_cli.specs.Racks.{BreaksSheet, HoldParts, HoldsPart, KeepsRacks, plate_file, rack_at, rack_names}
+use Rattle.plate_rows.specs.Racks.{rack_at}
+use Rattle.trapsheet_cli.specs.Racks.{BreaksSheet, HoldParts, HoldsPart, KeepsRacks, plate_file, rack_names}
 use Rattle.trapsheet_cli.specs.Strips.{IsWhole}
 use Rattle.trapsheet_cli.specs.Words.{SheetWords, order_of, sources_of, targets_of}
 

@@ -8,7 +8,8 @@ use Rattle.page_model.specs.declared.parts.PageParts.{PageParts}
 use Rattle.page_model.specs.declared.parts.Plane.{Plane}
 use Rattle.page_model.specs.Tints.{trapped_planes}
 use Rattle.sheet_gather.specs.Gathering.{InHand, TakesTrays}
-use Rattle.sheet_gather.specs.Trays.{tray_at, tray_files}
+use Rattle.plate_rows.specs.Trays.{tray_at}
+use Rattle.sheet_gather.specs.Trays.{tray_files}
 use Rattle.sheet_gather.specs.declared.stop.TrapsheetError.{TrapsheetError}
 use Rattle.sheet_gather.proofs.TrayLemmas.{keeps_same}
 use Rattle.verdicts.specs.Verdicts.{Targets}

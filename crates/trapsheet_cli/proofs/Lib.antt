@@ -1,4 +1,3 @@
-pub mod SheetTints
 pub mod OutcomeLemmas
 pub mod RackLemmas
 pub mod EndLemmas

@@ -20,7 +20,8 @@ use Rattle.refusals.specs.declared.refusal.Refusal.TheVariants.{Write}
 use Rattle.sheet_gather.specs.declared.stop.TrapsheetError.{TrapsheetError}
 use Rattle.sheet_gather.specs.declared.stop.TrapsheetError.TheVariants.{Common}
 use Rattle.verdicts.specs.Verdicts.{Targets}
-use Rattle.trapsheet_cli.specs.Racks.{BreaksSheet, HoldsPart, KeepsRacks, WritesFirst, WritesPlates, WritesSheet, plate_file, rack_at, rack_files, rack_names, targets}
+use Rattle.plate_rows.specs.Racks.{rack_at}
+use Rattle.trapsheet_cli.specs.Racks.{BreaksSheet, HoldsPart, KeepsRacks, WritesFirst, WritesPlates, WritesSheet, plate_file, rack_files, rack_names, targets}
 
 -- one element of a list was changed, seen through a function
 module _ {X Y : Type 0} (f : X → Y) (none : Y) (xs : List X) (k : ℕ) (d x : X) (within : k < length xs) where

@@ -19,13 +19,15 @@ use Rattle.sheet_gather.specs.Gathering.{AsksTwice, FailsAgain, FailsToRead, Has
 use Rattle.sheet_gather.specs.Gathering.{IsMadeSheet, RefusesFiles, TakesTrays, TakesTwice}
 use Rattle.sheet_gather.specs.Inputs.{SheetInputs, held_by, sheet_of}
 use Rattle.sheet_gather.specs.Stops.{line_of_stop, status_of_stop}
-use Rattle.sheet_gather.specs.Trays.{AllTell, IsCalm, tray_at}
+use Rattle.plate_rows.specs.Trays.{IsCalm, tray_at}
+use Rattle.sheet_gather.specs.Trays.{AllTell}
 use Rattle.sheet_gather.specs.Verdicts.{IsSheetVerdict, Accepted, Refused}
 use Rattle.sheet_gather.specs.declared.stop.TrapsheetError.{TrapsheetError}
 use Rattle.sheet_gather.specs.declared.stop.TrapsheetError.TheVariants.{Changed, Common}
 use Rattle.trapsheet_cli.specs.Endings.{sheet_files, sheet_report}
 use Rattle.verdicts.specs.Locality.{ChangesNearEdges}
-use Rattle.trapsheet_cli.specs.Racks.{BreaksSheet, HoldParts, KeepsRacks, rack_at, rack_names}
+use Rattle.plate_rows.specs.Racks.{rack_at}
+use Rattle.trapsheet_cli.specs.Racks.{BreaksSheet, HoldParts, KeepsRacks, rack_names}
 use Rattle.trapsheet_cli.specs.Strips.{IsWhole}
 use Rattle.trapsheet_cli.specs.Text.{usage_line}
 use Rattle.trapsheet_cli.specs.Words.{SheetWords, order_of, sources_of, targets_of}

@@ -15,11 +15,12 @@ use Rattle.refusals.specs.Telling.{KeepsFiles, TellsText}
 use Rattle.sheet_gather.specs.Gathering.{AsksAll, AsksTwice, FailsAgain, FailsToRead, HasChanged}
 use Rattle.sheet_gather.specs.Gathering.{IsMadeSheet, RefusesFiles, TakesTrays, TakesTwice}
 use Rattle.sheet_gather.specs.Stops.{RefusesSheet}
-use Rattle.sheet_gather.specs.Trays.{IsCalm}
+use Rattle.plate_rows.specs.Trays.{IsCalm}
 use Rattle.sheet_gather.specs.declared.stop.TrapsheetError.{TrapsheetError}
 use Rattle.sheet_gather.specs.declared.stop.TrapsheetError.TheVariants.{Changed, Common}
 use Rattle.trap_report.specs.Report.{report_of}
-use Rattle.trapsheet_cli.specs.Racks.{BreaksSheet, HoldParts, KeepsRacks, rack_at, rack_files}
+use Rattle.plate_rows.specs.Racks.{rack_at}
+use Rattle.trapsheet_cli.specs.Racks.{BreaksSheet, HoldParts, KeepsRacks, rack_files}
 use Rattle.trapsheet_cli.specs.Strips.{IsWhole}
 use Rattle.trapsheet_cli.specs.Text.{usage_line}
 use Rattle.trapsheet_cli.specs.Words.{SheetWords, order_of, sources_of, targets_of}

@@ -1,7 +1,7 @@
 -- Several racks, of which each writes the file of one plate, and the first one the report after
 -- its plate.
-use Rattle.std.specs.Prelude.{◌≡◌, ◌≢◌, ◌⊎◌, ℕ, zero, suc, ◌<◌, ◌≤◌, false, IsTrue, List, [], ◌∷◌}
-use Rattle.std.specs.Prelude.{length, take, Option, Some, None, slice_index_or, Result, Ok, Err}
+use Rattle.std.specs.Prelude.{◌≡◌, ◌≢◌, ◌⊎◌, ℕ, zero, suc, ◌<◌, ◌≤◌, IsTrue, List, [], ◌∷◌}
+use Rattle.std.specs.Prelude.{length, take, Option, Some, None, Result, Ok, Err}
 use Rattle.outside.specs.Causes.{Asks, AsksPrefix, RoseOnce}
 use Rattle.outside.specs.Rack.{RackState, KeepsRack, put}
 use Rattle.outside.specs.Writing.{WritesFile}
@@ -12,28 +12,12 @@ use Rattle.page_model.specs.Planes.{plane_at}
 use Rattle.page_writing.specs.Files.{Written}
 use Rattle.page_writing.specs.Format.{encoded}
 use Rattle.page_writing.specs.Writing.{BreaksAt, WritesAll}
+use Rattle.plate_rows.specs.Racks.{rack_at}
 use Rattle.refusals.specs.declared.refusal.Refusal.TheVariants.{Write}
 use Rattle.sheet_gather.specs.Gathering.{tray_of}
 use Rattle.sheet_gather.specs.declared.stop.TrapsheetError.{TrapsheetError}
 use Rattle.sheet_gather.specs.declared.stop.TrapsheetError.TheVariants.{Common}
 use Rattle.verdicts.specs.Verdicts.{Targets}
-
--- stands where there is no rack
-abbrev pub no_rack : RackState
-no_rack = record {
-  tells = false;
-  file = λ name. None;
-  told = [];
-  is_open = false;
-  current = [];
-  asked = None;
-  finished = None;
-  faults = 0;
-}
-
--- rack k
-abbrev pub rack_at : List RackState → ℕ → RackState
-rack_at racks k = slice_index_or racks k no_rack
 
 -- plate k as a file
 abbrev pub plate_file : Targets → List Plane → ℕ → Written

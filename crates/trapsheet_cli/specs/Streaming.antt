@@ -23,7 +23,7 @@ use Rattle.sheet_windows.specs.Spans.{IsEvenRuler, IsRuler}
 use Rattle.strip_tiles.specs.Whole.{IsCounted}
 use Rattle.tile_counts.specs.declared.counts.SheetCounts.{SheetCounts}
 use Rattle.trapsheet_cli.specs.Endings.{sheet_report}
-use Rattle.trapsheet_cli.specs.Racks.{rack_at}
+use Rattle.plate_rows.specs.Racks.{rack_at}
 
 -- what the program tells where a second reading stops
 abbrev pub error_of : RereadError → TrapsheetError

@@ -9,7 +9,7 @@ ghost use Rattle.page_model.specs.Page.{plates};
 ghost use Rattle.strip_tiles.specs.Whole.{IsCounted};
 ghost use Rattle.trap_report.specs.Report.{AreCounts};
 ghost use Rattle.trapsheet_cli.specs.Endings.{sheet_report};
-ghost use Rattle.trapsheet_cli.specs.Racks.{rack_at};
+ghost use Rattle.plate_rows.specs.Racks.{rack_at};
 ghost use Rattle.trapsheet_cli.specs.Reporting.{CountSome};
 
 use lists::list::List;

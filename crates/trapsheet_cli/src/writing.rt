@@ -3,7 +3,8 @@ ghost use Rattle.std.specs.List.{All};
 ghost use Rattle.outside.specs.Writing.{WritesFile};
 ghost use Rattle.page_model.specs.Limits.{most_maxval};
 ghost use Rattle.page_writing.specs.Format.{encoded};
-ghost use Rattle.trapsheet_cli.specs.Racks.{WritesPlates, WritesSheet, rack_at, targets};
+ghost use Rattle.plate_rows.specs.Racks.{rack_at};
+ghost use Rattle.trapsheet_cli.specs.Racks.{WritesPlates, WritesSheet, targets};
 
 use outside::rack::Rack;
 use outside::tray::Failed;

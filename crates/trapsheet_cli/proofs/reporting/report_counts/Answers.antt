@@ -3,7 +3,7 @@ use Rattle.outside.specs.Rack.{RackState}
 use Rattle.outside.specs.Writing.{WritesFile}
 use Rattle.trap_report.specs.Report.{report_of}
 use Rattle.trapsheet_cli.specs.Endings.{sheet_report}
-use Rattle.trapsheet_cli.specs.Racks.{no_rack, rack_at}
+use Rattle.plate_rows.specs.Racks.{no_rack, rack_at}
 use Rattle.trapsheet_cli.proofs.RackLemmas.{state_before, state_here}
 use Rattle.trapsheet_cli.proofs.ReportingLemmas.{report_is}
 use Rattle.trapsheet_cli.proofs.reporting.report_counts.Goals as goal

@@ -9,7 +9,7 @@ use Rattle.trapsheet_cli.specs.Racks.{WritesSheet, targets}
 use Rattle.trapsheet_cli.specs.Words.{targets_of}
 use Rattle.trapsheet_cli.proofs.EndLemmas.{puts_out}
 use Rattle.trapsheet_cli.proofs.OutcomeLemmas.{trapped_count}
-use Rattle.trapsheet_cli.proofs.SheetTints.{maxvals_fit, tints_fit}
+use Rattle.strip_rows.proofs.SheetTints.{maxvals_fit, tints_fit}
 use Rattle.trapsheet_cli.proofs.run.put_out.Goals as goal
 
 pub write_sheet-requires-clause-count : goal.write_sheet-requires-clause-count

@@ -2,7 +2,7 @@ use Rattle.std.proofs.Common.{map, sym, subst}
 use Rattle.outside.specs.Rack.{RackState}
 use Rattle.outside.specs.Writing.{WritesFile}
 use Rattle.page_writing.specs.Format.{encoded}
-use Rattle.trapsheet_cli.specs.Racks.{no_rack, rack_at}
+use Rattle.plate_rows.specs.Racks.{no_rack, rack_at}
 use Rattle.trapsheet_cli.proofs.RackLemmas.{state_before, state_here, state_other}
 use Rattle.trapsheet_cli.proofs.writing.write_at.Goals as goal
 

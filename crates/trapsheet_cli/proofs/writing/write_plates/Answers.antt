@@ -4,7 +4,8 @@ use Rattle.outside.specs.Writing.{WritesFile}
 use Rattle.outside.specs.declared.tray.Failed.{Failed}
 use Rattle.page_model.specs.declared.parts.Plane.{Plane}
 use Rattle.page_writing.specs.Format.{encoded}
-use Rattle.trapsheet_cli.specs.Racks.{WritesFirst, WritesPlates, rack_at}
+use Rattle.plate_rows.specs.Racks.{rack_at}
+use Rattle.trapsheet_cli.specs.Racks.{WritesFirst, WritesPlates}
 use Rattle.trapsheet_cli.proofs.RackLemmas.{at_output, first_more, none_first}
 use Rattle.trapsheet_cli.proofs.writing.write_plates.Goals as goal
 
