@@ -26,8 +26,8 @@ OPTIONS = {"--dpi": "one", "--box": "one", "--density": "each", "--kind": "each"
 SMALL_SAMPLES, SMALL_DPI, LEAST_DPI = 500_000, 72, 10
 MOST_PAGES, LEAST_LOOK = 999_999, 60
 # What a page takes, as measured on pages of a label and of A4 (docs/FARM.md): seconds of a processor from PDF to proof, for a
-# page and for a sample; bytes a sample in trap's table; of trapsheet the bytes of its windows, and those a sample of the sheet that it keeps.
-SECONDS_A_PAGE, SECONDS_A_SAMPLE, TABLE_BYTES, WINDOW_BYTES, SHEET_BYTES = 2.5, 1e-7, 12, 400_000_000, 4
+# page and for a sample; bytes a sample in trap's table; of trapsheet the bytes of a strip and its windows, however large the sheet is.
+SECONDS_A_PAGE, SECONDS_A_SAMPLE, TABLE_BYTES, STRIP_BYTES = 2.5, 1e-7, 12, 400_000_000
 # From which tint on a sample has ink, and below which it has none, where one ink knocks out others: full ink is 0.
 MUCH, LITTLE = 127, 250
 KNOCK_OUT_SAMPLES = 3
@@ -290,7 +290,7 @@ class Preflight:
     def needs(self, page, width, height, inks, inked, samples):
         """What a page takes: processor seconds, memory, and disk for plates before and after and TIFF files."""
         whole = samples > press.MOST_SAMPLES or max(width, height) > press.LONGEST_SIDE
-        memory = WINDOW_BYTES + samples * SHEET_BYTES if whole else samples * TABLE_BYTES
+        memory = STRIP_BYTES if whole else samples * TABLE_BYTES
         return Sheet(page, width, height, inks, inked, samples, round(samples * SECONDS_A_SAMPLE + SECONDS_A_PAGE, 1), memory,
                      width * height * (inks + inked))
 

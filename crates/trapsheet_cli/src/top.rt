@@ -16,8 +16,8 @@ use std::thread::Threads;
 
 // A window has so many rows, and so many samples in all plates, where its halo leaves room for that.
 const WINDOW: Budget = Budget {
-    rows: 512,
-    samples: 2_000_000,
+    rows: 128,
+    samples: 400_000,
 };
 
 /// Traps a sheet of any size, and answers the status that the program ends with.
