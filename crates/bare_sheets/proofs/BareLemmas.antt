@@ -19,7 +19,7 @@ use Rattle.page_model.specs.Reach.{page_reach}
 use Rattle.page_model.proofs.FaultLemmas.{agrees_from, near_from}
 use Rattle.bare_sheets.specs.declared.budget.Budget.{Budget}
 use Rattle.bare_sheets.specs.declared.refusal.SheetRefusal.TheVariants.{Far, Fault}
-use Rattle.bare_sheets.specs.Planned.{room, FitRulers, IsPlan, even_room}
+use Rattle.bare_sheets.specs.Planned.{IsStepOf, room, FitRulers, IsPlan, even_room}
 use Rattle.bare_sheets.specs.Refusals.{cut_fault, far, is_far_by, is_large, parts_fault, sheet_refusal, uncut}
 use Rattle.bare_sheets.proofs.FarLemmas.{near_from as near_sheet}
 use Rattle.bare_sheets.specs.declared.plan.Plan.{Plan}
@@ -91,6 +91,9 @@ reach_is sheet = refl
 few_is : (sheet : PageParts) (budget : Budget) (rulers : Rulers) → (rulers.across.most ≡ room rulers.across) ⊎ (rulers.across.most * rulers.down.most * plates (bare_sheet sheet) ≤ budget.samples) → (rulers.across.most ≡ room rulers.across) ⊎ (rulers.across.most * rulers.down.most * plates sheet ≤ budget.samples)
 few_is sheet budget rulers few = subst (λ (n : ℕ). (rulers.across.most ≡ room rulers.across) ⊎ (rulers.across.most * rulers.down.most * n ≤ budget.samples)) (plates_is sheet) few
 
+step_is : (sheet : PageParts) (step : ℕ) → IsStepOf (bare_sheet sheet) step → IsStepOf sheet step
+step_is sheet step is = record { some = is.some; alone = is.alone; exact = is.exact; least = is.least }
+
 rulers_fit : (sheet : PageParts) (budget : Budget) (least : ℕ) (rulers : Rulers) → FitRulers (bare_sheet sheet) budget least rulers → FitRulers sheet budget least rulers
 rulers_fit sheet budget least rulers fit = record {
   fit = record {
@@ -108,6 +111,8 @@ rulers_fit sheet budget least rulers fit = record {
     low = fit.small.low;
     few_samples = subst (λ (n : ℕ). rulers.across.most * rulers.down.most * n ≤ 160000000) (plates_is sheet) fit.small.few_samples;
   };
+  step_across = step_is sheet rulers.across.step fit.step_across;
+  step_down = step_is sheet rulers.down.step fit.step_down;
   columns = fit.columns;
   rows = fit.rows;
   high = fit.high;

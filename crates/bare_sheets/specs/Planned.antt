@@ -16,6 +16,14 @@ use Rattle.sheet_windows.specs.declared.spans.Ruler.{Ruler}
 use Rattle.sheet_windows.specs.Plans.{AreRulers, AreSmall, IsStep}
 use Rattle.sheet_windows.specs.Spans.{IsEvenRuler, IsRuler}
 
+-- the step by which a sheet is cut: the least one where it has paths, and else a sample
+pub record IsStepOf (sheet : PageParts) (step : ℕ) : Type 0 where
+  pub some : 1 ≤ step
+  pub alone : length sheet.zones ≤ 1 → step ≡ 1
+  pub exact : 1 < length sheet.zones → IsStep sheet.resolution step
+  pub least : 1 < length sheet.zones
+      → (k : ℕ) → 1 ≤ k → k < step → ¬ IsStep sheet.resolution k
+
 -- the least length of a window: a halo on each side, and a step beside
 abbrev pub room : Ruler → ℕ
 room ruler = 2 * max 1 ruler.halo + ruler.step
@@ -29,6 +37,8 @@ even_room ruler = 2 * max 1 ruler.halo + 2 * ruler.step - 1
 pub record FitRulers (bare : PageParts) (budget : Budget) (least : ℕ) (rulers : Rulers)
     : Type 0 where
   pub fit : AreRulers bare rulers.across rulers.down
+  pub step_across : IsStepOf bare rulers.across.step
+  pub step_down : IsStepOf bare rulers.down.step
   pub small : AreSmall bare rulers.across rulers.down
   pub columns : IsRuler rulers.across
   pub rows : IsRuler rulers.down
@@ -52,9 +62,8 @@ IsPlan bare budget Page = IsSome (cut_fault bare) × (is_large bare ≡ false)
 pub record IsLeast (bare : PageParts) (least : Least) : Type 0 where
   pub halo_is : least.halo ≡ halo (page_reach bare)
   pub near : least.halo ≤ 128
-  pub some_step : 1 ≤ least.step
+  pub step_is : IsStepOf bare least.step
   pub short : least.step ≤ most_step
-  pub exact : 1 < length bare.zones → IsStep bare.resolution least.step
   pub columns_are : least.columns ≡ 2 * max 1 least.halo + least.step
   pub rows_are : least.rows ≡ 2 * max 1 least.halo + 2 * least.step - 1
 

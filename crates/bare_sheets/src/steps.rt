@@ -3,7 +3,7 @@
 ghost use Rattle.std.specs.Prelude.{◌≡◌, ◌<◌, ◌≤◌, length, Some, None};
 ghost use Rattle.page_model.specs.Limits.{most_resolution};
 ghost use Rattle.bare_sheets.specs.Refusals.{has_step, most_step, uncut};
-ghost use Rattle.sheet_windows.specs.Plans.{IsStep};
+ghost use Rattle.bare_sheets.specs.Planned.{IsStepOf};
 ghost use Rattle.bare_sheets.specs.Bare.{IsBareSheet};
 
 use crate::refusal::SheetRefusal;
@@ -33,14 +33,13 @@ pub fn uncut_of(sheet: &PageParts) -> Option<SheetRefusal>
     }
 }
 
-/// The step of a sheet in samples: 1 where it has no paths, since then no vertex is moved.
+/// The step of a sheet in samples, the least one: 1 where it has no paths, since then no vertex is moved.
 #[tactic(auto, using(crate::proofs::StepLemmas::step_short))]
 pub fn sheet_step(sheet: &PageParts) -> u32
     requires sheet { IsBareSheet sheet.now }
     requires cut { uncut sheet.now ≡ None }
-    ensures some { 1 ≤ result }
+    ensures step { IsStepOf sheet.now result }
     ensures short { result ≤ most_step }
-    ensures exact { 1 < length sheet.now.zones → IsStep sheet.now.resolution result }
 {
     if sheet.zones.len() > 1 {
         step_of(sheet.resolution)

@@ -21,7 +21,7 @@ use Rattle.trapsheet_cli.specs.Strips.{HasNoStrips}
 
 -- A sheet that is planned otherwise has no strips of one height.
 pub no_strips_by : (bare : PageParts) (budget : Budget) (rulers : Rulers) → IsPlan bare budget (Windows rulers) → HasNoStrips bare
-no_strips_by bare budget rulers is = inr (rulers, record { fit = is.1.fit; large = is.2 })
+no_strips_by bare budget rulers is = inr (rulers, record { fit = is.1.fit; step_across = is.1.step_across; step_down = is.1.step_down; large = is.2 })
 
 pub no_cut : (bare : PageParts) (budget : Budget) → IsPlan bare budget Page → HasNoStrips bare
 no_cut bare budget is = inl is.0

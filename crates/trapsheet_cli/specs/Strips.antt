@@ -1,21 +1,23 @@
 -- Sheets of which no strips of one height can be cut.
 use Rattle.std.specs.Prelude.{◌⊎◌, ◌*◌, ◌<◌, IsSome, List}
 use Rattle.bare_sheets.specs.Bare.{bare_sheet}
-use Rattle.bare_sheets.specs.Planned.{even_room}
+use Rattle.bare_sheets.specs.Planned.{IsStepOf, even_room, room}
 use Rattle.bare_sheets.specs.declared.plan.Rulers.{Rulers}
 use Rattle.outside.specs.Tray.{TrayState}
 use Rattle.page_gather.specs.Inputs.{Sources}
 use Rattle.page_model.specs.declared.parts.PageParts.{PageParts}
 use Rattle.page_model.specs.Limits.{most_samples}
 use Rattle.page_model.specs.Page.{plates}
-use Rattle.bare_sheets.specs.Planned.{room}
 use Rattle.bare_sheets.specs.Refusals.{cut_fault}
 use Rattle.sheet_gather.specs.Gathering.{IsMadeSheet}
 use Rattle.sheet_windows.specs.Plans.{AreRulers}
 
--- By rulers of this sheet the least window of a strip has more samples than a page.
+-- By rulers of this sheet, with its own halo and step, the least window of a strip has more samples
+-- than a page.
 pub record AreTooLarge (bare : PageParts) (rulers : Rulers) : Type 0 where
   pub fit : AreRulers bare rulers.across rulers.down
+  pub step_across : IsStepOf bare rulers.across.step
+  pub step_down : IsStepOf bare rulers.down.step
   pub large : most_samples < room rulers.across * even_room rulers.down * plates bare
 
 -- It cannot be cut, or not into strips of one height.
