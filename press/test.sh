@@ -8,19 +8,31 @@ here=$(cd "$(dirname "$0")" && pwd)
 top=$(dirname "$here")
 out=$here/tests/out
 tried=0
+# The order of names, the spelling of what tools say, and a run that stands in an array job or a farm of its own, are another matter.
+export LC_ALL=C.UTF-8
+unset GS_OPTIONS GS_DEVICE GS_LIB PARALLEL PRESS PRESS_HELD PRESS_LOCAL PRESS_PYTHON SLURM_ARRAY_TASK_ID SLURM_SUBMIT_DIR
 
 wrong() { printf 'press/test.sh: WRONG: %s\n' "$1"; exit 1; }
 there() { command -v "$1" >/dev/null; }
 skip() { printf 'press/test.sh: %s: skipped, %s is not there\n' "$1" "$2"; }
+
+# same WHAT GOT WANTED: a text is as wanted.
+same() { [ "$2" = "$3" ] || wrong "$1: '$2' and not '$3'"; }
+
+# same_bytes WHAT ONE TWO: two files are one byte for byte, and hold something.
+same_bytes() { [ -s "$2" ] && cmp "$2" "$3" >&2 || wrong "$1: $2 and $3 differ, or are empty"; }
+
+# begins WHAT FILE BYTES: a file begins with these bytes, as printf's %b has them.
+begins() { printf '%b' "$3" >../begin && cmp -n "$(stat -c %s ../begin)" "$2" ../begin >&2 || wrong "$1: $2 begins with $(head -c 30 "$2" | od -An -c)"; }
 
 # What stands in the folder: each file's name, number, size and the time it was changed. No temporary file may be left over.
 state() { find . \( -type d -printf '%p\n' -o -printf '%p %i %s %T@\n' \) | sort; }
 
 # refused STATUS LINE COMMAND ..: the command ends with this status, tells one line that matches, and changes nothing.
 refused() {
-  local expected=$1 line=$2 status=0 before
+  local expected=$1 line=$2 status=0
   shift 2
-  before=$(state)
+  state >../before
   "$@" >../told 2>../line || status=$?
   # Where no picture can be made, that is told of before the line.
   [ "$pictures" = yes ] || sed -i '/: no picture in RGB is made$/d' ../line
@@ -28,7 +40,8 @@ refused() {
   [ ! -s ../told ] || wrong "$* told: $(cat ../told)"
   [ "$(wc -l <../line)" = 1 ] || wrong "$* told more than a line: $(cat ../line)"
   grep -qE -- "^$line\$" ../line || wrong "$* told: $(cat ../line)"
-  [ "$before" = "$(state)" ] || wrong "$* left something: $(diff <(echo "$before") <(state))"
+  state >../after
+  cmp -s ../before ../after || wrong "$* left something: $(diff ../before ../after)"
   tried=$((tried + 1))
 }
 
@@ -36,7 +49,7 @@ refused() {
 goes() {
   "$@" >../told 2>../line || wrong "$* failed: $(cat ../line)"
   ! grep -v ': \(warning\|note\): ' ../line || wrong "$* told something"
-  [ -z "$(find . -name '.press-*')" ] || wrong "$* left something over"
+  [ -z "$(find . -name '.press-*')" ] || wrong "$* left something over: $(find . -name '.press-*')"
   tried=$((tried + 1))
 }
 
@@ -46,9 +59,6 @@ without() {
   ln -s /usr/bin/* ../bin/
   (cd ../bin && rm -f "$@" && ln -sf "$python" python3 && pwd)
 }
-
-# same WHAT ONE TWO: the two texts are one.
-same() { [ "$2" = "$3" ] || wrong "$1: $(printf '%s\n' "$2"), and not: $(printf '%s\n' "$3")"; }
 
 plane() { tifftopnm -quiet "$1" | tail -n +4; }
 
@@ -60,10 +70,12 @@ as_tiffsep() {
   (cd ../gs && gs -q -dSAFER -dBATCH -dNOPAUSE -sDEVICE=tiffsep -r600 -dMaxSpots=60 -dFirstPage=1 -dLastPage=1 \
     -sOutputFile=page.tif - <"$OLDPWD/$pdf")
   goes "$here/tiff" --untrapped --name page "$folder" ../tiffs
-  cmp <(ls ../gs) <(ls --ignore='*.png' ../tiffs) || wrong "$stem: other files than tiffsep's"
+  same "$stem: the files of tiffsep" "$(ls --ignore='*.png' ../tiffs)" "$(ls ../gs)"
   for file in ../gs/*\(*; do
-    cmp <("$here/tests/tiff_tags.py" "$file") <("$here/tests/tiff_tags.py" "../tiffs/${file##*/}") || wrong "$stem: $file"
-    cmp <(plane "$file") <(plane "../tiffs/${file##*/}") || wrong "$stem: $file"
+    same "$stem: $file" "$("$here/tests/tiff_tags.py" "../tiffs/${file##*/}")" "$("$here/tests/tiff_tags.py" "$file")"
+    plane "$file" >../one
+    plane "../tiffs/${file##*/}" >../two
+    same_bytes "$stem: $file" ../one ../two
   done
 }
 
@@ -244,8 +256,8 @@ try_plates() {
   mkdir beside && cp two.pdf told.inks beside/ && mv beside/told.inks beside/two.inks
   echo '<< /TrapWidth 1 >> settrapparams' >beside/two.zones && echo 'newpath' >beside/two.1.zones
   goes "$here/plates" beside/two.pdf beside/page
-  cmp <(tail -n 8 beside/page/page.job) <(printf '%s\n' '' '% From two.zones:' '<< /TrapWidth 1 >> settrapparams' '' \
-    '% From two.1.zones:' newpath '' showpage) || wrong "beside: the job"
+  same "beside: the job" "$(tail -n 8 beside/page/page.job)" "$(printf '%s\n' '' '% From two.zones:' '<< /TrapWidth 1 >> settrapparams' '' \
+    '% From two.1.zones:' newpath '' showpage)"
   # Ghostscript's own options are kept out.
   GS_OPTIONS="-dTrapX=8 -dTrapY=8 -dDownScaleFactor=2" goes "$here/plates" two.pdf options --kind "Gold Foil=Normal"
   diff -r two options || wrong "GS_OPTIONS reached Ghostscript"
@@ -271,10 +283,13 @@ try_pages() {
     case ${one##*/} in test.sh | try.sh) continue ;; farm.sbatch) page=press-farm ;; press | trapper) page=${one##*/} ;; esac
     [ -s "$top/man/$page.1" ] || wrong "pages: no page of ${one##*/}"
     "$one" --help >../told 2>../line && [ -s ../told ] && [ ! -s ../line ] || wrong "pages: ${one##*/} --help"
-    mapfile -t named < <(sed -n "s|^\.Xr \(press[a-z-]*\) 1.*|$top/man/\1.1|p" "$top/man/$page.1" | sort -u)
+    sed -n "s|^\.Xr \(press[a-z-]*\) 1.*|$top/man/\1.1|p" "$top/man/$page.1" | sort -u >../named
+    mapfile -t named <../named
+    [ ${#named[@]} -gt 0 ] || wrong "pages: $page names no other page"
+    grep -oE -- '--[a-z][a-z-]*[a-z]' ../told | grep -vxE -- '--(help|version|sshlogin)' | sort -u >../options || true
     while read -r option; do
       cat "$top/man/$page.1" "${named[@]}" | grep -qE -- "(^|[^a-z-])-{1,2}${option#--}([^a-z-]|$)" || wrong "pages: $page has no $option"
-    done < <(grep -oE -- '--[a-z][a-z-]*[a-z]' ../told | grep -vxE -- '--(help|version|sshlogin)' | sort -u)
+    done <../options
     tried=$((tried + 1))
   done
   if ! there mandoc; then skip "manual pages" mandoc; return; fi
@@ -290,34 +305,72 @@ stopped() {
   for _ in {1..600}; do ! works_here gs && kill -0 "$child" || break; sleep 0.1; done
   kill "$child" || wrong "$* ended before it was stopped: $(cat ../line)"
   wait "$child" || status=$?
-  [ "$status" = 143 ] || wrong "$* was stopped, and its status is $status"
-  for _ in {1..600}; do works_here || break; sleep 0.1; done
-  ! works_here || wrong "$* was stopped, and a tool of it goes on"
-  [ -z "$(find . -name '.press-*' -o -name 'page-*')" ] || wrong "$* was stopped, and something is left"
+  [ "$status" = 143 ] || wrong "$* was stopped, and its status is $status: $(cat ../line)"
+  rests "$* was stopped"
+  [ -z "$(find . -name '.press-*' -o -name 'page-*')" ] || wrong "$* was stopped, and something is left: $(find . -name '.press-*' -o -name 'page-*')"
   tried=$((tried + 1))
 }
 
-# Whether a process is at work in a folder below this one: any, or one of that name.
+# Whether a process is at work in this folder or below it, but for this shell and its tools: any, or one of that name. It is shown in
+# ../works.
 works_here() {
-  local one
+  local one name shell
+  shell=$(cat /proc/$$/comm)
+  find /proc/[0-9]*/cwd -maxdepth 0 \( -lname "$PWD" -o -lname "$PWD/*" \) -printf '%h\n' >../found 2>/dev/null || true
   while read -r one; do
-    if [ $# = 0 ] || [ "$(cat "$one/comm" 2>/dev/null)" = "$1" ]; then return 0; fi
-  done < <(find /proc/[0-9]*/cwd -maxdepth 0 -lname "$PWD/*" -printf '%h\n' 2>/dev/null)
+    name=$(cat "$one/comm" 2>/dev/null) || continue
+    case $name in "$shell" | find | cat) continue ;; esac
+    [ "${1-$name}" = "$name" ] || continue
+    { tr '\0' ' ' <"$one/cmdline" >../works; } 2>/dev/null || continue
+    return 0
+  done <../found
   return 1
 }
 
+# rests WHAT: nothing that a command began goes on here; that takes a while where the machine is busy.
+rests() {
+  for _ in {1..1200}; do works_here || return 0; sleep 0.1; done
+  wrong "$1, and something goes on: $(cat ../works)"
+}
+
 try_stopped() {
-  local label=$top/examples/label/label.pdf
+  local label=$top/examples/label/label.pdf child status=0
   mkdir -p tmp && export TMPDIR=$PWD/tmp
   stopped "$here/plates" --dpi 4000 "$label" stopped
   [ ! -e stopped ] || wrong "stopped: a folder is left"
   if [ "$built" = yes ]; then
     stopped "$here/all" --quiet --dpi 1800 "$label" stopped
-    if there parallel; then stopped "$here/farm" --quiet --dpi 1800 "$label" stopped; fi
+    if there parallel; then
+      stopped "$here/farm" --quiet --dpi 1800 "$label" stopped
+      stopped_while_deaf
+    fi
   fi
   [ -z "$(ls tmp)" ] || wrong "stopped: something is left among the temporary files: $(ls tmp)"
   unset TMPDIR
   rm -rf stopped tmp
+}
+
+# GNU parallel does not listen at its beginning: one that is deaf to the first signal.
+stopped_while_deaf() {
+  local child status=0
+  mkdir -p ../deaf && rm -f ../deaf/begun
+  cat >../deaf/parallel <<'PARALLEL'
+#!/bin/sh
+trap : TERM
+: >"${0%/*}/begun"
+sleep 60 &
+wait
+trap 'kill $!; exit 255' TERM
+wait
+PARALLEL
+  chmod +x ../deaf/parallel
+  PATH=$out/deaf:$PATH "$here/farm" --quiet --lenient two.pdf stopped >../told 2>../line &
+  child=$!
+  for _ in {1..1200}; do [ ! -e ../deaf/begun ] && kill -0 "$child" || break; sleep 0.1; done
+  SECONDS=0
+  kill "$child" && wait "$child" || status=$?
+  [ "$status" = 143 ] && ((SECONDS < 50)) || wrong "stopped: a parallel that is deaf at first: $status, $SECONDS s, $(cat ../line)"
+  rests "stopped: a parallel that is deaf at first"
 }
 
 # What is put into a hot folder while it is watched, and lay there before; names with anything in them.
@@ -326,18 +379,19 @@ ended() { grep -c ': done: \|: failed: ' ../told; }
 try_watch() {
   if ! there inotifywait; then skip watch inotifywait; return; fi
   [ "$built" = yes ] || return 0
+  mkdir -p tmp && export TMPDIR=$PWD/tmp
   # shellcheck disable=SC2016
   local watcher name status=0 names=('$(touch ran).pdf' ' "b]".pdf' '*.PDF')
   mkdir hot/done && cp two.pdf hot/first.pdf
   # A file that another process has open to write since before.
   exec 7>hot/open.pdf
   head -c 300 two.pdf >&7
-  "$here/watch" --settle 1 --lenient --dpi 300 hot >../told 2>../line 7>&- &
+  PATH=$(slow_gs) "$here/watch" --settle 1 --lenient --dpi 300 hot >../told 2>../line 7>&- &
   watcher=$!
   # shellcheck disable=SC2064
   trap "kill $watcher 2>/dev/null" EXIT
   for _ in {1..600}; do ! grep -q watching ../line || break; sleep 0.1; done
-  grep -q watching ../line || { skip watch "$(tail -n 1 ../line): inotify"; kill "$watcher"; return; }
+  grep -q watching ../line || { skip watch "$(tail -n 1 ../line): inotify"; kill "$watcher" || true; trap - EXIT; return; }
   # One watch a folder.
   "$here/watch" hot >../told2 2>../line2 || status=$?
   [ "$status" = 8 ] && grep -q "^press-watch: hot: another run is at work here (process $watcher on .*: press-watch)$" ../line2 ||
@@ -362,14 +416,13 @@ try_watch() {
   ! grep -vE '^[0-9]{4}-[0-9]{2}-[0-9]{2} [0-9:]{8} .*: (taken$|done: |failed: )' ../told || wrong "watch: the log: $(cat ../told)"
   [ ! -e ran ] && [ ! -e hot/ran ] || wrong "watch: a file's name was run"
   # One that is at work when it is stopped.
+  : >../slow/now
   cp "$top/examples/label/label.pdf" hot/slow.pdf
-  for _ in {1..600}; do [ -z "$(find hot -path '*/.press-*' -name scratch)" ] || break; sleep 0.1; done
-  kill "$watcher"
-  wait "$watcher" || wrong "watch: it was stopped and ended with $?"
-  trap - EXIT
-  [ -f hot/slow.pdf ] && [ -z "$(find hot -name '.press-*')" ] && [ ! -e hot/done/slow ] || wrong "watch: what was at work is lost"
-  for _ in {1..600}; do works_here || break; sleep 0.1; done
-  ! works_here || wrong "watch: something goes on"
+  for _ in {1..1200}; do [ ! -e ../slow/begun ] || break; sleep 0.1; done
+  [ -e ../slow/begun ] || wrong "watch: slow.pdf is not taken: $(cat ../told)"
+  stop_watch "$watcher"
+  rm ../slow/now
+  [ -f hot/slow.pdf ] && [ -z "$(find hot -name '.press-*')" ] && [ ! -e hot/done/slow ] || wrong "watch: what was at work is lost: $(find hot)"
   # What is warned of is refused where nobody says otherwise.
   rm hot/slow.pdf && cp damaged.pdf hot/
   # What an earlier watch told must be gone before it is looked for.
@@ -378,12 +431,20 @@ try_watch() {
   watcher=$!
   # shellcheck disable=SC2064
   trap "kill $watcher 2>/dev/null" EXIT
-  for _ in {1..300}; do [ "$(ended)" -lt 1 ] || break; sleep 0.5; done
-  kill "$watcher" && wait "$watcher" || wrong "watch: it was stopped and ended with $?"
-  trap - EXIT
+  for _ in {1..1800}; do [ "$(ended)" -lt 1 ] || break; sleep 0.5; done
+  stop_watch "$watcher"
   grep -q 'damaged.pdf: .*Ghostscript finds faults .* (--strict)$' hot/failed/damaged/why.txt || wrong "watch: a damaged file is taken: $(cat ../told)"
-  rm -r hot/done hot/failed hot/writing.part
+  [ -z "$(ls tmp)" ] || wrong "watch: something is left among the temporary files: $(ls tmp)"
+  unset TMPDIR
+  rm -r hot/done hot/failed hot/writing.part tmp
   tried=$((tried + 1))
+}
+
+# stop_watch PROCESS: the watch is stopped, ends well, and nothing of it goes on.
+stop_watch() {
+  kill "$1" && wait "$1" || wrong "watch: it was stopped and ended with $?: $(cat ../line)"
+  trap - EXIT
+  rests "watch: it was stopped"
 }
 
 try_traps() {
@@ -415,7 +476,7 @@ try_traps() {
   tried=$((tried + 1))
   # What is too large for trap goes by trapsheet, where that is there.
   if [ -x "$sheets" ]; then
-    mkdir ../sheets && ln -s "$(readlink -f "$sheets")" "$TRAP_BIN"/* ../sheets/
+    mkdir ../sheets && ln -s "$sheets" "$TRAP_BIN"/* ../sheets/
     goes env TRAP_BIN="$PWD/../sheets" "$here/all" --quiet wide.pdf sheet
     grep -q '^page 16667 17 255 plates 1$' sheet/page-001/trapped/report && rm -r sheet || wrong "traps: trapsheet"
   else
@@ -425,8 +486,8 @@ try_traps() {
   goes env SLURM_ARRAY_TASK_ID=2 PRESS="$here" "$here/farm.sbatch" pages.pdf array
   mkdir local
   goes env SLURM_ARRAY_TASK_ID=2 PRESS="$here" PRESS_LOCAL="$PWD/local" "$here/farm.sbatch" pages.pdf own --tiff-only
-  cmp <(ls array own/page-002/tiff) <(printf '%s\n' array: page-002 '' own/page-002/tiff: 'pages-2(Black).tif' 'pages-2(Cyan).tif' \
-    'pages-2(Magenta).tif' 'pages-2(Yellow).tif' pages-2.png pages-2.tif) || wrong "farm.sbatch: $(find array own)"
+  same farm.sbatch "$(ls array own/page-002/tiff)" "$(printf '%s\n' array: page-002 '' own/page-002/tiff: 'pages-2(Black).tif' \
+    'pages-2(Cyan).tif' 'pages-2(Magenta).tif' 'pages-2(Yellow).tif' pages-2.png pages-2.tif)"
   [ -z "$(ls local)" ] && rm -r array own local || wrong "farm.sbatch: something is left on the node's disk"
   if ! there parallel; then skip farm parallel; return; fi
   refused 8 "press-farm: two.pdf: File exists" "$here/farm" two.pdf two.pdf
@@ -436,7 +497,7 @@ try_traps() {
   [ "$status" = 1 ] && [ ! -e farm/page-002 ] && [ -d farm/page-003 ] || wrong "farm: $status, $(cat ../line)"
   rm pages.2.zones
   goes "$here/farm" --quiet --again pages.pdf farm
-  cmp <(cut -c 1-12 ../told) <(echo 'page 2: done') || wrong "farm: --again did $(cat ../told)"
+  same "farm: --again" "$(cut -c 1-12 ../told)" 'page 2: done'
   diff -r -x 'farm.*' -x proof.html farm pages || wrong "farm: other bytes"
   refused 2 "press-farm: --again: the last run here had other words: none .*" "$here/farm" --again pages.pdf farm --dpi 300
 }
@@ -446,7 +507,8 @@ try_pictures() {
   if [ "$pictures" != yes ]; then skip pictures "NumPy or Pillow"; return; fi
   goes "$here/look" --untrapped two two.png
   goes "$here/look" --untrapped odd odd.png --part 10,20,30,40 --enlarge 3
-  cmp <(head -c 24 odd.png | tail -c 8) <(printf '\0\0\0\132\0\0\0\170') || wrong "look: a part of 90 by 120 points"
+  tail -c +17 odd.png >../sides
+  begins "look: a part of 90 by 120 points" ../sides '\0000\0000\0000\0132\0000\0000\0000\0170'
   for words in "--part=1,1,0,1" "--part=990,0,20,20" "--part=here" "--enlarge=0" "--shrink=401" "--traps" "--part=most"; do
     refused 2 "press-look: .*" "$here/look" --untrapped two new.png "$words"
   done
@@ -476,6 +538,7 @@ try_check() {
   goes "$here/check" --dpi 290 pair.pdf
   ! grep -q trap-width ../told || wrong "check: a width of a whole sample is called out: $(cat ../told)"
   # Refused by box and resolution, before it is drawn: a Ghostscript that draws nothing is not waited for.
+  mkdir -p ../slow && : >../slow/now
   refused 7 "press-plates: huge.pdf: page 1: 120000 by 120000 samples, and a side has at most 16384 \(at most 63 .*" \
     env PATH="$(slow_gs)" "$here/plates" --time 20 huge.pdf new
   refused_but_told 1 'page 1: failed: press-check: huge.pdf: page 1: 120000 by .* \(at most 63 .*' \
@@ -484,7 +547,8 @@ try_check() {
   # A page whose inks are known is told its size once.
   "$here/check" --dpi 3000 pair.pdf >../told 2>../line || true
   [ "$(grep -c ': fault: size: ' ../told)" -le 1 ] || wrong "check: a size is told twice: $(cat ../told)"
-  refused 5 "press-plates: twenty.pdf: page 1: Ghostscript .*" env PATH="$(slow_gs)" "$here/plates" --time 1 twenty.pdf new
+  refused 5 "press-plates: twenty.pdf: page 1: Ghostscript is at it for more than 1 s .*" env PATH="$(slow_gs)" "$here/plates" --time 1 twenty.pdf new
+  rm ../slow/now
   # Zones: a fault at the file's own line, once; keys that nobody knows; a byte order mark.
   printf '<< /TrapWidht 0.3 /HalftoneName null >> settrapparams\n' >keys.zones
   goes "$here/check" pair.pdf --zones keys.zones
@@ -494,7 +558,6 @@ try_check() {
   printf '\n<< /TrapWidth 0.3mm >> settrapparams\n' >fault.zones
   if [ "$built" = yes ]; then
     for one in all farm; do
-      SECONDS=0
       refused 9 'press-'"$one"': fault.zones: line 2: the program refuses it: "job: BadToken"' "$here/$one" twenty.pdf new --zones fault.zones
     done
   fi
@@ -546,12 +609,16 @@ refused_but_told() {
   tried=$((tried + 1))
 }
 
-# A PATH with a Ghostscript that never ends a page.
+# A PATH with a Ghostscript that never ends a page while the file ../slow/now is there, and then leaves the file begun beside it.
 slow_gs() {
   mkdir -p ../slow
-  printf '#!/bin/sh\ncase "$*" in *tiffsep*) exec sleep 60 ;; *) exec /usr/bin/gs "$@" ;; esac\n' >../slow/gs
+  cat >../slow/gs <<GS
+#!/bin/sh
+case "\$*" in *tiffsep*) if [ -e "$out/slow/now" ]; then : >"$out/slow/begun"; exec sleep 600; fi ;; esac
+exec $(command -v gs) "\$@"
+GS
   chmod +x ../slow/gs
-  printf '%s\n' "$PWD/../slow:$PATH"
+  printf '%s\n' "$out/slow:$PATH"
 }
 
 # The library of inks, technical inks, a house's table, parameters by words, presets.
@@ -639,11 +706,11 @@ try_images() {
 try_sources() {
   goes "$here/plates" drawn.eps drawn
   grep -q 'note: drawn.eps: PostScript: Ghostscript made a PDF of it' ../line && [ -s drawn/Warm_Red.pgm ] || wrong "sources: EPS"
-  cmp <(head -c 15 drawn/Cyan.pgm) <(printf 'P5\n500 333\n255\n') || wrong "sources: the EPS's box"
+  begins "sources: the EPS's box" drawn/Cyan.pgm 'P5\n500 333\n255\n'
   # An EPS that tells its box at its end.
   sed 's/BoundingBox: 0 0 60 40/BoundingBox: (atend)/' drawn.eps >later.eps && printf '%%%%Trailer\n%%%%BoundingBox: 0 0 60 40\n%%%%EOF\n' >>later.eps
   goes "$here/plates" later.eps later
-  cmp <(head -c 15 later/Cyan.pgm) <(printf 'P5\n500 333\n255\n') || wrong "sources: the box at the EPS's end"
+  begins "sources: the box at the EPS's end" later/Cyan.pgm 'P5\n500 333\n255\n'
   cp drawn.eps drawn.ai && cp drawn.eps drawn.ps
   [ "$built" = no ] || goes "$here/all" --quiet drawn.ai drawn2
   [ "$built" = no ] || [ -d drawn2/page-001/tiff ] || wrong "sources: AI"
@@ -674,14 +741,16 @@ try_sources() {
     cmp "two/$name.pgm" "again/$name.pgm" && cmp "two/$name.pgm" "white/$name.pgm" || wrong "sources: the plate $name"
   done
   goes "$here/plates" "${wide[@]}" wide --kind "Gold Foil=OpaqueIgnore" --width 0.2mm
-  cmp <(head -c 18 wide/Cyan.pgm) <(printf 'P5\n1000 400\n65535\n') || wrong "sources: 16 bits"
+  begins "sources: 16 bits" wide/Cyan.pgm 'P5\n1000 400\n65535\n'
   for name in seps/sep\(*.tif; do tifftopnm -quiet "$name" | pnminvert | pamtotiff -quiet >"${name/sep(/turned(}"; done
   goes "$here/plates" --inverted "${tiffs[@]//seps\/sep/seps/turned}" inverted --dpi 600 --kind "Gold Foil=OpaqueIgnore"
   cmp two/Cyan.pgm inverted/Cyan.pgm || wrong "sources: --inverted"
   if [ "$built" = yes ]; then
     goes "$here/trap" wide
     goes "$here/tiff" wide wide/tiff
-    cmp <(tifftopnm -quiet "wide/tiff/wide-1(Cyan).tif" | tail -c 800000) <(tail -c 800000 wide/trapped/Cyan.pgm) || wrong "sources: 16 bits out"
+    tifftopnm -quiet "wide/tiff/wide-1(Cyan).tif" | tail -c 800000 >../one
+    tail -c 800000 wide/trapped/Cyan.pgm >../two
+    same_bytes "sources: 16 bits out" ../one ../two
   fi
   refused 7 "press-plates: two.pdf: no TIFF file" "$here/plates" --tiff Cyan=two.pdf new
   refused 2 "press-plates: --tiff is NAME=FILE, .*" "$here/plates" --tiff Cyan new
@@ -695,15 +764,22 @@ killed() {
   shift
   "$@" >../told 2>../line &
   child=$!
-  for _ in {1..600}; do
+  for _ in {1..1200}; do
     [ -z "$(find "$folder" -path '*/.press-*' -name scratch 2>/dev/null)" ] && kill -0 "$child" 2>/dev/null || break
     sleep 0.1
   done
-  kill -9 "$child" || wrong "$* ended before it was killed: $(cat ../line)"
+  kill -9 "$child" || wrong "$* ended before it was killed: $(cat ../told ../line)"
   wait "$child" || true
-  for _ in {1..600}; do works_here || break; sleep 0.1; done
-  ! works_here || wrong "$* was killed, and a tool of it goes on"
+  rests "$* was killed"
   tried=$((tried + 1))
+}
+
+# refused_beside PROCESS COMMAND ..: the command is refused because that process, press/all, is at work in the folder busy.
+refused_beside() {
+  local status=0
+  "${@:2}" >../told2 2>../line2 || status=$?
+  [ "$status" = 8 ] && grep -q "^press-[a-z]*: busy: another run is at work here (process $1 on .*: press-all)$" ../line2 ||
+    wrong "living: ${*:2} beside a run: $status, $(cat ../told2 ../line2)"
 }
 
 # Locks, what killed runs leave, links, a full disk, names that would move a terminal's cursor, pages by numbers.
@@ -711,23 +787,23 @@ try_living() {
   local label=$top/examples/label/label.pdf status=0 child one
   if [ "$built" = no ]; then skip living "the program trap"; return; fi
   mkdir -p tmp && export TMPDIR=$PWD/tmp
-  # One run a folder.
+  # One run a folder. The first one is held still meanwhile.
   "$here/all" --quiet --dpi 1800 "$label" busy >../told3 2>../line3 &
   child=$!
-  for _ in {1..600}; do ! works_here gs || break; sleep 0.1; done
-  "$here/all" --quiet two.pdf busy >../told2 2>../line2 || status=$?
-  [ "$status" = 8 ] && grep -q "^press-all: busy: another run is at work here (process $child on .*: press-all)$" ../line2 ||
-    wrong "living: two runs: $status, $(cat ../line2)"
-  status=0
-  if there parallel; then
-    "$here/farm" --quiet two.pdf busy --lenient >../told2 2>../line2 || status=$?
-    [ "$status" = 8 ] && grep -q "another run is at work here" ../line2 || wrong "living: farm beside a run: $status, $(cat ../line2)"
-  fi
-  kill "$child" && wait "$child" || true
+  # shellcheck disable=SC2064
+  trap "kill -9 $child 2>/dev/null" EXIT
+  for _ in {1..1200}; do [ ! -s busy/.press-lock ] && kill -0 "$child" 2>/dev/null || break; sleep 0.1; done
+  kill -STOP "$child" || wrong "living: it ended before a second run began: $(cat ../told3 ../line3)"
+  refused_beside "$child" "$here/all" --quiet two.pdf busy
+  ! there parallel || refused_beside "$child" "$here/farm" --quiet two.pdf busy --lenient
+  kill "$child" && kill -CONT "$child" && wait "$child" || status=$?
+  trap - EXIT
+  [ "$status" = 143 ] || wrong "living: it was stopped, and its status is $status: $(cat ../line3)"
+  rests "living: it was stopped"
   [ ! -e busy/.press-lock ] || wrong "living: a lock is left"
   # What a killed run leaves is swept by the next; nothing of it goes on.
   killed busy "$here/all" --quiet --dpi 1800 "$label" busy
-  [ -n "$(find busy -name '.press-*')" ] || wrong "living: nothing was left to sweep"
+  [ -n "$(find busy -name '.press-*' -type d)" ] || wrong "living: nothing was left to sweep: $(find busy)"
   goes "$here/all" --quiet --no-proof pair.pdf busy
   if there parallel; then
     killed busy "$here/farm" --quiet --dpi 1800 "$label" busy
@@ -753,11 +829,14 @@ try_living() {
   [ -e way/page-001/mine ] && rm -r way || wrong "living: a folder of another's is gone"
   # A disk that is full, told by its name.
   if mkdir -p small && mount -t tmpfs -o size=1m none small 2>/dev/null; then
-    (refused_but_told 1 'page 1: failed: press-check: two.pdf: page 1: the page takes about .* of disk, and there are .*' \
-      "$here/all" --quiet --no-proof two.pdf small/out) || { umount small; exit 1; }
+    # shellcheck disable=SC2064
+    trap "umount -l '$PWD/small'" EXIT
+    refused_but_told 1 'page 1: failed: press-check: two.pdf: page 1: the page takes about .* of disk, and there are .*' \
+      "$here/all" --quiet --no-proof two.pdf small/out
     status=0
     "$here/plates" two.pdf small/page --dpi 1200 >../told 2>../line || status=$?
-    umount small || umount -l small
+    umount -l small
+    trap - EXIT
     [ "$status" = 8 ] && grep -q '^press-plates: .*No space left on device' ../line || wrong "living: a full disk: $status, $(cat ../line)"
   else
     skip "a full disk" "leave to mount a small one"
@@ -775,7 +854,7 @@ try_living() {
   [ -s "latin/page-001/tiff/${one%.pdf}-1(Cyan).tif" ] && rm -r latin || wrong "living: a name in Latin-1: $(find latin)"
   # Pages.
   goes "$here/all" --quiet --no-proof --page 2-3,5 twenty.pdf pages20
-  cmp <(ls pages20) <(printf 'page-%s\n' 002 003 005) || wrong "living: --page 2-3,5"
+  same "living: --page 2-3,5" "$(ls pages20)" "$(printf 'page-%s\n' 002 003 005)"
   refused 2 "press-all: --page is a whole number from 3 to 999999, and not '2' .*" "$here/all" --page 3-2 twenty.pdf new
   if there parallel; then
     goes "$here/farm" --quiet --lenient --no-proof --page 4,6 twenty.pdf pages20 --dpi 200
@@ -786,7 +865,7 @@ try_living() {
     # No more pages at once than there is memory for.
     goes "$here/farm" --quiet --lenient --no-proof --jobs 1024 --page 1 twenty.pdf many
     grep -qE 'memory for [0-9]+ pages at once, of [0-9.]+ MB each: --jobs 1024 is too many' ../line ||
-      (($(awk '/^MemAvailable/ { print $2 }' /proc/meminfo) > 300000000)) || wrong "living: no guard on memory: $(cat ../line)"
+      (($(awk '/^MemAvailable/ { print $2 }' /proc/meminfo) > 299000000)) || wrong "living: no guard on memory: $(cat ../line)"
     rm -r many
     try_machines
   fi
@@ -883,10 +962,12 @@ try_trapper() {
   goes "$here/trapper" page --workers 2 --band=16 two/page.job rep Cyan:own.pgm:own.pgm Warm_Red:two/Warm_Red.pgm:r.out
   cmp own.pgm c.out || wrong "trapper: IN as OUT"
   # A file that is replaced stays its owner's.
-  if [ "$(id -u)" = 0 ]; then
-    chown 12345:23456 own.pgm && chmod 640 own.pgm
+  if chown 12345:23456 own.pgm 2>/dev/null; then
+    chmod 640 own.pgm
     goes "$here/trapper" page two/page.job rep Cyan:two/Cyan.pgm:own.pgm Warm_Red:two/Warm_Red.pgm:r.out
     [ "$(stat -c '%u %g %a' own.pgm)" = "12345 23456 640" ] || wrong "trapper: the owner is $(stat -c '%u %g %a' own.pgm)"
+  else
+    skip "a file of another owner" "leave to give one away"
   fi
   # A program that is killed at its work leaves the plate as it was.
   # shellcheck disable=SC2016
@@ -952,7 +1033,8 @@ PYTHON
   if there chromium; then
     # A browser that does not come up on a busy machine is begun again.
     for _ in 1 2 3; do
-      chromium --headless --no-sandbox --disable-gpu --virtual-time-budget=8000 --dump-dom "file://$PWD/$sheet" >../dom 2>../dom.err || true
+      HOME=$out timeout -k 10 300 chromium --headless --no-sandbox --disable-gpu --user-data-dir="$out/browser" --virtual-time-budget=8000 \
+        --dump-dom "file://$PWD/$sheet" >../dom 2>../dom.err || true
       ! grep -q 'data-drawn="yes"' ../dom || break
     done
     grep -q 'data-drawn="yes"' ../dom && grep -q '2 across, 0 down, in samples' ../dom || wrong "proof: in a browser: $(head -c 2000 ../dom.err)"
@@ -1008,13 +1090,18 @@ python=$(python3 -c 'import sys; print(sys.executable)')
 PATH=$(dirname "$python"):$PATH
 rm -rf "$out"
 mkdir -p "$out/work" "$out/programs"
-# The programs that are built, or those of TRAP_BIN. Nothing here builds one. trapsheet is left out: what it takes is tried by itself.
-for one in trap presscheck; do
-  for place in "${TRAP_BIN:+$TRAP_BIN/$one}" "$top/crates/$one/out/$one" "$top/out/release/$one"; do
-    if [ -n "$place" ] && [ -x "$place" ]; then ln -s "$(readlink -f "$place")" "$out/programs/$one"; break; fi
+# Where a program stands: in TRAP_BIN, or where it is built, or taken from the release. Nothing here builds one.
+place_of() {
+  local place
+  for place in "${TRAP_BIN:+$TRAP_BIN/$1}" "$top/crates/$1/out/$1" "$top/out/release/$1"; do
+    if [ -n "$place" ] && [ -x "$place" ]; then readlink -f "$place"; return; fi
   done
+}
+# trapsheet is left out: what it takes is tried by itself.
+for one in trap presscheck; do
+  [ -z "$(place_of "$one")" ] || ln -s "$(place_of "$one")" "$out/programs/$one"
 done
-sheets=${TRAP_BIN:-$top/crates/trapsheet/out}/trapsheet
+sheets=$(place_of trapsheet)
 export TRAP_BIN=$out/programs
 # No house's own inks and presets but those that a test makes.
 mkdir "$out/house"

@@ -9,6 +9,9 @@ top=$(dirname "$here")
 label=$top/examples/label
 out=$here/out
 pages="1 2"
+# The order of names, and a run that stands in an array job or a farm of its own, are another matter.
+export LC_ALL=C.UTF-8
+unset GS_OPTIONS GS_DEVICE GS_LIB PARALLEL PRESS PRESS_HELD PRESS_LOCAL PRESS_PYTHON SLURM_ARRAY_TASK_ID SLURM_SUBMIT_DIR
 
 say() { printf 'press/try.sh: %s\n' "$1"; }
 wrong() { say "$1: WRONG"; exit 1; }
@@ -29,15 +32,19 @@ have_program() {
 # The plane of a TIFF as raw bytes. Two files are compared by Netpbm, and by libvips where it is there; and by what they say of
 # their sides, polarity and resolution, which these readers make up for.
 plane() { tifftopnm -quiet "$1" | tail -n +4; }
+same() { [ "$2" = "$3" ] || wrong "$1: '$2' and not '$3'"; }
+same_bytes() { [ -s "$2" ] && cmp "$2" "$3" >&2 || wrong "$1: $2 and $3 differ, or are empty"; }
 same_planes() {
-  cmp <("$here/tests/tiff_tags.py" "$1") <("$here/tests/tiff_tags.py" "$2") || wrong "$2 is another kind of TIFF than $1"
-  cmp <(plane "$1") <(plane "$2") || wrong "$1 and $2 differ"
+  same "$2 is another kind of TIFF than $1" "$("$here/tests/tiff_tags.py" "$2")" "$("$here/tests/tiff_tags.py" "$1")"
+  plane "$1" >"$out/one.plane"
+  plane "$2" >"$out/two.plane"
+  same_bytes "$1 and $2" "$out/one.plane" "$out/two.plane"
   ! there vips || vips_same "$1" "$2"
 }
 vips_same() {
   vips copy "$1" "$out/one.v" && vips copy "$2" "$out/two.v"
   vips rawsave "$out/one.v" "$out/one.raw" && vips rawsave "$out/two.v" "$out/two.raw"
-  cmp "$out/one.raw" "$out/two.raw" || wrong "$1 and $2 differ to libvips"
+  same_bytes "$1 and $2, to libvips" "$out/one.raw" "$out/two.raw"
 }
 
 try_label() {
@@ -57,20 +64,22 @@ try_tiffsep() {
       -sOutputFile="$out/gs$page/label-$page.tif" "$label/label.pdf"
     "$here/plates" --page "$page" "$label/label.pdf" "$out/plates$page"
     "$here/tiff" "$out/plates$page" "$out/tiff$page" --untrapped
-    cmp <(ls "$out/gs$page") <(ls --ignore='*.png' "$out/tiff$page") || wrong "tiffsep: other files"
+    same "tiffsep: the files" "$(ls --ignore='*.png' "$out/tiff$page")" "$(ls "$out/gs$page")"
     for file in "$out/gs$page"/*\(*; do
       same_planes "$file" "$out/tiff$page/${file##*/}"
       count=$((count + 1))
     done
   done
+  [ "$count" = 12 ] || wrong "tiffsep: $count separations"
   say "tiffsep: $count separations of 2 pages have the names and the bytes of Ghostscript's own"
 }
 
 # The file of all inks has the process inks as CMYK, full ink being 255, and each spot as a page.
 composite_holds() {
   local folder=$1 page=$2 band=0 name file composite=$1/tiff/label-$2.tif
-  cmp <("$here/tests/tiff_tags.py" "$composite" | sed -n 's/^polarity\|^channels/&/p') <(printf '%s\n' "polarity [5]" "channels [4]") ||
-    wrong "all: the composite of page $page"
+  same "all: the composite of page $page" "$("$here/tests/tiff_tags.py" "$composite" | grep '^polarity\|^channels')" \
+    "$(printf '%s\n' "polarity [5]" "channels [4]")"
+  sed -n 's/^colorant\t.*\t//p' "$folder/colorants.txt" >"$out/names"
   while IFS= read -r name; do
     file="$folder/tiff/label-$page($name).tif"
     if ((band < 4)); then
@@ -81,9 +90,11 @@ composite_holds() {
       vips copy "${composite}[page=$((band - 3))]" "$out/plate.v"
     fi
     vips rawsave "$out/plate.v" "$out/plate.raw"
-    cmp "$out/plate.raw" <(plane "$file") || wrong "all: ink $band of page $page is not $name"
+    plane "$file" >"$out/one.plane"
+    same_bytes "all: ink $band of page $page, $name" "$out/one.plane" "$out/plate.raw"
     band=$((band + 1))
-  done < <(sed -n 's/^colorant\t.*\t//p' "$folder/colorants.txt")
+  done <"$out/names"
+  ((band >= 4)) || wrong "all: $band inks on page $page"
 }
 
 # How long all commands have been at work as yet. A machine that is busy with other things does not count.
@@ -105,9 +116,12 @@ try_all() {
   ((worked < 60)) || wrong "all: more than a minute"
   for page in $pages; do
     local folder=$out/label/page-00$page
+    grep '^colorant' "$folder/colorants.txt" >"$out/colorants"
     while IFS=$'\t' read -r _ plate _ _ _ _ file _; do
-      cmp <(plane "$folder/tiff/label-$page($file).tif") <(tail -n +4 "$folder/trapped/$plate.pgm") || wrong "all: $plate"
-    done < <(grep '^colorant' "$folder/colorants.txt")
+      plane "$folder/tiff/label-$page($file).tif" >"$out/one.plane"
+      tail -n +4 "$folder/trapped/$plate.pgm" >"$out/two.plane"
+      same_bytes "all: $plate" "$out/one.plane" "$out/two.plane"
+    done <"$out/colorants"
     ! there vips || composite_holds "$folder" "$page"
     grep -h '^zone' "$folder/trapped/report"
     [ ${#check[@]} = 0 ] || cat "$folder/trapped/check"
@@ -169,7 +183,7 @@ try_watch() {
   for file in "$hot/done/label/label.pdf" "$hot/done/moved/moved.pdf" "$hot/failed/broken/broken.pdf" "$hot/failed/broken/why.txt"; do
     [ -s "$file" ] || wrong "watch: there is no $file"
   done
-  cmp "$hot/done/label/label.pdf" "$label/label.pdf" || wrong "watch: a file was taken before it was whole"
+  cmp "$hot/done/label/label.pdf" "$label/label.pdf" >&2 || wrong "watch: a file was taken before it was whole"
   same_pages "$hot/done/label" watch
   say "watch: a moved file, one that was written slowly, and one that is no PDF came out where they should"
 }
@@ -225,10 +239,12 @@ parts=("$@")
 ((${#parts[@]} > 0)) || parts=(label tiffsep all pictures farm watch slurm)
 rm -rf "$out"
 mkdir -p "$out/programs"
-# The programs that are built. None is built here, which takes long.
+# The programs that are built, or taken from the release. None is built here, which takes long.
 if [ -z "${TRAP_BIN-}" ]; then
   for one in trap presscheck; do
-    [ ! -x "$top/crates/$one/out/$one" ] || ln -s "$top/crates/$one/out/$one" "$out/programs/"
+    for place in "$top/crates/$one/out/$one" "$top/out/release/$one"; do
+      if [ -x "$place" ]; then ln -s "$place" "$out/programs/"; break; fi
+    done
   done
   export TRAP_BIN=$out/programs
 fi

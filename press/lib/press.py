@@ -208,6 +208,19 @@ def page_numbers(texts):
 
 C_LIBRARY = ctypes.CDLL(None, use_errno=True)
 SET_PARENT_DEATH_SIGNAL = 1
+STOP_AGAIN = 0.5
+
+
+def stop_tool(child):
+    """Stops a tool and waits for its end. It is told again and again: GNU parallel does not listen until it has begun its jobs."""
+    for stream in (child.stdin, child.stdout, child.stderr):
+        if stream:
+            # A tool that writes what nobody reads would not end.
+            stream.close()
+    while child.poll() is None:
+        child.terminate()
+        with contextlib.suppress(subprocess.TimeoutExpired):
+            child.wait(STOP_AGAIN)
 
 
 @contextlib.contextmanager
@@ -217,10 +230,13 @@ def running(words, **how):
     how = {"stdin": subprocess.DEVNULL, "stdout": subprocess.PIPE, "stderr": subprocess.PIPE, **how}
     # A signal that comes while the tool starts is heeded when it is known.
     before = signal.pthread_sigmask(signal.SIG_BLOCK, STOPS)
-    child = None
+    child, parent = None, os.getpid()
 
     def prepare():
         C_LIBRARY.prctl(SET_PARENT_DEATH_SIGNAL, signal.SIGTERM)
+        # Where this process was killed meanwhile, no signal comes.
+        if os.getppid() != parent:
+            os._exit(128 + signal.SIGTERM)
         signal.pthread_sigmask(signal.SIG_SETMASK, before)
 
     try:
@@ -230,10 +246,7 @@ def running(words, **how):
     finally:
         signal.pthread_sigmask(signal.SIG_SETMASK, before)
         if child is not None:
-            if child.poll() is None:
-                child.terminate()
-            with child:
-                pass
+            stop_tool(child)
 
 
 def run_tool(words, **how):
