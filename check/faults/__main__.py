@@ -68,7 +68,7 @@ def main():
     os.umask(0o022)
     names = asked.programs or list(dict.fromkeys(case.program for case in CASES))
     count = bad = 0
-    with tempfile.TemporaryDirectory() as room:
+    with tempfile.TemporaryDirectory(dir=runs.open_place()) as room:
         for name, group in groups(names, room, asked.short):
             made, wrong = tried(name, group, asked.side)
             count, bad = count + made, bad + wrong

@@ -1,7 +1,9 @@
 """Runs of a program in a folder of its own, with a fault or without, and what they left."""
 import os
+import pathlib
 import re
 import shutil
+import stat
 import subprocess
 import tempfile
 from collections import namedtuple
@@ -31,6 +33,15 @@ def program_of(name):
     """The built program, or None."""
     file = os.path.join(PROGRAMS, name) if PROGRAMS else os.path.join(CRATES, name, "out", name)
     return os.path.realpath(file) if os.path.isfile(file) else None
+
+
+def open_place():
+    """A folder for temporary files that every user gets to; the usual one where there is none."""
+    for place in (tempfile.gettempdir(), "/tmp", "/var/tmp"):
+        way = pathlib.Path(place).resolve()
+        if os.access(way, os.W_OK) and all(one.stat().st_mode & stat.S_IXOTH for one in (way, *way.parents)):
+            return place
+    return None
 
 
 def copy_for_all(name, room):
