@@ -496,7 +496,7 @@ try_traps() {
   "$here/farm" pages.pdf farm >../told 2>../line || status=$?
   [ "$status" = 1 ] && [ ! -e farm/page-002 ] && [ -d farm/page-003 ] || wrong "farm: $status, $(cat ../line)"
   rm pages.2.zones
-  goes "$here/farm" --quiet --again pages.pdf farm
+  goes env -u HOME "$here/farm" --quiet --again pages.pdf farm
   same "farm: --again" "$(cut -c 1-12 ../told)" 'page 2: done'
   diff -r -x 'farm.*' -x proof.html farm pages || wrong "farm: other bytes"
   refused 2 "press-farm: --again: the last run here had other words: none .*" "$here/farm" --again pages.pdf farm --dpi 300
