@@ -575,6 +575,8 @@ try_check() {
   goes "$here/check" font.pdf
   told 'font.pdf: pages 1-2: warning: font: the PDF lacks the font FancyFont-Bold; [^ ]* stands in its place'
   [ "$(grep -c FancyFont ../told)" = 1 ] || wrong "check: a font is told twice: $(cat ../told)"
+  goes "$here/check" japan.pdf
+  told 'japan.pdf: page 1: warning: font: the PDF lacks the font HeiseiKakuGo-W5; .* stands in its place'
   goes "$here/check" --box trim pair.pdf
   told 'pair.pdf: page 1: warning: box: the page has no TrimBox'
   goes "$here/check" cropped.pdf
@@ -704,6 +706,7 @@ try_images() {
 
 # PostScript and EPS; separations of another RIP.
 try_sources() {
+  local one
   goes "$here/plates" drawn.eps drawn
   grep -q 'note: drawn.eps: PostScript: Ghostscript made a PDF of it' ../line && [ -s drawn/Warm_Red.pgm ] || wrong "sources: EPS"
   begins "sources: the EPS's box" drawn/Cyan.pgm 'P5\n500 333\n255\n'
@@ -711,6 +714,16 @@ try_sources() {
   sed 's/BoundingBox: 0 0 60 40/BoundingBox: (atend)/' drawn.eps >later.eps && printf '%%%%Trailer\n%%%%BoundingBox: 0 0 60 40\n%%%%EOF\n' >>later.eps
   goes "$here/plates" later.eps later
   begins "sources: the box at the EPS's end" later/Cyan.pgm 'P5\n500 333\n255\n'
+  # One that tells none is warned of; one with a picture of itself in front tells it within.
+  sed '/BoundingBox/d' drawn.eps >boxless.eps
+  goes "$here/check" boxless.eps
+  told 'boxless.eps: warning: box: the EPS tells no box'
+  { printf '\305\320\323\306\036\0\0\0'; head -c 22 /dev/zero; cat drawn.eps; } >preview.eps
+  for one in drawn later preview; do
+    goes "$here/check" "$one.eps"
+    ! grep -q 'tells no box' ../told || wrong "sources: $one.eps: $(cat ../told)"
+  done
+  rm boxless.eps preview.eps
   cp drawn.eps drawn.ai && cp drawn.eps drawn.ps
   [ "$built" = no ] || goes "$here/all" --quiet drawn.ai drawn2
   [ "$built" = no ] || [ -d drawn2/page-001/tiff ] || wrong "sources: AI"

@@ -111,6 +111,8 @@ class Preflight:
             if page > self.count:
                 raise Refusal(press.PDF, f"{self.name}: there is no page {page}: it has {self.count}")
         self.look_at_tables()
+        if sources.lacks_box(self.name):
+            self.add("box", WARNING, None, "the EPS tells no box (%%BoundingBox): Ghostscript takes a page of the usual size")
         for page in pages:
             if self.pages.get(page) is not None:
                 self.look_at_box(page)

@@ -17,6 +17,8 @@ Told = namedtuple("Told", "repairs fonts")
 # Statements of the job language: where they come from, and the bytes.
 Statement = namedtuple("Statement", "path text")
 BOXES = {"media": [], "crop": ["-dUseCropBox"], "bleed": ["-dUseBleedBox"], "trim": ["-dUseTrimBox"], "art": ["-dUseArtBox"]}
+# What Ghostscript tells of a font that it looks for itself, of a font of CJK too, and of the file that it takes.
+LOADED = re.compile(r"^Loading (?:font (\S+) \(or substitute\)|CIDFont (\S+) substitute) from (?:.*/)?([^/\n]+)$", re.MULTILINE)
 # The fonts that every reader of PDF has a face for.
 STANDARD_FONT = re.compile(r"(Helvetica|Times|Courier)(-.*)?|Symbol|ZapfDingbats")
 
@@ -36,8 +38,7 @@ def separate(path, scratch, page, dpi, box, icc=None, seconds=None):
         raise Refusal(press.PDF, f"{path}: page {page}: Ghostscript cannot read it: {sources.complaint(done)}")
     text = done.stdout + b"\n" + done.stderr
     repairs = [line.decode("utf-8", "replace").strip() for line in re.findall(rb"^\t(\S.*)$", text, re.MULTILINE)]
-    fonts = sorted(set(re.findall(r"^Loading font (\S+) \(or substitute\) from \S*?([^/\s]+)$",
-                                  done.stdout.decode("utf-8", "replace"), re.MULTILINE)))
+    fonts = sorted({(font or other, taken) for font, other, taken in LOADED.findall(done.stdout.decode("utf-8", "replace"))})
     lacking = [(font, taken) for font, taken in fonts if not STANDARD_FONT.fullmatch(font)]
     return found_in(path, scratch, page, text), Told(list(dict.fromkeys(repairs)), lacking)
 

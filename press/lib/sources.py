@@ -15,7 +15,7 @@ from press import Refusal
 PageInfo = namedtuple("PageInfo", "boxes rotate unit spots fonts")
 ROUNDING = 0.01
 AT_END, BOX_AT_END = re.compile(rb"%%BoundingBox:[ \t]*\(atend\)"), re.compile(rb"(?<![^\r\n])%%BoundingBox:[ \t]*-?\d[^\r\n]*")
-HEAD_BYTES, PRINTER_WORDS = 2048, b"\x1b%-12345X"
+HEAD_BYTES, PRINTER_WORDS, WITH_PREVIEW = 2048, b"\x1b%-12345X", b"\xc5\xd0\xd3\xc6"
 BOX_NAMES = {"media": "MediaBox", "crop": "CropBox", "bleed": "BleedBox", "trim": "TrimBox", "art": "ArtBox"}
 # Tells of each page a line each: boxes, rotation, unit, and the names of spots and fonts in hexadecimal.
 TELL_PAGES = """
@@ -80,7 +80,7 @@ def complaint(done):
 
 def kind_of(head):
     """What a file is by its first bytes: pdf, ps, or None. A driver's words for the printer may stand before PostScript."""
-    if head.lstrip(b"\x04\r\n\t ").startswith(b"%!") or head.startswith(b"\xc5\xd0\xd3\xc6"):
+    if head.lstrip(b"\x04\r\n\t ").startswith(b"%!") or head.startswith(WITH_PREVIEW):
         return "ps"
     if b"%PDF-" in head[:1024]:
         return "pdf"
@@ -99,6 +99,17 @@ def give_postscript(path, given):
         return
     with open(given, "wb") as out:
         out.write(text[:told_later.start()] + boxes[-1] + text[told_later.end():])
+
+
+def lacks_box(path):
+    """Whether a file is an EPS that tells no box, neither in front nor at its end: Ghostscript draws it on a page of its own size."""
+    with open(path, "rb") as file:
+        head = file.read(HEAD_BYTES)
+        if head.startswith(WITH_PREVIEW):
+            file.seek(int.from_bytes(head[4:8], "little"))
+            head = file.read(HEAD_BYTES)
+        is_eps = head.startswith(b"%!PS") and b"EPSF" in re.split(rb"[\r\n]", head)[0]
+        return is_eps and not BOX_AT_END.search(head) and not BOX_AT_END.search(head + file.read())
 
 
 def open_source(path, scratch, seconds=None):

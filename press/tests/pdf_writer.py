@@ -16,6 +16,13 @@ def spaces(names, look="0 .9 .8 .1"):
     return "/ColorSpace << " + " ".join(f"/S{k} {spot(name, look)}" for k, name in enumerate(names)) + " >>"
 
 
+# A font of Japan that the file lacks, as /F.
+JAPAN = ("/Font << /F << /Type /Font /Subtype /Type0 /BaseFont /HeiseiKakuGo-W5-Identity-H /Encoding /Identity-H /DescendantFonts [<< /Type /Font "
+         "/Subtype /CIDFontType0 /BaseFont /HeiseiKakuGo-W5 /CIDSystemInfo << /Registry (Adobe) /Ordering (Japan1) /Supplement 2 >> /FontDescriptor << "
+         "/Type /FontDescriptor /FontName /HeiseiKakuGo-W5 /Flags 4 /FontBBox [-92 -250 1010 922] /ItalicAngle 0 /Ascent 752 /Descent -221 /CapHeight 737 "
+         "/StemV 114 >> >>] >> >>")
+
+
 class Pdf:
     """The objects of a file. The catalog is the first one, and the tree of pages the second."""
 

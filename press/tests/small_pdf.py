@@ -4,7 +4,7 @@ import os
 import sys
 
 sys.dont_write_bytecode = True
-from pdf_writer import Pdf, spaces
+from pdf_writer import JAPAN, Pdf, spaces
 
 
 def page(spots, content):
@@ -66,6 +66,7 @@ def main():
     pdf(os.path.join(folder, "cropped.pdf"), [page([], pair)], more="/CropBox [10 5 110 43] /BleedBox [5 0 115 48]")
     pdf(os.path.join(folder, "sizeless.pdf"), [page([], pair)], (0, 0))
     pdf(os.path.join(folder, "spellings.pdf"), [squares([b"cyan", b"Warm Red", b"WARM RED"])])
+    pdf(os.path.join(folder, "japan.pdf"), [(JAPAN, "0 0 0 1 k BT /F 20 Tf 10 10 Td <0D0418C8> Tj ET")])
     pdf(os.path.join(folder, "twenty.pdf"), [page([], pair)] * 20, (60, 20))
     # A picture, and the pair of colours beside it; turned, and with another box.
     beside = "1 0 0 0 k 70 4 20 40 re f 0 1 0 0 k 90 4 20 40 re f"

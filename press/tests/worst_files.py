@@ -10,7 +10,7 @@ import sys
 import zlib
 
 sys.dont_write_bytecode = True
-from pdf_writer import Pdf, spaces, spot
+from pdf_writer import JAPAN, Pdf, spaces, spot
 
 BUSY_CELL = 40
 INKS = ("1 0 0 0", "0 1 0 0", "0 0 1 0", "0 0 0 1", ".6 0 .9 0", "0 .6 1 0", ".3 .2 .2 .1", ".7 .6 .6 1")
@@ -58,10 +58,10 @@ def picture(file, width, height, space, channels, more=""):
 
 # Large formats, many plates
 
-def large(width, height, cell=BUSY_CELL):
+def large(width, height, cell=BUSY_CELL, unit=1):
     def make():
         file = Pdf()
-        file.page(busy(width, height, cell), (width, height), TYPE)
+        file.page(busy(width, height, cell), (width, height), TYPE, f"/UserUnit {unit}")
         return file.bytes()
     return make
 
@@ -238,17 +238,13 @@ def fonts():
     file = Pdf()
     line = "0 0 1 0 k 0 0 200 60 re f 1 0 0 0 k BT /F 20 Tf 10 20 Td {} Tj ET"
     arial = "/Font << /F << /Type /Font /Subtype /TrueType /BaseFont /Arial-BoldMT /Encoding /WinAnsiEncoding >> >>"
-    japan = ("/Font << /F << /Type /Font /Subtype /Type0 /BaseFont /HeiseiKakuGo-W5-90ms-RKSJ-H /Encoding /90ms-RKSJ-H /DescendantFonts [<< /Type /Font "
-             "/Subtype /CIDFontType0 /BaseFont /HeiseiKakuGo-W5 /CIDSystemInfo << /Registry (Adobe) /Ordering (Japan1) /Supplement 2 >> /FontDescriptor << "
-             "/Type /FontDescriptor /FontName /HeiseiKakuGo-W5 /Flags 4 /FontBBox [-92 -250 1010 922] /ItalicAngle 0 /Ascent 752 /Descent -221 /CapHeight 737 "
-             "/StemV 114 >> >>] >> >>")
     square = file.stream("", "800 0 0 0 700 700 d1 0 0 700 700 re f")
     drawn = (f"/Font << /F << /Type /Font /Subtype /Type3 /FontBBox [0 0 800 800] /FontMatrix [.001 0 0 .001 0 0] /CharProcs << /box {square} >> "
              "/Encoding << /Type /Encoding /Differences [65 /box] >> /FirstChar 65 /LastChar 65 /Widths [800] /Resources << >> >> >>")
     nonsense = file.stream("/Length1 300", b"no font at all " * 20)
     broken = ("/Font << /F << /Type /Font /Subtype /TrueType /BaseFont /ABCDEF+Broken /Encoding /WinAnsiEncoding /FontDescriptor << /Type /FontDescriptor "
               f"/FontName /ABCDEF+Broken /Flags 32 /FontBBox [0 0 1000 1000] /ItalicAngle 0 /Ascent 800 /Descent -200 /CapHeight 700 /StemV 80 /FontFile2 {nonsense} >> >> >>")
-    for text, resources in (("(Arial is not here)", arial), ("<93FA967B8CEA>", japan), ("(AAA)", drawn), ("(No such font)", ""), ("(Broken font)", broken)):
+    for text, resources in (("(Arial is not here)", arial), ("<0D0418C81A31>", JAPAN), ("(AAA)", drawn), ("(No such font)", ""), ("(Broken font)", broken)):
         file.page(line.format(text), (200, 60), resources)
     return file.bytes()
 
@@ -359,7 +355,7 @@ A4, B2, POSTER = (595, 842), (1417, 2004), (14400, 14400)
 FILES = {
     "a4-full.pdf": (large(*A4), 0, "A4 that is full in four inks"),
     "b2-full.pdf": (large(*B2), 0, "a sheet of B2 that is full in four inks"),
-    "poster.pdf": (large(*POSTER, 400), 1, "five metres a side"),
+    "poster.pdf": (large(*POSTER, 400, 10), 1, "fifty metres a side"),
     "spots-12.pdf": (with_spots(12), 0, "sixteen plates"),
     "spots-20.pdf": (with_spots(20), 1, "more plates than a job may have"),
     "technical.pdf": (technical, 0, "die lines, varnish, white, foil and glue, of which some knock out"),
@@ -377,7 +373,7 @@ FILES = {
     "empty-box.pdf": (wrong_box("/MediaBox [0 0 0 0]"), 1, "an empty box"),
     "point.pdf": (wrong_box("/MediaBox [0 0 1 1]"), 0, "a page of a point"),
     "layers.pdf": (layers, 0, "a layer that is off, annotations, a form"),
-    "fonts.pdf": (fonts, 1, "fonts that lack, of which one is not named"),
+    "fonts.pdf": (fonts, 0, "fonts that lack, of which one is not named"),
     "changed-bytes.pdf": (changed_bytes, 1, "60 bytes changed"),
     "without-places.pdf": (without_places, 0, "the table of places cut off"),
     "cut.pdf": (lambda: plain()[:len(plain()) * 6 // 10], 1, "cut in the middle"),
