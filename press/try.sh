@@ -218,7 +218,10 @@ try_worst() {
   have worst gs tifftopnm pamtotiff python3 && have_program worst || return 0
   local name status what got count=0 pages
   "$here/tests/worst_files.py" "$out/worst" >"$out/worst.list"
+  # Sheets that are too large for trap go by trapsheet.
+  link_program trapsheet
   while IFS=$'\t' read -r name status what; do
+    if [ "$name" = b2-full.pdf ] && [ ! -x "$TRAP_BIN/trapsheet" ]; then say "worst: $name: skipped, trapsheet is not built"; continue; fi
     got=0 pages=$out/pages/$name
     mkdir -p "$pages"
     (cd "$out/worst" && "$here/all" --quiet --dpi "${WORST_DPI:-300}" "$name" "$pages/all") >"$pages/told" 2>"$pages/line" </dev/null || got=$?
@@ -227,8 +230,9 @@ try_worst() {
       wrong "worst: $name, $what: it ended with $got and not with $status"
     fi
     if there chromium && [ -s "$pages/all/proof.html" ]; then
-      chromium --headless --no-sandbox --disable-gpu --hide-scrollbars --virtual-time-budget=6000 --window-size=1130,5000 \
-        --screenshot="$pages/proof.png" "file://$pages/all/proof.html" >"$pages/browser" 2>&1 </dev/null || true
+      HOME=$out timeout -k 10 300 chromium --headless --no-sandbox --disable-gpu --hide-scrollbars --virtual-time-budget=6000 \
+        --window-size=1130,5000 --user-data-dir="$out/browser" --screenshot="$pages/proof.png" "file://$pages/all/proof.html" \
+        >"$pages/browser" 2>&1 </dev/null || true
     fi
     count=$((count + 1))
   done <"$out/worst.list"
@@ -239,15 +243,17 @@ parts=("$@")
 ((${#parts[@]} > 0)) || parts=(label tiffsep all pictures farm watch slurm)
 rm -rf "$out"
 mkdir -p "$out/programs"
-# The programs that are built, or taken from the release. None is built here, which takes long.
-if [ -z "${TRAP_BIN-}" ]; then
-  for one in trap presscheck; do
-    for place in "$top/crates/$one/out/$one" "$top/out/release/$one"; do
-      if [ -x "$place" ]; then ln -s "$place" "$out/programs/"; break; fi
-    done
+# link_program NAME: one that is built, or taken from the release, or in TRAP_BIN. None is built here, which takes long.
+link_program() {
+  local place
+  for place in "${bin:+$bin/$1}" "$top/crates/$1/out/$1" "$top/out/release/$1"; do
+    if [ -n "$place" ] && [ -x "$place" ]; then ln -s "$(readlink -f "$place")" "$out/programs/$1"; return; fi
   done
-  export TRAP_BIN=$out/programs
-fi
+}
+bin=${TRAP_BIN-}
+export TRAP_BIN=$out/programs
+link_program trap
+link_program presscheck
 check=()
 [ ! -x "$TRAP_BIN/presscheck" ] || check=(--check 2)
 for part in "${parts[@]}"; do "try_$part"; done
