@@ -223,7 +223,7 @@ try_tools() {
   # shellcheck disable=SC2016
   printf '#!/bin/sh\ntouch "${0%%/*}/ran"\nexit 2\n' >../fresh/trap && chmod +x ../fresh/trap
   path=$(without trap)
-  refused 3 "press-trap: the program trap is not built yet: [^ ]*/fresh/trap does it, .*; or TRAP_BIN names .*" \
+  refused 3 "press-trap: the program trap is not built yet: /.*/fresh/trap does it, .*; or TRAP_BIN names .*" \
     env -u TRAP_BIN PATH="$path" ../fresh/press/trap two
   [ ! -e ../fresh/ran ] || wrong "tools: a program was built without being asked for"
 }
@@ -314,9 +314,11 @@ stopped() {
 # Whether a process is at work in this folder or below it, but for this shell and its tools: any, or one of that name. It is shown in
 # ../works.
 works_here() {
-  local one name shell
+  local one name shell place
   shell=$(cat /proc/$$/comm)
-  find /proc/[0-9]*/cwd -maxdepth 0 \( -lname "$PWD" -o -lname "$PWD/*" \) -printf '%h\n' >../found 2>/dev/null || true
+  # As find's patterns have it.
+  place=$(sed 's/[][*?\\]/\\&/g' <<<"$PWD")
+  find /proc/[0-9]*/cwd -maxdepth 0 \( -lname "$place" -o -lname "$place/*" \) -printf '%h\n' >../found 2>/dev/null || true
   while read -r one; do
     name=$(cat "$one/comm" 2>/dev/null) || continue
     case $name in "$shell" | find | cat) continue ;; esac
@@ -908,8 +910,8 @@ SSH
   chmod +x ../ssh
 }
 
-# farm_by_ssh WORD ..: press/farm by that stand-in, a page at a time. The home folder is one above, which GNU parallel takes notice of.
-farm_by_ssh() { HOME=$out PARALLEL_SSH=$out/ssh "$here/farm" --quiet --lenient --no-proof --jobs 1 "$@"; }
+# farm_by_ssh WORD ..: press/farm by that stand-in. The home folder is one above, which GNU parallel takes notice of.
+farm_by_ssh() { HOME=$out PARALLEL_SSH=$out/ssh "$here/farm" --quiet --lenient --no-proof "$@"; }
 
 # within FOLDER COMMAND ..: the command there.
 within() { (cd "$1" && "${@:2}"); }
@@ -933,7 +935,7 @@ try_machines() {
   local done='^page [789]: done: ' name
   ssh_stands_in
   farm_told 1 "$done|^page [789]: failed: down was lost, or cannot be reached \(--again does the page\)$" \
-    farm_by_ssh --hosts near,down --page 7-9 twenty.pdf far
+    farm_by_ssh --jobs 1 --hosts near,down --page 7-9 twenty.pdf far
   grep -q ': failed: down was lost' ../told || wrong "living: no page was handed to the machine down: $(cat ../told far/farm.log)"
   farm_told 0 "$done" farm_by_ssh --again --hosts near --page 7-9 twenty.pdf far
   same "living: pages of a lost machine" "$(find far -maxdepth 1 -name 'page-*' -printf '%f\n' | sort)" "$(printf 'page-%s\n' 007 008 009)"
