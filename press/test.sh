@@ -317,7 +317,7 @@ works_here() {
   local one name shell place
   shell=$(cat /proc/$$/comm)
   # As find's patterns have it.
-  place=$(sed 's/[][*?\\]/\\&/g' <<<"$PWD")
+  place=$(pwd | sed 's/[][*?\\]/\\&/g')
   find /proc/[0-9]*/cwd -maxdepth 0 \( -lname "$place" -o -lname "$place/*" \) -printf '%h\n' >../found 2>/dev/null || true
   while read -r one; do
     name=$(cat "$one/comm" 2>/dev/null) || continue
