@@ -1,29 +1,13 @@
 use super::{
-    APPLY, CYAN, Case, DISABLED, MAGENTA, SET, WRITTEN, Wanted, ends, rack_of, refused, tray_of,
-    words_of,
+    APPLY, Case, Look, TRAPPED_CYAN, TRAPPED_MAGENTA, TRAPS, USUAL, WRITTEN, ends, judge, run,
+    tells,
 };
 use outside::mem_rack::MemRack;
-use outside::mem_tray::MemTray;
-use std::alloc::{AllocError, Global};
+use std::alloc::Global;
 use std::process::Abort;
-use std::test::Fail;
-use trapset_cli::top::trapset_main;
-
-const TRAPS: &str = "traps job set Cyan:in0 Magenta:in1";
-
-const FOUND: &[(&str, &[u8])] = &[
-    ("job", DISABLED),
-    ("in0", CYAN),
-    ("in1", MAGENTA),
-    ("set", SET),
-];
 
 // what `apply` writes into the files of WRITTEN, and `traps`
-const PATCHED: &[Option<&[u8]>] = &[
-    None,
-    Some(b"P5\n6 1\n255\n\0\0\0\0\xFF\xFF"),
-    Some(b"P5\n6 1\n255\n\xFF\xFF\0\0\0\0"),
-];
+const PATCHED: &[Option<&[u8]>] = &[None, Some(TRAPPED_CYAN), Some(TRAPPED_MAGENTA)];
 
 const MADE: &[Option<&[u8]>] = &[Some(b"trap set\npage 6 1 255 plates 2\nend\n"), None, None];
 
@@ -63,90 +47,68 @@ fn line_at<'a>(lines: &[(u64, &'a str)], call: u64) -> &'a str {
     line
 }
 
-fn with_calls(words: &str, of_tray: Option<u64>, of_rack: Option<u64>) -> Case<'_> {
+fn with_calls(words: &str, tray_fails: Option<u64>, rack_fails: Option<u64>) -> Case<'_> {
     Case {
         words,
-        files: FOUND,
-        of_tray,
-        of_rack,
+        tray_fails,
+        rack_fails,
+        ..USUAL
+    }
+}
+
+// Whether a run in which that call of the tray fails tells the line of that call; the last one is never made.
+fn ends_at_read(
+    rt: &impl Abort,
+    alloc: Global,
+    (words, lines, count, files): (&str, &[(u64, &str)], u64, &[Option<&[u8]>]),
+    call: u64,
+) -> bool {
+    let case = with_calls(words, Some(call), None);
+    if call < count {
+        ends(rt, alloc, case, 5, Look::Refused(line_at(lines, call)))
+    } else {
+        ends(rt, alloc, case, 0, Look::Written(files))
     }
 }
 
 #[test]
-fn each_read_fails_in_turn(rt: HostRuntime) -> Result<(), Fail> {
-    for (words, lines, count, files) in READS {
-        for call in 0..*count {
-            let case = with_calls(words, Some(call), None);
-            let wanted = refused(5, line_at(lines, call));
-            assert!(rt;
-                ends(&rt, rt.alloc(), case, wanted)?,
-                "{words}, call {call}"
+fn each_read_fails_in_turn(rt: HostRuntime) {
+    for reads in READS {
+        for call in 0..=reads.2 {
+            judge(
+                &rt,
+                ends_at_read(&rt, rt.alloc(), *reads, call),
+                reads.0,
+                call,
             );
         }
-        let wanted = Wanted {
-            status: 0,
-            told: "",
-            files,
-        };
-        assert!(rt;
-            ends(
-                &rt,
-                rt.alloc(),
-                with_calls(words, Some(*count), None),
-                wanted
-            )?,
-            "{words}"
-        );
     }
-    Ok(())
 }
 
-// Whether all files before the one that broke are whole, of it there is a prefix or nothing, and none of the later ones.
-fn is_broken(rack: &MemRack, files: &[Option<&[u8]>], lines: &[&str]) -> bool {
+// Whether that stands of a file: all of it, a prefix or nothing where it is the one that broke, and nothing after that.
+fn is_right(held: Option<&[u8]>, whole: Option<&[u8]>, is_broken: bool, is_later: bool) -> bool {
+    match (held, whole) {
+        (Some(held), Some(whole)) => !is_later
+            && (held == whole || is_broken)
+            && whole.starts_with(held),
+        (Some(_), None) => false,
+        (None, Some(_)) => is_later || is_broken,
+        (None, None) => true,
+    }
+}
+
+// Whether a file broke: all files before it are whole, of it there is a prefix or nothing, and none of the later ones.
+pub(super) fn is_broken(rack: &MemRack, files: &[Option<&[u8]>], lines: &[&str]) -> bool {
     let mut is_later = false;
-    for ((name, bytes), line) in WRITTEN.iter().zip(files.iter()).zip(lines.iter()) {
-        let is_broken = rack.told() == line.as_bytes();
-        let is_right = match (rack.file(name), bytes) {
-            (Some(held), Some(whole)) => !is_later
-                && (held == *whole || is_broken)
-                && whole.starts_with(held),
-            (Some(_), None) => false,
-            (None, Some(_)) => is_later || is_broken,
-            (None, None) => true,
-        };
-        if !is_right {
+    for (place, name) in WRITTEN.iter().enumerate() {
+        let is_broken = lines.get(place).is_some_and(|line| tells(rack, line));
+        let whole = files.get(place).copied().flatten();
+        if !is_right(rack.file(name), whole, is_broken, is_later) {
             return false;
         }
         is_later = is_later || is_broken;
     }
     is_later
-}
-
-// The status of a run, and whether its files stand as they do where a write failed.
-fn broken_end(
-    alloc: Global,
-    words: &[String],
-    mut tray: MemTray,
-    mut rack: MemRack,
-    files: &[Option<&[u8]>],
-    lines: &[&str],
-) -> (u8, bool) {
-    let status = trapset_main(alloc, words, &mut tray, &mut rack);
-    (status, is_broken(&rack, files, lines))
-}
-
-fn breaks(
-    rt: &impl Abort,
-    alloc: Global,
-    case: Case<'_>,
-    files: &[Option<&[u8]>],
-    lines: &[&str],
-) -> Result<(u8, bool), AllocError> {
-    let words = words_of(alloc, case.words)?;
-    let rack = rack_of(alloc, case.of_rack)?;
-    let found = super::files_of(alloc, case.files)?;
-    let tray = tray_of(rt, alloc, found, None)?;
-    Ok(broken_end(alloc, &words, tray, rack, files, lines))
 }
 
 // The words, what is written, and what is told of each file of WRITTEN that breaks.
@@ -163,22 +125,41 @@ const WRITES: &[(&str, &[Option<&[u8]>], &[&str])] = &[
     ),
 ];
 
-#[test]
-fn each_write_fails_in_turn(rt: HostRuntime) -> Result<(), Fail> {
-    for (words, files, lines) in WRITES {
-        let mut count = 0u64;
-        for call in 0..40 {
-            let case = with_calls(words, None, Some(call));
-            let (status, is_broken) = breaks(&rt, rt.alloc(), case, files, lines)?;
-            if status == 0 {
-                break;
-            }
-            assert!(rt; status == 6 && is_broken, "{words}, call {call}");
-            count = count.saturating_add(1);
-        }
-        assert!(rt; 3 <= count && count < 40, "{words}, {count} calls");
+// Whether a run in which that call of the rack fails breaks a file so; `None` where it has no such call.
+fn ends_at_write(
+    rt: &impl Abort,
+    alloc: Global,
+    (words, files, lines): (&str, &[Option<&[u8]>], &[&str]),
+    call: u64,
+) -> Option<bool> {
+    let case = with_calls(words, None, Some(call));
+    match run(rt, alloc, case, Look::Broken(files, lines)) {
+        (0, _) => None,
+        end => Some(end == (6, true)),
     }
-    Ok(())
+}
+
+// Judges the end of a run in which that call fails, and gives how many calls there are so far: each before has failed.
+fn judge_end(rt: &impl Abort, end: Option<bool>, words: &str, call: u64, calls: u64) -> u64 {
+    match end {
+        Some(is_right) => {
+            judge(rt, is_right && calls == call, words, call);
+            call.saturating_add(1)
+        }
+        None => calls,
+    }
+}
+
+#[test]
+fn each_write_fails_in_turn(rt: HostRuntime) {
+    for writes in WRITES {
+        let mut calls = 0;
+        for call in 0..40 {
+            let end = ends_at_write(&rt, rt.alloc(), *writes, call);
+            calls = judge_end(&rt, end, writes.0, call, calls);
+        }
+        judge(&rt, 3 <= calls && calls < 40, writes.0, calls);
+    }
 }
 
 // The runs whose line cannot be told, and their statuses.
@@ -192,13 +173,10 @@ const UNTOLD: &[(&str, u8)] = &[
 ];
 
 #[test]
-fn a_line_that_cannot_be_told_leaves_its_status(rt: HostRuntime) -> Result<(), Fail> {
+fn a_line_that_cannot_be_told_leaves_its_status(rt: HostRuntime) {
     for (words, status) in UNTOLD {
         let case = with_calls(words, None, Some(0));
-        assert!(rt;
-            ends(&rt, rt.alloc(), case, refused(*status, ""))?,
-            "{words}"
-        );
+        let is = ends(&rt, rt.alloc(), case, *status, Look::Refused(""));
+        judge(&rt, is, words, u64::from(*status));
     }
-    Ok(())
 }

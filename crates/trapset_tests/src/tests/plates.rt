@@ -1,12 +1,10 @@
-use super::{CYAN, Case, MAGENTA, SET, ends, onto_plates, rack_of, refused, tray_of, words_of};
-use lists::list::List;
-use outside::mem_file::{FileList, MemFile};
-use outside::mem_rack::MemRack;
-use outside::mem_tray::MemTray;
-use std::alloc::{AllocError, Global};
+use super::{
+    APPLY, CYAN, Case, DISABLED, Look, MAGENTA, SET, USUAL, case_of, ends, judge, set_ends,
+};
+use std::alloc::Global;
 use std::process::Abort;
-use std::test::Fail;
-use trapset_cli::top::trapset_main;
+
+const DIFFERS: Look<'static> = Look::Refused("set: Differs\n");
 
 // Sets for other plates: that is judged before the third line, whatever it is.
 const OTHERS: &[&[u8]] = &[
@@ -21,150 +19,98 @@ const OTHERS: &[&[u8]] = &[
     b"trap set\npage 16384 9765 65535 plates 1\nend\n",
 ];
 
-fn differs(rt: &impl Abort, alloc: Global, set: &[u8]) -> Result<bool, AllocError> {
-    let files = [("in0", CYAN), ("in1", MAGENTA), ("set", set)];
-    ends(rt, alloc, onto_plates(&files), refused(8, "set: Differs\n"))
-}
-
 #[test]
-fn a_set_for_other_plates_is_told_as_such(rt: HostRuntime) -> Result<(), Fail> {
-    for set in OTHERS {
-        assert!(rt; differs(&rt, rt.alloc(), set)?);
+fn a_set_for_other_plates_is_told_as_such(rt: HostRuntime) {
+    for (place, set) in OTHERS.iter().enumerate() {
+        let is = set_ends(&rt, rt.alloc(), &[*set], 8, DIFFERS);
+        judge(&rt, is, "set", place as u64);
     }
-    Ok(())
 }
 
 // Words and plates that the set of the two plates is not for.
-const SHEETS: &[(&str, &[u8], &str)] = &[
-    ("apply set in0:out0", MAGENTA, "set: Differs\n"),
-    (
-        "apply set in0:out0 in1:out1 in1:out2",
-        MAGENTA,
-        "set: Differs\n",
-    ),
-    (super::APPLY, b"P5\n5 1\n255\n\0\0\0\0\0", "set: Differs\n"),
-    (
-        super::APPLY,
-        b"P5\n6 2\n255\n\0\0\0\0\0\0\0\0\0\0\0\0",
-        "set: Differs\n",
-    ),
-    (
-        super::APPLY,
-        b"P5\n6 1\n254\n\0\0\0\0\0\0",
-        "set: Differs\n",
-    ),
+const SHEETS: &[(&str, &[u8])] = &[
+    ("apply set in0:out0", MAGENTA),
+    ("apply set in0:out0 in1:out1 in1:out2", MAGENTA),
+    (APPLY, b"P5\n5 1\n255\n\0\0\0\0\0"),
+    (APPLY, b"P5\n6 2\n255\n\0\0\0\0\0\0\0\0\0\0\0\0"),
+    (APPLY, b"P5\n6 1\n254\n\0\0\0\0\0\0"),
 ];
 
-fn differs_on(
-    rt: &impl Abort,
-    alloc: Global,
-    words: &str,
-    magenta: &[u8],
-    told: &str,
-) -> Result<bool, AllocError> {
-    let case = Case {
-        words,
-        files: &[("in0", CYAN), ("in1", magenta), ("set", SET)],
-        of_tray: None,
-        of_rack: None,
-    };
-    ends(rt, alloc, case, refused(8, told))
+fn differs_on<'a>(rt: &impl Abort, alloc: Global, words: &'a str, magenta: &'a [u8]) -> bool {
+    ends(
+        rt,
+        alloc,
+        case_of(words, &[DISABLED], &[CYAN, magenta], &[SET]),
+        8,
+        DIFFERS,
+    )
 }
 
 #[test]
-fn plates_of_another_page_are_left_alone(rt: HostRuntime) -> Result<(), Fail> {
-    for (words, magenta, told) in SHEETS {
-        assert!(rt;
-            differs_on(&rt, rt.alloc(), words, magenta, told)?,
-            "{words}"
-        );
+fn plates_of_another_page_are_left_alone(rt: HostRuntime) {
+    for (place, (words, magenta)) in SHEETS.iter().enumerate() {
+        let is = differs_on(&rt, rt.alloc(), words, magenta);
+        judge(&rt, is, words, place as u64);
     }
-    Ok(())
 }
 
 // Sixteen plates of two samples.
-const MANY: &str = "apply set a:A b:B c:C d:D e:E f:F g:G h:H i:I j:J k:K l:L m:M n:N o:O p:P";
+const MANY: &str =
+    "apply set in0:A in1:B in2:C in3:D in4:E in5:F in6:G in7:H in8:I in9:J in10:K in11:L in12:M in13:N in14:O in15:P";
 
-const NAMES: [(&str, &str); 16] = [
-    ("a", "A"),
-    ("b", "B"),
-    ("c", "C"),
-    ("d", "D"),
-    ("e", "E"),
-    ("f", "F"),
-    ("g", "G"),
-    ("h", "H"),
-    ("i", "I"),
-    ("j", "J"),
-    ("k", "K"),
-    ("l", "L"),
-    ("m", "M"),
-    ("n", "N"),
-    ("o", "O"),
-    ("p", "P"),
-];
+const TWO_SAMPLES: &[u8] = b"P5 2 1 65535\n\x12\x34\x56\x78";
 
 const MANY_SET: &[u8] =
     b"trap set\npage 2 1 65535 plates 16\nrun 0 1 1 0 1 2 3 4 5 6 7 8 9 10 11 12 13 65534 65535\nend\n";
 
-// the second sample of each plate with the set on it
-const MANY_SAMPLES: [&[u8]; 16] = [
-    b"\xFF\xFF",
-    b"\xFF\xFE",
-    b"\xFF\xFD",
-    b"\xFF\xFC",
-    b"\xFF\xFB",
-    b"\xFF\xFA",
-    b"\xFF\xF9",
-    b"\xFF\xF8",
-    b"\xFF\xF7",
-    b"\xFF\xF6",
-    b"\xFF\xF5",
-    b"\xFF\xF4",
-    b"\xFF\xF3",
-    b"\xFF\xF2",
-    b"\0\x01",
-    b"\0\0",
+const MANY_WRITTEN: &[&str] = &[
+    "A", "B", "C", "D", "E", "F", "G", "H", "I", "J", "K", "L", "M", "N", "O", "P",
 ];
 
-fn many_files(alloc: Global) -> Result<FileList, AllocError> {
-    let mut files = Vec::new(alloc);
-    files.push(super::file_of(alloc, "set", &[MANY_SET])?)?;
-    for (name, _) in NAMES {
-        let file: MemFile = super::file_of(alloc, name, &[b"P5 2 1 65535\n\x12\x34\x56\x78"])?;
-        files.push(file)?;
-    }
-    Ok(List::from_vec(files))
+// The plates with the set on them: of each the second sample has a tint of its own.
+const MANY_PLATES: &[Option<&[u8]>] = &[
+    Some(b"P5\n2 1\n65535\n\x12\x34\xFF\xFF"),
+    Some(b"P5\n2 1\n65535\n\x12\x34\xFF\xFE"),
+    Some(b"P5\n2 1\n65535\n\x12\x34\xFF\xFD"),
+    Some(b"P5\n2 1\n65535\n\x12\x34\xFF\xFC"),
+    Some(b"P5\n2 1\n65535\n\x12\x34\xFF\xFB"),
+    Some(b"P5\n2 1\n65535\n\x12\x34\xFF\xFA"),
+    Some(b"P5\n2 1\n65535\n\x12\x34\xFF\xF9"),
+    Some(b"P5\n2 1\n65535\n\x12\x34\xFF\xF8"),
+    Some(b"P5\n2 1\n65535\n\x12\x34\xFF\xF7"),
+    Some(b"P5\n2 1\n65535\n\x12\x34\xFF\xF6"),
+    Some(b"P5\n2 1\n65535\n\x12\x34\xFF\xF5"),
+    Some(b"P5\n2 1\n65535\n\x12\x34\xFF\xF4"),
+    Some(b"P5\n2 1\n65535\n\x12\x34\xFF\xF3"),
+    Some(b"P5\n2 1\n65535\n\x12\x34\xFF\xF2"),
+    Some(b"P5\n2 1\n65535\n\x12\x34\0\x01"),
+    Some(b"P5\n2 1\n65535\n\x12\x34\0\0"),
+];
+
+const SIXTEEN: Case<'static> = Case {
+    words: MANY,
+    plates: &[TWO_SAMPLES; 16],
+    set: &[MANY_SET],
+    written: MANY_WRITTEN,
+    ..USUAL
+};
+
+fn sixteen() -> Case<'static> {
+    SIXTEEN
 }
 
-fn holds_many(rack: &MemRack) -> bool {
-    for ((_, name), sample) in NAMES.iter().zip(MANY_SAMPLES.iter()) {
-        let Some(held) = rack.file(name) else {
-            return false;
-        };
-        if !held.starts_with(b"P5\n2 1\n65535\n\x12\x34".as_slice())
-            || !held.ends_with(sample)
-            || held.len() != 17
-        {
-            return false;
-        }
-    }
-    true
-}
-
-fn puts_on_many(alloc: Global, words: &[String], mut tray: MemTray, mut rack: MemRack) -> bool {
-    trapset_main(alloc, words, &mut tray, &mut rack) == 0 && holds_many(&rack)
-}
-
-fn many(rt: &impl Abort, alloc: Global) -> Result<bool, AllocError> {
-    let words = words_of(alloc, MANY)?;
-    let rack = rack_of(alloc, None)?;
-    let tray = tray_of(rt, alloc, many_files(alloc)?, None)?;
-    Ok(puts_on_many(alloc, &words, tray, rack))
+fn sixteen_plates() -> &'static [Option<&'static [u8]>] {
+    MANY_PLATES
 }
 
 #[test]
-fn sixteen_plates_get_a_tint_each(rt: HostRuntime) -> Result<(), Fail> {
-    assert!(rt; many(&rt, rt.alloc())?);
-    Ok(())
+fn sixteen_plates_get_a_tint_each(rt: HostRuntime) {
+    let is = ends(
+        &rt,
+        rt.alloc(),
+        sixteen(),
+        0,
+        Look::Written(sixteen_plates()),
+    );
+    judge(&rt, is, "plates", 16);
 }

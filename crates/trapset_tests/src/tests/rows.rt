@@ -1,7 +1,6 @@
-use super::{Case, Wanted, ends, onto_plates, refused};
-use std::alloc::{AllocError, Global};
+use super::{APPLY, Case, DISABLED, INKS, Look, TRAPS, USUAL, WIDE, case_of, ends, judge};
+use std::alloc::Global;
 use std::process::Abort;
-use std::test::Fail;
 
 // Two plates of two rows: Cyan alone above, and Magenta below.
 const ABOVE: &[u8] = b"P5\n3 2\n255\n\0\0\0\xFF\xFF\xFF";
@@ -49,9 +48,6 @@ const BAD: &[(&[u8], &str)] = &[
 
 // A page of two rows with two edges in each: what changes above has the same tints in one run; below there are others at the
 // second edge, so that two runs touch.
-const JOB: &[u8] =
-    b"<< /HWResolution [72 72] /TrappingDetails << /Type 1001 /ColorantDetails << /Cyan << /NeutralDensity 0.61 >> /Magenta << /NeutralDensity 0.76 >> /Yellow << /NeutralDensity 0.16 >> /Black << /NeutralDensity 1.70 >> >> >> >> setpagedevice << /TrapWidth 2 >> settrapparams showpage";
-
 const STRIPED_CYAN: &[u8] = b"P5\n6 2\n255\n\0\0\xFF\xFF\0\0\0\0\xFF\xFF\x28\x28";
 
 const STRIPED_MAGENTA: &[u8] = b"P5\n6 2\n255\n\xFF\xFF\0\0\xFF\xFF\xFF\xFF\0\0\xFF\xFF";
@@ -60,54 +56,53 @@ const STRIPED_SET: &[u8] =
     b"trap set\npage 6 2 255 plates 2\nrun 0 1 4 255 255\nrun 1 1 2 255 255\nrun 1 3 1 215 255\nend\n";
 
 // Whether the set, put onto the plates of two rows, ends so.
-fn set_ends(
+fn rows_end(rt: &impl Abort, alloc: Global, set: &[u8], status: u8, look: Look<'_>) -> bool {
+    ends(
+        rt,
+        alloc,
+        case_of(APPLY, &[DISABLED], &[ABOVE, BELOW], &[set]),
+        status,
+        look,
+    )
+}
+
+fn gives<'a>(
     rt: &impl Abort,
     alloc: Global,
     set: &[u8],
-    wanted: Wanted<'_>,
-) -> Result<bool, AllocError> {
-    let files = [("in0", ABOVE), ("in1", BELOW), ("set", set)];
-    ends(rt, alloc, onto_plates(&files), wanted)
+    cyan: &'a [u8],
+    magenta: &'a [u8],
+) -> bool {
+    let files = [None, Some(cyan), Some(magenta)];
+    rows_end(rt, alloc, set, 0, Look::Written(&files))
 }
 
 #[test]
-fn runs_stand_in_the_rows_that_they_name(rt: HostRuntime) -> Result<(), Fail> {
-    for (set, cyan, magenta) in APPLIED {
-        let wanted = Wanted {
-            status: 0,
-            told: "",
-            files: &[None, Some(*cyan), Some(*magenta)],
-        };
-        assert!(rt; set_ends(&rt, rt.alloc(), set, wanted)?);
+fn runs_stand_in_the_rows_that_they_name(rt: HostRuntime) {
+    for (place, (set, cyan, magenta)) in APPLIED.iter().enumerate() {
+        let is = gives(&rt, rt.alloc(), set, cyan, magenta);
+        judge(&rt, is, "set", place as u64);
     }
-    Ok(())
 }
 
 #[test]
-fn runs_go_on_row_by_row(rt: HostRuntime) -> Result<(), Fail> {
-    for (set, told) in BAD {
-        assert!(rt; set_ends(&rt, rt.alloc(), set, refused(8, told))?, "{told}");
+fn runs_go_on_row_by_row(rt: HostRuntime) {
+    for (place, (set, told)) in BAD.iter().enumerate() {
+        let is = rows_end(&rt, rt.alloc(), set, 8, Look::Refused(told));
+        judge(&rt, is, told, place as u64);
     }
-    Ok(())
 }
 
+const STRIPED: Case<'static> = Case {
+    words: TRAPS,
+    job: &[INKS, WIDE],
+    plates: &[STRIPED_CYAN, STRIPED_MAGENTA],
+    ..USUAL
+};
+
 #[test]
-fn runs_are_joined_over_the_same_tints_alone(rt: HostRuntime) -> Result<(), Fail> {
-    let case = Case {
-        words: "traps job set Cyan:in0 Magenta:in1",
-        files: &[
-            ("job", JOB),
-            ("in0", STRIPED_CYAN),
-            ("in1", STRIPED_MAGENTA),
-        ],
-        of_tray: None,
-        of_rack: None,
-    };
-    let wanted = Wanted {
-        status: 0,
-        told: "",
-        files: &[Some(STRIPED_SET), None, None],
-    };
-    assert!(rt; ends(&rt, rt.alloc(), case, wanted)?);
-    Ok(())
+fn runs_are_joined_over_the_same_tints_alone(rt: HostRuntime) {
+    let look = Look::Written(&[Some(STRIPED_SET), None, None]);
+    let is = ends(&rt, rt.alloc(), STRIPED, 0, look);
+    judge(&rt, is, "striped", 0);
 }

@@ -1,7 +1,6 @@
-use super::{CYAN, Case, DISABLED, MAGENTA, SET, ends, refused};
-use std::alloc::{AllocError, Global};
+use super::{Case, Look, USUAL, ends, judge};
+use std::alloc::Global;
 use std::process::Abort;
-use std::test::Fail;
 
 const USAGE: &str = "usage: trapset traps JOB SET NAME:IN ... | trapset apply SET IN:OUT ...\n";
 
@@ -37,27 +36,27 @@ const OTHER_WORDS: &[&str] = &[
     "apply set a:A a:B a:C a:D a:E a:F a:G a:H a:I a:J a:K a:L a:M a:N a:O a:P a:Q",
 ];
 
-fn is_no_command(rt: &impl Abort, alloc: Global, words: &str) -> Result<bool, AllocError> {
-    let case = Case {
-        words,
-        files: &[
-            ("job", DISABLED),
-            ("in0", CYAN),
-            ("in1", MAGENTA),
-            ("set", SET),
-        ],
-        of_tray: None,
-        of_rack: None,
-    };
-    ends(rt, alloc, case, refused(2, USAGE))
+fn other_words() -> &'static [&'static str] {
+    OTHER_WORDS
+}
+
+// Whether a run by these words, where all files are there, is refused so.
+fn is_refused(rt: &impl Abort, alloc: Global, words: &str, status: u8, told: &str) -> bool {
+    ends(
+        rt,
+        alloc,
+        Case { words, ..USUAL },
+        status,
+        Look::Refused(told),
+    )
 }
 
 #[test]
-fn other_words_are_answered_by_the_usage(rt: HostRuntime) -> Result<(), Fail> {
-    for words in OTHER_WORDS {
-        assert!(rt; is_no_command(&rt, rt.alloc(), words)?, "{words}");
+fn other_words_are_answered_by_the_usage(rt: HostRuntime) {
+    for words in other_words() {
+        let is = is_refused(&rt, rt.alloc(), words, 2, USAGE);
+        judge(&rt, is, words, 2);
     }
-    Ok(())
 }
 
 // Words of files that are not there, and what is told of the first of them.
@@ -73,25 +72,14 @@ const MISSING: &[(&str, &str)] = &[
     ("apply  in0:out0 in1:out1", "read fault: set\n"),
 ];
 
-fn is_missing(rt: &impl Abort, alloc: Global, words: &str, told: &str) -> Result<bool, AllocError> {
-    let case = Case {
-        words,
-        files: &[
-            ("job", DISABLED),
-            ("in0", CYAN),
-            ("in1", MAGENTA),
-            ("set", SET),
-        ],
-        of_tray: None,
-        of_rack: None,
-    };
-    ends(rt, alloc, case, refused(5, told))
+fn missing_files() -> &'static [(&'static str, &'static str)] {
+    MISSING
 }
 
 #[test]
-fn a_missing_file_is_a_read_fault(rt: HostRuntime) -> Result<(), Fail> {
-    for (words, told) in MISSING {
-        assert!(rt; is_missing(&rt, rt.alloc(), words, told)?, "{words}");
+fn a_missing_file_is_a_read_fault(rt: HostRuntime) {
+    for (words, told) in missing_files() {
+        let is = is_refused(&rt, rt.alloc(), words, 5, told);
+        judge(&rt, is, words, 5);
     }
-    Ok(())
 }

@@ -1,158 +1,135 @@
-use super::{CYAN, Case, DISABLED, MAGENTA, SET, Wanted, ends, onto_plates, refused};
-use std::alloc::{AllocError, Global};
+use super::{
+    CYAN, Case, DISABLED, INKS, Look, MAGENTA, Pieces, SET, TRAPS, USUAL, case_of, ends, judge,
+    set_ends,
+};
+use std::alloc::Global;
 use std::process::Abort;
-use std::test::Fail;
-
-// a job up to its trapping parameters
-const DEVICE: &str =
-    "<< /HWResolution [72 72] /TrappingDetails << /Type 1001 /ColorantDetails << /Cyan << /NeutralDensity 0.61 >> /Magenta << /NeutralDensity 0.76 >> /Yellow << /NeutralDensity 0.16 >> /Black << /NeutralDensity 1.70 >> >> >> >> setpagedevice ";
 
 // The parameters of a job, and the set of what it changes.
-const TRAPS: &[(&str, &[u8])] = &[
-    ("/TrapWidth 2", SET),
+const MADE: &[(&[u8], &[u8])] = &[
+    (b"/TrapWidth 2", SET),
     (
-        "/TrapWidth 2 /SlidingTrapLimit 1",
+        b"/TrapWidth 2 /SlidingTrapLimit 1",
         b"trap set\npage 6 1 255 plates 2\nrun 0 3 2 255 255\nend\n",
     ),
     (
-        "/TrapWidth 2 /SlidingTrapLimit 1 /TrapColorScaling 0",
+        b"/TrapWidth 2 /SlidingTrapLimit 1 /TrapColorScaling 0",
         b"trap set\npage 6 1 255 plates 2\nrun 0 3 2 141 141\nend\n",
     ),
-    ("/TrapWidth 0.25", b"trap set\npage 6 1 255 plates 2\nend\n"),
-    ("/Enabled false", b"trap set\npage 6 1 255 plates 2\nend\n"),
+    (
+        b"/TrapWidth 0.25",
+        b"trap set\npage 6 1 255 plates 2\nend\n",
+    ),
+    (b"/Enabled false", b"trap set\npage 6 1 255 plates 2\nend\n"),
 ];
 
 // Whether a run of `traps` with these files ends so.
 fn traps_end<'a>(
     rt: &impl Abort,
     alloc: Global,
-    job: &'a [u8],
+    job: Pieces<'a>,
     magenta: &'a [u8],
-    wanted: Wanted<'_>,
-) -> Result<bool, AllocError> {
-    let case = Case {
-        words: "traps job set Cyan:in0 Magenta:in1",
-        files: &[("job", job), ("in0", CYAN), ("in1", magenta)],
-        of_tray: None,
-        of_rack: None,
-    };
-    ends(rt, alloc, case, wanted)
-}
-
-fn job_gives(rt: &impl Abort, alloc: Global, job: &[u8], set: &[u8]) -> Result<bool, AllocError> {
-    let wanted = Wanted {
-        status: 0,
-        told: "",
-        files: &[Some(set), None, None],
-    };
-    traps_end(rt, alloc, job, MAGENTA, wanted)
-}
-
-fn gives(rt: &impl Abort, alloc: Global, params: &str, set: &[u8]) -> Result<bool, AllocError> {
-    let job = format!(in alloc; "{DEVICE}<< {params} >> settrapparams showpage")?;
-    job_gives(rt, alloc, job.as_bytes(), set)
-}
-
-#[test]
-fn a_set_has_the_longest_runs_of_what_changes(rt: HostRuntime) -> Result<(), Fail> {
-    for (params, set) in TRAPS {
-        assert!(rt; gives(&rt, rt.alloc(), params, set)?, "{params}");
-    }
-    Ok(())
-}
-
-// The runs of a set, and the rows of both plates with them.
-const APPLIED: &[(&str, &[u8], &[u8])] = &[
-    ("", b"\0\0\0\xFF\xFF\xFF", b"\xFF\xFF\xFF\0\0\0"),
-    (
-        "run 0 2 2 255 255\n",
-        b"\0\0\0\0\xFF\xFF",
-        b"\xFF\xFF\0\0\0\0",
-    ),
-    (
-        "run 0 3 2 141 141\n",
-        b"\0\0\0\x72\x72\xFF",
-        b"\xFF\xFF\xFF\x72\x72\0",
-    ),
-    // the whole row
-    (
-        "run 0 0 6 255 0\n",
-        b"\0\0\0\0\0\0",
-        b"\xFF\xFF\xFF\xFF\xFF\xFF",
-    ),
-    // its first sample, and its last
-    (
-        "run 0 0 1 0 9\nrun 0 5 1 1 2\n",
-        b"\xFF\0\0\xFF\xFF\xFE",
-        b"\xF6\xFF\xFF\0\0\xFD",
-    ),
-    // runs that touch, of other tints and of the same
-    (
-        "run 0 0 2 1 2\nrun 0 2 2 3 4\n",
-        b"\xFE\xFE\xFC\xFC\xFF\xFF",
-        b"\xFD\xFD\xFB\xFB\0\0",
-    ),
-    (
-        "run 0 0 1 1 2\nrun 0 1 1 1 2\n",
-        b"\xFE\xFE\0\xFF\xFF\xFF",
-        b"\xFD\xFD\xFF\0\0\0",
-    ),
-    // a run over samples that have its tints already
-    (
-        "run 0 0 3 255 0\n",
-        b"\0\0\0\xFF\xFF\xFF",
-        b"\xFF\xFF\xFF\0\0\0",
-    ),
-];
-
-fn plate_of(alloc: Global, row: &[u8]) -> Result<Vec<u8>, AllocError> {
-    let mut bytes = b"P5\n6 1\n255\n".to_vec(alloc)?;
-    bytes.extend_from_slice(row)?;
-    Ok(bytes)
-}
-
-// Whether the set gives the plates these files.
-fn set_gives<'a>(
-    rt: &impl Abort,
-    alloc: Global,
-    set: &[u8],
-    cyan: &'a [u8],
-    magenta: &'a [u8],
-) -> Result<bool, AllocError> {
-    let files = [("in0", CYAN), ("in1", MAGENTA), ("set", set)];
-    let wanted = Wanted {
-        status: 0,
-        told: "",
-        files: &[None, Some(cyan), Some(magenta)],
-    };
-    ends(rt, alloc, onto_plates(&files), wanted)
-}
-
-fn puts_on(
-    rt: &impl Abort,
-    alloc: Global,
-    runs: &str,
-    cyan: &[u8],
-    magenta: &[u8],
-) -> Result<bool, AllocError> {
-    let set = format!(in alloc; "trap set\npage 6 1 255 plates 2\n{runs}end\n")?;
-    let cyan = plate_of(alloc, cyan)?;
-    let magenta = plate_of(alloc, magenta)?;
-    set_gives(
+    status: u8,
+    look: Look<'_>,
+) -> bool {
+    ends(
         rt,
         alloc,
-        set.as_bytes(),
-        cyan.as_slice(),
-        magenta.as_slice(),
+        case_of(TRAPS, job, &[CYAN, magenta], &[SET]),
+        status,
+        look,
     )
 }
 
+fn gives(rt: &impl Abort, alloc: Global, params: &[u8], set: &[u8]) -> bool {
+    let job = [INKS, b"<< ", params, b" >> settrapparams showpage"];
+    let files = [Some(set), None, None];
+    traps_end(rt, alloc, &job, MAGENTA, 0, Look::Written(&files))
+}
+
 #[test]
-fn plates_get_the_tints_of_the_runs(rt: HostRuntime) -> Result<(), Fail> {
-    for (runs, cyan, magenta) in APPLIED {
-        assert!(rt; puts_on(&rt, rt.alloc(), runs, cyan, magenta)?, "{runs}");
+fn a_set_has_the_longest_runs_of_what_changes(rt: HostRuntime) {
+    for (place, (params, set)) in MADE.iter().enumerate() {
+        judge(
+            &rt,
+            gives(&rt, rt.alloc(), params, set),
+            "job",
+            place as u64,
+        );
     }
-    Ok(())
+}
+
+// The runs of a set, and both plates with them.
+const APPLIED: &[(&[u8], &[u8], &[u8])] = &[
+    (
+        b"",
+        b"P5\n6 1\n255\n\0\0\0\xFF\xFF\xFF",
+        b"P5\n6 1\n255\n\xFF\xFF\xFF\0\0\0",
+    ),
+    (
+        b"run 0 2 2 255 255\n",
+        b"P5\n6 1\n255\n\0\0\0\0\xFF\xFF",
+        b"P5\n6 1\n255\n\xFF\xFF\0\0\0\0",
+    ),
+    (
+        b"run 0 3 2 141 141\n",
+        b"P5\n6 1\n255\n\0\0\0\x72\x72\xFF",
+        b"P5\n6 1\n255\n\xFF\xFF\xFF\x72\x72\0",
+    ),
+    // the whole row
+    (
+        b"run 0 0 6 255 0\n",
+        b"P5\n6 1\n255\n\0\0\0\0\0\0",
+        b"P5\n6 1\n255\n\xFF\xFF\xFF\xFF\xFF\xFF",
+    ),
+    // its first sample, and its last
+    (
+        b"run 0 0 1 0 9\nrun 0 5 1 1 2\n",
+        b"P5\n6 1\n255\n\xFF\0\0\xFF\xFF\xFE",
+        b"P5\n6 1\n255\n\xF6\xFF\xFF\0\0\xFD",
+    ),
+    // runs that touch, of other tints and of the same
+    (
+        b"run 0 0 2 1 2\nrun 0 2 2 3 4\n",
+        b"P5\n6 1\n255\n\xFE\xFE\xFC\xFC\xFF\xFF",
+        b"P5\n6 1\n255\n\xFD\xFD\xFB\xFB\0\0",
+    ),
+    (
+        b"run 0 0 1 1 2\nrun 0 1 1 1 2\n",
+        b"P5\n6 1\n255\n\xFE\xFE\0\xFF\xFF\xFF",
+        b"P5\n6 1\n255\n\xFD\xFD\xFF\0\0\0",
+    ),
+    // a run over samples that have its tints already
+    (
+        b"run 0 0 3 255 0\n",
+        b"P5\n6 1\n255\n\0\0\0\xFF\xFF\xFF",
+        b"P5\n6 1\n255\n\xFF\xFF\xFF\0\0\0",
+    ),
+];
+
+// Whether the runs give the plates these files.
+fn puts_on<'a>(
+    rt: &impl Abort,
+    alloc: Global,
+    runs: &[u8],
+    cyan: &'a [u8],
+    magenta: &'a [u8],
+) -> bool {
+    let set = [
+        b"trap set\npage 6 1 255 plates 2\n".as_slice(),
+        runs,
+        b"end\n",
+    ];
+    let files = [None, Some(cyan), Some(magenta)];
+    set_ends(rt, alloc, &set, 0, Look::Written(&files))
+}
+
+#[test]
+fn plates_get_the_tints_of_the_runs(rt: HostRuntime) {
+    for (place, (runs, cyan, magenta)) in APPLIED.iter().enumerate() {
+        let is = puts_on(&rt, rt.alloc(), runs, cyan, magenta);
+        judge(&rt, is, "runs", place as u64);
+    }
 }
 
 // Other files of a run of `traps`, and what it is refused for.
@@ -168,12 +145,16 @@ const REFUSED: &[(&[u8], &[u8], u8, &str)] = &[
 ];
 
 #[test]
-fn a_page_that_is_refused_gives_no_set(rt: HostRuntime) -> Result<(), Fail> {
+fn a_page_that_is_refused_gives_no_set(rt: HostRuntime) {
     for (job, magenta, status, told) in REFUSED {
-        assert!(rt;
-            traps_end(&rt, rt.alloc(), job, magenta, refused(*status, told))?,
-            "{told}"
+        let is = traps_end(
+            &rt,
+            rt.alloc(),
+            &[*job],
+            magenta,
+            *status,
+            Look::Refused(told),
         );
+        judge(&rt, is, told, u64::from(*status));
     }
-    Ok(())
 }
