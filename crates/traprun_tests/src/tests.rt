@@ -5,29 +5,24 @@ mod refused;
 mod words;
 mod worked;
 
+use self::failing::holds_prefix;
 use band_workers::OpenGate;
 use lists::list::List;
-use outside::distinct_names::have_distinct_names;
-use outside::mem_file::{FileList, MemFile};
+use outside::mem_file::FileList;
 use outside::mem_rack::MemRack;
 use outside::mem_tray::MemTray;
 use page_run::top::traprun_main;
-use std::alloc::{AllocError, Global};
+use std::alloc::Global;
 use std::process::Abort;
 use std::thread::Threads;
-use test_files::{CYAN, MAGENTA, calls, file_of, words_of};
-
-// A job begins with its inks, and a page may set parameters and be shown.
-const INKS: &[u8] =
-    b"<< /HWResolution [72 72] /TrappingDetails << /Type 1001 /ColorantDetails << /Cyan << /NeutralDensity 0.61 >> /Magenta << /NeutralDensity 0.76 >> /Yellow << /NeutralDensity 0.16 >> /Black << /NeutralDensity 1.70 >> >> >> >> setpagedevice ";
-
-const DISABLED: &[u8] = b"<< /Enabled false >> settrapparams showpage";
+use test_files::{
+    CYAN, DISABLED, INKS, MAGENTA, TRAPPED_CYAN, TRAPPED_MAGENTA, TRAPPED_REPORT, UNSLID_CYAN,
+    UNSLID_REPORT, UNTRAPPED_REPORT, WIDE, put_file, rack_of, tray_of, words_of,
+};
 
 const SHOW: &[u8] = b" showpage";
 
-// What is reported of the two plates where no zone is enabled.
-const AS_IT_WAS: &[u8] =
-    b"trap report\npage 6 1 255 plates 2\nzone 0 samples 6 changed 0\nedges 0\nplate Cyan changed 0\nplate Magenta changed 0\nend\n";
+const DARKER_SIDE: &[u8] = b" << /SlidingTrapLimit 1 >> settrapparams showpage";
 
 const TWO_PLATES: &str = "4 64 job report Cyan:in0:out0 Magenta:in1:out1";
 
@@ -40,90 +35,134 @@ const WRITTEN: &[&str] = &[
     "out0.3", "out1.3", "report.3",
 ];
 
-// A run of the program over files in memory: its words, the pieces of each file of READ, and a call of the tray or of the rack
-// that fails.
+// The bytes of a file, one piece after the other.
+type Pieces<'a> = &'a [&'a [u8]];
+
+// A run of the program over files in memory: its words, each file of READ, and a call of the tray or of the rack that fails.
 #[derive(Clone, Copy)]
 struct Case<'a> {
     words: &'a str,
-    files: &'a [&'a [&'a [u8]]],
+    files: &'a [Pieces<'a>],
     tray_fails: Option<u64>,
     rack_fails: Option<u64>,
 }
 
-// How a run ends: its status, the text that is told, and the files of WRITTEN that stand then, from the first on.
+// A run of one page, in which no call fails.
+const USUAL: Case<'static> = Case {
+    words: TWO_PLATES,
+    files: &[&[DISABLED], &[CYAN], &[MAGENTA]],
+    tray_fails: None,
+    rack_fails: None,
+};
+
+// What is looked at where a run has ended: what is told, and what stands in files.
 #[derive(Clone, Copy)]
-struct Wanted<'a> {
-    status: u8,
-    told: &'a str,
-    files: &'a [&'a [u8]],
+enum Look<'a> {
+    // Of the files of WRITTEN these stand there, from the first on, and no more.
+    Left(&'a str, &'a [&'a [u8]]),
+    // So many files of a run of two pages are whole, of the next one there is a prefix or nothing, and no more.
+    Broken(&'a str, usize),
+    // In these files that stands.
+    Some(&'a str, &'a [(&'a str, Option<&'a [u8]>)]),
 }
 
-// A run over these files by the usual words, in which no call fails.
-fn case_of<'a>(files: &'a [&'a [&'a [u8]]]) -> Case<'a> {
-    Case {
-        words: TWO_PLATES,
-        files,
-        tray_fails: None,
-        rack_fails: None,
-    }
-}
-
-fn put_file(
-    alloc: Global,
-    files: &mut Vec<MemFile>,
-    name: &str,
-    pieces: &[&[u8]],
-) -> Result<(), AllocError> {
-    files.push(file_of(alloc, name, pieces)?)?;
-    Ok(())
+// Stops the test where an answer is wrong, and names the row that it is of.
+fn judge(rt: &impl Abort, is_right: bool, row: &str, number: u64) {
+    assert!(rt; is_right, "{row}, {number}");
 }
 
 // The job and the plates, by the names of READ.
-fn files_of(alloc: Global, found: &[&[&[u8]]]) -> Result<FileList, AllocError> {
-    let mut files = Vec::new(alloc);
-    for (name, pieces) in READ.iter().zip(found.iter()) {
-        put_file(alloc, &mut files, name, pieces)?;
+fn files_of(rt: &impl Abort, alloc: Global, found: &[Pieces<'_>]) -> FileList {
+    let mut files = List::new(alloc);
+    for (name, pieces) in READ.iter().zip(found) {
+        assert!(rt;
+            put_file(alloc, &mut files, name, pieces).is_ok(),
+            "no memory"
+        );
     }
-    Ok(List::from_vec(files))
+    files
 }
 
-fn tray_of(
-    rt: &impl Abort,
-    alloc: Global,
-    files: FileList,
-    fails: Option<u64>,
-) -> Result<MemTray, AllocError> {
-    let fails = calls(alloc, fails)?;
-    assert!(rt; have_distinct_names(files.as_slice()));
-    Ok(MemTray::new(alloc, files, 64, fails))
-}
-
-fn rack_of(alloc: Global, fails: Option<u64>) -> Result<MemRack, AllocError> {
-    Ok(MemRack::new(alloc, 50, 100000, calls(alloc, fails)?))
-}
-
-// The status, and the rack as it stands then.
+// The status, and whether the rack stands so then.
 fn ended(
     rt: &(impl Threads + Sync),
     alloc: Global,
     words: &[String],
-    mut tray: MemTray,
-    mut rack: MemRack,
-) -> (u8, MemRack) {
-    let status = traprun_main(rt, alloc, words, &mut tray, &mut rack, &OpenGate);
-    (status, rack)
+    tray: &mut MemTray,
+    rack: &mut MemRack,
+    look: Look<'_>,
+) -> (u8, bool) {
+    let status = traprun_main(rt, alloc, words, tray, rack, &OpenGate);
+    (status, looks(rack, look))
 }
 
+fn ended_on_rack(
+    rt: &(impl Abort + Threads + Sync),
+    alloc: Global,
+    words: &[String],
+    tray: &mut MemTray,
+    case: Case<'_>,
+    look: Look<'_>,
+) -> (u8, bool) {
+    let mut rack = rack_of(alloc, 50, 100000, case.rack_fails).expect(rt, "no memory");
+    ended(rt, alloc, words, tray, &mut rack, look)
+}
+
+fn ended_on_files(
+    rt: &(impl Abort + Threads + Sync),
+    alloc: Global,
+    words: &[String],
+    case: Case<'_>,
+    look: Look<'_>,
+) -> (u8, bool) {
+    let files = files_of(rt, alloc, case.files);
+    let mut tray = tray_of(alloc, files, 64, case.tray_fails).expect(rt, "no tray");
+    ended_on_rack(rt, alloc, words, &mut tray, case, look)
+}
+
+// The status of a run, and whether its rack stands so then.
 fn run(
     rt: &(impl Abort + Threads + Sync),
     alloc: Global,
     case: Case<'_>,
-) -> Result<(u8, MemRack), AllocError> {
-    let words = words_of(alloc, case.words)?;
-    let rack = rack_of(alloc, case.rack_fails)?;
-    let files = files_of(alloc, case.files)?;
-    let tray = tray_of(rt, alloc, files, case.tray_fails)?;
-    Ok(ended(rt, alloc, &words, tray, rack))
+    look: Look<'_>,
+) -> (u8, bool) {
+    let words = words_of(alloc, case.words).expect(rt, "no memory");
+    ended_on_files(rt, alloc, &words, case, look)
+}
+
+// Whether a run ends with the status, and its rack stands so then.
+fn ends(
+    rt: &(impl Abort + Threads + Sync),
+    alloc: Global,
+    case: Case<'_>,
+    status: u8,
+    look: Look<'_>,
+) -> bool {
+    run(rt, alloc, case, look) == (status, true)
+}
+
+// Whether a run over these files by the usual words ends so.
+fn files_end(
+    rt: &(impl Abort + Threads + Sync),
+    alloc: Global,
+    files: &[Pieces<'_>],
+    status: u8,
+    look: Look<'_>,
+) -> bool {
+    ends(rt, alloc, Case { files, ..USUAL }, status, look)
+}
+
+fn looks(rack: &MemRack, look: Look<'_>) -> bool {
+    match look {
+        Look::Left(told, files) => tells(rack, told) && holds(rack, files),
+        Look::Broken(told, count) => tells(rack, told) && holds_prefix(rack, count),
+        Look::Some(told, files) => tells(rack, told) && holds_some(rack, files),
+    }
+}
+
+fn tells(rack: &MemRack, told: &str) -> bool {
+    rack.told() == told.as_bytes()
 }
 
 // Whether of the files of WRITTEN these stand there, from the first on, and no more.
@@ -136,26 +175,11 @@ fn holds(rack: &MemRack, files: &[&[u8]]) -> bool {
     true
 }
 
-fn tells(rack: &MemRack, told: &str) -> bool {
-    rack.told() == told.as_bytes()
-}
-
-fn is_left_so(rack: &MemRack, wanted: Wanted<'_>) -> bool {
-    tells(rack, wanted.told) && holds(rack, wanted.files)
-}
-
-fn is_so(status: u8, rack: MemRack, wanted: Wanted<'_>) -> bool {
-    let is_left = is_left_so(&rack, wanted);
-    is_left && status == wanted.status
-}
-
-// Whether the run ends so.
-fn ends(
-    rt: &(impl Abort + Threads + Sync),
-    alloc: Global,
-    case: Case<'_>,
-    wanted: Wanted<'_>,
-) -> Result<bool, AllocError> {
-    let (status, rack) = run(rt, alloc, case)?;
-    Ok(is_so(status, rack, wanted))
+fn holds_some(rack: &MemRack, files: &[(&str, Option<&[u8]>)]) -> bool {
+    for (name, bytes) in files {
+        if rack.file(name) != *bytes {
+            return false;
+        }
+    }
+    true
 }

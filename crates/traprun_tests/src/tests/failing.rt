@@ -1,10 +1,9 @@
 use super::{
-    AS_IT_WAS, CYAN, Case, DISABLED, MAGENTA, SHOW, TWO_PLATES, WRITTEN, holds, run, tells,
+    CYAN, Case, DISABLED, Look, MAGENTA, SHOW, UNTRAPPED_REPORT, USUAL, WRITTEN, ends, judge,
 };
 use outside::mem_rack::MemRack;
-use std::alloc::{AllocError, Global};
+use std::alloc::Global;
 use std::process::Abort;
-use std::test::Fail;
 use std::thread::Threads;
 
 // Where a run of two pages stops at a failed read: the line, and how many files stand whole then. The files are read in their
@@ -29,15 +28,22 @@ const WRITES: &[(&str, usize)] = &[
     ("page 1: write fault: report\n", 5),
 ];
 
-const FILES: &[&[u8]] = &[CYAN, MAGENTA, AS_IT_WAS, CYAN, MAGENTA, AS_IT_WAS];
+const FILES: &[&[u8]] = &[
+    CYAN,
+    MAGENTA,
+    UNTRAPPED_REPORT,
+    CYAN,
+    MAGENTA,
+    UNTRAPPED_REPORT,
+];
 
 // A run of two pages, and the call of the tray or of the rack that fails.
 fn case_of(tray_fails: Option<u64>, rack_fails: Option<u64>) -> Case<'static> {
     Case {
-        words: TWO_PLATES,
         files: &[&[DISABLED, SHOW], &[CYAN, CYAN], &[MAGENTA, MAGENTA]],
         tray_fails,
         rack_fails,
+        ..USUAL
     }
 }
 
@@ -45,32 +51,8 @@ fn whole(count: usize) -> &'static [&'static [u8]] {
     FILES.get(..count).unwrap_or(FILES)
 }
 
-// The number of the stop that this line tells.
-fn stop_of(stops: &[(&str, usize)], told: &[u8]) -> Option<usize> {
-    stops.iter().position(|stop| stop.0.as_bytes() == told)
-}
-
-// Whether the run is done and tells nothing.
-fn is_done(status: u8, rack: &MemRack) -> bool {
-    status == 0 && tells(rack, "") && holds(rack, FILES)
-}
-
-// The number of the stop that a run came to where a read failed, as many as there are where it was done, and none where it
-// ended in another way.
-fn read_stop(status: u8, rack: &MemRack) -> Option<usize> {
-    if is_done(status, rack) {
-        return Some(READS.len());
-    }
-    let stop = stop_of(READS, rack.told())?;
-    if status == 5 && holds(rack, whole(READS.get(stop)?.1)) {
-        Some(stop)
-    } else {
-        None
-    }
-}
-
 // Whether so many files stand whole, and of the next one a prefix of its bytes or nothing, and no more.
-fn holds_prefix(rack: &MemRack, count: usize) -> bool {
+pub(super) fn holds_prefix(rack: &MemRack, count: usize) -> bool {
     for (place, name) in WRITTEN.iter().enumerate() {
         let wanted = FILES.get(place).copied();
         let is_so = match rack.file(name) {
@@ -85,72 +67,67 @@ fn holds_prefix(rack: &MemRack, count: usize) -> bool {
     true
 }
 
-// The number of the stop that a run came to where a write failed, as `read_stop` gives it.
-fn write_stop(status: u8, rack: &MemRack) -> Option<usize> {
-    if is_done(status, rack) {
-        return Some(WRITES.len());
-    }
-    let stop = stop_of(WRITES, rack.told())?;
-    if status == 6 && holds_prefix(rack, WRITES.get(stop)?.1) {
-        Some(stop)
-    } else {
-        None
-    }
-}
-
-fn read_stopped(status: u8, rack: MemRack) -> Option<usize> {
-    read_stop(status, &rack)
-}
-
-fn write_stopped(status: u8, rack: MemRack) -> Option<usize> {
-    write_stop(status, &rack)
-}
-
-fn stop_at_read(
+// Whether a run in which that call of the tray fails comes to that stop; after the last one it is done.
+fn stops_at_read(
     rt: &(impl Abort + Threads + Sync),
     alloc: Global,
     call: u64,
-) -> Result<Option<usize>, AllocError> {
-    let (status, rack) = run(rt, alloc, case_of(Some(call), None))?;
-    Ok(read_stopped(status, rack))
+    stop: usize,
+) -> bool {
+    let case = case_of(Some(call), None);
+    match READS.get(stop) {
+        Some((line, count)) => ends(rt, alloc, case, 5, Look::Left(line, whole(*count))),
+        None => ends(rt, alloc, case, 0, Look::Left("", FILES)),
+    }
 }
 
-fn stop_at_write(
+fn stops_at_write(
     rt: &(impl Abort + Threads + Sync),
     alloc: Global,
     call: u64,
-) -> Result<Option<usize>, AllocError> {
-    let (status, rack) = run(rt, alloc, case_of(None, Some(call)))?;
-    Ok(write_stopped(status, rack))
+    stop: usize,
+) -> bool {
+    let case = case_of(None, Some(call));
+    match WRITES.get(stop) {
+        Some((line, count)) => ends(rt, alloc, case, 6, Look::Broken(line, *count)),
+        None => ends(rt, alloc, case, 0, Look::Left("", FILES)),
+    }
+}
+
+// The stop that a run comes to: that of the call before, or the next one.
+fn read_stop(rt: &(impl Abort + Threads + Sync), alloc: Global, call: u64, last: usize) -> usize {
+    if stops_at_read(rt, alloc, call, last) {
+        return last;
+    }
+    let next = last.saturating_add(1);
+    judge(rt, stops_at_read(rt, alloc, call, next), "call", call);
+    next
+}
+
+fn write_stop(rt: &(impl Abort + Threads + Sync), alloc: Global, call: u64, last: usize) -> usize {
+    if stops_at_write(rt, alloc, call, last) {
+        return last;
+    }
+    let next = last.saturating_add(1);
+    judge(rt, stops_at_write(rt, alloc, call, next), "call", call);
+    next
 }
 
 // A later call that fails stops the run at the same file or at the next one, and the last ones leave it done.
 #[test]
-fn each_read_fails_in_turn(rt: HostRuntime) -> Result<(), Fail> {
+fn each_read_fails_in_turn(rt: HostRuntime) {
     let mut last = 0;
-    for call in 0..400u64 {
-        let stop = stop_at_read(&rt, rt.alloc(), call)?;
-        assert!(rt;
-            stop == Some(last) || stop == Some(last.saturating_add(1)),
-            "call {call}"
-        );
-        last = stop.unwrap_or(last);
+    for call in 0..400 {
+        last = read_stop(&rt, rt.alloc(), call, last);
     }
-    assert!(rt; last == READS.len(), "{last}");
-    Ok(())
+    judge(&rt, last == READS.len(), "stops", last as u64);
 }
 
 #[test]
-fn each_write_fails_in_turn(rt: HostRuntime) -> Result<(), Fail> {
+fn each_write_fails_in_turn(rt: HostRuntime) {
     let mut last = 0;
-    for call in 0..100u64 {
-        let stop = stop_at_write(&rt, rt.alloc(), call)?;
-        assert!(rt;
-            stop == Some(last) || stop == Some(last.saturating_add(1)),
-            "call {call}"
-        );
-        last = stop.unwrap_or(last);
+    for call in 0..100 {
+        last = write_stop(&rt, rt.alloc(), call, last);
     }
-    assert!(rt; last == WRITES.len(), "{last}");
-    Ok(())
+    judge(&rt, last == WRITES.len(), "stops", last as u64);
 }

@@ -1,8 +1,6 @@
-use super::{Case, DISABLED, SHOW, run, tells};
-use outside::mem_rack::MemRack;
-use std::alloc::{AllocError, Global};
+use super::{Case, DISABLED, Look, SHOW, USUAL, ends, judge};
+use std::alloc::Global;
 use std::process::Abort;
-use std::test::Fail;
 use std::thread::Threads;
 
 const ONE_PLATE: &str = "2 64 job report Cyan:in0:out0";
@@ -26,9 +24,18 @@ const PAGES: &[(&str, Option<&[u8]>)] = &[
 
 const NO_PAGES: &[(&str, Option<&[u8]>)] = &[("out0.0", None), ("report.0", None)];
 
+// A job's piece, how often it stands after the first page, the status, what is told, and files.
+type Job = (
+    &'static [u8],
+    usize,
+    u8,
+    &'static str,
+    &'static [(&'static str, Option<&'static [u8]>)],
+);
+
 // How a job ends that has one of these pieces so many times after its first page, and which files stand then. The last ones are
 // as long as a job may be, and a byte longer.
-const JOBS: &[(&[u8], usize, u8, &str, &[(&str, Option<&[u8]>)])] = &[
+const JOBS: &[Job] = &[
     (SHOW, 255, 0, "", PAGES),
     (SHOW, 256, 3, "run: TooManyPages at 2339\n", NO_PAGES),
     (
@@ -47,62 +54,52 @@ const JOBS: &[(&[u8], usize, u8, &str, &[(&str, Option<&[u8]>)])] = &[
     ),
 ];
 
+fn add_image(rt: &impl Abort, bytes: &mut Vec<u8>, page: u8) {
+    let image = [
+        b'P', b'5', b'\n', b'1', b' ', b'1', b'\n', b'2', b'5', b'5', b'\n', page,
+    ];
+    assert!(rt; bytes.extend_from_slice(&image).is_ok(), "no memory");
+}
+
 // Images for 256 pages.
-fn images(alloc: Global) -> Result<Vec<u8>, AllocError> {
+fn images(rt: &impl Abort, alloc: Global) -> Vec<u8> {
     let mut bytes = Vec::new(alloc);
     for page in 0..=255u8 {
-        bytes.extend_from_slice(&[
-            b'P', b'5', b'\n', b'1', b' ', b'1', b'\n', b'2', b'5', b'5', b'\n', page,
-        ])?;
+        add_image(rt, &mut bytes, page);
     }
-    Ok(bytes)
+    bytes
 }
 
-fn holds(rack: &MemRack, files: &[(&str, Option<&[u8]>)]) -> bool {
-    for (name, bytes) in files {
-        if rack.file(name) != *bytes {
-            return false;
-        }
-    }
-    true
-}
-
-fn is_left_so(rack: &MemRack, told: &str, files: &[(&str, Option<&[u8]>)]) -> bool {
-    tells(rack, told) && holds(rack, files)
-}
-
-// The status, and whether that is told and those files stand.
-fn left_so(status: u8, rack: MemRack, told: &str, files: &[(&str, Option<&[u8]>)]) -> (u8, bool) {
-    (status, is_left_so(&rack, told, files))
-}
-
-fn run_over(
+// Whether a run of one plate over these files ends so.
+fn plate_ends(
     rt: &(impl Abort + Threads + Sync),
     alloc: Global,
-    found: &[&[&[u8]]],
-    told: &str,
-    files: &[(&str, Option<&[u8]>)],
-) -> Result<(u8, bool), AllocError> {
+    files: &[&[&[u8]]],
+    status: u8,
+    look: Look<'_>,
+) -> bool {
     let case = Case {
         words: ONE_PLATE,
-        files: found,
-        tray_fails: None,
-        rack_fails: None,
+        files,
+        ..USUAL
     };
-    let (status, rack) = run(rt, alloc, case)?;
-    Ok(left_so(status, rack, told, files))
+    ends(rt, alloc, case, status, look)
+}
+
+fn job_ends(
+    rt: &(impl Abort + Threads + Sync),
+    alloc: Global,
+    (piece, count, status, told, files): Job,
+) -> bool {
+    let more = piece.repeat(alloc, count).expect(rt, "no memory");
+    let images = images(rt, alloc);
+    let found: [&[&[u8]]; 2] = [&[DISABLED, &more], &[&images]];
+    plate_ends(rt, alloc, &found, status, Look::Some(told, files))
 }
 
 #[test]
-fn jobs_may_have_256_pages_and_so_many_bytes(rt: HostRuntime) -> Result<(), Fail> {
-    let images = images(rt.alloc())?;
-    for (piece, count, status, told, files) in JOBS {
-        let more = piece.repeat(rt.alloc(), *count)?;
-        let found: [&[&[u8]]; 2] = [&[DISABLED, &more], &[&images]];
-        assert!(rt;
-            run_over(&rt, rt.alloc(), &found, told, files)? == (*status, true),
-            "{told}"
-        );
+fn jobs_may_have_256_pages_and_so_many_bytes(rt: HostRuntime) {
+    for job in JOBS {
+        judge(&rt, job_ends(&rt, rt.alloc(), *job), job.3, job.1 as u64);
     }
-    Ok(())
 }

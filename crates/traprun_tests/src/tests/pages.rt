@@ -1,18 +1,17 @@
-use super::worked::{DARKER_SIDE, WIDE};
-use super::{DISABLED, INKS};
+use super::{DARKER_SIDE, DISABLED, INKS, Pieces, WIDE, judge};
 use job_pages::page::page_job;
 use job_pages::run::page_count;
 use job_reader::job::Job;
 use ps_tokens::LONGEST_JOB;
 use ps_tokens::faults::{FaultKind, JobFault, JobRefusal};
-use std::alloc::{AllocError, Global};
-use std::test::Fail;
+use std::alloc::Global;
+use std::process::Abort;
 
 // The trap width and the sliding limit of a page's zone 0, in ten-thousandths; or the fault of its job.
 type Limits = Result<(u32, u32), JobFault>;
 
 // The pieces of a job, how many pages it has, and of a page what it begins with, `None` where there is no such page.
-const PAGES: &[(&[&[u8]], u32, u32, Option<Limits>)] = &[
+const PAGES: &[(Pieces<'static>, u32, u32, Option<Limits>)] = &[
     (&[INKS, WIDE, DARKER_SIDE], 2, 0, Some(Ok((20_000, 7_000)))),
     (&[INKS, WIDE, DARKER_SIDE], 2, 1, Some(Ok((20_000, 10_000)))),
     (&[INKS, WIDE, DARKER_SIDE], 2, 2, None),
@@ -60,23 +59,19 @@ fn count_of(alloc: Global, job: &[u8]) -> Option<u32> {
     page_count(alloc, job).ok()
 }
 
-// How many pages the job of these pieces has, and what that page of it says.
-fn read(
+// Whether the job of these pieces has so many pages, and that page of it says this.
+fn says(
+    rt: &impl Abort,
     alloc: Global,
-    pieces: &[&[u8]],
-    page: u32,
-) -> Result<(Option<u32>, Option<Limits>), AllocError> {
-    let job = pieces.concat(alloc)?;
-    Ok((count_of(alloc, &job), page_limits(alloc, &job, page)))
+    (pieces, count, page, limits): (Pieces<'_>, u32, u32, Option<Limits>),
+) -> bool {
+    let job = pieces.concat(alloc).expect(rt, "no memory");
+    count_of(alloc, &job) == Some(count) && page_limits(alloc, &job, page) == limits
 }
 
 #[test]
-fn each_page_has_its_own_job(rt: HostRuntime) -> Result<(), Fail> {
-    for (row, (pieces, count, page, limits)) in PAGES.iter().enumerate() {
-        assert!(rt;
-            read(rt.alloc(), pieces, *page)? == (Some(*count), *limits),
-            "row {row}"
-        );
+fn each_page_has_its_own_job(rt: HostRuntime) {
+    for (row, page) in PAGES.iter().enumerate() {
+        judge(&rt, says(&rt, rt.alloc(), *page), "row", row as u64);
     }
-    Ok(())
 }

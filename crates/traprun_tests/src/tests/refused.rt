@@ -1,21 +1,18 @@
-use super::{AS_IT_WAS, CYAN, DISABLED, INKS, MAGENTA, SHOW, Wanted, case_of, ends};
-use std::alloc::{AllocError, Global};
+use super::{CYAN, DISABLED, Look, MAGENTA, Pieces, SHOW, UNTRAPPED_REPORT, files_end, judge};
+use std::alloc::Global;
 use std::process::Abort;
-use std::test::Fail;
 use std::thread::Threads;
 
-type Pieces = &'static [&'static [u8]];
-
 // Three images of each plate.
-const ALL_CYAN: Pieces = &[CYAN, CYAN, CYAN];
+const ALL_CYAN: Pieces<'static> = &[CYAN, CYAN, CYAN];
 
-const ALL_MAGENTA: Pieces = &[MAGENTA, MAGENTA, MAGENTA];
+const ALL_MAGENTA: Pieces<'static> = &[MAGENTA, MAGENTA, MAGENTA];
 
 // A job of three pages.
-const THREE: Pieces = &[DISABLED, SHOW, SHOW];
+const THREE: Pieces<'static> = &[DISABLED, SHOW, SHOW];
 
 // Jobs that are refused over these images, what is told, and how many pages were written whole before.
-const JOBS: &[(Pieces, &str, usize)] = &[
+const JOBS: &[(Pieces<'static>, &str, usize)] = &[
     (
         &[b"5 showpage", SHOW],
         "page 0: job: WrongOperands at 2\n",
@@ -76,7 +73,7 @@ const JOBS: &[(Pieces, &str, usize)] = &[
 ];
 
 // Plates' files that are refused under the job of three pages, by the images of both.
-const PLATES: &[(Pieces, Pieces, &str, usize)] = &[
+const PLATES: &[(Pieces<'static>, Pieces<'static>, &str, usize)] = &[
     (
         &[b"P6\n6 1\n255\n......", CYAN, CYAN],
         ALL_MAGENTA,
@@ -156,7 +153,7 @@ const PLATES: &[(Pieces, Pieces, &str, usize)] = &[
 ];
 
 // Runs with two faults, and the one that comes first: a page's job before its images, and a plate before the next one.
-const TWO_FAULTS: &[(&[Pieces], u8, &str)] = &[
+const TWO_FAULTS: &[(&[Pieces<'static>], u8, &str)] = &[
     (
         &[&[DISABLED, b" 5 showpage"], &[CYAN], ALL_MAGENTA],
         3,
@@ -171,7 +168,15 @@ const TWO_FAULTS: &[(&[Pieces], u8, &str)] = &[
 
 // The files of three pages on which no zone is enabled.
 const FILES: &[&[u8]] = &[
-    CYAN, MAGENTA, AS_IT_WAS, CYAN, MAGENTA, AS_IT_WAS, CYAN, MAGENTA, AS_IT_WAS,
+    CYAN,
+    MAGENTA,
+    UNTRAPPED_REPORT,
+    CYAN,
+    MAGENTA,
+    UNTRAPPED_REPORT,
+    CYAN,
+    MAGENTA,
+    UNTRAPPED_REPORT,
 ];
 
 // Those of the first so many pages.
@@ -179,52 +184,48 @@ fn whole(pages: usize) -> &'static [&'static [u8]] {
     FILES.get(..pages.saturating_mul(3)).unwrap_or(FILES)
 }
 
+// The tables stand in functions of their own: a function that names one is proved with all its rows.
+fn jobs() -> &'static [(Pieces<'static>, &'static str, usize)] {
+    JOBS
+}
+
+fn plates() -> &'static [(Pieces<'static>, Pieces<'static>, &'static str, usize)] {
+    PLATES
+}
+
 // Whether the run is refused so, and the pages before are whole.
 fn is_refused(
     rt: &(impl Abort + Threads + Sync),
     alloc: Global,
-    files: &[&[&[u8]]],
-    (status, told, pages): (u8, &str, usize),
-) -> Result<bool, AllocError> {
-    let wanted = Wanted {
-        status,
-        told,
-        files: whole(pages),
-    };
-    ends(rt, alloc, case_of(files), wanted)
+    files: &[Pieces<'_>],
+    status: u8,
+    (told, pages): (&str, usize),
+) -> bool {
+    files_end(rt, alloc, files, status, Look::Left(told, whole(pages)))
 }
 
 #[test]
-fn a_job_that_is_refused_leaves_the_pages_before_whole(rt: HostRuntime) -> Result<(), Fail> {
-    for (job, told, pages) in JOBS {
+fn a_job_that_is_refused_leaves_the_pages_before_whole(rt: HostRuntime) {
+    for (job, told, pages) in jobs() {
         let files = [*job, ALL_CYAN, ALL_MAGENTA];
-        assert!(rt;
-            is_refused(&rt, rt.alloc(), &files, (3, told, *pages))?,
-            "{told}"
-        );
+        let is = is_refused(&rt, rt.alloc(), &files, 3, (told, *pages));
+        judge(&rt, is, told, *pages as u64);
     }
-    Ok(())
 }
 
 #[test]
-fn a_plate_that_is_refused_leaves_the_pages_before_whole(rt: HostRuntime) -> Result<(), Fail> {
-    for (cyan, magenta, told, pages) in PLATES {
+fn a_plate_that_is_refused_leaves_the_pages_before_whole(rt: HostRuntime) {
+    for (cyan, magenta, told, pages) in plates() {
         let files = [THREE, *cyan, *magenta];
-        assert!(rt;
-            is_refused(&rt, rt.alloc(), &files, (4, told, *pages))?,
-            "{told}"
-        );
+        let is = is_refused(&rt, rt.alloc(), &files, 4, (told, *pages));
+        judge(&rt, is, told, *pages as u64);
     }
-    Ok(())
 }
 
 #[test]
-fn the_first_of_two_faults_is_told(rt: HostRuntime) -> Result<(), Fail> {
+fn the_first_of_two_faults_is_told(rt: HostRuntime) {
     for (files, status, told) in TWO_FAULTS {
-        assert!(rt;
-            is_refused(&rt, rt.alloc(), files, (*status, told, 1))?,
-            "{told}"
-        );
+        let is = is_refused(&rt, rt.alloc(), files, *status, (told, 1));
+        judge(&rt, is, told, 1);
     }
-    Ok(())
 }

@@ -1,7 +1,6 @@
-use super::{AS_IT_WAS, CYAN, Case, DISABLED, MAGENTA, Wanted, ends};
-use std::alloc::{AllocError, Global};
+use super::{CYAN, Case, Look, MAGENTA, UNTRAPPED_REPORT, USUAL, ends, judge};
+use std::alloc::Global;
 use std::process::Abort;
-use std::test::Fail;
 use std::thread::Threads;
 
 const USAGE: &str = "usage: traprun WORKERS BAND JOB REPORT NAME:IN:OUT ...\n";
@@ -48,61 +47,42 @@ const MISSING: &[(&str, &str)] = &[
     ),
 ];
 
+fn wrong_words() -> &'static [&'static str] {
+    WRONG
+}
+
 // Whether a run of one page by these words ends so.
-fn end_so(
+fn words_end(
     rt: &(impl Abort + Threads + Sync),
     alloc: Global,
     words: &str,
-    wanted: Wanted<'_>,
-) -> Result<bool, AllocError> {
-    let case = Case {
-        words,
-        files: &[&[DISABLED], &[CYAN], &[MAGENTA]],
-        tray_fails: None,
-        rack_fails: None,
-    };
-    ends(rt, alloc, case, wanted)
+    status: u8,
+    look: Look<'_>,
+) -> bool {
+    ends(rt, alloc, Case { words, ..USUAL }, status, look)
 }
 
-fn refused(status: u8, told: &str) -> Wanted<'_> {
-    Wanted {
-        status,
-        told,
-        files: &[],
+#[test]
+fn words_that_mean_no_run_are_refused(rt: HostRuntime) {
+    for words in wrong_words() {
+        let is = words_end(&rt, rt.alloc(), words, 2, Look::Left(USAGE, &[]));
+        judge(&rt, is, words, 2);
     }
 }
 
 #[test]
-fn words_that_mean_no_run_are_refused(rt: HostRuntime) -> Result<(), Fail> {
-    for words in WRONG {
-        assert!(rt;
-            end_so(&rt, rt.alloc(), words, refused(2, USAGE))?,
-            "{words}"
-        );
-    }
-    Ok(())
-}
-
-#[test]
-fn a_file_that_is_not_there_is_a_read_fault(rt: HostRuntime) -> Result<(), Fail> {
+fn a_file_that_is_not_there_is_a_read_fault(rt: HostRuntime) {
     for (words, line) in MISSING {
-        assert!(rt;
-            end_so(&rt, rt.alloc(), words, refused(5, line))?,
-            "{words}"
-        );
+        let is = words_end(&rt, rt.alloc(), words, 5, Look::Left(line, &[]));
+        judge(&rt, is, words, 5);
     }
-    Ok(())
 }
 
+const WHOLE: Look<'static> = Look::Left("", &[CYAN, MAGENTA, UNTRAPPED_REPORT]);
+
 #[test]
-fn other_words_mean_a_run(rt: HostRuntime) -> Result<(), Fail> {
-    let wanted = Wanted {
-        status: 0,
-        told: "",
-        files: &[CYAN, MAGENTA, AS_IT_WAS],
-    };
+fn other_words_mean_a_run(rt: HostRuntime) {
     for words in RIGHT {
-        assert!(rt; end_so(&rt, rt.alloc(), words, wanted)?, "{words}");
+        judge(&rt, words_end(&rt, rt.alloc(), words, 0, WHOLE), words, 0);
     }
-    Ok(())
 }

@@ -1,25 +1,21 @@
-use super::{AS_IT_WAS, CYAN, DISABLED, INKS, MAGENTA, SHOW, Wanted, case_of, ends};
-use std::test::Fail;
+use super::{
+    CYAN, DARKER_SIDE, DISABLED, INKS, Look, MAGENTA, Pieces, SHOW, TRAPPED_CYAN, TRAPPED_MAGENTA,
+    TRAPPED_REPORT, UNSLID_CYAN, UNSLID_REPORT, UNTRAPPED_REPORT, WIDE, files_end, judge,
+};
+use std::alloc::Global;
+use std::process::Abort;
+use std::thread::Threads;
 
 // The pieces of a run's job, and those of both plates' files.
-type Files = &'static [&'static [&'static [u8]]];
+type Files = &'static [Pieces<'static>];
 
-pub(super) const WIDE: &[u8] = b"<< /TrapWidth 2 >> settrapparams showpage";
-
-pub(super) const DARKER_SIDE: &[u8] = b" << /SlidingTrapLimit 1 >> settrapparams showpage";
-
-// What the edge between both plates becomes: a trap on both sides of it, or one of two samples on its darker side alone.
-const SLID_CYAN: &[u8] = b"P5\n6 1\n255\n\0\0\0\0\xFF\xFF";
-
-const SLID_MAGENTA: &[u8] = b"P5\n6 1\n255\n\xFF\xFF\0\0\0\0";
-
-const SLID: &[u8] =
-    b"trap report\npage 6 1 255 plates 2\nzone 0 samples 6 changed 2\nedges 1\nplate Cyan changed 1\nplate Magenta changed 1\nend\n";
-
-const SPREAD_CYAN: &[u8] = b"P5\n6 1\n255\n\0\0\0\0\0\xFF";
-
-const SPREAD: &[u8] =
-    b"trap report\npage 6 1 255 plates 2\nzone 0 samples 6 changed 2\nedges 1\nplate Cyan changed 2\nplate Magenta changed 0\nend\n";
+// How a run ends: its status, what is told, and the files of all pages in their order.
+#[derive(Clone, Copy)]
+struct Wanted {
+    status: u8,
+    told: &'static str,
+    files: &'static [&'static [u8]],
+}
 
 // A zone of five samples, and two zones, of which the lower one is not enabled.
 const ZONE: &[u8] =
@@ -38,7 +34,7 @@ const OTHER_INKS: &[u8] =
 // A step of half an ink, which is no edge where the limit of that ink is above it.
 const PALE_CYAN: &[u8] = b"P5\n6 1\n255\n\x7F\x7F\x7F\xFF\xFF\xFF";
 
-const SPREAD_PALE_CYAN: &[u8] = b"P5\n6 1\n255\n\x7F\x7F\x7F\x7F\x7F\xFF";
+const UNSLID_PALE_CYAN: &[u8] = b"P5\n6 1\n255\n\x7F\x7F\x7F\x7F\x7F\xFF";
 
 const CYAN_LIMIT: &[u8] =
     b" << /ColorantZoneDetails << /Cyan << /StepLimit 0.6 >> >> >> settrapparams showpage";
@@ -46,10 +42,8 @@ const CYAN_LIMIT: &[u8] =
 const MAGENTA_LIMIT: &[u8] =
     b" << /ColorantZoneDetails << /Magenta << /StepLimit 0.6 >> >> >> settrapparams showpage";
 
-const NO_EDGE: &[u8] = AS_IT_WAS;
-
 // Runs over these files, and how they end.
-const RUNS: &[(Files, Wanted<'static>)] = &[
+const RUNS: &[(Files, Wanted)] = &[
     // the parameters of a page go on to the next one
     (
         &[
@@ -60,7 +54,14 @@ const RUNS: &[(Files, Wanted<'static>)] = &[
         Wanted {
             status: 0,
             told: "",
-            files: &[SLID_CYAN, SLID_MAGENTA, SLID, SPREAD_CYAN, MAGENTA, SPREAD],
+            files: &[
+                TRAPPED_CYAN,
+                TRAPPED_MAGENTA,
+                TRAPPED_REPORT,
+                UNSLID_CYAN,
+                MAGENTA,
+                UNSLID_REPORT,
+            ],
         },
     ),
     (
@@ -68,7 +69,7 @@ const RUNS: &[(Files, Wanted<'static>)] = &[
         Wanted {
             status: 4,
             told: "page 1: plate 0: Ends\n",
-            files: &[SLID_CYAN, SLID_MAGENTA, SLID],
+            files: &[TRAPPED_CYAN, TRAPPED_MAGENTA, TRAPPED_REPORT],
         },
     ),
     (
@@ -80,7 +81,7 @@ const RUNS: &[(Files, Wanted<'static>)] = &[
         Wanted {
             status: 3,
             told: "page 1: job: WrongOperands at 46\n",
-            files: &[CYAN, MAGENTA, AS_IT_WAS],
+            files: &[CYAN, MAGENTA, UNTRAPPED_REPORT],
         },
     ),
     (
@@ -88,7 +89,7 @@ const RUNS: &[(Files, Wanted<'static>)] = &[
         Wanted {
             status: 4,
             told: "run: plate 0: Extra\n",
-            files: &[CYAN, MAGENTA, AS_IT_WAS],
+            files: &[CYAN, MAGENTA, UNTRAPPED_REPORT],
         },
     ),
     // a page without an enabled zone between two others
@@ -107,15 +108,15 @@ const RUNS: &[(Files, Wanted<'static>)] = &[
             status: 0,
             told: "",
             files: &[
-                SLID_CYAN,
-                SLID_MAGENTA,
-                SLID,
+                TRAPPED_CYAN,
+                TRAPPED_MAGENTA,
+                TRAPPED_REPORT,
                 CYAN,
                 MAGENTA,
-                AS_IT_WAS,
-                SLID_CYAN,
-                SLID_MAGENTA,
-                SLID,
+                UNTRAPPED_REPORT,
+                TRAPPED_CYAN,
+                TRAPPED_MAGENTA,
+                TRAPPED_REPORT,
             ],
         },
     ),
@@ -130,10 +131,10 @@ const RUNS: &[(Files, Wanted<'static>)] = &[
             status: 0,
             told: "",
             files: &[
-                SLID_CYAN,
-                SLID_MAGENTA,
-                SLID,
-                b"P5\n6 1\n255\n\0\0\0\0\xFF\xFF",
+                TRAPPED_CYAN,
+                TRAPPED_MAGENTA,
+                TRAPPED_REPORT,
+                TRAPPED_CYAN,
                 MAGENTA,
                 b"trap report\npage 6 1 255 plates 2\nzone 0 samples 6 changed 1\nedges 1\nplate Cyan changed 1\nplate Magenta changed 0\nend\n",
                 CYAN,
@@ -153,18 +154,18 @@ const RUNS: &[(Files, Wanted<'static>)] = &[
             status: 0,
             told: "",
             files: &[
-                SPREAD_PALE_CYAN,
+                UNSLID_PALE_CYAN,
                 MAGENTA,
-                SPREAD,
+                UNSLID_REPORT,
                 PALE_CYAN,
                 MAGENTA,
-                NO_EDGE,
+                UNTRAPPED_REPORT,
                 PALE_CYAN,
                 MAGENTA,
-                NO_EDGE,
-                SPREAD_PALE_CYAN,
+                UNTRAPPED_REPORT,
+                UNSLID_PALE_CYAN,
                 MAGENTA,
-                SPREAD,
+                UNSLID_REPORT,
             ],
         },
     ),
@@ -179,14 +180,14 @@ const RUNS: &[(Files, Wanted<'static>)] = &[
             status: 0,
             told: "",
             files: &[
-                SLID_CYAN,
-                SLID_MAGENTA,
+                TRAPPED_CYAN,
+                TRAPPED_MAGENTA,
                 b"trap report\npage 6 1 255 plates 2\nzone 0 samples 1 changed 0\nzone 1 samples 5 changed 2\nedges 1\nplate Cyan changed 1\nplate Magenta changed 1\nend\n",
-                SLID_CYAN,
-                SLID_MAGENTA,
-                SLID,
-                SLID_CYAN,
-                SLID_MAGENTA,
+                TRAPPED_CYAN,
+                TRAPPED_MAGENTA,
+                TRAPPED_REPORT,
+                TRAPPED_CYAN,
+                TRAPPED_MAGENTA,
                 b"trap report\npage 6 1 255 plates 2\nzone 0 samples 0 changed 0\nzone 1 samples 2 changed 0\nzone 2 samples 4 changed 2\nedges 1\nplate Cyan changed 1\nplate Magenta changed 1\nend\n",
             ],
         },
@@ -202,9 +203,9 @@ const RUNS: &[(Files, Wanted<'static>)] = &[
             status: 0,
             told: "",
             files: &[
-                SLID_CYAN,
-                SLID_MAGENTA,
-                SLID,
+                TRAPPED_CYAN,
+                TRAPPED_MAGENTA,
+                TRAPPED_REPORT,
                 b"P5\n2 1\n100\nKK",
                 b"P5\n2 1\n100\nKK",
                 b"trap report\npage 2 1 100 plates 2\nzone 0 samples 2 changed 2\nedges 1\nplate Cyan changed 1\nplate Magenta changed 1\nend\n",
@@ -213,13 +214,24 @@ const RUNS: &[(Files, Wanted<'static>)] = &[
     ),
 ];
 
+fn runs() -> &'static [(Files, Wanted)] {
+    RUNS
+}
+
+fn run_ends(
+    rt: &(impl Abort + Threads + Sync),
+    alloc: Global,
+    files: Files,
+    wanted: Wanted,
+) -> bool {
+    let look = Look::Left(wanted.told, wanted.files);
+    files_end(rt, alloc, files, wanted.status, look)
+}
+
 #[test]
-fn each_page_is_that_of_its_own_job_and_images(rt: HostRuntime) -> Result<(), Fail> {
-    for (row, (files, wanted)) in RUNS.iter().enumerate() {
-        assert!(rt;
-            ends(&rt, rt.alloc(), case_of(files), *wanted)?,
-            "run {row}"
-        );
+fn each_page_is_that_of_its_own_job_and_images(rt: HostRuntime) {
+    for (row, (files, wanted)) in runs().iter().enumerate() {
+        let is = run_ends(&rt, rt.alloc(), files, *wanted);
+        judge(&rt, is, "run", row as u64);
     }
-    Ok(())
 }
