@@ -4,61 +4,110 @@ mod windows;
 mod worked;
 
 use lists::list::List;
-use outside::distinct_names::have_distinct_names;
 use outside::mem_file::FileList;
 use outside::mem_rack::MemRack;
 use outside::mem_tray::MemTray;
 use press_check::top::presscheck_main;
-use std::alloc::{AllocError, Global};
+use std::alloc::Global;
 use std::process::Abort;
-use test_files::{CYAN, MAGENTA, calls, file_of, words_of};
-
-const TRAPPED: &str =
-    "<< /HWResolution [72 72] /TrappingDetails << /Type 1001 /ColorantDetails << /Cyan << /NeutralDensity 0.61 >> /Magenta << /NeutralDensity 0.76 >> /Yellow << /NeutralDensity 0.16 >> /Black << /NeutralDensity 1.70 >> >> >> >> setpagedevice << /TrapWidth 2 >> settrapparams showpage";
-
-const DISABLED: &str = "<< /Enabled false >> settrapparams showpage";
+use test_files::{CYAN, DISABLED, INKS, MAGENTA, WIDE, put_file, rack_of, tray_of, words_of};
 
 // the files that are read: the job, and the plates in order
-const READ: &[&str] = &["job", "in0", "in1", "in2"];
+const READ: &[&str] = &[
+    "job", "in0", "in1", "in2", "in3", "in4", "in5", "in6", "in7", "in8", "in9", "in10", "in11",
+    "in12", "in13", "in14", "in15",
+];
 
 const USAGE: &str = "usage: presscheck RADIUS JOB NAME:IN ...\n";
 
-// The job and the plates, by the names of READ.
-fn files_of(alloc: Global, job: &str, plates: &[&[u8]]) -> Result<FileList, AllocError> {
-    let mut files = Vec::new(alloc);
-    files.push(file_of(alloc, "job", &[job.as_bytes()])?)?;
-    for (name, bytes) in READ.iter().skip(1).zip(plates.iter()) {
-        files.push(file_of(alloc, name, &[*bytes])?)?;
+const WORDS: &str = "1 job Cyan:in0 Magenta:in1";
+
+// The pieces of jobs.
+const TRAPPED: &[&[u8]] = &[INKS, WIDE];
+
+const UNTRAPPED: &[&[u8]] = &[DISABLED];
+
+// A run of the program over files in memory: its words, the pieces of its job, its plates, and a call of the tray or of the rack
+// that fails.
+#[derive(Clone, Copy)]
+struct Case<'a> {
+    words: &'a str,
+    job: &'a [&'a [u8]],
+    plates: &'a [&'a [u8]],
+    tray_fails: Option<u64>,
+    rack_fails: Option<u64>,
+}
+
+const USUAL: Case<'static> = Case {
+    words: WORDS,
+    job: TRAPPED,
+    plates: &[CYAN, MAGENTA],
+    tray_fails: None,
+    rack_fails: None,
+};
+
+// Stops the test where an answer is wrong, and names the row that it is of.
+fn judge(rt: &impl Abort, is_right: bool, row: &str, number: u64) {
+    assert!(rt; is_right, "{row}, {number}");
+}
+
+// Adds the file of that number of READ.
+fn put(rt: &impl Abort, alloc: Global, files: &mut FileList, number: usize, pieces: &[&[u8]]) {
+    if let Some(name) = READ.get(number) {
+        assert!(rt; put_file(alloc, files, name, pieces).is_ok(), "no memory");
     }
-    Ok(List::from_vec(files))
 }
 
-fn tray_of(
-    rt: &impl Abort,
-    alloc: Global,
-    files: FileList,
-    fails: Option<u64>,
-) -> Result<MemTray, AllocError> {
-    let fails = calls(alloc, fails)?;
-    assert!(rt; have_distinct_names(files.as_slice()));
-    Ok(MemTray::new(alloc, files, 64, fails))
+// The job and the plates, by the names of READ.
+fn files_of(rt: &impl Abort, alloc: Global, case: Case<'_>) -> FileList {
+    let mut files = List::new(alloc);
+    put(rt, alloc, &mut files, 0, case.job);
+    for (plate, bytes) in case.plates.iter().enumerate() {
+        put(rt, alloc, &mut files, plate.saturating_add(1), &[*bytes]);
+    }
+    files
 }
 
-fn rack_of(alloc: Global, fails: Option<u64>) -> Result<MemRack, AllocError> {
-    Ok(MemRack::new(alloc, 50, 1000, calls(alloc, fails)?))
-}
-
-// Whether the run ends with the status and the text told, and created none of the files that it reads.
-fn ends(
+// The status, and whether the text is told and none of the files that are read was created.
+fn ended(
     alloc: Global,
     words: &[String],
-    mut tray: MemTray,
-    mut rack: MemRack,
-    wanted: u8,
+    tray: &mut MemTray,
+    rack: &mut MemRack,
     text: &str,
-) -> bool {
-    let status = presscheck_main(alloc, words, &mut tray, &mut rack);
-    status == wanted && rack.told() == text.as_bytes() && is_empty(&rack)
+) -> (u8, bool) {
+    let status = presscheck_main(alloc, words, tray, rack);
+    (status, rack.told() == text.as_bytes() && is_empty(rack))
+}
+
+fn ended_on_rack(
+    rt: &impl Abort,
+    alloc: Global,
+    words: &[String],
+    tray: &mut MemTray,
+    case: Case<'_>,
+    text: &str,
+) -> (u8, bool) {
+    let mut rack = rack_of(alloc, 50, 1000, case.rack_fails).expect(rt, "no memory");
+    ended(alloc, words, tray, &mut rack, text)
+}
+
+fn ended_on_files(
+    rt: &impl Abort,
+    alloc: Global,
+    words: &[String],
+    case: Case<'_>,
+    text: &str,
+) -> (u8, bool) {
+    let files = files_of(rt, alloc, case);
+    let mut tray = tray_of(alloc, files, 64, case.tray_fails).expect(rt, "no tray");
+    ended_on_rack(rt, alloc, words, &mut tray, case, text)
+}
+
+// Whether a run ends with the status and the text told, and created none of the files that it reads.
+fn ends(rt: &impl Abort, alloc: Global, case: Case<'_>, status: u8, text: &str) -> bool {
+    let words = words_of(alloc, case.words).expect(rt, "no memory");
+    ended_on_files(rt, alloc, &words, case, text) == (status, true)
 }
 
 fn is_empty(rack: &MemRack) -> bool {
@@ -68,9 +117,4 @@ fn is_empty(rack: &MemRack) -> bool {
         }
     }
     true
-}
-
-// What is told where so many samples are at risk, before and after trapping.
-fn told(alloc: Global, radius: u32, before: u32, after: u32) -> Result<String, AllocError> {
-    format!(in alloc; "press check\nradius {radius}\nbefore {before}\nafter {after}\nend\n")
 }

@@ -3,18 +3,19 @@ ghost use Rattle.page_model.specs.declared.parts.Plane.{Plane};
 ghost use Rattle.page_model.specs.Conditions.{IsPlane};
 ghost use Rattle.plane_shapes.specs.Shapes.{AreOneShape, wide, tall};
 
+use super::judge;
 use lists::list::List;
 use misregister::sheet::Sheet;
 use misregister::{RiskBuf, risk_count};
 use page_model::parts::{Plane, PlaneList};
 use page_model::steps::Steps;
-use std::alloc::Global;
+use std::alloc::{AllocError, Global};
 use std::marker::Brand;
+use std::process::Abort;
 use std::sync::ledger::{Blank, Ledger};
-use std::test::Fail;
 
-/// Samples by chance, of eight so many without ink.
-fn chance_tints(alloc: Global, count: usize, seed: u32, bare: u32) -> Result<List<u16>, Fail>
+/// Random samples, of eight so many without ink.
+fn random_tints(alloc: Global, count: usize, seed: u32, bare: u32) -> Result<List<u16>, AllocError>
     ensures count { IfOk result (λ tints. length tints ≡ count) }
     ensures below { IfOk result (λ tints. All (λ tint. tint ≤ 255) tints) }
 {
@@ -28,7 +29,13 @@ fn chance_tints(alloc: Global, count: usize, seed: u32, bare: u32) -> Result<Lis
     Ok(List::from_vec(tints))
 }
 
-fn chance_plane(alloc: Global, width: u32, height: u32, seed: u32, bare: u32) -> Result<Plane, Fail>
+fn random_plane(
+    alloc: Global,
+    width: u32,
+    height: u32,
+    seed: u32,
+    bare: u32,
+) -> Result<Plane, AllocError>
     requires some_width { 1 ≤ width }
     requires narrow { width ≤ 40 }
     requires some_height { 1 ≤ height }
@@ -38,7 +45,7 @@ fn chance_plane(alloc: Global, width: u32, height: u32, seed: u32, bare: u32) ->
     ensures tall { IfOk result (λ plane. plane.height ≡ height) }
     ensures deep { IfOk result (λ plane. plane.maxval ≡ 255) }
 {
-    let tints = chance_tints(alloc, (width * height) as usize, seed, bare)?;
+    let tints = random_tints(alloc, (width * height) as usize, seed, bare)?;
     Ok(Plane {
         width,
         height,
@@ -48,13 +55,13 @@ fn chance_plane(alloc: Global, width: u32, height: u32, seed: u32, bare: u32) ->
 }
 
 /// Planes of one shape, each with other samples.
-fn chance_planes(
+fn random_planes(
     alloc: Global,
     width: u32,
     height: u32,
     plates: u32,
     bare: u32,
-) -> Result<PlaneList, Fail>
+) -> Result<PlaneList, AllocError>
     requires some_width { 1 ≤ width }
     requires narrow { width ≤ 40 }
     requires some_height { 1 ≤ height }
@@ -68,7 +75,7 @@ fn chance_planes(
 {
     let mut planes = Vec::new(alloc);
     for c in 0..plates {
-        planes.push(chance_plane(alloc, width, height, 977 * c + width, bare)?)?;
+        planes.push(random_plane(alloc, width, height, 977 * c + width, bare)?)?;
     }
     Ok(List::from_vec(planes))
 }
@@ -226,18 +233,18 @@ fn first_difference(
     None
 }
 
-/// The first radius at which the counts of a page by chance differ, 99 where the page is none.
+/// The first radius at which the counts of a random page differ, 99 where the page is none.
 fn case(
     alloc: Global,
     width: u32,
     height: u32,
     plates: u32,
     bare: u32,
-) -> Result<Option<u32>, Fail> {
+) -> Result<Option<u32>, AllocError> {
     if width < 1 || width > 40 || height < 1 || height > 40 || plates < 1 || plates > 16 {
         return Ok(Some(99));
     }
-    let planes = chance_planes(alloc, width, height, plates, bare)?;
+    let planes = random_planes(alloc, width, height, plates, bare)?;
     Ok(first_difference(alloc, &planes, width, height, plates))
 }
 
@@ -248,11 +255,11 @@ fn told_case(
     height: u32,
     plates: u32,
     bare: u32,
-) -> Result<Option<u32>, Fail> {
+) -> Result<Option<u32>, AllocError> {
     if width < 1 || width > 40 || height < 1 || height > 40 || plates < 1 || plates > 16 {
         return Ok(Some(99));
     }
-    let planes = chance_planes(alloc, width, height, plates, bare)?;
+    let planes = random_planes(alloc, width, height, plates, bare)?;
     Ok(first_misread(&planes, height, plates))
 }
 
@@ -274,33 +281,49 @@ fn first_misread(planes: &PlaneList, height: u32, plates: u32) -> Option<u32>
     None
 }
 
-#[test]
-fn a_sheet_says_of_each_sample_whether_it_has_ink(rt: HostRuntime) -> Result<(), Fail> {
-    for (width, height, plates, bare) in [(1, 1, 1, 0), (7, 5, 3, 1), (5, 7, 16, 4)] {
-        let found = told_case(rt.alloc(), width, height, plates, bare)?;
-        assert!(rt; found == None, "{width} by {height}, {plates} plates");
-    }
-    Ok(())
+// The width, the height, the plates, and how many samples of eight are without ink.
+type Random = (u32, u32, u32, u32);
+
+fn is_told(rt: &impl Abort, alloc: Global, (width, height, plates, bare): Random) -> bool {
+    let found = told_case(alloc, width, height, plates, bare).expect(rt, "no memory");
+    found == None
 }
 
 #[test]
-fn pages_by_chance_are_counted_as_the_definition_says(rt: HostRuntime) -> Result<(), Fail> {
-    for (width, height, plates, bare) in [
-        (1, 1, 1, 0),
-        (1, 1, 2, 8),
-        (40, 1, 2, 1),
-        (1, 40, 2, 1),
-        (2, 3, 3, 4),
-        (7, 5, 1, 1),
-        (5, 7, 1, 2),
-        (17, 16, 3, 1),
-        (16, 18, 2, 1),
-        (33, 34, 2, 1),
-        (9, 9, 16, 2),
-        (40, 40, 4, 1),
-    ] {
-        let found = case(rt.alloc(), width, height, plates, bare)?;
-        assert!(rt; found == None, "{width} by {height}, {plates} plates");
+fn a_sheet_says_of_each_sample_whether_it_has_ink(rt: HostRuntime) {
+    for page in [(1, 1, 1, 0), (7, 5, 3, 1), (5, 7, 16, 4)] {
+        judge(
+            &rt,
+            is_told(&rt, rt.alloc(), page),
+            "width",
+            u64::from(page.0),
+        );
     }
-    Ok(())
+}
+
+const PAGES: &[Random] = &[
+    (1, 1, 1, 0),
+    (1, 1, 2, 8),
+    (40, 1, 2, 1),
+    (1, 40, 2, 1),
+    (2, 3, 3, 4),
+    (7, 5, 1, 1),
+    (5, 7, 1, 2),
+    (17, 16, 3, 1),
+    (16, 18, 2, 1),
+    (33, 34, 2, 1),
+    (9, 9, 16, 2),
+    (40, 40, 4, 1),
+];
+
+fn is_counted(rt: &impl Abort, alloc: Global, (width, height, plates, bare): Random) -> bool {
+    let found = case(alloc, width, height, plates, bare).expect(rt, "no memory");
+    found == None
+}
+
+#[test]
+fn random_pages_are_counted_as_the_definition_says(rt: HostRuntime) {
+    for (row, page) in PAGES.iter().enumerate() {
+        judge(&rt, is_counted(&rt, rt.alloc(), *page), "page", row as u64);
+    }
 }

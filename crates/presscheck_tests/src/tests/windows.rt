@@ -1,57 +1,54 @@
-use super::{DISABLED, ends, file_of, rack_of, told, tray_of, words_of};
-use lists::list::List;
-use outside::mem_file::FileList;
-use std::alloc::{AllocError, Global};
+use super::{Case, UNTRAPPED, USUAL, ends, judge};
+use std::alloc::Global;
 use std::process::Abort;
-use std::test::Fail;
 
-// A page that each plate covers but for one sample.
-#[derive(Clone, Copy)]
-struct Covered<'a> {
-    header: &'a str,
-    count: usize,
-    // the place of each plate's sample without ink
-    bare: &'a [usize],
+// What is told where so many samples are at risk, before and after trapping.
+fn told(rt: &impl Abort, alloc: Global, radius: u32, count: u32) -> String {
+    format!(in alloc; "press check\nradius {radius}\nbefore {count}\nafter {count}\nend\n").expect(
+        rt,
+        "no memory",
+    )
 }
 
-const SIXTEEN: &str =
-    "A:in0 B:in1 C:in2 D:in3 E:in4 F:in5 G:in6 H:in7 I:in8 J:in9 K:in10 L:in11 M:in12 N:in13 O:in14 P:in15";
-
-fn plate_of(alloc: Global, page: Covered<'_>, bare: usize) -> Result<Vec<u8>, AllocError> {
-    let mut bytes = page.header.as_bytes().to_vec(alloc)?;
-    for place in 0..page.count {
-        bytes.push(if place == bare { 255 } else { 0 })?;
-    }
-    Ok(bytes)
-}
-
-// A job without trapping, and the plates.
-fn files_of(alloc: Global, page: Covered<'_>) -> Result<FileList, AllocError> {
-    let mut files = Vec::new(alloc);
-    files.push(file_of(alloc, "job", &[DISABLED.as_bytes()])?)?;
-    for (plate, bare) in page.bare.iter().enumerate() {
-        let name = format!(in alloc; "in{plate}")?;
-        let bytes = plate_of(alloc, page, *bare)?;
-        files.push(file_of(alloc, name.as_str(), &[bytes.as_slice()])?)?;
-    }
-    Ok(List::from_vec(files))
+fn line_of(rt: &impl Abort, alloc: Global, radius: u32, names: &str) -> String {
+    format!(in alloc; "{radius} job {names}").expect(rt, "no memory")
 }
 
 // Whether so many samples are told to be at risk, before and after.
-fn tells(
+fn tells(rt: &impl Abort, alloc: Global, case: Case<'_>, radius: u32, count: u32) -> bool {
+    let text = told(rt, alloc, radius, count);
+    ends(rt, alloc, case, 0, text.as_str())
+}
+
+// Whether so many samples of a page without trapping are.
+fn plates_tell(
     rt: &impl Abort,
     alloc: Global,
-    page: Covered<'_>,
-    plates: &str,
+    (names, plates): (&str, &[&[u8]]),
     radius: u32,
-    wanted: u32,
-) -> Result<bool, AllocError> {
-    let text = told(alloc, radius, wanted, wanted)?;
-    let line = format!(in alloc; "{radius} job {plates}")?;
-    let words = words_of(alloc, line.as_str())?;
-    let rack = rack_of(alloc, None)?;
-    let tray = tray_of(rt, alloc, files_of(alloc, page)?, None)?;
-    Ok(ends(alloc, &words, tray, rack, 0, text.as_str()))
+    count: u32,
+) -> bool {
+    let words = line_of(rt, alloc, radius, names);
+    let case = Case {
+        words: words.as_str(),
+        job: UNTRAPPED,
+        plates,
+        ..USUAL
+    };
+    tells(rt, alloc, case, radius, count)
+}
+
+fn add(rt: &impl Abort, bytes: &mut Vec<u8>, byte: u8) {
+    assert!(rt; bytes.push(byte).is_ok(), "no memory");
+}
+
+// A plate of five columns and four rows that is covered but for the sample at that place.
+fn plate_of(rt: &impl Abort, alloc: Global, bare: u32) -> Vec<u8> {
+    let mut bytes = b"P5\n5 4\n255\n".to_vec(alloc).expect(rt, "no memory");
+    for place in 0..20u32 {
+        add(rt, &mut bytes, if place == bare { 255 } else { 0 });
+    }
+    bytes
 }
 
 // How many places of a side lie in the window of one of them.
@@ -61,53 +58,82 @@ fn window(place: u32, side: u32, radius: u32) -> u32 {
 }
 
 // Each sample in the window of the bare one can be bared, but for itself, which has no ink.
-fn is_told(
-    rt: &impl Abort,
-    alloc: Global,
-    column: u32,
-    row: u32,
-    radius: u32,
-) -> Result<bool, AllocError> {
-    let place = row.saturating_mul(5).saturating_add(column);
-    let page = Covered {
-        header: "P5\n5 4\n255\n",
-        count: 20,
-        bare: &[place as usize],
-    };
-    let wanted = window(column, 5, radius)
+fn count_near(column: u32, row: u32, radius: u32) -> u32 {
+    window(column, 5, radius)
         .saturating_mul(window(row, 4, radius))
-        .saturating_sub(1);
-    tells(rt, alloc, page, "Cyan:in0", radius, wanted)
+        .saturating_sub(1)
 }
 
-#[test]
-fn a_window_ends_at_each_border(rt: HostRuntime) -> Result<(), Fail> {
-    for radius in [0, 1, 2, 3, 4, 5, 16] {
-        for row in 0..4 {
-            for column in 0..5 {
-                assert!(rt;
-                    is_told(&rt, rt.alloc(), column, row, radius)?,
-                    "{column} {row}, radius {radius}"
-                );
-            }
+fn is_told(rt: &impl Abort, alloc: Global, column: u32, row: u32, radius: u32) -> bool {
+    let plate = plate_of(rt, alloc, row.saturating_mul(5).saturating_add(column));
+    let count = count_near(column, row, radius);
+    plates_tell(rt, alloc, ("Cyan:in0", &[plate.as_slice()]), radius, count)
+}
+
+// Whether that holds of each place of a row.
+fn row_is_told(rt: &impl Abort, alloc: Global, row: u32, radius: u32) -> bool {
+    for column in 0..5 {
+        if !is_told(rt, alloc, column, row, radius) {
+            return false;
         }
     }
-    Ok(())
+    true
 }
 
-// Plate c of sixteen is bare in place c of seventeen: a place is at risk where it is near both the first and the last.
 #[test]
-fn sixteen_plates_shift_each_by_itself(rt: HostRuntime) -> Result<(), Fail> {
-    let page = Covered {
-        header: "P5\n17 1\n255\n",
-        count: 17,
-        bare: &[0, 1, 2, 3, 4, 5, 6, 7, 8, 9, 10, 11, 12, 13, 14, 15],
-    };
-    for (radius, wanted) in [(0, 0), (7, 0), (8, 2), (9, 4), (14, 14), (15, 16), (16, 17)] {
-        assert!(rt;
-            tells(&rt, rt.alloc(), page, SIXTEEN, radius, wanted)?,
-            "radius {radius}"
-        );
+fn a_window_ends_at_each_border(rt: HostRuntime) {
+    for radius in [0u32, 1, 2, 3, 4, 5, 16] {
+        for row in 0..4 {
+            let is = row_is_told(&rt, rt.alloc(), row, radius);
+            judge(
+                &rt,
+                is,
+                "radius and row",
+                u64::from(radius) * 10 + u64::from(row),
+            );
+        }
     }
-    Ok(())
+}
+
+const NAMES: &str =
+    "A:in0 B:in1 C:in2 D:in3 E:in4 F:in5 G:in6 H:in7 I:in8 J:in9 K:in10 L:in11 M:in12 N:in13 O:in14 P:in15";
+
+// Plate c of sixteen is bare in place c of seventeen: a place is at risk where it is near both the first and the last.
+const SIXTEEN: &[&[u8]] = &[
+    b"P5\n17 1\n255\n\xFF\0\0\0\0\0\0\0\0\0\0\0\0\0\0\0\0",
+    b"P5\n17 1\n255\n\0\xFF\0\0\0\0\0\0\0\0\0\0\0\0\0\0\0",
+    b"P5\n17 1\n255\n\0\0\xFF\0\0\0\0\0\0\0\0\0\0\0\0\0\0",
+    b"P5\n17 1\n255\n\0\0\0\xFF\0\0\0\0\0\0\0\0\0\0\0\0\0",
+    b"P5\n17 1\n255\n\0\0\0\0\xFF\0\0\0\0\0\0\0\0\0\0\0\0",
+    b"P5\n17 1\n255\n\0\0\0\0\0\xFF\0\0\0\0\0\0\0\0\0\0\0",
+    b"P5\n17 1\n255\n\0\0\0\0\0\0\xFF\0\0\0\0\0\0\0\0\0\0",
+    b"P5\n17 1\n255\n\0\0\0\0\0\0\0\xFF\0\0\0\0\0\0\0\0\0",
+    b"P5\n17 1\n255\n\0\0\0\0\0\0\0\0\xFF\0\0\0\0\0\0\0\0",
+    b"P5\n17 1\n255\n\0\0\0\0\0\0\0\0\0\xFF\0\0\0\0\0\0\0",
+    b"P5\n17 1\n255\n\0\0\0\0\0\0\0\0\0\0\xFF\0\0\0\0\0\0",
+    b"P5\n17 1\n255\n\0\0\0\0\0\0\0\0\0\0\0\xFF\0\0\0\0\0",
+    b"P5\n17 1\n255\n\0\0\0\0\0\0\0\0\0\0\0\0\xFF\0\0\0\0",
+    b"P5\n17 1\n255\n\0\0\0\0\0\0\0\0\0\0\0\0\0\xFF\0\0\0",
+    b"P5\n17 1\n255\n\0\0\0\0\0\0\0\0\0\0\0\0\0\0\xFF\0\0",
+    b"P5\n17 1\n255\n\0\0\0\0\0\0\0\0\0\0\0\0\0\0\0\xFF\0",
+];
+
+fn sixteen() -> (&'static str, &'static [&'static [u8]]) {
+    (NAMES, SIXTEEN)
+}
+
+#[test]
+fn sixteen_plates_shift_each_by_itself(rt: HostRuntime) {
+    for (radius, count) in [
+        (0u32, 0u32),
+        (7, 0),
+        (8, 2),
+        (9, 4),
+        (14, 14),
+        (15, 16),
+        (16, 17),
+    ] {
+        let is = plates_tell(&rt, rt.alloc(), sixteen(), radius, count);
+        judge(&rt, is, "radius", u64::from(radius));
+    }
 }

@@ -1,13 +1,12 @@
-use super::{CYAN, DISABLED, MAGENTA, TRAPPED, USAGE, ends, files_of, rack_of, tray_of, words_of};
-use std::alloc::{AllocError, Global};
+use super::{CYAN, Case, MAGENTA, TRAPPED, UNTRAPPED, USAGE, USUAL, ends, judge};
+use std::alloc::Global;
 use std::process::Abort;
-use std::test::Fail;
 
 // A check: its words, job and plates, and the status and the text told.
 #[derive(Clone, Copy)]
 struct Checked {
     words: &'static str,
-    job: &'static str,
+    job: &'static [&'static [u8]],
     plates: &'static [&'static [u8]],
     status: u8,
     text: &'static str,
@@ -53,7 +52,7 @@ const CHECKS: &[Checked] = &[
     },
     Checked {
         words: "1 job Cyan:in0",
-        job: DISABLED,
+        job: UNTRAPPED,
         plates: BOTH,
         status: 0,
         text: "press check\nradius 1\nbefore 1\nafter 1\nend\n",
@@ -61,14 +60,14 @@ const CHECKS: &[Checked] = &[
     // one plate's file, read as two plates
     Checked {
         words: "2 job Cyan:in0 Magenta:in0",
-        job: DISABLED,
+        job: UNTRAPPED,
         plates: BOTH,
         status: 0,
         text: "press check\nradius 2\nbefore 2\nafter 2\nend\n",
     },
     Checked {
         words: "1 job Cyan:in0 Magenta:in1",
-        job: "<< /TrapWidth 0 >> settrapparams showpage",
+        job: &[b"<< /TrapWidth 0 >> settrapparams showpage"],
         plates: BOTH,
         status: 3,
         text: "job: OutOfRange TrapWidth at 14\n",
@@ -110,19 +109,27 @@ const CHECKS: &[Checked] = &[
     },
 ];
 
-fn ends_so(rt: &impl Abort, alloc: Global, check: &Checked) -> Result<bool, AllocError> {
-    let words = words_of(alloc, check.words)?;
-    let rack = rack_of(alloc, None)?;
-    let tray = tray_of(rt, alloc, files_of(alloc, check.job, check.plates)?, None)?;
-    Ok(ends(alloc, &words, tray, rack, check.status, check.text))
+// The tables stand in functions of their own: a function that names one is proved with all its rows.
+fn checks() -> &'static [Checked] {
+    CHECKS
+}
+
+fn is_told(rt: &impl Abort, alloc: Global, check: &Checked) -> bool {
+    let case = Case {
+        words: check.words,
+        job: check.job,
+        plates: check.plates,
+        ..USUAL
+    };
+    ends(rt, alloc, case, check.status, check.text)
 }
 
 #[test]
-fn checks_tell_their_counts_or_why_there_are_none(rt: HostRuntime) -> Result<(), Fail> {
-    for check in CHECKS {
-        assert!(rt; ends_so(&rt, rt.alloc(), check)?, "{}", check.words);
+fn checks_tell_their_counts_or_why_there_are_none(rt: HostRuntime) {
+    for check in checks() {
+        let is = is_told(&rt, rt.alloc(), check);
+        judge(&rt, is, check.words, u64::from(check.status));
     }
-    Ok(())
 }
 
 // Words that are no check.
@@ -150,17 +157,22 @@ const OTHER_WORDS: &[&str] = &[
     "page job report Cyan:in0:out0",
 ];
 
-fn is_no_check(rt: &impl Abort, alloc: Global, text: &str) -> Result<bool, AllocError> {
-    let words = words_of(alloc, text)?;
-    let rack = rack_of(alloc, None)?;
-    let tray = tray_of(rt, alloc, files_of(alloc, DISABLED, BOTH)?, None)?;
-    Ok(ends(alloc, &words, tray, rack, 2, USAGE))
+fn other_words() -> &'static [&'static str] {
+    OTHER_WORDS
+}
+
+fn is_no_check(rt: &impl Abort, alloc: Global, words: &str) -> bool {
+    let case = Case {
+        words,
+        job: UNTRAPPED,
+        ..USUAL
+    };
+    ends(rt, alloc, case, 2, USAGE)
 }
 
 #[test]
-fn other_words_are_answered_by_the_usage(rt: HostRuntime) -> Result<(), Fail> {
-    for words in OTHER_WORDS {
-        assert!(rt; is_no_check(&rt, rt.alloc(), words)?, "{words}");
+fn other_words_are_answered_by_the_usage(rt: HostRuntime) {
+    for words in other_words() {
+        judge(&rt, is_no_check(&rt, rt.alloc(), words), words, 2);
     }
-    Ok(())
 }
