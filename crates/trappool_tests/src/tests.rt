@@ -5,56 +5,59 @@ mod worked;
 mod workers;
 
 use lists::list::List;
-use outside::distinct_names::have_distinct_names;
 use outside::mem_file::FileList;
 use outside::mem_rack::MemRack;
 use outside::mem_tray::MemTray;
-use std::alloc::{AllocError, Global};
+use std::alloc::Global;
 use std::process::Abort;
 use std::sync::Wait;
 use std::thread::Threads;
-use test_files::{CYAN, MAGENTA, calls, file_of, words_of};
+use test_files::{
+    CYAN, INKS, MAGENTA, TRAPPED_CYAN, TRAPPED_MAGENTA, TRAPPED_REPORT, UNSLID_CYAN, UNSLID_REPORT,
+    WIDE, put_file, rack_of, tray_of, words_of,
+};
 use trap_pool::TakeGate;
 use trappool_cli::top::trappool_main;
 
-const JOB: &[u8] =
-    b"<< /HWResolution [72 72] /TrappingDetails << /Type 1001 /ColorantDetails << /Cyan << /NeutralDensity 0.61 >> /Magenta << /NeutralDensity 0.76 >> /Yellow << /NeutralDensity 0.16 >> /Black << /NeutralDensity 1.70 >> >> >> >> setpagedevice << /TrapWidth 2 >> settrapparams showpage";
-
-const UNSLID: &[u8] =
-    b"<< /HWResolution [72 72] /TrappingDetails << /Type 1001 /ColorantDetails << /Cyan << /NeutralDensity 0.61 >> /Magenta << /NeutralDensity 0.76 >> /Yellow << /NeutralDensity 0.16 >> /Black << /NeutralDensity 1.70 >> >> >> >> setpagedevice << /TrapWidth 2 /SlidingTrapLimit 1 >> settrapparams showpage";
-
-// The traps of JOB, and of UNSLID.
-const TRAPPED_CYAN: &[u8] = b"P5\n6 1\n255\n\0\0\0\0\xFF\xFF";
-
-const TRAPPED_MAGENTA: &[u8] = b"P5\n6 1\n255\n\xFF\xFF\0\0\0\0";
-
-const UNSLID_CYAN: &[u8] = b"P5\n6 1\n255\n\0\0\0\0\0\xFF";
-
-const REPORT: &[u8] =
-    b"trap report\npage 6 1 255 plates 2\nzone 0 samples 6 changed 2\nedges 1\nplate Cyan changed 1\nplate Magenta changed 1\nend\n";
-
-const UNSLID_REPORT: &[u8] =
-    b"trap report\npage 6 1 255 plates 2\nzone 0 samples 6 changed 2\nedges 1\nplate Cyan changed 2\nplate Magenta changed 0\nend\n";
+// The bytes of a file, one piece after the other.
+type Pieces<'a> = &'a [&'a [u8]];
 
 // The files that are read beside the list.
-const READ: &[(&str, &[u8])] = &[
-    ("job", JOB),
-    ("unslid", UNSLID),
-    ("broken", b"showpage"),
-    ("cyan", CYAN),
-    ("magenta", MAGENTA),
-    ("short", b"P5\n6 1\n255\n\0"),
-    ("small", b"P5\n1 1\n255\n\0"),
+const READ: &[(&str, Pieces<'static>)] = &[
+    ("job", &[INKS, WIDE]),
+    (
+        "unslid",
+        &[
+            INKS,
+            b"<< /TrapWidth 2 /SlidingTrapLimit 1 >> settrapparams showpage",
+        ],
+    ),
+    ("broken", &[b"showpage"]),
+    ("cyan", &[CYAN]),
+    ("magenta", &[MAGENTA]),
+    ("short", &[b"P5\n6 1\n255\n\0"]),
+    ("small", &[b"P5\n1 1\n255\n\0"]),
 ];
 
 // A run: its words, its list, and the calls of the tray and of the rack that fail.
 #[derive(Clone, Copy)]
-struct Run<'a> {
+struct Case<'a> {
     words: &'a str,
-    list: &'a [u8],
-    of_tray: Option<u64>,
-    of_rack: Option<u64>,
+    list: Pieces<'a>,
+    tray_fails: Option<u64>,
+    rack_fails: Option<u64>,
 }
+
+// Two lines, of which the second job spreads its trap on the darker side alone.
+const USUAL: Case<'static> = Case {
+    words: "2 list",
+    list: &[
+        b"job r0 Cyan:cyan:a0 Magenta:magenta:b0\n",
+        b"unslid r1 Cyan:cyan:a1 Magenta:magenta:b1\n",
+    ],
+    tray_fails: None,
+    rack_fails: None,
+};
 
 // How a run ends: its status, what is told, and some files with what stands in them afterwards.
 #[derive(Clone, Copy)]
@@ -64,25 +67,79 @@ struct Wanted<'a> {
     written: &'a [(&'a str, Option<&'a [u8]>)],
 }
 
+// Stops the test where an answer is wrong, and names the row that it is of.
+fn judge(rt: &impl Abort, is_right: bool, row: &str, number: u64) {
+    assert!(rt; is_right, "{row}, {number}");
+}
+
+fn put(rt: &impl Abort, alloc: Global, files: &mut FileList, name: &str, pieces: Pieces<'_>) {
+    assert!(rt; put_file(alloc, files, name, pieces).is_ok(), "no memory");
+}
+
 // The list, and all files that jobs are read from.
-fn files_of(alloc: Global, list: &[u8]) -> Result<FileList, AllocError> {
-    let mut files = Vec::new(alloc);
-    files.push(file_of(alloc, "list", &[list])?)?;
-    for (name, bytes) in READ {
-        files.push(file_of(alloc, *name, &[*bytes])?)?;
+fn files_of(rt: &impl Abort, alloc: Global, list: Pieces<'_>) -> FileList {
+    let mut files = List::new(alloc);
+    put(rt, alloc, &mut files, "list", list);
+    for (name, pieces) in READ {
+        put(rt, alloc, &mut files, name, pieces);
     }
-    Ok(List::from_vec(files))
+    files
 }
 
-fn tray_of(rt: &impl Abort, alloc: Global, run: Run<'_>) -> Result<MemTray, AllocError> {
-    let files = files_of(alloc, run.list)?;
-    let fails = calls(alloc, run.of_tray)?;
-    assert!(rt; have_distinct_names(files.as_slice()));
-    Ok(MemTray::new(alloc, files, 4096, fails))
+// Whether the run by this tray and this rack ends so.
+fn ended<H: Threads + Wait + Sync, G: TakeGate + Sync>(
+    rt: &H,
+    alloc: Global,
+    words: &[String],
+    tray: &mut MemTray,
+    rack: &mut MemRack,
+    gate: &G,
+    wanted: Wanted<'_>,
+) -> bool {
+    let status = trappool_main(rt, alloc, words, tray, rack, gate);
+    status == wanted.status && is_left(rack, wanted)
 }
 
-fn rack_of(alloc: Global, run: Run<'_>) -> Result<MemRack, AllocError> {
-    Ok(MemRack::new(alloc, 4096, 1_000_000, calls(alloc, run.of_rack)?))
+fn ended_on_rack<H: Threads + Wait + Abort + Sync, G: TakeGate + Sync>(
+    rt: &H,
+    alloc: Global,
+    words: &[String],
+    tray: &mut MemTray,
+    case: Case<'_>,
+    gate: &G,
+    wanted: Wanted<'_>,
+) -> bool {
+    let mut rack = rack_of(alloc, 4096, 1_000_000, case.rack_fails).expect(rt, "no memory");
+    ended(rt, alloc, words, tray, &mut rack, gate, wanted)
+}
+
+fn ended_on_files<H: Threads + Wait + Abort + Sync, G: TakeGate + Sync>(
+    rt: &H,
+    alloc: Global,
+    words: &[String],
+    case: Case<'_>,
+    gate: &G,
+    wanted: Wanted<'_>,
+) -> bool {
+    let files = files_of(rt, alloc, case.list);
+    let mut tray = tray_of(alloc, files, 4096, case.tray_fails).expect(rt, "no tray");
+    ended_on_rack(rt, alloc, words, &mut tray, case, gate, wanted)
+}
+
+// Whether the run ends so.
+fn ends<H: Threads + Wait + Abort + Sync, G: TakeGate + Sync>(
+    rt: &H,
+    alloc: Global,
+    case: Case<'_>,
+    gate: &G,
+    wanted: Wanted<'_>,
+) -> bool {
+    let words = words_of(alloc, case.words).expect(rt, "no memory");
+    ended_on_files(rt, alloc, &words, case, gate, wanted)
+}
+
+fn is_left(rack: &MemRack, wanted: Wanted<'_>) -> bool {
+    rack.told() == wanted.told.as_bytes() && has_written(rack, wanted.written)
 }
 
 fn has_written(rack: &MemRack, written: &[(&str, Option<&[u8]>)]) -> bool {
@@ -92,37 +149,4 @@ fn has_written(rack: &MemRack, written: &[(&str, Option<&[u8]>)]) -> bool {
         }
     }
     true
-}
-
-fn is_so(status: u8, rack: &MemRack, wanted: Wanted<'_>) -> bool {
-    status == wanted.status
-        && rack.told() == wanted.told.as_bytes()
-        && has_written(rack, wanted.written)
-}
-
-fn ends_by<H: Threads + Wait + Sync, G: TakeGate + Sync>(
-    rt: &H,
-    alloc: Global,
-    words: &[String],
-    mut tray: MemTray,
-    mut rack: MemRack,
-    gate: &G,
-    wanted: Wanted<'_>,
-) -> bool {
-    let status = trappool_main(rt, alloc, words, &mut tray, &mut rack, gate);
-    is_so(status, &rack, wanted)
-}
-
-// Whether the run ends so.
-fn ends<H: Threads + Wait + Abort + Sync, G: TakeGate + Sync>(
-    rt: &H,
-    alloc: Global,
-    run: Run<'_>,
-    gate: &G,
-    wanted: Wanted<'_>,
-) -> Result<bool, AllocError> {
-    let words = words_of(alloc, run.words)?;
-    let rack = rack_of(alloc, run)?;
-    let tray = tray_of(rt, alloc, run)?;
-    Ok(ends_by(rt, alloc, &words, tray, rack, gate, wanted))
 }

@@ -1,9 +1,8 @@
-use crate::tests::{Run, TRAPPED_CYAN, Wanted, ends};
+use super::{Case, Pieces, TRAPPED_CYAN, USUAL, Wanted, ends, judge};
 use job_list::reading::read_list;
-use std::alloc::{AllocError, Global};
+use std::alloc::Global;
 use std::process::Abort;
 use std::sync::Wait;
-use std::test::Fail;
 use std::thread::Threads;
 use trap_pool::OpenTakes;
 
@@ -34,137 +33,155 @@ const BAD: &[(&[u8], u32)] = &[
     (b"job r0 Cyan:cyan:a0\njob r0 Cyan:cyan:a1\n", 1),
 ];
 
-fn told_of(alloc: Global, line: u32) -> Result<String, AllocError> {
-    format!(in alloc; "list: BadLine {line}\n")
+// The table stands in a function of its own: a function that names it is proved with all its rows.
+fn bad_lists() -> &'static [(&'static [u8], u32)] {
+    BAD
 }
 
-fn is_refused<H: Threads + Wait + Abort + Sync>(
+// Whether a run of this list ends so, and writes nothing of its first line.
+fn list_ends<H: Threads + Wait + Abort + Sync>(
     rt: &H,
     alloc: Global,
-    list: &[u8],
-    line: u32,
-) -> Result<bool, AllocError> {
-    let told = told_of(alloc, line)?;
-    is_refused_by(rt, alloc, list, told.as_str())
-}
-
-fn is_refused_by<H: Threads + Wait + Abort + Sync>(
-    rt: &H,
-    alloc: Global,
-    list: &[u8],
+    list: Pieces<'_>,
+    status: u8,
     told: &str,
-) -> Result<bool, AllocError> {
+) -> bool {
+    let case = Case {
+        words: "3 list",
+        list,
+        ..USUAL
+    };
     let wanted = Wanted {
-        status: 3,
+        status,
         told,
         written: &[("a0", None), ("r0", None)],
     };
-    let run = Run {
-        words: "3 list",
-        list,
-        of_tray: None,
-        of_rack: None,
-    };
-    ends(rt, alloc, run, &OpenTakes, wanted)
+    ends(rt, alloc, case, &OpenTakes, wanted)
+}
+
+fn told_of(rt: &impl Abort, alloc: Global, line: u32) -> String {
+    format!(in alloc; "list: BadLine {line}\n").expect(rt, "no memory")
+}
+
+fn is_bad_at<H: Threads + Wait + Abort + Sync>(
+    rt: &H,
+    alloc: Global,
+    list: Pieces<'_>,
+    line: u32,
+) -> bool {
+    let told = told_of(rt, alloc, line);
+    list_ends(rt, alloc, list, 3, told.as_str())
 }
 
 #[test]
-fn the_first_bad_line_is_told(rt: HostRuntime) -> Result<(), Fail> {
-    for (place, (list, line)) in BAD.iter().enumerate() {
-        assert!(rt; is_refused(&rt, rt.alloc(), *list, *line)?, "list {place}");
+fn the_first_bad_line_is_told(rt: HostRuntime) {
+    for (place, (list, line)) in bad_lists().iter().enumerate() {
+        let is = is_bad_at(&rt, rt.alloc(), &[*list], *line);
+        judge(&rt, is, "list", place as u64);
     }
-    Ok(())
+}
+
+// A line of a broken job, and what is told of it.
+fn line_of(rt: &impl Abort, alloc: Global, number: u32) -> String {
+    format!(in alloc; "broken r{number} Cyan:cyan:a{number}\n").expect(rt, "no memory")
+}
+
+fn broken_of(rt: &impl Abort, alloc: Global, number: u32) -> String {
+    format!(in alloc; "job {number}: job: NoPageDevice at 0\n").expect(rt, "no memory")
+}
+
+fn add(rt: &impl Abort, text: &mut String, line: String) {
+    assert!(rt; text.push_str(line.as_str()).is_ok(), "no memory");
 }
 
 // So many lines, each of a broken job.
-fn lines_of(alloc: Global, count: u32) -> Result<Vec<u8>, AllocError> {
-    let mut list = Vec::new(alloc);
+fn lines_of(rt: &impl Abort, alloc: Global, count: u32) -> String {
+    let mut list = String::new(alloc);
     for number in 0..count {
-        let line = format!(in alloc; "broken r{number} Cyan:cyan:a{number}\n")?;
-        list.extend_from_slice(line.as_bytes())?;
+        add(rt, &mut list, line_of(rt, alloc, number));
     }
-    Ok(list)
+    list
 }
 
 // What is told of so many broken jobs.
-fn broken_of(alloc: Global, count: u32) -> Result<String, AllocError> {
+fn all_broken_of(rt: &impl Abort, alloc: Global, count: u32) -> String {
     let mut told = String::new(alloc);
     for number in 0..count {
-        let line = format!(in alloc; "job {number}: job: NoPageDevice at 0\n")?;
-        told.push_str(line.as_str())?;
+        add(rt, &mut told, broken_of(rt, alloc, number));
     }
-    Ok(told)
+    told
 }
 
-fn are_told<H: Threads + Wait + Abort + Sync>(
+// Whether a list of so many broken jobs ends so.
+fn lines_end<H: Threads + Wait + Abort + Sync>(
     rt: &H,
     alloc: Global,
     count: u32,
-) -> Result<bool, AllocError> {
-    let list = lines_of(alloc, count)?;
-    let told = broken_of(alloc, count)?;
-    let wanted = Wanted {
-        status: 9,
-        told: told.as_str(),
-        written: &[("a0", None), ("r0", None)],
-    };
-    let run = Run {
-        words: "3 list",
-        list: list.as_slice(),
-        of_tray: None,
-        of_rack: None,
-    };
-    ends(rt, alloc, run, &OpenTakes, wanted)
+    status: u8,
+    told: &str,
+) -> bool {
+    let list = lines_of(rt, alloc, count);
+    list_ends(rt, alloc, &[list.as_bytes()], status, told)
+}
+
+fn are_told<H: Threads + Wait + Abort + Sync>(rt: &H, alloc: Global, count: u32) -> bool {
+    let told = all_broken_of(rt, alloc, count);
+    lines_end(rt, alloc, count, 9, told.as_str())
 }
 
 #[test]
-fn a_list_has_256_lines_at_most(rt: HostRuntime) -> Result<(), Fail> {
-    assert!(rt; are_told(&rt, rt.alloc(), 1)?);
-    assert!(rt; are_told(&rt, rt.alloc(), 256)?);
-    let list = lines_of(rt.alloc(), 257)?;
-    assert!(rt; is_refused(&rt, rt.alloc(), list.as_slice(), 256)?);
-    Ok(())
+fn a_list_has_256_lines_at_most(rt: HostRuntime) {
+    judge(&rt, are_told(&rt, rt.alloc(), 1), "lines", 1);
+    judge(&rt, are_told(&rt, rt.alloc(), 256), "lines", 256);
+    let is = lines_end(&rt, rt.alloc(), 257, 3, "list: BadLine 256\n");
+    judge(&rt, is, "lines", 257);
 }
 
-// A line of one long name, so that the list has so many bytes.
-fn long_list(alloc: Global, bytes: usize) -> Result<Vec<u8>, AllocError> {
-    let mut list = Vec::new(alloc);
-    list.extend_from_slice(ONE)?;
-    list.extend_from_slice(b"broken r1 Cyan:cyan:")?;
-    for _ in list.len() + 1..bytes {
-        list.push(b'a')?;
-    }
-    list.push(b'\n')?;
-    Ok(list)
+const LONG_LINE: &[u8] = b"broken r1 Cyan:cyan:";
+
+// How long a name makes a list of so many bytes.
+fn name_length(bytes: usize) -> usize {
+    let others = ONE.len().saturating_add(LONG_LINE.len()).saturating_add(1);
+    bytes.saturating_sub(others)
+}
+
+// Whether a list of so many bytes, whose second line has one long name, is bad there.
+fn is_too_long<H: Threads + Wait + Abort + Sync>(rt: &H, alloc: Global, bytes: usize) -> bool {
+    let name = b"a"
+        .repeat(alloc, name_length(bytes))
+        .expect(rt, "no memory");
+    is_bad_at(rt, alloc, &[ONE, LONG_LINE, name.as_slice(), b"\n"], 1)
 }
 
 #[test]
-fn a_list_that_is_too_long_is_bad_where_it_becomes_so(rt: HostRuntime) -> Result<(), Fail> {
-    let list = long_list(rt.alloc(), 1_048_577)?;
-    assert!(rt; is_refused(&rt, rt.alloc(), list.as_slice(), 1)?);
-    Ok(())
+fn a_list_that_is_too_long_is_bad_where_it_becomes_so(rt: HostRuntime) {
+    let is = is_too_long(&rt, rt.alloc(), 1_048_577);
+    judge(&rt, is, "bytes", 1_048_577);
 }
 
 // Words with CR after them, and an output that is read by another line.
+const CROSSED: Case<'static> = Case {
+    list: &[
+        b"job magenta Cyan:cyan:cyan Magenta:magenta:b0\n",
+        b"job r1 Cyan:cyan:a1 Magenta:magenta:b1\r\n",
+    ],
+    ..USUAL
+};
+
+const CROSSED_END: Wanted<'static> = Wanted {
+    status: 0,
+    told: "job 0: done\njob 1: done\n",
+    written: &[
+        ("cyan", Some(TRAPPED_CYAN)),
+        ("a1", Some(TRAPPED_CYAN)),
+        ("b1", None),
+    ],
+};
+
 #[test]
-fn all_reading_comes_before_all_writing(rt: HostRuntime) -> Result<(), Fail> {
-    let run = Run {
-        words: "2 list",
-        list: b"job magenta Cyan:cyan:cyan Magenta:magenta:b0\njob r1 Cyan:cyan:a1 Magenta:magenta:b1\r\n",
-        of_tray: None,
-        of_rack: None,
-    };
-    let wanted = Wanted {
-        status: 0,
-        told: "job 0: done\njob 1: done\n",
-        written: &[
-            ("cyan", Some(TRAPPED_CYAN)),
-            ("a1", Some(TRAPPED_CYAN)),
-            ("b1", None),
-        ],
-    };
-    assert!(rt; ends(&rt, rt.alloc(), run, &OpenTakes, wanted)?);
-    Ok(())
+fn all_reading_comes_before_all_writing(rt: HostRuntime) {
+    let is = ends(&rt, rt.alloc(), CROSSED, &OpenTakes, CROSSED_END);
+    judge(&rt, is, "lines", 2);
 }
 
 // The file that a plate of the first line is written into.
@@ -179,14 +196,19 @@ fn first_out(alloc: Global, list: &[u8], plate: u32) -> Option<String> {
     String::from_str(alloc, line.out(plate)).ok()
 }
 
+fn is_first_out(alloc: Global, plate: u32, wanted: Option<&str>) -> bool {
+    let found = first_out(alloc, ONE, plate);
+    found.as_ref().map(|name| name.as_str()) == wanted
+}
+
 #[test]
-fn a_line_gives_the_file_of_each_plate(rt: HostRuntime) -> Result<(), Fail> {
-    for (plate, wanted) in [(0, Some("a0")), (1, Some("b0")), (2, None)] {
-        let found = first_out(rt.alloc(), ONE, plate);
-        assert!(rt;
-            found.as_ref().map(|name| name.as_str()) == wanted,
-            "{plate}"
+fn a_line_gives_the_file_of_each_plate(rt: HostRuntime) {
+    for (plate, wanted) in [(0u32, Some("a0")), (1, Some("b0")), (2, None)] {
+        judge(
+            &rt,
+            is_first_out(rt.alloc(), plate, wanted),
+            "plate",
+            u64::from(plate),
         );
     }
-    Ok(())
 }

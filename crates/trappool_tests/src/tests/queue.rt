@@ -1,9 +1,13 @@
 ghost use Rattle.std.specs.Prelude.{◌≡◌};
 
-use line_queue::{LineWork, open_queue, push_line, push_lines, rooms_of, serve_all};
+use super::judge;
+use line_queue::{LineWork, Room, open_queue, push_line, push_lines, rooms_of, serve_all};
+use std::alloc::Global;
+use std::process::Abort;
+use std::sync::Wait;
 use std::sync::atomic::AtomicBool;
 use std::sync::atomic::Ordering::SeqCst;
-use std::test::*;
+use std::thread::Threads;
 
 // Two workers that wait for each other, and make the line's square.
 #[derive(Drop)]
@@ -34,31 +38,50 @@ fn has_met(work: &Meeting) -> bool {
     work.met[0].load(SeqCst) && work.met[1].load(SeqCst)
 }
 
-#[test]
-fn two_workers_meet(rt: HostRuntime) -> Result<(), Fail> {
-    let work = Meeting {
+fn new_meeting() -> Meeting {
+    Meeting {
         came: [AtomicBool::new(false), AtomicBool::new(false)],
         met: [AtomicBool::new(false), AtomicBool::new(false)],
-    };
-    let rooms = rooms_of::<u64>(rt.alloc(), 2, 4)?;
-    let (queue, mut pass) = open_queue(rt.alloc(), 4)?;
-    let pushed = push_lines(&rt, &queue, &mut pass, &[6, 7]);
-    let (_, rooms) = serve_all(&rt, &queue, &work, pass, rooms);
+    }
+}
+
+// The sum of what was made.
+fn sum_of(rooms: &[Room<u64>]) -> u64 {
     let mut made = 0u64;
-    for room in rooms.as_slice() {
+    for room in rooms {
         for kept in room.kept.as_slice() {
             made = made.wrapping_add(kept.made);
         }
     }
-    assert_eq!(rt; (pushed, made), (2, 85));
-    assert!(rt; has_met(&work));
-    Ok(())
+    made
+}
+
+// How many of two lines were pushed, and the sum of what two workers made of them.
+fn served<H: Threads + Wait + Abort + Sync>(rt: &H, alloc: Global, work: &Meeting) -> (usize, u64) {
+    let rooms = rooms_of::<u64>(alloc, 2, 4).expect(rt, "no memory");
+    let (queue, mut pass) = open_queue(alloc, 4).expect(rt, "no memory");
+    let pushed = push_lines(rt, &queue, &mut pass, &[6, 7]);
+    let (_, rooms) = serve_all(rt, &queue, work, pass, rooms);
+    (pushed, sum_of(rooms.as_slice()))
 }
 
 #[test]
-fn a_full_queue_hands_the_line_back(rt: HostRuntime) -> Result<(), Fail> {
-    let (queue, mut pass) = open_queue(rt.alloc(), 1)?;
-    assert_eq!(rt; push_lines(&rt, &queue, &mut pass, &[4, 6]), 1);
-    assert_eq!(rt; push_line(&rt, &queue, &mut pass, 6), Err(6));
-    Ok(())
+fn two_workers_meet(rt: HostRuntime) {
+    let work = new_meeting();
+    let is_made = served(&rt, rt.alloc(), &work) == (2, 85);
+    judge(&rt, is_made && has_met(&work), "workers", 2);
+}
+
+// Whether a queue of one line takes the first of two, and hands the second one back.
+fn is_handed_back<H: Wait + Abort>(rt: &H, alloc: Global) -> bool {
+    let (queue, mut pass) = open_queue(alloc, 1).expect(rt, "no memory");
+    if push_lines(rt, &queue, &mut pass, &[4, 6]) != 1 {
+        return false;
+    }
+    push_line(rt, &queue, &mut pass, 6) == Err(6)
+}
+
+#[test]
+fn a_full_queue_hands_the_line_back(rt: HostRuntime) {
+    judge(&rt, is_handed_back(&rt, rt.alloc()), "lines", 2);
 }

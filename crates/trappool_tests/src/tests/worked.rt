@@ -1,13 +1,20 @@
 use super::{
-    MAGENTA, REPORT, Run, TRAPPED_CYAN, TRAPPED_MAGENTA, UNSLID_CYAN, UNSLID_REPORT, Wanted, ends,
+    Case, MAGENTA, Pieces, TRAPPED_CYAN, TRAPPED_MAGENTA, TRAPPED_REPORT, UNSLID_CYAN,
+    UNSLID_REPORT, USUAL, Wanted, ends, judge,
 };
+use std::alloc::Global;
+use std::process::Abort;
+use std::sync::Wait;
 use std::sync::atomic::AtomicBool;
 use std::sync::atomic::Ordering::SeqCst;
-use std::test::Fail;
+use std::thread::Threads;
 use trap_pool::{OpenTakes, TakeGate};
 
-const THREE: &[u8] =
-    b"job r0 Cyan:cyan:a0 Magenta:magenta:b0\njob r1 Orange:cyan:a1 Magenta:magenta:b1\nunslid r2 Cyan:cyan:a2 Magenta:magenta:b2\n";
+const THREE: Pieces<'static> = &[
+    b"job r0 Cyan:cyan:a0 Magenta:magenta:b0\n",
+    b"job r1 Orange:cyan:a1 Magenta:magenta:b1\n",
+    b"unslid r2 Cyan:cyan:a2 Magenta:magenta:b2\n",
+];
 
 const OF_THREE: Wanted<'static> = Wanted {
     status: 9,
@@ -15,7 +22,7 @@ const OF_THREE: Wanted<'static> = Wanted {
     written: &[
         ("a0", Some(TRAPPED_CYAN)),
         ("b0", Some(TRAPPED_MAGENTA)),
-        ("r0", Some(REPORT)),
+        ("r0", Some(TRAPPED_REPORT)),
         ("a1", None),
         ("b1", None),
         ("r1", None),
@@ -25,43 +32,41 @@ const OF_THREE: Wanted<'static> = Wanted {
     ],
 };
 
+fn three_end<H: Threads + Wait + Abort + Sync>(
+    rt: &H,
+    alloc: Global,
+    words: &str,
+    wanted: Wanted<'_>,
+) -> bool {
+    let case = Case {
+        words,
+        list: THREE,
+        ..USUAL
+    };
+    ends(rt, alloc, case, &OpenTakes, wanted)
+}
+
 #[test]
-fn three_jobs_by_one_worker_and_by_five(rt: HostRuntime) -> Result<(), Fail> {
+fn three_jobs_by_one_worker_and_by_five(rt: HostRuntime) {
     for words in ["1 list", "5 list", "64 list", "0000000002 list"] {
-        let run = Run {
-            words,
-            list: THREE,
-            of_tray: None,
-            of_rack: None,
-        };
-        assert!(rt;
-            ends(&rt, rt.alloc(), run, &OpenTakes, OF_THREE)?,
-            "{words}"
-        );
+        judge(&rt, three_end(&rt, rt.alloc(), words, OF_THREE), words, 9);
     }
-    Ok(())
 }
 
 // Words that mean nothing.
 const NO_WORDS: &[&str] = &["1", "0 list", "65 list", "1 list list", "+1 list", "list 1"];
 
+const USAGE: Wanted<'static> = Wanted {
+    status: 2,
+    told: "usage: trappool WORKERS LIST\n",
+    written: &[],
+};
+
 #[test]
-fn other_words_are_refused(rt: HostRuntime) -> Result<(), Fail> {
-    let wanted = Wanted {
-        status: 2,
-        told: "usage: trappool WORKERS LIST\n",
-        written: &[],
-    };
+fn other_words_are_refused(rt: HostRuntime) {
     for words in NO_WORDS {
-        let run = Run {
-            words,
-            list: THREE,
-            of_tray: None,
-            of_rack: None,
-        };
-        assert!(rt; ends(&rt, rt.alloc(), run, &OpenTakes, wanted)?, "{words}");
+        judge(&rt, three_end(&rt, rt.alloc(), words, USAGE), words, 2);
     }
-    Ok(())
 }
 
 // Two takes that wait for each other.
@@ -88,24 +93,22 @@ fn has_met(gate: &Meeting) -> bool {
     gate.met[0].load(SeqCst) && gate.met[1].load(SeqCst)
 }
 
-#[test]
-fn two_workers_take_a_line_each(rt: HostRuntime) -> Result<(), Fail> {
-    let gate = Meeting {
+fn new_meeting() -> Meeting {
+    Meeting {
         came: [AtomicBool::new(false), AtomicBool::new(false)],
         met: [AtomicBool::new(false), AtomicBool::new(false)],
-    };
-    let run = Run {
-        words: "2 list",
-        list: b"job r0 Cyan:cyan:a0 Magenta:magenta:b0\nunslid r2 Cyan:cyan:a2 Magenta:magenta:b2\n",
-        of_tray: None,
-        of_rack: None,
-    };
-    let wanted = Wanted {
-        status: 0,
-        told: "job 0: done\njob 1: done\n",
-        written: &[("a0", Some(TRAPPED_CYAN)), ("a2", Some(UNSLID_CYAN))],
-    };
-    let is_done = ends(&rt, rt.alloc(), run, &gate, wanted)?;
-    assert!(rt; is_done && has_met(&gate));
-    Ok(())
+    }
+}
+
+const BOTH_DONE: Wanted<'static> = Wanted {
+    status: 0,
+    told: "job 0: done\njob 1: done\n",
+    written: &[("a0", Some(TRAPPED_CYAN)), ("a1", Some(UNSLID_CYAN))],
+};
+
+#[test]
+fn two_workers_take_a_line_each(rt: HostRuntime) {
+    let gate = new_meeting();
+    let is_done = ends(&rt, rt.alloc(), USUAL, &gate, BOTH_DONE);
+    judge(&rt, is_done && has_met(&gate), "workers", 2);
 }

@@ -1,13 +1,14 @@
-use crate::tests::{Run, Wanted, ends};
-use std::alloc::{AllocError, Global};
+use super::{Case, USUAL, Wanted, ends, judge};
+use std::alloc::Global;
 use std::process::Abort;
 use std::sync::Wait;
-use std::test::Fail;
 use std::thread::Threads;
 use trap_pool::OpenTakes;
 
-// What stands in a line after the report's name, before the outputs' numbers, and what is told of it.
-const KINDS: &[(&str, &str, &str, &str)] = &[
+// The kinds of lines: their job, both plates without the number of their output, and what is told.
+type Kind = (&'static str, &'static str, &'static str, &'static str);
+
+const KINDS: &[Kind] = &[
     ("job", "Cyan:cyan:a", "Magenta:magenta:b", "done"),
     ("unslid", "Cyan:cyan:a", "Magenta:magenta:b", "done"),
     (
@@ -48,52 +49,72 @@ const KINDS: &[(&str, &str, &str, &str)] = &[
     ),
 ];
 
-fn list_of(alloc: Global, count: usize) -> Result<Vec<u8>, AllocError> {
-    let mut list = Vec::new(alloc);
-    for number in 0..count {
-        let (job, cyan, magenta, _) = KINDS[number % 8];
-        let line = format!(in alloc; "{job} r{number} {cyan}{number} {magenta}{number}\n")?;
-        list.extend_from_slice(line.as_bytes())?;
-    }
-    Ok(list)
+// The line of a list, and the line that is told of it.
+fn listed(rt: &impl Abort, alloc: Global, number: usize) -> String {
+    let (job, cyan, magenta, _) = KINDS[number % 8];
+    format!(in alloc; "{job} r{number} {cyan}{number} {magenta}{number}\n").expect(rt, "no memory")
 }
 
-fn told_of(alloc: Global, count: usize) -> Result<String, AllocError> {
-    let mut told = String::new(alloc);
-    for number in 0..count {
-        let (_, _, _, said) = KINDS[number % 8];
-        let line = format!(in alloc; "job {number}: {said}\n")?;
-        told.push_str(line.as_str())?;
-    }
-    Ok(told)
+fn told(rt: &impl Abort, alloc: Global, number: usize) -> String {
+    let (_, _, _, text) = KINDS[number % 8];
+    format!(in alloc; "job {number}: {text}\n").expect(rt, "no memory")
 }
 
-fn forty_by<H: Threads + Wait + Abort + Sync>(
+fn add(rt: &impl Abort, text: &mut String, line: String) {
+    assert!(rt; text.push_str(line.as_str()).is_ok(), "no memory");
+}
+
+fn list_of(rt: &impl Abort, alloc: Global, count: usize) -> String {
+    let mut list = String::new(alloc);
+    for number in 0..count {
+        add(rt, &mut list, listed(rt, alloc, number));
+    }
+    list
+}
+
+fn told_of(rt: &impl Abort, alloc: Global, count: usize) -> String {
+    let mut text = String::new(alloc);
+    for number in 0..count {
+        add(rt, &mut text, told(rt, alloc, number));
+    }
+    text
+}
+
+// Whether a run of forty jobs by these words tells this.
+fn forty_tell<H: Threads + Wait + Abort + Sync>(
     rt: &H,
     alloc: Global,
-    workers: u32,
-) -> Result<bool, AllocError> {
-    let list = list_of(alloc, 40)?;
-    let told = told_of(alloc, 40)?;
-    let words = format!(in alloc; "{workers} list")?;
-    let run = Run {
-        words: words.as_str(),
-        list: list.as_slice(),
-        of_tray: None,
-        of_rack: None,
+    words: &str,
+    told: &str,
+) -> bool {
+    let list = list_of(rt, alloc, 40);
+    let case = Case {
+        words,
+        list: &[list.as_bytes()],
+        ..USUAL
     };
     let wanted = Wanted {
         status: 9,
-        told: told.as_str(),
+        told,
         written: &[("a2", None), ("r38", None)],
     };
-    ends(rt, alloc, run, &OpenTakes, wanted)
+    ends(rt, alloc, case, &OpenTakes, wanted)
+}
+
+fn forty_end<H: Threads + Wait + Abort + Sync>(rt: &H, alloc: Global, words: &str) -> bool {
+    let told = told_of(rt, alloc, 40);
+    forty_tell(rt, alloc, words, told.as_str())
+}
+
+fn forty_by<H: Threads + Wait + Abort + Sync>(rt: &H, alloc: Global, workers: u32) -> bool {
+    let words = format!(in alloc; "{workers} list").expect(rt, "no memory");
+    forty_end(rt, alloc, words.as_str())
 }
 
 #[test]
-fn forty_jobs_by_any_number_of_workers(rt: HostRuntime) -> Result<(), Fail> {
+fn forty_jobs_by_any_number_of_workers(rt: HostRuntime) {
     for workers in 1..65u32 {
-        assert!(rt; forty_by(&rt, rt.alloc(), workers)?, "{workers} workers");
+        let is = forty_by(&rt, rt.alloc(), workers);
+        judge(&rt, is, "workers", u64::from(workers));
     }
-    Ok(())
 }
