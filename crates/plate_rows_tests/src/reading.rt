@@ -1,7 +1,7 @@
 ghost use Rattle.std.specs.Prelude.{◌≡◌, ◌<◌, ◌≤◌, ℕ, length};
 ghost use Rattle.page_model.specs.Planes.{plane_at};
 
-use crate::fixtures::{Fault, trays_of};
+use crate::fixtures::{Fault, judge, trays_of};
 use lists::list::List;
 use outside::mem_tray::MemTray;
 use outside::tray::Tray;
@@ -12,9 +12,8 @@ use plate_rows::judging::judge_plates;
 use plate_rows::rereading::{NextRows, begin_plates, end_plates, read_next};
 use plate_rows::stop::RereadError;
 use refusals::refusal::Refusal;
-use std::alloc::{AllocError, Global};
+use std::alloc::Global;
 use std::process::Abort;
-use std::test::Fail;
 
 const INPUTS: [&str; 2] = ["in", "in"];
 
@@ -46,7 +45,7 @@ const NARROW: &str = "P5 2 3 9 \x01\x02\x03\x04\x05\x09";
 const WIDE: &str = "P5 2 3 300 \x00\x01\x00\x02\x00\x03\x01\x2c\x00\x05\x01\x00";
 
 // How two readings end.
-#[derive(Clone, Copy, Debug, PartialEq, Eq)]
+#[derive(Clone, Copy, PartialEq, Eq)]
 enum End {
     // The first refuses a plate.
     Refused(Refusal),
@@ -56,7 +55,7 @@ enum End {
     Read([[u16; 4]; 2]),
 }
 
-fn judge(trays: &mut [MemTray]) -> Result<[Header; 2], Refusal>
+fn judged(trays: &mut [MemTray]) -> Result<[Header; 2], Refusal>
     requires { length trays.old ≡ 2 }
 {
     let mut headers = [NONE.header; 2];
@@ -106,20 +105,14 @@ fn read_again<T: Tray>(
 }
 
 // A plane of two rows.
-fn plane_of(alloc: Global) -> Result<Plane, AllocError> {
-    let tints = vec![in alloc; 0u16; 4]?;
-    Ok(Plane {
+fn plane_of(rt: &impl Abort, alloc: Global) -> Plane {
+    let tints = vec![in alloc; 0u16; 4].expect(rt, "no memory");
+    Plane {
         width: 2,
         height: 2,
         maxval: 9,
         tints: List::from_vec(tints),
-    })
-}
-
-fn planes_of(alloc: Global) -> Result<[Plane; 2], AllocError> {
-    let first = plane_of(alloc)?;
-    let second = plane_of(alloc)?;
-    Ok([first, second])
+    }
 }
 
 fn tints_of(plane: &Plane) -> [u16; 4] {
@@ -135,7 +128,7 @@ fn tints_of(plane: &Plane) -> [u16; 4] {
 // Judges two plates and reads them again, by the same trays.
 fn read_both(rt: &impl Abort, alloc: Global, trays: &mut [MemTray], planes: &mut [Plane]) -> End {
     assert!(rt; trays.len() == 2);
-    match judge(trays) {
+    match judged(trays) {
         Ok(headers) => {
             assert!(rt; headers == HEADERS);
             read_second(rt, alloc, trays, planes)
@@ -155,37 +148,39 @@ fn read_second(rt: &impl Abort, alloc: Global, trays: &mut [MemTray], planes: &m
     }
 }
 
-// Both readings of two files, of which a call may fail.
-fn ends(
-    rt: &impl Abort,
-    alloc: Global,
-    files: [&str; 2],
-    fault: Option<Fault>,
-) -> Result<End, AllocError> {
-    let mut planes = planes_of(alloc)?;
-    let mut trays = trays_of(rt, alloc, files, fault)?;
-    Ok(read_both(rt, alloc, &mut trays, &mut planes))
+fn ended(rt: &impl Abort, alloc: Global, trays: &mut [MemTray]) -> End {
+    let mut planes = [plane_of(rt, alloc), plane_of(rt, alloc)];
+    read_both(rt, alloc, trays, &mut planes)
 }
 
-// The second reading alone, of files that may have changed.
-fn ends_again(rt: &impl Abort, alloc: Global, files: [&str; 2]) -> Result<End, AllocError> {
-    let mut planes = planes_of(alloc)?;
-    let mut trays = trays_of(rt, alloc, files, None)?;
-    Ok(read_second(rt, alloc, &mut trays, &mut planes))
+// How both readings of two files end, of which a call may fail.
+fn end_of(rt: &impl Abort, alloc: Global, files: &[&str; 2], fault: Option<Fault>) -> End {
+    let mut trays = trays_of(rt, alloc, files, fault);
+    ended(rt, alloc, &mut trays)
+}
+
+fn ended_again(rt: &impl Abort, alloc: Global, trays: &mut [MemTray]) -> End {
+    let mut planes = [plane_of(rt, alloc), plane_of(rt, alloc)];
+    read_second(rt, alloc, trays, &mut planes)
+}
+
+// How the second reading alone ends, of files that may have changed.
+fn end_again(rt: &impl Abort, alloc: Global, files: &[&str; 2]) -> End {
+    let mut trays = trays_of(rt, alloc, files, None);
+    ended_again(rt, alloc, &mut trays)
 }
 
 // The second and the third row of each plate, turned into tints.
 const LAST_ROWS: [[u16; 4]; 2] = [[6, 5, 4, 0], [297, 0, 295, 44]];
 
 #[test]
-fn plates_are_read_twice(rt: HostRuntime) -> Result<(), Fail> {
-    let end = ends(&rt, rt.alloc(), [NARROW, WIDE], None)?;
-    assert!(rt; end == End::Read(LAST_ROWS), "{end:?}");
-    Ok(())
+fn plates_are_read_twice(rt: HostRuntime) {
+    let end = end_of(&rt, rt.alloc(), &[NARROW, WIDE], None);
+    judge(&rt, end == End::Read(LAST_ROWS), "plates", 2);
 }
 
 // Files of which one is refused: the first of them, in their order.
-const REFUSED: [([&str; 2], Refusal); 5] = [
+const REFUSED: &[([&str; 2], Refusal)] = &[
     (
         ["P5 2 3 9 \x0a\x02\x03\x04\x05\x09", WIDE],
         Refusal::Plate(0, PlateFault::SampleAboveMaxval(9)),
@@ -209,16 +204,15 @@ const REFUSED: [([&str; 2], Refusal); 5] = [
 ];
 
 #[test]
-fn the_first_fault_of_a_plate_is_told(rt: HostRuntime) -> Result<(), Fail> {
-    for (files, refusal) in REFUSED {
-        let end = ends(&rt, rt.alloc(), files, None)?;
-        assert!(rt; end == End::Refused(refusal), "{files:?}: {end:?}");
+fn the_first_fault_of_a_plate_is_told(rt: HostRuntime) {
+    for (place, (files, refusal)) in REFUSED.iter().enumerate() {
+        let end = end_of(&rt, rt.alloc(), files, None);
+        judge(&rt, end == End::Refused(*refusal), "plates", place as u64);
     }
-    Ok(())
 }
 
 // What the second reading comes to, where the first one read the two plates above.
-const CHANGED: [([&str; 2], End); 8] = [
+const CHANGED: &[([&str; 2], End)] = &[
     ([NARROW, WIDE], End::Read(LAST_ROWS)),
     (
         ["P5\n2\n3\n9\n\x09\x09\x03\x04\x05\x09", WIDE],
@@ -254,12 +248,11 @@ const CHANGED: [([&str; 2], End); 8] = [
 ];
 
 #[test]
-fn a_plate_that_has_changed_is_told(rt: HostRuntime) -> Result<(), Fail> {
-    for (files, want) in CHANGED {
-        let end = ends_again(&rt, rt.alloc(), files)?;
-        assert!(rt; end == want, "{files:?}: {end:?}");
+fn a_plate_that_has_changed_is_told(rt: HostRuntime) {
+    for (place, (files, want)) in CHANGED.iter().enumerate() {
+        let end = end_again(&rt, rt.alloc(), files);
+        judge(&rt, end == *want, "plates", place as u64);
     }
-    Ok(())
 }
 
 // More calls than a tray gets.
@@ -274,22 +267,31 @@ fn is_told(end: End, tray: u32) -> bool {
     }
 }
 
+// Whether it does where that call fails, and both readings end well from call `last` on.
+fn is_told_at(rt: &impl Abort, alloc: Global, tray: u32, call: u64, last: u64) -> bool {
+    let fault = Fault {
+        device: tray as usize,
+        call,
+    };
+    let end = end_of(rt, alloc, &[NARROW, WIDE], Some(fault));
+    let is_read = matches!(end, End::Read(_));
+    is_told(end, tray) && is_read == (call >= last)
+}
+
 #[test]
-fn each_read_that_fails_is_told_of_its_plate(rt: HostRuntime) -> Result<(), Fail> {
-    for (tray, last) in [(0u32, 27u64), (1, 36)] {
-        for call in 0..CALLS {
-            let fault = Fault {
-                device: tray as usize,
-                call,
-            };
-            let end = ends(&rt, rt.alloc(), [NARROW, WIDE], Some(fault))?;
-            assert!(rt; is_told(end, tray), "tray {tray}, call {call}: {end:?}");
-            let is_read = matches!(end, End::Read(_));
-            assert!(rt;
-                is_read == (call >= last),
-                "tray {tray}, call {call}: {end:?}"
-            );
-        }
+fn each_read_that_fails_is_told_of_its_plate(rt: HostRuntime) {
+    for call in 0..CALLS {
+        judge(
+            &rt,
+            is_told_at(&rt, rt.alloc(), 0, call, 27),
+            "tray 0",
+            call,
+        );
+        judge(
+            &rt,
+            is_told_at(&rt, rt.alloc(), 1, call, 36),
+            "tray 1",
+            call,
+        );
     }
-    Ok(())
 }

@@ -1,14 +1,13 @@
 ghost use Rattle.std.specs.Prelude.{◌≡◌, length};
 
-use crate::fixtures::{Fault, racks_of};
+use crate::fixtures::{Fault, judge, racks_of};
 use outside::mem_rack::MemRack;
 use pgm_plates::rows::Header;
 use plate_rows::images::{begin_images, end_images, write_next};
 use plate_rows::laws::writing_goes_on;
 use refusals::refusal::Refusal;
-use std::alloc::{AllocError, Global};
+use std::alloc::Global;
 use std::process::Abort;
-use std::test::Fail;
 
 const OUTPUTS: [&str; 2] = ["out", "out"];
 
@@ -40,7 +39,7 @@ fn write_both(racks: &mut [MemRack]) -> Result<(), Refusal>
 }
 
 // How the writing ends: whether it was done or of which plate a call failed, and how many bytes of each file stand.
-#[derive(Clone, Copy, Debug, PartialEq, Eq)]
+#[derive(Clone, Copy, PartialEq, Eq)]
 struct End {
     stop: Option<Refusal>,
     lengths: [Option<usize>; 2],
@@ -66,20 +65,18 @@ fn written(rt: &impl Abort, racks: &mut [MemRack]) -> End {
     }
 }
 
-fn ends(rt: &impl Abort, alloc: Global, fault: Option<Fault>) -> Result<End, AllocError> {
-    let mut racks = racks_of(alloc, fault)?;
-    Ok(written(rt, &mut racks))
+fn end_of(rt: &impl Abort, alloc: Global, fault: Option<Fault>) -> End {
+    let mut racks = racks_of(rt, alloc, fault);
+    written(rt, &mut racks)
 }
 
 #[test]
-fn plates_are_written_by_rows(rt: HostRuntime) -> Result<(), Fail> {
-    let end = ends(&rt, rt.alloc(), None)?;
-    assert!(rt; end.stop.is_none(), "{end:?}");
-    assert!(rt;
-        end.lengths == [Some(FILES[0].len()), Some(FILES[1].len())],
-        "{end:?}"
-    );
-    Ok(())
+fn plates_are_written_by_rows(rt: HostRuntime) {
+    let whole = End {
+        stop: None,
+        lengths: [Some(FILES[0].len()), Some(FILES[1].len())],
+    };
+    judge(&rt, end_of(&rt, rt.alloc(), None) == whole, "plates", 2);
 }
 
 // Where a call of a rack fails: the call, and how many bytes of each file stand then.
@@ -97,19 +94,26 @@ const FAILS: [(u32, u64, [Option<usize>; 2]); 11] = [
     (1, 12, [Some(19), Some(19)]),
 ];
 
+// Whether it ends so where that call of the plate's rack fails.
+fn is_told_at(
+    rt: &impl Abort,
+    alloc: Global,
+    plate: u32,
+    call: u64,
+    lengths: [Option<usize>; 2],
+) -> bool {
+    let fault = Fault {
+        device: plate as usize,
+        call,
+    };
+    let stop = Some(Refusal::Write(Some(plate)));
+    end_of(rt, alloc, Some(fault)) == End { stop, lengths }
+}
+
 #[test]
-fn each_write_that_fails_is_told_of_its_plate(rt: HostRuntime) -> Result<(), Fail> {
+fn each_write_that_fails_is_told_of_its_plate(rt: HostRuntime) {
     for (plate, call, lengths) in FAILS {
-        let fault = Fault {
-            device: plate as usize,
-            call,
-        };
-        let end = ends(&rt, rt.alloc(), Some(fault))?;
-        let stop = Some(Refusal::Write(Some(plate)));
-        assert!(rt;
-            end == End { stop, lengths },
-            "rack {plate}, call {call}: {end:?}"
-        );
+        let is = is_told_at(&rt, rt.alloc(), plate, call, lengths);
+        judge(&rt, is, "call", call);
     }
-    Ok(())
 }
