@@ -1,9 +1,9 @@
 -- On such a page each sample lies in zone 0, and a band's zones are one cell of 1.
-use Rattle.std.proofs.Common.{◌≡◌, ℕ, zero, suc, ◌+◌, ◌-◌, ◌*◌, ◌/◌, ◌%◌, ◌^◌, ◌<◌, ◌≤◌, [], ◌∷◌, length, slice_index, refl, sym, ap, ◌∙◌, arith, subst}
+use Rattle.std.proofs.Common.{◌≡◌, ℕ, zero, suc, ◌+◌, ◌-◌, ◌*◌, ◌/◌, ◌%◌, ◌^◌, ◌<◌, [], ◌∷◌, length, slice_index, refl, sym, ap, ◌∙◌, arith}
 use Rattle.std.specs.Prelude.{min}
 use Rattle.page_model.specs.declared.parts.At.{At}
 use Rattle.page_model.specs.declared.parts.PageParts.{PageParts}
-use Rattle.page_model.specs.Bands.{ceiling, rows_in, phase_of, band_of, pieces_of}
+use Rattle.page_model.specs.Bands.{ceiling, rows_in, phase_of, band_of}
 use Rattle.page_model.specs.Conditions.{IsPage}
 use Rattle.page_model.specs.Zones.{zone_of}
 use Rattle.page_model.proofs.BandLemmas.{band_begins, band_of_piece, phase_of_piece}
@@ -12,7 +12,7 @@ use Rattle.row_cells.specs.Layouts.{Layout}
 use Rattle.row_cells.specs.Places.{per_row, lanes_of, bits_of, value_total, cell_total, first_cell_of, cells_of, piece_count}
 use Rattle.row_cells.proofs.Sums.{sum_at_most}
 use Rattle.band_board.specs.Shapes.{Has}
-use Rattle.band_core.specs.Values.{IsFor, value, cell as page_cell, row_value}
+use Rattle.band_core.specs.Values.{value, row_value}
 use Rattle.band_core.proofs.Bridges.{cell_packs, row_values}
 use Rattle.band_claims.specs.declared.sheet.Sheet.{Sheet}
 use Rattle.band_claims.specs.Sheets.{cell, shape_of}

@@ -1,4 +1,5 @@
-//! The tests of bands, pieces, cells, boards and the shared table, apart from the crates that they try.
+//! The tests of bands, pieces, cells, boards and the shared table, and of pieces made by workers and alone, apart from the
+//! crates that they try.
 #![tactic(auto)]
 
 #[cfg(test)]
@@ -6,6 +7,14 @@ mod board;
 #[cfg(test)]
 mod cells;
 #[cfg(test)]
+mod expected;
+#[cfg(test)]
+mod left;
+#[cfg(test)]
+mod made;
+#[cfg(test)]
 mod needs;
 #[cfg(test)]
 mod table;
+#[cfg(test)]
+mod tables;

@@ -1,4 +1,4 @@
-ghost use Rattle.std.specs.Prelude.{◌≡◌, ◌≤◌, ◌∷◌, ◌++◌, [], All, IfOk, OnOk, length};
+ghost use Rattle.std.specs.Prelude.{◌≡◌, ◌≤◌, All, IfOk, length};
 ghost use Rattle.band_pieces.specs.Finished.{IsFinished};
 ghost use Rattle.page_model.specs.Bands.{AreBands};
 ghost use Rattle.page_model.specs.Page.{height as height_of, plates, width};
@@ -10,22 +10,13 @@ use band_claims::Closed;
 use band_pieces::{Scratch, finish_table};
 use band_workers::{OpenGate, work_many};
 use lists::list::List;
+use lists::memory::push;
 use page_model::bands::Bands;
 use page_model::page::Page;
 use page_model::parts::OutOfMemory;
 use std::alloc::Global;
 use std::test::Fail;
 use std::thread::Threads;
-
-/// Adds the item at the end.
-fn push<T: Drop>(list: &mut List<T>, item: T) -> Result<(), OutOfMemory>
-    ensures { OnOk result (list.new ≡ list.old ++ item ∷ []) }
-{
-    match list.push(item) {
-        Ok(()) => Ok(()),
-        Err(_) => Err(OutOfMemory),
-    }
-}
 
 /// The memory of so many workers.
 fn scratches(

@@ -1,4 +1,4 @@
-ghost use Rattle.std.specs.Prelude.{◌≡◌, ◌≢◌, ℕ, ◌∷◌, ◌++◌, ◌<◌, [], IfOk, OnOk, Some, None, length};
+ghost use Rattle.std.specs.Prelude.{◌≡◌, ◌<◌, [], IfOk, Some, None, length};
 ghost use Rattle.page_model.specs.Conditions.{IsInk, IsParts, IsPlane, IsZone};
 ghost use Rattle.page_model.specs.Page.{width, height};
 ghost use Rattle.band_claims.specs.Seating.{Seats};
@@ -7,6 +7,7 @@ ghost use Rattle.band_tests.specs.OneColumn.{OneColumn};
 
 use band_claims::{Pass, Reader, Shared};
 use lists::list::List;
+use lists::memory::push;
 use lists::names::OutOfMemory;
 use page_model::bands::Bands;
 use page_model::page::Page;
@@ -14,16 +15,6 @@ use page_model::parts::{Ink, InkKind, PageParts, Plane, TrapParams, Zone};
 use row_cells::layout::Layout;
 use std::alloc::Global;
 use std::test::Fail;
-
-/// Adds the item at the end.
-fn push<T: Drop>(list: &mut List<T>, item: T) -> Result<(), OutOfMemory>
-    ensures { OnOk result (list.new ≡ list.old ++ item ∷ []) }
-{
-    match list.push(item) {
-        Ok(()) => Ok(()),
-        Err(_) => Err(OutOfMemory),
-    }
-}
 
 /// A plate of one column and two rows, without ink.
 fn blank(alloc: Global) -> Result<Plane, OutOfMemory>

@@ -4,7 +4,7 @@ use Rattle.band_claims.specs.Sheets.{IsFit}
 use Rattle.band_claims.specs.Views.{times}
 use Rattle.band_pieces.specs.Room.{Memory}
 use Rattle.band_pieces.proofs.Finishing.{has_cells}
-use Rattle.piece_tests.proofs.left.left_at.Goals as goal
+use Rattle.band_tests.proofs.left.left_at.Goals as goal
 
 pub finish_alone-requires-clause-page : goal.finish_alone-requires-clause-page
 finish_alone-requires-clause-page c = c.requires.page ∙ ap (λ (z : Sheet). z.page.value) (sym c.close_all-closed.ensures.sheet)

@@ -1,6 +1,6 @@
 use Rattle.std.proofs.Common.{◌≡◌, None}
 use Rattle.band_claims.specs.Seating.{Seats}
-use Rattle.piece_tests.proofs.left.make_first.Given as goal
+use Rattle.band_tests.proofs.left.make_first.Given as goal
 
 abbrev pub invariant-loop-piece : goal.invariant-loop-piece
 invariant-loop-piece l = record {

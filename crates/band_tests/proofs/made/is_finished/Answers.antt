@@ -1,6 +1,6 @@
 use Rattle.std.proofs.Common.{sym}
 use Rattle.band_pieces.proofs.Finishing.{finished_has_cells}
-use Rattle.piece_tests.proofs.made.is_finished.Goals as goal
+use Rattle.band_tests.proofs.made.is_finished.Goals as goal
 
 pub is_whole-requires-clause-page : goal.is_whole-requires-clause-page
 is_whole-requires-clause-page c = sym c.requires.same_page

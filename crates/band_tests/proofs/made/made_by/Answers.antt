@@ -4,7 +4,7 @@ use Rattle.band_claims.specs.declared.view.View.{View}
 use Rattle.band_claims.specs.Shares.{IsWhole}
 use Rattle.band_claims.specs.Views.{newcomer}
 use Rattle.band_claims.proofs.ShareLemmas.{same_whole}
-use Rattle.piece_tests.proofs.made.made_by.Goals as goal
+use Rattle.band_tests.proofs.made.made_by.Goals as goal
 
 newcomer_whole : (key : Sheet) (v : View) → v ≡ newcomer key → IsWhole v.share
 newcomer_whole key v e = subst (λ (z : View). IsWhole z.share) (sym e) (record { halvings = 0; cut = (omega arith, tt); all = refl })

@@ -4,7 +4,7 @@ use Rattle.std.proofs.lemmas.List.Elements.{All-append}
 use Rattle.page_model.specs.Page.{plates, width}
 use Rattle.row_cells.specs.Layouts.{Layout}
 use Rattle.band_pieces.specs.Room.{Memory}
-use Rattle.piece_tests.proofs.made.scratches.Goals as goal
+use Rattle.band_tests.proofs.made.scratches.Goals as goal
 
 one : (want : Layout) (x : Memory) → x.layout ≡ want → All (λ (z : Memory). z.layout ≡ want) (x ∷ [])
 one want x e k d l = subst (λ (i : ℕ). (slice_index_or (x ∷ []) i d).layout ≡ want) (let z : 0 ≡ k = omega (arith, l) in z) e

@@ -1,6 +1,6 @@
 use Rattle.std.proofs.Common.{◌≡◌, length, All}
 use Rattle.page_model.specs.Page.{plates, width}
-use Rattle.piece_tests.proofs.made.scratches.Given as goal
+use Rattle.band_tests.proofs.made.scratches.Given as goal
 
 abbrev pub invariant-loop-k : goal.invariant-loop-k
 invariant-loop-k l = record {
