@@ -78,7 +78,8 @@ pub(crate) fn begin_input<R: Files + Alloc>(
     }
 }
 
-// A file that was opened. Only a regular one can be begun again, and so is kept; for lack of memory none is.
+// A file that was opened. It is to be kept but for lack of memory. One that cannot be begun again, as a pipe, is kept too, so that
+// beginning it again fails and does not wait for another writer.
 fn opened<R: Files + Alloc>(
     files: &R,
     most: usize,
@@ -89,7 +90,7 @@ fn opened<R: Files + Alloc>(
         Ok(metadata) => metadata.is_file(),
         Err(_) => false,
     };
-    let name = if is_regular && most > 0 {
+    let name = if most > 0 {
         String::from_str(files.alloc(), name).ok()
     } else {
         None

@@ -14,7 +14,7 @@ const PLATES: usize = 16;
 fn main(rt: HostRuntime) -> ExitCode {
     match words(&rt) {
         Ok(words) => {
-            let mut trays: [DiskTray<_>; PLATES] = array::from_fn(|_| DiskTray::new(&rt));
+            let mut trays: [DiskTray<_>; PLATES] = array::from_fn(|_| DiskTray::keeping(&rt));
             let mut racks: [DiskRack<_>; PLATES] = array::from_fn(|_| DiskRack::new(&rt));
             let status = trapsheet_main(&rt, rt.alloc(), &words, &mut trays, &mut racks);
             ExitCode::from(status)
