@@ -22,93 +22,58 @@ pub fn apply(now: &TrapParams, objects: &ObjectList, dict: u32) -> Result<TrapPa
     ensures { result ≡ params_after now.now objects.now dict }
 {
     let mut after = *now;
-    let mut first = None;
-    set_number(
+    let mut entries = Entries {
         objects,
         dict,
-        Key::TrapWidth,
-        &mut after.trap_width,
-        &mut first,
-    );
-    set_number(
-        objects,
-        dict,
-        Key::BlackWidth,
-        &mut after.black_width,
-        &mut first,
-    );
-    set_number(
-        objects,
-        dict,
-        Key::BlackColorLimit,
-        &mut after.black_color_limit,
-        &mut first,
-    );
-    set_number(
-        objects,
-        dict,
-        Key::BlackDensityLimit,
-        &mut after.black_density_limit,
-        &mut first,
-    );
-    set_number(
-        objects,
-        dict,
-        Key::StepLimit,
-        &mut after.step_limit,
-        &mut first,
-    );
-    set_number(
-        objects,
-        dict,
-        Key::SlidingTrapLimit,
-        &mut after.sliding_trap_limit,
-        &mut first,
-    );
-    set_number(
-        objects,
-        dict,
-        Key::TrapColorScaling,
-        &mut after.trap_color_scaling,
-        &mut first,
-    );
-    set_boolean(objects, dict, Key::Enabled, &mut after.enabled, &mut first);
-    match first {
+        first: None,
+    };
+    entries.set_number(Key::TrapWidth, &mut after.trap_width);
+    entries.set_number(Key::BlackWidth, &mut after.black_width);
+    entries.set_number(Key::BlackColorLimit, &mut after.black_color_limit);
+    entries.set_number(Key::BlackDensityLimit, &mut after.black_density_limit);
+    entries.set_number(Key::StepLimit, &mut after.step_limit);
+    entries.set_number(Key::SlidingTrapLimit, &mut after.sliding_trap_limit);
+    entries.set_number(Key::TrapColorScaling, &mut after.trap_color_scaling);
+    entries.set_boolean(Key::Enabled, &mut after.enabled);
+    match entries.first {
         Some(misfit) => Err(misfit.fault),
         None => Ok(after),
     }
 }
 
-// Sets a number as the dictionary names it, and keeps the misfit that stands first.
-fn set_number(
-    objects: &ObjectList,
+// A dictionary's entries, and of those that were set the misfit that stands first.
+#[derive(Drop)]
+struct Entries<'a> {
+    objects: &'a ObjectList,
     dict: u32,
-    key: Key,
-    number: &mut u32,
-    first: &mut Option<Misfit>,
-)
-    requires { AreObjects objects.now }
-    ensures number { number.new ≡ result_unwrap_or (number_set objects.now dict key number.old) number.old }
-    ensures first { first.new ≡ earlier_misfit first.old (misfit_of (number_set objects.now dict key number.old)) }
-{
-    let set = number_after(objects, dict, key, *number);
-    *first = earlier(*first, set.err());
-    *number = set.unwrap_or(*number);
+    first: Option<Misfit>,
 }
 
-// Sets a boolean as the dictionary names it, and keeps the misfit that stands first.
-fn set_boolean(
-    objects: &ObjectList,
-    dict: u32,
-    key: Key,
-    boolean: &mut bool,
-    first: &mut Option<Misfit>,
-)
-    requires { AreObjects objects.now }
-    ensures boolean { boolean.new ≡ result_unwrap_or (boolean_set objects.now dict key boolean.old) boolean.old }
-    ensures first { first.new ≡ earlier_misfit first.old (misfit_of (boolean_set objects.now dict key boolean.old)) }
-{
-    let set = boolean_after(objects, dict, key, *boolean);
-    *first = earlier(*first, set.err());
-    *boolean = set.unwrap_or(*boolean);
+impl Entries<'_> {
+    // Sets a number as the dictionary names it.
+    fn set_number(&mut self, key: Key, number: &mut u32)
+        requires { AreObjects self.old.objects.now }
+        ensures number { number.new
+            ≡ result_unwrap_or (number_set self.old.objects.now self.old.dict key number.old) number.old }
+        ensures first { self.new.first ≡ earlier_misfit self.old.first
+            (misfit_of (number_set self.old.objects.now self.old.dict key number.old)) }
+        ensures same { (self.new.objects ≡ self.old.objects) × (self.new.dict ≡ self.old.dict) }
+    {
+        let set = number_after(self.objects, self.dict, key, *number);
+        self.first = earlier(self.first, set.err());
+        *number = set.unwrap_or(*number);
+    }
+
+    // Sets a boolean as the dictionary names it.
+    fn set_boolean(&mut self, key: Key, boolean: &mut bool)
+        requires { AreObjects self.old.objects.now }
+        ensures boolean { boolean.new
+            ≡ result_unwrap_or (boolean_set self.old.objects.now self.old.dict key boolean.old) boolean.old }
+        ensures first { self.new.first ≡ earlier_misfit self.old.first
+            (misfit_of (boolean_set self.old.objects.now self.old.dict key boolean.old)) }
+    {
+        let set = boolean_after(self.objects, self.dict, key, *boolean);
+        self.first = earlier(self.first, set.err());
+        *boolean = set.unwrap_or(*boolean);
+    }
 }
