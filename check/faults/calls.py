@@ -43,6 +43,12 @@ def renamed(plain):
     return [(call.number, call.file) for call in plain.calls if call.name == "rename"]
 
 
+def begun_at(plain, number):
+    """How many files are begun before that call, and have no name yet."""
+    made = {runs.final_of(call.file) for call in plain.calls if call.name == "create" and call.number < number}
+    return len(made - {name for at, name in renamed(plain) if at < number})
+
+
 def told_before(plain, number):
     """What had been told before that call."""
     return plain.told[:sum(call.length for call in plain.calls if call.name == "tell" and call.number < number)]
@@ -112,7 +118,7 @@ def differs(ended, status, told, files):
 
 
 def without_beside(ended):
-    """The end without the one file that was begun, and how many there were."""
+    """The end without the files that were begun, and how many there were."""
     files = {name: data for name, data in ended.files.items() if not runs.is_beside(name)}
     return ended._replace(files=files), len(ended.files) - len(files)
 
@@ -179,7 +185,8 @@ class Trials:
         if wrong or not any(one.name == "unlink" for one in ended.calls):
             return wrong
         ended, left = without_beside(self.run("%d=%d,1+unlink=%d" % (call.number, what, errno.EIO))[0])
-        return differs(ended, status, told, files) or ("" if left == 1 else "%d files are left where none can be removed" % left)
+        return differs(ended, status, told, files) or (
+            "" if left == begun_at(self.plain, call.number) else "%d files are left where none can be removed" % left)
 
     def wrong_tell(self, call, ended):
         """Of a failed tell: what was told before it stands, and no more than a line of the fault follows."""
@@ -195,7 +202,7 @@ class Trials:
         status = 5 if is_read and (call.file == "list" or not self.case.lines) else 6
         told = told_before(self.plain, call.number)
         return differs(ended, status, told, files_of(self.case, self.plain, self.before, new)) or (
-            "" if left <= 1 else "%d files are left" % left)
+            "" if left <= begun_at(self.plain, call.number) else "%d files are left" % left)
 
     def full(self, call):
         """Each write fails from this one on."""
@@ -204,12 +211,13 @@ class Trials:
         return differs(ended, 9 if self.case.lines else 6, None, files_of(self.case, self.plain, self.before, new))
 
     def killed(self, call, way):
-        """After a kill, what stands is old or new, and a file that was begun may be left. A second run comes to a good end beside it."""
+        """After a kill, what stands is old or new, and files that were begun may be left. A second run comes to a good end beside them."""
         first, second = self.run("%d=%s" % (call.number, way))
         new = {name for number, name in renamed(self.plain) if number < call.number + (way == "killed")}
         begun = [name for name in first.files if runs.is_beside(name)]
         wrong = differs(without_beside(first)[0], -9, None, files_of(self.case, self.plain, self.before, new))
-        if wrong or len(begun) > 1:
+        most = max(begun_at(self.plain, number) for number in (call.number, call.number + 1))
+        if wrong or len(begun) > most:
             return wrong or "%d files are left" % len(begun)
         if set(self.case.files) & set(self.case.writes):
             return ""

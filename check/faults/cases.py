@@ -7,8 +7,8 @@ OLD = b"what stood here before\n"
 
 # A program's words; the files before, by their names, and those of them that are outputs; for each input and for each output
 # what is told of a fault of it. A list of jobs has for each name the number of its line, and a run how many pages it has. Links
-# have what they lead to.
-Case = namedtuple("Case", "program words files old reads writes lines pages links", defaults=({}, 0, {}))
+# have what they lead to. Outputs that grow side by side take their names together.
+Case = namedtuple("Case", "program words files old reads writes lines pages links together", defaults=({}, 0, {}, ()))
 
 INPUTS = {"job": "job", "Cyan": "plate 0", "Magenta": "plate 1", "list": "list", "set": "set"}
 OUTPUTS = {"c.out": "plate 0", "m.out": "plate 1", "report": "report", "set": "set"}
@@ -54,7 +54,7 @@ APPLY = case("trapset", ["apply", "set", "Cyan:c.out", "Magenta:m.out"],
              {"Cyan": PAIR["Cyan"], "Magenta": PAIR["Magenta"], "set": SET}, ["c.out", "m.out"], ["m.out"])
 RUN = run_case()
 POOL = pool_case()
-SHEET = case("trapsheet", ["2", *PAGE[1:]], PAIR, ["c.out", "m.out", "report"], ["c.out", "report"])
+SHEET = case("trapsheet", ["2", *PAGE[1:]], PAIR, ["c.out", "m.out", "report"], ["c.out", "report"], together=("c.out", "m.out"))
 
 # These write files in ways that a place on the disk can stand in the way of.
 WRITING = [TRAP, TRAPS, APPLY, RUN, POOL, SHEET]

@@ -28,6 +28,8 @@ class Place:
         self.plain = plain_of(case)
         order = list(case.writes)
         self.earlier = set(order[:order.index(name)]) if name in order else set()
+        if name in case.together:
+            self.earlier -= set(case.together)
         self.room = tempfile.mkdtemp(dir=runs.ROOM)
         self.folder = os.path.join(self.room, "case")
         os.mkdir(self.folder)
@@ -255,8 +257,7 @@ def a_folder_to_read(place):
     return place.unread()
 
 
-def a_pipe_to_read(place):
-    """An input comes through a pipe."""
+def put_through_a_pipe(place):
     with open(place.path, "rb") as file:
         data = file.read()
     place.remove()
@@ -267,7 +268,18 @@ def a_pipe_to_read(place):
             file.write(data)
 
     threading.Thread(target=write, daemon=True).start()
+
+
+def a_pipe_to_read(place):
+    """An input comes through a pipe."""
+    put_through_a_pipe(place)
     return place.written({place.name: "special"})
+
+
+def a_pipe_to_read_twice(place):
+    """An input that is read twice comes through a pipe, which cannot be begun again: nobody waits for another writer."""
+    put_through_a_pipe(place)
+    return place.unread()
 
 
 def no_reader(case):

@@ -191,7 +191,8 @@ def new_by(case, plain, ended):
     if not case.lines:
         named = [name for name, line in case.writes.items() if line == ended.told]
         order = list(case.writes)
-        return set(order[:order.index(named[0])]) if named else set()
+        new = set(order[:order.index(named[0])]) if named else set()
+        return new - set(case.together) if named and named[0] in case.together else new
     new = set()
     for which, line in enumerate(ended.told.splitlines(True)):
         order = [name for name in case.writes if case.lines[name] == which]

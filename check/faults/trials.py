@@ -57,6 +57,8 @@ def of_inputs(case, is_short):
             # A run opens its plates for each page, and a plate that is replaced is no pipe afterwards.
             if way is places.a_pipe_to_read and (case.pages and name != "job" or name in case.writes):
                 continue
+            if way is places.a_pipe_to_read and case.together and name != "job":
+                way = places.a_pipe_to_read_twice
             yield about(way, name), lambda way=way, name=name: at(way, case, name)
 
 
