@@ -911,7 +911,7 @@ SSH
 }
 
 # farm_by_ssh WORD ..: press/farm by that stand-in. The home folder is one above, which GNU parallel takes notice of.
-farm_by_ssh() { HOME=$out PARALLEL_SSH=$out/ssh "$here/farm" --quiet --lenient --no-proof "$@"; }
+farm_by_ssh() { HOME=$out PARALLEL_SSH=$(printf %q "$out/ssh") "$here/farm" --quiet --lenient --no-proof "$@"; }
 
 # within FOLDER COMMAND ..: the command there.
 within() { (cd "$1" && "${@:2}"); }
