@@ -5,7 +5,8 @@
      NUMBER+CALL=WHAT    each call of that name from that number on; `any` is each call of every name
 
    WHAT is the number of an error, or `short` (a read or a write of one byte), `again` (EINTR where the call's number is odd), `kill`
-   (SIGKILL before the call), `killed` (after it) or `within` (a write of one byte, and then SIGKILL). FAULTS_LOG names a file to which
+   (SIGKILL before the call), `killed` (after it), `within` (a write of one byte, and then SIGKILL) or `cut` (the call's file has lost
+   its last byte). FAULTS_LOG names a file to which
    a line for each call is added: NUMBER CALL NAME LENGTH. */
 #define _GNU_SOURCE
 #include <dlfcn.h>
@@ -17,6 +18,7 @@
 #include <stdlib.h>
 #include <string.h>
 #include <sys/stat.h>
+#include <sys/syscall.h>
 #include <unistd.h>
 
 enum { MOST_RULES = 16, MOST_FILES = 256, LONGEST = 512 };
@@ -72,6 +74,13 @@ static int is_for(const struct rule *rule, unsigned long number, const char *cal
   return rule->from <= number && (!strcmp(rule->call, "any") || !strcmp(rule->call, call));
 }
 
+/* Takes the last byte off a file, by calls that are not watched. */
+static void cut(const char *name) {
+  struct stat found;
+  if (syscall(SYS_newfstatat, AT_FDCWD, name, &found, 0) || syscall(SYS_truncate, name, found.st_size - 1))
+    abort();
+}
+
 /* What comes of the next call, which is of that name: "" where it goes on as ever. It is logged, and a kill before it takes place. */
 static const char *next(const char *call, const char *name, size_t length) {
   unsigned long number = __atomic_add_fetch(&calls, 1, __ATOMIC_SEQ_CST);
@@ -85,6 +94,8 @@ static const char *next(const char *call, const char *name, size_t length) {
     what = number % 2 ? "4" : "";
   if (!strcmp(what, "kill"))
     raise(SIGKILL);
+  if (!strcmp(what, "cut"))
+    cut(name);
   return what;
 }
 

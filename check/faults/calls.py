@@ -155,6 +155,8 @@ class Trials:
             yield about + ": EIO, and in all that follows", lambda: self.lost(call)
         if call.name == "write":
             yield about + ": ENOSPC, and in each write that follows", lambda: self.full(call)
+        if self.case.together and call.name == "seek":
+            yield about + ": cut", lambda: self.changed(call)
         for what in self.some(unnoticed, call):
             if what != "short" or call.length > 1:
                 yield "%s: %s" % (about, word_of(what)), lambda what=what: self.unnoticed("%d=%s" % (call.number, what))
@@ -187,6 +189,13 @@ class Trials:
         ended, left = without_beside(self.run("%d=%d,1+unlink=%d" % (call.number, what, errno.EIO))[0])
         return differs(ended, status, told, files) or (
             "" if left == begun_at(self.plain, call.number) else "%d files are left where none can be removed" % left)
+
+    def changed(self, call):
+        """A plate has lost its last byte when it is begun once more."""
+        ended, _ = self.run("%d=cut" % call.number)
+        mode, data = self.before[call.file]
+        told = self.case.reads[call.file].replace("read fault:", "sheet: Changed in")
+        return differs(ended, 4, told, {**self.before, call.file: (mode, data[:-1])})
 
     def wrong_tell(self, call, ended):
         """Of a failed tell: what was told before it stands, and no more than a line of the fault follows."""
