@@ -65,8 +65,9 @@ def errors_of(case, plain, call):
     told, unnoticed = ERRORS[call.name], UNNOTICED.get(call.name, [])
     if is_look_at_input(plain, call):
         return [], told
-    if call.name == "open" and case.pages and call.file != "job":
-        # The files that are kept are closed for it.
+    keeps = case.pages and call.file != "job" or case.together and "plate 0" in case.reads.get(call.file, "")
+    if call.name == "open" and keeps:
+        # The files that are kept, of a sheet the job by the first plate's tray, are closed for it.
         return [error for error in told if error != errno.EMFILE], [*unnoticed, errno.EMFILE]
     return told, unnoticed
 
