@@ -2,27 +2,17 @@ mod failing;
 mod words;
 mod worked;
 
+use bare_sheets::budget::Budget;
 use lists::list::List;
-use outside::distinct_names::have_distinct_names;
-use outside::mem_file::{FileList, MemFile};
+use lists::names::OutOfMemory;
+use outside::mem_file::FileList;
 use outside::mem_rack::MemRack;
 use outside::mem_tray::MemTray;
-use bare_sheets::budget::Budget;
 use std::alloc::{AllocError, Global};
 use std::process::Abort;
 use std::thread::Threads;
-use test_files::{calls, file_of, words_of};
+use test_files::{put_file, rack_of, tray_of, words_of};
 use trapsheet_cli::top::trapsheet_within;
-
-// A job begins with its inks, and a page may set parameters and be shown.
-const INKS: &[u8] =
-    b"<< /HWResolution [72 72] /TrappingDetails << /Type 1001 /ColorantDetails << /Cyan << /NeutralDensity 0.61 >> /Magenta << /NeutralDensity 0.76 >> >> >> >> setpagedevice ";
-
-const DISABLED: &[u8] = b"<< /Enabled false >> settrapparams showpage";
-
-// What is reported of the two plates where no zone is enabled.
-const AS_IT_WAS: &[u8] =
-    b"trap report\npage 6 1 255 plates 2\nzone 0 samples 6 changed 0\nedges 0\nplate Cyan changed 0\nplate Magenta changed 0\nend\n";
 
 const TWO_PLATES: &str = "4 job report Cyan:in0:out0 Magenta:in1:out1";
 
@@ -98,39 +88,16 @@ fn fault_at(fault: Option<Fault>, device: usize) -> Option<u64> {
     }
 }
 
-fn put_file(
-    alloc: Global,
-    files: &mut Vec<MemFile>,
-    name: &str,
-    pieces: Pieces<'_>,
-) -> Result<(), AllocError> {
-    files.push(file_of(alloc, name, pieces)?)?;
-    Ok(())
-}
-
 // The files of one tray.
-fn files_of(alloc: Global, case: Case<'_>, device: usize) -> Result<FileList, AllocError> {
-    let mut files = Vec::new(alloc);
+fn files_of(alloc: Global, case: Case<'_>, device: usize) -> Result<FileList, OutOfMemory> {
+    let mut files = List::new(alloc);
     if device == 0 {
         put_file(alloc, &mut files, "job", case.job)?;
     }
     if let (Some(name), Some(pieces)) = (READ.get(device), case.plates.get(device)) {
         put_file(alloc, &mut files, name, pieces)?;
     }
-    Ok(List::from_vec(files))
-}
-
-fn tray_of(
-    rt: &impl Abort,
-    alloc: Global,
-    files: FileList,
-    grain: usize,
-    fails: Option<u64>,
-) -> Result<MemTray, AllocError> {
-    let fails = calls(alloc, fails)?;
-    assert!(rt; have_distinct_names(files.as_slice()));
-    assert!(rt; 0 < grain);
-    Ok(MemTray::new(alloc, files, grain, fails))
+    Ok(files)
 }
 
 fn put_tray(
@@ -140,9 +107,11 @@ fn put_tray(
     case: Case<'_>,
     device: usize,
 ) -> Result<(), AllocError> {
-    let files = files_of(alloc, case, device)?;
+    let files = files_of(alloc, case, device).expect(rt, "no memory");
+    assert!(rt; 0 < case.grain);
     let fails = fault_at(case.tray_fails, device);
-    trays.push(tray_of(rt, alloc, files, case.grain, fails)?)?;
+    let tray = tray_of(alloc, files, case.grain, fails).expect(rt, "two files of one name");
+    trays.push(tray)?;
     Ok(())
 }
 
@@ -162,7 +131,7 @@ fn put_rack(
     fails: Option<u64>,
 ) -> Result<(), AllocError> {
     assert!(rt; 0 < grain);
-    racks.push(MemRack::new(alloc, grain, 1_000_000, calls(alloc, fails)?))?;
+    racks.push(rack_of(alloc, grain, 1_000_000, fails)?)?;
     Ok(())
 }
 

@@ -1,10 +1,10 @@
-use super::{AS_IT_WAS, Case, DISABLED, Fault, WIDE, case_of, run};
+use super::{Case, Fault, WIDE, case_of, run};
 use outside::mem_rack::MemRack;
 use std::alloc::{AllocError, Global};
 use std::process::Abort;
 use std::test::Fail;
 use std::thread::Threads;
-use test_files::{CYAN, MAGENTA};
+use test_files::{CYAN, DISABLED, MAGENTA, UNTRAPPED_REPORT};
 
 // The lines of a read that fails, by the tray, in the order of its calls.
 const READS: &[&[&str]] = &[
@@ -47,7 +47,7 @@ fn whole_of(racks: &[MemRack]) -> Option<usize> {
     for (rack, name, wanted) in [
         (0, "out0", CYAN),
         (1, "out1", MAGENTA),
-        (0, "report", AS_IT_WAS),
+        (0, "report", UNTRAPPED_REPORT),
     ] {
         if let Some(bytes) = racks.get(rack)?.file(name) {
             if !wanted.starts_with(bytes) {

@@ -1,9 +1,9 @@
-use super::{AS_IT_WAS, DISABLED, WIDE, Wanted, case_of, ends};
+use super::{WIDE, Wanted, case_of, ends};
 use std::alloc::{AllocError, Global};
 use std::process::Abort;
 use std::test::Fail;
 use std::thread::Threads;
-use test_files::{CYAN, MAGENTA};
+use test_files::{CYAN, DISABLED, MAGENTA, UNTRAPPED_REPORT};
 
 const USAGE: &str = "usage: trapsheet WORKERS JOB REPORT NAME:IN:OUT ...\n";
 
@@ -91,7 +91,7 @@ fn other_words_mean_a_sheet(rt: HostRuntime) -> Result<(), Fail> {
         status: 0,
         told: "",
         plates: &[CYAN, MAGENTA],
-        report: Some(AS_IT_WAS),
+        report: Some(UNTRAPPED_REPORT),
     };
     for words in RIGHT {
         assert!(rt; end_so(&rt, rt.alloc(), words, wanted)?, "{words}");

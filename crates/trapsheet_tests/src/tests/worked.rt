@@ -1,24 +1,12 @@
-use super::{AS_IT_WAS, DISABLED, INKS, NARROW, Pieces, WIDE, Wanted, case_of, ends};
+use super::{NARROW, Pieces, WIDE, Wanted, case_of, ends};
 use bare_sheets::budget::Budget;
 use std::test::Fail;
-use test_files::{CYAN, MAGENTA};
-
-pub(super) const SPREAD: &[u8] = b"<< /TrapWidth 2 >> settrapparams showpage";
+use test_files::{
+    CYAN, DISABLED, INKS, MAGENTA, TRAPPED_CYAN, TRAPPED_MAGENTA, TRAPPED_REPORT, UNSLID_CYAN,
+    UNSLID_REPORT, UNTRAPPED_REPORT, WIDE as SPREAD,
+};
 
 const DARKER_SIDE: &[u8] = b"<< /TrapWidth 2 /SlidingTrapLimit 1 >> settrapparams showpage";
-
-// What the edge between both plates becomes: a trap of two samples on one side of it, or one sample on each side.
-const ONE_SIDE: &[u8] = b"P5\n6 1\n255\n\0\0\0\0\0\xFF";
-
-const ONE_SIDE_REPORT: &[u8] =
-    b"trap report\npage 6 1 255 plates 2\nzone 0 samples 6 changed 2\nedges 1\nplate Cyan changed 2\nplate Magenta changed 0\nend\n";
-
-const BOTH_CYAN: &[u8] = b"P5\n6 1\n255\n\0\0\0\0\xFF\xFF";
-
-const BOTH_MAGENTA: &[u8] = b"P5\n6 1\n255\n\xFF\xFF\0\0\0\0";
-
-const BOTH_REPORT: &[u8] =
-    b"trap report\npage 6 1 255 plates 2\nzone 0 samples 6 changed 2\nedges 1\nplate Cyan changed 1\nplate Magenta changed 1\nend\n";
 
 // A zone of five samples.
 const ZONE: &[u8] =
@@ -28,10 +16,14 @@ const ZONE_REPORT: &[u8] =
     b"trap report\npage 6 1 255 plates 2\nzone 0 samples 1 changed 0\nzone 1 samples 5 changed 2\nedges 1\nplate Cyan changed 1\nplate Magenta changed 1\nend\n";
 
 const SHEETS: &[(Pieces<'static>, &[&[u8]], &[u8])] = &[
-    (&[DISABLED], &[CYAN, MAGENTA], AS_IT_WAS),
-    (&[INKS, SPREAD], &[BOTH_CYAN, BOTH_MAGENTA], BOTH_REPORT),
-    (&[INKS, DARKER_SIDE], &[ONE_SIDE, MAGENTA], ONE_SIDE_REPORT),
-    (&[INKS, ZONE], &[BOTH_CYAN, BOTH_MAGENTA], ZONE_REPORT),
+    (&[DISABLED], &[CYAN, MAGENTA], UNTRAPPED_REPORT),
+    (
+        &[INKS, SPREAD],
+        &[TRAPPED_CYAN, TRAPPED_MAGENTA],
+        TRAPPED_REPORT,
+    ),
+    (&[INKS, DARKER_SIDE], &[UNSLID_CYAN, MAGENTA], UNSLID_REPORT),
+    (&[INKS, ZONE], &[TRAPPED_CYAN, TRAPPED_MAGENTA], ZONE_REPORT),
 ];
 
 // One, two and 64 workers.
@@ -68,8 +60,8 @@ fn the_workers_change_nothing(rt: HostRuntime) -> Result<(), Fail> {
         let wanted = Wanted {
             status: 0,
             told: "",
-            plates: &[BOTH_CYAN, BOTH_MAGENTA],
-            report: Some(BOTH_REPORT),
+            plates: &[TRAPPED_CYAN, TRAPPED_MAGENTA],
+            report: Some(TRAPPED_REPORT),
         };
         assert!(rt; ends(&rt, rt.alloc(), case, wanted)?, "{words}");
     }
