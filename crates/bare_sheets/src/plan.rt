@@ -1,6 +1,6 @@
 // How a sheet is to be trapped, before its tints are read.
 
-ghost use Rattle.std.specs.Prelude.{◌≡◌, ◌+◌, ◌-◌, ◌*◌, ◌<◌, ◌≤◌, ◌^◌, max, length, IfErr, IfOk, OnOk, None, Some};
+ghost use Rattle.std.specs.Prelude.{◌≡◌, ◌⊎◌, ◌+◌, ◌-◌, ◌*◌, ◌<◌, ◌≤◌, ◌^◌, max, length, IfErr, IfOk, OnOk, None, Some};
 ghost use Rattle.page_model.specs.Columns.{halo};
 ghost use Rattle.page_model.specs.Limits.{most_plates, most_samples, most_side};
 ghost use Rattle.page_model.specs.Page.{height, plates, width};
@@ -17,6 +17,9 @@ use crate::steps::sheet_step;
 use page_model::bounds::MOST_SAMPLES;
 use page_model::parts::PageParts;
 use sheet_windows::spans::Ruler;
+
+// Fewer columns than these are not worth a window of their own.
+const NARROW: u32 = 128;
 
 /// Rulers for the columns and the rows of a sheet.
 #[derive(Clone, Copy, Drop)]
@@ -152,7 +155,7 @@ fn rulers_of(sheet: &PageParts, least: Least, rows: u32, budget: &Budget) -> Rul
     let planes = sheet.planes.as_slice();
     let plates = planes.len() as u32;
     let rows = most_rows(least.columns, rows, plates, budget);
-    let columns = most_columns(least.columns, rows, plates, budget);
+    let columns = columns_for(planes[0].width, least, rows, plates, budget);
     Rulers {
         across: Ruler {
             side: planes[0].width,
@@ -168,5 +171,46 @@ fn rulers_of(sheet: &PageParts, least: Least, rows: u32, budget: &Budget) -> Rul
             most: rows,
             from_end: true,
         },
+    }
+}
+
+// How many columns the windows get, of so many rows: about as many as one another.
+fn columns_for(side: u32, least: Least, rows: u32, plates: u32, budget: &Budget) -> u32
+    requires side { side < 2 ^ 30 }
+    requires some_step { 1 ≤ least.step }
+    requires columns { least.columns ≡ 2 * max 1 least.halo + least.step }
+    requires small_room { least.columns ≤ 2304 }
+    requires some_rows { 1 ≤ rows }
+    requires few_rows { rows ≤ most_side }
+    requires some_plates { 1 ≤ plates }
+    requires few_plates { plates ≤ most_plates }
+    requires few_samples { least.columns * rows * plates ≤ most_samples }
+    ensures room { least.columns ≤ result }
+    ensures narrow { result ≤ most_side }
+    ensures few_samples { result * rows * plates ≤ most_samples }
+    ensures budget { (result ≡ least.columns) ⊎ (result * rows * plates ≤ budget.now.samples) }
+{
+    let most = most_columns(least.columns, rows, plates, budget);
+    even_columns(side, least.columns, most)
+}
+
+// How many columns windows of at most so many get, and of as many at least as the least one has, so that their number is a
+// multiple of four and they have about as many: four workers, or two, then have as much to do as one another. Where they
+// would be narrow, it is as many as may be.
+fn even_columns(side: u32, least: u32, most: u32) -> u32
+    requires side { side < 2 ^ 30 }
+    requires some { 1 ≤ least }
+    requires room { least ≤ most }
+    requires narrow { most ≤ most_side }
+    ensures room { least ≤ result }
+    ensures few { result ≤ most }
+{
+    let beside = least - 1;
+    let windows = side.div_ceil(most - beside).max(1);
+    let core = side.div_ceil(windows.div_ceil(4) * 4);
+    if core < NARROW {
+        most
+    } else {
+        (core + beside).clamp(least, most)
     }
 }
