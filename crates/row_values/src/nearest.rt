@@ -1,11 +1,10 @@
 // The edge that decides each sample of a row, from the row's column answers.
 
-ghost use Rattle.std.specs.Prelude.{◌≡◌, ◌≤◌, ◌<◌, ◌+◌, ◌*◌, ◌-◌, ℕ, length, slice_index, slice_index_or, None};
-ghost use Rattle.std.specs.Option.{MatchOption};
-ghost use Rattle.page_model.specs.Columns.{column_decider};
+ghost use Rattle.std.specs.Prelude.{◌≡◌, ◌≤◌, ◌<◌, ◌*◌, ◌-◌, length};
 ghost use Rattle.page_model.specs.Page.{width};
 ghost use Rattle.page_model.specs.Limits.{most_reach, most_side};
-ghost use Rattle.row_values.specs.Arms.{AreAnswers, edge_at_place};
+ghost use Rattle.row_values.specs.Arms.{AreAnswers};
+ghost use Rattle.row_values.specs.Nearest.{AreDeciders, AreKnown};
 
 use crate::arms::raise_arms;
 use page_model::arms::Arm;
@@ -41,13 +40,8 @@ fn nearest_by<L: Ledger>(
     ensures columns { length columns.new ≡ length columns.old }
     ensures places { length places.new ≡ length places.old }
     ensures hull { hull.new ≡ hull.old }
-    ensures known { (x : ℕ) → x < width page.now
-        → MatchOption (slice_index_or places.new x None) (0 ≤ y)
-        (λ k. (k < length columns.new) × (slice_index columns.new k < length codes.now)
-        × (257 ≤ slice_index codes.now (slice_index columns.new k) + 2 * y)) }
-    ensures deciders { (x : ℕ) → x < width page.now
-        → edge_at_place codes.now y columns.new (slice_index_or places.new x None)
-        ≡ column_decider page.now reach2 (record { x = x; y = y }) }
+    ensures known { AreKnown (width page.now) y codes.now columns.new places.new }
+    ensures deciders { AreDeciders page.now reach2 y codes.now columns.new places.new }
 {
     let width = page.width();
     let count = raise_arms(codes, arms, columns);
@@ -77,13 +71,8 @@ pub fn nearest_arms(
     ensures columns { length columns.new ≡ length columns.old }
     ensures places { length places.new ≡ length places.old }
     ensures hull { hull.new ≡ hull.old }
-    ensures known { (x : ℕ) → x < width page.now
-        → MatchOption (slice_index_or places.new x None) (0 ≤ y)
-        (λ k. (k < length columns.new) × (slice_index columns.new k < length codes.now)
-        × (257 ≤ slice_index codes.now (slice_index columns.new k) + 2 * y)) }
-    ensures deciders { (x : ℕ) → x < width page.now
-        → edge_at_place codes.now y columns.new (slice_index_or places.new x None)
-        ≡ column_decider page.now reach2 (record { x = x; y = y }) }
+    ensures known { AreKnown (width page.now) y codes.now columns.new places.new }
+    ensures deciders { AreDeciders page.now reach2 y codes.now columns.new places.new }
 {
     let blank = Blank::new(1);
     nearest_by::<Brand>(page, codes, y, reach2, arms, columns, places, hull, blank);

@@ -1,8 +1,9 @@
 // The new tints of rows, each sample with the edge that decides it.
 
-ghost use Rattle.std.specs.Prelude.{◌≡◌, ◌<◌, ◌≤◌, ◌+◌, ◌*◌, ◌-◌, ℕ, length, slice_index, slice_index_or, None};
-ghost use Rattle.std.specs.Option.{ForSome, MatchOption};
-ghost use Rattle.row_values.specs.Arms.{AreAnswers, edge_at_place};
+ghost use Rattle.std.specs.Prelude.{◌≡◌, ◌<◌, ◌≤◌, ◌+◌, ◌*◌, ◌-◌, ℕ, length, slice_index, None};
+ghost use Rattle.std.specs.Option.{ForSome};
+ghost use Rattle.row_values.specs.Arms.{AreAnswers};
+ghost use Rattle.row_values.specs.Nearest.{AreDeciders, AreKnown};
 ghost use Rattle.row_values.specs.Quiet.{IsRowTo, is_far_off};
 ghost use Rattle.row_values.specs.Room.{Serves};
 ghost use Rattle.row_values.specs.Rows.{HoldsAnswers, HoldsTints, HoldsZones, doubled, tint_value};
@@ -91,13 +92,8 @@ fn trap_some(
     requires reach { reach2 ≡ page_reach page.now }
     requires few { reach2 ≤ most_reach }
     requires places { length places.now ≡ width page.now }
-    requires known { (x : ℕ) → x < width page.now
-        → MatchOption (slice_index_or places.now x None) (0 ≤ y)
-        (λ k. (k < length columns.now) × (slice_index columns.now k < length codes.now)
-        × (257 ≤ slice_index codes.now (slice_index columns.now k) + 2 * y)) }
-    requires deciders { (x : ℕ) → x < width page.now
-        → edge_at_place codes.now y columns.now (slice_index_or places.now x None)
-        ≡ column_decider page.now reach2 (record { x = x; y = y }) }
+    requires known { AreKnown (width page.now) y codes.now columns.now places.now }
+    requires deciders { AreDeciders page.now reach2 y codes.now columns.now places.now }
     requires answers { AreAnswers page.now (page_reach page.now) y (doubled page.now) codes.now }
     requires some { 1 ≤ count }
     requires inside { x + count ≤ width page.now }
@@ -133,13 +129,8 @@ fn trap_samples(
     requires reach { reach2 ≡ page_reach page.now }
     requires few { reach2 ≤ most_reach }
     requires places { length places.now ≡ width page.now }
-    requires known { (x : ℕ) → x < width page.now
-        → MatchOption (slice_index_or places.now x None) (0 ≤ y)
-        (λ k. (k < length columns.now) × (slice_index columns.now k < length codes.now)
-        × (257 ≤ slice_index codes.now (slice_index columns.now k) + 2 * y)) }
-    requires deciders { (x : ℕ) → x < width page.now
-        → edge_at_place codes.now y columns.now (slice_index_or places.now x None)
-        ≡ column_decider page.now reach2 (record { x = x; y = y }) }
+    requires known { AreKnown (width page.now) y codes.now columns.now places.now }
+    requires deciders { AreDeciders page.now reach2 y codes.now columns.now places.now }
     requires answers { AreAnswers page.now (page_reach page.now) y (doubled page.now) codes.now }
     requires tints { length tints.old ≡ plates page.now }
     requires out { IsRowTo page.now y 0 out.old }
