@@ -1,7 +1,7 @@
 //! The report of a page that was trapped; with the line and the status of each refusal, as the crate refusals has them.
 #![tactic(auto)]
 
-mod lines;
+pub mod lines;
 pub mod parts;
 pub mod report;
 

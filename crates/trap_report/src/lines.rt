@@ -78,15 +78,16 @@ pub(crate) fn add_plate(text: &mut Vec<u8>, name: &[u8], changed: u64) -> Result
     add(text, b"\n")
 }
 
-pub(crate) fn add(text: &mut Vec<u8>, bytes: &[u8]) -> Result<(), AllocError>
+/// Adds these bytes to a text.
+pub fn add(text: &mut Vec<u8>, bytes: &[u8]) -> Result<(), AllocError>
     ensures { OnOk result (text.new.items ≡ text.old.items ++ bytes.now) }
 {
     text.extend_from_slice(bytes)?;
     Ok(())
 }
 
-// Adds these bytes, and a number in decimal after them.
-fn add_number(text: &mut Vec<u8>, before: &[u8], number: u64) -> Result<(), AllocError>
+/// Adds these bytes to a text, and a number in decimal after them.
+pub fn add_number(text: &mut Vec<u8>, before: &[u8], number: u64) -> Result<(), AllocError>
     ensures { OnOk result (text.new.items ≡ text.old.items ++ (before.now ++ decimal number)) }
 {
     let mut buffer = Buffer::new();
