@@ -63,17 +63,15 @@ pub(crate) fn stepped(x2: u32, reach2: u32, seen: bool, code: u16) -> u16
     requires reach { reach2 ≤ most_reach }
     ensures { result ≡ above_step x2 reach2 seen code }
 {
-    if seen {
-        if x2 % 2 + reach2 >= 1 {
-            256 + (x2 % 2) as u16
-        } else {
-            0
-        }
-    } else if u32::from(code) + reach2 >= 259 {
-        code - 2
+    // both codes are worked out first, so that no column takes a branch
+    let fresh = if x2 % 2 + reach2 >= 1 {
+        256 + (x2 % 2) as u16
     } else {
         0
-    }
+    };
+    let least = (259 - reach2) as u16;
+    let carried = if code >= least { code - 2 } else { 0 };
+    if seen { fresh } else { carried }
 }
 
 /// The code of a row from its own and that of the row below it.
