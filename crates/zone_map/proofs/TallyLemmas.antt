@@ -6,7 +6,6 @@ use Rattle.std.specs.Ordering.{int_eq}
 use Rattle.std.proofs.lemmas.Int.{ints}
 use Rattle.std.proofs.lemmas.List.{drop-set-lt}
 use Rattle.std.proofs.lemmas.List.Sums.{sum_by-cons}
-use Rattle.std.proofs.lemmas.Grind.{common_steps}
 use Rattle.std.proofs.Math.Seq.{drop-cons}
 use Rattle.std.proofs.lemmas.Bool.Decides.{nat_tests}
 
@@ -95,37 +94,37 @@ past-step xs x u h l e = let back : x - 1 + 1 ≡ x = omega (arith, h) in rw (ba
 pub past-fits : (xs : List ℕ) (x u : ℕ) → x < length xs → u ≡ sum (drop (x + 1) xs) → sum xs ≤ 4096 → Fits w32 (u + get_or xs x 0)
 past-fits xs x u l e h = omega (arith, sum-drop-step xs x l, sum-drop-le xs x, e, h)
 
-other-place : (out : List ℕ) (i k z : ℕ) → (i ≡ k → ⊥) → get_or (set out i z) k 0 ≡ get_or out k 0
-other-place out i k z n = grind (arith, common_steps)
-
-this-place : (out : List ℕ) (i z : ℕ) → i < length out → get_or (set out i z) i 0 ≡ z
-this-place out i z l = grind (arith, common_steps)
-
 abbrev pub Spanned : List ℕ → List ℕ → List ℕ → List ℕ → ℕ → ℕ → Type 0
 Spanned ups downs old out z k = get_or out k 0 ≡ (if int_eq (pos (sum (drop (k + 1) ups)) -ℤ pos (sum (drop (k + 1) downs))) (pos 0) then get_or old k 0 else z)
 
 differ : (u d : ℕ) → (u ≡ d → ⊥) → nat_eq u d ≡ false
 differ u d n = grind (arith, nat_tests)
 
--- the zone is written at x
-pub spanned-written : (ups downs old out : List ℕ) (x z u d : ℕ) → x < length out → u ≡ sum (drop (x + 1) ups) → d ≡ sum (drop (x + 1) downs) → (u ≡ d → ⊥) → ((k : ℕ) → x + 1 ≤ k → k < length old → Spanned ups downs old out z k) → (k : ℕ) → x ≤ k → k < length old → Spanned ups downs old (set out x z) z k
-spanned-written ups downs old out x z u d l e f n done k h m = elim (split x k) [
-  | inl g ↦ other-place out x k z (λ s. omega (arith, s, g)) ∙ done k (omega (arith, g)) m
-  | inr g ↦ let same : k ≡ x = omega (arith, g, h) in rw (same, this-place out x z l, ← e, ← f, cancels u d, differ u d n) refl
+-- places that hold 0 add nothing
+pub sum-zeros : (xs : List ℕ) (n a : ℕ) → a + n ≤ length xs → ((k : ℕ) → a ≤ k → k < a + n → get_or xs k 0 ≡ 0) → sum (drop a xs) ≡ sum (drop (a + n) xs)
+sum-zeros xs zero a l z = ap (λ (k : ℕ). sum (drop k xs)) (omega arith)
+sum-zeros xs (suc n) a l z = sum-drop-step xs a (omega (arith, l)) ∙ ap (λ (m : ℕ). m + sum (drop (a + 1) xs)) (z a (omega arith) (omega arith)) ∙ none-first (sum (drop (a + 1) xs)) ∙ sum-zeros xs n (a + 1) (omega (arith, l)) (λ k h m. z k (omega (arith, h)) (omega (arith, m))) ∙ ap (λ (k : ℕ). sum (drop k xs)) (omega arith)
+  where
+    none-first : (s : ℕ) → 0 + s ≡ s
+    none-first s = omega arith
+
+-- the count of what lies past each sample of a run with no crossing after its first place
+pub past-run : (xs : List ℕ) (from k x u : ℕ) → from ≤ k → k < x → x < length xs → ((j : ℕ) → from < j → j < x → get_or xs j 0 ≡ 0) → u ≡ sum (drop (x + 1) xs) → u + get_or xs x 0 ≡ sum (drop (k + 1) xs)
+past-run xs from k x u h m l z e = past-step xs x u (omega (arith, m)) l e ∙ ap (λ (j : ℕ). sum (drop j xs)) (omega (arith, m)) ∙ sym (sum-zeros xs (x - (k + 1)) (k + 1) (omega (arith, m, l)) (λ j g p. z j (omega (arith, g, h)) (omega (arith, p, m))))
+
+-- the zone is written from one sample on and before another
+pub run-written : (ups downs old out new : List ℕ) (from x z u d : ℕ) → ((k : ℕ) → from ≤ k → k < x → u ≡ sum (drop (k + 1) ups)) → ((k : ℕ) → from ≤ k → k < x → d ≡ sum (drop (k + 1) downs)) → (u ≡ d → ⊥) → ((k : ℕ) → from ≤ k → k < x → get_or new k 0 ≡ z) → ((k : ℕ) → x ≤ k → get_or new k 0 ≡ get_or out k 0) → ((k : ℕ) → x ≤ k → k < length old → Spanned ups downs old out z k) → (k : ℕ) → from ≤ k → k < length old → Spanned ups downs old new z k
+run-written ups downs old out new from x z u d e f n here after done k h m = elim (split k x) [
+  | inl l ↦ here k h l ∙ rw (← e k h l, ← f k h l, cancels u d, differ u d n) refl
+  | inr g ↦ after k g ∙ done k g m
 ]
 
--- or x keeps what it had
-pub spanned-kept : (ups downs old out : List ℕ) (x z u d : ℕ) → get_or out x 0 ≡ get_or old x 0 → u ≡ sum (drop (x + 1) ups) → d ≡ sum (drop (x + 1) downs) → u ≡ d → ((k : ℕ) → x + 1 ≤ k → k < length old → Spanned ups downs old out z k) → (k : ℕ) → x ≤ k → k < length old → Spanned ups downs old out z k
-spanned-kept ups downs old out x z u d l e f n done k h m = elim (split x k) [
-  | inl g ↦ done k (omega (arith, g)) m
-  | inr g ↦ let same : k ≡ x = omega (arith, g, h) in rw (same, l, ← e, ← f, cancels u d, eq-eqb u d n) refl
+-- or these samples keep what they had
+pub run-kept : (ups downs old out : List ℕ) (from x z u d : ℕ) → ((k : ℕ) → from ≤ k → k < x → u ≡ sum (drop (k + 1) ups)) → ((k : ℕ) → from ≤ k → k < x → d ≡ sum (drop (k + 1) downs)) → u ≡ d → ((k : ℕ) → k < x → get_or out k 0 ≡ get_or old k 0) → ((k : ℕ) → x ≤ k → k < length old → Spanned ups downs old out z k) → (k : ℕ) → from ≤ k → k < length old → Spanned ups downs old out z k
+run-kept ups downs old out from x z u d e f n kept done k h m = elim (split k x) [
+  | inl l ↦ kept k l ∙ rw (← e k h l, ← f k h l, cancels u d, eq-eqb u d n) refl
+  | inr g ↦ done k g m
 ]
-
-pub kept-below : (out : List ℕ) (x k z : ℕ) → k < x → get_or (set out x z) k 0 ≡ get_or out k 0
-kept-below out x k z l = other-place out x k z (λ s. omega (arith, s, l))
-
-pub back-one : (x k : ℕ) → 0 < x → x - 1 + 1 ≤ k → x ≤ k
-back-one x k h l = omega (arith, h, l)
 
 pub chosen : (b : Bool) (old z : ℕ) → (if b then old else z) ≡ (if not b then z else old)
 chosen true old z = refl

@@ -2,6 +2,7 @@
 #![tactic(auto)]
 
 mod crossings;
+mod gaps;
 mod row;
 mod spans;
 mod tally;

@@ -3,6 +3,7 @@ ghost use Rattle.std.specs.Ordering.{int_eq};
 ghost use Rattle.page_model.specs.Limits.{most_vertices};
 ghost use Rattle.zone_map.specs.Tallies.{left};
 
+use crate::gaps::none_before;
 use page_model::parts::OutOfMemory;
 use std::alloc::Global;
 use std::marker::Model;
@@ -48,7 +49,20 @@ impl SpanBuf {
     }
 }
 
-/// Writes the zone wherever the crossings to the right do not cancel out.
+/// Writes the zone for the samples from one on and before another.
+fn write_run(out: &mut [u8], from: usize, to: usize, zone: u8)
+    requires order { from ≤ to }
+    requires inside { to ≤ length out.old }
+    ensures here { (x : ℕ) → from ≤ x → x < to → slice_index out.new x ≡ zone }
+    ensures before { (x : ℕ) → x < from → slice_index out.new x ≡ slice_index out.old x }
+    ensures after { (x : ℕ) → to ≤ x → slice_index out.new x ≡ slice_index out.old x }
+    ensures long { length out.new ≡ length out.old }
+{
+    out[from..to].fill(zone);
+}
+
+/// Writes the zone wherever the crossings to the right do not cancel out. Samples with no crossing between them are written
+/// at once.
 pub(crate) fn write_spans(out: &mut [u8], ups: &[u32], downs: &[u32], zone: u8)
     requires ups { length ups.now ≡ length out.old + 1 }
     requires downs { length downs.now ≡ length out.old + 1 }
@@ -64,9 +78,10 @@ pub(crate) fn write_spans(out: &mut [u8], ups: &[u32], downs: &[u32], zone: u8)
     while 0 < x {
         up += ups[x];
         down += downs[x];
-        x -= 1;
+        let from = x - 1 - none_before(ups, downs, x);
         if up != down {
-            out[x] = zone;
+            write_run(out, from, x, zone);
         }
+        x = from;
     }
 }
