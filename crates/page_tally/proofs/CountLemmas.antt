@@ -38,7 +38,7 @@ pub count_below-add : (f : ℕ → Bool) (n m : ℕ) → count_below f (n + m) �
 count_below-add f n zero = rw add-zero (omega arith)
 count_below-add f n (suc m) = rw add-suc (omega (arith, count_below-add f n m))
 
-count_none : (f : ℕ → Bool) (m : ℕ) → ((k : ℕ) → k < m → f k ≡ false) → count_below f m ≡ 0
+pub count_none : (f : ℕ → Bool) (m : ℕ) → ((k : ℕ) → k < m → f k ≡ false) → count_below f m ≡ 0
 count_none f zero h = refl
 count_none f (suc m) h = rw (h m (omega arith)) (omega (arith, count_none f m (λ k l. h k (omega (arith, l)))))
 
@@ -101,13 +101,6 @@ block_counted before after one other from size more n long b a em en =
     let g : ℕ → Bool = λ k. not (slice_index other k == slice_index one k) in
     let same : count_below g size ≡ count_below (λ k. f (from + k)) size = count_below-ext g (λ k. f (from + k)) size (λ k l. ap (λ (x : ℕ). not (x == slice_index one k)) (a k l) ∙ ap (λ (x : ℕ). not (slice_index after (from + k) == x)) (b k l)) in
     omega (arith, em, ap (count_below g) long, same, count_below-add f from size, en)
-
--- where the block is the same
-pub block_same : (before after one other : List ℕ) (from size n : ℕ) → ((k : ℕ) → k < size → slice_index one k ≡ slice_index before (from + k)) → ((k : ℕ) → k < size → slice_index other k ≡ slice_index after (from + k)) → one ≡ other → n ≡ count_below (λ k. not (slice_index after k == slice_index before k)) from → n ≡ count_below (λ k. not (slice_index after k == slice_index before k)) (from + size)
-block_same before after one other from size n b a e en =
-    let f : ℕ → Bool = λ k. not (slice_index after k == slice_index before k) in
-    let none = count_none (λ k. f (from + k)) size (λ k l. ap not (eq-eqb _ _ (sym (a k l) ∙ (ap (λ (xs : List ℕ). slice_index xs k) (sym e) ∙ b k l)))) in
-    omega (arith, none, count_below-add f from size, en)
 
 -- where both rows are the same nothing changes
 pub alike_here : (page : PageParts) (before after : List ℕ) (y c x : ℕ) → before ≡ after → slice_index before x ≡ tint page c (record { x = x; y = y }) → slice_index after x ≡ new page (record { x = x; y = y }) c → plate_changes page c (record { x = x; y = y }) ≡ false

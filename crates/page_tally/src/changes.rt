@@ -1,6 +1,6 @@
 // What trapping changes in a row: its new tints compared with the page's own, plate by plate, while it is at hand.
 
-ghost use Rattle.std.specs.Prelude.{◌≡◌, ◌<◌, ◌≤◌, ◌+◌, ◌*◌, ◌==◌, ◌||◌, not, false, true, ℕ, length, slice_index, slice_index_or};
+ghost use Rattle.std.specs.Prelude.{◌≡◌, ◌<◌, ◌≤◌, ◌+◌, ◌*◌, ◌==◌, ◌||◌, not, false, true, ℕ, if◌then◌else◌, length, slice_index, slice_index_or};
 ghost use Rattle.page_model.specs.Counts.{plate_changes, sample_changes};
 ghost use Rattle.page_model.specs.Page.{height, plates, width};
 ghost use Rattle.page_model.specs.Zones.{AreZones};
@@ -8,7 +8,6 @@ ghost use Rattle.lists.specs.Words.{count_below};
 ghost use Rattle.page_tally.specs.Standing.{ArePlatesCounted, AreTrappedTo, AreZonesCounted, IsNewRow, IsTrappedTo};
 
 use crate::blocks::{BLOCK, are_clear, are_same, part_of};
-use crate::counting::one_if;
 use page_model::page::Page;
 use page_model::parts::Plane;
 use row_values::{row_of, tints_of_row};
@@ -25,23 +24,32 @@ pub fn plate_row<'a>(page: &Page, row: &'a [u16], y: u32, c: u32) -> &'a [u16]
     row_of(row, page.width() as usize, c as usize)
 }
 
-/// How many tints of a block differ.
+/// 1 where the test holds, else 0.
+fn short_if(test: bool) -> u16
+    ensures value { result ≡ (if test then 1 else 0) }
+    ensures one { result ≤ 1 }
+{
+    if test { 1 } else { 0 }
+}
+
+/// How many tints of a block differ. They are counted in short numbers, so that many go at once.
 fn differences_here(before: &[u16], after: &[u16]) -> u64
-    requires { length before.now ≡ length after.now }
+    requires long { length before.now ≡ length after.now }
+    requires short { length after.now ≤ 64 }
     ensures count { result
         ≡ count_below (λ k. not (slice_index after.now k == slice_index before.now k))
         (length after.now) }
     ensures few { result ≤ length after.now }
 {
-    let mut count = 0;
+    let mut count = 0u16;
     for k in 0..after.len() {
-        count += one_if(after[k] != before[k]);
+        count += short_if(after[k] != before[k]);
     }
-    count
+    u64::from(count)
 }
 
-/// How many tints differ. Blocks that are the same are not gone over.
-pub fn differences(before: &[u16], after: &[u16]) -> u64
+/// How many tints differ, block by block.
+pub fn differences_by_blocks(before: &[u16], after: &[u16]) -> u64
     requires { length before.now ≡ length after.now }
     ensures count { result
         ≡ count_below (λ k. not (slice_index after.now k == slice_index before.now k))
@@ -54,12 +62,25 @@ pub fn differences(before: &[u16], after: &[u16]) -> u64
         let size = (after.len() - from).min(BLOCK);
         let one = part_of(before, from, size);
         let other = part_of(after, from, size);
-        if !are_same(one, other) {
-            count += differences_here(one, other);
-        }
+        count += differences_here(one, other);
         from += size;
     }
     count
+}
+
+/// How many tints of two rows differ. Rows that are the same are not gone over.
+pub fn differences(before: &[u16], after: &[u16]) -> u64
+    requires { length before.now ≡ length after.now }
+    ensures count { result
+        ≡ count_below (λ k. not (slice_index after.now k == slice_index before.now k))
+        (length after.now) }
+    ensures few { result ≤ length after.now }
+{
+    if are_same(before, after) {
+        0
+    } else {
+        differences_by_blocks(before, after)
+    }
 }
 
 /// How many samples of plate c change in row y.
@@ -115,11 +136,11 @@ fn note_plate(page: &Page, row: &[u16], y: u32, c: u32, changes: &mut [bool])
         ≡ (slice_index_or changes.old x false
         || plate_changes page.now c (record { x = x; y = y })) }
 {
-    note_differences(
-        tints_of_row(page, c, y),
-        plate_row(page, row, y, c),
-        changes,
-    );
+    let before = tints_of_row(page, c, y);
+    let after = plate_row(page, row, y, c);
+    if !are_same(before, after) {
+        note_differences(before, after, changes);
+    }
 }
 
 /// Notes the samples of row y at which plate c, whose plane has all its new tints, changes.

@@ -1,6 +1,6 @@
 // What a row has of each zone, and of edges that decide.
 
-ghost use Rattle.std.specs.Prelude.{◌≡◌, ℕ, ◌<◌, ◌≤◌, ◌+◌, ◌*◌, ◌/◌, ◌%◌, if◌then◌else◌, length, slice_index};
+ghost use Rattle.std.specs.Prelude.{◌≡◌, ℕ, ◌<◌, ◌≤◌, ◌+◌, ◌*◌, ◌/◌, ◌%◌, true, if◌then◌else◌, length, slice_index};
 ghost use Rattle.lists.specs.Words.{sum_below};
 ghost use Rattle.page_model.specs.Page.{height, width};
 ghost use Rattle.page_model.specs.Zones.{AreZones};
@@ -16,6 +16,52 @@ pub fn one_if(test: bool) -> u64
     if test { 1 } else { 0 }
 }
 
+/// Whether none of so many samples, from one on, has a mark. It goes over all of them, without a branch, so that many go at
+/// once.
+fn are_unmarked(marks: &[u8], from: usize, count: usize) -> bool
+    requires { from + count ≤ length marks.now }
+    ensures { result ≡ true → (k : ℕ) → k < count → slice_index marks.now (from + k) ≡ 0 }
+{
+    let mut none = true;
+    for k in 0..count {
+        none = none & (marks[from + k] == 0);
+    }
+    none
+}
+
+/// How many edges the marks of a block tell of, sample by sample.
+fn count_edges(marks: &[u8], from: usize, count: usize) -> u64
+    requires inside { from + count ≤ length marks.now }
+    requires few { length marks.now ≤ 16384 }
+    ensures count { result
+        ≡ sum_below (λ k. slice_index marks.now (from + k) % 2 + slice_index marks.now (from + k) / 2)
+        count }
+    ensures few { result ≤ 128 * count }
+{
+    let mut edges = 0;
+    for k in 0..count {
+        let mark = marks[from + k];
+        edges += u64::from(mark % 2 + mark / 2);
+    }
+    edges
+}
+
+/// How many edges the marks of a block tell of. One without a mark is not gone over.
+fn edges_here(marks: &[u8], from: usize, count: usize) -> u64
+    requires inside { from + count ≤ length marks.now }
+    requires few { length marks.now ≤ 16384 }
+    ensures count { result
+        ≡ sum_below (λ k. slice_index marks.now (from + k) % 2 + slice_index marks.now (from + k) / 2)
+        count }
+    ensures few { result ≤ 128 * count }
+{
+    if are_unmarked(marks, from, count) {
+        0
+    } else {
+        count_edges(marks, from, count)
+    }
+}
+
 /// How many edges these marks tell of: a mark of 1 or 2 of one edge, and one of 3 of two.
 pub fn edges_in(marks: &[u8]) -> u64
     requires { length marks.now ≤ 16384 }
@@ -25,9 +71,11 @@ pub fn edges_in(marks: &[u8]) -> u64
     ensures few { result ≤ 128 * length marks.now }
 {
     let mut count = 0;
-    for x in 0..marks.len() {
-        let mark = marks[x];
-        count += u64::from(mark % 2 + mark / 2);
+    let mut x = 0;
+    while x < marks.len() {
+        let size = (marks.len() - x).min(BLOCK);
+        count += edges_here(marks, x, size);
+        x += size;
     }
     count
 }

@@ -8,7 +8,8 @@ mod outcome;
 mod planes;
 mod sums;
 
-pub use changes::{count_changed, note_taken};
+pub use blocks::are_clear;
+pub use changes::{count_changed, differences, note_taken};
 pub use counting::{count_zones, edges_in};
 pub use outcome::{Outcome, Trapped};
 pub use planes::put_plate_row;

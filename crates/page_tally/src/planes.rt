@@ -8,7 +8,7 @@ ghost use Rattle.page_model.specs.Planes.{plane_at};
 ghost use Rattle.page_tally.specs.Standing.{AreTrappedTo, AreTrapping, IsNewRow, IsPlateRow, IsTintRow, IsTrappedTo};
 
 use crate::blocks::{BLOCK, are_same, part_of};
-use crate::changes::{differences, plate_row};
+use crate::changes::{differences_by_blocks, plate_row};
 use lists::list::List;
 use lists::memory::push;
 use page_model::page::Page;
@@ -153,7 +153,7 @@ pub fn put_plate_row(page: &Page, y: u32, c: u32, after: &[u16], plane: &mut Pla
         return 0;
     }
     put_each(page, y, c, before, after, plane);
-    differences(before, after)
+    differences_by_blocks(before, after)
 }
 
 /// Puts the new tints of plate c into its row y, where they are not those of the page.

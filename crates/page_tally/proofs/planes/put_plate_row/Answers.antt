@@ -15,4 +15,4 @@ returns-then-are_same c =
     }
 
 pub returns-clause-count : goal.returns-clause-count
-returns-clause-count c = c.differences.ensures.count ∙ row_differences c.args.page.now c.tints_of_row-before.result.now c.args.after.now c.args.y c.args.c _ c.requires.after.long c.tints_of_row-before.ensures.each c.requires.after.each
+returns-clause-count c = c.differences_by_blocks.ensures.count ∙ row_differences c.args.page.now c.tints_of_row-before.result.now c.args.after.now c.args.y c.args.c _ c.requires.after.long c.tints_of_row-before.ensures.each c.requires.after.each

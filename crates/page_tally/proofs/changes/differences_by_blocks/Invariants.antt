@@ -1,7 +1,8 @@
+-- How many tints differ: those of the blocks gone over.
 use Rattle.std.proofs.Common.{◌≡◌, ◌≤◌, ◌-◌, length, not, slice_index}
 use Rattle.std.specs.Prelude.{◌==◌}
 use Rattle.lists.specs.Words.{count_below}
-use Rattle.page_tally.proofs.changes.differences.Given as goal
+use Rattle.page_tally.proofs.changes.differences_by_blocks.Given as goal
 
 abbrev pub invariant-loop-from : goal.invariant-loop-from
 invariant-loop-from l = record {
