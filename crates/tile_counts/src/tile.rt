@@ -1,9 +1,11 @@
 // The tile of a sheet: its window, a page, is trapped, and what is counted in its core is added.
 
-ghost use Rattle.std.specs.Prelude.{◌≡◌, ◌<◌, ◌≤◌, ◌+◌, ◌*◌, ℕ, IfOk, OnOk, length, slice_index};
+ghost use Rattle.std.specs.Prelude.{◌≡◌, ◌<◌, ◌≤◌, ◌+◌, ◌*◌, ℕ, IfOk, OnOk, false, length, slice_index, slice_index_or};
+ghost use Rattle.page_model.specs.Counts.{sample_changes};
 ghost use Rattle.page_model.specs.Page.{height, plates, width};
 ghost use Rattle.page_model.specs.Tints.{new, trapped_planes};
-ghost use Rattle.sheet_windows.specs.Areas.{changes_plate};
+ghost use Rattle.page_model.specs.Zones.{AreZones};
+ghost use Rattle.sheet_windows.specs.Areas.{changes_in, changes_plate};
 ghost use Rattle.page_tally.specs.Shapes.{shape_of};
 ghost use Rattle.page_tally.specs.Standing.{AreTrappedTo, HasRows, IsTrappedTo};
 ghost use Rattle.strip_engine.specs.Bench.{IsBench};
@@ -14,7 +16,7 @@ use crate::counts::SheetCounts;
 use crate::rows::{add_changed, add_zones, edges_of, plate_changes_in};
 use page_model::page::Page;
 use page_model::parts::{OutOfMemory, Plane, PlaneList};
-use page_tally::note_taken;
+use page_tally::{are_clear, note_taken};
 use row_values::{row_of, tints_of_row};
 use sheet_windows::cuts::Cut;
 use std::alloc::Global;
@@ -62,6 +64,51 @@ fn add_plates(page: &Page, planes: &[Plane], y: u32, left: usize, wide: usize, c
     }
 }
 
+/// Adds for each zone, and for each plate, how many of these samples of row y change, where they are noted. Where none
+/// does, nothing is gone over.
+fn add_changes(
+    page: &Page,
+    planes: &[Plane],
+    zones: &[u8],
+    changes: &[bool],
+    y: u32,
+    left: usize,
+    wide: usize,
+    counts: &mut SheetCounts,
+)
+    requires planes { AreTrappedTo page.now planes.now (height page.now * width page.now) }
+    requires zones { AreZones page.now y zones.now }
+    requires changes { length changes.now ≡ width page.now }
+    requires each { (x : ℕ) → x < width page.now → slice_index_or changes.now x false
+        ≡ sample_changes page.now (record { x = x; y = y }) }
+    requires row { y < height page.now }
+    requires inside { left + wide ≤ width page.now }
+    requires zone_room { HasRoom (length page.now.zones) wide counts.old.zone_changed.items }
+    requires plate_room { HasRoom (plates page.now) wide counts.old.plate_changed.items }
+    ensures zone_changed { Grows (length page.now.zones)
+        (λ z. row_sum (changes_in z page.now) y left wide)
+        counts.old.zone_changed.items counts.new.zone_changed.items }
+    ensures plate_changed { Grows (plates page.now)
+        (λ c. row_sum (changes_plate c page.now) y left wide)
+        counts.old.plate_changed.items counts.new.plate_changed.items }
+    ensures zone_samples { counts.new.zone_samples ≡ counts.old.zone_samples }
+    ensures edges { counts.new.edges ≡ counts.old.edges }
+{
+    if are_clear(changes, left, wide) {
+        return;
+    }
+    add_changed(
+        page,
+        zones,
+        changes,
+        y,
+        left,
+        wide,
+        &mut counts.zone_changed,
+    );
+    add_plates(page, planes, y, left, wide, &mut counts.plate_changed);
+}
+
 /// Adds what is counted in these samples of row y. What stands in `changes`, room for a row, has no meaning.
 fn add_row(
     page: &Page,
@@ -86,16 +133,7 @@ fn add_row(
     let marks = marks_of_row(page, &bench.marks, y);
     note_taken(page, planes, y, changes);
     add_zones(page, zones, y, left, wide, &mut counts.zone_samples);
-    add_changed(
-        page,
-        zones,
-        changes,
-        y,
-        left,
-        wide,
-        &mut counts.zone_changed,
-    );
-    add_plates(page, planes, y, left, wide, &mut counts.plate_changed);
+    add_changes(page, planes, zones, changes, y, left, wide, counts);
     counts.edges += edges_of(page, marks, y, left, wide);
 }
 
