@@ -24,8 +24,6 @@ use page_tally::Outcome;
 use row_cells::layout::Layout;
 use std::alloc::Global;
 use std::marker::Model;
-use std::thread;
-use std::thread::Threads;
 
 /// All the memory that trapping a page by workers takes: the shared table, the memory of each worker, the planes of
 /// the result and the counts. Contracts see the page that it was made for, the layout of its cells, how many workers it
@@ -154,14 +152,12 @@ fn works_of(
     Ok(works.into_vec())
 }
 
-/// The table of a page with its first pass, and an outcome with no row of the page taken in. Where more than one worker is used
-/// they are made side by side: most of that time the system is at work on fresh memory.
-fn table_and_outcome<R: Threads + Sync>(
-    rt: &R,
+/// The table of a page with its first pass, and an outcome with no row of the page taken in. The table comes first: the zeros that
+/// it is copied from are let go, and the planes of the outcome then lie in memory that was theirs.
+fn table_and_outcome(
     alloc: Global,
     page: &Page,
     layout: &Layout,
-    workers: u32,
 ) -> Result<(Shared, Pass, Outcome), OutOfMemory>
     requires layout { IsFor page.now layout.now }
     ensures pass { IfOk result (λ t. Seats t.0 t.1) }
@@ -170,38 +166,14 @@ fn table_and_outcome<R: Threads + Sync>(
     ensures layout { IfOk result (λ t. t.0.sheet.layout ≡ layout.now) }
     ensures outcome { IfOk result (λ t. HasRows page.now 0 t.2) }
 {
-    if workers == 1 {
-        let (shared, pass) = Shared::new(alloc, page, layout.bands(), layout)?;
-        return Ok((shared, pass, Outcome::new(alloc, page)?));
-    }
-    let (outcome, table) = thread::join(
-        rt,
-        move || -> Result<Outcome, OutOfMemory>
-            ensures { IfOk result (λ outcome. HasRows page.entry.now 0 outcome) }
-        { Outcome::new(alloc, page) },
-        move || -> Result<(Shared, Pass), OutOfMemory>
-            requires layout { IsFor page.now layout.now }
-            ensures pass { IfOk result (λ t. Seats t.0 t.1) }
-            ensures new { IfOk result (λ t. t.1.view ≡ newcomer t.0.sheet) }
-            ensures page { IfOk result (λ t. t.0.sheet.page.value ≡ page.entry.now) }
-            ensures layout { IfOk result (λ t. t.0.sheet.layout ≡ layout.entry.now) }
-        { Shared::new(alloc, page, layout.bands(), layout) },
-    );
-    let (shared, pass) = table?;
-    let outcome = outcome?;
-    Ok((shared, pass, outcome))
+    let (shared, pass) = Shared::new(alloc, page, layout.bands(), layout)?;
+    Ok((shared, pass, Outcome::new(alloc, page)?))
 }
 
 impl TrapRoom {
     /// The room for trapping this page by so many workers, in bands of so many rows. As many workers are used as there
     /// are bands, if these are fewer.
-    pub fn new<R: Threads + Sync>(
-        rt: &R,
-        alloc: Global,
-        page: &Page,
-        workers: u32,
-        band: u32,
-    ) -> Result<TrapRoom, OutOfMemory>
+    pub fn new(alloc: Global, page: &Page, workers: u32, band: u32) -> Result<TrapRoom, OutOfMemory>
         requires some_workers { 1 ≤ workers }
         requires few_workers { workers ≤ most_workers }
         requires some_rows { 1 ≤ band }
@@ -214,7 +186,7 @@ impl TrapRoom {
         let bands = Bands::new(page.height(), band, page.reach2());
         let layout = Layout::new(page.width(), page.plates(), &bands);
         let count = workers_for(&bands, workers);
-        let (shared, mut pass, mut outcome) = table_and_outcome(rt, alloc, page, &layout, count)?;
+        let (shared, mut pass, mut outcome) = table_and_outcome(alloc, page, &layout)?;
         let works = works_of(alloc, page, &shared, &mut pass, &mut outcome.planes)?;
         let parts = parts_of(alloc, page, &shared, &mut pass, count)?;
         Ok(TrapRoom {

@@ -136,6 +136,6 @@ pub fn trap_page<R: Threads + Sync, G: Gate + Sync>(
     ensures counts { IfOk result (λ done. done.0.counts ≡ page_counts page.now) }
     ensures receipt { IfOk result (λ done. IsWholeReceipt page.now band done.1) }
 {
-    let room = TrapRoom::new(rt, alloc, page, workers, band)?;
+    let room = TrapRoom::new(alloc, page, workers, band)?;
     Ok(trap_in(rt, room, page, gate))
 }

@@ -5,10 +5,10 @@ use Rattle.trap_engine.proofs.TakeLemmas.{planes_begun, tallies_begun}
 use Rattle.trap_engine.proofs.room.TrapRoom.new.Goals as goal
 
 pub works_of-requires-clause-planes : goal.works_of-requires-clause-planes
-works_of-requires-clause-planes g c = planes_begun c.args.page.now c.in_ok-shared.outcome.planes c.in_ok-shared.ensures.outcome.planes
+works_of-requires-clause-planes c = planes_begun c.args.page.now c.in_ok-shared.outcome.planes c.in_ok-shared.ensures.outcome.planes
 
 pub invariant_of-result-3 : goal.invariant_of-result-3
-invariant_of-result-3 g c =
+invariant_of-result-3 c =
     let same = c.pass-2.view_is ∙ (c.in_ok-parts.ensures.pass ∙ c.in_ok-works.ensures.pass) in
     rw (c.shared.view_is, same) (record {
       seat = c.in_ok-shared.ensures.pass;
