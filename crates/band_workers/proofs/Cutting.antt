@@ -1,9 +1,10 @@
 -- Where the values of a cell begin, and that they fit.
-use Rattle.std.proofs.Common.{◌≡◌, ℕ, ◌+◌, ◌-◌, ◌*◌, ◌^◌, ◌<◌, ◌≤◌, List, length, take, replicate, subst, sym, ap, ◌∙◌, arith, inl, inr, ne_eqb}
+use Rattle.std.proofs.Common.{◌≡◌, ℕ, zero, suc, refl, ◌+◌, ◌-◌, ◌*◌, ◌^◌, ◌<◌, ◌≤◌, List, length, take, replicate, subst, sym, ap, ◌∙◌, arith, inl, inr, ne_eqb}
 use Rattle.std.specs.Prelude.{slice_index, slice_index_or, min}
 use Rattle.std.proofs.lemmas.Bool.{cases_eq}
 use Rattle.std.proofs.lemmas.Nat.{div_below}
-use Rattle.std.proofs.lemmas.List.{get_or_default, length-take}
+use Rattle.std.proofs.lemmas.List.{get_or_default, get_or-replicate, length-replicate, length-take}
+use Rattle.std.proofs.Math.Nat.{mul-le-mul_right}
 use Rattle.page_model.specs.Bands.{phase_of, band_of, ceiling, rows_in}
 use Rattle.page_model.proofs.BandLemmas.{ceiling-below}
 use Rattle.row_cells.specs.Layouts.{Layout, IsLayout}
@@ -70,3 +71,30 @@ small sheet fit i o phase first count bits values vs are b k d l =
 -- the prefix of the 31 places
 pub prefix_of : (n : ℕ) → length {A = ℕ} (take n (replicate 31 0)) ≡ min n 31
 prefix_of n = length-take {A = ℕ} n (replicate 31 0)
+
+-- the values of a cell are among those of so many cells from an earlier one on
+pub within_span : (first k n j : ℕ) → k < 16 → (first + k) * n ≤ j → j < (first + k) * n + n → (first * n ≤ j) × (j < first * n + 16 * n)
+within_span first k n j few from below =
+    let a : (first + k) * n ≡ first * n + k * n = grind arith in let b : (k + 1) * n ≡ k * n + n = grind arith in
+    let most : (k + 1) * n ≤ 16 * n = mul-le-mul_right n (omega (arith, few)) in (omega (arith, a, from), omega (arith, a, b, most, below))
+
+none_packed : (bits n : ℕ) → packed bits (replicate n 0) ≡ 0
+none_packed bits zero = refl
+none_packed bits (suc n) = omega (arith, ap (λ (p : ℕ). 2 ^ bits * p) (none_packed bits n))
+
+-- a cell whose values are all 0
+pub zero_cell : (sheet : Sheet) (i o phase : ℕ) (values : List ℕ) → i < piece_count sheet.layout → o < cell_total sheet.layout i → phase ≡ phase_of sheet.layout.bands i → lanes_of phase ≤ 31 → AreValues sheet i values
+    → ((j : ℕ) → o * lanes_of phase ≤ j → j < o * lanes_of phase + lanes_of phase → j < length values → slice_index values j ≡ 0) → cell sheet (first_cell_of sheet.layout i + o) ≡ 1
+zero_cell sheet i o phase values l m same few all zeros =
+    let first : ℕ = o * lanes_of phase in let count : ℕ = min (lanes_of phase) (value_total sheet.layout i - first) in let vs : List ℕ = replicate count 0 in
+    let inside : first < value_total sheet.layout i = subst (λ (z : ℕ). o * lanes_of z < value_total sheet.layout i) (sym same) (cell_begins sheet.layout i o m) in
+    let long : length vs ≡ count = length-replicate count 0 in let whole = all.long in
+    let are : AreCellValues sheet i o phase first count values vs = record {
+      piece = l;
+      cell = m;
+      cut = record { same_phase = same; begins = refl; inside = inside; few = refl; fits = omega (arith, few) };
+      all = all;
+      long = long;
+      each = λ q b. get_or-replicate count q 0 0 (omega (arith, b, long)) ∙ sym (zeros (first + q) (omega arith) (omega (arith, b, long)) (omega (arith, b, long, whole, inside)));
+    } in
+    sym (packs sheet i o phase first count (bits_of phase) values vs are refl) ∙ ap (λ (z : ℕ). 1 + z) (none_packed (bits_of phase) count)

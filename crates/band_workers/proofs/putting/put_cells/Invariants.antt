@@ -1,10 +1,14 @@
-use Rattle.std.proofs.Common.{◌≡◌}
+use Rattle.std.proofs.Common.{◌≡◌, ◌-◌, ◌≤◌}
 use Rattle.band_claims.specs.Seating.{Seats}
 use Rattle.band_workers.specs.Filled.{filled_to}
-use Rattle.band_workers.proofs.putting.put_values.Given as goal
+use Rattle.band_workers.proofs.putting.put_cells.Given as goal
 
-abbrev pub invariant-loop-o : goal.invariant-loop-o
-invariant-loop-o g l = record {
+abbrev pub invariant-loop-done : goal.invariant-loop-done
+invariant-loop-done g l = record {
+  within : l.done ≤ l.cells;
   pass : Seats l.shared l.pass;
-  filled : l.pass.view ≡ filled_to l.o l.initial.pass.view;
+  filled : l.pass.view ≡ filled_to l.done l.initial.pass.view;
 }
+
+abbrev pub decreases-loop-done : goal.decreases-loop-done
+decreases-loop-done g l = l.cells - l.done

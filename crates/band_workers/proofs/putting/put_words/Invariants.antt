@@ -1,0 +1,10 @@
+use Rattle.std.proofs.Common.{◌≡◌, ◌+◌}
+use Rattle.band_claims.specs.Seating.{Seats}
+use Rattle.band_workers.specs.Filled.{filled_to}
+use Rattle.band_workers.proofs.putting.put_words.Given as goal
+
+abbrev pub invariant-loop-k : goal.invariant-loop-k
+invariant-loop-k l = record {
+  pass : Seats l.shared l.pass;
+  filled : l.pass.view ≡ filled_to (l.initial.pass.view.filled + l.k) l.initial.pass.view;
+}
