@@ -20,8 +20,17 @@ pub(crate) struct Run {
     pub count: usize,
 }
 
+/// So many whole cells of a piece, its cells counted from 0, from a cell on. Their values are written from that place on.
+#[derive(Clone, Copy, Drop)]
+struct Cells {
+    piece: u32,
+    cell: u32,
+    count: u32,
+    place: usize,
+}
+
 /// So many values of a cell of a piece, its cells counted from 0, from a lane on. What is the same for all cells of the piece,
-/// the number of its first cell and the bits of its values, is worked out once a run.
+/// the number of its first cell and the bits of its values, is worked out once.
 #[derive(Clone, Copy, Drop)]
 struct Part {
     piece: u32,
@@ -34,6 +43,7 @@ struct Part {
 }
 
 /// Unpacks the first values of a cell to a place.
+#[inline(always)]
 fn unpack_at<V: CellValue>(bits: u32, word: u64, place: usize, count: usize, out: &mut [V])
     requires bits { IsBits bits }
     requires fits { bits ≤ V.width }
@@ -50,6 +60,7 @@ fn unpack_at<V: CellValue>(bits: u32, word: u64, place: usize, count: usize, out
 }
 
 /// Unpacks values from one cell.
+#[inline(always)]
 fn read_part<S, C: CellSource<S>, V: CellValue>(
     source: &C,
     seat: &mut S,
@@ -82,6 +93,138 @@ fn read_part<S, C: CellSource<S>, V: CellValue>(
     unpack_at(part.bits, rest, part.place, part.count, out);
 }
 
+/// Unpacks all values of whole cells. The program knows when it is built how many bits and lanes they have.
+fn read_cells<S, C: CellSource<S>, V: CellValue, const BITS: u32, const LANES: u32>(
+    source: &C,
+    seat: &mut S,
+    layout: &Layout,
+    cells: Cells,
+    out: &mut [V],
+)
+    requires layout { layout.now ≡ (C.sheet source.now seat.old).layout }
+    requires fit { IsFit (C.sheet source.now seat.old) }
+    requires piece { cells.piece < pieces_of layout.now.bands }
+    requires bits { BITS ≡ bits_of (phase_of layout.now.bands cells.piece) }
+    requires lanes { LANES ≡ lanes_of (phase_of layout.now.bands cells.piece) }
+    requires fits { BITS ≤ V.width }
+    requires known { C.knows source.now seat.old cells.piece }
+    requires some { 1 ≤ LANES }
+    requires inside { (cells.cell + cells.count) * LANES ≤ value_total layout.now cells.piece }
+    requires out { cells.place + cells.count * LANES ≤ length out.old }
+    ensures seat { seat.new ≡ seat.old }
+    ensures here { (j : ℕ) → j < cells.count * LANES
+        → slice_index (V.numbers out.new) (cells.place + j)
+        ≡ value (C.sheet source.now seat.old).page.value layout.now cells.piece
+        (cells.cell * LANES + j) }
+    ensures kept { (k : ℕ) → k < cells.place
+        → slice_index (V.numbers out.new) k ≡ slice_index (V.numbers out.old) k }
+    ensures len { length out.new ≡ length out.old }
+{
+    let first = layout.first_cell(cells.piece);
+    for o in 0..cells.count {
+        let part = Part {
+            piece: cells.piece,
+            first,
+            bits: BITS,
+            cell: cells.cell + o,
+            lane: 0,
+            place: cells.place + o as usize * LANES as usize,
+            count: LANES as usize,
+        };
+        read_part(source, seat, layout, part, out);
+    }
+}
+
+/// The same of whichever phase.
+fn read_whole<S, C: CellSource<S>, V: CellValue>(
+    source: &C,
+    seat: &mut S,
+    layout: &Layout,
+    phase: u32,
+    cells: Cells,
+    out: &mut [V],
+)
+    requires layout { layout.now ≡ (C.sheet source.now seat.old).layout }
+    requires fit { IsFit (C.sheet source.now seat.old) }
+    requires piece { cells.piece < pieces_of layout.now.bands }
+    requires phase { phase ≡ phase_of layout.now.bands cells.piece }
+    requires fits { bits_of phase ≤ V.width }
+    requires known { C.knows source.now seat.old cells.piece }
+    requires inside { (cells.cell + cells.count) * lanes_of phase
+        ≤ value_total layout.now cells.piece }
+    requires out { cells.place + cells.count * lanes_of phase ≤ length out.old }
+    ensures seat { seat.new ≡ seat.old }
+    ensures here { (j : ℕ) → j < cells.count * lanes_of phase
+        → slice_index (V.numbers out.new) (cells.place + j)
+        ≡ value (C.sheet source.now seat.old).page.value layout.now cells.piece
+        (cells.cell * lanes_of phase + j) }
+    ensures kept { (k : ℕ) → k < cells.place
+        → slice_index (V.numbers out.new) k ≡ slice_index (V.numbers out.old) k }
+    ensures len { length out.new ≡ length out.old }
+{
+    match phase {
+        0 => read_cells::<S, C, V, 8, 7>(source, seat, layout, cells, out),
+        1 => read_cells::<S, C, V, 2, 31>(source, seat, layout, cells, out),
+        2 => read_cells::<S, C, V, 10, 6>(source, seat, layout, cells, out),
+        _ => read_cells::<S, C, V, 16, 3>(source, seat, layout, cells, out),
+    }
+}
+
+/// Unpacks the first values of a run, of which there are some, and gives how many: those of all its whole cells where it begins
+/// with a cell, else those that its first cell has.
+fn read_next<S, C: CellSource<S>, V: CellValue>(
+    source: &C,
+    seat: &mut S,
+    layout: &Layout,
+    run: Run,
+    out: &mut [V],
+) -> usize
+    requires layout { layout.now ≡ (C.sheet source.now seat.old).layout }
+    requires fit { IsFit (C.sheet source.now seat.old) }
+    requires piece { run.piece < pieces_of layout.now.bands }
+    requires fits { bits_of (phase_of layout.now.bands run.piece) ≤ V.width }
+    requires known { C.knows source.now seat.old run.piece }
+    requires some { 1 ≤ run.count }
+    requires inside { run.from + run.count ≤ value_total layout.now run.piece }
+    requires out { run.place + run.count ≤ length out.old }
+    ensures some { 1 ≤ result }
+    ensures few { result ≤ run.count }
+    ensures seat { seat.new ≡ seat.old }
+    ensures here { (j : ℕ) → j < result → slice_index (V.numbers out.new) (run.place + j)
+        ≡ value (C.sheet source.now seat.old).page.value layout.now run.piece (run.from + j) }
+    ensures kept { (k : ℕ) → k < run.place
+        → slice_index (V.numbers out.new) k ≡ slice_index (V.numbers out.old) k }
+    ensures len { length out.new ≡ length out.old }
+{
+    let phase = run.piece / layout.bands().count;
+    let lanes = lanes(phase);
+    let cell = run.from / lanes;
+    let lane = run.from % lanes;
+    let whole = run.count / lanes as usize;
+    if lane == 0 && whole > 0 {
+        let cells = Cells {
+            piece: run.piece,
+            cell,
+            count: whole as u32,
+            place: run.place,
+        };
+        read_whole(source, seat, layout, phase, cells, out);
+        return whole * lanes as usize;
+    }
+    let count = ((lanes - lane) as usize).min(run.count);
+    let part = Part {
+        piece: run.piece,
+        first: layout.first_cell(run.piece),
+        bits: bits(phase),
+        cell,
+        lane,
+        place: run.place,
+        count,
+    };
+    read_part(source, seat, layout, part, out);
+    count
+}
+
 /// Unpacks values of a piece.
 pub(crate) fn read_values<S, C: CellSource<S>, V: CellValue>(
     source: &C,
@@ -104,27 +247,15 @@ pub(crate) fn read_values<S, C: CellSource<S>, V: CellValue>(
         → slice_index (V.numbers out.new) k ≡ slice_index (V.numbers out.old) k }
     ensures len { length out.new ≡ length out.old }
 {
-    let phase = run.piece / layout.bands().count;
-    let first = layout.first_cell(run.piece);
-    let bits = bits(phase);
-    let lanes = lanes(phase);
-    let mut cell = run.from / lanes;
-    let mut lane = run.from % lanes;
+    let _whole = layout.bands();
     let mut done = 0;
     while done < run.count {
-        let count = ((lanes - lane) as usize).min(run.count - done);
-        let part = Part {
+        let rest = Run {
             piece: run.piece,
-            first,
-            bits,
-            cell,
-            lane,
+            from: run.from + done as u32,
             place: run.place + done,
-            count,
+            count: run.count - done,
         };
-        read_part(source, seat, layout, part, out);
-        done += count;
-        cell += 1;
-        lane = 0;
+        done += read_next(source, seat, layout, rest, out);
     }
 }

@@ -1,4 +1,4 @@
-use Rattle.std.proofs.Common.{◌≡◌, ℕ, ◌+◌, ◌-◌, ◌*◌, ◌<◌, ◌≤◌, length, slice_index}
+use Rattle.std.proofs.Common.{◌≡◌, ℕ, ◌+◌, ◌-◌, ◌<◌, ◌≤◌, length, slice_index}
 use Rattle.band_core.specs.Values.{value}
 use Rattle.band_pieces.proofs.reading.read_values.Given as goal
 
@@ -7,8 +7,6 @@ invariant-loop-done g l = record {
   seat : l.seat ≡ l.initial.seat;
   long : length l.out ≡ length l.initial.out;
   within : l.done ≤ l.run.count;
-  lane : l.lane < l.lanes;
-  place : l.done < l.run.count → l.run.from + l.done ≡ l.cell * l.lanes + l.lane;
   here : (j : ℕ) → j < l.done → slice_index (g.V.CellValue.numbers l.out) (l.run.place + j) ≡ value (g.C.CellSource.sheet l.source l.initial.seat).page.value l.layout l.run.piece (l.run.from + j);
   kept : (k : ℕ) → k < l.run.place → slice_index (g.V.CellValue.numbers l.out) k ≡ slice_index (g.V.CellValue.numbers l.initial.out) k;
 }
