@@ -1,3 +1,4 @@
 pub mod Turns
 pub mod Settling
 pub mod Numbers
+pub mod Pages

@@ -1,10 +1,9 @@
 -- Replies whose accepted pages are done one after another.
-use Rattle.std.proofs.Common.{All, ◌≡◌, ◌∙◌, ℕ, suc, ◌+◌, ◌<◌, List, [], ◌∷◌, length, get_or, Option, Some, None, slice_set, inl, inr, refl, sym, ap, subst, arith}
+use Rattle.std.proofs.Common.{◌≡◌, ◌∙◌, ℕ, suc, ◌+◌, ◌<◌, List, [], ◌∷◌, length, Option, Some, None, slice_set, inl, inr, refl, sym, ap, subst, arith}
 use mathlib.Core.Logic.{dite}
 use native.Mathlib.Decide.{ℕ_discrete}
 use Rattle.std.proofs.lemmas.List.{get_or-set_other, get_or-set_same, length-set}
 use Rattle.outside.specs.Tray.{TrayState}
-use Rattle.line_queue.specs.declared.serving.Kept.{Kept}
 use Rattle.page_gather.specs.Gathering.{Gathers}
 use Rattle.page_model.specs.declared.parts.PageParts.{PageParts}
 use Rattle.job_list.specs.Lines.{LineParts}
@@ -13,7 +12,8 @@ use Rattle.trap_pool.specs.declared.outcome.Outcome.{Outcome}
 use Rattle.trap_pool.specs.declared.outcome.Outcome.TheVariants.{Done, Refused, TooLarge}
 use Rattle.trap_pool.specs.Pools.{AnswersLine, InTurn, KeepsLimit, source_of}
 use Rattle.trap_pool.specs.Replies.{ReplyParts, IsReply, IsTrapOf, accepted_of, gathered_of, reply_parts}
-use Rattle.trap_pool.specs.Taking.{AllSettled, Settled, Settles, TrapsLine, TrapsReply, accepted_page, no_reply, reply_at}
+use Rattle.trap_pool.specs.declared.traps.Traps.{Traps}
+use Rattle.trap_pool.specs.Taking.{AllSettled, Settled, Settles, SettlesBy, TrapsLine, accepted_page, no_reply, reply_at}
 
 -- The page that was accepted is done.
 module _ (made : PageParts) (trapped : Trapped) (trap : IsTrapOf made trapped) where
@@ -87,15 +87,14 @@ all_then a b c one two = record {
 }
 
 -- What is made of a line is made of it also when others are settled.
-pub line_kept : (a b : List ReplyParts) (line : ℕ) (made : Option Trapped) → AllSettled a b → TrapsLine a line made → TrapsLine b line made
-line_kept a b line None all traps = tt
-line_kept a b line (Some trapped) all traps =
-    let one = all.each line traps.0 in (
-      let count = all.count in let here = traps.0 in omega arith,
+pub line_kept : (a b : List ReplyParts) (line : ℕ) (traps : Traps) → AllSettled a b → TrapsLine a line traps → TrapsLine b line traps
+line_kept a b line traps all makes =
+    let one = all.each line makes.0 in (
+      let count = all.count in let here = makes.0 in omega arith,
       (
-        traps.1.0,
-        ap (λ (p : Option PageParts). accepted_page p (reply_at b line).outcome) one.page ∙ page_kept (reply_at a line).page (reply_at a line).outcome (reply_at b line).outcome one.outcome ∙ traps.1.1,
-        traps.1.2,
+        makes.1.0,
+        ap (λ (p : Option PageParts). accepted_page p (reply_at b line).outcome) one.page ∙ page_kept (reply_at a line).page (reply_at a line).outcome (reply_at b line).outcome one.outcome ∙ makes.1.1,
+        makes.1.2,
       ),
     )
 
@@ -128,14 +127,14 @@ turn_kept k u (l ∷ ls) a b (x ∷ xs) (y ∷ ys) all turn =
     )
 
 -- One reply is settled.
-module _ (replies : List ReplyParts) (k : ℕ) (trapped : Trapped) (here : k < length replies) (traps : TrapsReply (reply_at replies k) (Some trapped)) where
+module _ (replies : List ReplyParts) (k : ℕ) (traps : Traps) (here : k < length replies) (by : SettlesBy (reply_at replies k) traps) where
   abbrev pub settled_one : ReplyParts
-  settled_one = reply_parts (reply_at replies k).line (reply_at replies k).page (Done trapped)
+  settled_one = reply_parts (reply_at replies k).line (reply_at replies k).page (Done traps.trapped)
 
   this_one : Settled (reply_at replies k) (reply_at (slice_set replies k settled_one) k)
   this_one =
       let is : reply_at (slice_set replies k settled_one) k ≡ settled_one = get_or-set_same replies k settled_one no_reply here in
-      subst (Settled (reply_at replies k)) (sym is) (record { line = refl; page = refl; outcome = inr (traps.0, trapped, traps.1, refl, traps.2) })
+      subst (Settled (reply_at replies k)) (sym is) (record { line = refl; page = refl; outcome = inr (by.0, traps.trapped, by.1, refl, by.2.trap) })
 
   other_one : (j : ℕ) → (j ≡ k → ⊥) → Settled (reply_at replies j) (reply_at (slice_set replies k settled_one) j)
   other_one j other =
@@ -149,7 +148,3 @@ module _ (replies : List ReplyParts) (k : ℕ) (trapped : Trapped) (here : k < l
         (λ same. subst (λ (n : ℕ). Settled (reply_at replies n) (reply_at (slice_set replies k settled_one) n)) (sym same) this_one)
         (λ other. other_one j other);
   }
-
--- all that was made of a room's lines
-pub room_kept : (a b : List ReplyParts) → AllSettled a b → (kept : List (Kept (Option Trapped))) → All (λ (k : Kept (Option Trapped)). TrapsLine a k.line k.made) kept → All (λ (k : Kept (Option Trapped)). TrapsLine b k.line k.made) kept
-room_kept a b all kept traps = λ k d here. line_kept a b (get_or kept k d).line (get_or kept k d).made all (traps k d here)

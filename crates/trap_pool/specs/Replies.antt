@@ -1,12 +1,17 @@
 -- What is answered to a line of a list of jobs.
-use Rattle.std.specs.Prelude.{◌≡◌, ℕ, ◌+◌, ◌*◌, List, [], ◌∷◌, Option, Some, None, Result, Ok, Err}
+use Rattle.std.specs.Prelude.{◌≡◌, ℕ, ◌+◌, ◌*◌, ◌≤◌, List, [], ◌∷◌, Option, Some, None}
+use Rattle.std.specs.Prelude.{Result, Ok, Err, length, All}
 use Rattle.page_model.specs.declared.parts.PageParts.{PageParts}
+use Rattle.page_model.specs.declared.parts.Plane.{Plane}
+use Rattle.page_model.specs.Conditions.{IsPlane}
 use Rattle.page_model.specs.Counts.{page_counts}
+use Rattle.page_model.specs.Limits.{most_samples}
 use Rattle.page_model.specs.Page.{height, plates, width}
 use Rattle.page_model.specs.Tints.{trapped_planes}
 use Rattle.page_tally.specs.declared.outcome.Trapped.{Trapped}
 use Rattle.refusals.specs.declared.refusal.Refusal.{Refusal}
 use Rattle.refusals.specs.declared.refusal.Refusal.TheVariants.{Usage, Read, Write, Memory}
+use Rattle.trap_report.specs.Report.{report_of}
 use Rattle.trap_pool.specs.declared.outcome.Outcome.{Outcome}
 use Rattle.trap_pool.specs.declared.outcome.Outcome.TheVariants.{Done, Refused, TooLarge}
 
@@ -23,6 +28,19 @@ reply_parts line page outcome = record { line = line; page = page; outcome = out
 pub record IsTrapOf (page : PageParts) (trapped : Trapped) : Type 0 where
   pub planes : trapped.planes ≡ trapped_planes page
   pub counts : trapped.counts ≡ page_counts page
+
+-- Planes that can be written, with their report, the page's.
+pub record IsReport (page : PageParts) (planes : List Plane) (text : List ℕ) : Type 0 where
+  pub text_is : text ≡ report_of page (page_counts page)
+  pub few : length planes ≤ 16
+  pub planes_in_range : All IsPlane planes
+  pub few_samples : All (λ (plane : Plane). plane.width * plane.height ≤ most_samples) planes
+
+-- Beside what is done stands its report.
+abbrev pub IsReady : Option PageParts → Outcome → Option (List ℕ) → Type 0
+IsReady (Some page) (Done trapped) (Some text) = IsReport page trapped.planes text
+IsReady (Some page) (Done trapped) None = ⊥
+IsReady page outcome text = Unit {0}
 
 -- A page is gathered or refused: nothing else comes of the words, and nothing is written.
 abbrev pub IsReading : Refusal → Type 0

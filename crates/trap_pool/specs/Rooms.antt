@@ -1,9 +1,17 @@
 -- The room that a pool takes before it begins.
-use Rattle.std.specs.Prelude.{◌≡◌, ℕ, ◌≤◌, true, [], vec_capacity, vec_len, All}
+use Rattle.std.specs.Prelude.{◌≡◌, ℕ, ◌≤◌, ◌<◌, true, [], vec_capacity, vec_len, All}
 use Rattle.crossbeam_queue.specs.Passes.{IsPassOf, view}
 use Rattle.line_queue.specs.Rule.{pass_view, whole}
 use Rattle.line_queue.specs.Serving.{IsUnused}
 use Rattle.trap_pool.specs.declared.pool.PoolRoom.{PoolRoom}
+use Rattle.trap_pool.specs.declared.trapping.Opening.{Opening}
+
+-- the queue's opening pass, and rooms that no worker has been in
+pub record IsOpen (opening : Opening) : Type 0 where
+  pub passes : IsPassOf opening.queue opening.pass
+  pub first : view opening.pass ≡ pass_view whole true [] []
+  pub few : vec_len opening.rooms < whole
+  pub unused : All IsUnused opening.rooms.items
 
 -- room for so many lines, and for as many workers
 pub record IsRoomFor (lines workers : ℕ) (room : PoolRoom) : Type 0 where
@@ -13,7 +21,7 @@ pub record IsRoomFor (lines workers : ℕ) (room : PoolRoom) : Type 0 where
   pub replies : lines ≤ vec_capacity room.replies
   pub no_number : room.numbers.items ≡ []
   pub numbers : lines ≤ vec_capacity room.numbers
-  pub results : vec_len room.results ≡ workers
-  pub unused : All IsUnused room.results.items
-  pub passes : IsPassOf room.queue room.pass
-  pub opening : view room.pass ≡ pass_view whole true [] []
+  pub rooms : vec_len room.opening.rooms ≡ workers
+  pub unused : All IsUnused room.opening.rooms.items
+  pub passes : IsPassOf room.opening.queue room.opening.pass
+  pub first : view room.opening.pass ≡ pass_view whole true [] []

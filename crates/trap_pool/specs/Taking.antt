@@ -5,6 +5,8 @@ use Rattle.page_tally.specs.declared.outcome.Trapped.{Trapped}
 use Rattle.refusals.specs.declared.refusal.Refusal.TheVariants.{Memory}
 use Rattle.trap_pool.specs.declared.outcome.Outcome.{Outcome}
 use Rattle.trap_pool.specs.declared.outcome.Outcome.TheVariants.{Done, Refused, TooLarge}
+use Rattle.trap_pool.specs.declared.traps.Traps.{Traps}
+use Rattle.trap_pool.specs.Made.{IsTrapsOf}
 use Rattle.trap_pool.specs.Replies.{ReplyParts, IsReading, IsTrapOf, reply_parts}
 
 -- stands past the last reply
@@ -38,24 +40,26 @@ accepted_page (Some page) (Refused refusal) = Some page
 accepted_page (Some page) TooLarge = None
 accepted_page None outcome = None
 
--- the one of it that nothing is made of yet
-abbrev pub waiting_in : Option PageParts → Outcome → Option PageParts
-waiting_in (Some page) (Refused refusal) = Some page
-waiting_in (Some page) (Done trapped) = None
-waiting_in (Some page) TooLarge = None
-waiting_in None outcome = None
+-- The page of the reply was accepted, and is this one.
+abbrev pub HasAccepted : ReplyParts → PageParts → Type 0
+HasAccepted reply page = accepted_page reply.page reply.outcome ≡ Some page
 
--- what a reply's accepted page is trapped to, if anything was made
-abbrev pub TrapsReply : ReplyParts → Option Trapped → Type 0
-TrapsReply reply None = Unit {0}
-TrapsReply reply (Some trapped) = (page : PageParts)
-    × (accepted_page reply.page reply.outcome ≡ Some page) × IsTrapOf page trapped
+-- A page that stands for the line is the one that was gathered, and nothing is made of it yet.
+abbrev pub StandsFor : Option PageParts → Option Outcome → Option PageParts → Type 0
+StandsFor page outcome None = Unit {0}
+StandsFor page outcome (Some waiting) = (page ≡ Some waiting) × (outcome ≡ None)
 
--- the same of the reply to that line, if there is one
-abbrev pub TrapsLine : List ReplyParts → ℕ → Option Trapped → Type 0
-TrapsLine replies line None = Unit {0}
-TrapsLine replies line (Some trapped) = (line < length replies)
-    × TrapsReply (reply_at replies line) (Some trapped)
+-- Line k has a page that was accepted, and it is this one.
+abbrev pub HasPage : List ReplyParts → ℕ → PageParts → Type 0
+HasPage replies line page = (line < length replies) × HasAccepted (reply_at replies line) page
+
+-- These are the traps of the reply's accepted page.
+abbrev pub SettlesBy : ReplyParts → Traps → Type 0
+SettlesBy reply traps = (page : PageParts) × HasAccepted reply page × IsTrapsOf page traps
+
+-- These are the traps of the accepted page of that line.
+abbrev pub TrapsLine : List ReplyParts → ℕ → Traps → Type 0
+TrapsLine replies line traps = (line < length replies) × SettlesBy (reply_at replies line) traps
 
 -- The outcome stays, or the accepted page is done.
 abbrev pub Settles : Option PageParts → Outcome → Outcome → Type 0

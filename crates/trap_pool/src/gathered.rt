@@ -1,34 +1,43 @@
-ghost use Rattle.std.specs.Prelude.{◌≡◌, ◌≤◌, Ok, None, Some, option_copied};
-ghost use Rattle.page_model.specs.declared.parts.PageParts.{PageParts};
+ghost use Rattle.std.specs.Prelude.{◌≡◌, ◌≤◌, IfSome, Ok, None, Some};
 ghost use Rattle.trap_pool.specs.Pools.{KeepsLimit};
-ghost use Rattle.trap_pool.specs.Replies.{IsReading, IsReply, IsTrapOf, accepted_of, gathered_of, most_in_all, reply_parts};
-ghost use Rattle.trap_pool.specs.Taking.{accepted_page, waiting_in};
+ghost use Rattle.trap_pool.specs.Replies.{IsReading, IsReply, accepted_of, gathered_of, most_in_all, reply_parts};
+ghost use Rattle.trap_pool.specs.Taking.{HasAccepted, SettlesBy};
 
 use crate::outcome::Outcome;
 use crate::reply::Reply;
+use crate::traps::Traps;
 use page_model::page::Page;
-use page_tally::Trapped;
+use page_model::parts::Name;
 use refusals::refusal::Refusal;
 use std::marker::Model;
+use std::snapshot::Snapshot;
 
-/// A line that the pool works on: its number, the page that was gathered for it, if any, and what became of it. A page that
-/// waits to be trapped has no outcome yet.
+/// A line that the pool works on: its number, the page that was gathered for it, as clauses see it, and what became of it. A page
+/// that waits to be trapped has no outcome yet, and stands here until a worker's slot takes it.
 #[derive(Drop)]
 pub(crate) struct Gathered {
     line: u32,
-    page: Option<Page>,
+    page: Snapshot<Option<Page>>,
+    waiting: Option<Page>,
+    // How many samples of the list's the page takes.
+    samples: u64,
     outcome: Option<Outcome>,
+    report: Option<Name>,
 }
 
 impl Model for Gathered {
-    ghost use Rattle.trap_pool.specs.Replies.{ReplyParts, reply_parts};
-    ghost use Rattle.trap_pool.specs.Taking.{IsGathered, outcome_so_far};
+    ghost use Rattle.std.specs.Prelude.{◌≡◌};
+    ghost use Rattle.trap_pool.specs.Replies.{IsReady, ReplyParts, accepted_of, reply_parts};
+    ghost use Rattle.trap_pool.specs.Taking.{IsGathered, StandsFor, outcome_so_far};
 
     ghost Value = { ReplyParts };
 
-    ghost view = { λ g. reply_parts g.line g.page (outcome_so_far g.outcome) };
+    ghost view = { λ g. reply_parts g.line g.page.value (outcome_so_far g.outcome) };
 
-    ghost invariant = { λ g. IsGathered g.page g.outcome };
+    ghost invariant = { λ g. IsGathered g.page.value g.outcome
+        × IsReady g.page.value (outcome_so_far g.outcome) g.report
+        × StandsFor g.page.value g.outcome g.waiting
+        × (g.samples ≡ accepted_of g.page.value (outcome_so_far g.outcome)) };
 }
 
 const MOST_IN_ALL: u64 = 320_000_000;
@@ -43,15 +52,26 @@ impl Gathered {
         ensures limit { KeepsLimit used result.page result.outcome }
     {
         let samples = page.width() as u64 * page.height() as u64 * page.plates() as u64;
-        let outcome = if used + samples > MOST_IN_ALL {
-            Some(Outcome::TooLarge)
-        } else {
-            None
-        };
+        let page = Some(page);
+        let seen = Snapshot::of(&page);
+        if used + samples > MOST_IN_ALL {
+            let samples = 0;
+            return Gathered {
+                line,
+                page: seen,
+                waiting: None,
+                samples,
+                outcome: Some(Outcome::TooLarge),
+                report: None,
+            };
+        }
         Gathered {
             line,
-            page: Some(page),
-            outcome,
+            page: seen,
+            waiting: page,
+            samples,
+            outcome: None,
+            report: None,
         }
     }
 
@@ -60,10 +80,14 @@ impl Gathered {
         requires { IsReading refusal }
         ensures { result ≡ reply_parts line None (Outcome.Refused refusal) }
     {
+        let none = None;
         Gathered {
             line,
-            page: None,
+            page: Snapshot::of(&none),
+            waiting: none,
+            samples: 0,
             outcome: Some(Outcome::Refused(refusal)),
+            report: None,
         }
     }
 
@@ -71,28 +95,30 @@ impl Gathered {
     pub(crate) fn accepted_samples(&self) -> u64
         ensures { result ≡ accepted_of self.now.page self.now.outcome }
     {
-        match (&self.page, &self.outcome) {
-            (None, _) | (_, Some(Outcome::TooLarge)) => 0,
-            (Some(page), _) => page.width() as u64 * page.height() as u64 * page.plates() as u64,
-        }
+        self.samples
     }
 
-    // The page that waits to be trapped.
-    pub(crate) fn waiting(&self) -> Option<&Page>
-        ensures { option_copied result ≡ waiting_in self.now.page self.now.outcome }
+    // Whether a page stands here that waits to be trapped.
+    pub(crate) fn waits(&self) -> bool {
+        self.waiting.is_some()
+    }
+
+    // Takes the page that waits to be trapped.
+    pub(crate) fn take_waiting(&mut self) -> Option<Page>
+        ensures same { self.new ≡ self.old }
+        ensures page { IfSome result (λ page. HasAccepted self.old page) }
     {
-        match &self.outcome {
-            None => self.page.as_ref(),
-            Some(_) => None,
-        }
+        std::mem::replace(&mut self.waiting, None)
     }
 
     // Puts in what the accepted page is trapped to.
-    pub(crate) fn settle(&mut self, trapped: Trapped)
-        requires { (made : PageParts) × (accepted_page self.old.page self.old.outcome ≡ Some made)
-            × IsTrapOf made trapped }
-        ensures { self.new ≡ reply_parts self.old.line self.old.page (Outcome.Done trapped) }
+    pub(crate) fn settle(&mut self, traps: Traps)
+        requires { SettlesBy self.old traps }
+        ensures { self.new ≡ reply_parts self.old.line self.old.page (Outcome.Done traps.trapped) }
     {
+        let Traps { trapped, report } = traps;
+        self.waiting = None;
+        self.report = Some(report);
         self.outcome = Some(Outcome::Done(trapped));
     }
 
@@ -101,6 +127,6 @@ impl Gathered {
         ensures { result ≡ self }
     {
         let outcome = self.outcome.unwrap_or(Outcome::Refused(Refusal::Memory));
-        Reply::of_parts(self.line, self.page, outcome)
+        Reply::of_parts(self.line, self.page, outcome, self.report)
     }
 }

@@ -1,23 +1,23 @@
 ghost use Rattle.std.specs.Prelude.{◌≡◌, ◌+◌, ◌≤◌, ◌<◌, ◌^◌, IfOk, true, [], length, vec_capacity, vec_len, All};
 ghost use Rattle.crossbeam_queue.specs.Passes.{IsPassOf, view};
 ghost use Rattle.line_queue.specs.Rule.{Ascends, IsAbove, pass_view, whole};
-ghost use Rattle.line_queue.specs.Serving.{AreMade, IsUnused};
+ghost use Rattle.line_queue.specs.Serving.{IsUnused};
 ghost use Rattle.trap_pool.specs.Pools.{AnswersPool};
-ghost use Rattle.trap_pool.specs.Rooms.{IsRoomFor};
-ghost use Rattle.trap_pool.specs.Taking.{TrapsLine};
+ghost use Rattle.trap_pool.specs.Rooms.{IsOpen, IsRoomFor};
 
 use crate::gathered::Gathered;
 use crate::gathering::gather_lines;
 use crate::reply::{Reply, ReplyList};
-use crate::taking::{replies_of, take_in, trap_rest};
-use crate::work::{PageWork, TakeGate};
+use crate::taking::replies_of;
+use crate::trapping::{Opening, trap_lines};
+use crate::work::TakeGate;
 use job_list::line::LineList;
-use line_queue::{LinePass, LineQueue, Rooms, open_queue, push_lines, rooms_of, serve_all};
+use line_queue::{open_queue, rooms_of};
 use lists::list::List;
 use outside::tray::Tray;
 use page_model::parts::OutOfMemory;
-use page_tally::Trapped;
 use std::alloc::{AllocError, Global};
+use std::marker::Brand;
 use std::sync::Wait;
 use std::thread::Threads;
 
@@ -28,9 +28,10 @@ const PLACES: usize = 256;
 /// queue, and gives a reply for each line.
 ///
 /// A page is accepted where its samples, together with those of the pages that were accepted before it, are at most
-/// 320,000,000; the pages are kept in one list, which all workers share. What no worker made, the caller makes after them, so
-/// that each line has its reply whatever the queue does. Where there is no memory for a page, that is the reply to its line
-/// alone. All room for replies and results is taken first: where that is wanting, nothing is begun.
+/// 320,000,000; each stands in a slot of its own, which all workers see, and its room is used again for a page that is trapped
+/// after it. What no worker made, the caller makes after them, so that each line has its reply whatever the queue does. Where
+/// there is no memory for a page, that is the reply to its line alone. All room for replies is taken first: where that is
+/// wanting, nothing is begun.
 pub fn pool_run<H: Threads + Wait + Sync, T: Tray, G: TakeGate + Sync>(
     rt: &H,
     alloc: Global,
@@ -51,33 +52,21 @@ pub fn pool_run<H: Threads + Wait + Sync, T: Tray, G: TakeGate + Sync>(
         gathered,
         replies,
         numbers,
-        results,
-        queue,
-        pass,
+        opening,
     } = room;
-    let mut gathered = gather_lines(alloc, tray, lines, gathered);
+    let gathered = gather_lines(alloc, tray, lines, gathered);
     let numbers = waiting_lines(gathered.as_slice(), numbers);
-    let work = PageWork {
-        alloc,
-        gathered: gathered.as_slice(),
-        gate,
-    };
-    let results = serve_waiting(rt, &work, &queue, pass, numbers.as_slice(), results);
-    take_in(&mut gathered, results);
-    trap_rest(alloc, &mut gathered);
+    let gathered = trap_lines::<Brand, H, G>(rt, alloc, gathered, numbers, opening, gate);
     Ok(List::from_vec(replies_of(gathered, replies)))
 }
 
-// What a pool takes before it begins: a place for each line's page, reply and number, a room for each worker's results, and the
-// queue with its opening pass.
+// What a pool takes before it begins: a place for each line's page, reply and number, and what its workers begin with.
 #[derive(Drop)]
 struct PoolRoom {
     gathered: Vec<Gathered>,
     replies: Vec<Reply>,
     numbers: Vec<u32>,
-    results: Rooms<Option<Trapped>>,
-    queue: LineQueue,
-    pass: LinePass,
+    opening: Opening,
 }
 
 impl PoolRoom {
@@ -87,15 +76,13 @@ impl PoolRoom {
         let gathered = Vec::with_capacity(alloc, lines)?;
         let replies = Vec::with_capacity(alloc, lines)?;
         let numbers = Vec::with_capacity(alloc, lines)?;
-        let results = rooms_of(alloc, workers, lines.min(PLACES))?;
+        let rooms = rooms_of(alloc, workers, lines.min(PLACES))?;
         let (queue, pass) = open_queue(alloc, PLACES)?;
         Ok(PoolRoom {
             gathered,
             replies,
             numbers,
-            results,
-            queue,
-            pass,
+            opening: Opening { queue, pass, rooms },
         })
     }
 }
@@ -124,30 +111,9 @@ fn note_waiting(line: &Gathered, number: u32, numbers: &mut Vec<u32>)
     ensures few { vec_len numbers.new ≤ vec_len numbers.old + 1 }
     ensures room { vec_capacity numbers.old ≤ vec_capacity numbers.new }
 {
-    if line.waiting().is_some() {
+    if line.waits() {
         let Ok(()) = numbers.push(number) else {
             unreachable!()
         };
     }
-}
-
-// Pushes the lines into the queue, as far as it has places, and lets the workers serve them.
-fn serve_waiting<H: Threads + Wait + Sync, G: TakeGate + Sync>(
-    rt: &H,
-    work: &PageWork<'_, G>,
-    queue: &LineQueue,
-    pass: LinePass,
-    numbers: &[u32],
-    results: Rooms<Option<Trapped>>,
-) -> Rooms<Option<Trapped>>
-    requires queue { IsPassOf queue.now pass }
-    requires opening { view pass ≡ pass_view whole true [] [] }
-    requires ascends { Ascends numbers.now }
-    requires results { (vec_len results < whole) × All IsUnused results.items }
-    ensures { All (AreMade (TrapsLine work.now.gathered.now)) result.items }
-{
-    let mut pass = pass;
-    push_lines(rt, queue, &mut pass, numbers);
-    let (_pass, results) = serve_all(rt, queue, work, pass, results);
-    results
 }

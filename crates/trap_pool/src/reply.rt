@@ -1,28 +1,41 @@
-ghost use Rattle.std.specs.Prelude.{◌≡◌, option_copied};
-ghost use Rattle.trap_pool.specs.Replies.{IsReply, reply_parts};
+ghost use Rattle.std.specs.Prelude.{◌≡◌};
+ghost use Rattle.trap_pool.specs.Replies.{IsReady, IsReply, reply_parts};
 
 use crate::outcome::Outcome;
 use lists::list::List;
 use page_model::page::Page;
+use page_model::parts::Name;
 use std::marker::Model;
+use std::snapshot::Snapshot;
 
-/// The reply to a line of a list: the line's number, the page that was gathered for it, if any, and what became of it. What
-/// is done are the new tints and the counts of that very page.
+/// The reply to a line of a list: the line's number, the page that was gathered for it, if any, as clauses see it, and what
+/// became of it. What is done are the new tints and the counts of that very page; its report stands beside them.
 #[derive(Drop)]
 pub struct Reply {
     line: u32,
-    page: Option<Page>,
+    page: Snapshot<Option<Page>>,
     outcome: Outcome,
+    report: Option<Name>,
 }
 
 impl Model for Reply {
-    ghost use Rattle.trap_pool.specs.Replies.{IsReply, ReplyParts, reply_parts};
+    ghost use Rattle.trap_pool.specs.Replies.{IsReady, IsReply, ReplyParts, reply_parts};
 
     ghost Value = { ReplyParts };
 
-    ghost view = { λ r. reply_parts r.line r.page r.outcome };
+    ghost view = { λ r. reply_parts r.line r.page.value r.outcome };
 
-    ghost invariant = { λ r. IsReply r.page r.outcome };
+    ghost invariant = { λ r. IsReply r.page.value r.outcome
+        × IsReady r.page.value r.outcome r.report };
+}
+
+/// The parts of a reply, the page as clauses see it.
+#[derive(Drop)]
+pub struct ReplyLine {
+    pub line: u32,
+    pub page: Snapshot<Option<Page>>,
+    pub outcome: Outcome,
+    pub report: Option<Name>,
 }
 
 /// Replies, in the order of the lines.
@@ -36,13 +49,6 @@ impl Reply {
         self.line
     }
 
-    /// The page that was gathered for the line.
-    pub fn page(&self) -> Option<&Page>
-        ensures { option_copied result ≡ self.now.page }
-    {
-        self.page.as_ref()
-    }
-
     /// What became of the line.
     pub fn outcome(&self) -> &Outcome
         ensures value { result.now ≡ self.now.outcome }
@@ -52,22 +58,35 @@ impl Reply {
     }
 
     /// The parts of the reply.
-    pub fn into_parts(self) -> (u32, Option<Page>, Outcome)
-        ensures parts { self ≡ reply_parts result.0 result.1 result.2 }
-        ensures kind { IsReply result.1 result.2 }
+    pub fn into_parts(self) -> ReplyLine
+        ensures parts { self ≡ reply_parts result.line result.page.value result.outcome }
+        ensures kind { IsReply result.page.value result.outcome }
+        ensures ready { IsReady result.page.value result.outcome result.report }
     {
-        (self.line, self.page, self.outcome)
+        ReplyLine {
+            line: self.line,
+            page: self.page,
+            outcome: self.outcome,
+            report: self.report,
+        }
     }
 
     // The reply of these parts.
-    pub(crate) fn of_parts(line: u32, page: Option<Page>, outcome: Outcome) -> Reply
-        requires { IsReply page outcome }
-        ensures { result ≡ reply_parts line page outcome }
+    pub(crate) fn of_parts(
+        line: u32,
+        page: Snapshot<Option<Page>>,
+        outcome: Outcome,
+        report: Option<Name>,
+    ) -> Reply
+        requires kind { IsReply page.value outcome }
+        requires ready { IsReady page.value outcome report }
+        ensures { result ≡ reply_parts line page.value outcome }
     {
         Reply {
             line,
             page,
             outcome,
+            report,
         }
     }
 }

@@ -1,53 +1,60 @@
-ghost use Rattle.std.specs.Prelude.{◌≡◌, ◌≤◌, [], All, Some, vec_capacity, vec_len};
-ghost use Rattle.line_queue.specs.Serving.{AreMade};
+ghost use Rattle.std.specs.Prelude.{◌≡◌, ◌≤◌, ◌<◌, ◌^◌, [], vec_capacity, vec_len};
 ghost use Rattle.trap_pool.specs.Taking.{AllSettled, TrapsLine};
 
+use crate::desk::Desk;
 use crate::gathered::Gathered;
 use crate::reply::Reply;
-use crate::work::trap_waiting;
-use line_queue::{Kept, Room, Rooms};
-use page_tally::Trapped;
+use crate::slot::{Lines, Slot};
+use crate::traps::Traps;
 use std::alloc::Global;
+use std::sync::Mutex;
 
-// Puts in all that the workers made.
-pub(crate) fn take_in(gathered: &mut Vec<Gathered>, rooms: Rooms<Option<Trapped>>)
-    requires { All (AreMade (TrapsLine gathered.old.items)) rooms.items }
-    ensures { AllSettled gathered.old.items gathered.new.items }
+// A slot for each line, with its page where one waits, in the room, which has a place for each.
+pub(crate) fn slots_of<L: Lines>(
+    gathered: &mut Vec<Gathered>,
+    room: Vec<Mutex<Slot<L>>>,
+) -> Vec<Mutex<Slot<L>>>
+    requires lines { gathered.old.items ≡ L.replies }
+    requires numbered { vec_len gathered.old < 2 ^ 32 }
+    requires empty { room.items ≡ [] }
+    requires room { vec_len gathered.old ≤ vec_capacity room }
+    ensures { gathered.new.items ≡ gathered.old.items }
 {
-    for room in rooms {
-        take_room(gathered, room);
-    }
-}
-
-fn take_room(gathered: &mut Vec<Gathered>, room: Room<Option<Trapped>>)
-    requires { AreMade (TrapsLine gathered.old.items) room }
-    ensures { AllSettled gathered.old.items gathered.new.items }
-{
-    for kept in room.kept {
-        let Kept { line, made } = kept;
-        if let Some(trapped) = made {
-            settle_at(gathered, line as usize, trapped);
-        }
-    }
-}
-
-// Traps each page that still waits, as far as there is memory.
-pub(crate) fn trap_rest(alloc: Global, gathered: &mut Vec<Gathered>)
-    ensures { AllSettled gathered.old.items gathered.new.items }
-{
+    let mut slots = room;
     for place in 0..gathered.len() {
-        if let Some(trapped) = trap_waiting(alloc, &gathered[place]) {
-            settle_at(gathered, place, trapped);
+        let page = gathered[place].take_waiting();
+        let Ok(()) = slots.push(Mutex::new(Slot::new(place as u32, page))) else {
+            unreachable!()
+        };
+    }
+    slots
+}
+
+// Puts in all that was made. A page that waits still is trapped first, as far as there is memory.
+pub(crate) fn take_in<L: Lines>(
+    alloc: Global,
+    gathered: &mut Vec<Gathered>,
+    slots: Vec<Mutex<Slot<L>>>,
+)
+    requires { gathered.old.items ≡ L.replies }
+    ensures { AllSettled gathered.old.items gathered.new.items }
+{
+    let mut idle: Option<Desk> = None;
+    for slot in slots {
+        let mut slot = slot.into_inner();
+        idle = slot.work(alloc, idle);
+        if let (line, Some(traps)) = slot.into_traps() {
+            settle_at(gathered, line as usize, traps);
         }
     }
 }
 
 // Puts in what the accepted page of that line is trapped to.
-fn settle_at(gathered: &mut Vec<Gathered>, place: usize, trapped: Trapped)
-    requires { TrapsLine gathered.old.items place (Some trapped) }
+fn settle_at(gathered: &mut Vec<Gathered>, place: usize, traps: Traps)
+    requires { TrapsLine gathered.old.items place traps }
     ensures { AllSettled gathered.old.items gathered.new.items }
 {
-    gathered[place].settle(trapped);
+    gathered[place].settle(traps);
 }
 
 // The replies to the lines, in their order, in the room, which has a place for each.

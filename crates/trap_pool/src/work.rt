@@ -1,10 +1,8 @@
-ghost use Rattle.trap_pool.specs.Taking.{TrapsReply};
-
-use crate::gathered::Gathered;
+use crate::desk::Desk;
+use crate::slot::{Lines, Slot};
 use line_queue::LineWork;
-use page_tally::Trapped;
 use std::alloc::Global;
-use strip_engine::trap_alone;
+use std::sync::{Mutex, Wait};
 
 /// What is called after each line that a worker took from the queue. It has no meaning, and must return.
 pub trait TakeGate {
@@ -20,32 +18,26 @@ impl TakeGate for OpenTakes {
     fn taken(&self, _line: u32) {}
 }
 
-// What all workers share: the lines with their pages, and the gate.
+// What all workers share: a slot for each line, the desks that are idle, and the gate.
 #[derive(Drop)]
-pub(crate) struct PageWork<'a, G> {
+pub(crate) struct PageWork<'a, L: Lines, H, G> {
+    pub rt: &'a H,
     pub alloc: Global,
-    pub gathered: &'a [Gathered],
+    pub slots: &'a [Mutex<Slot<L>>],
+    pub desks: &'a Mutex<Vec<Desk>>,
     pub gate: &'a G,
 }
 
-impl<'a, G: TakeGate> LineWork<Option<Trapped>> for PageWork<'a, G> {
-    ghost use Rattle.trap_pool.specs.Taking.{TrapsLine};
+impl<'a, L: Lines, H: Wait, G: TakeGate> LineWork<()> for PageWork<'a, L, H, G> {
+    ghost makes = { λ work line made. Unit {0} };
 
-    ghost makes = { λ work line made. TrapsLine work.gathered.now line made };
-
-    fn make(&self, line: u32) -> Option<Trapped> {
+    fn make(&self, line: u32) {
         self.gate.taken(line);
-        let gathered = self.gathered.get(line as usize)?;
-        trap_waiting(self.alloc, gathered)
-    }
-}
-
-// What the line's page is trapped to, where it waits for it and there is memory.
-pub(crate) fn trap_waiting(alloc: Global, line: &Gathered) -> Option<Trapped>
-    ensures { TrapsReply line.now result }
-{
-    match line.waiting() {
-        Some(page) => trap_alone(alloc, page).ok(),
-        None => None,
+        if let Some(slot) = self.slots.get(line as usize) {
+            let idle = self.desks.lock(self.rt).pop();
+            if let Some(desk) = slot.lock(self.rt).work(self.alloc, idle) {
+                let _full = self.desks.lock(self.rt).push(desk);
+            }
+        }
     }
 }

@@ -11,7 +11,7 @@ use Rattle.job_list.specs.Lines.{LineParts}
 use Rattle.page_tally.specs.declared.outcome.Trapped.{Trapped}
 use Rattle.trap_pool.specs.declared.outcome.Outcome.TheVariants as outcomes
 use Rattle.trap_pool.specs.Pools.{target_of}
-use Rattle.trap_pool.specs.Replies.{reply_parts}
+use Rattle.trap_pool.specs.Replies.{IsReady, IsReply, IsReport, IsTrapOf, reply_parts}
 use Rattle.refusals.specs.declared.refusal.Refusal.{Refusal}
 use Rattle.refusals.specs.declared.refusal.Refusal.TheVariants as refusals
 use Rattle.trap_report.specs.Report.{report_of}
@@ -51,14 +51,10 @@ large_kept line k page r = record {
 pub done_written : (line : LineParts) (k : ℕ) (page : PageParts) (trapped : Trapped) (a b : RackState) (what : LineStatus) → WritesDone line page a b what → WritesReply line (reply_parts k (Some page) (outcomes.Done trapped)) a b what
 done_written line k page trapped a b what done = record { keeps = done.keeps; told = done.told; asked = done.asked; answer = done.answer }
 
--- There was no memory for the report.
-pub no_report : (line : LineParts) (page : PageParts) (r : RackState) → WritesDone line page r r (said.Refused refusals.Memory)
-no_report line page r = record {
-  keeps = kept_same r;
-  told = λ tells. refl;
-  asked = asks_none_of r.asked (written_names (target_of line));
-  answer = refl;
-}
+-- What is done is of a page, and its report stands beside it.
+pub ready_page : (page : Option PageParts) (trapped : Trapped) (text : List ℕ) → IsReply page (outcomes.Done trapped) → IsReady page (outcomes.Done trapped) (Some text) → (made : PageParts) × (page ≡ Some made) × IsTrapOf made trapped × IsReport made trapped.planes text
+ready_page None trapped text kind ready = absurd kind
+ready_page (Some made) trapped text kind ready = (made, refl, kind, ready)
 
 -- what is said of the writing's answer
 abbrev pub said_of : {T : Type 0} → Result T Refusal → LineStatus

@@ -1,22 +1,23 @@
-ghost use Rattle.std.specs.Prelude.{◌≡◌, ◌<◌, ◌^◌, length};
-ghost use Rattle.page_model.specs.Page.{plates};
+ghost use Rattle.std.specs.Prelude.{◌≡◌, ◌<◌, ◌≤◌, ◌*◌, ◌^◌, length};
+ghost use Rattle.std.specs.List.{All};
+ghost use Rattle.page_model.specs.Conditions.{IsPlane};
+ghost use Rattle.page_model.specs.Counts.{page_counts};
+ghost use Rattle.page_model.specs.declared.parts.PageParts.{PageParts};
+ghost use Rattle.page_model.specs.Limits.{most_samples};
+ghost use Rattle.page_model.specs.Tints.{trapped_planes};
+ghost use Rattle.trap_report.specs.Report.{report_of};
 ghost use Rattle.trappool_cli.specs.Answers.{AllHaveOuts, AnswersAll, AnswersOne, HasOuts, WritesDone, WritesReply};
-ghost use Rattle.trap_pool.specs.Replies.{IsTrapOf};
 
 use crate::told::tell_job;
 use job_list::line::{LineList, ListLine};
 use outside::rack::Rack;
 use outside::tray::Failed;
-use page_model::laws::trapped_planes_law;
-use page_model::page::Page;
-use page_tally::Trapped;
+use page_model::parts::{Name, PlaneList};
 use page_writing::writing::write_page;
 use refusals::refusal::Refusal;
 use refusals::statuses::{DONE, LINES_REFUSED, NOT_WRITTEN};
-use std::alloc::Global;
 use trap_pool::outcome::Outcome;
-use trap_pool::reply::{Reply, ReplyList};
-use trap_report::report::report;
+use trap_pool::reply::{Reply, ReplyLine, ReplyList};
 
 // What is said of a line.
 #[derive(Clone, Copy, Debug, Drop, PartialEq, Eq)]
@@ -28,12 +29,7 @@ pub(crate) enum LineStatus {
 }
 
 // Line by line writes the files of what is done, and tells what became of it. It stops where that cannot be told.
-pub(crate) fn answer_all<R: Rack>(
-    alloc: Global,
-    rack: &mut R,
-    lines: &LineList,
-    replies: ReplyList,
-) -> u8
+pub(crate) fn answer_all<R: Rack>(rack: &mut R, lines: &LineList, replies: ReplyList) -> u8
     requires numbered { length lines.now < 2 ^ 32 }
     requires outs { AllHaveOuts lines.now replies }
     ensures { AnswersAll 0 0 lines.now replies (R.state rack.old) (R.state rack.new) result }
@@ -42,7 +38,7 @@ pub(crate) fn answer_all<R: Rack>(
     let mut number = 0usize;
     for reply in replies.into_vec() {
         let line = &lines.as_slice()[number];
-        match answer_line(alloc, rack, number as u32, line, reply) {
+        match answer_line(rack, number as u32, line, reply) {
             Some(LineStatus::Done) => number += 1,
             Some(_) => {
                 status = LINES_REFUSED;
@@ -56,7 +52,6 @@ pub(crate) fn answer_all<R: Rack>(
 
 // Writes the files of a line, and tells what became of it; `None` where that cannot be told.
 fn answer_line<R: Rack>(
-    alloc: Global,
     rack: &mut R,
     number: u32,
     line: &ListLine,
@@ -65,7 +60,7 @@ fn answer_line<R: Rack>(
     requires { HasOuts line.now reply }
     ensures { AnswersOne number line.now reply (R.state rack.old) (R.state rack.new) result }
 {
-    let said = write_reply(alloc, rack, line, reply);
+    let said = write_reply(rack, line, reply);
     match tell_job(rack, number, &said) {
         Ok(()) => Some(said),
         Err(Failed) => None,
@@ -73,14 +68,19 @@ fn answer_line<R: Rack>(
 }
 
 // Writes the files of a line whose page is done, and says what became of it.
-fn write_reply<R: Rack>(alloc: Global, rack: &mut R, line: &ListLine, reply: Reply) -> LineStatus
+fn write_reply<R: Rack>(rack: &mut R, line: &ListLine, reply: Reply) -> LineStatus
     requires { HasOuts line.now reply }
     ensures { WritesReply line.now reply (R.state rack.old) (R.state rack.new) result }
 {
-    let (_number, page, outcome) = reply.into_parts();
+    let ReplyLine {
+        line: _,
+        page: _,
+        outcome,
+        report,
+    } = reply.into_parts();
     match outcome {
-        Outcome::Done(trapped) => match page {
-            Some(page) => write_done(alloc, rack, line, &page, trapped),
+        Outcome::Done(trapped) => match report {
+            Some(text) => write_done(rack, line, trapped.planes, &text),
             None => unreachable!(),
         },
         Outcome::Refused(refusal) => LineStatus::Refused(refusal),
@@ -88,29 +88,16 @@ fn write_reply<R: Rack>(alloc: Global, rack: &mut R, line: &ListLine, reply: Rep
     }
 }
 
-fn write_done<R: Rack>(
-    alloc: Global,
-    rack: &mut R,
-    line: &ListLine,
-    page: &Page,
-    trapped: Trapped,
-) -> LineStatus
-    requires trapped { IsTrapOf page.now trapped }
-    requires outs { plates page.now ≡ length line.now.outs }
-    ensures { WritesDone line.now page.now (R.state rack.old) (R.state rack.new) result }
+fn write_done<R: Rack>(rack: &mut R, line: &ListLine, planes: PlaneList, text: &Name) -> LineStatus
+    requires few { length planes ≤ 16 }
+    requires outs { length planes ≡ length line.now.outs }
+    requires planes { All IsPlane planes }
+    requires samples { All (λ plane. plane.width * plane.height ≤ most_samples) planes }
+    ensures { (page : PageParts) → planes ≡ trapped_planes page
+        → text.now ≡ report_of page (page_counts page)
+        → WritesDone line.now page (R.state rack.old) (R.state rack.new) result }
 {
-    let _valid = page.plates();
-    let Ok(text) = report(alloc, page, &trapped.counts) else {
-        return LineStatus::Refused(Refusal::Memory);
-    };
-    trapped_planes_law(page);
-    match write_page(
-        rack,
-        line.outs(),
-        trapped.planes,
-        line.report(),
-        text.as_slice(),
-    ) {
+    match write_page(rack, line.outs(), planes, line.report(), text.as_slice()) {
         Ok(()) => LineStatus::Done,
         Err(refusal) => LineStatus::Refused(refusal),
     }

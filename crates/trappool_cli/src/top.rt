@@ -75,7 +75,7 @@ fn run<H: Threads + Wait + Sync, T: Tray, R: Rack, G: TakeGate + Sync>(
         return refuse_words(rack);
     };
     match make_replies(rt, alloc, asked, tray, gate) {
-        Ok((lines, replies)) => answer_all(alloc, rack, &lines, replies),
+        Ok((lines, replies)) => answer_all(rack, &lines, replies),
         Err(fault) => refuse_list(rack, fault),
     }
 }

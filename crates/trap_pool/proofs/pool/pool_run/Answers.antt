@@ -1,6 +1,6 @@
 use Rattle.std.proofs.Common.{◌∙◌, length, sym, ap, subst, arith}
 use Rattle.trap_pool.specs.Pools.{Pools}
-use Rattle.trap_pool.proofs.Settling.{all_then, turn_kept}
+use Rattle.trap_pool.proofs.Settling.{turn_kept}
 use Rattle.trap_pool.proofs.Turns.{as_many, pools}
 use Rattle.trap_pool.proofs.pool.pool_run.Goals as goal
 
@@ -20,8 +20,7 @@ waiting_lines-numbers-requires-clause-room g c =
 pub replies_of-requires-clause-room : goal.replies_of-requires-clause-room
 replies_of-requires-clause-room g c =
     let many = as_many 0 0 c.args.lines.now (g.T.Tray.state c.args.tray.now) (g.T.Tray.state c.gather_lines-gathered.new.tray) c.gather_lines-gathered.result.items c.gather_lines-gathered.ensures in
-    let first = c.take_in.ensures.count in
-    let last = c.trap_rest.ensures.count in
+    let last = c.trap_lines-gathered.ensures.count in
     let room = c.in-Ok.ensures.replies in
     omega arith
 
@@ -30,7 +29,12 @@ returns g c =
     let a = g.T.Tray.state c.args.tray.now in
     let b = g.T.Tray.state c.gather_lines-gathered.new.tray in
     let first = c.gather_lines-gathered.result.items in
-    let last = c.trap_rest.new.gathered.items in
-    let settled = all_then first c.take_in.new.gathered.items last c.take_in.ensures c.trap_rest.ensures in
+    let last = c.trap_lines-gathered.result.items in
     subst (Pools c.args.lines.now a b) (sym (c.from_vec.ensures ∙ c.replies_of.ensures))
-    (pools c.args.lines.now a b last (turn_kept 0 0 c.args.lines.now a b first last settled c.gather_lines-gathered.ensures))
+    (pools c.args.lines.now a b last (turn_kept 0 0 c.args.lines.now a b first last c.trap_lines-gathered.ensures c.gather_lines-gathered.ensures))
+
+pub trap_lines-gathered-requires-clause-numbered : goal.trap_lines-gathered-requires-clause-numbered
+trap_lines-gathered-requires-clause-numbered g c κs within =
+    let many = as_many 0 0 c.args.lines.now (g.T.Tray.state c.args.tray.now) (g.T.Tray.state c.gather_lines-gathered.new.tray) c.gather_lines-gathered.result.items c.gather_lines-gathered.ensures in
+    let numbered = c.requires.numbered in
+    omega arith

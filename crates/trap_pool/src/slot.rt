@@ -1,0 +1,103 @@
+// Where the page of a line waits for a worker, and what a worker made of it.
+
+ghost use Rattle.std.specs.Prelude.{◌≡◌, IfSome, List, []};
+ghost use Rattle.trap_pool.specs.Replies.{ReplyParts};
+ghost use Rattle.trap_pool.specs.Slots.{MadeOf};
+ghost use Rattle.trap_pool.specs.Taking.{HasPage, TrapsLine};
+
+use crate::desk::Desk;
+use crate::stage::Stage;
+use crate::traps::Traps;
+use page_model::page::Page;
+use std::alloc::Global;
+use std::marker::{Brand, Model, PhantomData};
+
+/// The lines of a list, as they were gathered. Only clauses know them: under a lock they say which page is whose.
+pub(crate) trait Lines {
+    ghost replies: { List ReplyParts };
+}
+
+impl Lines for Brand {
+    ghost replies = { [] };
+}
+
+/// The place of a line that all workers see, under a lock.
+#[derive(Drop)]
+pub(crate) struct Slot<L: Lines> {
+    line: u32,
+    stage: Stage,
+    lines: PhantomData<L>,
+}
+
+impl<L: Lines> Model for Slot<L> {
+    ghost use Rattle.trap_pool.specs.Slots.{IsStage, SlotParts, slot_parts};
+
+    ghost Value = { SlotParts };
+
+    ghost view = { λ s. slot_parts s.line s.stage };
+
+    ghost invariant = { λ s. IsStage L.replies s.line s.stage };
+}
+
+impl<L: Lines> Slot<L> {
+    pub(crate) fn new(line: u32, page: Option<Page>) -> Slot<L>
+        requires { IfSome page (λ page. HasPage L.replies line page) }
+    {
+        match page {
+            Some(page) => Slot {
+                line,
+                stage: Stage::Waits(page),
+                lines: PhantomData,
+            },
+            None => Slot {
+                line,
+                stage: Stage::Empty,
+                lines: PhantomData,
+            },
+        }
+    }
+
+    // Traps the page that waits, on the desk that is idle or on a new one, and gives the desk back. Where there is no memory for it,
+    // the page waits on.
+    pub(crate) fn work(&mut self, alloc: Global, idle: Option<Desk>) -> Option<Desk> {
+        match std::mem::replace(&mut self.stage, Stage::Empty) {
+            Stage::Waits(page) => {
+                let (desk, stage) = trap_waiting(alloc, idle, page);
+                self.stage = stage;
+                desk
+            }
+            stage => {
+                self.stage = stage;
+                idle
+            }
+        }
+    }
+
+    // The line, and what was made of its page.
+    pub(crate) fn into_traps(self) -> (u32, Option<Traps>)
+        ensures { IfSome result.1 (λ traps. TrapsLine L.replies result.0 traps) }
+    {
+        let Slot {
+            line,
+            stage,
+            lines: _,
+        } = self;
+        match stage {
+            Stage::Made(traps) => (line, Some(traps)),
+            Stage::Waits(_) | Stage::Empty => (line, None),
+        }
+    }
+}
+
+fn trap_waiting(alloc: Global, idle: Option<Desk>, page: Page) -> (Option<Desk>, Stage)
+    ensures { MadeOf page result.1 }
+{
+    let Ok(desk) = Desk::for_page(alloc, idle, &page) else {
+        return (None, Stage::Waits(page));
+    };
+    let mut desk = desk;
+    match desk.trap(alloc, page) {
+        Ok(traps) => (Some(desk), Stage::Made(traps)),
+        Err(page) => (Some(desk), Stage::Waits(page)),
+    }
+}

@@ -1,0 +1,76 @@
+// The workers at the pages that were gathered.
+
+ghost use Rattle.std.specs.Prelude.{◌≡◌, ◌<◌, ◌^◌, vec_len};
+ghost use Rattle.line_queue.specs.Rule.{Ascends};
+ghost use Rattle.trap_pool.specs.Rooms.{IsOpen};
+ghost use Rattle.trap_pool.specs.Taking.{AllSettled};
+
+use crate::gathered::Gathered;
+use crate::slot::Lines;
+use crate::taking::{slots_of, take_in};
+use crate::work::{PageWork, TakeGate};
+use line_queue::{LinePass, LineQueue, Rooms, push_lines, serve_all};
+use std::alloc::Global;
+use std::sync::{Mutex, Wait};
+use std::thread::Threads;
+
+/// What the workers begin with: the queue with its opening pass, and for each of them a room for the lines that it takes.
+#[derive(Drop)]
+pub(crate) struct Opening {
+    pub queue: LineQueue,
+    pub pass: LinePass,
+    pub rooms: Rooms<()>,
+}
+
+// Traps the pages that wait, whose lines have these numbers, and puts in what came of them. Where there is no memory for the slots,
+// they wait on.
+pub(crate) fn trap_lines<L: Lines + Send + Sync, H: Threads + Wait + Sync, G: TakeGate + Sync>(
+    rt: &H,
+    alloc: Global,
+    gathered: Vec<Gathered>,
+    numbers: Vec<u32>,
+    opening: Opening,
+    gate: &G,
+) -> Vec<Gathered>
+    requires lines { gathered.items ≡ L.replies }
+    requires numbered { vec_len gathered < 2 ^ 32 }
+    requires ascends { Ascends numbers.items }
+    requires open { IsOpen opening }
+    ensures { AllSettled gathered.items result.items }
+{
+    let mut gathered = gathered;
+    let Ok(room) = Vec::with_capacity(alloc, gathered.len()) else {
+        return gathered;
+    };
+    let slots = slots_of::<L>(&mut gathered, room);
+    let desks = Mutex::new(Vec::new(alloc));
+    let work = PageWork {
+        rt,
+        alloc,
+        slots: slots.as_slice(),
+        desks: &desks,
+        gate,
+    };
+    serve_waiting(rt, &work, numbers.as_slice(), opening);
+    take_in(alloc, &mut gathered, slots);
+    gathered
+}
+
+// Pushes the lines into the queue, as far as it has places, and lets the workers serve them.
+fn serve_waiting<L: Lines + Send + Sync, H: Threads + Wait + Sync, G: TakeGate + Sync>(
+    rt: &H,
+    work: &PageWork<'_, L, H, G>,
+    numbers: &[u32],
+    opening: Opening,
+)
+    requires ascends { Ascends numbers.now }
+    requires open { IsOpen opening }
+{
+    let Opening {
+        queue,
+        mut pass,
+        rooms,
+    } = opening;
+    push_lines(rt, &queue, &mut pass, numbers);
+    let _served = serve_all(rt, &queue, work, pass, rooms);
+}

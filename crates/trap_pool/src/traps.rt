@@ -1,0 +1,9 @@
+use page_model::parts::Name;
+use page_tally::Trapped;
+
+/// What comes of a page: its planes after trapping, its counts, and the text of its report.
+#[derive(Drop)]
+pub(crate) struct Traps {
+    pub trapped: Trapped,
+    pub report: Name,
+}
