@@ -3,7 +3,7 @@ use Rattle.std.proofs.Common.{◌≡◌, ℕ, ◌+◌, ◌-◌, ◌%◌, ◌<◌
 use Rattle.std.specs.Prelude.{if◌then◌else◌}
 use Rattle.std.proofs.lemmas.Bool.{cases_lt}
 use Rattle.sheet_loop.specs.declared.rows.Progress.{Progress}
-use Rattle.sheet_loop.specs.Going.{IsNextRow, IsProgress, gone_on}
+use Rattle.sheet_loop.specs.Going.{IsNextRow, IsProgress, IsStripRow, gone_on}
 use Rattle.sheet_windows.specs.declared.spans.Ruler.{Ruler}
 use Rattle.sheet_windows.specs.declared.spans.Span.{Span}
 use Rattle.sheet_windows.specs.Spans.{IsSpan, even_wide}
@@ -63,19 +63,24 @@ module _ (down : Ruler) (p : Progress) (span : Span) (from : ℕ) (is : IsProgre
     above = (let begins = span_is.begins in let held = is.held in let known = is.known in omega (arith, from_is, begins, held, known));
   }
 
-pub goes_on : (down : Ruler) (p : Progress) (row : Span) → IsNextRow down p row → IsProgress down (gone_on row p)
-goes_on down p row is =
+pub goes_on : (down : Ruler) (row : Span) → IsStripRow down row → IsProgress down (gone_on row)
+goes_on down row is =
     let span = is.span in
-    let begins = span.begins in
     let core = span.core in
     let inside = span.inside in
     record {
       inside = inside;
-      held = omega (arith, begins);
-      known = omega (arith, begins, core);
+      held = omega arith;
+      known = omega (arith, core);
       placed = λ more. record {
         inside = subst (λ (n : ℕ). row.from + n ≤ down.side) is.wide inside;
-        halo = (let halo = span.before more in omega (arith, begins, halo));
+        halo = (let halo = span.before more in omega (arith, halo));
         exact = subst (λ (n : ℕ). (if down.from_end then down.side - (row.from + n) else row.from) % down.step ≡ 0) is.wide span.exact;
       };
     }
+
+pub hand_of : (down : Ruler) (p : Progress) (row : Span) → IsNextRow down p row → IsStripRow down row
+hand_of down p row next = record {
+  span = subst (λ (at : ℕ). IsSpan down at row) (sym next.span.begins) next.span;
+  wide = next.wide;
+}

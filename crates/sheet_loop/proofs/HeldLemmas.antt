@@ -41,7 +41,7 @@ module _ (inputs : List (List ℕ)) (bare : PageParts) (begun : List OpenPlate) 
   many : (k : ℕ) → k < length begun → samples_of (open_at begun k).header ≡ width bare * height bare
   many k l = ap (λ (h : Header). h.width * h.height) (headers.each k l)
 
-  pub all_to_read : (k : ℕ) → k < length begun → IsReadTo (open_at begun k) 0 (length (tints_of old.planes k) - 0) (tray_at before k)
+  pub all_to_read : (k : ℕ) → k < length begun → IsReadTo (open_at begun k) 0 (length (tints_of old.planes k)) (tray_at before k)
   all_to_read k l = record {
     name = name_at inputs k;
     start = tray_at start k;

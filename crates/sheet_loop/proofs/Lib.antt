@@ -1,6 +1,7 @@
 pub mod GoingLemmas
 pub mod RowReads
 pub mod OnSheets
+pub mod AtHand
 pub mod StepLemmas
 pub mod StreamLemmas
 pub mod SecondLemmas

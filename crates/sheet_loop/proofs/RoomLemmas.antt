@@ -4,29 +4,21 @@ use Rattle.std.specs.Prelude.{replicate}
 use Rattle.std.proofs.Math.Nat.{mul-le-mul}
 use Rattle.std.proofs.lemmas.List.{get_or-map, length-map, length-replicate}
 use Rattle.std.proofs.lemmas.List.Elements.{All-replicate}
-use Rattle.bare_sheets.specs.Begun.{BeginsWith, MayBegin}
-use Rattle.bare_sheets.specs.StripCores.{StripCoreLaw}
-use Rattle.bare_sheets.proofs.BegunLemmas.{some_sheet}
-use Rattle.bare_sheets.proofs.CoreLemmas.{core_law}
+use Rattle.bare_sheets.specs.Begun.{MayBegin}
 use Rattle.page_model.specs.declared.parts.PageParts.{PageParts}
 use Rattle.page_model.specs.declared.parts.Plane.{Plane}
 use Rattle.page_model.specs.Page.{height, maxval, plates, width}
 use Rattle.page_model.specs.Planes.{no_plane, tints_of}
-use Rattle.sheet_loop.specs.Going.{IsNextRow, not_begun}
-use Rattle.sheet_loop.specs.Rooms.{CanBeCut, CanStream, IsBlankStrip, IsStreamRoom}
+use Rattle.sheet_loop.specs.Going.{IsNextRow, IsStripRow, not_begun}
+use Rattle.sheet_loop.specs.Rooms.{CanBeCut, CanStream, IsBlankStrip, IsSomeStrip, IsStreamRoom}
 use Rattle.sheet_loop.specs.declared.room.StreamRoom.{StreamRoom}
-use Rattle.sheet_loop.proofs.OnSheets.{cuttable, height_same, rulers_same, small_same}
-use Rattle.sheet_loop.proofs.StepLemmas.{form_same}
+use Rattle.sheet_loop.proofs.AtHand.{can_be_cut, strip_cuttable, strip_form}
+use Rattle.sheet_loop.proofs.GoingLemmas.{hand_of}
 use Rattle.sheet_stream.specs.Holding.{HoldRowsFrom}
-use Rattle.sheet_stream.specs.Strips.{IsStripOf, blank_plane}
-use Rattle.sheet_stream.proofs.HoldLemmas.{strip_made}
+use Rattle.sheet_stream.specs.Strips.{blank_plane}
 use Rattle.sheet_stream.proofs.TurnLemmas.{have_form}
 use Rattle.sheet_windows.specs.declared.spans.Span.{Span}
-use Rattle.sheet_windows.specs.Plans.{AreRulers, AreSmall}
-use Rattle.sheet_windows.specs.Spans.{AreSpans, IsSpan}
-use Rattle.sheet_windows.specs.Strips.{StripLaw, strip_parts, strip_tile}
-use Rattle.sheet_windows.proofs.Parts.{height-is, width-is}
-use Rattle.sheet_windows.proofs.StripLemmas.{strip_law}
+use Rattle.sheet_windows.specs.Spans.{AreSpans}
 use Rattle.strip_rows.specs.declared.parts.StripPlan.{StripPlan}
 use Rattle.strip_rows.specs.OnSheet.{strip_cut}
 use Rattle.strip_tiles.specs.Rooms.{IsStripRoom, columns_in}
@@ -73,63 +65,30 @@ module _ (bare : PageParts) (plan : StripPlan) (row : Span) (strip : PageParts) 
     below = λ c l. All-replicate (λ (t : ℕ). t ≤ maxval bare) (row.wide * width bare) 0 (omega arith);
   }
 
-  some : (sheet : PageParts) × BeginsWith bare tints sheet
-  some = some_sheet bare tints can.valid can.blank may
+  hand : IsStripRow plan.down row
+  hand = hand_of plan.down not_begun row next
 
-  abbrev sheet : PageParts
-  sheet = some.0
+  pub blank_cuttable : IsCuttable strip
+  blank_cuttable = strip_cuttable bare plan row strip can hand blank.strip_is tints held may
 
-  begins : BeginsWith bare tints sheet
-  begins = some.1
-
-  cut_is : IsCuttable sheet
-  cut_is = cuttable bare sheet tints begins can.cut can.narrow can.low
-
-  made : strip ≡ strip_parts sheet row
-  made = strip_made bare sheet row tints strip blank.strip_is held begins (let e = height_same bare sheet tints begins in let i = inside in omega (arith, e, i))
-
-  rulers : AreRulers sheet plan.across plan.down
-  rulers = rulers_same bare sheet tints begins plan.across plan.down can.rulers
-
-  some_wide : 1 ≤ width sheet
-  some_wide = (begins.valid.parts.planes_in_range 0 no_plane (let p = begins.valid.parts.some_plates in omega (arith, p))).some_width
-
-  law : StripLaw sheet 0 row
-  law = strip_law sheet plan.across plan.down 0 row begins.valid cut_is.near rulers next.span some_wide
-
-  core : StripCoreLaw sheet plan.across plan.down 0 row
-  core = core_law sheet plan.across plan.down 0 row begins.valid cut_is.near rulers next.span
-
-  parts_cuttable : IsCuttable (strip_parts sheet row)
-  parts_cuttable = record {
-    ranges = law.ranges;
-    near = law.near;
-    narrow = (let w = width-is sheet (strip_tile sheet row).cut law.tile.cut in let n = cut_is.narrow in omega (arith, w, n));
-    low = (let h = height-is sheet (strip_tile sheet row).cut law.tile.cut in let n = can.low in let i = inside in omega (arith, h, n, i));
-  }
-
-  pub strip_cuttable : IsCuttable strip
-  strip_cuttable = subst IsCuttable (sym made) parts_cuttable
-
-  pub can_be_cut : CanBeCut strip (strip_cut plan.across plan.down row)
-  can_be_cut = record {
-    rulers = subst (λ (s : PageParts). AreRulers s plan.across (strip_cut plan.across plan.down row).down) (sym made) core.rulers;
-    small = subst (λ (s : PageParts). AreSmall s plan.across (strip_cut plan.across plan.down row).down) (sym made) (core.small (small_same bare sheet tints begins plan.across plan.down can.small));
-    row = (let e : row.skip ≡ 0 + row.skip = omega arith in subst (λ (n : ℕ). IsSpan (strip_cut plan.across plan.down row).down n (strip_cut plan.across plan.down row).row) e core.span);
-  }
+  pub blank_cut : CanBeCut strip (strip_cut plan.across plan.down row)
+  blank_cut = can_be_cut bare plan row strip can hand blank.strip_is tints held may
 
   form_is : form_of strip ≡ form_of bare
-  form_is = form_same strip bare held.count blank.strip_is.inks (have_form bare row strip blank.strip_is)
+  form_is = strip_form bare plan row strip can hand blank.strip_is tints held
 
-  pub room_made : (room : StreamRoom) → room.strip ≡ strip → AreSpans plan.across 0 (columns_in room.core.windows) (width bare) → IsStripRoom (form_of strip) row.wide room.core.windows → length room.core.line.items ≡ plates bare * width bare → 2 ≤ length room.core.bytes.items → IsStreamRoom bare plan room
-  room_made room same columns windows line bytes = record {
-    last = row;
-    tall = next.wide;
-    strip = subst (λ (s : PageParts). IsStripOf bare row s) (sym same) blank.strip_is;
+  pub some_strip : IsSomeStrip bare plan strip
+  some_strip = record { last = row; tall = next.wide; is_strip = blank.strip_is }
+
+  pub room_made : (room : StreamRoom) → room.strip ≡ strip → IsSomeStrip bare plan room.ahead → AreSpans plan.across 0 (columns_in room.core.windows) (width bare) → IsStripRoom (form_of strip) row.wide room.core.windows → length room.core.line.items ≡ plates bare * width bare → 2 ≤ length room.core.bytes.items → 2 ≤ length room.pieces.items → IsStreamRoom bare plan room
+  room_made room same ahead columns windows line bytes pieces = record {
+    strip = subst (IsSomeStrip bare plan) (sym same) some_strip;
+    ahead = ahead;
     columns = columns;
     windows = subst (λ (n : ℕ). IsStripRoom (form_of bare) n room.core.windows) next.wide (subst (λ (f : Form). IsStripRoom f row.wide room.core.windows) form_is windows);
     line = line;
     bytes = bytes;
+    pieces = pieces;
   }
 
   pub none_counted : (counts : SheetCounts) → AreNone strip counts → AreNone bare counts

@@ -35,6 +35,9 @@ none_long (x ∷ xs) e = absurd (omega (arith, e))
 no_rows : (w : ℕ) → 0 * w ≡ 0
 no_rows w = omega arith
 
+sum_times : (a b w : ℕ) → (a + b) * w ≡ a * w + b * w
+sum_times a b w = omega arith
+
 module _ (bare : PageParts) (begun : List OpenPlate) (tall : ℕ) (p : Progress) (row : Span) (inputs : List (List ℕ)) (start before : List TrayState) (strip : PageParts) (headers : HaveHeader bare begun) (holds : HoldsTo inputs bare begun tall p start before strip) (wide : row.wide ≡ tall) (low : p.from ≤ row.from) (high : row.from ≤ p.read) (inside : row.from + row.wide ≤ height bare) (room : HaveRoomFor bare tall strip.planes) where
   in_bare : (k : ℕ) → k < length begun → k < plates bare
   in_bare k l = (let e = headers.count in omega (arith, l, e))
@@ -42,16 +45,19 @@ module _ (bare : PageParts) (begun : List OpenPlate) (tall : ℕ) (p : Progress)
   shortly : p.read ≤ p.from + tall
   shortly = elim holds.held [ inl none ↦ omega (arith, none) | inr some ↦ (let e = some.0 in omega (arith, e)) ]
 
-  pub gone_fits : (row.from - p.from) * width bare ≤ tall * width bare
-  gone_fits = (let s = shortly in let l : row.from - p.from ≤ tall = omega (arith, high, s) in mul-le-mul l (omega arith))
-
-  pub kept_fits : (p.read - row.from) * width bare ≤ tall * width bare
+  kept_fits : (p.read - row.from) * width bare ≤ tall * width bare
   kept_fits = (let s = shortly in let l : p.read - row.from ≤ tall = omega (arith, low, s) in mul-le-mul l (omega arith))
 
+  -- the rows that are gone and those that are kept are rows of the strip
+  pub both_fit : (row.from - p.from) * width bare + (p.read - row.from) * width bare ≤ tall * width bare
+  both_fit =
+      let s = shortly in
+      let l : (row.from - p.from) + (p.read - row.from) ≤ tall = omega (arith, low, high, s) in
+      let m : ((row.from - p.from) + (p.read - row.from)) * width bare ≤ tall * width bare = mul-le-mul l (omega arith) in
+      subst (λ (n : ℕ). n ≤ tall * width bare) (sum_times (row.from - p.from) (p.read - row.from) (width bare)) m
+
   parts : p.read * width bare ≡ row.from * width bare + (p.read - row.from) * width bare
-  parts = (let e : p.read ≡ row.from + (p.read - row.from) = omega (arith, high) in ap (λ (n : ℕ). n * width bare) e ∙ sum_times row.from (p.read - row.from) (width bare)) where
-    sum_times : (a b w : ℕ) → (a + b) * w ≡ a * w + b * w
-    sum_times a b w = omega arith
+  parts = (let e : p.read ≡ row.from + (p.read - row.from) = omega (arith, high) in ap (λ (n : ℕ). n * width bare) e ∙ sum_times row.from (p.read - row.from) (width bare))
 
   rest_fits : p.read * width bare + (tall * width bare - (p.read - row.from) * width bare) ≤ width bare * height bare
   rest_fits =
@@ -80,10 +86,10 @@ module _ (bare : PageParts) (begun : List OpenPlate) (tall : ℕ) (p : Progress)
 
     -- .. where the reading stops
     pub stopped : (stop : RereadError) → ReadsStrip begun (rows_then bare p row) ((row.from - p.from) * width bare) strip new before after (Err stop) → StopsReading inputs (header_of begun) (length begun) start after stop
-    stopped stop reads = rows_stop inputs begun holds.samples (rows_then bare p row) reads.shifted new.planes start before after stop holds.read
+    stopped stop reads = rows_stop inputs begun holds.samples (rows_then bare p row) reads.copied new.planes start before after stop holds.read
         (record {
           count = λ k l. holds.count k (in_bare k l);
-          room = λ k l. (let long = (reads.moved.each k (in_strip k (in_bare k l))).form.full in let r = room.room k (in_bare k l) in let m = many k l in let f = rest_fits in omega (arith, long, r, m, f));
+          room = λ k l. (let long = (reads.common.each k (in_strip k (in_bare k l))).form.full in let r = room.room k (in_bare k l) in let m = many k l in let f = rest_fits in omega (arith, long, r, m, f));
         }) reads.read
 
     module _ (reads : ReadsStrip begun (rows_then bare p row) ((row.from - p.from) * width bare) strip new before after (Ok tt)) where
@@ -127,8 +133,8 @@ module _ (bare : PageParts) (begun : List OpenPlate) (tall : ℕ) (p : Progress)
       read_on = elim holds.held [ inl none ↦ from_none none | inr some ↦ from_some some.0 some.1 ]
 
 -- what is held then, as the next step finds it
-abbrev pub holds_on : (inputs : List (List ℕ)) (bare : PageParts) (begun : List OpenPlate) (tall : ℕ) (p : Progress) (row : Span) (start now : List TrayState) (strip : PageParts) → row.wide ≡ tall → (held : HoldsRead inputs bare begun row.from tall start now strip.planes) → HoldsTo inputs bare begun tall (gone_on row p) start now strip
-holds_on inputs bare begun tall p row start now strip wide held = record {
+abbrev pub holds_on : (inputs : List (List ℕ)) (bare : PageParts) (begun : List OpenPlate) (tall : ℕ) (row : Span) (start now : List TrayState) (strip : PageParts) → row.wide ≡ tall → (held : HoldsRead inputs bare begun row.from tall start now strip.planes) → HoldsTo inputs bare begun tall (gone_on row) start now strip
+holds_on inputs bare begun tall row start now strip wide held = record {
   samples = held.samples;
   read = held.read;
   count = λ k l. sym (length-map (held.samples k) (λ (v : ℕ). maxval bare - v)) ∙ held.held.read k l ∙ ap (λ (n : ℕ). (row.from + n) * width bare) (sym wide);

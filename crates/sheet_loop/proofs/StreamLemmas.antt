@@ -1,5 +1,5 @@
 -- A sheet that streams, from its first strip to its last.
-use Rattle.std.proofs.Common.{◌≡◌, ℕ, ◌*◌, ◌<◌, ◌≤◌, List, [], inl, refl, sym, ap, ◌∙◌, subst, arith}
+use Rattle.std.proofs.Common.{◌≡◌, ℕ, ◌+◌, ◌*◌, ◌<◌, ◌≤◌, List, [], Result, Ok, Err, inl, refl, sym, ap, ◌∙◌, subst, arith, length}
 use Rattle.bare_sheets.specs.StripCores.{new_from}
 use Rattle.outside.specs.Rack.{RackState}
 use Rattle.outside.specs.Tray.{TrayState}
@@ -9,54 +9,87 @@ use Rattle.pgm_plates.specs.declared.header.Header.{Header}
 use Rattle.pgm_plates.specs.declared.rows.OpenPlate.{OpenPlate}
 use Rattle.pgm_plates.specs.Rows.{HasWritten}
 use Rattle.plate_rows.specs.Racks.{rack_at}
+use Rattle.plate_rows.specs.Rereading.{HaveRead}
 use Rattle.plate_rows.specs.Trays.{name_at}
+use Rattle.plate_rows.specs.declared.stop.RereadError.{RereadError}
 use Rattle.sheet_loop.specs.declared.room.StreamRoom.{StreamRoom}
-use Rattle.sheet_loop.specs.declared.rows.Progress.{Progress}
-use Rattle.sheet_loop.specs.Courses.{Course, HasStreamed, RowsCount, RowsStand, StandsAt, Starts}
-use Rattle.sheet_loop.specs.Going.{IsProgress, not_begun}
-use Rattle.sheet_loop.specs.Rooms.{CanStream}
+use Rattle.sheet_loop.specs.declared.stop.StreamStop.{StreamStop}
+use Rattle.sheet_loop.specs.Courses.{BeginsAt, Course, Finishes, HasStreamed, OfEach, RowsCount, RowsStand, StandsAt, Starts, Streams}
+use Rattle.sheet_loop.specs.Going.{IsNextRow, IsProgress, IsStripRow, core_top, not_begun}
+use Rattle.sheet_loop.specs.Reading.{HoldsTo, ReadsRow}
+use Rattle.sheet_loop.specs.Rooms.{CanStream, IsSomeStrip}
+use Rattle.sheet_loop.proofs.StepLemmas.{reading_stops, stands_then}
 use Rattle.sheet_stream.specs.Growing.{new_rows}
 use Rattle.sheet_windows.specs.declared.spans.Ruler.{Ruler}
+use Rattle.sheet_windows.specs.declared.spans.Span.{Span}
+use Rattle.sheet_windows.specs.Spans.{even_wide}
 use Rattle.sheet_stream.specs.Reading.{HaveHeader}
 use Rattle.strip_rows.specs.declared.parts.StripPlan.{StripPlan}
 use Rattle.tile_counts.specs.declared.counts.SheetCounts.{SheetCounts}
 use Rattle.tile_counts.proofs.Growing.{area_none}
 
--- before the first strip
-pub begins : (course : Course) (bare : PageParts) (plan : StripPlan) (begun : List OpenPlate) (trays : List TrayState) (racks : List RackState) (room : StreamRoom) → Starts course bare plan begun trays racks → StandsAt course bare plan begun room.counts not_begun trays racks room
-begins course bare plan begun trays racks room starts = record {
-  holds = record {
-    samples = λ k. [];
-    read = starts.read;
-    count = λ k l. omega arith;
-    held = inl refl;
-  };
-  written = λ sheet is. record {
-    each = λ k l. subst (λ (ts : List ℕ). HasWritten (name_at course.outputs k) plan.header ts (rack_at course.racks k) (rack_at racks k)) (no_rows sheet k) (starts.written.each k l);
-    others = starts.written.others;
-  };
-  counted = λ sheet is. area_none sheet 0 0 (width sheet) room.counts;
-} where
+pub no_tall : (w : ℕ) → 0 ≡ 0 * w
+no_tall w = omega arith
+
+-- before the first strip nothing is read
+abbrev pub holds_none : (inputs : List (List ℕ)) (bare : PageParts) (begun : List OpenPlate) (tall : ℕ) (start now : List TrayState) (strip : PageParts) → HaveRead inputs begun (length begun) (λ k. []) start now → HoldsTo inputs bare begun tall not_begun start now strip
+holds_none inputs bare begun tall start now strip read = record { samples = λ k. []; read = read; count = λ k l. no_tall (width bare); held = inl refl }
+
+module _ (bare : PageParts) (plan : StripPlan) (begun : List OpenPlate) (row : Span) (can : CanStream bare plan) (headers : HaveHeader bare begun) (next : IsNextRow plan.down not_begun row) (old : StreamRoom) (at_hand : IsSomeStrip bare plan old.strip) (trays trays' : List TrayState) (new : PageParts) where
   no_rows : (sheet : PageParts) (c : ℕ) → [] ≡ new_rows sheet c 0
-  no_rows sheet c = (let e : 0 ≡ 0 * width sheet = omega arith in ap (new_from sheet c 0) e)
+  no_rows sheet c = ap (new_from sheet c 0) (no_tall (width sheet))
+
+  -- no row is written and counted
+  module _ (course : Course) (racks : List RackState) (starts : Starts course bare plan begun trays racks) where
+    none_written : OfEach bare (λ k. []) (RowsStand course bare plan 0 racks)
+    none_written sheet is = record {
+      each = λ k l. subst (λ (ts : List ℕ). HasWritten (name_at course.outputs k) plan.header ts (rack_at course.racks k) (rack_at racks k)) (no_rows sheet k) (starts.written.each k l);
+      others = starts.written.others;
+    }
+
+    none_counted : (counts : SheetCounts) → OfEach bare (λ k. []) (RowsCount counts counts 0)
+    none_counted counts sheet is = area_none sheet 0 0 (width sheet) counts
+
+  -- the first strip is read
+  pub begins_well : (end : StreamRoom) → ReadsRow bare begun not_begun row old.strip new trays trays' (Ok tt) → end.strip ≡ new → end.counts ≡ old.counts → BeginsAt bare plan begun row trays trays' old end (Ok tt)
+  begins_well end reads same counts course racks starts =
+      stands_then bare plan begun not_begun row can headers next old.strip at_hand course old.counts trays trays' racks new (holds_none course.inputs bare begun (even_wide plan.down) course.trays trays old.strip starts.read) reads end same (none_written course racks starts)
+      (subst (λ (c : SheetCounts). OfEach bare (λ k. []) (RowsCount old.counts c 0)) (sym counts) (none_counted course racks starts old.counts))
+
+  -- .. or the reading stops
+  pub begins_badly : (end : StreamRoom) (stop : RereadError) → ReadsRow bare begun not_begun row old.strip new trays trays' (Err stop) → BeginsAt bare plan begun row trays trays' old end (Err stop)
+  begins_badly end stop reads course racks starts = record {
+    stops = reading_stops bare plan begun not_begun row can headers next old.strip at_hand trays trays' new course.inputs course.trays (holds_none course.inputs bare begun (even_wide plan.down) course.trays trays old.strip starts.read) stop reads;
+    samples = λ k. [];
+    between = trays;
+    read = starts.read;
+    rows = 0;
+    few = omega arith;
+    written = none_written course racks starts;
+  }
 
 pub before_all : (down : Ruler) → IsProgress down not_begun
 before_all down = record { inside = omega arith; held = omega arith; known = omega arith; placed = λ more. absurd (omega (arith, more)) }
 
 -- after the last one
-pub ends : (course : Course) (bare : PageParts) (plan : StripPlan) (begun : List OpenPlate) (none : SheetCounts) (p : Progress) (trays : List TrayState) (racks : List RackState) (room : StreamRoom) → CanStream bare plan → HaveHeader bare begun → IsProgress plan.down p → plan.down.side ≤ p.at → StandsAt course bare plan begun none p trays racks room → HasStreamed course bare plan begun none room.counts trays racks
-ends course bare plan begun none p trays racks room can headers progress last stands =
+pub ends : (course : Course) (bare : PageParts) (plan : StripPlan) (begun : List OpenPlate) (none counts : SheetCounts) (row : Span) (trays : List TrayState) (racks racks' : List RackState) (room : StreamRoom) → CanStream bare plan → HaveHeader bare begun → IsStripRow plan.down row → plan.down.side ≤ core_top row + row.core → (stands : StandsAt course bare plan begun none row trays racks room) → OfEach bare stands.holds.samples (RowsStand course bare plan (core_top row + row.core) racks') → OfEach bare stands.holds.samples (RowsCount none counts (core_top row + row.core)) → HasStreamed course bare plan begun none counts trays racks'
+ends course bare plan begun none counts row trays racks racks' room can headers is last stands written counted =
     let tall = can.rulers.tall in
-    let known = progress.known in
-    let within = progress.inside in
-    let at : p.at ≡ height bare = omega (arith, tall, known, within, last) in
-    let all : p.read ≡ height bare = omega (arith, tall, known, within, last) in
+    let core = is.span.core in
+    let within = is.span.inside in
+    let at : core_top row + row.core ≡ height bare = omega (arith, tall, core, within, last) in
+    let all : row.from + row.wide ≡ height bare = omega (arith, tall, core, within, last) in
     record {
       samples = stands.holds.samples;
       read = stands.holds.read;
       all = λ k l. (let here : k < plates bare = (let e = headers.count in omega (arith, e, l)) in
           stands.holds.count k here ∙ ap (λ (n : ℕ). n * width bare) all ∙ (let e : height bare * width bare ≡ width bare * height bare = omega arith in e)
           ∙ sym (ap (λ (h : Header). h.width * h.height) (headers.each k l)));
-      written = λ sheet is. subst (λ (n : ℕ). RowsStand course bare plan n racks sheet) at (stands.written sheet is);
-      counted = λ sheet is. subst (λ (n : ℕ). RowsCount none room.counts n sheet) at (stands.counted sheet is);
+      written = λ sheet begins. subst (λ (n : ℕ). RowsStand course bare plan n racks' sheet) at (written sheet begins);
+      counted = λ sheet begins. subst (λ (n : ℕ). RowsCount none counts n sheet) at (counted sheet begins);
     }
+
+-- from where the first strip is at hand, as from where it was begun
+pub finished : (bare : PageParts) (plan : StripPlan) (begun : List OpenPlate) (first : Span) (none : SheetCounts) (trays trays' trays'' : List TrayState) (racks racks' : List RackState) (old new : StreamRoom) (result : Result (Unit {0}) StreamStop) → Finishes bare plan begun first trays' trays'' racks racks' old new result → ((course : Course) → Starts course bare plan begun trays racks → StandsAt course bare plan begun none first trays' racks old) → Streams bare plan begun none new.counts trays trays'' racks racks' result
+finished bare plan begun first none trays trays' trays'' racks racks' old new (Ok done) finishes stands = λ course starts. finishes course none (stands course starts)
+finished bare plan begun first none trays trays' trays'' racks racks' old new (Err stop) finishes stands = λ course starts. finishes course none (stands course starts)

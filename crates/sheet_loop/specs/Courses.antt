@@ -15,13 +15,15 @@ use Rattle.plate_rows.specs.Trays.{open_at}
 use Rattle.plate_rows.specs.declared.stop.RereadError.{RereadError}
 use Rattle.refusals.specs.declared.refusal.Refusal.TheVariants.{Write}
 use Rattle.sheet_loop.specs.declared.room.StreamRoom.{StreamRoom}
-use Rattle.sheet_loop.specs.declared.rows.Progress.{Progress}
 use Rattle.sheet_loop.specs.declared.stop.StreamStop.{StreamStop}
 use Rattle.sheet_loop.specs.declared.stop.StreamStop.TheVariants.{Unread, Unwritten}
+use Rattle.sheet_loop.specs.Going.{core_top, gone_on}
 use Rattle.sheet_loop.specs.Reading.{HoldsTo}
 use Rattle.sheet_stream.specs.Growing.{new_rows}
 use Rattle.sheet_stream.specs.Reading.{tints_for}
+use Rattle.sheet_stream.specs.Strips.{IsStripOf}
 use Rattle.sheet_stream.specs.Writing.{RowsAreWritten}
+use Rattle.sheet_windows.specs.declared.spans.Span.{Span}
 use Rattle.sheet_windows.specs.Spans.{even_wide}
 use Rattle.strip_rows.specs.declared.parts.StripPlan.{StripPlan}
 use Rattle.strip_tiles.specs.Works.{AreNone}
@@ -49,24 +51,25 @@ RowsStand course bare plan rows racks sheet =
 abbrev pub RowsCount : SheetCounts → SheetCounts → ℕ → PageParts → Type 0
 RowsCount none counts rows sheet = AddsArea sheet 0 0 (width sheet) rows none counts
 
--- Up to the strips above the next one a sheet has streamed: of each sheet that begins with what was
--- read so far, the rows above are written and counted.
+-- The strip of these rows is read, and is at hand: of each sheet that begins with what was read so
+-- far, the rows above its core are written and counted.
 pub record StandsAt (course : Course) (bare : PageParts) (plan : StripPlan)
-    (begun : List OpenPlate) (none : SheetCounts) (progress : Progress) (trays : List TrayState)
+    (begun : List OpenPlate) (none : SheetCounts) (row : Span) (trays : List TrayState)
     (racks : List RackState) (room : StreamRoom) : Type 0 where
-  pub holds : HoldsTo course.inputs bare begun (even_wide plan.down) progress course.trays trays
-      room.strip
-  pub written : OfEach bare holds.samples (RowsStand course bare plan progress.at racks)
-  pub counted : OfEach bare holds.samples (RowsCount none room.counts progress.at)
+  pub at_hand : IsStripOf bare row room.strip
+  pub holds : HoldsTo course.inputs bare begun (even_wide plan.down) (gone_on row) course.trays
+      trays room.strip
+  pub written : OfEach bare holds.samples (RowsStand course bare plan (core_top row) racks)
+  pub counted : OfEach bare holds.samples (RowsCount none room.counts (core_top row))
 
 -- some course leads there
 pub record IsUnderWay (bare : PageParts) (plan : StripPlan) (begun : List OpenPlate)
-    (progress : Progress) (trays : List TrayState) (racks : List RackState) (room : StreamRoom)
+    (row : Span) (trays : List TrayState) (racks : List RackState) (room : StreamRoom)
     : Type 0 where
   pub course : Course
   pub none : SheetCounts
   pub empty : AreNone bare none
-  pub stands : StandsAt course bare plan begun none progress trays racks room
+  pub stands : StandsAt course bare plan begun none row trays racks room
 
 -- The reading stops. Of each sheet that begins with what was read before, some first rows are
 -- written.
@@ -133,17 +136,41 @@ Streams bare plan begun none counts trays trays' racks racks' (Err stop) = (cour
     → Starts course bare plan begun trays racks
     → Stops course bare plan begun trays' racks' stop
 
--- The next strip is read, trapped, counted and written, whatever course leads to it.
-abbrev pub GoesOn : PageParts → StripPlan → List OpenPlate → Progress → Progress
+-- From where the plates and files are begun the first strip is read, or the reading stops.
+abbrev pub BeginsAt : PageParts → StripPlan → List OpenPlate → Span → List TrayState
+    → List TrayState → StreamRoom → StreamRoom → Result (Unit {0}) RereadError → Type 0
+BeginsAt bare plan begun row trays trays' old new (Ok done) = (course : Course)
+    (racks : List RackState) → Starts course bare plan begun trays racks
+    → StandsAt course bare plan begun old.counts row trays' racks new
+BeginsAt bare plan begun row trays trays' old new (Err stop) = (course : Course)
+    (racks : List RackState) → Starts course bare plan begun trays racks
+    → StopsUnread course bare plan begun trays' racks stop
+
+-- The strip at hand is trapped, counted and written, and the next one is at hand, whatever course
+-- leads to it.
+abbrev pub GoesOn : PageParts → StripPlan → List OpenPlate → Span → Span
     → List TrayState → List TrayState → List RackState → List RackState
     → StreamRoom → StreamRoom → Result (Unit {0}) StreamStop → Type 0
-GoesOn bare plan begun progress next trays trays' racks racks' old new (Ok done) =
+GoesOn bare plan begun row next trays trays' racks racks' old new (Ok done) =
     (course : Course) (none : SheetCounts)
-    → StandsAt course bare plan begun none progress trays racks old
+    → StandsAt course bare plan begun none row trays racks old
     → StandsAt course bare plan begun none next trays' racks' new
-GoesOn bare plan begun progress next trays trays' racks racks' old new (Err stop) =
+GoesOn bare plan begun row next trays trays' racks racks' old new (Err stop) =
     (course : Course) (none : SheetCounts)
-    → StandsAt course bare plan begun none progress trays racks old
+    → StandsAt course bare plan begun none row trays racks old
+    → Stops course bare plan begun trays' racks' stop
+
+-- The strip at hand and all strips below it are trapped, counted and written, or that stops.
+abbrev pub Finishes : PageParts → StripPlan → List OpenPlate → Span → List TrayState
+    → List TrayState → List RackState → List RackState → StreamRoom → StreamRoom
+    → Result (Unit {0}) StreamStop → Type 0
+Finishes bare plan begun row trays trays' racks racks' old new (Ok done) =
+    (course : Course) (none : SheetCounts)
+    → StandsAt course bare plan begun none row trays racks old
+    → HasStreamed course bare plan begun none new.counts trays' racks'
+Finishes bare plan begun row trays trays' racks racks' old new (Err stop) =
+    (course : Course) (none : SheetCounts)
+    → StandsAt course bare plan begun none row trays racks old
     → Stops course bare plan begun trays' racks' stop
 
 -- some course starts so

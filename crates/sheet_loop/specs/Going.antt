@@ -21,6 +21,10 @@ pub record IsProgress (down : Ruler) (progress : Progress) : Type 0 where
   pub known : progress.at ≤ progress.read
   pub placed : 0 < progress.from → IsPlaced down progress.from progress.at
 
+-- the first row of a strip's core
+abbrev pub core_top : Span → ℕ
+core_top row = row.from + row.skip
+
 -- These rows are the next strip's: they begin among those that are held, or right behind them.
 pub record IsNextRow (down : Ruler) (progress : Progress) (row : Span) : Type 0 where
   pub span : IsSpan down progress.at row
@@ -28,10 +32,15 @@ pub record IsNextRow (down : Ruler) (progress : Progress) (row : Span) : Type 0 
   pub below : progress.from ≤ row.from
   pub above : row.from ≤ progress.read
 
--- once the strip of these rows is put
-abbrev pub gone_on : Span → Progress → Progress
-gone_on row progress = record {
-  at = progress.at + row.core;
+-- These rows are a strip's, whose core begins where it does.
+pub record IsStripRow (down : Ruler) (row : Span) : Type 0 where
+  pub span : IsSpan down (core_top row) row
+  pub wide : row.wide ≡ even_wide down
+
+-- once the strip of these rows is read, and its core is done with
+abbrev pub gone_on : Span → Progress
+gone_on row = record {
+  at = core_top row + row.core;
   from = row.from;
   read = row.from + row.wide;
 }

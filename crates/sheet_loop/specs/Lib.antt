@@ -1,6 +1,6 @@
 pub mod Going
-pub mod Reading
 pub mod Rooms
+pub mod Reading
 pub mod Courses
 pub mod Second
 pub mod Whole

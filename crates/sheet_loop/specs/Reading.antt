@@ -1,4 +1,4 @@
--- The rows of the next strip are read, behind those that it has in common with the last one.
+-- The rows of the next strip are read, behind those that it has in common with the strip at hand.
 use Rattle.std.specs.Prelude.{◌≡◌, ◌⊎◌, ℕ, ◌+◌, ◌-◌, ◌*◌, ◌<◌, List, length, Result}
 use Rattle.outside.specs.Tray.{TrayState}
 use Rattle.page_model.specs.declared.parts.PageParts.{PageParts}
@@ -8,10 +8,14 @@ use Rattle.plate_rows.specs.declared.rereading.NextRows.{NextRows}
 use Rattle.plate_rows.specs.declared.stop.RereadError.{RereadError}
 use Rattle.plate_rows.specs.Rereading.{HaveRead}
 use Rattle.sheet_loop.specs.declared.rows.Progress.{Progress}
+use Rattle.sheet_loop.specs.Going.{IsNextRow}
+use Rattle.sheet_loop.specs.Rooms.{CanStream, IsSomeStrip}
 use Rattle.sheet_stream.specs.Holding.{HoldRowsFrom}
-use Rattle.sheet_stream.specs.Reading.{ReadsStrip, tints_for}
+use Rattle.sheet_stream.specs.Reading.{HaveHeader, ReadsStrip, tints_for}
 use Rattle.sheet_stream.specs.Strips.{TurnsTo}
 use Rattle.sheet_windows.specs.declared.spans.Span.{Span}
+use Rattle.sheet_windows.specs.Spans.{even_wide}
+use Rattle.strip_rows.specs.declared.parts.StripPlan.{StripPlan}
 
 -- Of what was read of the plates since a second reading began, the last rows are held: as many as a
 -- strip has, unless none was read.
@@ -32,7 +36,8 @@ rows_then bare progress row = record {
   kept = (progress.read - row.from) * width bare;
 }
 
--- The strip is turned to these rows, and they are read.
+-- The next strip is turned to these rows, and they are read: it is as if the strip at hand had been
+-- turned, with the rows that are held in it.
 pub record ReadsRow (bare : PageParts) (begun : List OpenPlate) (progress : Progress) (row : Span)
     (old new : PageParts) (before after : List TrayState) (result : Result (Unit {0}) RereadError)
     : Type 0 where
@@ -47,3 +52,14 @@ pub record IsReadThere (bare : PageParts) (begun : List OpenPlate) (tall : ℕ)
   pub inputs : List (List ℕ)
   pub start : List TrayState
   pub holds : HoldsTo inputs bare begun tall progress start now strip
+
+-- The rows of the next strip may be read: the strip at hand holds what was read last.
+pub record CanReadRow (bare : PageParts) (plan : StripPlan) (begun : List OpenPlate)
+    (progress : Progress) (row : Span) (trays : List TrayState) (strip ahead : PageParts)
+    : Type 0 where
+  pub can : CanStream bare plan
+  pub headers : HaveHeader bare begun
+  pub next : IsNextRow plan.down progress row
+  pub at_hand : IsSomeStrip bare plan strip
+  pub room : IsSomeStrip bare plan ahead
+  pub there : IsReadThere bare begun (even_wide plan.down) progress trays strip

@@ -28,15 +28,21 @@ pub record CanStream (bare : PageParts) (plan : StripPlan) : Type 0 where
   pub some_workers : 1 ≤ plan.workers
   pub deep : plan.header.maxval ≡ maxval bare
 
--- Room for any strip of the sheet: whatever strip it was used for last.
-pub record IsStreamRoom (bare : PageParts) (plan : StripPlan) (room : StreamRoom) : Type 0 where
+-- A strip of the sheet, or room for one, whatever rows it shows.
+pub record IsSomeStrip (bare : PageParts) (plan : StripPlan) (strip : PageParts) : Type 0 where
   pub last : Span
   pub tall : last.wide ≡ even_wide plan.down
-  pub strip : IsStripOf bare last room.strip
+  pub is_strip : IsStripOf bare last strip
+
+-- Room for any two strips of the sheet: whatever strips it was used for last.
+pub record IsStreamRoom (bare : PageParts) (plan : StripPlan) (room : StreamRoom) : Type 0 where
+  pub strip : IsSomeStrip bare plan room.strip
+  pub ahead : IsSomeStrip bare plan room.ahead
   pub columns : AreSpans plan.across 0 (columns_in room.core.windows) (width bare)
   pub windows : IsStripRoom (form_of bare) (even_wide plan.down) room.core.windows
   pub line : length room.core.line.items ≡ plates bare * width bare
   pub bytes : 2 ≤ length room.core.bytes.items
+  pub pieces : 2 ≤ length room.pieces.items
 
 -- the strip of these rows, of no ink
 pub record IsBlankStrip (bare : PageParts) (row : Span) (strip : PageParts) : Type 0 where

@@ -2,6 +2,7 @@
 //! sheet.
 #![tactic(auto)]
 
+pub mod ahead;
 pub mod room;
 pub mod rows;
 pub mod sheet;

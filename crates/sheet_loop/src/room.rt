@@ -11,8 +11,10 @@ ghost use Rattle.strip_tiles.specs.Rooms.{IsStripRoom, columns_in};
 ghost use Rattle.strip_tiles.specs.Strips.{IsSomeSpan};
 ghost use Rattle.strip_tiles.specs.Works.{AreNone};
 ghost use Rattle.window_pages.specs.Forms.{form_of};
+ghost use Rattle.window_pages.specs.Sheets.{IsCuttable};
 
 use crate::rows::{Progress, next_row};
+use lists::list::List;
 use lists::memory::filled;
 use page_model::parts::{OutOfMemory, PageParts};
 use sheet_stream::strip::first_strip;
@@ -28,13 +30,15 @@ use window_pages::sheet::Sheet;
 // How many bytes of a plate are read or written at a time.
 const PIECE: usize = 65_536;
 
-/// What a sheet is streamed through: the strip whose rows are held, the room that it is trapped in and its core written
-/// through, and what is counted so far.
+/// What a sheet is streamed through: the strip at hand, the next one, which is read while that one is trapped, the room that a
+/// strip is trapped in and its core written through, what is counted so far, and room for the bytes that are read at a time.
 #[derive(Drop)]
 pub struct StreamRoom {
-    pub strip: PageParts,
+    pub strip: Sheet,
+    pub ahead: PageParts,
     pub core: CoreRoom,
     pub counts: SheetCounts,
+    pub pieces: Vec<u8>,
 }
 
 /// All memory that a sheet is streamed through, with counts of none. It refuses nothing but for out of memory.
@@ -56,10 +60,11 @@ pub fn stream_room(
     let row = next_row(&plan.down, top);
     let columns = spans_of(alloc, &plan.across)?;
     let strip = first_strip(alloc, bare, &row)?;
-    room_of(alloc, bare, plan, &row, columns.as_slice(), strip)
+    let ahead = first_strip(alloc, bare, &row)?;
+    room_of(alloc, bare, plan, &row, columns.as_slice(), strip, ahead)
 }
 
-// The same with a strip of no ink, cut into these columns.
+// The same with two strips of no ink, cut into these columns.
 fn room_of(
     alloc: Global,
     bare: &PageParts,
@@ -67,11 +72,13 @@ fn room_of(
     row: &Span,
     columns: &[Span],
     strip: PageParts,
+    ahead: PageParts,
 ) -> Result<StreamRoom, OutOfMemory>
     requires can { CanStream bare.now plan.now }
     requires row { IsNextRow plan.now.down not_begun row.now }
     requires columns { AreSpans plan.now.across 0 columns.now (width bare.now) }
     requires strip { IsBlankStrip bare.now row.now strip }
+    requires ahead { IsBlankStrip bare.now row.now ahead }
     ensures room { IfOk result (IsStreamRoom bare.now plan.now) }
     ensures counts { IfOk result (λ room. AreNone bare.now room.counts) }
 {
@@ -79,10 +86,13 @@ fn room_of(
     let windows = windows_of(alloc, plan, row, columns, &sheet)?;
     let counts = no_sheet_counts(alloc, &sheet)?;
     let core = core_room(alloc, bare, windows)?;
+    let pieces = filled(alloc, 0u8, PIECE)?;
     Ok(StreamRoom {
-        strip: sheet.into_parts(),
+        strip: sheet,
+        ahead,
         core,
         counts,
+        pieces,
     })
 }
 
@@ -120,4 +130,24 @@ fn core_room(alloc: Global, bare: &PageParts, windows: StripRoom) -> Result<Core
         line,
         bytes,
     })
+}
+
+/// The strips change places: the one that was read is the one at hand then, and the next one is read in the other's room.
+pub fn change_places(alloc: Global, room: &mut StreamRoom)
+    requires { IsCuttable room.old.ahead }
+    ensures strip { room.new.strip ≡ room.old.ahead }
+    ensures ahead { room.new.ahead ≡ room.old.strip }
+    ensures core { room.new.core ≡ room.old.core }
+    ensures counts { room.new.counts ≡ room.old.counts }
+    ensures pieces { length room.new.pieces.items ≡ length room.old.pieces.items }
+{
+    let none = PageParts {
+        resolution: 0,
+        planes: List::new(alloc),
+        inks: List::new(alloc),
+        zones: List::new(alloc),
+    };
+    let next = Sheet::of(std::mem::replace(&mut room.ahead, none));
+    let last = std::mem::replace(&mut room.strip, next);
+    room.ahead = last.into_parts();
 }

@@ -1,15 +1,15 @@
 // The rows of a sheet's strips, one strip after the other.
 
-ghost use Rattle.std.specs.Prelude.{◌≡◌, ◌+◌, ◌<◌, ◌≤◌};
-ghost use Rattle.sheet_loop.specs.Going.{IsNextRow, IsProgress, gone_on};
+ghost use Rattle.std.specs.Prelude.{◌≡◌, ◌<◌};
+ghost use Rattle.sheet_loop.specs.Going.{IsNextRow, IsProgress, IsStripRow, core_top, gone_on};
 ghost use Rattle.sheet_windows.specs.Spans.{IsEvenRuler};
 
 use sheet_windows::spans::{Ruler, Span, even_span_at};
 
-/// How far a sheet has streamed, in rows from its top.
+/// How far a sheet has been read, in rows from its top.
 #[derive(Clone, Copy, Drop)]
 pub struct Progress {
-    /// Where the next strip's core begins: the rows above it are written.
+    /// Where the next strip's core begins: the rows above it are done with, or in the cores of strips that were read.
     pub at: u32,
     /// The first row that is held.
     pub from: u32,
@@ -23,7 +23,8 @@ pub fn next_row(down: &Ruler, progress: Progress) -> Span
     requires ruler { IsEvenRuler down.now }
     requires progress { IsProgress down.now progress }
     requires more { progress.at < down.now.side }
-    ensures { IsNextRow down.now progress result }
+    ensures next { IsNextRow down.now progress result }
+    ensures strip { IsStripRow down.now result }
 {
     let span = even_span_at(down, progress.at);
     let from = span.from.max(progress.from);
@@ -35,16 +36,16 @@ pub fn next_row(down: &Ruler, progress: Progress) -> Span
     }
 }
 
-/// How far it has streamed once the strip of these rows is put.
-pub fn gone_on_by(down: &Ruler, progress: Progress, row: &Span) -> Progress
-    requires { IsNextRow down.now progress row.now }
-    ensures value { result ≡ gone_on row.now progress }
+/// How far it has been read once the strip of these rows is.
+pub fn gone_on_by(down: &Ruler, row: &Span) -> Progress
+    requires { IsStripRow down.now row.now }
+    ensures value { result ≡ gone_on row.now }
     ensures is { IsProgress down.now result }
-    ensures more { progress.at < result.at }
+    ensures more { core_top row.now < result.at }
 {
     let _side = down.side;
     Progress {
-        at: progress.at + row.core,
+        at: row.from + row.skip + row.core,
         from: row.from,
         read: row.from + row.wide,
     }

@@ -1,26 +1,29 @@
 // All strips of a sheet, one after the other.
 
 ghost use Rattle.std.specs.Prelude.{◌≤◌, length, map};
-ghost use Rattle.sheet_loop.specs.Courses.{IsStarted, Streams};
+ghost use Rattle.sheet_loop.specs.Courses.{Finishes, IsStarted, IsUnderWay, Streams};
+ghost use Rattle.sheet_loop.specs.Going.{IsStripRow};
 ghost use Rattle.sheet_loop.specs.Rooms.{CanStream, IsStreamRoom};
 ghost use Rattle.sheet_stream.specs.Reading.{HaveHeader};
 ghost use Rattle.strip_tiles.specs.Works.{AreNone};
 
 use crate::room::StreamRoom;
 use crate::rows::{Progress, gone_on_by, next_row};
-use crate::step::stream_strip;
+use crate::step::{put_last, read_first, stream_strip};
 use crate::stop::StreamStop;
 use outside::rack::Rack;
 use outside::tray::Tray;
 use page_model::parts::PageParts;
 use pgm_plates::rows::OpenPlate;
+use sheet_windows::spans::Span;
 use std::alloc::Global;
 use std::thread::Threads;
 use strip_rows::parts::StripPlan;
 
 /// Streams a sheet whose plates and files are begun: strip after strip, from the top, its rows are read, it is trapped by so
-/// many workers, and the rows of its core are written; plate k is read by tray k and written by rack k. It takes no memory.
-/// Nothing that is written or counted depends on the strips: it is that of the undivided sheet.
+/// many workers, and the rows of its core are written; plate k is read by tray k and written by rack k. With more workers than
+/// one a strip's rows are read while the strip above it is trapped. It takes no memory but that of threads. Nothing that is
+/// written or counted depends on the strips: it is that of the undivided sheet.
 ///
 /// It stops at the first plate that has a fault now or cannot be read, and where a call of a rack fails; of each file some
 /// first rows are written then.
@@ -46,19 +49,58 @@ pub fn stream_strips<H: Threads + Sync, T: Tray, R: Rack>(
         (map T.state trays.old) (map T.state trays.new) (map R.state racks.old)
         (map R.state racks.new) result }
 {
-    let mut progress = Progress {
+    let top = Progress {
         at: 0,
         from: 0,
         read: 0,
     };
+    let first = next_row(&plan.down, top);
+    match read_first(alloc, trays, bare, plan, plates, &first, room) {
+        Ok(()) => stream_on(rt, alloc, trays, racks, bare, plan, plates, &first, room),
+        Err(stop) => Err(StreamStop::Unread(stop)),
+    }
+}
+
+// The same from where the first strip is at hand.
+fn stream_on<H: Threads + Sync, T: Tray, R: Rack>(
+    rt: &H,
+    alloc: Global,
+    trays: &mut [T],
+    racks: &mut [R],
+    bare: &PageParts,
+    plan: &StripPlan,
+    plates: &[OpenPlate],
+    first: &Span,
+    room: &mut StreamRoom,
+) -> Result<(), StreamStop>
+    requires can { CanStream bare.now plan.now }
+    requires headers { HaveHeader bare.now plates.now }
+    requires trays { length plates.now ≤ length trays.old }
+    requires racks { length plates.now ≤ length racks.old }
+    requires first { IsStripRow plan.now.down first.now }
+    requires room { IsStreamRoom bare.now plan.now room.old }
+    requires way { IsUnderWay bare.now plan.now plates.now first.now (map T.state trays.old)
+        (map R.state racks.old) room.old }
+    ensures { Finishes bare.now plan.now plates.now first.now (map T.state trays.old)
+        (map T.state trays.new) (map R.state racks.old) (map R.state racks.new) room.old room.new
+        result }
+{
+    let mut row = *first;
+    let mut progress = gone_on_by(&plan.down, &row);
     while progress.at < plan.down.side {
-        let row = next_row(&plan.down, progress);
+        let next = next_row(&plan.down, progress);
         match stream_strip(
-            rt, alloc, trays, racks, bare, plan, plates, progress, &row, room,
+            rt, alloc, trays, racks, bare, plan, plates, &row, &next, room,
         ) {
-            Ok(()) => progress = gone_on_by(&plan.down, progress, &row),
+            Ok(()) => {
+                row = next;
+                progress = gone_on_by(&plan.down, &row);
+            }
             Err(stop) => return Err(stop),
         }
     }
-    Ok(())
+    match put_last(rt, racks, plan, &row, room) {
+        Ok(()) => Ok(()),
+        Err(refusal) => Err(StreamStop::Unwritten(refusal)),
+    }
 }

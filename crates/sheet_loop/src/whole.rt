@@ -11,7 +11,7 @@ ghost use Rattle.sheet_stream.specs.Strips.{IsStripOf};
 use outside::tray::Tray;
 use page_model::parts::{OutOfMemory, PageParts};
 use pgm_plates::rows::{Header, OpenPlate};
-use plate_rows::rereading::{NextRows, begin_plates, end_plates};
+use plate_rows::rereading::{begin_plates, end_plates};
 use plate_rows::stop::RereadError;
 use sheet_stream::rows::read_strip;
 use sheet_stream::strip::first_strip;
@@ -87,8 +87,7 @@ fn hold_begun<T: Tray>(
     ensures { EndsHeld bare.now plates.now sheet.new (map T.state trays.old)
         (map T.state trays.new) result }
 {
-    let top = NextRows { done: 0, kept: 0 };
-    match read_strip(alloc, trays, plates, top, 0, sheet, bytes) {
+    match read_strip(alloc, trays, plates, sheet, bytes) {
         Ok(()) => end_plates(trays, plates),
         Err(stop) => Err(stop),
     }

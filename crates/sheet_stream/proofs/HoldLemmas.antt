@@ -1,7 +1,7 @@
 -- The rows that are held from one strip to the next.
 use Rattle.std.proofs.Common.{◌≡◌, ℕ, zero, suc, ◌+◌, ◌-◌, ◌*◌, ◌<◌, ◌≤◌, List, [], ◌∷◌, ◌++◌, length, map, get_or, drop, take, refl, sym, ap, ◌∙◌, subst, arith, length-append, length-drop}
 use Rattle.std.proofs.Math.Nat.{mul-le-mul}
-use Rattle.std.proofs.lemmas.List.{drop-append-le, get_or-map, get_or_default, length-map, length-replicate, take-append-drop, take_at}
+use Rattle.std.proofs.lemmas.List.{drop-append-le, get_or-map, get_or_default, length-map, length-replicate, take-append-drop, take_all, take_at}
 use Rattle.bare_sheets.specs.StripRows.{rows_of}
 use Rattle.bare_sheets.proofs.BareLemmas.{height_is, maxval_is, plates_is, width_is}
 use Rattle.bare_sheets.proofs.StripLemmas.{planes_are}
@@ -13,7 +13,7 @@ use Rattle.sheet_stream.specs.Strips.{StripIsMade, blank_plane}
 use Rattle.sheet_windows.specs.Strips.{strip_parts}
 use Rattle.sheet_windows.specs.Windows.{moved_zone, points_of}
 use Rattle.bare_sheets.specs.Bare.{IsBareSheet}
-use Rattle.sheet_stream.specs.Holding.{AreKept, AreShifted, HaveRoomFor, HoldRowsFrom, HoldsStrip, NoneAreHeld, behind}
+use Rattle.sheet_stream.specs.Holding.{AreCopied, AreKept, HaveRoomFor, HoldRowsFrom, HoldsStrip, NoneAreHeld, behind}
 
 drop_more : {X : Type 0} (m n : ℕ) (xs : List X) → drop (m + n) xs ≡ drop n (drop m xs)
 drop_more zero n xs = ap (λ (k : ℕ). drop k xs) (let e : 0 + n ≡ n = omega arith in e)
@@ -23,13 +23,13 @@ drop_more (suc m) n [] = drop_nothing (suc m + n) ∙ sym (ap (drop n) (drop_not
   drop_nothing (suc k) = refl
 drop_more (suc m) n (x ∷ xs) = ap (λ (k : ℕ). drop k (x ∷ xs)) (let e : suc m + n ≡ suc (m + n) = omega arith in e) ∙ drop_more m n xs
 
--- The tints of one plane are moved up and filled again: the ones that are known then end later.
-module _ (known tints shifted filled : List ℕ) (first by kept : ℕ) (are : tints ≡ drop first known) (up : take (length tints - by) shifted ≡ drop by tints) (moved : take kept filled ≡ take kept shifted) (fits : by + kept ≡ length tints) (within : first ≤ length known) where
+-- The tints of one plane are copied and filled: the ones that are known then end later.
+module _ (known tints copied filled : List ℕ) (first by kept : ℕ) (are : tints ≡ drop first known) (common : take kept copied ≡ take kept (drop by tints)) (stay : take kept filled ≡ take kept copied) (fits : by + kept ≡ length tints) (within : first ≤ length known) where
   pub held_on : filled ≡ drop (first + by) (known ++ drop kept filled)
   held_on =
-      let rest : length tints - by ≡ kept = omega (arith, fits) in
+      let all : take kept (drop by tints) ≡ drop by tints = take_all kept (drop by tints) (let d = length-drop by tints in omega (arith, d, fits)) in
       let front : take kept filled ≡ drop (first + by) known =
-      moved ∙ ap (λ (k : ℕ). take k shifted) (sym rest) ∙ up ∙ ap (drop by) are ∙ sym (drop_more first by known) in
+      stay ∙ common ∙ all ∙ ap (drop by) are ∙ sym (drop_more first by known) in
       let room : first + by ≤ length known = (let l = length-drop first known in let e = ap length are in some_room first by kept (length known) (length tints) (e ∙ l) fits within) in
       sym (take-append-drop kept filled)
       ∙ ap (λ (t : List ℕ). t ++ drop kept filled) front
@@ -49,19 +49,19 @@ none_held bare rows old new room kept = record {
   here : (c : ℕ) → c < plates bare → c < length old
   here c l = (let e = room.count in omega (arith, l, e))
 
-module _ (bare : PageParts) (from next rows : ℕ) (tints : ℕ → List ℕ) (old shifted new : List Plane) (holds : HoldRowsFrom bare from rows tints old) (low : from ≤ next) (high : next ≤ from + rows) (up : AreShifted ((next - from) * width bare) old shifted) (kept : AreKept ((from + rows - next) * width bare) shifted new) where
+module _ (bare : PageParts) (from next rows : ℕ) (tints : ℕ → List ℕ) (old copied new : List Plane) (holds : HoldRowsFrom bare from rows tints old) (low : from ≤ next) (high : next ≤ from + rows) (common : AreCopied ((next - from) * width bare) ((from + rows - next) * width bare) old copied) (kept : AreKept ((from + rows - next) * width bare) copied new) where
   in_old : (c : ℕ) → c < plates bare → c < length old
   in_old c l = (let e = holds.count in omega (arith, l, e))
 
-  in_shifted : (c : ℕ) → c < plates bare → c < length shifted
-  in_shifted c l = (let e = holds.count in let f = up.count in omega (arith, l, e, f))
+  in_copied : (c : ℕ) → c < plates bare → c < length copied
+  in_copied c l = (let e = holds.count in let f = common.count in omega (arith, l, e, f))
 
   -- how many tints each plane has
   long : (c : ℕ) → c < plates bare → length (tints_of old c) ≡ rows * width bare
   long c l = (let e = ap length (holds.held c l) in let d = length-drop (from * width bare) (tints c) in let r = holds.read c l in omega (arith, e, d, r))
 
   long_new : (c : ℕ) → c < plates bare → length (tints_of new c) ≡ rows * width bare
-  long_new c l = (kept.form c (in_shifted c l)).full ∙ (up.each c (in_old c l)).form.full ∙ long c l
+  long_new c l = (kept.form c (in_copied c l)).full ∙ (common.each c (in_old c l)).form.full ∙ long c l
 
   parts : (next - from) * width bare + (from + rows - next) * width bare ≡ rows * width bare
   parts = (let e : (next - from) + (from + rows - next) ≡ rows = omega (arith, low, high) in sum_times (next - from) (from + rows - next) rows (width bare) e) where
@@ -76,15 +76,15 @@ module _ (bare : PageParts) (from next rows : ℕ) (tints : ℕ → List ℕ) (o
 
   pub next_held : HoldRowsFrom bare next rows (λ c. tints c ++ behind ((from + rows - next) * width bare) new c) new
   next_held = record {
-    count = kept.count ∙ up.count ∙ holds.count;
+    count = kept.count ∙ common.count ∙ holds.count;
     read = λ c l. (let a = length-append (tints c) (behind ((from + rows - next) * width bare) new c) in
         let d = length-drop ((from + rows - next) * width bare) (tints_of new c) in
         let r = holds.read c l in let n = long_new c l in let p = parts in let q = later in omega (arith, a, d, r, n, p, q));
-    wide = λ c l. (kept.form c (in_shifted c l)).width ∙ (up.each c (in_old c l)).form.width ∙ holds.wide c l;
-    tall = λ c l. (kept.form c (in_shifted c l)).height ∙ (up.each c (in_old c l)).form.height ∙ holds.tall c l;
-    deep = λ c l. (kept.form c (in_shifted c l)).maxval ∙ (up.each c (in_old c l)).form.maxval ∙ holds.deep c l;
+    wide = λ c l. (kept.form c (in_copied c l)).width ∙ (common.each c (in_old c l)).form.width ∙ holds.wide c l;
+    tall = λ c l. (kept.form c (in_copied c l)).height ∙ (common.each c (in_old c l)).form.height ∙ holds.tall c l;
+    deep = λ c l. (kept.form c (in_copied c l)).maxval ∙ (common.each c (in_old c l)).form.maxval ∙ holds.deep c l;
     held = λ c l.
-        held_on (tints c) (tints_of old c) (tints_of shifted c) (tints_of new c) (from * width bare) ((next - from) * width bare) ((from + rows - next) * width bare) (holds.held c l) (up.each c (in_old c l)).first (kept.first c (in_shifted c l)) (parts ∙ sym (long c l)) (within c l)
+        held_on (tints c) (tints_of old c) (tints_of copied c) (tints_of new c) (from * width bare) ((next - from) * width bare) ((from + rows - next) * width bare) (holds.held c l) (common.each c (in_old c l)).first (kept.first c (in_copied c l)) (parts ∙ sym (long c l)) (within c l)
         ∙ ap (λ (k : ℕ). drop k (tints c ++ behind ((from + rows - next) * width bare) new c)) later;
   }
 

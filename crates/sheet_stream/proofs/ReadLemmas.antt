@@ -41,12 +41,12 @@ module _ (inputs : List (List ℕ)) (bare : PageParts) (begun : List OpenPlate) 
   samples_long : (k : ℕ) → k < plates bare → length (holds.samples k) ≡ (from + rows) * width bare
   samples_long k l = sym (length-map (holds.samples k) (λ (v : ℕ). maxval bare - v)) ∙ holds.held.read k l
 
-  old_long : (k : ℕ) → k < plates bare → length (tints_of reads.shifted k) ≡ rows * width bare
+  old_long : (k : ℕ) → k < plates bare → length (tints_of reads.copied k) ≡ rows * width bare
   old_long k l =
       let e = ap length (holds.held.held k l) in
       let d = length-drop (from * width bare) (tints_for bare holds.samples k) in
       let r = holds.held.read k l in
-      (reads.moved.each k (in_old k l)).form.full ∙ (let long : length (tints_of old.planes k) ≡ rows * width bare = omega (arith, e, d, r) in long)
+      (reads.common.each k (in_old k l)).form.full ∙ (let long : length (tints_of old.planes k) ≡ rows * width bare = omega (arith, e, d, r) in long)
 
   -- how many tints are kept, and how many are read
   parts : (next - from) * width bare + kept ≡ rows * width bare
@@ -55,7 +55,7 @@ module _ (inputs : List (List ℕ)) (bare : PageParts) (begun : List OpenPlate) 
   later : from * width bare + (next - from) * width bare ≡ next * width bare
   later = (let e : from + (next - from) ≡ next = omega (arith, low) in let m : (from + (next - from)) * width bare ≡ next * width bare = ap (λ (n : ℕ). n * width bare) e in omega (arith, m))
 
-  are_read : AreReadTo begun holds.samples ((from + rows) * width bare) (wanted kept reads.shifted)
+  are_read : AreReadTo begun holds.samples ((from + rows) * width bare) (wanted kept reads.copied)
   are_read = record {
     count = λ k l. samples_long k (in_bare k l);
     room = λ k l. (let long = old_long k (in_bare k l) in
@@ -65,21 +65,21 @@ module _ (inputs : List (List ℕ)) (bare : PageParts) (begun : List OpenPlate) 
   }
 
   read_on : HaveRead inputs begun (length begun) (λ k. holds.samples k ++ new_rows begun kept new.planes k) start after
-  read_on = reading_grows inputs begun holds.samples (rows_after bare from rows next) reads.shifted new.planes start before after holds.read are_read reads.read
+  read_on = reading_grows inputs begun holds.samples (rows_after bare from rows next) reads.copied new.planes start before after holds.read are_read reads.read
 
-  in_shifted : (c : ℕ) → c < length reads.shifted → c < length begun
-  in_shifted c l = (let e = reads.moved.count in let f = holds.held.count in let g = header.count in omega (arith, l, e, f, g))
+  in_copied : (c : ℕ) → c < length reads.copied → c < length begun
+  in_copied c l = (let e = reads.common.count in let f = holds.held.count in let g = header.count in omega (arith, l, e, f, g))
 
-  are_kept : AreKept kept reads.shifted new.planes
+  are_kept : AreKept kept reads.copied new.planes
   are_kept = record {
-    count = reads.count ∙ sym reads.moved.count;
-    form = λ c l. (let filled = reads.read.0 c (in_shifted c l) in record {
+    count = reads.count ∙ sym reads.common.count;
+    form = λ c l. (let filled = reads.read.0 c (in_copied c l) in record {
       width = filled.width;
       height = filled.height;
       maxval = filled.maxval;
       full = filled.tints.full;
     });
-    first = λ c l. (reads.read.0 c (in_shifted c l)).tints.first;
+    first = λ c l. (reads.read.0 c (in_copied c l)).tints.first;
   }
 
   deep : (k : ℕ) → k < length begun → (open_at begun k).header.maxval ≡ maxval bare
@@ -95,7 +95,7 @@ module _ (inputs : List (List ℕ)) (bare : PageParts) (begun : List OpenPlate) 
       ∙ ap (λ (t : List ℕ). turned m (holds.samples k) ++ t) (ap (λ (n : ℕ). turned m (turned n (drop kept (tints_of new.planes k)))) (deep k here) ∙ turned_back m (drop kept (tints_of new.planes k)) below)
 
   held_next : HoldRowsFrom bare next rows (λ c. tints_for bare holds.samples c ++ behind kept new.planes c) new.planes
-  held_next = next_held bare from next rows (tints_for bare holds.samples) old.planes reads.shifted new.planes holds.held low high reads.moved are_kept
+  held_next = next_held bare from next rows (tints_for bare holds.samples) old.planes reads.copied new.planes holds.held low high reads.common are_kept
 
   pub next_read : (now : HoldsRead inputs bare begun next rows start after new.planes) × GoOn holds.samples now.samples
   next_read = (
@@ -124,16 +124,16 @@ module _ (inputs : List (List ℕ)) (bare : PageParts) (begun : List OpenPlate) 
   first_bare : (k : ℕ) → k < length begun → k < plates bare
   first_bare k l = (let e = header.count in omega (arith, l, e))
 
-  first_room : HaveRoomFor bare rows reads.shifted
+  first_room : HaveRoomFor bare rows reads.copied
   first_room = record {
-    count = reads.moved.count ∙ room.count;
-    wide = λ c l. (reads.moved.each c (first_old c l)).form.width ∙ room.wide c l;
-    tall = λ c l. (reads.moved.each c (first_old c l)).form.height ∙ room.tall c l;
-    deep = λ c l. (reads.moved.each c (first_old c l)).form.maxval ∙ room.deep c l;
-    room = λ c l. (reads.moved.each c (first_old c l)).form.full ∙ room.room c l;
+    count = reads.common.count ∙ room.count;
+    wide = λ c l. (reads.common.each c (first_old c l)).form.width ∙ room.wide c l;
+    tall = λ c l. (reads.common.each c (first_old c l)).form.height ∙ room.tall c l;
+    deep = λ c l. (reads.common.each c (first_old c l)).form.maxval ∙ room.deep c l;
+    room = λ c l. (reads.common.each c (first_old c l)).form.full ∙ room.room c l;
   }
 
-  first_are_read : AreReadTo begun (λ k. []) 0 (wanted 0 reads.shifted)
+  first_are_read : AreReadTo begun (λ k. []) 0 (wanted 0 reads.copied)
   first_are_read = record {
     count = λ k l. refl;
     room = λ k l. (let long = first_room.room k (first_bare k l) in
@@ -143,21 +143,21 @@ module _ (inputs : List (List ℕ)) (bare : PageParts) (begun : List OpenPlate) 
   }
 
   first_read_on : HaveRead inputs begun (length begun) (λ k. [] ++ new_rows begun 0 new.planes k) start after
-  first_read_on = reading_grows inputs begun (λ k. []) (record { done = 0; kept = 0 }) reads.shifted new.planes start before after none first_are_read reads.read
+  first_read_on = reading_grows inputs begun (λ k. []) (record { done = 0; kept = 0 }) reads.copied new.planes start before after none first_are_read reads.read
 
-  first_shifted : (c : ℕ) → c < length reads.shifted → c < length begun
-  first_shifted c l = (let e = reads.moved.count in let f = room.count in let g = header.count in omega (arith, l, e, f, g))
+  first_copied : (c : ℕ) → c < length reads.copied → c < length begun
+  first_copied c l = (let e = reads.common.count in let f = room.count in let g = header.count in omega (arith, l, e, f, g))
 
-  first_kept : AreKept 0 reads.shifted new.planes
+  first_kept : AreKept 0 reads.copied new.planes
   first_kept = record {
-    count = reads.count ∙ sym reads.moved.count;
-    form = λ c l. (let filled = reads.read.0 c (first_shifted c l) in record {
+    count = reads.count ∙ sym reads.common.count;
+    form = λ c l. (let filled = reads.read.0 c (first_copied c l) in record {
       width = filled.width;
       height = filled.height;
       maxval = filled.maxval;
       full = filled.tints.full;
     });
-    first = λ c l. (reads.read.0 c (first_shifted c l)).tints.first;
+    first = λ c l. (reads.read.0 c (first_copied c l)).tints.first;
   }
 
   first_tints : (k : ℕ) → k < plates bare → tints_for bare (λ j. [] ++ new_rows begun 0 new.planes j) k ≡ behind 0 new.planes k
@@ -168,7 +168,7 @@ module _ (inputs : List (List ℕ)) (bare : PageParts) (begun : List OpenPlate) 
       ap (λ (n : ℕ). turned (maxval bare) (turned n (drop 0 (tints_of new.planes k)))) deep ∙ turned_back (maxval bare) (drop 0 (tints_of new.planes k)) below
 
   first_held : HoldRowsFrom bare 0 rows (behind 0 new.planes) new.planes
-  first_held = none_held bare rows reads.shifted new.planes first_room first_kept
+  first_held = none_held bare rows reads.copied new.planes first_room first_kept
 
   pub first_read : HoldsRead inputs bare begun 0 rows start after new.planes
   first_read = record {

@@ -15,15 +15,20 @@ pub record HasForm (old new : Plane) : Type 0 where
   pub maxval : new.maxval ≡ old.maxval
   pub full : length new.tints ≡ length old.tints
 
--- A plane's tints but the first so many stand at its front.
-pub record IsShifted (by : ℕ) (old new : Plane) : Type 0 where
+-- those of each plane
+pub record AreAlike (old new : List Plane) : Type 0 where
+  pub count : length new ≡ length old
+  pub each : (c : ℕ) → c < length old → HasForm (plane_at old c) (plane_at new c)
+
+-- So many tints of a plane, those behind the first `by`, stand at the front of another one.
+pub record IsCopied (by kept : ℕ) (old new : Plane) : Type 0 where
   pub form : HasForm old new
-  pub first : take (length old.tints - by) new.tints ≡ drop by old.tints
+  pub first : take kept new.tints ≡ take kept (drop by old.tints)
 
 -- those of each plane
-pub record AreShifted (by : ℕ) (old new : List Plane) : Type 0 where
+pub record AreCopied (by kept : ℕ) (old new : List Plane) : Type 0 where
   pub count : length new ≡ length old
-  pub each : (c : ℕ) → c < length old → IsShifted by (plane_at old c) (plane_at new c)
+  pub each : (c : ℕ) → c < length old → IsCopied by kept (plane_at old c) (plane_at new c)
 
 -- Of each plane the first so many tints are kept; all others may be new.
 pub record AreKept (kept : ℕ) (old new : List Plane) : Type 0 where
@@ -66,12 +71,13 @@ abbrev pub NoneAreHeld : Type 0
 NoneAreHeld = (bare : PageParts) (rows : ℕ) (old new : List Plane) → HaveRoomFor bare rows old
     → AreKept 0 old new → HoldRowsFrom bare 0 rows (behind 0 new) new
 
--- Where the rows that two strips have in common are moved to the front, and kept, and the others
+-- Where the rows that two strips have in common are copied to the front, and kept, and the others
 -- are read behind them, the rows of the next strip are held.
 abbrev pub NextAreHeld : Type 0
 NextAreHeld = (bare : PageParts) (from next rows : ℕ) (tints : ℕ → List ℕ)
-    (old shifted new : List Plane) → HoldRowsFrom bare from rows tints old
-    → from ≤ next → next ≤ from + rows → AreShifted ((next - from) * width bare) old shifted
-    → AreKept ((from + rows - next) * width bare) shifted new
+    (old copied new : List Plane) → HoldRowsFrom bare from rows tints old
+    → from ≤ next → next ≤ from + rows
+    → AreCopied ((next - from) * width bare) ((from + rows - next) * width bare) old copied
+    → AreKept ((from + rows - next) * width bare) copied new
     → HoldRowsFrom bare next rows
     (λ c. tints c ++ behind ((from + rows - next) * width bare) new c) new

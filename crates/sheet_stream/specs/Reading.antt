@@ -9,19 +9,28 @@ use Rattle.plate_rows.specs.declared.rereading.NextRows.{NextRows}
 use Rattle.plate_rows.specs.declared.stop.RereadError.{RereadError}
 use Rattle.plate_rows.specs.Rereading.{HaveRead, ReadsNext, turned}
 use Rattle.plate_rows.specs.Trays.{open_at}
-use Rattle.sheet_stream.specs.Holding.{AreShifted, HaveRoomFor, HoldRowsFrom}
+use Rattle.sheet_stream.specs.Holding.{AreCopied, HaveRoomFor, HoldRowsFrom}
 
--- The tints of each plane are moved up by so many, and then the next rows of the plates are read
--- into the room behind; all else of the strip is as it was.
+-- Of each plane the tints that are kept, those behind the first `by`, are copied to the front, and
+-- the next rows of the plates are read into the room behind; all else is as it was.
 pub record ReadsStrip (plates : List OpenPlate) (next : NextRows) (by : ℕ) (old new : PageParts)
     (before after : List TrayState) (result : Result (Unit {0}) RereadError) : Type 0 where
-  pub shifted : List Plane
-  pub moved : AreShifted by old.planes shifted
-  pub read : ReadsNext plates next shifted new.planes before after result
+  pub copied : List Plane
+  pub common : AreCopied by next.kept old.planes copied
+  pub read : ReadsNext plates next copied new.planes before after result
   pub count : length new.planes ≡ length old.planes
   pub resolution : new.resolution ≡ old.resolution
   pub inks : new.inks ≡ old.inks
   pub zones : new.zones ≡ old.zones
+
+-- a strip with the rows of another one
+abbrev pub with_rows : PageParts → PageParts → PageParts
+with_rows rows strip = record {
+  resolution = strip.resolution;
+  planes = rows.planes;
+  inks = strip.inks;
+  zones = strip.zones;
+}
 
 -- the tints that samples stand for, of a sheet that is bare so
 abbrev pub tints_for : PageParts → (ℕ → List ℕ) → ℕ → List ℕ

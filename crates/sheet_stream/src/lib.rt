@@ -2,8 +2,8 @@
 //! known and written by then.
 #![tactic(auto)]
 
+pub mod common;
 pub mod laws;
 pub mod rows;
-pub mod shift;
 pub mod strip;
 pub mod zones;

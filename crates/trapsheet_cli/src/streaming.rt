@@ -137,8 +137,10 @@ fn report_room<R: Rack>(
 {
     let StreamRoom {
         strip: _strip,
+        ahead: _ahead,
         core: _core,
         counts,
+        pieces: _pieces,
     } = room;
     match report_counts(racks, report, bare, counts) {
         Ok(()) => Ok(()),

@@ -2,4 +2,4 @@ use Rattle.sheet_loop.proofs.GoingLemmas.{goes_on}
 use Rattle.sheet_loop.proofs.rows.gone_on_by.Goals as goal
 
 pub returns-clause-is : goal.returns-clause-is
-returns-clause-is c = goes_on c.args.down.now c.args.progress c.args.row.now c.requires
+returns-clause-is c = goes_on c.args.down.now c.args.row.now c.requires

@@ -1,0 +1,21 @@
+use Rattle.std.proofs.Common.{◌≡◌, ◌-◌, length, map}
+use Rattle.sheet_loop.specs.Courses.{Course, StandsAt}
+use Rattle.sheet_loop.specs.Going.{IsProgress, IsStripRow, gone_on}
+use Rattle.sheet_loop.specs.Rooms.{IsStreamRoom}
+use Rattle.tile_counts.specs.declared.counts.SheetCounts.{SheetCounts}
+use Rattle.sheet_loop.proofs.strips.stream_on.Given as goal
+
+abbrev pub invariant-loop-progress : goal.invariant-loop-progress
+invariant-loop-progress g l = record {
+  trays_same : length l.trays ≡ length l.fn.trays;
+  racks_same : length l.racks ≡ length l.fn.racks;
+  hand : IsStripRow l.plan.down l.row;
+  progress_is : l.progress ≡ gone_on l.row;
+  progress_valid : IsProgress l.plan.down l.progress;
+  room_is : IsStreamRoom l.bare l.plan l.room;
+  stands : (course : Course) (none : SheetCounts) → StandsAt course l.bare l.plan l.plates none l.first (map g.T.Tray.state l.fn.trays) (map g.R.Rack.state l.fn.racks) l.fn.room
+      → StandsAt course l.bare l.plan l.plates none l.row (map g.T.Tray.state l.trays) (map g.R.Rack.state l.racks) l.room;
+}
+
+abbrev pub decreases-loop-progress : goal.decreases-loop-progress
+decreases-loop-progress g l = l.plan.down.side - l.progress.at

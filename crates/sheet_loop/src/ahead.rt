@@ -1,0 +1,127 @@
+// The next strip of a sheet, read while the strip at hand is trapped.
+
+ghost use Rattle.std.specs.Prelude.{◌≡◌, ◌≤◌, length, map};
+ghost use Rattle.sheet_loop.specs.Going.{IsStripRow, gone_on};
+ghost use Rattle.sheet_loop.specs.Reading.{CanReadRow, ReadsRow};
+ghost use Rattle.strip_rows.specs.Ready.{IsTrappable, TrapsRow};
+
+use crate::room::StreamRoom;
+use crate::rows::{Progress, gone_on_by};
+use outside::tray::Tray;
+use page_model::parts::PageParts;
+use pgm_plates::rows::OpenPlate;
+use plate_rows::rereading::NextRows;
+use plate_rows::stop::RereadError;
+use sheet_stream::rows::read_ahead;
+use sheet_stream::zones::turn_to;
+use sheet_windows::spans::Span;
+use std::alloc::Global;
+use std::thread;
+use std::thread::Threads;
+use strip_rows::parts::StripPlan;
+use strip_rows::strip::trap_row;
+
+/// Turns the next strip to these rows, copies those of them that the strip at hand has too out of it, and reads the others,
+/// each plate by the tray of its number. It takes no memory.
+///
+/// It stops at the first plate that has a fault now or cannot be read.
+pub fn read_row<T: Tray>(
+    alloc: Global,
+    trays: &mut [T],
+    bare: &PageParts,
+    plan: &StripPlan,
+    plates: &[OpenPlate],
+    progress: &Progress,
+    row: &Span,
+    strip: &PageParts,
+    ahead: &mut PageParts,
+    bytes: &mut Vec<u8>,
+) -> Result<(), RereadError>
+    requires can { CanReadRow bare.now plan.now plates.now progress.now row.now
+        (map T.state trays.old) strip.now ahead.old }
+    requires trays { length plates.now ≤ length trays.old }
+    requires bytes { 2 ≤ length bytes.old.items }
+    ensures read { ReadsRow bare.now plates.now progress.now row.now strip.now ahead.new
+        (map T.state trays.old) (map T.state trays.new) result }
+    ensures bytes { length bytes.new.items ≡ length bytes.old.items }
+{
+    turn_to(bare, row, ahead);
+    let wide = bare.planes.as_slice()[0].width;
+    let kept = progress.read - row.from;
+    let gone = row.from - progress.from;
+    let next = NextRows {
+        done: u64::from(progress.read) * u64::from(wide),
+        kept: kept as usize * wide as usize,
+    };
+    let by = gone as usize * wide as usize;
+    read_ahead(alloc, trays, plates, next, strip, by, ahead, bytes)
+}
+
+/// Traps the strip at hand and counts its core, and makes the next strip: side by side, the reading in the caller's thread;
+/// by one worker one after the other. It takes no memory but that of threads.
+///
+/// It stops at the first plate that has a fault now or cannot be read.
+pub fn trap_and_read<H: Threads + Sync, T: Tray>(
+    rt: &H,
+    alloc: Global,
+    trays: &mut [T],
+    bare: &PageParts,
+    plan: &StripPlan,
+    plates: &[OpenPlate],
+    row: &Span,
+    next: &Span,
+    room: &mut StreamRoom,
+) -> Result<(), RereadError>
+    requires row { IsStripRow plan.now.down row.now }
+    requires trap { IsTrappable plan.now row.now room.old.strip room.old.core.windows
+        room.old.counts }
+    requires can { CanReadRow bare.now plan.now plates.now (gone_on row.now) next.now
+        (map T.state trays.old) room.old.strip room.old.ahead }
+    requires trays { length plates.now ≤ length trays.old }
+    requires pieces { 2 ≤ length room.old.pieces.items }
+    ensures strip { room.new.strip ≡ room.old.strip }
+    ensures trapped { TrapsRow plan.now row.now room.old.strip room.old.core.windows
+        room.new.core.windows room.old.counts room.new.counts }
+    ensures line { length room.new.core.line.items ≡ length room.old.core.line.items }
+    ensures bytes { length room.new.core.bytes.items ≡ length room.old.core.bytes.items }
+    ensures pieces { length room.new.pieces.items ≡ length room.old.pieces.items }
+    ensures read { ReadsRow bare.now plates.now (gone_on row.now) next.now room.old.strip
+        room.new.ahead (map T.state trays.old) (map T.state trays.new) result }
+{
+    let progress = &gone_on_by(&plan.down, row);
+    let strip = &room.strip;
+    let parts = strip.parts();
+    let windows = &mut room.core.windows;
+    let counts = &mut room.counts;
+    let ahead = &mut room.ahead;
+    let pieces = &mut room.pieces;
+    if plan.workers == 1 {
+        trap_row(rt, plan, row, strip, windows, counts);
+        return read_row(
+            alloc, trays, bare, plan, plates, progress, next, parts, ahead, pieces,
+        );
+    }
+    let (_, result) = thread::join_mut(
+        rt,
+        &mut ||
+            requires { IsTrappable plan.now row.now strip.now windows.now counts.now }
+            ensures { TrapsRow plan.entry.now row.entry.now strip.entry.now windows.entry.now
+                windows.exit.now counts.entry.now counts.exit.now }
+        { trap_row(rt, plan, row, strip, windows, counts) },
+        &mut || -> Result<(), RereadError>
+            requires can { CanReadRow bare.now plan.now plates.now progress.now next.now
+                (map T.state trays.now) parts.now ahead.now }
+            requires trays { length plates.now ≤ length trays.now }
+            requires pieces { 2 ≤ length pieces.now.items }
+            ensures read { ReadsRow bare.entry.now plates.entry.now progress.entry.now
+                next.entry.now parts.entry.now ahead.exit.now (map T.state trays.entry.now)
+                (map T.state trays.exit.now) result }
+            ensures pieces { length pieces.exit.now.items ≡ length pieces.entry.now.items }
+        {
+            read_row(
+                alloc, trays, bare, plan, plates, progress, next, parts, ahead, pieces,
+            )
+        },
+    );
+    result
+}
