@@ -10,8 +10,7 @@ use Rattle.page_model.specs.declared.parts.Plane.{Plane}
 use Rattle.page_model.specs.Page.{height, maxval, plates, width}
 use Rattle.page_model.specs.Planes.{no_plane, tints_of}
 use Rattle.sheet_loop.specs.Going.{IsNextRow, IsStripRow, not_begun}
-use Rattle.sheet_loop.specs.Rooms.{CanBeCut, CanStream, IsBlankStrip, IsSomeStrip, IsStreamRoom}
-use Rattle.sheet_loop.specs.declared.room.StreamRoom.{StreamRoom}
+use Rattle.sheet_loop.specs.Rooms.{CanBeCut, CanHoldStrip, CanStream, IsBlankStrip, IsSomeStrip}
 use Rattle.sheet_loop.proofs.AtHand.{can_be_cut, strip_cuttable, strip_form}
 use Rattle.sheet_loop.proofs.GoingLemmas.{hand_of}
 use Rattle.sheet_stream.specs.Holding.{HoldRowsFrom}
@@ -21,6 +20,7 @@ use Rattle.sheet_windows.specs.declared.spans.Span.{Span}
 use Rattle.sheet_windows.specs.Spans.{AreSpans}
 use Rattle.strip_rows.specs.declared.parts.StripPlan.{StripPlan}
 use Rattle.strip_rows.specs.OnSheet.{strip_cut}
+use Rattle.strip_tiles.specs.declared.room.StripRoom.{StripRoom}
 use Rattle.strip_tiles.specs.Rooms.{IsStripRoom, columns_in}
 use Rattle.strip_tiles.specs.Works.{AreNone}
 use Rattle.tile_counts.specs.declared.counts.SheetCounts.{SheetCounts}
@@ -80,15 +80,11 @@ module _ (bare : PageParts) (plan : StripPlan) (row : Span) (strip : PageParts) 
   pub some_strip : IsSomeStrip bare plan strip
   some_strip = record { last = row; tall = next.wide; is_strip = blank.strip_is }
 
-  pub room_made : (room : StreamRoom) → room.strip ≡ strip → IsSomeStrip bare plan room.ahead → AreSpans plan.across 0 (columns_in room.core.windows) (width bare) → IsStripRoom (form_of strip) row.wide room.core.windows → length room.core.line.items ≡ plates bare * width bare → 2 ≤ length room.core.bytes.items → 2 ≤ length room.pieces.items → IsStreamRoom bare plan room
-  room_made room same ahead columns windows line bytes pieces = record {
-    strip = subst (IsSomeStrip bare plan) (sym same) some_strip;
-    ahead = ahead;
+  -- a room that was made for its windows
+  pub can_hold : (windows : StripRoom) → AreSpans plan.across 0 (columns_in windows) (width bare) → IsStripRoom (form_of strip) row.wide windows → CanHoldStrip bare plan windows
+  can_hold windows columns is = record {
     columns = columns;
-    windows = subst (λ (n : ℕ). IsStripRoom (form_of bare) n room.core.windows) next.wide (subst (λ (f : Form). IsStripRoom f row.wide room.core.windows) form_is windows);
-    line = line;
-    bytes = bytes;
-    pieces = pieces;
+    windows = subst (λ (n : ℕ). IsStripRoom (form_of bare) n windows) next.wide (subst (λ (f : Form). IsStripRoom f row.wide windows) form_is is);
   }
 
   pub none_counted : (counts : SheetCounts) → AreNone strip counts → AreNone bare counts

@@ -19,11 +19,13 @@ use Rattle.refusals.specs.declared.refusal.Refusal.{Refusal}
 use Rattle.refusals.specs.declared.refusal.Refusal.TheVariants.{Job as JobFails, Memory, NoDetails, Page, Plate, Read, Usage, Write}
 use Rattle.sheet_loop.specs.declared.room.StreamRoom.{StreamRoom}
 use Rattle.sheet_loop.specs.declared.rows.Progress.{Progress}
-use Rattle.sheet_loop.specs.declared.stop.StreamStop.TheVariants.{Unwritten}
-use Rattle.sheet_loop.specs.Courses.{Course, OfEach, RowBreaks, RowsCount, RowsStand, StandsAt, Stops}
-use Rattle.sheet_loop.specs.Going.{IsNextRow, IsStripRow, core_top}
+use Rattle.sheet_loop.specs.declared.stop.StreamStop.{StreamStop}
+use Rattle.sheet_loop.specs.declared.stop.StreamStop.TheVariants.{Unread, Unwritten}
+use Rattle.sheet_loop.specs.Courses.{AwaitsCore, Course, HoldsAt, OfEach, RowBreaks, RowsCount, RowsStand, Stops}
+use Rattle.sheet_loop.specs.Going.{IsNextRow, IsStripRow, core_top, gone_on}
 use Rattle.sheet_loop.specs.Reading.{HoldsTo, ReadsRow}
-use Rattle.sheet_loop.specs.Rooms.{CanStream, IsSomeStrip, IsStreamRoom}
+use Rattle.sheet_loop.specs.Rooms.{CanHoldStrip, CanStream, IsSomeStrip}
+use Rattle.sheet_loop.specs.Waiting.{WritesAndReads}
 use Rattle.sheet_loop.proofs.AtHand.{begins, core_inside, cut_is, made, rulers, sheet, small, strip_cuttable, strip_form, strip_wide}
 use Rattle.sheet_loop.proofs.GoingLemmas.{hand_of}
 use Rattle.sheet_loop.proofs.OnSheets.{cuttable, earlier, height_same, may_begin, none_same, rulers_same, width_same}
@@ -161,21 +163,24 @@ module _ (bare : PageParts) (plan : StripPlan) (begun : List OpenPlate) (p : Pro
       before sheet begins = earlier bare sheet holds.samples now.samples went.1 begins
 
   -- of a course: the next strip is at hand then
-  module _ (course : Course) (none : SheetCounts) (trays trays' : List TrayState) (racks : List RackState) (new : PageParts) (holds : HoldsTo course.inputs bare begun (even_wide plan.down) p course.trays trays strip) (reads : ReadsRow bare begun p row strip new trays trays' (Ok tt)) where
-    pub stands_then : (end : StreamRoom) → end.strip ≡ new → OfEach bare holds.samples (RowsStand course bare plan p.at racks) → OfEach bare holds.samples (RowsCount none end.counts p.at) → StandsAt course bare plan begun none row trays' racks end
-    stands_then end same written counted =
+  module _ (course : Course) (none : SheetCounts) (trays trays' : List TrayState) (new : PageParts) (holds : HoldsTo course.inputs bare begun (even_wide plan.down) p course.trays trays strip) (reads : ReadsRow bare begun p row strip new trays trays' (Ok tt)) where
+    abbrev pub holds_then : (end : StreamRoom) → end.strip ≡ new → OfEach bare holds.samples (RowsCount none end.counts p.at) → HoldsAt course bare plan begun none row trays' end
+    holds_then end same counted =
         let read = now trays trays' new course.inputs course.trays holds reads in
         let top : p.at ≡ core_top row = sym next.span.begins in
         record {
           at_hand = subst (IsStripOf bare row) (sym same) (new_is trays trays' new course.inputs course.trays holds reads);
           holds = holds_on course.inputs bare begun (even_wide plan.down) row course.trays trays' end.strip next.wide
               (record { samples = read.samples; read = read.read; held = subst (λ (s : PageParts). HoldRowsFrom bare row.from (even_wide plan.down) (tints_for bare read.samples) s.planes) (sym same) read.held });
-          written = λ sheet begins. subst (λ (n : ℕ). RowsStand course bare plan n racks sheet) top (written sheet (before trays trays' new course.inputs course.trays holds reads sheet begins));
           counted = λ sheet begins. subst (λ (n : ℕ). RowsCount none end.counts n sheet) top (counted sheet (before trays trays' new course.inputs course.trays holds reads sheet begins));
         }
 
+    -- what is written of the rows above it before is so of each sheet that begins with what is read now
+    pub written_then : (racks : List RackState) → OfEach bare holds.samples (RowsStand course bare plan p.at racks) → OfEach bare (now trays trays' new course.inputs course.trays holds reads).samples (RowsStand course bare plan (core_top row) racks)
+    written_then racks written = λ sheet begins. subst (λ (n : ℕ). RowsStand course bare plan n racks sheet) (sym next.span.begins) (written sheet (before trays trays' new course.inputs course.trays holds reads sheet begins))
+
 -- The strip at hand is put.
-module _ (bare : PageParts) (plan : StripPlan) (begun : List OpenPlate) (row : Span) (can : CanStream bare plan) (is : IsStripRow plan.down row) (old : StreamRoom) (room : IsStreamRoom bare plan old) (trays : List TrayState) (racks : List RackState) (course : Course) (none : SheetCounts) (stands : StandsAt course bare plan begun none row trays racks old) where
+module _ (bare : PageParts) (plan : StripPlan) (begun : List OpenPlate) (row : Span) (can : CanStream bare plan) (is : IsStripRow plan.down row) (old : StreamRoom) (trays : List TrayState) (course : Course) (none : SheetCounts) (stands : HoldsAt course bare plan begun none row trays old) where
   abbrev samples : ℕ → List ℕ
   samples = stands.holds.samples
 
@@ -224,8 +229,8 @@ module _ (bare : PageParts) (plan : StripPlan) (begun : List OpenPlate) (row : S
       subst (λ (n : ℕ). HasRooms old.strip (n * row.core) old.counts) wide
       (subst (λ (s : PageParts). HasRooms s (width one * row.core) old.counts) (sym (strip_made one starts)) on_strip)
 
-  pub trappable : AreNone bare none → IsTrappable plan row old.strip old.core.windows old.counts
-  trappable empty =
+  pub trappable : AreNone bare none → (windows : StripRoom) → CanHoldStrip bare plan windows → IsTrappable plan row old.strip windows old.counts
+  trappable empty windows room =
       let starts = begins bare plan row old.strip can is stands.at_hand tints held may in
       record {
         sheet = sheet bare plan row old.strip can is stands.at_hand tints held may;
@@ -237,38 +242,30 @@ module _ (bare : PageParts) (plan : StripPlan) (begun : List OpenPlate) (row : S
         span = is.span;
         same = strip_made (sheet bare plan row old.strip can is stands.at_hand tints held may) starts;
         some_workers = can.some_workers;
-        columns = subst (λ (n : ℕ). AreSpans plan.across 0 (columns_in old.core.windows) n) (sym wide_is) room.columns;
-        windows = subst (λ (f : Form). IsStripRoom f row.wide old.core.windows) (sym form_is) (subst (λ (n : ℕ). IsStripRoom (form_of bare) n old.core.windows) (sym is.wide) room.windows);
+        columns = subst (λ (n : ℕ). AreSpans plan.across 0 (columns_in windows) n) (sym wide_is) room.columns;
+        windows = subst (λ (f : Form). IsStripRoom f row.wide windows) (sym form_is) (subst (λ (n : ℕ). IsStripRoom (form_of bare) n windows) (sym is.wide) room.windows);
         counts_fit = counts_fit empty;
-      }
-
-  pub are_open : AreOpen plan.header (plates old.strip) racks
-  are_open =
-      let one = sheet bare plan row old.strip can is stands.at_hand tints held may in
-      let starts = begins bare plan row old.strip can is stands.at_hand tints held may in
-      record {
-        names = course.outputs;
-        tints = λ c. new_rows one c (core_top row);
-        start = course.racks;
-        written = subst (λ (n : ℕ). HaveWritten course.outputs plan.header n (λ c. new_rows one c (core_top row)) course.racks racks) (sym held.count) (stands.written one starts);
       }
 
   pub plates_are : plates old.strip ≡ plates bare
   plates_are = held.count
 
-  pub line_long : length old.core.line.items ≡ plates old.strip * width old.strip
-  line_long = room.line ∙ (λ i. sym held.count i * sym wide_is i)
+  pub line_long : (line : ℕ) → line ≡ plates bare * width bare → line ≡ plates old.strip * width old.strip
+  line_long line long = long ∙ (λ i. sym held.count i * sym wide_is i)
 
   pub deep_is : plan.header.maxval ≡ maxval old.strip
   deep_is = can.deep ∙ sym (held.deep 0 (let s = can.valid.parts.some_plates in omega (arith, s)))
 
-  -- it is trapped
-  module _ (windows : StripRoom) (counts : SheetCounts) (traps : TrapsRow plan row old.strip old.core.windows windows old.counts counts) where
-    pub columns_on : AreSpans plan.across 0 (columns_in windows) (width bare)
-    columns_on = subst (λ (cs : List Span). AreSpans plan.across 0 cs (width bare)) (sym traps.columns) room.columns
+  pub hand_cuttable : IsCuttable old.strip
+  hand_cuttable = strip_cuttable bare plan row old.strip can is stands.at_hand tints held may
 
-    pub windows_on : IsStripRoom (form_of bare) (even_wide plan.down) windows
-    windows_on = subst (λ (n : ℕ). IsStripRoom (form_of bare) n windows) is.wide (subst (λ (f : Form). IsStripRoom f row.wide windows) form_is traps.windows)
+  -- it is trapped
+  module _ (room windows : StripRoom) (counts : SheetCounts) (traps : TrapsRow plan row old.strip room windows old.counts counts) where
+    pub can_hold_still : CanHoldStrip bare plan room → CanHoldStrip bare plan windows
+    can_hold_still can_hold = record {
+      columns = subst (λ (cs : List Span). AreSpans plan.across 0 cs (width bare)) (sym traps.columns) can_hold.columns;
+      windows = subst (λ (n : ℕ). IsStripRoom (form_of bare) n windows) is.wide (subst (λ (f : Form). IsStripRoom f row.wide windows) form_is traps.windows);
+    }
 
     pub counted_on : OfEach bare samples (RowsCount none counts (core_top row + row.core))
     counted_on one starts =
@@ -281,13 +278,25 @@ module _ (bare : PageParts) (plan : StripPlan) (begun : List OpenPlate) (row : S
         rows_add one 0 0 (width one) (core_top row) row.core none old.counts counts (stands.counted one starts)
         (subst (λ (n : ℕ). AddsArea one 0 n (width one) row.core old.counts counts) at of_sheet)
 
-  -- its core is written
-  module _ (racks' : List RackState) where
+  -- the rows above its core are written, and then it is
+  module _ (racks : List RackState) (above : OfEach bare samples (RowsStand course bare plan (core_top row) racks)) where
+    pub are_open : AreOpen plan.header (plates old.strip) racks
+    are_open =
+        let one = sheet bare plan row old.strip can is stands.at_hand tints held may in
+        let starts = begins bare plan row old.strip can is stands.at_hand tints held may in
+        record {
+          names = course.outputs;
+          tints = λ c. new_rows one c (core_top row);
+          start = course.racks;
+          written = subst (λ (n : ℕ). HaveWritten course.outputs plan.header n (λ c. new_rows one c (core_top row)) course.racks racks) (sym held.count) (above one starts);
+        }
+
+  module _ (racks : List RackState) (above : OfEach bare samples (RowsStand course bare plan (core_top row) racks)) (racks' : List RackState) where
     pub written_on : WritesCore (plates old.strip) plan.header old.strip (strip_cut plan.across plan.down row) racks racks' (Ok tt) → OfEach bare samples (RowsStand course bare plan (core_top row + row.core) racks')
     written_on writes one starts =
         let cut = cuttable bare one tints starts can.cut can.narrow can.low in
         let rule = rulers_same bare one tints starts plan.across plan.down can.rulers in
-        strip_written one plan.across plan.down (core_top row) row starts.valid cut.near rule is.span course.outputs plan.header (plates bare) course.racks racks racks' (stands.written one starts)
+        strip_written one plan.across plan.down (core_top row) row starts.valid cut.near rule is.span course.outputs plan.header (plates bare) course.racks racks racks' (above one starts)
         (subst (λ (s : PageParts). WritesCore (plates bare) plan.header s (strip_cut plan.across plan.down row) racks racks' (Ok tt)) (strip_made one starts)
         (subst (λ (n : ℕ). WritesCore n plan.header old.strip (strip_cut plan.across plan.down row) racks racks' (Ok tt)) held.count writes))
 
@@ -295,7 +304,7 @@ module _ (bare : PageParts) (plan : StripPlan) (begun : List OpenPlate) (row : S
     broken_at k writes one starts =
         let cut = cuttable bare one tints starts can.cut can.narrow can.low in
         let rule = rulers_same bare one tints starts plan.across plan.down can.rulers in
-        let broken = strip_broken one plan.across plan.down (core_top row) row starts.valid cut.near rule is.span course.outputs plan.header (plates bare) k course.racks racks racks' (stands.written one starts)
+        let broken = strip_broken one plan.across plan.down (core_top row) row starts.valid cut.near rule is.span course.outputs plan.header (plates bare) k course.racks racks racks' (above one starts)
         (subst (λ (s : PageParts). WritesCore (plates bare) plan.header s (strip_cut plan.across plan.down row) racks racks' (Err (Write (Some k)))) (strip_made one starts)
         (subst (λ (n : ℕ). WritesCore n plan.header old.strip (strip_cut plan.across plan.down row) racks racks' (Err (Write (Some k)))) held.count writes)) in
         (broken.0, (let l = broken.1 in let i = core_low in omega (arith, l, i)), broken.2)
@@ -319,3 +328,17 @@ module _ (bare : PageParts) (plan : StripPlan) (begun : List OpenPlate) (row : S
       unwritten (Page fault) writes = absurd writes
       unwritten Usage writes = absurd writes
       unwritten Memory writes = absurd writes
+
+-- The core that waits cannot be written, or then the next strip cannot be read.
+pub stopped_beside : (bare : PageParts) (plan : StripPlan) (begun : List OpenPlate) (last row next : Span) → CanStream bare plan → HaveHeader bare begun → IsStripRow plan.down row → IsNextRow plan.down (gone_on row) next → (old : StreamRoom) → IsSomeStrip bare plan old.strip → (new : PageParts) (trays trays' : List TrayState) (racks racks' : List RackState) (course : Course) (none : SheetCounts) → AwaitsCore course bare plan begun none last row trays racks old → (stop : StreamStop) → WritesAndReads bare plan begun (gone_on row) last next old.strip old.ahead new trays trays' racks racks' (Err stop) → Stops course bare plan begun trays' racks' stop
+stopped_beside bare plan begun last row next can headers hand is old at_hand new trays trays' racks racks' course none awaits (Unread stop) does = record {
+  stops = reading_stops bare plan begun (gone_on row) next can headers is old.strip at_hand trays trays' new course.inputs course.trays awaits.at.holds stop does.1;
+  samples = awaits.at.holds.samples;
+  between = trays;
+  read = awaits.at.holds.read;
+  rows = core_top row;
+  few = (let a = hand.span.core in let i = hand.span.inside in let t = can.rulers.tall in omega (arith, a, i, t));
+  written = awaits.written racks' does.0;
+}
+stopped_beside bare plan begun last row next can headers hand is old at_hand new trays trays' racks racks' course none awaits (Unwritten refusal) does =
+    subst (λ (now : List TrayState). Stops course bare plan begun now racks' (Unwritten refusal)) (sym does.1) (awaits.unwritten racks' refusal does.0)

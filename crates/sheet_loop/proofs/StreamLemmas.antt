@@ -14,11 +14,11 @@ use Rattle.plate_rows.specs.Trays.{name_at}
 use Rattle.plate_rows.specs.declared.stop.RereadError.{RereadError}
 use Rattle.sheet_loop.specs.declared.room.StreamRoom.{StreamRoom}
 use Rattle.sheet_loop.specs.declared.stop.StreamStop.{StreamStop}
-use Rattle.sheet_loop.specs.Courses.{BeginsAt, Course, Finishes, HasStreamed, OfEach, RowsCount, RowsStand, StandsAt, Starts, Streams}
+use Rattle.sheet_loop.specs.Courses.{AwaitsCore, BeginsAt, Course, Finishes, HasStreamed, OfEach, Reaches, ReachesLast, RowsCount, RowsStand, StandsAt, Starts, Streams}
 use Rattle.sheet_loop.specs.Going.{IsNextRow, IsProgress, IsStripRow, core_top, not_begun}
 use Rattle.sheet_loop.specs.Reading.{HoldsTo, ReadsRow}
 use Rattle.sheet_loop.specs.Rooms.{CanStream, IsSomeStrip}
-use Rattle.sheet_loop.proofs.StepLemmas.{reading_stops, stands_then}
+use Rattle.sheet_loop.proofs.StepLemmas.{holds_then, reading_stops, written_then}
 use Rattle.sheet_stream.specs.Growing.{new_rows}
 use Rattle.sheet_windows.specs.declared.spans.Ruler.{Ruler}
 use Rattle.sheet_windows.specs.declared.spans.Span.{Span}
@@ -53,8 +53,12 @@ module _ (bare : PageParts) (plan : StripPlan) (begun : List OpenPlate) (row : S
   -- the first strip is read
   pub begins_well : (end : StreamRoom) → ReadsRow bare begun not_begun row old.strip new trays trays' (Ok tt) → end.strip ≡ new → end.counts ≡ old.counts → BeginsAt bare plan begun row trays trays' old end (Ok tt)
   begins_well end reads same counts course racks starts =
-      stands_then bare plan begun not_begun row can headers next old.strip at_hand course old.counts trays trays' racks new (holds_none course.inputs bare begun (even_wide plan.down) course.trays trays old.strip starts.read) reads end same (none_written course racks starts)
-      (subst (λ (c : SheetCounts). OfEach bare (λ k. []) (RowsCount old.counts c 0)) (sym counts) (none_counted course racks starts old.counts))
+      let holds = holds_none course.inputs bare begun (even_wide plan.down) course.trays trays old.strip starts.read in
+      record {
+        at = holds_then bare plan begun not_begun row can headers next old.strip at_hand course old.counts trays trays' new holds reads end same
+            (subst (λ (c : SheetCounts). OfEach bare (λ k. []) (RowsCount old.counts c 0)) (sym counts) (none_counted course racks starts old.counts));
+        written = written_then bare plan begun not_begun row can headers next old.strip at_hand course old.counts trays trays' new holds reads racks (none_written course racks starts);
+      }
 
   -- .. or the reading stops
   pub begins_badly : (end : StreamRoom) (stop : RereadError) → ReadsRow bare begun not_begun row old.strip new trays trays' (Err stop) → BeginsAt bare plan begun row trays trays' old end (Err stop)
@@ -72,7 +76,7 @@ pub before_all : (down : Ruler) → IsProgress down not_begun
 before_all down = record { inside = omega arith; held = omega arith; known = omega arith; placed = λ more. absurd (omega (arith, more)) }
 
 -- after the last one
-pub ends : (course : Course) (bare : PageParts) (plan : StripPlan) (begun : List OpenPlate) (none counts : SheetCounts) (row : Span) (trays : List TrayState) (racks racks' : List RackState) (room : StreamRoom) → CanStream bare plan → HaveHeader bare begun → IsStripRow plan.down row → plan.down.side ≤ core_top row + row.core → (stands : StandsAt course bare plan begun none row trays racks room) → OfEach bare stands.holds.samples (RowsStand course bare plan (core_top row + row.core) racks') → OfEach bare stands.holds.samples (RowsCount none counts (core_top row + row.core)) → HasStreamed course bare plan begun none counts trays racks'
+pub ends : (course : Course) (bare : PageParts) (plan : StripPlan) (begun : List OpenPlate) (none counts : SheetCounts) (row : Span) (trays : List TrayState) (racks racks' : List RackState) (room : StreamRoom) → CanStream bare plan → HaveHeader bare begun → IsStripRow plan.down row → plan.down.side ≤ core_top row + row.core → (stands : StandsAt course bare plan begun none row trays racks room) → OfEach bare stands.at.holds.samples (RowsStand course bare plan (core_top row + row.core) racks') → OfEach bare stands.at.holds.samples (RowsCount none counts (core_top row + row.core)) → HasStreamed course bare plan begun none counts trays racks'
 ends course bare plan begun none counts row trays racks racks' room can headers is last stands written counted =
     let tall = can.rulers.tall in
     let core = is.span.core in
@@ -80,10 +84,10 @@ ends course bare plan begun none counts row trays racks racks' room can headers 
     let at : core_top row + row.core ≡ height bare = omega (arith, tall, core, within, last) in
     let all : row.from + row.wide ≡ height bare = omega (arith, tall, core, within, last) in
     record {
-      samples = stands.holds.samples;
-      read = stands.holds.read;
+      samples = stands.at.holds.samples;
+      read = stands.at.holds.read;
       all = λ k l. (let here : k < plates bare = (let e = headers.count in omega (arith, e, l)) in
-          stands.holds.count k here ∙ ap (λ (n : ℕ). n * width bare) all ∙ (let e : height bare * width bare ≡ width bare * height bare = omega arith in e)
+          stands.at.holds.count k here ∙ ap (λ (n : ℕ). n * width bare) all ∙ (let e : height bare * width bare ≡ width bare * height bare = omega arith in e)
           ∙ sym (ap (λ (h : Header). h.width * h.height) (headers.each k l)));
       written = λ sheet begins. subst (λ (n : ℕ). RowsStand course bare plan n racks' sheet) at (written sheet begins);
       counted = λ sheet begins. subst (λ (n : ℕ). RowsCount none counts n sheet) at (counted sheet begins);
@@ -93,3 +97,8 @@ ends course bare plan begun none counts row trays racks racks' room can headers 
 pub finished : (bare : PageParts) (plan : StripPlan) (begun : List OpenPlate) (first : Span) (none : SheetCounts) (trays trays' trays'' : List TrayState) (racks racks' : List RackState) (old new : StreamRoom) (result : Result (Unit {0}) StreamStop) → Finishes bare plan begun first trays' trays'' racks racks' old new result → ((course : Course) → Starts course bare plan begun trays racks → StandsAt course bare plan begun none first trays' racks old) → Streams bare plan begun none new.counts trays trays'' racks racks' result
 finished bare plan begun first none trays trays' trays'' racks racks' old new (Ok done) finishes stands = λ course starts. finishes course none (stands course starts)
 finished bare plan begun first none trays trays' trays'' racks racks' old new (Err stop) finishes stands = λ course starts. finishes course none (stands course starts)
+
+-- from where the second strip is at hand, as from the first
+pub reached : (bare : PageParts) (plan : StripPlan) (begun : List OpenPlate) (first second : Span) (trays trays' trays'' : List TrayState) (racks racks' : List RackState) (old mid new : StreamRoom) (result : Result Span StreamStop) → Reaches bare plan begun first second trays' trays'' racks racks' mid new result → ((course : Course) (none : SheetCounts) → StandsAt course bare plan begun none first trays racks old → AwaitsCore course bare plan begun none first second trays' racks mid) → ReachesLast bare plan begun first trays trays'' racks racks' old new result
+reached bare plan begun first second trays trays' trays'' racks racks' old mid new (Ok end) reaches leads = λ course none stands. reaches course none (leads course none stands)
+reached bare plan begun first second trays trays' trays'' racks racks' old mid new (Err stop) reaches leads = λ course none stands. reaches course none (leads course none stands)

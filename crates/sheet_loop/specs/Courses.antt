@@ -1,5 +1,5 @@
 -- The course of a sheet that streams: what is read, written and counted of it by then.
-use Rattle.std.specs.Prelude.{◌≡◌, ℕ, ◌*◌, ◌<◌, ◌≤◌, List, [], length, Result, Ok, Err, Some}
+use Rattle.std.specs.Prelude.{◌≡◌, ℕ, ◌+◌, ◌*◌, ◌<◌, ◌≤◌, List, [], length, Result, Ok, Err, Some}
 use Rattle.bare_sheets.specs.Begun.{BeginsWith}
 use Rattle.bare_sheets.specs.StripCores.{new_from}
 use Rattle.outside.specs.Rack.{RackState}
@@ -13,12 +13,14 @@ use Rattle.plate_rows.specs.Laws.{header_of}
 use Rattle.plate_rows.specs.Rereading.{HaveRead, StopsReading}
 use Rattle.plate_rows.specs.Trays.{open_at}
 use Rattle.plate_rows.specs.declared.stop.RereadError.{RereadError}
+use Rattle.refusals.specs.declared.refusal.Refusal.{Refusal}
 use Rattle.refusals.specs.declared.refusal.Refusal.TheVariants.{Write}
 use Rattle.sheet_loop.specs.declared.room.StreamRoom.{StreamRoom}
 use Rattle.sheet_loop.specs.declared.stop.StreamStop.{StreamStop}
 use Rattle.sheet_loop.specs.declared.stop.StreamStop.TheVariants.{Unread, Unwritten}
-use Rattle.sheet_loop.specs.Going.{core_top, gone_on}
+use Rattle.sheet_loop.specs.Going.{IsStripRow, core_top, gone_on}
 use Rattle.sheet_loop.specs.Reading.{HoldsTo}
+use Rattle.sheet_loop.specs.Waiting.{PlatesOpen, WritesRow}
 use Rattle.sheet_stream.specs.Growing.{new_rows}
 use Rattle.sheet_stream.specs.Reading.{tints_for}
 use Rattle.sheet_stream.specs.Strips.{IsStripOf}
@@ -52,15 +54,21 @@ abbrev pub RowsCount : SheetCounts → SheetCounts → ℕ → PageParts → Typ
 RowsCount none counts rows sheet = AddsArea sheet 0 0 (width sheet) rows none counts
 
 -- The strip of these rows is read, and is at hand: of each sheet that begins with what was read so
--- far, the rows above its core are written and counted.
-pub record StandsAt (course : Course) (bare : PageParts) (plan : StripPlan)
+-- far, the rows above its core are counted.
+pub record HoldsAt (course : Course) (bare : PageParts) (plan : StripPlan)
     (begun : List OpenPlate) (none : SheetCounts) (row : Span) (trays : List TrayState)
-    (racks : List RackState) (room : StreamRoom) : Type 0 where
+    (room : StreamRoom) : Type 0 where
   pub at_hand : IsStripOf bare row room.strip
   pub holds : HoldsTo course.inputs bare begun (even_wide plan.down) (gone_on row) course.trays
       trays room.strip
-  pub written : OfEach bare holds.samples (RowsStand course bare plan (core_top row) racks)
   pub counted : OfEach bare holds.samples (RowsCount none room.counts (core_top row))
+
+-- .. and they are written.
+pub record StandsAt (course : Course) (bare : PageParts) (plan : StripPlan)
+    (begun : List OpenPlate) (none : SheetCounts) (row : Span) (trays : List TrayState)
+    (racks : List RackState) (room : StreamRoom) : Type 0 where
+  pub at : HoldsAt course bare plan begun none row trays room
+  pub written : OfEach bare at.holds.samples (RowsStand course bare plan (core_top row) racks)
 
 -- some course leads there
 pub record IsUnderWay (bare : PageParts) (plan : StripPlan) (begun : List OpenPlate)
@@ -70,6 +78,14 @@ pub record IsUnderWay (bare : PageParts) (plan : StripPlan) (begun : List OpenPl
   pub none : SheetCounts
   pub empty : AreNone bare none
   pub stands : StandsAt course bare plan begun none row trays racks room
+
+-- .. whatever is written by then
+pub record IsHeld (bare : PageParts) (plan : StripPlan) (begun : List OpenPlate)
+    (row : Span) (trays : List TrayState) (room : StreamRoom) : Type 0 where
+  pub course : Course
+  pub none : SheetCounts
+  pub empty : AreNone bare none
+  pub at : HoldsAt course bare plan begun none row trays room
 
 -- The reading stops. Of each sheet that begins with what was read before, some first rows are
 -- written.
@@ -106,6 +122,28 @@ Stops course bare plan begun trays racks (Unread stop) =
 Stops course bare plan begun trays racks (Unwritten (Write (Some k))) =
     StopsUnwritten course bare plan begun trays racks k
 Stops course bare plan begun trays racks (Unwritten other) = ⊥
+
+-- .. and they are written once the core of the strip before is, which waits for it; where that
+-- fails, the course stops.
+pub record AwaitsCore (course : Course) (bare : PageParts) (plan : StripPlan)
+    (begun : List OpenPlate) (none : SheetCounts) (last row : Span) (trays : List TrayState)
+    (racks : List RackState) (room : StreamRoom) : Type 0 where
+  pub at : HoldsAt course bare plan begun none row trays room
+  pub opened : PlatesOpen plan room.ahead racks
+  pub written : (racks' : List RackState) → WritesRow plan last room.ahead racks racks' (Ok tt)
+      → OfEach bare at.holds.samples (RowsStand course bare plan (core_top row) racks')
+  pub unwritten : (racks' : List RackState) (refusal : Refusal)
+      → WritesRow plan last room.ahead racks racks' (Err refusal)
+      → Stops course bare plan begun trays racks' (Unwritten refusal)
+
+-- some course leads there
+pub record IsAwaiting (bare : PageParts) (plan : StripPlan) (begun : List OpenPlate)
+    (last row : Span) (trays : List TrayState) (racks : List RackState) (room : StreamRoom)
+    : Type 0 where
+  pub course : Course
+  pub none : SheetCounts
+  pub empty : AreNone bare none
+  pub awaits : AwaitsCore course bare plan begun none last row trays racks room
 
 -- The plates are begun, and so are the files: their headers are read and written, and no more.
 pub record Starts (course : Course) (bare : PageParts) (plan : StripPlan)
@@ -146,19 +184,62 @@ BeginsAt bare plan begun row trays trays' old new (Err stop) = (course : Course)
     (racks : List RackState) → Starts course bare plan begun trays racks
     → StopsUnread course bare plan begun trays' racks stop
 
--- The strip at hand is trapped, counted and written, and the next one is at hand, whatever course
--- leads to it.
-abbrev pub GoesOn : PageParts → StripPlan → List OpenPlate → Span → Span
+-- The first strip is trapped and counted, and the next one is at hand.
+abbrev pub GoesFirst : PageParts → StripPlan → List OpenPlate → Span → Span → List TrayState
+    → List TrayState → StreamRoom → StreamRoom → Result (Unit {0}) RereadError → Type 0
+GoesFirst bare plan begun row next trays trays' old new (Ok done) =
+    (course : Course) (none : SheetCounts) (racks : List RackState)
+    → StandsAt course bare plan begun none row trays racks old
+    → AwaitsCore course bare plan begun none row next trays' racks new
+GoesFirst bare plan begun row next trays trays' old new (Err stop) =
+    (course : Course) (none : SheetCounts) (racks : List RackState)
+    → StandsAt course bare plan begun none row trays racks old
+    → StopsUnread course bare plan begun trays' racks stop
+
+-- The core that waits is written, the strip at hand is trapped and counted, and the next one is at
+-- hand, whatever course leads to it.
+abbrev pub GoesOn : PageParts → StripPlan → List OpenPlate → Span → Span → Span
     → List TrayState → List TrayState → List RackState → List RackState
     → StreamRoom → StreamRoom → Result (Unit {0}) StreamStop → Type 0
-GoesOn bare plan begun row next trays trays' racks racks' old new (Ok done) =
+GoesOn bare plan begun last row next trays trays' racks racks' old new (Ok done) =
+    (course : Course) (none : SheetCounts)
+    → AwaitsCore course bare plan begun none last row trays racks old
+    → AwaitsCore course bare plan begun none row next trays' racks' new
+GoesOn bare plan begun last row next trays trays' racks racks' old new (Err stop) =
+    (course : Course) (none : SheetCounts)
+    → AwaitsCore course bare plan begun none last row trays racks old
+    → Stops course bare plan begun trays' racks' stop
+
+-- From the second strip on all strips are put but the last, which is at hand then.
+abbrev pub Reaches : PageParts → StripPlan → List OpenPlate → Span → Span → List TrayState
+    → List TrayState → List RackState → List RackState → StreamRoom → StreamRoom
+    → Result Span StreamStop → Type 0
+Reaches bare plan begun last row trays trays' racks racks' old new (Ok end) =
+    (course : Course) (none : SheetCounts)
+    → AwaitsCore course bare plan begun none last row trays racks old
+    → StandsAt course bare plan begun none end trays' racks' new
+Reaches bare plan begun last row trays trays' racks racks' old new (Err stop) =
+    (course : Course) (none : SheetCounts)
+    → AwaitsCore course bare plan begun none last row trays racks old
+    → Stops course bare plan begun trays' racks' stop
+
+-- From the first strip on, the same.
+abbrev pub ReachesLast : PageParts → StripPlan → List OpenPlate → Span → List TrayState
+    → List TrayState → List RackState → List RackState → StreamRoom → StreamRoom
+    → Result Span StreamStop → Type 0
+ReachesLast bare plan begun row trays trays' racks racks' old new (Ok end) =
     (course : Course) (none : SheetCounts)
     → StandsAt course bare plan begun none row trays racks old
-    → StandsAt course bare plan begun none next trays' racks' new
-GoesOn bare plan begun row next trays trays' racks racks' old new (Err stop) =
+    → StandsAt course bare plan begun none end trays' racks' new
+ReachesLast bare plan begun row trays trays' racks racks' old new (Err stop) =
     (course : Course) (none : SheetCounts)
     → StandsAt course bare plan begun none row trays racks old
     → Stops course bare plan begun trays' racks' stop
+
+-- a strip below which there is none
+pub record IsLastRow (plan : StripPlan) (row : Span) : Type 0 where
+  pub hand : IsStripRow plan.down row
+  pub last : plan.down.side ≤ core_top row + row.core
 
 -- The strip at hand and all strips below it are trapped, counted and written, or that stops.
 abbrev pub Finishes : PageParts → StripPlan → List OpenPlate → Span → List TrayState

@@ -11,6 +11,7 @@ use Rattle.sheet_windows.specs.Plans.{AreRulers, AreSmall}
 use Rattle.sheet_windows.specs.Spans.{AreSpans, IsEvenRuler, even_wide}
 use Rattle.strip_rows.specs.declared.core_rows.StripCut.{StripCut}
 use Rattle.strip_rows.specs.declared.parts.StripPlan.{StripPlan}
+use Rattle.strip_tiles.specs.declared.room.StripRoom.{StripRoom}
 use Rattle.strip_tiles.specs.Rooms.{IsStripRoom, columns_in}
 use Rattle.strip_tiles.specs.Strips.{IsSomeSpan}
 use Rattle.window_pages.specs.Forms.{form_of}
@@ -34,12 +35,17 @@ pub record IsSomeStrip (bare : PageParts) (plan : StripPlan) (strip : PageParts)
   pub tall : last.wide ≡ even_wide plan.down
   pub is_strip : IsStripOf bare last strip
 
+-- Room for the windows of any strip of the sheet.
+pub record CanHoldStrip (bare : PageParts) (plan : StripPlan) (room : StripRoom) : Type 0 where
+  pub columns : AreSpans plan.across 0 (columns_in room) (width bare)
+  pub windows : IsStripRoom (form_of bare) (even_wide plan.down) room
+
 -- Room for any two strips of the sheet: whatever strips it was used for last.
 pub record IsStreamRoom (bare : PageParts) (plan : StripPlan) (room : StreamRoom) : Type 0 where
   pub strip : IsSomeStrip bare plan room.strip
   pub ahead : IsSomeStrip bare plan room.ahead
-  pub columns : AreSpans plan.across 0 (columns_in room.core.windows) (width bare)
-  pub windows : IsStripRoom (form_of bare) (even_wide plan.down) room.core.windows
+  pub one : CanHoldStrip bare plan room.windows
+  pub other : CanHoldStrip bare plan room.core.windows
   pub line : length room.core.line.items ≡ plates bare * width bare
   pub bytes : 2 ≤ length room.core.bytes.items
   pub pieces : 2 ≤ length room.pieces.items

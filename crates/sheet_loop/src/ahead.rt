@@ -73,17 +73,16 @@ pub fn trap_and_read<H: Threads + Sync, T: Tray>(
     room: &mut StreamRoom,
 ) -> Result<(), RereadError>
     requires row { IsStripRow plan.now.down row.now }
-    requires trap { IsTrappable plan.now row.now room.old.strip room.old.core.windows
+    requires trap { IsTrappable plan.now row.now room.old.strip room.old.windows
         room.old.counts }
     requires can { CanReadRow bare.now plan.now plates.now (gone_on row.now) next.now
         (map T.state trays.old) room.old.strip room.old.ahead }
     requires trays { length plates.now ≤ length trays.old }
     requires pieces { 2 ≤ length room.old.pieces.items }
     ensures strip { room.new.strip ≡ room.old.strip }
-    ensures trapped { TrapsRow plan.now row.now room.old.strip room.old.core.windows
-        room.new.core.windows room.old.counts room.new.counts }
-    ensures line { length room.new.core.line.items ≡ length room.old.core.line.items }
-    ensures bytes { length room.new.core.bytes.items ≡ length room.old.core.bytes.items }
+    ensures trapped { TrapsRow plan.now row.now room.old.strip room.old.windows
+        room.new.windows room.old.counts room.new.counts }
+    ensures core { room.new.core ≡ room.old.core }
     ensures pieces { length room.new.pieces.items ≡ length room.old.pieces.items }
     ensures read { ReadsRow bare.now plates.now (gone_on row.now) next.now room.old.strip
         room.new.ahead (map T.state trays.old) (map T.state trays.new) result }
@@ -91,7 +90,7 @@ pub fn trap_and_read<H: Threads + Sync, T: Tray>(
     let progress = &gone_on_by(&plan.down, row);
     let strip = &room.strip;
     let parts = strip.parts();
-    let windows = &mut room.core.windows;
+    let windows = &mut room.windows;
     let counts = &mut room.counts;
     let ahead = &mut room.ahead;
     let pieces = &mut room.pieces;

@@ -3,6 +3,7 @@
 #![tactic(auto)]
 
 pub mod ahead;
+pub mod beside;
 pub mod room;
 pub mod rows;
 pub mod sheet;

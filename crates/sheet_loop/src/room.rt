@@ -30,12 +30,14 @@ use window_pages::sheet::Sheet;
 // How many bytes of a plate are read or written at a time.
 const PIECE: usize = 65_536;
 
-/// What a sheet is streamed through: the strip at hand, the next one, which is read while that one is trapped, the room that a
-/// strip is trapped in and its core written through, what is counted so far, and room for the bytes that are read at a time.
+/// What a sheet is streamed through: the strip at hand, the other one, which was trapped before it and is the next one once its
+/// core is written, room for the windows of each, by turns, the second with room to write a core through, what is counted so
+/// far, and room for the bytes that are read at a time.
 #[derive(Drop)]
 pub struct StreamRoom {
     pub strip: Sheet,
     pub ahead: PageParts,
+    pub windows: StripRoom,
     pub core: CoreRoom,
     pub counts: SheetCounts,
     pub pieces: Vec<u8>,
@@ -84,12 +86,14 @@ fn room_of(
 {
     let sheet = Sheet::of(strip);
     let windows = windows_of(alloc, plan, row, columns, &sheet)?;
+    let others = windows_of(alloc, plan, row, columns, &sheet)?;
     let counts = no_sheet_counts(alloc, &sheet)?;
-    let core = core_room(alloc, bare, windows)?;
+    let core = core_room(alloc, bare, others)?;
     let pieces = filled(alloc, 0u8, PIECE)?;
     Ok(StreamRoom {
         strip: sheet,
         ahead,
+        windows,
         core,
         counts,
         pieces,
@@ -132,22 +136,31 @@ fn core_room(alloc: Global, bare: &PageParts, windows: StripRoom) -> Result<Core
     })
 }
 
-/// The strips change places: the one that was read is the one at hand then, and the next one is read in the other's room.
+/// The strips change places, and so do the rooms for their windows: the strip that was read is the one at hand then, and what
+/// was trapped is written out of the second room.
 pub fn change_places(alloc: Global, room: &mut StreamRoom)
     requires { IsCuttable room.old.ahead }
     ensures strip { room.new.strip ≡ room.old.ahead }
     ensures ahead { room.new.ahead ≡ room.old.strip }
-    ensures core { room.new.core ≡ room.old.core }
+    ensures windows { room.new.windows ≡ room.old.core.windows }
+    ensures trapped { room.new.core.windows ≡ room.old.windows }
+    ensures line { length room.new.core.line.items ≡ length room.old.core.line.items }
+    ensures bytes { length room.new.core.bytes.items ≡ length room.old.core.bytes.items }
     ensures counts { room.new.counts ≡ room.old.counts }
     ensures pieces { length room.new.pieces.items ≡ length room.old.pieces.items }
 {
-    let none = PageParts {
+    let next = Sheet::of(std::mem::replace(&mut room.ahead, no_parts(alloc)));
+    let last = std::mem::replace(&mut room.strip, next);
+    room.ahead = last.into_parts();
+    std::mem::swap(&mut room.windows, &mut room.core.windows);
+}
+
+/// No plates, to stand in a strip's place. It takes no memory.
+pub fn no_parts(alloc: Global) -> PageParts {
+    PageParts {
         resolution: 0,
         planes: List::new(alloc),
         inks: List::new(alloc),
         zones: List::new(alloc),
-    };
-    let next = Sheet::of(std::mem::replace(&mut room.ahead, none));
-    let last = std::mem::replace(&mut room.strip, next);
-    room.ahead = last.into_parts();
+    }
 }

@@ -1,18 +1,20 @@
-// The steps of a sheet that streams: the first strip is read, each strip is put while the next one is read, and the last one
-// is put.
+// The steps of a sheet that streams: the first strip is read, each strip is trapped while the one before it is written and the
+// next one is read, and the last one is put.
 
 ghost use Rattle.std.specs.Prelude.{◌≡◌, ◌*◌, ◌≤◌, OnOk, length, map};
 ghost use Rattle.page_model.specs.Page.{maxval, plates, width};
-ghost use Rattle.sheet_loop.specs.Courses.{BeginsAt, GoesOn, IsUnderWay};
+ghost use Rattle.sheet_loop.specs.Courses.{BeginsAt, GoesFirst, GoesOn, IsAwaiting, IsHeld};
 ghost use Rattle.sheet_loop.specs.Going.{IsNextRow, IsStripRow, gone_on, not_begun};
 ghost use Rattle.sheet_loop.specs.Rooms.{CanStream, IsStreamRoom};
 ghost use Rattle.sheet_loop.specs.Second.{IsBegun};
+ghost use Rattle.sheet_loop.specs.Waiting.{IsWaiting};
 ghost use Rattle.sheet_stream.specs.Reading.{HaveHeader};
 ghost use Rattle.strip_rows.specs.Cores.{AreOpen, WritesCore};
 ghost use Rattle.strip_rows.specs.OnSheet.{strip_cut};
 ghost use Rattle.strip_rows.specs.Ready.{IsTrappable, TrapsRow};
 
 use crate::ahead::{read_row, trap_and_read};
+use crate::beside::trap_beside;
 use crate::room::{StreamRoom, change_places};
 use crate::rows::Progress;
 use crate::stop::StreamStop;
@@ -69,12 +71,48 @@ pub fn read_first<T: Tray>(
     }
 }
 
-/// Traps the strip at hand and counts its core while the next strip is read, each plate by the tray of its number; writes the
-/// core's rows, each plate by the rack of its number; and then the next strip is at hand. It takes no memory but that of
+/// Traps the first strip, which is at hand, and counts its core while the second strip is read, each plate by the tray of its
+/// number; the second one is at hand then, and the core of the first waits to be written. It takes no memory but that of
 /// threads.
 ///
-/// It stops at the first plate that has a fault now or cannot be read, with no row of the core written, and where a call of a
-/// rack fails.
+/// It stops at the first plate that has a fault now or cannot be read.
+pub fn trap_first<H: Threads + Sync, T: Tray>(
+    rt: &H,
+    alloc: Global,
+    trays: &mut [T],
+    bare: &PageParts,
+    plan: &StripPlan,
+    plates: &[OpenPlate],
+    row: &Span,
+    next: &Span,
+    room: &mut StreamRoom,
+) -> Result<(), RereadError>
+    requires can { CanStream bare.now plan.now }
+    requires headers { HaveHeader bare.now plates.now }
+    requires trays { length plates.now ≤ length trays.old }
+    requires row { IsStripRow plan.now.down row.now }
+    requires next { IsNextRow plan.now.down (gone_on row.now) next.now }
+    requires room { IsStreamRoom bare.now plan.now room.old }
+    requires way { IsHeld bare.now plan.now plates.now row.now (map T.state trays.old) room.old }
+    ensures room { OnOk result (IsStreamRoom bare.now plan.now room.new) }
+    ensures waiting { OnOk result (IsWaiting plan.now row.now room.new.ahead room.new.core) }
+    ensures goes { GoesFirst bare.now plan.now plates.now row.now next.now (map T.state trays.old)
+        (map T.state trays.new) room.old room.new result }
+{
+    match trap_and_read(rt, alloc, trays, bare, plan, plates, row, next, room) {
+        Ok(()) => {
+            change_places(alloc, room);
+            Ok(())
+        }
+        Err(stop) => Err(stop),
+    }
+}
+
+/// Traps the strip at hand and counts its core; beside that the core of the strip before, which waits, is written, each plate
+/// by the rack of its number, and the next strip is read, each plate by the tray of its number. The next strip is at hand then,
+/// and the core of the one that was trapped waits. It takes no memory but that of threads.
+///
+/// It stops where a call of a rack fails, with nothing read, and at the first plate that has a fault now or cannot be read.
 pub fn stream_strip<H: Threads + Sync, T: Tray, R: Rack>(
     rt: &H,
     alloc: Global,
@@ -83,6 +121,7 @@ pub fn stream_strip<H: Threads + Sync, T: Tray, R: Rack>(
     bare: &PageParts,
     plan: &StripPlan,
     plates: &[OpenPlate],
+    last: &Span,
     row: &Span,
     next: &Span,
     room: &mut StreamRoom,
@@ -94,22 +133,23 @@ pub fn stream_strip<H: Threads + Sync, T: Tray, R: Rack>(
     requires row { IsStripRow plan.now.down row.now }
     requires next { IsNextRow plan.now.down (gone_on row.now) next.now }
     requires room { IsStreamRoom bare.now plan.now room.old }
-    requires way { IsUnderWay bare.now plan.now plates.now row.now (map T.state trays.old)
-        (map R.state racks.old) room.old }
+    requires waiting { IsWaiting plan.now last.now room.old.ahead room.old.core }
+    requires way { IsAwaiting bare.now plan.now plates.now last.now row.now
+        (map T.state trays.old) (map R.state racks.old) room.old }
     ensures room { OnOk result (IsStreamRoom bare.now plan.now room.new) }
-    ensures goes { GoesOn bare.now plan.now plates.now row.now next.now (map T.state trays.old)
-        (map T.state trays.new) (map R.state racks.old) (map R.state racks.new) room.old room.new
-        result }
+    ensures waiting { OnOk result (IsWaiting plan.now row.now room.new.ahead room.new.core) }
+    ensures goes { GoesOn bare.now plan.now plates.now last.now row.now next.now
+        (map T.state trays.old) (map T.state trays.new) (map R.state racks.old)
+        (map R.state racks.new) room.old room.new result }
 {
-    match trap_and_read(rt, alloc, trays, bare, plan, plates, row, next, room) {
-        Ok(()) => match write_row(racks, plan, row, &room.strip, &mut room.core) {
-            Ok(()) => {
-                change_places(alloc, room);
-                Ok(())
-            }
-            Err(refusal) => Err(StreamStop::Unwritten(refusal)),
-        },
-        Err(stop) => Err(StreamStop::Unread(stop)),
+    match trap_beside(
+        rt, alloc, trays, racks, bare, plan, plates, last, row, next, room,
+    ) {
+        Ok(()) => {
+            change_places(alloc, room);
+            Ok(())
+        }
+        Err(stop) => Err(stop),
     }
 }
 

@@ -1,15 +1,18 @@
 // All strips of a sheet, one after the other.
 
-ghost use Rattle.std.specs.Prelude.{◌≤◌, length, map};
-ghost use Rattle.sheet_loop.specs.Courses.{Finishes, IsStarted, IsUnderWay, Streams};
+ghost use Rattle.std.specs.Prelude.{◌≤◌, IfOk, OnOk, length, map};
+ghost use Rattle.sheet_loop.specs.Courses.{Finishes, IsAwaiting, IsLastRow, IsStarted, IsUnderWay};
+ghost use Rattle.sheet_loop.specs.Courses.{Reaches, ReachesLast, Streams};
 ghost use Rattle.sheet_loop.specs.Going.{IsStripRow};
 ghost use Rattle.sheet_loop.specs.Rooms.{CanStream, IsStreamRoom};
+ghost use Rattle.sheet_loop.specs.Waiting.{IsWaiting};
 ghost use Rattle.sheet_stream.specs.Reading.{HaveHeader};
 ghost use Rattle.strip_tiles.specs.Works.{AreNone};
 
+use crate::beside::write_waiting;
 use crate::room::StreamRoom;
 use crate::rows::{Progress, gone_on_by, next_row};
-use crate::step::{put_last, read_first, stream_strip};
+use crate::step::{put_last, read_first, stream_strip, trap_first};
 use crate::stop::StreamStop;
 use outside::rack::Rack;
 use outside::tray::Tray;
@@ -22,8 +25,8 @@ use strip_rows::parts::StripPlan;
 
 /// Streams a sheet whose plates and files are begun: strip after strip, from the top, its rows are read, it is trapped by so
 /// many workers, and the rows of its core are written; plate k is read by tray k and written by rack k. With more workers than
-/// one a strip's rows are read while the strip above it is trapped. It takes no memory but that of threads. Nothing that is
-/// written or counted depends on the strips: it is that of the undivided sheet.
+/// one a strip is trapped while the core of the strip above it is written and the rows of the strip below it are read. It takes
+/// no memory but that of threads. Nothing that is written or counted depends on the strips: it is that of the undivided sheet.
 ///
 /// It stops at the first plate that has a fault now or cannot be read, and where a call of a rack fails; of each file some
 /// first rows are written then.
@@ -85,22 +88,100 @@ fn stream_on<H: Threads + Sync, T: Tray, R: Rack>(
         (map T.state trays.new) (map R.state racks.old) (map R.state racks.new) room.old room.new
         result }
 {
-    let mut row = *first;
+    match reach_last(rt, alloc, trays, racks, bare, plan, plates, first, room) {
+        Ok(row) => match put_last(rt, racks, plan, &row, room) {
+            Ok(()) => Ok(()),
+            Err(refusal) => Err(StreamStop::Unwritten(refusal)),
+        },
+        Err(stop) => Err(stop),
+    }
+}
+
+// Puts all strips but the last, which is at hand then: gives its rows.
+fn reach_last<H: Threads + Sync, T: Tray, R: Rack>(
+    rt: &H,
+    alloc: Global,
+    trays: &mut [T],
+    racks: &mut [R],
+    bare: &PageParts,
+    plan: &StripPlan,
+    plates: &[OpenPlate],
+    first: &Span,
+    room: &mut StreamRoom,
+) -> Result<Span, StreamStop>
+    requires can { CanStream bare.now plan.now }
+    requires headers { HaveHeader bare.now plates.now }
+    requires trays { length plates.now ≤ length trays.old }
+    requires racks { length plates.now ≤ length racks.old }
+    requires first { IsStripRow plan.now.down first.now }
+    requires room { IsStreamRoom bare.now plan.now room.old }
+    requires way { IsUnderWay bare.now plan.now plates.now first.now (map T.state trays.old)
+        (map R.state racks.old) room.old }
+    ensures last { IfOk result (IsLastRow plan.now) }
+    ensures room { OnOk result (IsStreamRoom bare.now plan.now room.new) }
+    ensures reaches { ReachesLast bare.now plan.now plates.now first.now (map T.state trays.old)
+        (map T.state trays.new) (map R.state racks.old) (map R.state racks.new) room.old room.new
+        result }
+{
+    let progress = gone_on_by(&plan.down, first);
+    if progress.at >= plan.down.side {
+        return Ok(*first);
+    }
+    let second = next_row(&plan.down, progress);
+    match trap_first(rt, alloc, trays, bare, plan, plates, first, &second, room) {
+        Ok(()) => go_on(
+            rt, alloc, trays, racks, bare, plan, plates, first, &second, room,
+        ),
+        Err(stop) => Err(StreamStop::Unread(stop)),
+    }
+}
+
+// The same from where the second strip is at hand, and the core of the first waits to be written.
+fn go_on<H: Threads + Sync, T: Tray, R: Rack>(
+    rt: &H,
+    alloc: Global,
+    trays: &mut [T],
+    racks: &mut [R],
+    bare: &PageParts,
+    plan: &StripPlan,
+    plates: &[OpenPlate],
+    first: &Span,
+    second: &Span,
+    room: &mut StreamRoom,
+) -> Result<Span, StreamStop>
+    requires can { CanStream bare.now plan.now }
+    requires headers { HaveHeader bare.now plates.now }
+    requires trays { length plates.now ≤ length trays.old }
+    requires racks { length plates.now ≤ length racks.old }
+    requires second { IsStripRow plan.now.down second.now }
+    requires room { IsStreamRoom bare.now plan.now room.old }
+    requires waiting { IsWaiting plan.now first.now room.old.ahead room.old.core }
+    requires way { IsAwaiting bare.now plan.now plates.now first.now second.now
+        (map T.state trays.old) (map R.state racks.old) room.old }
+    ensures last { IfOk result (IsLastRow plan.now) }
+    ensures room { OnOk result (IsStreamRoom bare.now plan.now room.new) }
+    ensures reaches { Reaches bare.now plan.now plates.now first.now second.now
+        (map T.state trays.old) (map T.state trays.new) (map R.state racks.old)
+        (map R.state racks.new) room.old room.new result }
+{
+    let mut last = *first;
+    let mut row = *second;
     let mut progress = gone_on_by(&plan.down, &row);
     while progress.at < plan.down.side {
         let next = next_row(&plan.down, progress);
         match stream_strip(
-            rt, alloc, trays, racks, bare, plan, plates, &row, &next, room,
+            rt, alloc, trays, racks, bare, plan, plates, &last, &row, &next, room,
         ) {
             Ok(()) => {
+                last = row;
                 row = next;
                 progress = gone_on_by(&plan.down, &row);
             }
             Err(stop) => return Err(stop),
         }
     }
-    match put_last(rt, racks, plan, &row, room) {
-        Ok(()) => Ok(()),
+    match write_waiting(alloc, racks, plan, &last, &mut room.ahead, &mut room.core) {
+        Ok(()) => Ok(row),
         Err(refusal) => Err(StreamStop::Unwritten(refusal)),
     }
 }

@@ -138,6 +138,7 @@ fn report_room<R: Rack>(
     let StreamRoom {
         strip: _strip,
         ahead: _ahead,
+        windows: _windows,
         core: _core,
         counts,
         pieces: _pieces,

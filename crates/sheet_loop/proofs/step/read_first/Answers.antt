@@ -1,15 +1,11 @@
-use Rattle.std.proofs.Common.{◌≡◌, ◌*◌, ◌≤◌, Ok, Err, length, map, sym, subst, arith}
+use Rattle.std.proofs.Common.{Ok, Err, ◌∙◌, map, sym, subst, arith}
 use Rattle.page_model.specs.declared.parts.PageParts.{PageParts}
-use Rattle.page_model.specs.Page.{plates, width}
 use Rattle.sheet_loop.specs.Going.{not_begun}
 use Rattle.sheet_loop.specs.Reading.{ReadsRow}
-use Rattle.sheet_loop.specs.Rooms.{IsSomeStrip}
+use Rattle.sheet_loop.specs.Rooms.{CanHoldStrip, IsSomeStrip}
 use Rattle.sheet_loop.proofs.StepLemmas.{new_cuttable, new_some}
 use Rattle.sheet_loop.proofs.StreamLemmas.{begins_badly, begins_well, holds_none}
-use Rattle.sheet_windows.specs.Spans.{AreSpans, even_wide}
-use Rattle.strip_rows.specs.declared.strip.CoreRoom.{CoreRoom}
-use Rattle.strip_tiles.specs.Rooms.{IsStripRoom, columns_in}
-use Rattle.window_pages.specs.Forms.{form_of}
+use Rattle.sheet_windows.specs.Spans.{even_wide}
 use Rattle.sheet_loop.proofs.step.read_first.Goals as goal
 
 pub read_row-requires-clause-can : goal.read_row-requires-clause-can
@@ -58,10 +54,10 @@ returns-in-Ok-clause-room g c =
           (holds_none begun.inputs bare c.args.plates.now (even_wide plan.down) begun.start trays strip begun.read)
           (subst (λ (s : PageParts). ReadsRow bare c.args.plates.now not_begun c.args.row.now s c.read_row.new.ahead trays trays' (Ok tt)) c.parts-parts.ensures.value c.in-Ok.ensures.read));
       ahead = subst (IsSomeStrip bare plan) (sym put.ahead) room.strip;
-      columns = subst (λ (core : CoreRoom). AreSpans plan.across 0 (columns_in core.windows) (width bare)) (sym put.core) room.columns;
-      windows = subst (λ (core : CoreRoom). IsStripRoom (form_of bare) (even_wide plan.down) core.windows) (sym put.core) room.windows;
-      line = subst (λ (core : CoreRoom). length core.line.items ≡ plates bare * width bare) (sym put.core) room.line;
-      bytes = subst (λ (core : CoreRoom). 2 ≤ length core.bytes.items) (sym put.core) room.bytes;
+      one = subst (CanHoldStrip bare plan) (sym put.windows) room.other;
+      other = subst (CanHoldStrip bare plan) (sym put.trapped) room.one;
+      line = put.line ∙ room.line;
+      bytes = (let b = room.bytes in let e = put.bytes in omega (arith, b, e));
       pieces = (let b = room.pieces in let e = put.pieces in let a = c.read_row.ensures.bytes in omega (arith, b, e, a));
     }
 

@@ -1,35 +1,37 @@
-use Rattle.std.proofs.Common.{◌≡◌, ◌+◌, ◌*◌, ◌∙◌, Ok, Err, length, map, sym, ap, subst, arith}
+use Rattle.std.proofs.Common.{◌+◌, ◌∙◌, Ok, Err, length, map, sym, subst, arith}
 use Rattle.page_model.specs.declared.parts.PageParts.{PageParts}
-use Rattle.page_model.specs.Page.{maxval, plates, width}
 use Rattle.sheet_loop.specs.Courses.{OfEach, RowsCount}
 use Rattle.sheet_loop.specs.Going.{core_top, gone_on}
-use Rattle.sheet_loop.specs.Rooms.{IsSomeStrip}
-use Rattle.sheet_loop.proofs.StepLemmas.{are_open, before, columns_on, counted_on, deep_is, line_long, new_cuttable, new_some, now, plates_are, reading_stops, stands_then, trappable, unwritten, windows_on, written_on}
-use Rattle.sheet_windows.specs.Spans.{AreSpans, even_wide}
+use Rattle.sheet_loop.specs.Rooms.{CanHoldStrip, IsSomeStrip}
+use Rattle.sheet_loop.specs.Waiting.{IsWaiting, PlatesOpen, WritesRow}
+use Rattle.sheet_loop.proofs.StepLemmas.{are_open, before, can_hold_still, counted_on, deep_is, hand_cuttable, holds_then, line_long, new_cuttable, new_some, now, stopped_beside, trappable, unwritten, written_on, written_then}
 use Rattle.strip_rows.specs.declared.strip.CoreRoom.{CoreRoom}
-use Rattle.strip_rows.specs.Cores.{AreOpen, IsCutStrip, WritesCore}
+use Rattle.strip_rows.specs.Cores.{IsCutStrip}
 use Rattle.strip_rows.specs.OnSheet.{strip_cut}
-use Rattle.strip_tiles.specs.declared.room.StripRoom.{StripRoom}
-use Rattle.strip_tiles.specs.Rooms.{IsStripRoom, columns_in}
 use Rattle.tile_counts.specs.declared.counts.SheetCounts.{SheetCounts}
-use Rattle.window_pages.specs.Forms.{form_of}
 use Rattle.sheet_loop.proofs.step.stream_strip.Goals as goal
 
-pub trap_and_read-requires-clause-trap : goal.trap_and_read-requires-clause-trap
-trap_and_read-requires-clause-trap g c κs within =
+pub trap_beside-requires-clause-trap : goal.trap_beside-requires-clause-trap
+trap_beside-requires-clause-trap g c κs within =
     let bare = c.args.bare.now in
     let plan = c.args.plan.now in
     let begun = c.args.plates.now in
     let row = c.args.row.now in
+    let next = c.args.next.now in
     let old = c.args.room.now in
     let trays = map g.T.Tray.state c.args.trays.now in
-    let racks = map g.R.Rack.state c.args.racks.now in
     let ask = c.requires in
     let way = ask.way in
-    trappable bare plan begun row ask.can ask.row old ask.room trays racks way.course way.none way.stands way.empty
+    trappable bare plan begun row ask.can ask.row old trays way.course way.none way.awaits.at way.empty old.windows ask.room.one
 
-pub trap_and_read-requires-clause-can : goal.trap_and_read-requires-clause-can
-trap_and_read-requires-clause-can g c κs within =
+pub trap_beside-requires-clause-opened : goal.trap_beside-requires-clause-opened
+trap_beside-requires-clause-opened g c κs within = c.requires.way.awaits.opened
+
+pub trap_beside-requires-clause-count : goal.trap_beside-requires-clause-count
+trap_beside-requires-clause-count g c κs within = c.requires.room.ahead.is_strip.planes.count ∙ sym c.requires.headers.count
+
+pub trap_beside-requires-clause-can : goal.trap_beside-requires-clause-can
+trap_beside-requires-clause-can g c κs within =
     let way = c.requires.way in
     record {
       can = c.requires.can;
@@ -37,70 +39,8 @@ trap_and_read-requires-clause-can g c κs within =
       next = c.requires.next;
       at_hand = c.requires.room.strip;
       room = c.requires.room.ahead;
-      there = record { inputs = way.course.inputs; start = way.course.trays; holds = way.stands.holds };
+      there = record { inputs = way.course.inputs; start = way.course.trays; holds = way.awaits.at.holds };
     }
-
-pub write_row-requires-clause-racks : goal.write_row-requires-clause-racks
-write_row-requires-clause-racks g c =
-    let bare = c.args.bare.now in
-    let plan = c.args.plan.now in
-    let begun = c.args.plates.now in
-    let row = c.args.row.now in
-    let old = c.args.room.now in
-    let trays = map g.T.Tray.state c.args.trays.now in
-    let racks = map g.R.Rack.state c.args.racks.now in
-    let ask = c.requires in
-    let way = ask.way in
-    let same = ap plates c.trap_and_read.ensures.strip in
-    let are = plates_are bare plan begun row ask.can ask.row old ask.room trays racks way.course way.none way.stands in
-    let count = ask.headers.count in
-    let enough = ask.racks in
-    omega (arith, same, are, count, enough)
-
-pub write_row-requires-clause-open : goal.write_row-requires-clause-open
-write_row-requires-clause-open g c =
-    let bare = c.args.bare.now in
-    let plan = c.args.plan.now in
-    let begun = c.args.plates.now in
-    let row = c.args.row.now in
-    let old = c.args.room.now in
-    let trays = map g.T.Tray.state c.args.trays.now in
-    let racks = map g.R.Rack.state c.args.racks.now in
-    let ask = c.requires in
-    let way = ask.way in
-    subst (λ (s : PageParts). AreOpen plan.header (plates s) racks) (sym c.trap_and_read.ensures.strip) (are_open bare plan begun row ask.can ask.row old ask.room trays racks way.course way.none way.stands)
-
-pub write_row-requires-clause-cut : goal.write_row-requires-clause-cut
-write_row-requires-clause-cut g c =
-    let plan = c.args.plan.now in
-    subst (λ (s : PageParts). IsCutStrip s (strip_cut plan.across plan.down c.args.row.now) c.trap_and_read.new.room.core.windows) (sym c.trap_and_read.ensures.strip) c.trap_and_read.ensures.trapped.cut
-
-pub write_row-requires-clause-line : goal.write_row-requires-clause-line
-write_row-requires-clause-line g c =
-    let bare = c.args.bare.now in
-    let plan = c.args.plan.now in
-    let begun = c.args.plates.now in
-    let row = c.args.row.now in
-    let old = c.args.room.now in
-    let trays = map g.T.Tray.state c.args.trays.now in
-    let racks = map g.R.Rack.state c.args.racks.now in
-    let ask = c.requires in
-    let way = ask.way in
-    let same = c.trap_and_read.ensures.strip in
-    c.trap_and_read.ensures.line ∙ line_long bare plan begun row ask.can ask.row old ask.room trays racks way.course way.none way.stands ∙ (λ i. plates (sym same i) * width (sym same i))
-
-pub write_row-requires-clause-maxval : goal.write_row-requires-clause-maxval
-write_row-requires-clause-maxval g c =
-    let bare = c.args.bare.now in
-    let plan = c.args.plan.now in
-    let begun = c.args.plates.now in
-    let row = c.args.row.now in
-    let old = c.args.room.now in
-    let trays = map g.T.Tray.state c.args.trays.now in
-    let racks = map g.R.Rack.state c.args.racks.now in
-    let ask = c.requires in
-    let way = ask.way in
-    deep_is bare plan begun row ask.can ask.row old ask.room trays racks way.course way.none way.stands ∙ ap maxval (sym c.trap_and_read.ensures.strip)
 
 pub change_places-requires : goal.change_places-requires
 change_places-requires g c =
@@ -108,79 +48,94 @@ change_places-requires g c =
     let plan = c.args.plan.now in
     let begun = c.args.plates.now in
     let row = c.args.row.now in
+    let next = c.args.next.now in
     let old = c.args.room.now in
     let trays = map g.T.Tray.state c.args.trays.now in
-    let racks = map g.R.Rack.state c.args.racks.now in
     let ask = c.requires in
     let way = ask.way in
-    let trays' = map g.T.Tray.state c.trap_and_read.new.trays in
-    new_cuttable bare plan begun (gone_on row) c.args.next.now ask.can ask.headers ask.next old.strip ask.room.strip trays trays' c.trap_and_read.new.room.ahead way.course.inputs way.course.trays way.stands.holds c.in-Ok.ensures.read
+    let trays' = map g.T.Tray.state c.trap_beside.new.trays in
+    let mid = c.trap_beside.new.room in
+    let did = c.trap_beside.ensures in
+    new_cuttable bare plan begun (gone_on row) next ask.can ask.headers ask.next old.strip ask.room.strip trays trays' mid.ahead way.course.inputs way.course.trays way.awaits.at.holds c.in-Ok.ensures.does.1
 
-pub returns-in-Ok-write_row-clause-room : goal.returns-in-Ok-write_row-clause-room
-returns-in-Ok-write_row-clause-room g c =
+pub returns-in-Ok-clause-room : goal.returns-in-Ok-clause-room
+returns-in-Ok-clause-room g c =
     let bare = c.args.bare.now in
     let plan = c.args.plan.now in
     let begun = c.args.plates.now in
     let row = c.args.row.now in
+    let next = c.args.next.now in
     let old = c.args.room.now in
     let trays = map g.T.Tray.state c.args.trays.now in
-    let racks = map g.R.Rack.state c.args.racks.now in
     let ask = c.requires in
     let way = ask.way in
-    let trays' = map g.T.Tray.state c.trap_and_read.new.trays in
-    let mid = c.trap_and_read.new.room in
-    let did = c.trap_and_read.ensures in
-    let wrote = c.write_row.ensures in
+    let trays' = map g.T.Tray.state c.trap_beside.new.trays in
+    let mid = c.trap_beside.new.room in
+    let did = c.trap_beside.ensures in
     let put = c.change_places.ensures in
-    let end = c.change_places.new.room in
-    let windows : end.core.windows ≡ mid.core.windows = ap (λ (core : CoreRoom). core.windows) put.core ∙ wrote.windows in
     record {
-      strip = subst (IsSomeStrip bare plan) (sym put.strip) (new_some bare plan begun (gone_on row) c.args.next.now ask.can ask.headers ask.next old.strip ask.room.strip trays trays' mid.ahead way.course.inputs way.course.trays way.stands.holds c.in-Ok.ensures.read);
+      strip = subst (IsSomeStrip bare plan) (sym put.strip) (new_some bare plan begun (gone_on row) next ask.can ask.headers ask.next old.strip ask.room.strip trays trays' mid.ahead way.course.inputs way.course.trays way.awaits.at.holds c.in-Ok.ensures.does.1);
       ahead = subst (IsSomeStrip bare plan) (sym (put.ahead ∙ did.strip)) ask.room.strip;
-      columns = subst (λ (w : StripRoom). AreSpans plan.across 0 (columns_in w) (width bare)) (sym windows) (columns_on bare plan begun row ask.can ask.row old ask.room trays racks way.course way.none way.stands mid.core.windows mid.counts did.trapped);
-      windows = subst (IsStripRoom (form_of bare) (even_wide plan.down)) (sym windows) (windows_on bare plan begun row ask.can ask.row old ask.room trays racks way.course way.none way.stands mid.core.windows mid.counts did.trapped);
-      line = ap (λ (core : CoreRoom). length core.line.items) put.core ∙ wrote.line ∙ did.line ∙ ask.room.line;
-      bytes = (let e = ap (λ (core : CoreRoom). length core.bytes.items) put.core in let w = wrote.bytes in let d = did.bytes in let b = ask.room.bytes in omega (arith, e, w, d, b));
+      one = subst (CanHoldStrip bare plan) (sym (put.windows ∙ did.windows)) ask.room.other;
+      other = subst (CanHoldStrip bare plan) (sym put.trapped) (can_hold_still bare plan begun row ask.can ask.row old trays way.course way.none way.awaits.at old.windows mid.windows mid.counts did.trapped ask.room.one);
+      line = put.line ∙ did.line ∙ ask.room.line;
+      bytes = (let e = put.bytes in let d = did.bytes in let b = ask.room.bytes in omega (arith, e, d, b));
       pieces = (let e = put.pieces in let d = did.pieces in let b = ask.room.pieces in omega (arith, e, d, b));
     }
 
-pub returns-in-Ok-write_row-clause-goes : goal.returns-in-Ok-write_row-clause-goes
-returns-in-Ok-write_row-clause-goes g c course none stands =
+pub returns-in-Ok-clause-waiting : goal.returns-in-Ok-clause-waiting
+returns-in-Ok-clause-waiting g c =
     let bare = c.args.bare.now in
     let plan = c.args.plan.now in
     let begun = c.args.plates.now in
     let row = c.args.row.now in
+    let next = c.args.next.now in
     let old = c.args.room.now in
     let trays = map g.T.Tray.state c.args.trays.now in
-    let racks = map g.R.Rack.state c.args.racks.now in
     let ask = c.requires in
-    let trays' = map g.T.Tray.state c.trap_and_read.new.trays in
-    let mid = c.trap_and_read.new.room in
-    let did = c.trap_and_read.ensures in
-    let racks' = map g.R.Rack.state c.write_row.new.racks in
+    let way = ask.way in
+    let trays' = map g.T.Tray.state c.trap_beside.new.trays in
+    let mid = c.trap_beside.new.room in
+    let did = c.trap_beside.ensures in
     let put = c.change_places.ensures in
-    stands_then bare plan begun (gone_on row) c.args.next.now ask.can ask.headers ask.next old.strip ask.room.strip course none trays trays' racks' mid.ahead stands.holds c.in-Ok.ensures.read c.change_places.new.room put.strip
-    (written_on bare plan begun row ask.can ask.row old ask.room trays racks course none stands racks' (subst (λ (s : PageParts). WritesCore (plates s) plan.header s (strip_cut plan.across plan.down row) racks racks' (Ok tt)) did.strip c.in-Ok-write_row.ensures.written))
-    (subst (λ (n : SheetCounts). OfEach bare stands.holds.samples (RowsCount none n (core_top row + row.core))) (sym put.counts) (counted_on bare plan begun row ask.can ask.row old ask.room trays racks course none stands mid.core.windows mid.counts did.trapped))
+    let end = c.change_places.new.room in
+    let core : CoreRoom = end.core in
+    let hand : IsWaiting plan row old.strip end.core = record {
+      cuttable = hand_cuttable bare plan begun row ask.can ask.row old trays way.course way.none way.awaits.at;
+      cut = subst (IsCutStrip old.strip (strip_cut plan.across plan.down row)) (sym put.trapped) did.trapped.cut;
+      line = line_long bare plan begun row ask.can ask.row old trays way.course way.none way.awaits.at (length core.line.items) (put.line ∙ did.line ∙ ask.room.line);
+      bytes = (let e = put.bytes in let d = did.bytes in let b = ask.room.bytes in omega (arith, e, d, b));
+      deep = deep_is bare plan begun row ask.can ask.row old trays way.course way.none way.awaits.at;
+    } in
+    subst (λ (s : PageParts). IsWaiting plan row s end.core) (sym (put.ahead ∙ did.strip)) hand
 
-pub returns-in-Err-write_row-clause-goes : goal.returns-in-Err-write_row-clause-goes
-returns-in-Err-write_row-clause-goes g c course none stands =
+pub returns-in-Ok-clause-goes : goal.returns-in-Ok-clause-goes
+returns-in-Ok-clause-goes g c course none stands =
     let bare = c.args.bare.now in
     let plan = c.args.plan.now in
     let begun = c.args.plates.now in
     let row = c.args.row.now in
+    let next = c.args.next.now in
     let old = c.args.room.now in
     let trays = map g.T.Tray.state c.args.trays.now in
-    let racks = map g.R.Rack.state c.args.racks.now in
     let ask = c.requires in
-    let trays' = map g.T.Tray.state c.trap_and_read.new.trays in
-    let mid = c.trap_and_read.new.room in
-    let did = c.trap_and_read.ensures in
-    let racks' = map g.R.Rack.state c.write_row.new.racks in
-    let read = now bare plan begun (gone_on row) c.args.next.now ask.can ask.headers ask.next old.strip ask.room.strip trays trays' mid.ahead course.inputs course.trays stands.holds c.in-Ok.ensures.read in
-    let refusal = c.in-Err-write_row.refusal in
-    unwritten bare plan begun row ask.can ask.row old ask.room trays racks course none stands racks' trays' read.samples read.read (before bare plan begun (gone_on row) c.args.next.now ask.can ask.headers ask.next old.strip ask.room.strip trays trays' mid.ahead course.inputs course.trays stands.holds c.in-Ok.ensures.read) refusal
-    (subst (λ (s : PageParts). WritesCore (plates s) plan.header s (strip_cut plan.across plan.down row) racks racks' (Err refusal)) did.strip c.in-Err-write_row.ensures.written)
+    let way = ask.way in
+    let trays' = map g.T.Tray.state c.trap_beside.new.trays in
+    let mid = c.trap_beside.new.room in
+    let did = c.trap_beside.ensures in
+    let racks' = map g.R.Rack.state c.trap_beside.new.racks in
+    let put = c.change_places.ensures in
+    let same = put.ahead ∙ did.strip in
+    let read = now bare plan begun (gone_on row) next ask.can ask.headers ask.next old.strip ask.room.strip trays trays' mid.ahead course.inputs course.trays stands.at.holds c.in-Ok.ensures.does.1 in
+    record {
+      at = holds_then bare plan begun (gone_on row) next ask.can ask.headers ask.next old.strip ask.room.strip course none trays trays' mid.ahead stands.at.holds c.in-Ok.ensures.does.1 c.change_places.new.room put.strip
+          (subst (λ (n : SheetCounts). OfEach bare stands.at.holds.samples (RowsCount none n (core_top row + row.core))) (sym put.counts) (counted_on bare plan begun row ask.can ask.row old trays course none stands.at old.windows mid.windows mid.counts did.trapped));
+      opened = subst (λ (s : PageParts). PlatesOpen plan s racks') (sym same) (are_open bare plan begun row ask.can ask.row old trays course none stands.at racks' (stands.written racks' c.in-Ok.ensures.does.0));
+      written = λ after writes. written_then bare plan begun (gone_on row) next ask.can ask.headers ask.next old.strip ask.room.strip course none trays trays' mid.ahead stands.at.holds c.in-Ok.ensures.does.1 after
+          (written_on bare plan begun row ask.can ask.row old trays course none stands.at racks' (stands.written racks' c.in-Ok.ensures.does.0) after (subst (λ (s : PageParts). WritesRow plan row s racks' after (Ok tt)) same writes));
+      unwritten = λ after refusal writes. unwritten bare plan begun row ask.can ask.row old trays course none stands.at racks' (stands.written racks' c.in-Ok.ensures.does.0) after trays' read.samples read.read (before bare plan begun (gone_on row) next ask.can ask.headers ask.next old.strip ask.room.strip trays trays' mid.ahead course.inputs course.trays stands.at.holds c.in-Ok.ensures.does.1) refusal
+          (subst (λ (s : PageParts). WritesRow plan row s racks' after (Err refusal)) same writes);
+    }
 
 pub returns-in-Err-clause-goes : goal.returns-in-Err-clause-goes
 returns-in-Err-clause-goes g c course none stands =
@@ -188,17 +143,15 @@ returns-in-Err-clause-goes g c course none stands =
     let plan = c.args.plan.now in
     let begun = c.args.plates.now in
     let row = c.args.row.now in
+    let next = c.args.next.now in
     let old = c.args.room.now in
     let trays = map g.T.Tray.state c.args.trays.now in
-    let racks = map g.R.Rack.state c.args.racks.now in
     let ask = c.requires in
-    let trays' = map g.T.Tray.state c.trap_and_read.new.trays in
-    record {
-      stops = reading_stops bare plan begun (gone_on row) c.args.next.now ask.can ask.headers ask.next old.strip ask.room.strip trays trays' c.trap_and_read.new.room.ahead course.inputs course.trays stands.holds c.in-Err.stop c.in-Err.ensures.read;
-      samples = stands.holds.samples;
-      between = trays;
-      read = stands.holds.read;
-      rows = core_top row;
-      few = (let a = ask.row.span.core in let i = ask.row.span.inside in let t = ask.can.rulers.tall in omega (arith, a, i, t));
-      written = stands.written;
-    }
+    let way = ask.way in
+    let trays' = map g.T.Tray.state c.trap_beside.new.trays in
+    let mid = c.trap_beside.new.room in
+    let did = c.trap_beside.ensures in
+    let last = c.args.last.now in
+    let racks = map g.R.Rack.state c.args.racks.now in
+    let racks' = map g.R.Rack.state c.trap_beside.new.racks in
+    stopped_beside bare plan begun last row next ask.can ask.headers ask.row ask.next old ask.room.strip mid.ahead trays trays' racks racks' course none stands c.in-Err.stop c.in-Err.ensures.does

@@ -1,9 +1,10 @@
 use Rattle.std.proofs.Common.{◌≡◌, ◌-◌, length, map}
-use Rattle.sheet_loop.specs.Courses.{Course, StandsAt}
+use Rattle.sheet_loop.specs.Courses.{AwaitsCore, Course}
 use Rattle.sheet_loop.specs.Going.{IsProgress, IsStripRow, gone_on}
 use Rattle.sheet_loop.specs.Rooms.{IsStreamRoom}
+use Rattle.sheet_loop.specs.Waiting.{IsWaiting}
 use Rattle.tile_counts.specs.declared.counts.SheetCounts.{SheetCounts}
-use Rattle.sheet_loop.proofs.strips.stream_on.Given as goal
+use Rattle.sheet_loop.proofs.strips.go_on.Given as goal
 
 abbrev pub invariant-loop-progress : goal.invariant-loop-progress
 invariant-loop-progress g l = record {
@@ -13,8 +14,9 @@ invariant-loop-progress g l = record {
   progress_is : l.progress ≡ gone_on l.row;
   progress_valid : IsProgress l.plan.down l.progress;
   room_is : IsStreamRoom l.bare l.plan l.room;
-  stands : (course : Course) (none : SheetCounts) → StandsAt course l.bare l.plan l.plates none l.first (map g.T.Tray.state l.fn.trays) (map g.R.Rack.state l.fn.racks) l.fn.room
-      → StandsAt course l.bare l.plan l.plates none l.row (map g.T.Tray.state l.trays) (map g.R.Rack.state l.racks) l.room;
+  waiting : IsWaiting l.plan l.last l.room.ahead l.room.core;
+  awaits : (course : Course) (none : SheetCounts) → AwaitsCore course l.bare l.plan l.plates none l.first l.second (map g.T.Tray.state l.fn.trays) (map g.R.Rack.state l.fn.racks) l.fn.room
+      → AwaitsCore course l.bare l.plan l.plates none l.last l.row (map g.T.Tray.state l.trays) (map g.R.Rack.state l.racks) l.room;
 }
 
 abbrev pub decreases-loop-progress : goal.decreases-loop-progress

@@ -1,0 +1,193 @@
+// The core of the strip before written and the next strip read, while the strip at hand is trapped.
+
+ghost use Rattle.std.specs.Prelude.{◌≡◌, ◌≤◌, length, map};
+ghost use Rattle.page_model.specs.Page.{plates};
+ghost use Rattle.sheet_loop.specs.Going.{IsStripRow, gone_on};
+ghost use Rattle.sheet_loop.specs.Reading.{CanReadRow};
+ghost use Rattle.sheet_loop.specs.Waiting.{IsWaiting, PlatesOpen, WritesAndReads};
+ghost use Rattle.strip_rows.specs.Cores.{WritesCore};
+ghost use Rattle.strip_rows.specs.OnSheet.{strip_cut};
+ghost use Rattle.strip_rows.specs.Ready.{IsTrappable, TrapsRow};
+
+use crate::ahead::read_row;
+use crate::room::{StreamRoom, no_parts};
+use crate::rows::{Progress, gone_on_by};
+use crate::stop::StreamStop;
+use outside::rack::Rack;
+use outside::tray::Tray;
+use page_model::parts::PageParts;
+use pgm_plates::rows::OpenPlate;
+use refusals::refusal::Refusal;
+use sheet_windows::spans::Span;
+use std::alloc::Global;
+use std::thread;
+use std::thread::Threads;
+use strip_rows::parts::StripPlan;
+use strip_rows::strip::{CoreRoom, trap_row, write_row};
+use window_pages::sheet::Sheet;
+
+/// Writes the rows of the core of a strip that waits for it, each plate by the rack of its number. It takes no memory.
+///
+/// Where a call of a rack fails, it stops with `Write` and the plate's number.
+pub fn write_waiting<R: Rack>(
+    alloc: Global,
+    racks: &mut [R],
+    plan: &StripPlan,
+    row: &Span,
+    strip: &mut PageParts,
+    core: &mut CoreRoom,
+) -> Result<(), Refusal>
+    requires racks { plates strip.old ≤ length racks.old }
+    requires opened { PlatesOpen plan.now strip.old (map R.state racks.old) }
+    requires waiting { IsWaiting plan.now row.now strip.old core.old }
+    ensures strip { strip.new ≡ strip.old }
+    ensures windows { core.new.windows ≡ core.old.windows }
+    ensures line { length core.new.line.items ≡ length core.old.line.items }
+    ensures bytes { length core.new.bytes.items ≡ length core.old.bytes.items }
+    ensures written { WritesCore (plates strip.old) plan.now.header strip.old
+        (strip_cut plan.now.across plan.now.down row.now) (map R.state racks.old)
+        (map R.state racks.new) result }
+{
+    let sheet = Sheet::of(std::mem::replace(strip, no_parts(alloc)));
+    let result = write_row(racks, plan, row, &sheet, core);
+    *strip = sheet.into_parts();
+    result
+}
+
+/// Writes the core of the strip that waits for it, each plate by the rack of its number, and makes it the next strip, each
+/// plate by the tray of its number. It takes no memory.
+///
+/// It stops where a call of a rack fails, with nothing read, and at the first plate that has a fault now or cannot be read.
+pub fn write_and_read<T: Tray, R: Rack>(
+    alloc: Global,
+    trays: &mut [T],
+    racks: &mut [R],
+    bare: &PageParts,
+    plan: &StripPlan,
+    plates: &[OpenPlate],
+    progress: &Progress,
+    last: &Span,
+    next: &Span,
+    strip: &PageParts,
+    ahead: &mut PageParts,
+    core: &mut CoreRoom,
+    bytes: &mut Vec<u8>,
+) -> Result<(), StreamStop>
+    requires opened { PlatesOpen plan.now ahead.old (map R.state racks.old) }
+    requires waiting { IsWaiting plan.now last.now ahead.old core.old }
+    requires can { CanReadRow bare.now plan.now plates.now progress.now next.now
+        (map T.state trays.old) strip.now ahead.old }
+    requires trays { length plates.now ≤ length trays.old }
+    requires count { length ahead.old.planes ≡ length plates.now }
+    requires racks { length plates.now ≤ length racks.old }
+    requires bytes { 2 ≤ length bytes.old.items }
+    ensures windows { core.new.windows ≡ core.old.windows }
+    ensures line { length core.new.line.items ≡ length core.old.line.items }
+    ensures spelled { length core.new.bytes.items ≡ length core.old.bytes.items }
+    ensures bytes { length bytes.new.items ≡ length bytes.old.items }
+    ensures does { WritesAndReads bare.now plan.now plates.now progress.now last.now next.now
+        strip.now ahead.old ahead.new (map T.state trays.old) (map T.state trays.new)
+        (map R.state racks.old) (map R.state racks.new) result }
+{
+    match write_waiting(alloc, racks, plan, last, ahead, core) {
+        Ok(()) => match read_row(
+            alloc, trays, bare, plan, plates, progress, next, strip, ahead, bytes,
+        ) {
+            Ok(()) => Ok(()),
+            Err(stop) => Err(StreamStop::Unread(stop)),
+        },
+        Err(refusal) => Err(StreamStop::Unwritten(refusal)),
+    }
+}
+
+/// Traps the strip at hand and counts its core, writes the core of the strip before it, which waits for that, and makes the
+/// next strip: the writing and then the reading in the caller's thread, beside the trapping; by one worker one after the
+/// other. It takes no memory but that of threads.
+///
+/// It stops where a call of a rack fails, with nothing read, and at the first plate that has a fault now or cannot be read.
+pub fn trap_beside<H: Threads + Sync, T: Tray, R: Rack>(
+    rt: &H,
+    alloc: Global,
+    trays: &mut [T],
+    racks: &mut [R],
+    bare: &PageParts,
+    plan: &StripPlan,
+    plates: &[OpenPlate],
+    last: &Span,
+    row: &Span,
+    next: &Span,
+    room: &mut StreamRoom,
+) -> Result<(), StreamStop>
+    requires row { IsStripRow plan.now.down row.now }
+    requires trap { IsTrappable plan.now row.now room.old.strip room.old.windows
+        room.old.counts }
+    requires opened { PlatesOpen plan.now room.old.ahead (map R.state racks.old) }
+    requires waiting { IsWaiting plan.now last.now room.old.ahead room.old.core }
+    requires can { CanReadRow bare.now plan.now plates.now (gone_on row.now) next.now
+        (map T.state trays.old) room.old.strip room.old.ahead }
+    requires trays { length plates.now ≤ length trays.old }
+    requires count { length room.old.ahead.planes ≡ length plates.now }
+    requires racks { length plates.now ≤ length racks.old }
+    requires pieces { 2 ≤ length room.old.pieces.items }
+    ensures strip { room.new.strip ≡ room.old.strip }
+    ensures trapped { TrapsRow plan.now row.now room.old.strip room.old.windows
+        room.new.windows room.old.counts room.new.counts }
+    ensures windows { room.new.core.windows ≡ room.old.core.windows }
+    ensures line { length room.new.core.line.items ≡ length room.old.core.line.items }
+    ensures bytes { length room.new.core.bytes.items ≡ length room.old.core.bytes.items }
+    ensures pieces { length room.new.pieces.items ≡ length room.old.pieces.items }
+    ensures does { WritesAndReads bare.now plan.now plates.now (gone_on row.now) last.now next.now
+        room.old.strip room.old.ahead room.new.ahead (map T.state trays.old)
+        (map T.state trays.new) (map R.state racks.old) (map R.state racks.new) result }
+{
+    let progress = &gone_on_by(&plan.down, row);
+    let strip = &room.strip;
+    let parts = strip.parts();
+    let windows = &mut room.windows;
+    let counts = &mut room.counts;
+    let ahead = &mut room.ahead;
+    let core = &mut room.core;
+    let pieces = &mut room.pieces;
+    if plan.workers == 1 {
+        trap_row(rt, plan, row, strip, windows, counts);
+        return write_and_read(
+            alloc, trays, racks, bare, plan, plates, progress, last, next, parts, ahead, core,
+            pieces,
+        );
+    }
+    let (_, result) = thread::join_mut(
+        rt,
+        &mut ||
+            requires { IsTrappable plan.now row.now strip.now windows.now counts.now }
+            ensures { TrapsRow plan.entry.now row.entry.now strip.entry.now windows.entry.now
+                windows.exit.now counts.entry.now counts.exit.now }
+        { trap_row(rt, plan, row, strip, windows, counts) },
+        &mut || -> Result<(), StreamStop>
+            requires opened { PlatesOpen plan.now ahead.now (map R.state racks.now) }
+            requires waiting { IsWaiting plan.now last.now ahead.now core.now }
+            requires can { CanReadRow bare.now plan.now plates.now progress.now next.now
+                (map T.state trays.now) parts.now ahead.now }
+            requires trays { length plates.now ≤ length trays.now }
+            requires count { length ahead.now.planes ≡ length plates.now }
+            requires racks { length plates.now ≤ length racks.now }
+            requires pieces { 2 ≤ length pieces.now.items }
+            ensures windows { core.exit.now.windows ≡ core.entry.now.windows }
+            ensures line { length core.exit.now.line.items
+                ≡ length core.entry.now.line.items }
+            ensures bytes { length core.exit.now.bytes.items
+                ≡ length core.entry.now.bytes.items }
+            ensures pieces { length pieces.exit.now.items ≡ length pieces.entry.now.items }
+            ensures does { WritesAndReads bare.entry.now plan.entry.now plates.entry.now
+                progress.entry.now last.entry.now next.entry.now parts.entry.now
+                ahead.entry.now ahead.exit.now (map T.state trays.entry.now)
+                (map T.state trays.exit.now) (map R.state racks.entry.now)
+                (map R.state racks.exit.now) result }
+        {
+            write_and_read(
+                alloc, trays, racks, bare, plan, plates, progress, last, next, parts, ahead, core,
+                pieces,
+            )
+        },
+    );
+    result
+}
