@@ -132,12 +132,3 @@ impl<T: Drop> List<T> {
         self.items.retain(test)
     }
 }
-
-/// Puts one number in so many places of a list, from one on. All else stays.
-pub fn fill(list: &mut List<u16>, from: usize, count: usize, number: u16)
-    requires { from + count ≤ length list.old }
-    ensures { list.new
-        ≡ take from list.old ++ (replicate count number ++ drop (from + count) list.old) }
-{
-    list.items.as_mut_slice()[from..from + count].fill(number);
-}

@@ -1,4 +1,4 @@
-use crate::list::{List, fill};
+use crate::list::List;
 use crate::names::{copied, same_name};
 use std::test::Fail;
 
@@ -22,13 +22,5 @@ fn a_copy_has_the_bytes_of_its_name(rt: HostRuntime) -> Result<(), Fail> {
     let name = copied(rt.alloc(), b"Cyan").or(Err("memory"))?;
     assert!(rt; same_name(name.as_slice(), b"Cyan"));
     assert!(rt; !same_name(name.as_slice(), b"Cya"));
-    Ok(())
-}
-
-#[test]
-fn a_fill_writes_its_places_alone(rt: HostRuntime) -> Result<(), Fail> {
-    let mut list = List::from_vec(vec![in rt.alloc(); 7u16; 4].or(Err("memory"))?);
-    fill(&mut list, 1, 2, 5);
-    assert_eq!(rt; list.as_slice(), [7, 5, 5, 7].as_slice());
     Ok(())
 }

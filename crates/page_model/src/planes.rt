@@ -1,8 +1,7 @@
-ghost use Rattle.std.specs.Prelude.{◌+◌, ◌<◌, ◌≤◌, length};
-ghost use Rattle.page_model.specs.Planes.{PutRun, PutTint, tints_of};
+ghost use Rattle.std.specs.Prelude.{◌<◌, length};
+ghost use Rattle.page_model.specs.Planes.{PutTint, tints_of};
 
 use crate::parts::PlaneList;
-use lists::list::fill;
 
 /// Puts a tint in a place of plane c's list. All else stays.
 pub fn set_tint(planes: &mut PlaneList, c: usize, place: usize, tint: u16)
@@ -12,14 +11,4 @@ pub fn set_tint(planes: &mut PlaneList, c: usize, place: usize, tint: u16)
 {
     let plane = planes.item_mut(c);
     let _old = plane.tints.set(place, tint);
-}
-
-/// Puts one tint in so many places of plane c's list, from one on. All else stays.
-pub fn set_run(planes: &mut PlaneList, c: usize, from: usize, count: usize, tint: u16)
-    requires plane { c < length planes.old }
-    requires places { from + count ≤ length (tints_of planes.old c) }
-    ensures { PutRun planes.old planes.new c from count tint }
-{
-    let plane = planes.item_mut(c);
-    fill(&mut plane.tints, from, count, tint);
 }
