@@ -1,11 +1,12 @@
 -- The page that stands in for a job and its plates: tiles of eight samples a side in eight colours.
-use Rattle.std.specs.Prelude.{ℕ, ◌+◌, ◌*◌, ◌/◌, ◌%◌, List, [], ◌∷◌, slice_index, codes, true}
+use Rattle.std.specs.Prelude.{ℕ, ◌+◌, ◌*◌, ◌/◌, ◌%◌, List, [], ◌∷◌, slice_index, codes}
 use Rattle.page_model.specs.declared.parts.Ink.{Ink}
 use Rattle.page_model.specs.declared.parts.InkKind.TheVariants.{Normal}
 use Rattle.page_model.specs.declared.parts.PageParts.{PageParts}
 use Rattle.page_model.specs.declared.parts.Plane.{Plane}
 use Rattle.page_model.specs.declared.parts.TrapParams.{TrapParams}
 use Rattle.page_model.specs.declared.parts.Zone.{Zone}
+use Rattle.page_model.specs.Parameters.{usual_params}
 use Rattle.lists.specs.Words.{list_below}
 
 -- the colour of the sample (x, y), from 0 to 7: that of its tile
@@ -53,17 +54,7 @@ normal_ink name density = record { name = name; density = density; kind = Normal
 
 -- the usual parameters, with a trap width of 0.75 points
 abbrev pub sample_params : TrapParams
-sample_params =
-    record {
-      trap_width = 7500;
-      black_width = 10000;
-      black_color_limit = 9500;
-      black_density_limit = 16000;
-      step_limit = 2500;
-      sliding_trap_limit = 7000;
-      trap_color_scaling = 10000;
-      enabled = true;
-    }
+sample_params = record usual_params { trap_width = 7500 }
 
 -- zone 0, with no path and no limit of its own
 abbrev pub sample_zone : Zone
