@@ -55,7 +55,7 @@ def kind_of(pid):
     crate = words[words.index("--crate-name") + 1]
     if "--test" in words or "--tests" in words:
         return crate, "tests"
-    return crate, "edits" if "/rt-edit-" in folder_of(pid) else "proof"
+    return crate, "edits" if "/rt-edit" in folder_of(pid) else "proof"
 
 
 def look(root, taken, known):
