@@ -147,8 +147,8 @@ pub record FailsLater (order : SheetWords) (trays trays' : List TrayState)
 -- first reading no file is created or changed; in the second of each plate a prefix stands of what
 -- the verdict asks for, or nothing. At every status each tray was asked for a prefix of its own
 -- files alone, its plate twice at most, and no more was taken of the one in hand than is owed. A
--- failed write and out of memory pass no fault of a tray over. Where memory ran out no plate was read
--- twice, but of a sheet that no strips of one height can be cut of.
+-- failed write and out of memory pass no fault of a tray over. Where memory ran out no plate was
+-- read twice, but of a sheet that no strips of one height can be cut of.
 pub record ReadFault (words : List (List ℕ)) (trays trays' : List TrayState)
     (racks racks' : List RackState) (status : ℕ) : Type 0 where
   pub cause : status ≡ not_read
