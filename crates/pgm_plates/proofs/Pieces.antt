@@ -2,7 +2,7 @@
 use Rattle.std.proofs.Common.{◌≡◌, ◌⊎◌, ℕ, ◌<◌, ◌≤◌, ◌+◌, ◌*◌, ◌/◌, ◌%◌, max, true, false, cond, ltb, leb, List, [], ◌∷◌, ◌++◌, length, take, drop, get_or, IsTrue, refl, sym, ap, ◌∙◌, subst, inl, inr, arith}
 use Rattle.std.proofs.lemmas.Bool.{le-ltb, cond-false}
 use Rattle.std.proofs.lemmas.Bool.Decides.{nat_tests}
-use Rattle.std.proofs.lemmas.List.{append_assoc, append-nil, take-append-drop, take_all, length-append, length-take-le, drop_more, length-drop}
+use Rattle.std.proofs.lemmas.List.{append_assoc, append-nil, take-append-drop, take_all, length-append, length-take-le, drop_more}
 use Rattle.std.proofs.lemmas.List.Elements.{All-weaker, All-more, All-same, All-append}
 use Rattle.std.proofs.Math.Nat.{add-mul, mul-le-mul_right}
 use Rattle.std.specs.List.{All, flat_map}
@@ -51,14 +51,14 @@ wide_raster maxval (s ∷ samples) wide =
     ap (λ (x : List ℕ). x ++ raster maxval samples) (cond-false (ltb maxval 256) (s ∷ []) (s / 256 ∷ s % 256 ∷ []) wide)
     ∙ ap (λ (x : List ℕ). (s / 256 ∷ s % 256 ∷ []) ++ x) (wide_raster maxval samples wide)
 
-pub decoded_wide : (maxval : ℕ) (bytes samples : List ℕ) → 256 ≤ maxval → length samples ≡ length bytes / 2 → take (2 * length samples) bytes ≡ flat_map (λ (s : ℕ). s / 256 ∷ s % 256 ∷ []) samples → IsDecoded maxval bytes samples
-decoded_wide maxval bytes samples big count same =
+pub decoded_wide : (maxval : ℕ) (bytes samples half : List ℕ) → 256 ≤ maxval → bytes ≡ flat_map (λ (s : ℕ). s / 256 ∷ s % 256 ∷ []) samples ++ half → length half < 2 → IsDecoded maxval bytes samples
+decoded_wide maxval bytes samples half big same short =
     let wide : ltb maxval 256 ≡ false = le-ltb maxval 256 big in
     let two : sample_size maxval ≡ 2 = cond-false (ltb maxval 256) 1 2 wide in
     record {
-      half = drop (2 * length samples) bytes;
-      whole = sym (take-append-drop (2 * length samples) bytes) ∙ ap (λ (x : List ℕ). x ++ drop (2 * length samples) bytes) (same ∙ sym (wide_raster maxval samples wide));
-      short = omega (arith, two, length-drop (2 * length samples) bytes, count);
+      half = half;
+      whole = same ∙ ap (λ (x : List ℕ). x ++ half) (sym (wide_raster maxval samples wide));
+      short = omega (arith, two, short);
     }
 
 -- where one sample of a piece is above the maxval
@@ -111,6 +111,11 @@ piece_part maxval count bytes samples decoded fit within =
       short = decoded.short;
       few = few_samples (length samples) (length decoded.half) count (sample_size maxval) (omega (arith, sized maxval bytes samples decoded)) decoded.short (one_or_two maxval);
     }
+
+pub few_decoded : (maxval count : ℕ) (bytes samples : List ℕ) → IsDecoded maxval bytes samples → length bytes ≤ count * sample_size maxval → length samples ≤ count
+few_decoded maxval count bytes samples decoded within =
+    let few = few_samples (length samples) (length decoded.half) count (sample_size maxval) (omega (arith, sized maxval bytes samples decoded)) decoded.short (one_or_two maxval) in
+    omega (arith, few)
 
 whole_count : (n k count size : ℕ) → n * size + k ≡ count * size → k < size → ((size ≡ 1) ⊎ (size ≡ 2)) → (n ≡ count) × (k ≡ 0)
 whole_count n k count size is short (inl one) =
@@ -228,21 +233,19 @@ room_refused maxval count want start a b c xs ys took few taken =
       subst (λ (n : ℕ). n ≤ count * sample_size maxval) (sym size) (mul-le-mul_right (sample_size maxval) all),
     )
 
-pub within_room : (buf : List ℕ) (filled count n size : ℕ) → filled ≤ length buf → length buf ≡ n * size → count ≡ n → length (take filled buf) ≤ count * size
-within_room buf filled count n size le room same =
-    subst (λ (k : ℕ). length (take filled buf) ≤ k * size) (sym same) (omega (arith, length-take-le filled buf le))
+pub within_room : (buf : List ℕ) (filled count size : ℕ) → filled ≤ length buf → length buf ≡ count * size → length (take filled buf) ≤ count * size
+within_room buf filled count size le room = omega (arith, length-take-le filled buf le)
 
-pub short_of_room : (buf : List ℕ) (filled count n size : ℕ) → filled < length buf → length buf ≡ n * size → count ≡ n → length (take filled buf) < count * size
-short_of_room buf filled count n size less room same =
-    subst (λ (k : ℕ). length (take filled buf) < k * size) (sym same) (omega (arith, length-take-le filled buf (let le : filled ≤ length buf = omega arith in le)))
+pub short_of_room : (buf : List ℕ) (filled count size : ℕ) → filled < length buf → length buf ≡ count * size → length (take filled buf) < count * size
+short_of_room buf filled count size less room = omega (arith, length-take-le filled buf (let le : filled ≤ length buf = omega arith in le))
 
-pub taken_whole : (maxval n : ℕ) (bytes samples rest : List ℕ) (a b : TrayState) → Takes bytes a b → IsDecoded maxval bytes samples → Fit maxval samples → length bytes ≡ n * sample_size maxval → length (samples ++ rest) ≡ n → RasterTaken maxval (length (samples ++ rest)) a b (samples ++ rest)
-taken_whole maxval n bytes samples rest a b took decoded fit all same =
-    let whole = piece_whole maxval n bytes samples decoded all in
-    let none : rest ≡ [] = empty rest (omega (arith, length-append samples rest, whole.1)) in
-    let is : samples ≡ samples ++ rest = sym (append-nil samples) ∙ ap (λ (x : List ℕ). samples ++ x) (sym none) in
-    record {
-      takes = takes_as bytes (raster maxval (samples ++ rest)) a b (whole.0 ∙ ap (raster maxval) is) took;
-      fit = subst (Fit maxval) is fit;
-      all = refl;
-    }
+pub taken_whole : (maxval count : ℕ) (bytes samples : List ℕ) (a b : TrayState) → Takes bytes a b → IsDecoded maxval bytes samples → Fit maxval samples → length bytes ≡ count * sample_size maxval → RasterTaken maxval count a b samples
+taken_whole maxval count bytes samples a b took decoded fit all =
+    let whole = piece_whole maxval count bytes samples decoded all in
+    record { takes = takes_as bytes (raster maxval samples) a b whole.0 took; fit = fit; all = whole.1 }
+
+-- The same samples, counted by themselves.
+pub taken_as : (maxval count : ℕ) (a b : TrayState) (xs ys : List ℕ) → ys ≡ xs → RasterTaken maxval count a b xs → RasterTaken maxval (length ys) a b ys
+taken_as maxval count a b xs ys is taken =
+    let same = subst (λ (l : List ℕ). RasterTaken maxval count a b l) (sym is) taken in
+    record { takes = same.takes; fit = same.fit; all = refl }

@@ -1,6 +1,6 @@
 -- A plate that is read row by row: what each of its calls makes of what was read so far.
-use Rattle.std.proofs.Common.{◌≡◌, ℕ, ◌≤◌, ◌+◌, ◌*◌, List, [], ◌∷◌, ◌++◌, length, take, Some, Result, Ok, Err, IsTrue, refl, sym, ap, ◌∙◌, subst, arith}
-use Rattle.std.proofs.lemmas.List.{append_assoc, length-append, length-take-le, take_all}
+use Rattle.std.proofs.Common.{◌≡◌, ℕ, ◌≤◌, ◌+◌, ◌*◌, List, [], ◌∷◌, ◌++◌, length, replicate, take, Some, Result, Ok, Err, IsTrue, refl, sym, ap, ◌∙◌, subst, arith}
+use Rattle.std.proofs.lemmas.List.{append_assoc, length-append, length-replicate, length-take-le, take_all}
 use Rattle.std.proofs.lemmas.List.Elements.{All-append}
 use borrow.Rule.Slice.PartMut.{put_mid}
 use Rattle.outside.specs.declared.tray.Failed.{Failed}
@@ -16,11 +16,11 @@ use Rattle.pgm_plates.specs.declared.rows.OpenPlate.{OpenPlate}
 use Rattle.pgm_plates.specs.Laws.{TopOfFileWithin}
 use Rattle.pgm_plates.specs.Plates.{sample_bytes, sample_size, raster}
 use Rattle.pgm_plates.specs.Reading.{KeepsCount, ReadsPlateWithin}
-use Rattle.pgm_plates.specs.Readers.{Answers, EndsFile, Fit, HeaderRead, OpensPlate, RasterRefused, RasterTaken, ReadsPiece}
-use Rattle.pgm_plates.specs.Rows.{BeginsPlate, EndsPlate, HasRead, ReadsRows, plate_with, samples_of}
+use Rattle.pgm_plates.specs.Readers.{Answers, EndsFile, Fit, HeaderRead, OpensPlate, RasterRefused, RasterTaken, ReadsPiece, ReadsUnkept}
+use Rattle.pgm_plates.specs.Rows.{BeginsPlate, EndsPlate, HasRead, ReadsRows, ReadsSome, plate_with, samples_of}
 use Rattle.pgm_plates.proofs.Decisions.{one_sample}
 use Rattle.pgm_plates.proofs.Headers.{takes_none}
-use Rattle.pgm_plates.proofs.Pieces.{refused_on, taken_on}
+use Rattle.pgm_plates.proofs.Pieces.{refused_on, taken_as, taken_on}
 use Rattle.pgm_plates.proofs.Prefixes.{clean_header}
 use Rattle.pgm_plates.proofs.Shapes.{one_header}
 use Rattle.pgm_plates.proofs.Wholes.{begun_then, end_refused, kept_count, plate_read, raster_refused}
@@ -63,6 +63,28 @@ filled_refused maxval count start place done want a b c buf refusal le few is to
     let size : length (take done buf) ≡ done = length-take-le done buf le in
     refused_on maxval count want start a b c (take done buf) refusal took fit (omega arith)
     (subst (λ (n : ℕ). RasterRefused maxval want n b c refusal) (is ∙ ap (λ (n : ℕ). start + n * sample_size maxval) (sym size)) r)
+
+-- Samples of which none is kept: so many more, and a refusal behind them.
+abbrev pub Unkept : ℕ → ℕ → TrayState → TrayState → Type 0
+Unkept maxval count a b = (samples : List ℕ) × RasterTaken maxval count a b samples
+
+pub unkept_none : (maxval : ℕ) (a : TrayState) → IsTrue a.begun → Unkept maxval 0 a a
+unkept_none maxval a begun = ([], record { takes = takes_none a begun; fit = λ k d less. absurd (omega arith); all = refl })
+
+pub unkept_more : (maxval done want : ℕ) (a b c : TrayState) (ys : List ℕ) → Unkept maxval done a b → RasterTaken maxval want b c ys → Unkept maxval (done + want) a c
+unkept_more maxval done want a b c ys one more = (
+  one.0 ++ ys,
+  record {
+    takes = taken_on maxval want a b c one.0 ys one.1.takes more;
+    fit = All-append (λ (s : ℕ). s ≤ maxval) one.0 ys one.1.fit more.fit;
+    all = length-append one.0 ys ∙ ap (λ (n : ℕ). n + length ys) one.1.all ∙ ap (λ (n : ℕ). done + n) more.all;
+  },
+)
+
+pub unkept_refused : (maxval count done want start place : ℕ) (a b c : TrayState) (refusal : PlateRefusal) → done + want ≤ count → place ≡ start + done * sample_size maxval → Unkept maxval done a b → RasterRefused maxval want place b c refusal → RasterRefused maxval count start a c refusal
+unkept_refused maxval count done want start place a b c refusal few is one r =
+    refused_on maxval count want start a b c one.0 refusal one.1.takes one.1.fit (omega (arith, one.1.all))
+    (subst (λ (n : ℕ). RasterRefused maxval want n b c refusal) (is ∙ ap (λ (n : ℕ). start + n * sample_size maxval) (sym one.1.all)) r)
 
 module _ (bounds : Bounds) where
   header_read : (name : List ℕ) (a b : TrayState) (plate : OpenPlate) (samples : List ℕ) (has : HasRead bounds name a b plate samples) → HeaderRead bounds has.begun has.headed plate.header plate.size
@@ -160,6 +182,13 @@ rows_answered plate done start rows b c (Ok x) place piece count bounds name a s
 rows_answered plate done start rows b c (Err refusal) place piece count bounds name a samples has same few =
     rows_refused bounds name a b c plate samples rows refusal has (omega (arith, same, few))
     (subst (λ (n : ℕ). RasterRefused plate.header.maxval (length rows) n b c refusal) (place ∙ ap (λ (n : ℕ). plate.size + n * sample_size plate.header.maxval) (sym same)) piece) count
+
+pub unkept_answered : (plate : OpenPlate) (done count start : ℕ) (b c : TrayState) (result : Result (Unit {0}) PlateRefusal) → start ≡ plate.size + done * sample_size plate.header.maxval → ReadsUnkept plate.header.maxval count start b c result → KeepsCount b c result → ReadsSome plate done count b c result
+unkept_answered plate done count start b c (Ok x) place read kept =
+    (read.0, read.1.all, rows_answered plate done start read.0 b c (Ok x) place (taken_as plate.header.maxval count b c read.0 read.0 refl read.1) kept)
+unkept_answered plate done count start b c (Err refusal) place read kept =
+    let long = length-replicate count 0 in
+    (replicate count 0, long, rows_answered plate done start (replicate count 0) b c (Err refusal) place (subst (λ (n : ℕ). RasterRefused plate.header.maxval n start b c refusal) (sym long) read.1) kept)
 
 pub end_answered : (plate : OpenPlate) (at : ℕ) (b c : TrayState) (result : Result (Unit {0}) PlateRefusal) → at ≡ plate.size + samples_of plate.header * sample_size plate.header.maxval → EndsFile at b c result → KeepsCount b c result → EndsPlate plate b c result
 end_answered plate at b c (Ok x) place ends count bounds name a samples has all = plate_ended bounds name a b c plate samples x has all ends count

@@ -1,6 +1,6 @@
 -- What the parts of the reader do. No public clause cites this file.
 use Rattle.std.specs.Prelude.{◌≡◌, ℕ, ◌+◌, ◌*◌, ◌<◌, ◌≤◌, List, [], ◌∷◌, ◌++◌, length, take}
-use Rattle.std.specs.Prelude.{slice_index, Result, Ok, Err}
+use Rattle.std.specs.Prelude.{nat_lt, if◌then◌else◌, slice_index, Result, Ok, Err}
 use Rattle.std.specs.List.{All}
 use Rattle.outside.specs.Causes.{Rose}
 use Rattle.outside.specs.Tray.{TrayState}
@@ -53,6 +53,15 @@ OpensPlate bounds before after (Err refusal) = Answers bounds before after (Err 
 
 abbrev pub Fit : ℕ → List ℕ → Type 0
 Fit maxval samples = All (λ (s : ℕ). s ≤ maxval) samples
+
+-- the samples of two bytes each that these bytes spell
+abbrev pub wide_samples : List ℕ → List ℕ
+wide_samples (high ∷ low ∷ bytes) = (high * 256 + low) ∷ wide_samples bytes
+wide_samples other = []
+
+-- the whole samples that these bytes spell
+abbrev pub samples_spelled : ℕ → List ℕ → List ℕ
+samples_spelled maxval bytes = if nat_lt maxval 256 then bytes else wide_samples bytes
 
 -- samples that fit, and a byte of one more or none
 pub record IsPart (maxval count : ℕ) (bytes : List ℕ) : Type 0 where
@@ -122,6 +131,19 @@ pub record IsDecoded (maxval : ℕ) (bytes samples : List ℕ) : Type 0 where
   pub half : List ℕ
   pub whole : bytes ≡ raster maxval samples ++ half
   pub short : length half < sample_size maxval
+
+-- What is read of a piece whose bytes are these, however many samples it has room for.
+abbrev pub JudgesPiece : ℕ → List ℕ → ℕ → TrayState → TrayState → Result (Unit {0}) PlateRefusal
+    → Type 0
+JudgesPiece maxval bytes start before after result =
+    (count : ℕ) → length bytes ≡ count * sample_size maxval
+    → ReadsPiece maxval count start before after result (samples_spelled maxval bytes)
+
+-- So many samples are read, whatever they are, or they are refused.
+abbrev pub ReadsUnkept : ℕ → ℕ → ℕ → TrayState → TrayState → Result (Unit {0}) PlateRefusal
+    → Type 0
+ReadsUnkept maxval count start before after result =
+    (samples : List ℕ) × ReadsPiece maxval count start before after result samples
 
 -- the first sample that does not fit
 pub record FirstAbove (maxval : ℕ) (samples : List ℕ) (place : ℕ) : Type 0 where

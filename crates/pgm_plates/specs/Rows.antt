@@ -86,6 +86,12 @@ ReadsRows plate done rows before after result =
     → done + length rows ≤ samples_of plate.header
     → HasReadOr bounds name start after plate (samples ++ rows) result
 
+-- After so many samples that were read, so many more are read, whatever they are.
+abbrev pub ReadsSome : OpenPlate → ℕ → ℕ → TrayState → TrayState → Result (Unit {0}) PlateRefusal
+    → Type 0
+ReadsSome plate done count before after result =
+    (rows : List ℕ) × (length rows ≡ count) × ReadsRows plate done rows before after result
+
 -- what the plate's reading comes to, by what stands after its raster
 abbrev pub ended : Plate → Result (Unit {0}) PlateRefusal → Result Plate PlateRefusal
 ended plate (Ok done) = Ok plate

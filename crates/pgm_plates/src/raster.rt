@@ -5,10 +5,10 @@ ghost use Rattle.pgm_plates.specs.Limits.{most_header};
 ghost use Rattle.pgm_plates.specs.Plates.{sample_size as bytes_of_sample};
 ghost use Rattle.pgm_plates.specs.Images.{IsNearRefusal};
 ghost use Rattle.pgm_plates.specs.Reading.{KeepsCount};
-ghost use Rattle.pgm_plates.specs.Readers.{ReadsPiece, ReadsRaster};
+ghost use Rattle.pgm_plates.specs.Readers.{JudgesPiece, ReadsPiece, ReadsRaster};
 
 use crate::plate::{PlateFault, PlateRefusal};
-use crate::samples::{sample_size, take_samples};
+use crate::samples::{decode, first_above, sample_size};
 use lists::list::List;
 use outside::tray::{Failed, Tray};
 use page_model::parts::Tints;
@@ -136,13 +136,38 @@ pub fn read_piece<T: Tray>(
     ensures uncut { 0 < start → result ≢ Err (PlateRefusal.Fault (PlateFault.Truncated 0)) }
     ensures memory { result ≢ Err PlateRefusal.OutOfMemory }
 {
-    let size = sample_size(maxval);
+    match judge_piece(tray, bytes, maxval, start) {
+        Ok(()) => {
+            decode(bytes, maxval, samples);
+            Ok(())
+        }
+        Err(refusal) => Err(refusal),
+    }
+}
+
+/// Reads as many bytes as there is room for, and judges the samples that they spell.
+pub fn judge_piece<T: Tray>(
+    tray: &mut T,
+    bytes: &mut [u8],
+    maxval: u32,
+    start: u64,
+) -> Result<(), PlateRefusal>
+    requires begun { IsTrue (T.state tray.old).begun }
+    requires start { start < 2 ^ 40 }
+    requires room { length bytes.old ≤ 2 ^ 37 }
+    ensures answer { let bytes = bytes.new in
+        JudgesPiece maxval bytes start (T.state tray.old) (T.state tray.new) result }
+    ensures begun { IsTrue (T.state tray.new).begun }
+    ensures count { KeepsCount (T.state tray.old) (T.state tray.new) result }
+    ensures near { IfErr result IsNearRefusal }
+    ensures uncut { 0 < start → result ≢ Err (PlateRefusal.Fault (PlateFault.Truncated 0)) }
+    ensures memory { result ≢ Err PlateRefusal.OutOfMemory }
+{
     let (filled, end) = fill(tray, bytes);
-    let whole = filled / size;
     // What was filled before the file ended or a read failed is judged first.
-    match take_samples(&bytes[..filled], maxval, &mut samples[..whole]) {
+    match first_above(&bytes[..filled], maxval) {
         Some(place) => Err(PlateRefusal::Fault(PlateFault::SampleAboveMaxval(
-            start + (place * size) as u64,
+            start + (place * sample_size(maxval)) as u64,
         ))),
         None => match end {
             Filled::Whole => Ok(()),

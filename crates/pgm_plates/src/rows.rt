@@ -1,13 +1,13 @@
 ghost use Rattle.std.specs.Prelude.{IsTrue, ◌≢◌, ◌≤◌, ◌+◌, ◌^◌, length, Err};
 ghost use Rattle.pgm_plates.specs.Limits.{most_header};
-ghost use Rattle.pgm_plates.specs.Readers.{OpensPlate, ReadsPiece};
+ghost use Rattle.pgm_plates.specs.Readers.{OpensPlate, ReadsPiece, ReadsUnkept};
 ghost use Rattle.pgm_plates.specs.Reading.{KeepsCount};
-ghost use Rattle.pgm_plates.specs.Rows.{BeginsPlate, EndsPlate, ReadsRows, samples_of};
+ghost use Rattle.pgm_plates.specs.Rows.{BeginsPlate, EndsPlate, ReadsRows, ReadsSome, samples_of};
 
 use crate::bounds::Bounds;
 pub use crate::header::Header;
 use crate::plate::PlateRefusal;
-use crate::raster::read_piece;
+use crate::raster::{judge_piece, read_piece};
 use crate::reading::{end_of_file, read_header};
 use crate::samples::sample_size;
 use outside::tray::{Failed, Tray};
@@ -72,6 +72,28 @@ pub fn read_rows<T: Tray>(
     fill_samples(tray, samples, bytes, maxval, start)
 }
 
+/// Reads the next `count` samples of a plate, of which so many were read before, and keeps none of them: it judges their
+/// bytes, as many at once as there is room for in `bytes`.
+pub fn judge_rows<T: Tray>(
+    tray: &mut T,
+    plate: OpenPlate,
+    done: u64,
+    count: u64,
+    bytes: &mut [u8],
+) -> Result<(), PlateRefusal>
+    requires begun { IsTrue (T.state tray.old).begun }
+    requires header { plate.size ≤ most_header }
+    requires count { done + count ≤ 2 ^ 36 }
+    requires room { 2 ≤ length bytes.old }
+    ensures rows { ReadsSome plate done count (T.state tray.old) (T.state tray.new) result }
+    ensures begun { IsTrue (T.state tray.new).begun }
+    ensures memory { result ≢ Err PlateRefusal.OutOfMemory }
+{
+    let maxval = plate.header.maxval;
+    let start = plate.size + done * sample_size(maxval) as u64;
+    judge_samples(tray, count, bytes, maxval, start)
+}
+
 /// Looks for what stands after the last sample of a plate: nothing, if it is a whole plate file.
 pub fn end_plate<T: Tray>(tray: &mut T, plate: OpenPlate) -> Result<(), PlateRefusal>
     requires begun { IsTrue (T.state tray.old).begun }
@@ -118,6 +140,41 @@ fn fill_samples<T: Tray>(
             &mut bytes[..want * size],
             maxval,
             start + (done * size) as u64,
+        ) {
+            Ok(()) => done += want,
+            Err(refusal) => return Err(refusal),
+        }
+    }
+    Ok(())
+}
+
+// Judges so many samples.
+fn judge_samples<T: Tray>(
+    tray: &mut T,
+    count: u64,
+    bytes: &mut [u8],
+    maxval: u32,
+    start: u64,
+) -> Result<(), PlateRefusal>
+    requires begun { IsTrue (T.state tray.old).begun }
+    requires start { start ≤ 2 ^ 38 }
+    requires count { count ≤ 2 ^ 36 }
+    requires room { 2 ≤ length bytes.old }
+    ensures answer { ReadsUnkept maxval count start (T.state tray.old) (T.state tray.new) result }
+    ensures begun { IsTrue (T.state tray.new).begun }
+    ensures count { KeepsCount (T.state tray.old) (T.state tray.new) result }
+    ensures memory { result ≢ Err PlateRefusal.OutOfMemory }
+{
+    let size = sample_size(maxval);
+    let most = (bytes.len() / size) as u64;
+    let mut done = 0u64;
+    while done < count {
+        let want = most.min(count - done);
+        match judge_piece(
+            tray,
+            &mut bytes[..want as usize * size],
+            maxval,
+            start + done * size as u64,
         ) {
             Ok(()) => done += want,
             Err(refusal) => return Err(refusal),

@@ -1,7 +1,7 @@
-ghost use Rattle.std.specs.Prelude.{IsTrue, ◌≡◌, ◌≤◌, ◌<◌, ◌*◌, ◌/◌, ◌%◌, ◌+◌, ◌++◌, ◌∷◌, [], length, take, IfNone, IfSome, ◌↔◌};
-ghost use Rattle.std.specs.List.{flat_map};
+ghost use Rattle.std.specs.Prelude.{IsTrue, ◌≡◌, ◌≤◌, ◌<◌, ◌+◌, ◌*◌, ◌/◌, length, slice_index, IfNone, IfSome};
+ghost use Rattle.std.specs.List.{All};
 ghost use Rattle.pgm_plates.specs.Plates.{sample_size as bytes_of_sample};
-ghost use Rattle.pgm_plates.specs.Readers.{Fit, FirstAbove, IsDecoded};
+ghost use Rattle.pgm_plates.specs.Readers.{Fit, FirstAbove, IsDecoded, samples_spelled, wide_samples};
 
 /// How many bytes a sample has.
 pub fn sample_size(maxval: u32) -> usize
@@ -10,47 +10,106 @@ pub fn sample_size(maxval: u32) -> usize
     if maxval < 256 { 1 } else { 2 }
 }
 
-// Whether no sample is above the maxval.
-fn are_fit(samples: &[u16], maxval: u32) -> bool
-    ensures { IsTrue result → Fit maxval samples.now }
+/// The place of the first sample above the maxval among the whole samples that these bytes spell.
+pub fn first_above(bytes: &[u8], maxval: u32) -> Option<usize>
+    ensures decoded { IsDecoded maxval bytes.now (samples_spelled maxval bytes.now) }
+    ensures fit { IfNone result (Fit maxval (samples_spelled maxval bytes.now)) }
+    ensures above { IfSome result (FirstAbove maxval (samples_spelled maxval bytes.now)) }
+    ensures within { IfSome result (λ at. at < length bytes.now) }
 {
-    let mut most = 0u16;
-    for sample in samples {
-        most = most.max(*sample);
-    }
-    most as u32 <= maxval
-}
-
-// The place of the first sample that is above the maxval.
-fn first_above(samples: &[u16], maxval: u32) -> Option<usize>
-    ensures fit { IfNone result (Fit maxval samples.now) }
-    ensures above { IfSome result (FirstAbove maxval samples.now) }
-{
-    if are_fit(samples, maxval) {
+    are_bytes(bytes);
+    if are_fit(bytes, maxval) {
         return None;
     }
-    for (at, sample) in samples.iter().enumerate() {
-        if *sample as u32 > maxval {
+    for at in 0..bytes.len() / sample_size(maxval) {
+        if sample_at(bytes, maxval, at) > maxval {
             return Some(at);
         }
     }
     None
 }
 
-/// Decodes the whole samples in these bytes, and finds the first that is above the maxval.
-pub fn take_samples(bytes: &[u8], maxval: u32, samples: &mut [u16]) -> Option<usize>
-    requires { length samples.old ≡ length bytes.now / bytes_of_sample maxval }
-    ensures decoded { IsDecoded maxval bytes.now samples.new }
-    ensures fit { IfNone result (Fit maxval samples.new) }
-    ensures above { IfSome result (FirstAbove maxval samples.new) }
+fn sample_at(bytes: &[u8], maxval: u32, at: usize) -> u32
+    requires { at < length bytes.now / bytes_of_sample maxval }
+    ensures { result ≡ slice_index (samples_spelled maxval bytes.now) at }
 {
-    decode(bytes, maxval, samples);
-    first_above(samples, maxval)
+    if maxval < 256 {
+        bytes[at] as u32
+    } else {
+        wide_at(bytes, at) as u32
+    }
 }
 
-fn decode(bytes: &[u8], maxval: u32, samples: &mut [u16])
-    requires { length samples.old ≡ length bytes.now / bytes_of_sample maxval }
-    ensures { IsDecoded maxval bytes.now samples.new }
+fn wide_at(bytes: &[u8], at: usize) -> u16
+    requires { 2 * at + 1 < length bytes.now }
+    ensures { result ≡ slice_index (wide_samples bytes.now) at }
+{
+    bytes[2 * at] as u16 * 256 + bytes[2 * at + 1] as u16
+}
+
+// Whether no sample is above the maxval.
+fn are_fit(bytes: &[u8], maxval: u32) -> bool
+    ensures { IsTrue result → Fit maxval (samples_spelled maxval bytes.now) }
+{
+    if maxval < 256 {
+        are_narrow_fit(bytes, maxval)
+    } else {
+        are_wide_fit(bytes, maxval)
+    }
+}
+
+// No byte is above 255, so none has to be looked at.
+fn are_narrow_fit(bytes: &[u8], maxval: u32) -> bool
+    ensures { IsTrue result → Fit maxval bytes.now }
+{
+    if maxval == 255 {
+        true
+    } else {
+        most_narrow(bytes) as u32 <= maxval
+    }
+}
+
+fn are_wide_fit(bytes: &[u8], maxval: u32) -> bool
+    ensures { IsTrue result → Fit maxval (wide_samples bytes.now) }
+{
+    are_bytes(bytes);
+    if maxval == 65_535 {
+        true
+    } else {
+        most_wide(bytes) as u32 <= maxval
+    }
+}
+
+fn most_narrow(bytes: &[u8]) -> u8
+    ensures { Fit result bytes.now }
+{
+    let mut most = 0u8;
+    for byte in bytes {
+        most = most.max(*byte);
+    }
+    most
+}
+
+#[tactic(auto, using(crate::proofs::Spelled::wide_size))]
+fn most_wide(bytes: &[u8]) -> u16
+    ensures { Fit result (wide_samples bytes.now) }
+{
+    let mut most = 0u16;
+    for at in 0..bytes.len() / 2 {
+        most = most.max(wide_at(bytes, at));
+    }
+    most
+}
+
+// That bytes are below 256: no code, but a clause for proofs.
+fn are_bytes(bytes: &[u8])
+    ensures { All (λ b. b < 256) bytes.now }
+{}
+
+/// The samples that these bytes spell.
+pub fn decode(bytes: &[u8], maxval: u32, samples: &mut [u16])
+    requires { length bytes.now ≡ length samples.old * bytes_of_sample maxval }
+    ensures { samples.new ≡ samples_spelled maxval bytes.now }
 {
     if maxval < 256 {
         decode_narrow(bytes, samples);
@@ -68,12 +127,12 @@ fn decode_narrow(bytes: &[u8], samples: &mut [u16])
     }
 }
 
+#[tactic(auto, using(crate::proofs::Spelled::wide_size))]
 fn decode_wide(bytes: &[u8], samples: &mut [u16])
-    requires { length samples.old ≡ length bytes.now / 2 }
-    ensures { let spelled = flat_map (λ s. s / 256 ∷ s % 256 ∷ []) samples.new in
-        take (2 * length samples.new) bytes.now ≡ spelled }
+    requires { length bytes.now ≡ 2 * length samples.old }
+    ensures { samples.new ≡ wide_samples bytes.now }
 {
     for at in 0..samples.len() {
-        samples[at] = bytes[2 * at] as u16 * 256 + bytes[2 * at + 1] as u16;
+        samples[at] = wide_at(bytes, at);
     }
 }

@@ -1,6 +1,6 @@
 use Rattle.std.proofs.Common.{take}
-use Rattle.pgm_plates.specs.Readers.{Fit}
+use Rattle.pgm_plates.specs.Readers.{Fit, samples_spelled}
 use Rattle.pgm_plates.proofs.samples.first_above.Given as goal
 
 abbrev pub invariant-loop-at : goal.invariant-loop-at
-invariant-loop-at l = Fit l.maxval (take l.at l.samples)
+invariant-loop-at l = Fit l.maxval (take l.at (samples_spelled l.maxval l.bytes))

@@ -1,0 +1,32 @@
+use Rattle.std.proofs.Common.{rules, arith, ◌≡◌, ◌*◌, ◌+◌, [], length, refl, ap, ℕ, ◌∙◌}
+use Rattle.pgm_plates.specs.Plates.{sample_size}
+use Rattle.pgm_plates.specs.Readers.{samples_spelled}
+use Rattle.pgm_plates.proofs.RowLemmas.{unkept_none, unkept_more, unkept_refused}
+use Rattle.pgm_plates.proofs.rows.judge_samples.Goals as goal
+
+pub loop-done-init : goal.loop-done-init
+loop-done-init g c = record { taken = unkept_none c.args.maxval (g.T.Tray.state c.args.tray.now) c.requires.begun; begun = c.requires.begun; count = refl; within = omega arith }
+
+pub loop-done-preserved : goal.loop-done-preserved
+loop-done-preserved g c =
+    let want = c.min-want.result in
+    let bytes = c.judge_piece.new.bytes in
+    let m = c.args.maxval in
+    let room : length bytes ≡ want * sample_size m = search rules in
+    record {
+      taken = unkept_more m c.loop-done.done want (g.T.Tray.state c.args.tray.now) (g.T.Tray.state c.loop-done.tray) (g.T.Tray.state c.judge_piece.new.tray) (samples_spelled m bytes) c.loop-done.invariant.taken (c.in-Ok.ensures.answer want room);
+      begun = c.in-Ok.ensures.begun;
+      count = c.in-Ok.ensures.count ∙ c.loop-done.invariant.count;
+      within = omega arith;
+    }
+
+pub returns-in-Err-clause-answer : goal.returns-in-Err-clause-answer
+returns-in-Err-clause-answer g c =
+    let done = c.loop-done.done in
+    let want = c.min-want.result in
+    let m = c.args.maxval in
+    let room : length c.judge_piece.new.bytes ≡ want * sample_size m = search rules in (
+      [],
+      unkept_refused m c.args.count done want c.args.start (c.args.start + done * c.sample_size-size.result) (g.T.Tray.state c.args.tray.now) (g.T.Tray.state c.loop-done.tray) (g.T.Tray.state c.judge_piece.new.tray) c.in-Err.refusal
+          (omega arith) (ap (λ (n : ℕ). c.args.start + done * n) c.sample_size-size.ensures) c.loop-done.invariant.taken (c.in-Err.ensures.answer want room),
+    )
