@@ -16,11 +16,11 @@ use Rattle.pgm_plates.specs.declared.plate.PlateRefusal.{PlateRefusal}
 use Rattle.pgm_plates.specs.declared.plate.PlateRefusal.TheVariants.{Fault, ReadFault, OutOfMemory}
 use Rattle.pgm_plates.specs.declared.rows.OpenPlate.{OpenPlate}
 use Rattle.pgm_plates.specs.Reading.{ReadsPlateWithin}
-use Rattle.pgm_plates.specs.Rows.{EndsPlate, HasRead, ReadsRows}
+use Rattle.pgm_plates.specs.Rows.{EndsPlate, HasRead, ReadsRows, ReadsSome}
 use Rattle.plate_rows.specs.declared.rereading.NextRows.{NextRows}
 use Rattle.plate_rows.specs.declared.stop.RereadError.{RereadError}
 use Rattle.plate_rows.specs.declared.stop.RereadError.TheVariants.{Changed, Unread}
-use Rattle.plate_rows.specs.Judging.{ReadsSome, Refuses}
+use Rattle.plate_rows.specs.Judging.{Refuses}
 use Rattle.plate_rows.specs.Rereading.{BeginsAgain, BeginsAt, BeginsOne, BeginsPlates, BreaksOn, ChangesAt, EndsAt, EndsPlates, FailsOn, IsReadTo, IsRefilled, ReadsNext, ReadsBehind, ReadsOn, ReadsPast, ReadsPlane, ReadsTints, new_rows, stop_at, turned, wanted}
 use Rattle.plate_rows.specs.Trays.{EachTray, TrayStops, header_at, name_at, no_open, no_tray, open_at}
 use Rattle.plate_rows.proofs.EachLemmas.{each_as, set_more, set_stops, stops_as}

@@ -20,11 +20,11 @@ use Rattle.pgm_plates.specs.Header.{IsHeader}
 use Rattle.pgm_plates.specs.Laws.{FileFaultWithin, IsTopOf, NotBothWithin, TopOfFileWithin}
 use Rattle.pgm_plates.specs.Plates.{raster, sample_size}
 use Rattle.pgm_plates.specs.Reading.{IsWithinPlate, ReadsPlateWithin}
-use Rattle.pgm_plates.specs.Rows.{EndsPlate, HasRead, plate_with, samples_of}
+use Rattle.pgm_plates.specs.Rows.{EndsPlate, HasRead, ReadsSome, plate_with, samples_of}
 use Rattle.pgm_plates.proofs.Decisions.{raster_size}
 use Rattle.plate_rows.specs.declared.stop.RereadError.{RereadError}
 use Rattle.plate_rows.specs.declared.stop.RereadError.TheVariants.{Changed, Unread}
-use Rattle.plate_rows.specs.Judging.{ReadsSome, Refuses}
+use Rattle.plate_rows.specs.Judging.{Refuses}
 use Rattle.plate_rows.specs.Laws.{AreReadTo, EndsStop, NoChange, ReadingBegins, ReadingEnds, ReadingGrows, ReadingStops, RowsStop, header_of}
 use Rattle.plate_rows.specs.Rereading.{BeginsAt, BreaksOn, EndsAt, EndsPlates, FailsOn, HasChanged, HaveRead, Interrupts, ReadsPast, StopsReading, new_rows, wanted}
 use Rattle.plate_rows.specs.Trays.{IsCalm, TakesFile, TrayStops, header_at, header_in, name_at, open_at, tray_at}

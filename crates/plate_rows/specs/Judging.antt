@@ -1,5 +1,5 @@
 -- A first reading of plates, of which nothing is kept but the headers.
-use Rattle.std.specs.Prelude.{◌≡◌, ℕ, List, [], length, Some, Result, Ok, Err}
+use Rattle.std.specs.Prelude.{ℕ, List, [], length, Some, Result, Ok, Err}
 use Rattle.outside.specs.Tray.{TrayState}
 use Rattle.pgm_plates.specs.declared.bounds.Bounds.TheVariants.{Sheet}
 use Rattle.pgm_plates.specs.declared.header.Header.{Header}
@@ -7,7 +7,7 @@ use Rattle.pgm_plates.specs.declared.plate.PlateRefusal.{PlateRefusal}
 use Rattle.pgm_plates.specs.declared.plate.PlateRefusal.TheVariants.{Fault, ReadFault, OutOfMemory}
 use Rattle.pgm_plates.specs.declared.rows.OpenPlate.{OpenPlate}
 use Rattle.pgm_plates.specs.Reading.{ReadsPlateWithin}
-use Rattle.pgm_plates.specs.Rows.{HasRead, ReadsRows, plate_with}
+use Rattle.pgm_plates.specs.Rows.{HasRead, plate_with}
 use Rattle.refusals.specs.declared.refusal.Refusal.{Refusal}
 use Rattle.refusals.specs.declared.refusal.Refusal.TheVariants.{Memory, Plate, Read}
 use Rattle.plate_rows.specs.Trays.{EachTray, TrayStops, header_at, name_at}
@@ -29,12 +29,6 @@ abbrev pub JudgesRest : OpenPlate → TrayState → TrayState → Result (Unit {
 JudgesRest plate before after result = (name : List ℕ) (start : TrayState)
     → HasRead Sheet name start before plate []
     → JudgesPlate name start after (judged plate result)
-
--- After so many samples that were read, so many more are read, whatever they are.
-abbrev pub ReadsSome : OpenPlate → ℕ → ℕ → TrayState → TrayState → Result (Unit {0}) PlateRefusal
-    → Type 0
-ReadsSome plate done count before after result =
-    (rows : List ℕ) × (length rows ≡ count) × ReadsRows plate done rows before after result
 
 -- plate k has that header, by the file of that name
 abbrev pub Judges : List (List ℕ) → List Header → ℕ → TrayState → TrayState → Type 0

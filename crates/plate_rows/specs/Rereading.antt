@@ -12,11 +12,11 @@ use Rattle.pgm_plates.specs.declared.plate.PlateRefusal.{PlateRefusal}
 use Rattle.pgm_plates.specs.declared.plate.PlateRefusal.TheVariants.{Fault, ReadFault}
 use Rattle.pgm_plates.specs.declared.rows.OpenPlate.{OpenPlate}
 use Rattle.pgm_plates.specs.Reading.{ReadsPlateWithin}
-use Rattle.pgm_plates.specs.Rows.{EndsPlate, HasRead, ReadsRows, samples_of}
+use Rattle.pgm_plates.specs.Rows.{EndsPlate, HasRead, ReadsRows, ReadsSome, samples_of}
 use Rattle.plate_rows.specs.declared.rereading.NextRows.{NextRows}
 use Rattle.plate_rows.specs.declared.stop.RereadError.{RereadError}
 use Rattle.plate_rows.specs.declared.stop.RereadError.TheVariants.{Changed, Unread}
-use Rattle.plate_rows.specs.Judging.{ReadsSome, Refuses}
+use Rattle.plate_rows.specs.Judging.{Refuses}
 use Rattle.plate_rows.specs.Trays.{EachTray, IsCalm, TakesFiles, TrayStops, header_at, name_at}
 use Rattle.plate_rows.specs.Trays.{open_at, tray_at}
 
