@@ -4,6 +4,7 @@ use Rattle.std.proofs.lemmas.Bool.{cases_lt}
 use Rattle.std.proofs.lemmas.List.{append_assoc, append-nil, take-append-le, length-append}
 use Rattle.std.proofs.lemmas.List.Elements.{All-head, All-tail}
 use Rattle.std.specs.List.{All}
+use Rattle.page_model.specs.declared.parts.Plane.{Plane}
 use Rattle.pgm_plates.specs.declared.bounds.Bounds.{Bounds}
 use Rattle.pgm_plates.specs.declared.bounds.Bounds.TheVariants.{Page}
 use Rattle.pgm_plates.specs.declared.plate.Plate.{Plate}
@@ -12,7 +13,7 @@ use Rattle.pgm_plates.specs.declared.plate.PlateFault.TheVariants.{BadMagic, Bad
 use Rattle.pgm_plates.specs.Plates.{IsPlateWithin, IsPlateFileWithin, sample_size, raster}
 use Rattle.pgm_plates.specs.Faults.{DecidesWithin, FaultAtWithin}
 use Rattle.pgm_plates.specs.Reading.{IsTruncated}
-use Rattle.pgm_plates.specs.Laws.{NotBothWithin, OnePlateWithin, OneFaultWithin, NoPrefixWithin, FaultStaysWithin, TurnsBackWithin, FilePlateWithin, FileFaultWithin, PageInSheet}
+use Rattle.pgm_plates.specs.Laws.{NotBothWithin, OnePlateWithin, OneFaultWithin, NoPrefixWithin, FaultStaysWithin, TurnsBackWithin, PlaneTurnsBack, FilePlateWithin, FileFaultWithin, PageInSheet}
 use Rattle.pgm_plates.specs.Scanning.{IsClean}
 use Rattle.pgm_plates.proofs.Shapes.{one_header}
 use Rattle.pgm_plates.proofs.Moments.{stands_now_within, only_truncated}
@@ -36,12 +37,18 @@ nothing : (xs : List ℕ) → length xs ≡ 0 → xs ≡ []
 nothing [] none = refl
 nothing (x ∷ xs) none = absurd (omega arith)
 
-turned_back : (m : ℕ) (xs : List ℕ) → All (λ (s : ℕ). s ≤ m) xs → map (λ (t : ℕ). m - t) (map (λ (s : ℕ). m - s) xs) ≡ xs
+pub turned_back : (m : ℕ) (xs : List ℕ) → All (λ (s : ℕ). s ≤ m) xs → map (λ (t : ℕ). m - t) (map (λ (s : ℕ). m - s) xs) ≡ xs
 turned_back m [] fit = refl
 turned_back m (x ∷ xs) fit =
     let le = All-head (λ (s : ℕ). s ≤ m) x xs fit in
     let e : m - (m - x) ≡ x = omega arith in
     ap (λ (z : ℕ). z ∷ map (λ (t : ℕ). m - t) (map (λ (s : ℕ). m - s) xs)) e ∙ ap (λ (z : List ℕ). x ∷ z) (turned_back m xs (All-tail (λ (s : ℕ). s ≤ m) x xs fit))
+
+same_plane : (w h m : ℕ) (xs ys : List ℕ) → xs ≡ ys → ◌≡◌ {A = Plane} (record { width = w; height = h; maxval = m; tints = xs }) (record { width = w; height = h; maxval = m; tints = ys })
+same_plane w h m xs ys is = cc
+
+pub plane_turns_back : PlaneTurnsBack
+plane_turns_back plane ok = same_plane plane.width plane.height plane.maxval (map (λ (s : ℕ). plane.maxval - s) (map (λ (t : ℕ). plane.maxval - t) plane.tints)) plane.tints (turned_back plane.maxval plane.tints ok.below)
 
 pub cut_or_not : (fault : PlateFault) → IsTruncated fault ⊎ (IsTruncated fault → ⊥)
 cut_or_not (Truncated at) = inl tt

@@ -13,6 +13,7 @@ use Rattle.pgm_plates.specs.declared.plate.PlateFault.{PlateFault}
 use Rattle.pgm_plates.specs.declared.plate.PlateFault.TheVariants.{BadMagic, BadHeader, SideRange, TooManySamples, MaxvalRange, SampleAboveMaxval, Truncated, TrailingBytes}
 use Rattle.pgm_plates.specs.declared.plate.PlateRefusal.{PlateRefusal}
 use Rattle.pgm_plates.specs.declared.plate.PlateRefusal.TheVariants.{Fault, ReadFault, OutOfMemory}
+use Rattle.pgm_plates.specs.declared.values.Values.{Values}
 use Rattle.pgm_plates.specs.Plates.{IsPlateFile, raster, sample_size}
 use Rattle.pgm_plates.specs.Images.{IsNear, IsNearRefusal, ReadsImage, Passed, PageAnswers, further_refusal}
 use Rattle.pgm_plates.specs.Reading.{AreFew, KeepsCount}
@@ -90,7 +91,7 @@ page_none a b c page count start le passed none =
       );
     }
 
-abbrev refusing : PlateRefusal → Result (Option (Plate × ℕ)) PlateRefusal
+abbrev refusing : PlateRefusal → Result (Option (Values × ℕ)) PlateRefusal
 refusing refusal = Err refusal
 
 some_place : (at : ℕ) → refusing (Fault (Truncated at)) ≢ refusing (Fault (Truncated 0)) → 0 < at

@@ -13,7 +13,7 @@ use Rattle.pgm_plates.specs.Planes.{IsPlaneWithin, plane_of, plate_of, sample_in
 use Rattle.pgm_plates.specs.Plates.{IsPlate, IsPlateWithin}
 use Rattle.page_model.specs.Limits.{most_samples}
 
-turned_fit : (m : ℕ) (xs : List ℕ) → All (λ (s : ℕ). s ≤ m) (map (λ (s : ℕ). m - s) xs)
+pub turned_fit : (m : ℕ) (xs : List ℕ) → All (λ (s : ℕ). s ≤ m) (map (λ (s : ℕ). m - s) xs)
 turned_fit m xs = All-map (λ (s : ℕ). s ≤ m) (λ (s : ℕ). m - s) xs (λ k d here. omega arith)
 
 module _ (bounds : Bounds) where

@@ -2,6 +2,8 @@
 use Rattle.std.specs.Prelude.{◌≡◌, ◌⊎◌, ℕ, ◌<◌, IsTrue, List, [], ◌++◌, length, take, Some, Ok, Err}
 use Rattle.std.specs.List.{All}
 use Rattle.outside.specs.Tray.{TrayState}
+use Rattle.page_model.specs.Conditions.{IsPlane}
+use Rattle.page_model.specs.declared.parts.Plane.{Plane}
 use Rattle.pgm_plates.specs.declared.bounds.Bounds.{Bounds}
 use Rattle.pgm_plates.specs.declared.bounds.Bounds.TheVariants.{Page, Sheet}
 use Rattle.pgm_plates.specs.declared.header.Header.{Header}
@@ -87,6 +89,10 @@ TurnsBackWithin bounds =
 
 abbrev pub TurnsBack : Type 0
 TurnsBack = TurnsBackWithin Page
+
+-- A plane that is turned into a plate and back is as before.
+abbrev pub PlaneTurnsBack : Type 0
+PlaneTurnsBack = (plane : Plane) → IsPlane plane → plane_of (plate_of plane) ≡ plane
 
 -- A plate that is read is the one that the whole file spells, where the tray tells its bytes.
 abbrev pub FilePlateWithin : Bounds → Type 0

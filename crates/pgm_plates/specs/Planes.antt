@@ -1,6 +1,7 @@
 -- Planes, whose tints are the samples of plates turned round: 0 is no ink, and a sample of 0 is
 -- black.
-use Rattle.std.specs.Prelude.{◌≡◌, ℕ, ◌*◌, ◌-◌, ◌≤◌, if◌then◌else◌, List, length, map}
+use Rattle.std.specs.Prelude.{◌≡◌, ℕ, ◌*◌, ◌-◌, ◌≤◌, if◌then◌else◌, List, length, map, Option}
+use Rattle.std.specs.Prelude.{Some, None, Result, Ok, Err}
 use Rattle.std.specs.List.{All}
 use Rattle.page_model.specs.Limits.{most_maxval}
 use Rattle.page_model.specs.declared.parts.Plane.{Plane}
@@ -40,6 +41,16 @@ plate_of plane =
       maxval = plane.maxval;
       samples = map (λ t. plane.maxval - t) plane.tints;
     }
+
+-- what a call gives, with this made of its value
+abbrev pub map_ok : {A B E : Type 0} → (A → B) → Result A E → Result B E
+map_ok f (Ok x) = Ok (f x)
+map_ok f (Err refusal) = Err refusal
+
+-- the same of a value, where there is one
+abbrev pub map_some : {A B : Type 0} → (A → B) → Option A → Option B
+map_some f (Some x) = Some (f x)
+map_some f None = None
 
 -- the sample that a value of an image is
 abbrev pub sample_in : Image → ℕ → ℕ

@@ -1,6 +1,6 @@
 -- What the parts of the reader do. No public clause cites this file.
 use Rattle.std.specs.Prelude.{◌≡◌, ℕ, ◌+◌, ◌*◌, ◌<◌, ◌≤◌, List, [], ◌∷◌, ◌++◌, length, take}
-use Rattle.std.specs.Prelude.{nat_lt, if◌then◌else◌, slice_index, Result, Ok, Err}
+use Rattle.std.specs.Prelude.{◌-◌, nat_lt, if◌then◌else◌, map, slice_index, Result, Ok, Err}
 use Rattle.std.specs.List.{All}
 use Rattle.outside.specs.Causes.{Rose}
 use Rattle.outside.specs.Tray.{TrayState}
@@ -13,11 +13,15 @@ use Rattle.pgm_plates.specs.declared.plate.PlateFault.TheVariants.{TrailingBytes
 use Rattle.pgm_plates.specs.declared.plate.PlateRefusal.{PlateRefusal}
 use Rattle.pgm_plates.specs.declared.plate.PlateRefusal.TheVariants.{Fault, ReadFault, OutOfMemory}
 use Rattle.pgm_plates.specs.declared.rows.OpenPlate.{OpenPlate}
+use Rattle.pgm_plates.specs.declared.values.Form.{Form}
+use Rattle.pgm_plates.specs.declared.values.Form.TheVariants.{Samples, Tints}
+use Rattle.pgm_plates.specs.declared.values.Values.{Values}
 use Rattle.pgm_plates.specs.Header.{IsHeader}
 use Rattle.page_model.specs.Limits.{most_maxval}
 use Rattle.pgm_plates.specs.Limits.{most_header, samples_within}
 use Rattle.pgm_plates.specs.Plates.{IsSideWithin, sample_bytes, sample_size, raster}
 use Rattle.pgm_plates.specs.Reading.{AreFew, AnswersPlate, AtEnd}
+use Rattle.pgm_plates.specs.Rows.{plate_with}
 use Rattle.pgm_plates.specs.Scanning.{IsClean}
 
 -- Some bytes are taken, which the answer fits.
@@ -111,6 +115,19 @@ ReadsPiece maxval count start before after (Ok done) samples =
     RasterTaken maxval count before after samples
 ReadsPiece maxval count start before after (Err refusal) samples =
     RasterRefused maxval count start before after refusal
+
+-- the samples that some values are, by their form
+abbrev pub samples_from : Form → ℕ → List ℕ → List ℕ
+samples_from Samples maxval values = values
+samples_from Tints maxval values = map (λ v. maxval - v) values
+
+-- the plate of which these values were read
+abbrev pub plate_from : Form → Values → Plate
+plate_from form read = plate_with read.header (samples_from form read.header.maxval read.values)
+
+-- the same, beside a number
+abbrev pub image_from : Form → (Values × ℕ) → (Plate × ℕ)
+image_from form read = (plate_from form read.0, read.1)
 
 -- what is found after the raster
 abbrev pub EndsFile : ℕ → TrayState → TrayState → Result (Unit {0}) PlateRefusal → Type 0

@@ -1,6 +1,6 @@
 //! Laws of plate files, each the contract of an empty function: a caller that calls it has the law.
 
-ghost use Rattle.pgm_plates.specs.Laws.{NotBoth, OnePlate, OneFault, NoPrefix, OneSequence, FaultStays, TurnsBack, SpelledReads, PlateOrFault, FilePlate, FileFault, NotBothWithin, OnePlateWithin, OneFaultWithin, NoPrefixWithin, FaultStaysWithin, TurnsBackWithin, SpelledReadsWithin, PlateOrFaultWithin, FilePlateWithin, FileFaultWithin, PageInSheet, TopOfFileWithin};
+ghost use Rattle.pgm_plates.specs.Laws.{NotBoth, OnePlate, OneFault, NoPrefix, OneSequence, FaultStays, TurnsBack, PlaneTurnsBack, SpelledReads, PlateOrFault, FilePlate, FileFault, NotBothWithin, OnePlateWithin, OneFaultWithin, NoPrefixWithin, FaultStaysWithin, TurnsBackWithin, SpelledReadsWithin, PlateOrFaultWithin, FilePlateWithin, FileFaultWithin, PageInSheet, TopOfFileWithin};
 
 use crate::bounds::Bounds;
 
@@ -37,6 +37,11 @@ pub fn fault_stays()
 /// A plate that is turned into a plane and back is as before.
 pub fn turns_back()
     ensures { TurnsBack }
+{}
+
+/// A plane that is turned into a plate and back is as before.
+pub fn plane_turns_back()
+    ensures { PlaneTurnsBack }
 {}
 
 /// The canonical spelling of a plate is a plate file of it.

@@ -1,5 +1,9 @@
-ghost use Rattle.std.specs.Prelude.{IsTrue, ◌≡◌, ◌≢◌, ◌+◌, ◌<◌, ◌≤◌, ◌^◌, Ok, Err, Some, None, IfOk, IfSome, IfErr};
+ghost use Rattle.std.specs.Prelude.{IsTrue, ◌≡◌, ◌≢◌, ◌+◌, ◌*◌, ◌<◌, ◌≤◌, ◌^◌, Ok, Err, Some, None, IfOk, IfSome, IfErr};
+ghost use Rattle.page_model.specs.Conditions.{IsPlane};
+ghost use Rattle.page_model.specs.Limits.{most_samples};
 ghost use Rattle.pgm_plates.specs.Images.{IsNear, IsNearRefusal, ReadsImage, PageAnswers, further_refusal};
+ghost use Rattle.pgm_plates.specs.Planes.{map_ok, map_some, plate_of};
+ghost use Rattle.pgm_plates.specs.Readers.{Fit, image_from, plate_from};
 ghost use Rattle.pgm_plates.specs.Reading.{KeepsCount};
 ghost use Rattle.pgm_plates.specs.Sequences.{ReadsPage, further as further_on};
 
@@ -8,7 +12,9 @@ use crate::plate::{Plate, PlateFault, PlateRefusal};
 use crate::raster::read_raster;
 use crate::reading::read_header;
 use crate::samples::sample_size;
+use crate::values::{Form, Values};
 use outside::tray::{Failed, Tray};
+use page_model::parts::Plane;
 use std::alloc::Global;
 
 /// Reads the plate of that number, counted from 0, of the file of that name, in which plate files stand one directly
@@ -24,8 +30,50 @@ pub fn read_page<T: Tray>(
 ) -> Result<Option<Plate>, PlateRefusal>
     ensures { ReadsPage name.now page (T.state tray.old) (T.state tray.new) result }
 {
+    match read_named(alloc, tray, name, page, Form::Samples) {
+        Ok(Some(read)) => Ok(Some(read.into_plate())),
+        Ok(None) => Ok(None),
+        Err(refusal) => Err(refusal),
+    }
+}
+
+/// Reads the plate of that number as its plane: each sample is turned into its tint, `maxval - sample`, as soon as it is
+/// read.
+///
+/// It answers what `read_page` does, with `Plate::into_plane` after it.
+pub fn read_page_plane<T: Tray>(
+    alloc: Global,
+    tray: &mut T,
+    name: &str,
+    page: u32,
+) -> Result<Option<Plane>, PlateRefusal>
+    ensures plate { ReadsPage name.now page (T.state tray.old) (T.state tray.new)
+        (map_ok (map_some plate_of) result) }
+    ensures in_range { IfOk result (λ read. IfSome read IsPlane) }
+    ensures few { IfOk result (λ read. IfSome read
+        (λ plane. plane.width * plane.height ≤ most_samples)) }
+{
+    match read_named(alloc, tray, name, page, Form::Tints) {
+        Ok(Some(read)) => Ok(Some(read.into_plane())),
+        Ok(None) => Ok(None),
+        Err(refusal) => Err(refusal),
+    }
+}
+
+// Reads the image of that number from the file of that name, and keeps its samples in that form.
+fn read_named<T: Tray>(
+    alloc: Global,
+    tray: &mut T,
+    name: &str,
+    page: u32,
+    form: Form,
+) -> Result<Option<Values>, PlateRefusal>
+    ensures answer { ReadsPage name.now page (T.state tray.old) (T.state tray.new)
+        (map_ok (map_some (plate_from form)) result) }
+    ensures below { IfOk result (λ read. IfSome read (λ r. Fit r.header.maxval r.values)) }
+{
     match tray.begin(name) {
-        Ok(()) => read_images(alloc, tray, page),
+        Ok(()) => read_images(alloc, tray, page, form),
         Err(Failed) => Err(PlateRefusal::ReadFault),
     }
 }
@@ -35,30 +83,40 @@ fn read_images<T: Tray>(
     alloc: Global,
     tray: &mut T,
     page: u32,
-) -> Result<Option<Plate>, PlateRefusal>
+    form: Form,
+) -> Result<Option<Values>, PlateRefusal>
     requires { IsTrue (T.state tray.old).begun }
-    ensures answer { PageAnswers page (T.state tray.old) (T.state tray.new) result }
-    ensures count { KeepsCount (T.state tray.old) (T.state tray.new) result }
+    ensures answer { PageAnswers page (T.state tray.old) (T.state tray.new)
+        (map_ok (map_some (plate_from form)) result) }
+    ensures count { KeepsCount (T.state tray.old) (T.state tray.new)
+        (map_ok (map_some (plate_from form)) result) }
+    ensures below { IfOk result (λ read. IfSome read (λ r. Fit r.header.maxval r.values)) }
 {
     let mut start = 0u64;
     for _ in 0..page {
-        match read_image(alloc, tray) {
+        match read_image(alloc, tray, form) {
             Ok(Some((_, size))) => start += size,
             Ok(None) => return Ok(None),
             Err(refusal) => return Err(further_refused(refusal, start)),
         }
     }
-    match read_image(alloc, tray) {
-        Ok(Some((plate, _))) => Ok(Some(plate)),
+    match read_image(alloc, tray, form) {
+        Ok(Some((read, _))) => Ok(Some(read)),
         Ok(None) => Ok(None),
         Err(refusal) => Err(further_refused(refusal, start)),
     }
 }
 
 // Reads one image from what is left of the file, and says how many bytes it has. There is none where nothing is left.
-fn read_image<T: Tray>(alloc: Global, tray: &mut T) -> Result<Option<(Plate, u64)>, PlateRefusal>
+fn read_image<T: Tray>(
+    alloc: Global,
+    tray: &mut T,
+    form: Form,
+) -> Result<Option<(Values, u64)>, PlateRefusal>
     requires { IsTrue (T.state tray.old).begun }
-    ensures answer { ReadsImage (T.state tray.old) (T.state tray.new) result }
+    ensures answer { ReadsImage (T.state tray.old) (T.state tray.new)
+        (map_ok (map_some (image_from form)) result) }
+    ensures below { IfOk result (λ read. IfSome read (λ r. Fit r.0.header.maxval r.0.values)) }
     ensures count { KeepsCount (T.state tray.old) (T.state tray.new) result }
     ensures near { IfErr result IsNearRefusal }
     ensures some { result ≢ Err (PlateRefusal.Fault (PlateFault.Truncated 0)) }
@@ -70,15 +128,10 @@ fn read_image<T: Tray>(alloc: Global, tray: &mut T) -> Result<Option<(Plate, u64
         Err(refusal) => return Err(refusal),
     };
     let count = header.width as usize * header.height as usize;
-    match read_raster(alloc, tray, count, header.maxval, start) {
-        Ok(samples) => {
-            let plate = Plate {
-                width: header.width,
-                height: header.height,
-                maxval: header.maxval,
-                samples,
-            };
-            Ok(Some((plate, start + (count * sample_size(header.maxval)) as u64)))
+    match read_raster(alloc, tray, count, header.maxval, start, form) {
+        Ok(values) => {
+            let size = start + (count * sample_size(header.maxval)) as u64;
+            Ok(Some((Values { header, values }, size)))
         }
         Err(refusal) => Err(refusal),
     }

@@ -1,14 +1,18 @@
-ghost use Rattle.std.specs.Prelude.{IsTrue, ◌≡◌, ◌≢◌, ◌≤◌, ◌<◌, ◌*◌, ◌^◌, [], length, take, IfOk, IfErr, Err};
+ghost use Rattle.std.specs.Prelude.{IsTrue, ◌≡◌, ◌≢◌, ◌≤◌, ◌<◌, ◌*◌, ◌^◌, [], length, take, IfOk, IfErr, OnOk, Err};
 ghost use Rattle.outside.specs.Causes.{Rose};
 ghost use Rattle.outside.specs.Reading.{Takes};
+ghost use Rattle.page_model.specs.Limits.{most_maxval};
 ghost use Rattle.pgm_plates.specs.Limits.{most_header};
+ghost use Rattle.pgm_plates.specs.Planes.{map_ok};
 ghost use Rattle.pgm_plates.specs.Plates.{sample_size as bytes_of_sample};
 ghost use Rattle.pgm_plates.specs.Images.{IsNearRefusal};
 ghost use Rattle.pgm_plates.specs.Reading.{KeepsCount};
-ghost use Rattle.pgm_plates.specs.Readers.{JudgesPiece, ReadsPiece, ReadsRaster};
+ghost use Rattle.pgm_plates.specs.Readers.{Fit, JudgesPiece, ReadsPiece, ReadsRaster, samples_from};
 
 use crate::plate::{PlateFault, PlateRefusal};
 use crate::samples::{decode, first_above, sample_size};
+use crate::turning::turn;
+use crate::values::Form;
 use lists::list::List;
 use outside::tray::{Failed, Tray};
 use page_model::parts::Tints;
@@ -17,20 +21,24 @@ use std::alloc::{AllocError, Global};
 // How many samples are read in one go at most.
 const PIECE: usize = 65_536;
 
-/// Reads that many samples, whose first byte is at that place of the file.
+/// Reads that many samples, whose first byte is at that place of the file, and keeps them in that form.
 pub fn read_raster<T: Tray>(
     alloc: Global,
     tray: &mut T,
     count: usize,
     maxval: u32,
     start: u64,
+    form: Form,
 ) -> Result<Tints, PlateRefusal>
     requires begun { IsTrue (T.state tray.old).begun }
     requires start { start ≤ most_header }
     requires first { 0 < start }
     requires some { 0 < count }
     requires count { count ≤ 2 ^ 36 }
-    ensures answer { ReadsRaster maxval count start (T.state tray.old) (T.state tray.new) result }
+    requires maxval { maxval ≤ most_maxval }
+    ensures answer { let samples = map_ok (samples_from form maxval) result in
+        ReadsRaster maxval count start (T.state tray.old) (T.state tray.new) samples }
+    ensures below { IfOk result (Fit maxval) }
     ensures count { KeepsCount (T.state tray.old) (T.state tray.new) result }
     ensures near { IfErr result IsNearRefusal }
     ensures uncut { result ≢ Err (PlateRefusal.Fault (PlateFault.Truncated 0)) }
@@ -42,19 +50,20 @@ pub fn read_raster<T: Tray>(
     let Ok(mut bytes) = no_bytes(alloc, 2 * most) else {
         return Err(PlateRefusal::OutOfMemory);
     };
-    let Ok(mut samples) = Vec::with_capacity(alloc, count) else {
+    let Ok(mut values) = Vec::with_capacity(alloc, count) else {
         return Err(PlateRefusal::OutOfMemory);
     };
     match read_pieces(
         tray,
-        &mut samples,
+        &mut values,
         &mut piece,
         &mut bytes,
         count,
         maxval,
         start,
+        form,
     ) {
-        Ok(()) => Ok(List::from_vec(samples)),
+        Ok(()) => Ok(List::from_vec(values)),
         Err(refusal) => Err(refusal),
     }
 }
@@ -72,41 +81,45 @@ fn no_bytes(alloc: Global, len: usize) -> Result<Vec<u8>, AllocError>
     vec![in alloc; 0u8; len]
 }
 
-// Reads samples after the ones that are there, until there are that many.
+// Reads samples after the ones that are there, until there are that many. Each piece has its form before it is appended.
 fn read_pieces<T: Tray>(
     tray: &mut T,
-    samples: &mut Vec<u16>,
+    values: &mut Vec<u16>,
     piece: &mut [u16],
     bytes: &mut [u8],
     count: usize,
     maxval: u32,
     start: u64,
+    form: Form,
 ) -> Result<(), PlateRefusal>
     requires begun { IsTrue (T.state tray.old).begun }
     requires start { start ≤ most_header }
     requires first { 0 < start }
     requires count { count ≤ 2 ^ 36 }
+    requires maxval { maxval ≤ most_maxval }
     requires some { 0 < length piece.old }
     requires room { 2 * length piece.old ≤ length bytes.old }
-    requires empty { samples.old.items ≡ [] }
-    ensures answer { let samples = samples.new.items in
+    requires empty { values.old.items ≡ [] }
+    ensures answer { let samples = samples_from form maxval values.new.items in
         ReadsPiece maxval count start (T.state tray.old) (T.state tray.new) result samples }
+    ensures below { OnOk result (Fit maxval values.new.items) }
     ensures count { KeepsCount (T.state tray.old) (T.state tray.new) result }
     ensures near { IfErr result IsNearRefusal }
     ensures uncut { result ≢ Err (PlateRefusal.Fault (PlateFault.Truncated 0)) }
 {
     let size = sample_size(maxval);
-    while samples.len() < count {
-        let done = samples.len();
+    while values.len() < count {
+        let done = values.len();
         let want = piece.len().min(count - done);
-        match read_piece(
+        match read_values(
             tray,
             &mut piece[..want],
             &mut bytes[..want * size],
             maxval,
             start + (done * size) as u64,
+            form,
         ) {
-            Ok(()) => match samples.extend_from_slice(&piece[..want]) {
+            Ok(()) => match values.extend_from_slice(&piece[..want]) {
                 Ok(()) => {}
                 Err(_) => return Err(PlateRefusal::OutOfMemory),
             },
@@ -114,6 +127,52 @@ fn read_pieces<T: Tray>(
         }
     }
     Ok(())
+}
+
+// Reads as many samples as there is room for, and leaves them in that form.
+fn read_values<T: Tray>(
+    tray: &mut T,
+    values: &mut [u16],
+    bytes: &mut [u8],
+    maxval: u32,
+    start: u64,
+    form: Form,
+) -> Result<(), PlateRefusal>
+    requires begun { IsTrue (T.state tray.old).begun }
+    requires start { start < 2 ^ 40 }
+    requires count { length values.old ≤ 2 ^ 36 }
+    requires maxval { maxval ≤ most_maxval }
+    requires room { length bytes.old ≡ length values.old * bytes_of_sample maxval }
+    ensures answer { let count = length values.new in
+        let samples = samples_from form maxval values.new in
+        ReadsPiece maxval count start (T.state tray.old) (T.state tray.new) result samples }
+    ensures below { OnOk result (Fit maxval values.new) }
+    ensures begun { IsTrue (T.state tray.new).begun }
+    ensures count { KeepsCount (T.state tray.old) (T.state tray.new) result }
+    ensures near { IfErr result IsNearRefusal }
+    ensures uncut { 0 < start → result ≢ Err (PlateRefusal.Fault (PlateFault.Truncated 0)) }
+    ensures memory { result ≢ Err PlateRefusal.OutOfMemory }
+{
+    match read_piece(tray, values, bytes, maxval, start) {
+        Ok(()) => {
+            turn_to(form, values, maxval);
+            Ok(())
+        }
+        Err(refusal) => Err(refusal),
+    }
+}
+
+// Turns samples into that form.
+fn turn_to(form: Form, values: &mut [u16], maxval: u32)
+    requires maxval { maxval ≤ most_maxval }
+    requires below { Fit maxval values.old }
+    ensures samples { samples_from form maxval values.new ≡ values.old }
+    ensures below { Fit maxval values.new }
+{
+    match form {
+        Form::Samples => {}
+        Form::Tints => turn(values, maxval),
+    }
 }
 
 /// Reads as many samples as there is room for.

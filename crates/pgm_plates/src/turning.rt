@@ -82,8 +82,18 @@ fn turned(values: Tints, most: u32) -> Tints
     ensures { result ≡ map (λ v. most - v) values }
 {
     let mut values = values.into_vec();
-    for at in 0..values.len() {
-        values[at] = most as u16 - values[at];
-    }
+    turn(values.as_mut_slice(), most);
     List::from_vec(values)
+}
+
+/// Turns samples into tints, or tints into samples, where they stand.
+pub fn turn(values: &mut [u16], maxval: u32)
+    requires fits { maxval ≤ most_maxval }
+    requires below { All (λ v. v ≤ maxval) values.old }
+    ensures { values.new ≡ map (λ v. maxval - v) values.old }
+{
+    let most = maxval as u16;
+    for at in 0..values.len() {
+        values[at] = most - values[at];
+    }
 }

@@ -1,5 +1,6 @@
 use Rattle.std.proofs.Common.{◌*◌, ◌+◌, ap, ℕ}
 use Rattle.pgm_plates.specs.declared.bounds.Bounds.TheVariants.{Page}
+use Rattle.pgm_plates.specs.Readers.{samples_from}
 use Rattle.pgm_plates.proofs.Sequences.{image_read}
 use Rattle.pgm_plates.proofs.Wholes.{raster_refused}
 use Rattle.pgm_plates.proofs.pages.read_image.Goals as goal
@@ -8,7 +9,7 @@ pub returns-in-Ok-read_raster-clause-answer : goal.returns-in-Ok-read_raster-cla
 returns-in-Ok-read_raster-clause-answer g c =
     let header = c.in-Ok.read.0 in
     image_read (g.T.Tray.state c.args.tray.now) (g.T.Tray.state c.read_header.new.tray) (g.T.Tray.state c.read_raster.new.tray)
-    header c.in-Ok.read.1 (c.in-Ok.read.1 + header.width * header.height * c.sample_size.result) c.in-Ok-read_raster.samples c.in-Ok.ensures.answer c.in-Ok-read_raster.ensures.answer
+    header c.in-Ok.read.1 (c.in-Ok.read.1 + header.width * header.height * c.sample_size.result) (samples_from c.args.form header.maxval c.in-Ok-read_raster.values) c.in-Ok.ensures.answer c.in-Ok-read_raster.ensures.answer
     (ap (λ (n : ℕ). c.in-Ok.read.1 + header.width * header.height * n) c.sample_size.ensures)
 
 pub returns-in-Err-read_raster-clause-answer : goal.returns-in-Err-read_raster-clause-answer

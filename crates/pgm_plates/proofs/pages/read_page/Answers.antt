@@ -1,8 +1,15 @@
-use Rattle.pgm_plates.proofs.Sequences.{page_begun, page_not_begun}
+use Rattle.std.proofs.Common.{Option, Some, Ok, sym, subst}
+use Rattle.pgm_plates.specs.declared.plate.Plate.{Plate}
+use Rattle.pgm_plates.specs.declared.values.Form.TheVariants.{Samples}
+use Rattle.pgm_plates.specs.declared.values.Values.{Values}
+use Rattle.pgm_plates.specs.Planes.{map_ok, map_some}
+use Rattle.pgm_plates.specs.Readers.{plate_from}
+use Rattle.pgm_plates.specs.Sequences.{ReadsPage}
 use Rattle.pgm_plates.proofs.pages.read_page.Goals as goal
 
-pub returns-in-Ok : goal.returns-in-Ok
-returns-in-Ok g c = page_begun c.args.name.now c.args.page (g.T.Tray.state c.args.tray.now) (g.T.Tray.state c.begin.new.self) (g.T.Tray.state c.read_images.new.tray) _ c.read_images.result c.in-Ok.ensures c.read_images.ensures.answer c.read_images.ensures.count
-
-pub returns-in-Err : goal.returns-in-Err
-returns-in-Err g c = page_not_begun c.args.name.now c.args.page (g.T.Tray.state c.args.tray.now) (g.T.Tray.state c.begin.new.self) _ c.in-Err.ensures
+pub returns-in-Ok-Some : goal.returns-in-Ok-Some
+returns-in-Ok-Some g c =
+    let a = g.T.Tray.state c.args.tray.now in
+    let b = g.T.Tray.state c.read_named.new.tray in
+    subst (λ (p : Plate). ReadsPage c.args.name.now c.args.page a b (Ok (Some p))) (sym c.into_plate.ensures)
+    (subst (λ (o : Option Values). ReadsPage c.args.name.now c.args.page a b (map_ok (map_some (plate_from Samples)) (Ok o))) c.in-Ok-Some.field-0-is c.in-Ok-Some.ensures.answer)

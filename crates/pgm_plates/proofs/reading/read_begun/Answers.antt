@@ -1,4 +1,5 @@
 use Rattle.std.proofs.Common.{◌*◌, ◌+◌, ap, ℕ}
+use Rattle.pgm_plates.specs.Readers.{samples_from}
 use Rattle.pgm_plates.proofs.Wholes.{raster_refused, end_refused, plate_read}
 use Rattle.pgm_plates.proofs.reading.read_begun.Goals as goal
 
@@ -9,12 +10,14 @@ returns-in-Err-read_raster-clause-answer g c =
 
 pub returns-in-Ok-end_of_file-clause-answer : goal.returns-in-Ok-end_of_file-clause-answer
 returns-in-Ok-end_of_file-clause-answer g c =
+    let samples = samples_from c.args.form c.in-Ok.read.0.maxval c.in-Ok-read_raster.values in
     plate_read c.args.bounds (g.T.Tray.state c.args.tray.now) (g.T.Tray.state c.read_header.new.tray) (g.T.Tray.state c.read_raster.new.tray) (g.T.Tray.state c.end_of_file.new.tray)
-    c.in-Ok.read.0 c.in-Ok.read.1 c.in-Ok-read_raster.samples c.in-Ok.ensures.answer c.in-Ok-read_raster.ensures.answer c.in-Ok-end_of_file.ensures.answer
+    c.in-Ok.read.0 c.in-Ok.read.1 samples c.in-Ok.ensures.answer c.in-Ok-read_raster.ensures.answer c.in-Ok-end_of_file.ensures.answer
 
 pub returns-in-Err-end_of_file-clause-answer : goal.returns-in-Err-end_of_file-clause-answer
 returns-in-Err-end_of_file-clause-answer g c =
     let header = c.in-Ok.read.0 in
+    let samples = samples_from c.args.form header.maxval c.in-Ok-read_raster.values in
     end_refused c.args.bounds (g.T.Tray.state c.args.tray.now) (g.T.Tray.state c.read_header.new.tray) (g.T.Tray.state c.read_raster.new.tray) (g.T.Tray.state c.end_of_file.new.tray)
-    header c.in-Ok.read.1 (c.in-Ok.read.1 + header.width * header.height * c.sample_size.result) c.in-Ok-read_raster.samples c.in-Err-end_of_file.refusal c.in-Ok.ensures.answer c.in-Ok-read_raster.ensures.answer
+    header c.in-Ok.read.1 (c.in-Ok.read.1 + header.width * header.height * c.sample_size.result) samples c.in-Err-end_of_file.refusal c.in-Ok.ensures.answer c.in-Ok-read_raster.ensures.answer
     (ap (λ (n : ℕ). c.in-Ok.read.1 + header.width * header.height * n) c.sample_size.ensures) c.in-Err-end_of_file.ensures.answer

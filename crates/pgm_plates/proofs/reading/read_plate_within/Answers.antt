@@ -1,8 +1,8 @@
-use Rattle.pgm_plates.proofs.Wholes.{begun_then, not_begun}
+use Rattle.std.proofs.Common.{Ok, sym, subst}
+use Rattle.pgm_plates.specs.declared.plate.Plate.{Plate}
+use Rattle.pgm_plates.specs.Reading.{ReadsPlateWithin}
 use Rattle.pgm_plates.proofs.reading.read_plate_within.Goals as goal
 
 pub returns-in-Ok : goal.returns-in-Ok
-returns-in-Ok g c = begun_then c.args.bounds c.args.name.now (g.T.Tray.state c.args.tray.now) (g.T.Tray.state c.begin.new.self) (g.T.Tray.state c.read_begun.new.tray) _ c.read_begun.result c.in-Ok.ensures c.read_begun.ensures.answer c.read_begun.ensures.count
-
-pub returns-in-Err : goal.returns-in-Err
-returns-in-Err g c = not_begun c.args.bounds c.args.name.now (g.T.Tray.state c.args.tray.now) (g.T.Tray.state c.begin.new.self) _ c.in-Err.ensures
+returns-in-Ok g c =
+    subst (λ (p : Plate). ReadsPlateWithin c.args.bounds c.args.name.now (g.T.Tray.state c.args.tray.now) (g.T.Tray.state c.read_named.new.tray) (Ok p)) (sym c.into_plate.ensures) c.in-Ok.ensures.answer

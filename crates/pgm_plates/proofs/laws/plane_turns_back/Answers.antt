@@ -1,0 +1,5 @@
+use Rattle.pgm_plates.proofs.Facts.{plane_turns_back}
+use Rattle.pgm_plates.proofs.laws.plane_turns_back.Goals as goal
+
+pub returns : goal.returns
+returns c = plane_turns_back
