@@ -12,3 +12,4 @@ pub mod Marks
 pub mod Crosses
 pub mod Past
 pub mod Refuted
+pub mod Cutting

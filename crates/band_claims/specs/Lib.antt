@@ -9,3 +9,4 @@ pub mod Kinds
 pub mod Remembered
 pub mod Laws
 pub mod Refuted
+pub mod Filled

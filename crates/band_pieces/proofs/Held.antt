@@ -16,7 +16,7 @@ use Rattle.band_claims.specs.declared.sheet.Sheet.{Sheet}
 use Rattle.band_claims.specs.Sheets.{IsFit}
 use Rattle.row_values.specs.declared.rows.Rows.{Rows}
 use Rattle.row_values.specs.Rows.{HoldsAnswers, HoldsMarks, HoldsRows, HoldsTints, HoldsZones, answer_value, tint_value, zone_value}
-use Rattle.band_workers.specs.Filled.{AreValues}
+use Rattle.band_claims.specs.Filled.{AreValues}
 use Rattle.band_pieces.specs.Spans.{rows_of_piece}
 
 -- a prefix of a list that is long enough

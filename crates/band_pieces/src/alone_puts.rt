@@ -2,12 +2,11 @@
 ghost use Rattle.std.specs.Prelude.{◌≡◌, ℕ, ◌+◌, ◌<◌};
 ghost use Rattle.band_claims.specs.Sheets.{cell, shape_of};
 ghost use Rattle.band_pieces.specs.Fills.{FillsPiece, FillsTo};
-ghost use Rattle.band_workers.specs.Filled.{AreValues};
+ghost use Rattle.band_claims.specs.Filled.{AreValues};
 ghost use Rattle.page_model.specs.Bands.{pieces_of};
 ghost use Rattle.row_cells.specs.Places.{cell_total, first_cell_of};
 
-use band_claims::Closed;
-use band_workers::word_of_values;
+use band_claims::{Closed, word_of_values};
 use row_cells::values::CellValue;
 
 /// Puts its defined word in cell o of a piece, whose first cells, o of them, have theirs.

@@ -3,7 +3,7 @@ ghost use Rattle.band_claims.specs.Seating.{Seats};
 ghost use Rattle.band_claims.specs.Sheets.{shape_of, IsFit};
 ghost use Rattle.band_claims.specs.Views.{Knows};
 ghost use Rattle.band_graph.specs.Needs.{is_need};
-ghost use Rattle.band_workers.specs.Filled.{filled_to};
+ghost use Rattle.band_claims.specs.Filled.{filled_to};
 ghost use Rattle.page_model.specs.Bands.{AreBands, pieces_of};
 ghost use Rattle.page_model.specs.Page.{height, plates, width};
 ghost use Rattle.page_model.specs.Reach.{page_reach};

@@ -2,14 +2,13 @@
 ghost use Rattle.std.specs.Prelude.{◌≡◌, ℕ, ◌<◌, Some};
 ghost use Rattle.band_claims.specs.Seating.{Seats};
 ghost use Rattle.band_claims.specs.Sheets.{shape_of, IsFit};
-ghost use Rattle.band_workers.specs.Filled.{AreValues, filled_to};
+ghost use Rattle.band_claims.specs.Filled.{AreValues, filled_to};
 ghost use Rattle.page_model.specs.Bands.{pieces_of};
 ghost use Rattle.band_pieces.specs.Fills.{FillsPiece, HasCells};
 
 use crate::alone_puts::put_values_alone;
 use crate::sources::CellSource;
-use band_claims::{Closed, Pass, Shared};
-use band_workers::put_values;
+use band_claims::{Closed, Pass, Shared, put_values};
 use row_cells::values::CellValue;
 
 /// A table whose pieces are filled, by a seat at it.

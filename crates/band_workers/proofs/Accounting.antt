@@ -6,7 +6,7 @@ use Rattle.band_claims.specs.declared.view.Look.{Look}
 use Rattle.band_claims.specs.Views.{look, finished, joined, times, Knows, Lost, Won}
 use Rattle.band_claims.proofs.Totals.{times_append}
 use Rattle.band_workers.specs.Accounts.{Shows, IsAccounted, Publishes, Recalls, Made}
-use Rattle.band_workers.specs.Filled.{filled_to}
+use Rattle.band_claims.specs.Filled.{filled_to}
 
 module _ (bands : Bands) (piece : ℕ) (v w : View) (h : Lost bands piece v w) where
   shows_more : (i : ℕ) → Shows bands v i → Shows bands w i

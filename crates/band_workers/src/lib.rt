@@ -4,10 +4,8 @@
 
 mod gate;
 mod maker;
-mod putting;
 mod walks;
 
 pub use gate::{Gate, OpenGate};
 pub use maker::Maker;
-pub use putting::{put_values, word_of_values};
 pub use walks::{work, work_many};

@@ -5,7 +5,7 @@ ghost use Rattle.band_claims.specs.Sheets.{shape_of};
 ghost use Rattle.band_claims.specs.Views.{Knows};
 ghost use Rattle.band_graph.specs.Needs.{is_need};
 ghost use Rattle.page_model.specs.Bands.{pieces_of};
-ghost use Rattle.band_workers.specs.Filled.{filled_to};
+ghost use Rattle.band_claims.specs.Filled.{filled_to};
 
 use band_claims::{Pass, Shared};
 use page_model::page::Page;

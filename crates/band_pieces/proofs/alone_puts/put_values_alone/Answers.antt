@@ -4,7 +4,7 @@ use Rattle.row_cells.specs.Layouts.{Layout}
 use Rattle.row_cells.specs.Places.{cell_total, first_cell_of}
 use Rattle.band_claims.specs.declared.sheet.Sheet.{Sheet}
 use Rattle.band_claims.specs.Sheets.{cell}
-use Rattle.band_workers.specs.Filled.{AreValues}
+use Rattle.band_claims.specs.Filled.{AreValues}
 use Rattle.band_pieces.proofs.Cells.{has_at}
 use Rattle.band_pieces.proofs.Filling.{filled_all, filled_more, filled_none}
 use Rattle.band_pieces.proofs.alone_puts.put_values_alone.Goals as goal

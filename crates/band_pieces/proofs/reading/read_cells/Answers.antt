@@ -4,7 +4,7 @@ use Rattle.band_claims.specs.declared.sheet.Sheet.{Sheet}
 use Rattle.page_model.specs.Bands.{phase_of}
 use Rattle.row_cells.specs.Layouts.{IsLayout, Layout}
 use Rattle.row_cells.specs.Places.{lanes_of, value_total}
-use Rattle.band_workers.proofs.Cutting.{few_values}
+use Rattle.band_claims.proofs.Cutting.{few_values}
 use Rattle.band_pieces.proofs.Runs.{cells_few, next_cell, values_more}
 use Rattle.band_pieces.proofs.reading.read_cells.Goals as goal
 

@@ -3,7 +3,7 @@ use Rattle.page_model.specs.declared.bands.Bands.{Bands}
 use Rattle.page_model.specs.Bands.{phase_of}
 use Rattle.row_cells.specs.Places.{lanes_of, value_total}
 use Rattle.band_core.specs.Values.{value}
-use Rattle.band_workers.proofs.Cutting.{few_values}
+use Rattle.band_claims.proofs.Cutting.{few_values}
 use Rattle.band_claims.specs.declared.sheet.Sheet.{Sheet}
 use Rattle.band_pieces.proofs.Runs.{begins_at, whole_cells}
 use Rattle.band_pieces.proofs.reading.read_next.Goals as goal

@@ -1,6 +1,6 @@
 use Rattle.std.proofs.Common.{◌≡◌, ℕ, ◌+◌, ap, ◌∙◌, arith}
 use Rattle.band_core.specs.Values.{value}
-use Rattle.band_workers.proofs.Cutting.{few_values}
+use Rattle.band_claims.proofs.Cutting.{few_values}
 use Rattle.band_claims.specs.declared.sheet.Sheet.{Sheet}
 use Rattle.band_pieces.proofs.Runs.{values_more}
 use Rattle.band_pieces.proofs.reading.read_values.Goals as goal

@@ -1,7 +1,7 @@
 use Rattle.std.proofs.Common.{ℕ, ◌*◌, ap, ◌∙◌, arith}
 use Rattle.row_cells.specs.Places.{lanes_of}
-use Rattle.band_workers.proofs.Cutting.{cell_at}
-use Rattle.band_workers.proofs.putting.cut_of.Goals as goal
+use Rattle.band_claims.proofs.Cutting.{cell_at}
+use Rattle.band_claims.proofs.putting.cut_of.Goals as goal
 
 pub overflow_mul-first : goal.overflow_mul-first
 overflow_mul-first c =

@@ -1,8 +1,8 @@
 use Rattle.std.proofs.Common.{◌≡◌, ℕ, ◌+◌, ◌-◌, ◌*◌, ◌<◌, ◌≤◌, List, length, slice_index, sym, ap, ◌∙◌, subst, arith}
 use Rattle.row_cells.specs.Places.{lanes_of}
 use Rattle.row_cells.proofs.Numbers.{as_many}
-use Rattle.band_workers.proofs.Cutting.{cell_at, within_span, zero_cell}
-use Rattle.band_workers.proofs.putting.make_words.Goals as goal
+use Rattle.band_claims.proofs.Cutting.{cell_at, within_span, zero_cell}
+use Rattle.band_claims.proofs.putting.make_words.Goals as goal
 
 pub overflow_mul-from : goal.overflow_mul-from
 overflow_mul-from g c =

@@ -15,7 +15,7 @@ use Rattle.band_core.specs.Values.{value}
 use Rattle.band_core.proofs.Bridges.{cell_packs, fits}
 use Rattle.band_claims.specs.declared.sheet.Sheet.{Sheet}
 use Rattle.band_claims.specs.Sheets.{cell, IsFit}
-use Rattle.band_workers.specs.Filled.{AreValues, IsCut}
+use Rattle.band_claims.specs.Filled.{AreValues, IsCut}
 
 begins : (v l o : ℕ) → 1 ≤ l → o < ceiling v l → o * l < v
 begins v l o some m = elim (cases_eq v 0) [

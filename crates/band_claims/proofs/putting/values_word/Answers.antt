@@ -1,7 +1,7 @@
 use Rattle.std.proofs.Common.{ℕ, List, ◌∙◌, arith}
 use Rattle.row_cells.proofs.Numbers.{as_many}
-use Rattle.band_workers.proofs.Cutting.{AreCellValues, packs, small}
-use Rattle.band_workers.proofs.putting.values_word.Goals as goal
+use Rattle.band_claims.proofs.Cutting.{AreCellValues, packs, small}
+use Rattle.band_claims.proofs.putting.values_word.Goals as goal
 
 pub cut_of-cut-requires-clause-total : goal.cut_of-cut-requires-clause-total
 cut_of-cut-requires-clause-total g c = omega (arith, c.requires.values.long, as_many g.met.V.CellValue.each c.args.values.now)

@@ -3,9 +3,11 @@ ghost use Rattle.band_claims.specs.Seating.{Seats};
 ghost use Rattle.band_claims.specs.Sheets.{IsFit, cell, shape_of};
 ghost use Rattle.page_model.specs.Bands.{phase_of, pieces_of};
 ghost use Rattle.row_cells.specs.Places.{cell_total, first_cell_of, value_total};
-ghost use Rattle.band_workers.specs.Filled.{AreValues, IsCut, filled_to};
+ghost use Rattle.band_claims.specs.Filled.{AreValues, IsCut, filled_to};
 
-use band_claims::{Pass, Shared, Sheet};
+use crate::pass::Pass;
+use crate::shared::Shared;
+use crate::sheet::Sheet;
 use row_cells::layout::{bits, lanes};
 use row_cells::packing::pack;
 use row_cells::values::CellValue;

@@ -1,7 +1,7 @@
 use Rattle.std.proofs.Common.{◌≡◌, ◌+◌}
 use Rattle.band_claims.specs.Seating.{Seats}
-use Rattle.band_workers.specs.Filled.{filled_to}
-use Rattle.band_workers.proofs.putting.put_words.Given as goal
+use Rattle.band_claims.specs.Filled.{filled_to}
+use Rattle.band_claims.proofs.putting.put_words.Given as goal
 
 abbrev pub invariant-loop-k : goal.invariant-loop-k
 invariant-loop-k l = record {

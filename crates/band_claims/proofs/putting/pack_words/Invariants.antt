@@ -1,7 +1,7 @@
 use Rattle.std.proofs.Common.{◌≡◌, ℕ, ◌+◌, ◌<◌, slice_index}
 use Rattle.row_cells.specs.Places.{first_cell_of}
 use Rattle.band_claims.specs.Sheets.{cell}
-use Rattle.band_workers.proofs.putting.pack_words.Given as goal
+use Rattle.band_claims.proofs.putting.pack_words.Given as goal
 
 abbrev pub invariant-loop-k : goal.invariant-loop-k
 invariant-loop-k g l = (j : ℕ) → j < l.k → slice_index l.words j ≡ cell l.sheet (first_cell_of l.sheet.layout l.piece + (l.first + j))
