@@ -8,6 +8,8 @@ mod fixtures;
 #[cfg(test)]
 mod pages_read;
 #[cfg(test)]
+mod planes_read;
+#[cfg(test)]
 mod plates_read;
 #[cfg(test)]
 mod plates_written;

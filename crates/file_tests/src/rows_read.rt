@@ -4,7 +4,7 @@ use crate::fixtures::{by, judge, tray_of};
 use outside::mem_tray::MemTray;
 use pgm_plates::bounds::Bounds;
 use pgm_plates::plate::{PlateFault, PlateRefusal};
-use pgm_plates::rows::{begin_plate, end_plate, read_rows};
+use pgm_plates::rows::{begin_plate, end_plate, judge_rows, read_rows};
 use std::alloc::Global;
 use std::process::Abort;
 
@@ -28,6 +28,25 @@ fn read_parts(
         Err(refusal) => return Err(refusal),
     }
     match read_rows(tray, plate, first.len() as u64, second, piece) {
+        Ok(()) => end_plate(tray, plate),
+        Err(refusal) => Err(refusal),
+    }
+}
+
+// Judges the six samples of a plate, so many at first, and then the rest.
+fn judge_six(tray: &mut MemTray, first: u64, piece: &mut [u8]) -> Result<(), PlateRefusal>
+    requires room { 2 ≤ length piece.old }
+    requires first { first ≤ 6 }
+{
+    let plate = match begin_plate(tray, "one", Bounds::Sheet) {
+        Ok(plate) => plate,
+        Err(refusal) => return Err(refusal),
+    };
+    match judge_rows(tray, plate, 0, first, piece) {
+        Ok(()) => {}
+        Err(refusal) => return Err(refusal),
+    }
+    match judge_rows(tray, plate, first, 6 - first, piece) {
         Ok(()) => end_plate(tray, plate),
         Err(refusal) => Err(refusal),
     }
@@ -88,6 +107,14 @@ const SIXES: &[(&str, Result<[u16; 6], PlateFault>)] = &[
         "P5 2 3 300 \x00\x01\x00\x02\x00\x03\x00\x04\x00\x05\x00\x06 ",
         Err(PlateFault::TrailingBytes(23)),
     ),
+    (
+        "P5 2 3 255 \x01\x02\x03\x04\x05\x7f",
+        Ok([1, 2, 3, 4, 5, 127]),
+    ),
+    (
+        "P5 2 3 65535 \x00\x01\x00\x02\x00\x03\x00\x04\x00\x05\x7f\x7f",
+        Ok([1, 2, 3, 4, 5, 32_639]),
+    ),
     ("P5 2 3 0 ", Err(PlateFault::MaxvalRange(7))),
 ];
 
@@ -115,6 +142,31 @@ fn six_of(
     read_six(&mut tray, first, piece)
 }
 
+fn is_judged(one: Result<(), PlateRefusal>, other: Result<[u16; 6], PlateFault>) -> bool {
+    match (one, other) {
+        (Ok(()), Ok(_)) => true,
+        (Err(PlateRefusal::Fault(fault)), Err(want)) => fault == want,
+        (_, _) => false,
+    }
+}
+
+// The answer to a file that is judged in two parts.
+fn judged_of(
+    rt: &impl Abort,
+    alloc: Global,
+    text: &str,
+    first: usize,
+    piece: usize,
+) -> Result<(), PlateRefusal>
+    requires first { first ≤ 6 }
+    requires some { 2 ≤ piece }
+    requires room { piece ≤ 64 }
+{
+    let mut tray = tray_of(rt, alloc, text.as_bytes(), by(3));
+    let mut bytes = [0u8; 64];
+    judge_six(&mut tray, first as u64, &mut bytes[..piece])
+}
+
 // Judges all files, with so many samples at first, by pieces of so many bytes.
 fn judge_sixes(rt: &impl Abort, alloc: Global, first: usize, piece: usize)
     requires first { first ≤ 6 }
@@ -124,6 +176,8 @@ fn judge_sixes(rt: &impl Abort, alloc: Global, first: usize, piece: usize)
     for (text, want) in SIXES {
         let is = is_same(six_of(rt, alloc, text, first, piece), *want);
         assert!(rt; is, "{text} by {first} and {piece}");
+        let judged = judged_of(rt, alloc, text, first, piece);
+        judge(rt, is_judged(judged, *want), text, piece as u64);
     }
 }
 
