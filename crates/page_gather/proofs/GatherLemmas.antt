@@ -4,13 +4,14 @@ use Rattle.std.specs.Result.{MatchResult}
 use Rattle.outside.specs.Causes.{Asks, AsksPrefix}
 use Rattle.outside.specs.Tray.{TrayState, KeepsTray}
 use Rattle.outside.proofs.Names.{asks_then, asks_all, asks_prefix, asks_first}
-use Rattle.outside.proofs.Steps.{rose_before}
+use Rattle.outside.proofs.Steps.{kept_tray, rose_before}
 use Rattle.job_reader.specs.declared.job.Job.{Job}
-use Rattle.job_reader.specs.Jobs.{job_of}
 use Rattle.page_model.specs.declared.parts.PageParts.{PageParts}
 use Rattle.page_model.specs.declared.page.PageFault.{PageFault}
 use Rattle.pgm_plates.specs.declared.plate.Plate.{Plate as PlateRead}
+use Rattle.pgm_plates.specs.declared.plate.PlateFault.TheVariants.{BadMagic, BadHeader, SideRange, TooManySamples, MaxvalRange, SampleAboveMaxval, Truncated, TrailingBytes}
 use Rattle.pgm_plates.specs.Faults.{IsFault}
+use Rattle.pgm_plates.specs.Reading.{AreFew}
 use Rattle.page_gather.specs.Assembly.{assembly, assembled, detailed, faulted, without_details}
 use Rattle.page_model.specs.Faults.{page_fault}
 use Rattle.page_model.specs.Page.{plates}
@@ -18,13 +19,34 @@ use Rattle.pgm_plates.specs.Planes.{plane_of}
 use Rattle.std.proofs.lemmas.List.{length-map}
 use Rattle.refusals.specs.declared.refusal.Refusal.{Refusal}
 use Rattle.refusals.specs.declared.refusal.Refusal.TheVariants.{Usage, Job as JobRefusal, NoDetails, Plate, Page, Read, Write, Memory}
-use Rattle.page_gather.specs.Inputs.{Sources, Holds, AreRead, Inputs, Makes, one_page, read_files, name_at}
-use Rattle.page_gather.specs.Steps.{ReadsJob, AnswersJob, ReadsPlates, AnswersPlates, PassesNoFault, PlateInHand}
-use Rattle.page_gather.specs.Gathering.{Gathers, AnswersPage, InHand, ReadsPage}
-use Rattle.page_gather.proofs.PlateLemmas.{held_before, faultless_before, count_then}
+use Rattle.page_gather.specs.Inputs.{Sources, AreRead, Inputs, Makes, one_page, read_files, name_at}
+use Rattle.page_gather.specs.Steps.{ReadsJob, AnswersJob, ReadsPlates, PassesNoFault, HaveNoFault, plates_sought}
+use Rattle.page_gather.specs.Gathering.{Gathers, AnswersPage, ReadsPage}
+use Rattle.page_gather.specs.Looks.{Refuses, StopsAt}
+use Rattle.page_gather.proofs.LookLemmas.{held_before, in_hand_before, refused_prefix, refuses_before, some_in_hand, taken_before}
+use Rattle.page_gather.proofs.PlateLemmas.{refusal_passes}
 
-kept : (a b c : TrayState) → KeepsTray a b → KeepsTray b c → KeepsTray a c
-kept a b c one two = record { tells = two.tells ∙ one.tells; file = two.file ∙ one.file; faults = omega arith }
+-- the count of faults where what came before kept it
+pub count_then : (T U : Type 0) (a b c : TrayState) (refusal : Refusal) → b.faults ≡ a.faults → PassesNoFault {T = T} b c (Err refusal) → PassesNoFault {T = U} a c (Err refusal)
+count_then T U a b c (Read file) calm count = tt
+count_then T U a b c (Plate k (SampleAboveMaxval at)) calm count = tt
+count_then T U a b c (Plate k (BadMagic at)) calm count = count ∙ calm
+count_then T U a b c (Plate k (BadHeader at)) calm count = count ∙ calm
+count_then T U a b c (Plate k (SideRange at)) calm count = count ∙ calm
+count_then T U a b c (Plate k (TooManySamples at)) calm count = count ∙ calm
+count_then T U a b c (Plate k (MaxvalRange at)) calm count = count ∙ calm
+count_then T U a b c (Plate k (Truncated at)) calm count = count ∙ calm
+count_then T U a b c (Plate k (TrailingBytes at)) calm count = count ∙ calm
+count_then T U a b c Usage calm count = count ∙ calm
+count_then T U a b c (JobRefusal fault) calm count = count ∙ calm
+count_then T U a b c (NoDetails at) calm count = count ∙ calm
+count_then T U a b c (Page fault) calm count = count ∙ calm
+count_then T U a b c (Write file) calm count = count ∙ calm
+count_then T U a b c Memory calm count = count ∙ calm
+
+-- a refusal's count of faults, told of another result
+pub refused_count : (T U : Type 0) (a b : TrayState) (refusal : Refusal) → PassesNoFault {T = T} a b (Err refusal) → PassesNoFault {T = U} a b (Err refusal)
+refused_count T U a b refusal count = count_then T U a a b refusal refl count
 
 -- the job is refused
 answer_job : (source : Sources) (a b : TrayState) (refusal : Refusal) → Asks a.asked b.asked (source.job ∷ []) → AnswersJob source.job a b (Err refusal) → AnswersPage source a b (Err refusal)
@@ -46,7 +68,7 @@ job_refused source a b refusal reads = record {
   keeps = reads.keeps;
   asked = one_of a.asked b.asked source.job source.inputs reads.asked;
   in_hand = inl reads.few;
-  count = count_then Job PageParts a a b refusal refl reads.count;
+  count = refused_count Job PageParts a b refusal reads.count;
   answer = answer_job source a b refusal reads.asked reads.answer;
 }
 
@@ -78,71 +100,45 @@ asked_to source a b c plate one two =
 read_before : (a b : TrayState) (names : List (List ℕ)) (count : ℕ) (plates : List PlateRead) → KeepsTray a b → AreRead one_page b.file names count plates → AreRead one_page a.file names count plates
 read_before a b names count plates keeps read = subst (λ (files : List ℕ → Option (List ℕ)). AreRead one_page files names count plates) keeps.file read
 
--- the plate in hand, of a tray that is the same as before the job was read
-plate_in_hand : (source : Sources) (a b c : TrayState) → KeepsTray a b → PlateInHand source.inputs b c → InHand source a c
-plate_in_hand source a b c keeps there = inr (
-  there.0,
-  there.1,
-  record {
-    bytes = there.2.bytes;
-    taken = λ begun tells. ap (λ (files : List ℕ → Option (List ℕ)). files (name_at source.inputs there.0)) (sym keeps.file) ∙ there.2.taken begun (keeps.tells ∙ tells);
-    few = there.2.few;
-  },
-)
-
 -- one of the plates is refused
-answer_plates : (source : Sources) (a b c : TrayState) (job : Job) (refusal : Refusal) → KeepsTray a b → Asks a.asked b.asked (source.job ∷ []) → (IsTrue a.tells → Holds a.file source.job (λ bytes. job_of bytes ≡ Ok job)) → AnswersPlates source.inputs b c (Err refusal) → AnswersPage source a c (Err refusal)
-answer_plates source a b c job (Plate plate fault) keeps asked job_read answer = (
-  asked_to source a b c plate asked answer.0.asked,
-  λ tells. record {
-    job = job;
-    plates = answer.0.plates;
-    job_read = job_read tells;
-    before = read_before a b source.inputs plate answer.0.plates keeps (answer.0.before_it (keeps.tells ∙ tells));
-    known = answer.0.known;
-    broken = held_before a b (name_at source.inputs plate) (λ bytes. IsFault bytes fault) keeps answer.1 tells;
-  },
-)
-answer_plates source a b c job (Read (Some plate)) keeps asked job_read answer = (
-  rose_before a.faults b.faults c.faults keeps.faults answer.1,
-  asked_to source a b c plate asked answer.0.asked,
-  record {
-    known = answer.0.known;
-    job = job;
-    plates = answer.0.plates;
-    job_read = job_read;
-    before_it = λ tells. read_before a b source.inputs plate answer.0.plates keeps (answer.0.before_it (keeps.tells ∙ tells));
-    in_hand = faultless_before a b c (name_at source.inputs plate) keeps answer.2;
-  },
-)
-answer_plates source a b c job Memory keeps asked job_read answer = tt
-answer_plates source a b c job Usage keeps asked job_read answer = absurd answer
-answer_plates source a b c job (JobRefusal fault) keeps asked job_read answer = absurd answer
-answer_plates source a b c job (NoDetails plate) keeps asked job_read answer = absurd answer
-answer_plates source a b c job (Page fault) keeps asked job_read answer = absurd answer
-answer_plates source a b c job (Read None) keeps asked job_read answer = absurd answer
-answer_plates source a b c job (Write file) keeps asked job_read answer = absurd answer
+module _ (source : Sources) (a b c : TrayState) (job : Job) (first : ReadsJob source.job a b (Ok job)) where
+  plate_answer : (k : ℕ) (refusal : Refusal) → StopsAt plates_sought source.inputs k b c → Refuses plates_sought k (name_at source.inputs k) b c refusal → AnswersPage source a c (Err refusal)
+  plate_answer k refusal at (Refuses.refused fault is count held) = subst (λ (r : Refusal). AnswersPage source a c (Err r)) (sym is) (
+    asked_to source a b c k first.asked at.asked,
+    λ tells. record {
+      job = job;
+      plates = at.found;
+      job_read = first.answer.1 tells;
+      before = read_before a b source.inputs k at.found first.keeps (at.before_it (first.keeps.tells ∙ tells));
+      known = at.known;
+      broken = held_before a b (name_at source.inputs k) (λ bytes. IsFault bytes fault) first.keeps held tells;
+    },
+  )
+  plate_answer k refusal at (Refuses.unread is rose taken) = subst (λ (r : Refusal). AnswersPage source a c (Err r)) (sym is) (
+    rose_before a.faults b.faults c.faults first.keeps.faults rose,
+    asked_to source a b c k first.asked at.asked,
+    record {
+      known = at.known;
+      job = job;
+      plates = at.found;
+      job_read = first.answer.1;
+      before_it = λ tells. read_before a b source.inputs k at.found first.keeps (at.before_it (first.keeps.tells ∙ tells));
+      in_hand = taken_before HaveNoFault a b c (name_at source.inputs k) first.keeps taken;
+    },
+  )
+  plate_answer k refusal at (Refuses.no_memory is calm) = subst (λ (r : Refusal). AnswersPage source a c (Err r)) (sym is) tt
 
--- the names that were handed out when a plate was refused
-prefix_of : (names : List (List ℕ)) (b c : TrayState) (refusal : Refusal) → AnswersPlates names b c (Err refusal) → AsksPrefix b.asked c.asked names
-prefix_of names b c (Plate plate fault) answer = asks_prefix b.asked c.asked (plate + 1) names answer.0.asked
-prefix_of names b c (Read (Some plate)) answer = asks_prefix b.asked c.asked (plate + 1) names answer.0.asked
-prefix_of names b c Memory answer = answer
-prefix_of names b c Usage answer = absurd answer
-prefix_of names b c (JobRefusal fault) answer = absurd answer
-prefix_of names b c (NoDetails plate) answer = absurd answer
-prefix_of names b c (Page fault) answer = absurd answer
-prefix_of names b c (Read None) answer = absurd answer
-prefix_of names b c (Write file) answer = absurd answer
+  plate_count_kept : (k : ℕ) (refusal : Refusal) → Refuses plates_sought k (name_at source.inputs k) b c refusal → PassesNoFault {T = PageParts} a c (Err refusal)
+  plate_count_kept k refusal why = refusal_passes PageParts k refusal (name_at source.inputs k) a c (refuses_before plates_sought k (name_at source.inputs k) a b c refusal first.keeps first.count why)
 
-pub plates_refused : (source : Sources) (a b c : TrayState) (job : Job) (refusal : Refusal) → 0 < length source.inputs → ReadsJob source.job a b (Ok job) → ReadsPlates source.inputs b c (Err refusal) → Gathers source a c (Err refusal)
-plates_refused source a b c job refusal some first next = record {
-  keeps = kept a b c first.keeps next.keeps;
-  asked = asks_first a.asked b.asked c.asked source.job source.inputs first.asked (prefix_of source.inputs b c refusal next.answer);
-  in_hand = plate_in_hand source a b c first.keeps (next.few some);
-  count = count_then (List PlateRead) PageParts a b c refusal first.count next.count;
-  answer = answer_plates source a b c job refusal first.keeps first.asked first.answer.1 next.answer;
-}
+  pub plates_refused : (refusal : Refusal) → 0 < length source.inputs → ReadsPlates source.inputs b c (Err refusal) → Gathers source a c (Err refusal)
+  plates_refused refusal some next = record {
+    keeps = kept_tray a b c first.keeps next.keeps;
+    asked = asks_first a.asked b.asked c.asked source.job source.inputs first.asked (refused_prefix plates_sought source.inputs b c refusal next.answer);
+    in_hand = inr (in_hand_before AreFew source.inputs a b c first.keeps (some_in_hand AreFew source.inputs (length source.inputs) b c some next.in_hand));
+    count = plate_count_kept next.answer.0 refusal next.answer.2;
+    answer = plate_answer next.answer.0 refusal next.answer.1 next.answer.2;
+  }
 
 -- all names were handed out
 asked_all : (source : Sources) (a b c : TrayState) → Asks a.asked b.asked (source.job ∷ []) → Asks b.asked c.asked source.inputs → Asks a.asked c.asked (read_files source)
@@ -193,14 +189,14 @@ pub page_made : (source : Sources) (a b c : TrayState) (job : Job) (plates : Lis
 page_made source a b c job plates result some first next met =
     let asked : Asks a.asked c.asked (read_files source) = asked_all source a b c first.asked next.answer.0 in
     record {
-      keeps = kept a b c first.keeps next.keeps;
+      keeps = kept_tray a b c first.keeps next.keeps;
       asked = asks_all a.asked c.asked (read_files source) asked;
-      in_hand = plate_in_hand source a b c first.keeps (next.few some);
-      count = made_count source a c result job plates (next.count ∙ first.count) met;
+      in_hand = inr (in_hand_before AreFew source.inputs a b c first.keeps (some_in_hand AreFew source.inputs (length source.inputs) b c some next.in_hand));
+      count = made_count source a c result job plates (next.answer.3 ∙ first.count) met;
       answer = answer_met source a c result job plates next.answer.1 asked
           (λ tells. record {
             job_read = first.answer.1 tells;
-            plates_read = read_before a b source.inputs (length source.inputs) plates first.keeps (next.answer.3 (first.keeps.tells ∙ tells));
+            plates_read = read_before a b source.inputs (length source.inputs) plates first.keeps (next.answer.4 (first.keeps.tells ∙ tells));
           })
           met;
     }
@@ -208,10 +204,6 @@ page_made source a b c job plates result some first next met =
 -- as many files as inputs that give their names
 pub some_inputs : {X : Type 0} (text : X → List ℕ) (inputs : List X) → 1 ≤ length inputs → 0 < length (map text inputs)
 some_inputs text inputs some = omega (arith, length-map inputs text, some)
-
--- a refusal's count of faults, told of another result
-pub refused_count : (T U : Type 0) (a b : TrayState) (refusal : Refusal) → PassesNoFault {T = T} a b (Err refusal) → PassesNoFault {T = U} a b (Err refusal)
-refused_count T U a b refusal count = count_then T U a a b refusal refl count
 
 -- A page that was read was gathered.
 pub gathered : (source : Sources) (a b : TrayState) (page : PageParts) → ReadsPage source a b (Ok page) → Gathers source a b (Ok page)

@@ -1,4 +1,5 @@
 pub mod AssemblyLemmas
 pub mod JobLemmas
+pub mod LookLemmas
 pub mod PlateLemmas
 pub mod GatherLemmas

@@ -52,12 +52,18 @@ plate_at plates k = slice_index_or plates k no_plate
 abbrev pub Holds : (List ℕ → Option (List ℕ)) → List ℕ → (List ℕ → Type 0) → Type 0
 Holds files name Fact = (bytes : List ℕ) × (files name ≡ Some bytes) × Fact bytes
 
--- The first files of these names, so many, spell these plates.
-pub record AreRead (spelling : Spelling) (files : List ℕ → Option (List ℕ)) (names : List (List ℕ))
-    (count : ℕ) (plates : List Plate) : Type 0 where
-  pub all : length plates ≡ count
+-- The first files of these names, so many, give these values.
+pub record AreFound {V : Type 0} (Gives : List ℕ → V → Type 0) (none : V)
+    (files : List ℕ → Option (List ℕ)) (names : List (List ℕ)) (count : ℕ)
+    (values : List V) : Type 0 where
+  pub all : length values ≡ count
   pub each : (k : ℕ) → k < count
-      → Holds files (name_at names k) (λ bytes. spelling.plate bytes (plate_at plates k))
+      → Holds files (name_at names k) (λ bytes. Gives bytes (slice_index_or values k none))
+
+-- The same of what they spell: plates.
+abbrev pub AreRead : Spelling → (List ℕ → Option (List ℕ)) → List (List ℕ) → ℕ → List Plate
+    → Type 0
+AreRead spelling = AreFound spelling.plate no_plate
 
 -- The job and all plates are read.
 pub record Inputs (spelling : Spelling) (files : List ℕ → Option (List ℕ)) (source : Sources)

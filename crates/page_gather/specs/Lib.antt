@@ -1,4 +1,5 @@
 pub mod Assembly
 pub mod Inputs
+pub mod Looks
 pub mod Steps
 pub mod Gathering

@@ -1,7 +1,7 @@
 -- The steps in which a page is read.
-use Rattle.std.specs.Prelude.{◌≡◌, ℕ, ◌<◌, ◌+◌, IsTrue, List, [], ◌∷◌, ◌++◌, length, take, All}
-use Rattle.std.specs.Prelude.{Some, None, Result, Ok, Err}
-use Rattle.outside.specs.Causes.{Rose, Asks, AsksPrefix}
+use Rattle.std.specs.Prelude.{◌≡◌, ℕ, Bool, true, false, IsTrue, List, [], ◌∷◌, Some, None, Result}
+use Rattle.std.specs.Prelude.{Ok, Err}
+use Rattle.outside.specs.Causes.{Rose, Asks}
 use Rattle.outside.specs.Reading.{TakesFew}
 use Rattle.outside.specs.Tray.{TrayState, KeepsTray}
 use Rattle.job_reader.specs.declared.job.Job.{Job}
@@ -18,7 +18,8 @@ use Rattle.ps_tokens.specs.declared.faults.JobRefusal.TheVariants.{Fault, OutOfM
 use Rattle.refusals.specs.declared.refusal.Refusal.{Refusal}
 use Rattle.refusals.specs.declared.refusal.Refusal.TheVariants.{Job as JobRefusal, Plate, Read}
 use Rattle.refusals.specs.declared.refusal.Refusal.TheVariants.{Memory}
-use Rattle.page_gather.specs.Inputs.{Holds, AreRead, one_page, name_at}
+use Rattle.page_gather.specs.Inputs.{Holds, no_plate}
+use Rattle.page_gather.specs.Looks.{FileInHand, HasTaken, LooksThrough, Sought, Takes}
 
 -- how many bytes are taken of a job at most: as many as it may have, and one
 abbrev pub most_of_job : ℕ
@@ -30,11 +31,8 @@ TakesJob name before after =
     IsTrue after.begun → IsTrue before.tells → TakesFew name most_of_job before after
 
 -- Some bytes are taken off the beginning of the plate's file, no more than are owed.
-pub record TakesPlate (name : List ℕ) (before after : TrayState) : Type 0 where
-  pub bytes : List ℕ
-  pub taken : IsTrue after.begun → IsTrue before.tells
-      → before.file name ≡ Some (bytes ++ after.left)
-  pub few : AreFew bytes
+abbrev pub TakesPlate : List ℕ → TrayState → TrayState → Type 0
+TakesPlate = Takes AreFew
 
 -- No fault of the tray is passed over: the count stays at each answer but a read fault, and but
 -- a sample above the maxval, which may be among the bytes that came before a failed read.
@@ -62,65 +60,44 @@ pub record ReadsJob (name : List ℕ) (before after : TrayState)
   pub count : PassesNoFault before after result
   pub answer : AnswersJob name before after result
 
+-- Bytes that have no fault, but for an early end.
+abbrev pub HaveNoFault : List ℕ → Type 0
+HaveNoFault bytes = (fault : PlateFault) → IsFault bytes fault → IsTruncated fault
+
 -- Some bytes were taken off the beginning of the plate's file that is in hand: but for an early end
 -- they have no fault.
 abbrev pub IsFaultless : List ℕ → TrayState → TrayState → Type 0
-IsFaultless name before after = IsTrue after.begun → IsTrue before.tells
-    → (bytes : List ℕ) × (before.file name ≡ Some (bytes ++ after.left))
-    × ((fault : PlateFault) → IsFault bytes fault → IsTruncated fault)
+IsFaultless = HasTaken HaveNoFault
 
--- what the answer says of the bytes of plate k
-abbrev pub AnswersPlate : ℕ → List ℕ → TrayState → TrayState → Result PlateRead Refusal → Type 0
-AnswersPlate k name before after (Ok plate) = IsPlate plate
-    × (IsTrue before.tells → Holds before.file name (λ bytes. IsPlateFile bytes plate))
-AnswersPlate k name before after (Err (Plate at fault)) =
-    (at ≡ k) × (IsTrue before.tells → Holds before.file name (λ bytes. IsFault bytes fault))
-AnswersPlate k name before after (Err (Read (Some at))) =
-    (at ≡ k) × Rose before.faults after.faults × IsFaultless name before after
-AnswersPlate k name before after (Err Memory) = Unit {0}
-AnswersPlate k name before after (Err other) = ⊥
+-- whether a failed read may stand behind that fault: it does behind a sample above the maxval
+abbrev pub may_hide : PlateFault → Bool
+may_hide (SampleAboveMaxval at) = true
+may_hide other = false
 
--- Plate k is read from the file of that name.
-pub record ReadsOne (k : ℕ) (name : List ℕ) (before after : TrayState)
-    (result : Result PlateRead Refusal) : Type 0 where
-  pub keeps : KeepsTray before after
-  pub asked : Asks before.asked after.asked (name ∷ [])
-  pub few : TakesPlate name before after
-  pub count : PassesNoFault before after result
-  pub answer : AnswersPlate k name before after result
-
--- so many plates are read, and the next one is refused
-pub record Stops (names : List (List ℕ)) (k : ℕ) (before after : TrayState) : Type 0 where
-  pub known : k < length names
-  pub asked : Asks before.asked after.asked (take (k + 1) names)
-  pub plates : List PlateRead
-  pub before_it : IsTrue before.tells → AreRead one_page before.file names k plates
-
--- what the answer says of the plates' bytes, where these are told
-abbrev pub AnswersPlates : List (List ℕ) → TrayState → TrayState → Result (List PlateRead) Refusal
-    → Type 0
-AnswersPlates names before after (Ok plates) = Asks before.asked after.asked names
-    × (length plates ≡ length names) × All IsPlate plates
-    × (IsTrue before.tells → AreRead one_page before.file names (length names) plates)
-AnswersPlates names before after (Err (Plate k fault)) = Stops names k before after
-    × (IsTrue before.tells → Holds before.file (name_at names k) (λ bytes. IsFault bytes fault))
-AnswersPlates names before after (Err (Read (Some k))) = Stops names k before after
-    × Rose before.faults after.faults × IsFaultless (name_at names k) before after
-AnswersPlates names before after (Err Memory) = AsksPrefix before.asked after.asked names
-AnswersPlates names before after (Err other) = ⊥
+-- the plate of each file, or its first fault
+abbrev pub plates_sought : Sought PlateRead Refusal
+plates_sought = record {
+  gives = IsPlateFile;
+  fine = IsPlate;
+  none = no_plate;
+  Reason = PlateFault;
+  because = λ fault bytes. IsFault bytes fault;
+  may_hide = may_hide;
+  sound = HaveNoFault;
+  few = AreFew;
+  refused = λ k fault. Plate k fault;
+  unread = λ k. Read (Some k);
+  memory = Memory;
+}
 
 -- Where a plate is in hand, no more is taken of it than is owed.
 abbrev pub PlateInHand : List (List ℕ) → TrayState → TrayState → Type 0
-PlateInHand names before after =
-    (k : ℕ) × (k < length names) × TakesPlate (name_at names k) before after
+PlateInHand = FileInHand AreFew
 
 -- The plates of these files are read, up to the first that is refused.
-pub record ReadsPlates (names : List (List ℕ)) (before after : TrayState)
-    (result : Result (List PlateRead) Refusal) : Type 0 where
-  pub keeps : KeepsTray before after
-  pub few : 0 < length names → PlateInHand names before after
-  pub count : PassesNoFault before after result
-  pub answer : AnswersPlates names before after result
+abbrev pub ReadsPlates : List (List ℕ) → TrayState → TrayState → Result (List PlateRead) Refusal
+    → Type 0
+ReadsPlates = LooksThrough plates_sought
 
 -- a job that was read, or its refusal as the program tells it
 abbrev pub Judges : Result Job JobRefusals → Result Job Refusal → Type 0

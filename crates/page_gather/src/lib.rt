@@ -4,4 +4,5 @@
 pub mod assemble;
 pub mod gather;
 pub mod job;
+pub mod looks;
 pub mod plates;

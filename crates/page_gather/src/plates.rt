@@ -1,8 +1,8 @@
 ghost use Rattle.std.specs.Prelude.{◌<◌, ◌≤◌, length, map};
-ghost use Rattle.page_gather.specs.Steps.{ReadsOne, ReadsPlates};
+ghost use Rattle.page_gather.specs.Steps.{ReadsPlates, plates_sought};
 
 use crate::assemble::PlateList;
-use lists::list::List;
+use crate::looks::{Look, look_through};
 use outside::tray::Tray;
 use pgm_plates::laws::{file_fault, file_plate};
 use pgm_plates::plate::{Plate, PlateRefusal};
@@ -21,34 +21,41 @@ pub fn read_plates<T: Tray, S: AsStr>(
     requires { length inputs.now ≤ 16 }
     ensures { ReadsPlates (map S.text inputs.now) (T.state tray.old) (T.state tray.new) result }
 {
-    let mut plates = List::new(alloc);
-    for place in 0..inputs.len() {
-        match read_one(alloc, tray, place as u32, inputs[place].as_str()) {
-            Ok(plate) => {
-                if plates.push(plate).is_err() {
-                    return Err(Refusal::Memory);
-                }
-            }
-            Err(refusal) => return Err(refusal),
-        }
-    }
-    Ok(plates)
+    look_through(alloc, tray, inputs, &Plates)
 }
 
-// Reads one plate, the one of that number.
-fn read_one<T: Tray>(alloc: Global, tray: &mut T, plate: u32, name: &str) -> Result<Plate, Refusal>
-    ensures { ReadsOne plate name.now (T.state tray.old) (T.state tray.new) result }
-{
-    match read_plate(alloc, tray, name) {
-        Ok(read) => {
-            file_plate();
-            Ok(read)
+// The plate of each file.
+struct Plates;
+
+impl Look for Plates {
+    type Found = Plate;
+
+    type Refusal = Refusal;
+
+    ghost sought = { λ look. plates_sought };
+
+    fn look<T: Tray>(
+        &self,
+        alloc: Global,
+        tray: &mut T,
+        number: u32,
+        name: &str,
+    ) -> Result<Plate, Refusal> {
+        match read_plate(alloc, tray, name) {
+            Ok(read) => {
+                file_plate();
+                Ok(read)
+            }
+            Err(PlateRefusal::Fault(fault)) => {
+                file_fault();
+                Err(Refusal::Plate(number, fault))
+            }
+            Err(PlateRefusal::ReadFault) => Err(Refusal::Read(Some(number))),
+            Err(PlateRefusal::OutOfMemory) => Err(Refusal::Memory),
         }
-        Err(PlateRefusal::Fault(fault)) => {
-            file_fault();
-            Err(Refusal::Plate(plate, fault))
-        }
-        Err(PlateRefusal::ReadFault) => Err(Refusal::Read(Some(plate))),
-        Err(PlateRefusal::OutOfMemory) => Err(Refusal::Memory),
+    }
+
+    fn no_memory(&self) -> Refusal {
+        Refusal::Memory
     }
 }

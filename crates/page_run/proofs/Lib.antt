@@ -1,6 +1,5 @@
 pub mod JobLemmas
 pub mod ImageLemmas
-pub mod EndLemmas
 pub mod GatherLemmas
 pub mod OpenLemmas
 pub mod PutLemmas

@@ -11,7 +11,7 @@ use Rattle.outside.proofs.Names.{asks_none, asks_then}
 use Rattle.outside.proofs.Steps.{kept_then, kept_tray, once_before, rose_before}
 use Rattle.page_gather.specs.Inputs.{Sources, AreRead, Makes, name_at}
 use Rattle.page_gather.specs.Steps.{TakesJob}
-use Rattle.page_gather.proofs.PlateLemmas.{count_then, held_before}
+use Rattle.page_gather.proofs.GatherLemmas.{count_then}
 use Rattle.page_model.specs.declared.parts.PageParts.{PageParts}
 use Rattle.page_model.specs.Conditions.{IsPage}
 use Rattle.page_model.specs.Counts.{page_counts}
@@ -23,7 +23,8 @@ use Rattle.page_writing.specs.Writing.{FinishesAll, WritesAll}
 use Rattle.page_writing.proofs.Steps.{wrote_none}
 use Rattle.page_run.specs.Gathering.{IsJobOf, IsPageMade, StopsPage}
 use Rattle.page_run.specs.InHand.{InHand, MayHold}
-use Rattle.page_run.proofs.ImageLemmas.{unbroken_before}
+use Rattle.page_run.specs.Reading.{AreUnbroken}
+use Rattle.page_gather.proofs.LookLemmas.{held_before, taken_before}
 use Rattle.traprun_verdicts.specs.declared.stop.TraprunError.{TraprunError}
 use Rattle.traprun_verdicts.specs.declared.stop.TraprunError.TheVariants.{AtPage, Ends}
 use Rattle.traprun_verdicts.specs.Images.{page_spelling}
@@ -183,7 +184,7 @@ module _ (source : Sources) (target : Targets) (t b c : TrayState) (r r1 r2 : Ra
             plates = breaks.plates;
             job_read = λ tells. held_before t b source.job (λ all. (page_spelling (length pages)).job all ≡ Ok breaks.job) done.tray_keeps breaks.job_read tells;
             before_it = from_first t b (λ files. AreRead (page_spelling (length pages)) files source.inputs plate breaks.plates) done.tray_keeps breaks.before_it;
-            in_hand = unbroken_before (length pages) t b c (name_at source.inputs plate) done.tray_keeps breaks.in_hand;
+            in_hand = taken_before (AreUnbroken (length pages)) t b c (name_at source.inputs plate) done.tray_keeps breaks.in_hand;
           },
         ) in_hand)
     stopped_by stop same in_hand (StopsPage.no_memory is calm asked) =

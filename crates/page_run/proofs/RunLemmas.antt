@@ -1,13 +1,15 @@
 -- A run, from its job to the look after its last page.
-use Rattle.std.proofs.Common.{◌≡◌, ℕ, ◌<◌, List, [], ◌∷◌, ◌++◌, length, Some, None, Result, Ok, Err, IsTrue, inl, inr, refl, sym, ap, ◌∙◌, subst, arith}
+use Rattle.std.proofs.Common.{◌≡◌, ℕ, ◌<◌, ◌+◌, List, [], ◌∷◌, ◌++◌, length, Some, None, Result, Ok, Err, IsTrue, inl, inr, refl, sym, ap, ◌∙◌, subst, arith}
 use Rattle.outside.specs.Causes.{Asks}
 use Rattle.outside.specs.Tray.{TrayState, KeepsTray}
 use Rattle.outside.specs.Rack.{RackState}
-use Rattle.outside.proofs.Names.{asks_then}
+use Rattle.outside.proofs.Names.{asks_prefix, asks_then}
 use Rattle.outside.proofs.Steps.{kept_tray, rose_before}
 use Rattle.page_gather.specs.Inputs.{Sources, Holds, name_at}
 use Rattle.page_gather.specs.Steps.{TakesJob}
-use Rattle.page_gather.proofs.PlateLemmas.{held_before}
+use Rattle.page_gather.specs.Looks.{Refuses, StopsAt}
+use Rattle.page_gather.proofs.LookLemmas.{held_before, taken_before}
+use Rattle.page_gather.proofs.PlateLemmas.{plate_count}
 use Rattle.page_model.specs.declared.parts.PageParts.{PageParts}
 use Rattle.page_run.specs.Endings.{AnswersRun, PagesDone, Runs, RunsFrom}
 use Rattle.page_run.proofs.PageLemmas.{prefix_more, hold_more, no_page_done}
@@ -20,10 +22,9 @@ use Rattle.page_run.specs.InHand.{InHand}
 use Rattle.page_run.specs.Words.{sources_of, targets_of}
 use Rattle.page_run.specs.declared.gather.OpenJob.{OpenJob}
 use Rattle.page_run.specs.declared.words.TraprunArgs.{TraprunArgs}
-use Rattle.page_run.proofs.GatherLemmas.{plate_count}
 use Rattle.page_run.proofs.JobLemmas.{counted}
-use Rattle.page_run.specs.Reading.{AnswersEnds, AnswersRunJob, EndStops, ExpectsEnd, ReadsRunJob}
-use Rattle.page_run.proofs.ImageLemmas.{count_then, unbroken_before}
+use Rattle.page_run.specs.Reading.{AnswersRunJob, AreUnbroken, ExpectsEnd, ReadsRunJob, ends_sought}
+use Rattle.page_run.proofs.ImageLemmas.{ends_keep}
 use Rattle.traprun_verdicts.specs.declared.stop.TraprunError.{TraprunError}
 use Rattle.traprun_verdicts.specs.declared.stop.TraprunError.TheVariants.{Whole, TooManyPages, Extra}
 use Rattle.traprun_verdicts.specs.Images.{HasImage, HasImageFault, HasNoImage}
@@ -45,26 +46,29 @@ module _ (source : Sources) (target : Targets) (t b c : TrayState) (r r' : RackS
   ended_before : (n : ℕ) → (IsTrue b.tells → (p : ℕ) → p < n → Holds b.file (name_at source.inputs p) (HasNoImage (length pages))) → IsTrue t.tells → AllEnd t.file source (length pages) n
   ended_before n ended tells p within = held_before t b (name_at source.inputs p) (HasNoImage (length pages)) done.tray_keeps (λ there. ended there p within) tells
 
-  looks_last : (plate : ℕ) (Fact : ℕ → List ℕ → Type 0) → EndStops (length pages) source.inputs plate b c → (IsTrue b.tells → Holds b.file (name_at source.inputs plate) (Fact (length pages))) → IsTrue t.tells → LooksLast t.file source plate Fact
+  looks_last : (plate : ℕ) (Fact : ℕ → List ℕ → Type 0) → StopsAt (ends_sought (length pages)) source.inputs plate b c → (IsTrue b.tells → Holds b.file (name_at source.inputs plate) (Fact (length pages))) → IsTrue t.tells → LooksLast t.file source plate Fact
   looks_last plate Fact at here tells = record {
     all = all_made tells;
     known = at.known;
-    before = ended_before plate at.ended tells;
+    before = ended_before plate (λ there. (at.before_it there).each) tells;
     here = held_before t b (name_at source.inputs plate) (Fact (length pages)) done.tray_keeps here tells;
   }
 
-  answer_look : (result : Result (Unit {0}) TraprunError) → InHand source (length pages) t c → AnswersEnds (length pages) source.inputs b c result → AnswersRun source target t c r r' result
-  answer_look result in_hand (AnswersEnds.ended is calm asked ended) =
-      AnswersRun.done pages b is done.written (calm ∙ done.written.calm) (asked_more source.inputs asked) (λ tells. (has_pages tells, ended_before (length source.inputs) ended tells)) in_hand
-  answer_look result in_hand (AnswersEnds.extra plate is calm at here) =
-      AnswersRun.refused pages b (Extra plate) is (inr refl) done.written has_pages (calm ∙ done.written.calm) (asked_more _ at.asked) (looks_last plate (λ n all. (another : PlateRead) × HasImage n all another) at here) in_hand
-  answer_look result in_hand (AnswersEnds.fails plate fault is count at here) =
-      AnswersRun.refused pages b (Whole (Plate plate fault)) is (inr refl) done.written has_pages (plate_count plate t c fault (count_then t b c fault done.written.calm count)) (asked_more _ at.asked) (looks_last plate (λ n all. HasImageFault n all fault) at here) in_hand
-  answer_look result in_hand (AnswersEnds.unread plate is rose at held) =
-      AnswersRun.unread pages b (Whole (Read (Some plate))) is refl done.written (rose_before t.faults b.faults c.faults done.tray_keeps.faults rose) (asked_more _ at.asked)
-      ((λ tells. (has_pages tells, ended_before plate at.ended tells)), unbroken_before (length pages) t b c (name_at source.inputs plate) done.tray_keeps held) in_hand
-  answer_look result in_hand (AnswersEnds.no_memory is calm asked) =
-      AnswersRun.no_memory pages b is done.written (calm ∙ done.written.calm) (prefix_more t.asked b.asked c.asked (run_reads source (length pages)) source.inputs done.written.asked asked) in_hand
+  answer_stop : (stop : TraprunError) (plate : ℕ) → InHand source (length pages) t c → StopsAt (ends_sought (length pages)) source.inputs plate b c → Refuses (ends_sought (length pages)) plate (name_at source.inputs plate) b c stop → AnswersRun source target t c r r' (Err stop)
+  answer_stop stop plate in_hand at (Refuses.refused None is count here) =
+      AnswersRun.refused pages b (Extra plate) (ap (λ (s : TraprunError). Err s) is) (inr refl) done.written has_pages (count refl ∙ done.written.calm) (asked_more _ at.asked) (looks_last plate (λ n all. (another : PlateRead) × HasImage n all another) at here) in_hand
+  answer_stop stop plate in_hand at (Refuses.refused (Some fault) is count here) =
+      AnswersRun.refused pages b (Whole (Plate plate fault)) (ap (λ (s : TraprunError). Err s) is) (inr refl) done.written has_pages (plate_count (Unit {0}) plate t c fault (λ open_. count open_ ∙ done.written.calm)) (asked_more _ at.asked) (looks_last plate (λ n all. HasImageFault n all fault) at here) in_hand
+  answer_stop stop plate in_hand at (Refuses.unread is rose held) =
+      AnswersRun.unread pages b (Whole (Read (Some plate))) (ap (λ (s : TraprunError). Err s) is) refl done.written (rose_before t.faults b.faults c.faults done.tray_keeps.faults rose) (asked_more _ at.asked)
+      ((λ tells. (has_pages tells, ended_before plate (λ there. (at.before_it there).each) tells)), taken_before (AreUnbroken (length pages)) t b c (name_at source.inputs plate) done.tray_keeps held) in_hand
+  answer_stop stop plate in_hand at (Refuses.no_memory is calm) =
+      AnswersRun.no_memory pages b (ap (λ (s : TraprunError). Err s) is) done.written (calm ∙ done.written.calm) (prefix_more t.asked b.asked c.asked (run_reads source (length pages)) source.inputs done.written.asked (asks_prefix b.asked c.asked (plate + 1) source.inputs at.asked)) in_hand
+
+  answer_look : (result : Result (Unit {0}) TraprunError) → InHand source (length pages) t c → ExpectsEnd (length pages) source.inputs b c result → AnswersRun source target t c r r' result
+  answer_look (Ok nothing) in_hand (ends, looks) =
+      AnswersRun.done pages b refl done.written (looks.answer.3 ∙ done.written.calm) (asked_more source.inputs looks.answer.0) (λ tells. (has_pages tells, ended_before (length source.inputs) (λ there. (looks.answer.4 there).each) tells)) in_hand
+  answer_look (Err stop) in_hand looks = answer_stop stop looks.answer.0 in_hand looks.answer.1 looks.answer.2
 
   -- it is looked after the last page
   pub looked : (result : Result (Unit {0}) TraprunError) → ExpectsEnd (length pages) source.inputs b c result → Runs source target t c r r' result
@@ -72,7 +76,7 @@ module _ (source : Sources) (target : Targets) (t b c : TrayState) (r r' : RackS
     tray_keeps = kept_tray t b c done.tray_keeps keeps;
     rack_keeps = done.rack_keeps;
     told = done.told;
-    answer = answer_look result (hold_more source target t b c r r' r' pages done keeps looks.in_hand) looks.answer;
+    answer = answer_look result (hold_more source target t b c r r' r' pages done keeps (ends_keep (length pages) source.inputs b c result looks).1) looks;
   }
 
 module _ (source : Sources) (target : Targets) (t t' : TrayState) (r : RackState) where
@@ -117,7 +121,7 @@ same_count bytes count n has counts = let e : ◌≡◌ {A = Result ℕ RunRefus
 pub looked_after : (source : Sources) (target : Targets) (bytes : List ℕ) (n count : ℕ) (t b c : TrayState) (r r' : RackState) (result : Result (Unit {0}) TraprunError) → n ≡ count → IsJobOf source bytes t → pages_of bytes ≡ Ok count → (every : (pages : List PageParts) × (length pages ≡ count) × PagesDone source target t b r r' pages) → ExpectsEnd n source.inputs b c result → Runs source target t c r r' result
 looked_after source target bytes n count t b c r r' result one known has every looks =
     let here : ExpectsEnd (length every.0) source.inputs b c result = subst (λ (m : ℕ). ExpectsEnd m source.inputs b c result) (one ∙ sym every.1) looks in
-    looked source target t b c r r' every.0 every.2 looks.keeps bytes known (has ∙ ap (λ (m : ℕ). Ok m) (sym every.1)) result here
+    looked source target t b c r r' every.0 every.2 (ends_keep n source.inputs b c result looks).0 bytes known (has ∙ ap (λ (m : ℕ). Ok m) (sym every.1)) result here
 
 -- a run that is held is carried out
 pub carried : (order : TraprunArgs) (t b t' : TrayState) (r r' : RackState) (run : OpenJob) (result : Result (Unit {0}) TraprunError) → OpensJob order t b (Ok run) → RunsFrom (sources_of (order_in run.order.now)) (targets_of (order_in run.order.now)) run.job b t' r r' result → Runs (sources_of (order_in order)) (targets_of (order_in order)) t t' r r' result

@@ -1,17 +1,15 @@
 -- How much is taken of the file that is in hand.
-use Rattle.std.specs.Prelude.{◌≡◌, ◌⊎◌, ℕ, ◌<◌, ◌≤◌, IsTrue, List, ◌++◌, length, Some}
+use Rattle.std.specs.Prelude.{◌≡◌, ◌⊎◌, ℕ, ◌<◌, ◌≤◌, List, length}
 use Rattle.outside.specs.Tray.{TrayState}
 use Rattle.page_gather.specs.Inputs.{Sources, name_at}
+use Rattle.page_gather.specs.Looks.{Takes}
 use Rattle.page_gather.specs.Steps.{TakesJob}
 use Rattle.pgm_plates.specs.Sequences.{AreFewOfPage}
 
 -- Some bytes are taken off the start of the plate's file of which the image of a page is asked for,
 -- no more than are owed.
-pub record TakesImage (page : ℕ) (name : List ℕ) (before after : TrayState) : Type 0 where
-  pub bytes : List ℕ
-  pub taken : IsTrue after.begun → IsTrue before.tells →
-      before.file name ≡ Some (bytes ++ after.left)
-  pub few : AreFewOfPage page bytes
+abbrev pub TakesImage : ℕ → List ℕ → TrayState → TrayState → Type 0
+TakesImage page = Takes (AreFewOfPage page)
 
 -- A plate is in hand, of which the image of a page up to this one is asked for.
 pub record PlateInHand (names : List (List ℕ)) (last : ℕ) (before after : TrayState) : Type 0 where

@@ -1,9 +1,9 @@
 ghost use Rattle.std.specs.Prelude.{◌<◌, ◌≤◌, length, map};
-ghost use Rattle.page_run.specs.Reading.{ReadsOneImage, ReadsImages};
+ghost use Rattle.page_run.specs.Reading.{ExpectsEnd, ReadsImages, ends_sought, images_sought};
 
-use lists::list::List;
 use outside::tray::Tray;
 use page_gather::assemble::PlateList;
+use page_gather::looks::{Look, look_through};
 use pgm_plates::pages::read_page;
 use pgm_plates::plate::{Plate, PlateRefusal};
 use refusals::refusal::Refusal;
@@ -22,37 +22,96 @@ pub(crate) fn read_images<T: Tray>(
     ensures { ReadsImages page (map (λ file. file.now) inputs.now) (T.state tray.old)
         (T.state tray.new) result }
 {
-    let mut plates = List::new(alloc);
-    for place in 0..inputs.len() {
-        match read_image(alloc, tray, page, place as u32, inputs[place]) {
-            Ok(plate) => {
-                if plates.push(plate).is_err() {
-                    return Err(TraprunError::Whole(Refusal::Memory));
-                }
-            }
-            Err(stop) => return Err(stop),
-        }
-    }
-    Ok(plates)
+    look_through(alloc, tray, inputs, &Images { page })
 }
 
-// Reads the image of a page from the file of the plate of that number.
-fn read_image<T: Tray>(
+/// Looks after the last of so many pages in each of these files in order, up to the first that does not end there.
+pub(crate) fn expect_end<T: Tray>(
     alloc: Global,
     tray: &mut T,
-    page: u32,
-    plate: u32,
-    name: &str,
-) -> Result<Plate, TraprunError>
-    ensures { ReadsOneImage page plate name.now (T.state tray.old) (T.state tray.new) result }
+    pages: u32,
+    inputs: &[&str],
+) -> Result<(), TraprunError>
+    requires { length inputs.now ≤ 16 }
+    ensures { ExpectsEnd pages (map (λ file. file.now) inputs.now) (T.state tray.old)
+        (T.state tray.new) result }
 {
-    match read_page(alloc, tray, name, page) {
-        Ok(Some(image)) => Ok(image),
-        Ok(None) => Err(TraprunError::Ends(page, plate)),
-        Err(PlateRefusal::Fault(fault)) => {
-            Err(TraprunError::AtPage(page, Refusal::Plate(plate, fault)))
+    match look_through(alloc, tray, inputs, &Ends { pages }) {
+        Ok(_) => Ok(()),
+        Err(stop) => Err(stop),
+    }
+}
+
+// The image of a page.
+#[derive(Drop)]
+struct Images {
+    page: u32,
+}
+
+impl Look for Images {
+    type Found = Plate;
+
+    type Refusal = TraprunError;
+
+    ghost sought = { λ look. images_sought look.page };
+
+    fn look<T: Tray>(
+        &self,
+        alloc: Global,
+        tray: &mut T,
+        number: u32,
+        name: &str,
+    ) -> Result<Plate, TraprunError> {
+        match read_page(alloc, tray, name, self.page) {
+            Ok(Some(image)) => Ok(image),
+            Ok(None) => Err(TraprunError::Ends(self.page, number)),
+            Err(PlateRefusal::Fault(fault)) => {
+                Err(TraprunError::AtPage(self.page, Refusal::Plate(number, fault)))
+            }
+            Err(PlateRefusal::ReadFault) => {
+                Err(TraprunError::AtPage(self.page, Refusal::Read(Some(number))))
+            }
+            Err(PlateRefusal::OutOfMemory) => Err(TraprunError::Whole(Refusal::Memory)),
         }
-        Err(PlateRefusal::ReadFault) => Err(TraprunError::AtPage(page, Refusal::Read(Some(plate)))),
-        Err(PlateRefusal::OutOfMemory) => Err(TraprunError::Whole(Refusal::Memory)),
+    }
+
+    fn no_memory(&self) -> TraprunError {
+        TraprunError::Whole(Refusal::Memory)
+    }
+}
+
+// The end of a file after so many pages.
+#[derive(Drop)]
+struct Ends {
+    pages: u32,
+}
+
+impl Look for Ends {
+    type Found = ();
+
+    type Refusal = TraprunError;
+
+    ghost sought = { λ look. ends_sought look.pages };
+
+    fn look<T: Tray>(
+        &self,
+        alloc: Global,
+        tray: &mut T,
+        number: u32,
+        name: &str,
+    ) -> Result<(), TraprunError> {
+        match read_page(alloc, tray, name, self.pages) {
+            Ok(None) => Ok(()),
+            Ok(Some(_)) => Err(TraprunError::Extra(number)),
+            Err(PlateRefusal::Fault(fault)) => {
+                Err(TraprunError::Whole(Refusal::Plate(number, fault)))
+            }
+            Err(PlateRefusal::ReadFault) => Err(TraprunError::Whole(Refusal::Read(Some(number)))),
+            Err(PlateRefusal::OutOfMemory) => Err(TraprunError::Whole(Refusal::Memory)),
+        }
+    }
+
+    fn no_memory(&self) -> TraprunError {
+        TraprunError::Whole(Refusal::Memory)
     }
 }

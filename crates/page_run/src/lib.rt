@@ -1,7 +1,6 @@
 //! The top call of the program `traprun`: jobs of many pages, and plate files of one image for each page.
 #![tactic(auto)]
 
-mod ends;
 mod files;
 mod gather;
 mod images;

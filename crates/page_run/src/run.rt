@@ -3,8 +3,8 @@ ghost use Rattle.page_run.specs.Endings.{EndsRun, Runs, RunsFrom, TrapsPages};
 ghost use Rattle.page_run.specs.Opened.{IsOpenJob, IsWithin, order_in};
 ghost use Rattle.page_run.specs.Words.{sources_of, targets_of};
 
-use crate::ends::expect_end;
 use crate::gather::{OpenJob, open_job};
+use crate::images::expect_end;
 use crate::page::trap_one;
 use crate::words::TraprunArgs;
 use band_workers::Gate;

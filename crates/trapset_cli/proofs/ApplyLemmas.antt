@@ -4,22 +4,26 @@ use Rattle.std.proofs.lemmas.List.{length-map, take-append-le, take_min}
 use Rattle.outside.specs.Causes.{Asks, AsksPrefix}
 use Rattle.outside.specs.Tray.{TrayState}
 use Rattle.outside.specs.Rack.{RackState, KeepsRack}
-use Rattle.outside.proofs.Names.{asks_all, asks_prefix, asks_none_of, asks_then}
+use Rattle.outside.proofs.Names.{asks_all, asks_none_of, asks_then}
 use Rattle.outside.proofs.Steps.{rose_before}
-use Rattle.page_gather.specs.Steps.{AnswersPlates, ReadsPlates}
-use Rattle.page_gather.proofs.GatherLemmas.{refused_count}
+use Rattle.page_gather.specs.Inputs.{name_at}
+use Rattle.page_gather.specs.Looks.{Refuses, StopsAt}
+use Rattle.page_gather.specs.Steps.{PassesNoFault, ReadsPlates, plates_sought}
+use Rattle.page_gather.proofs.LookLemmas.{refused_prefix, some_in_hand}
+use Rattle.page_gather.proofs.PlateLemmas.{plate_count, refusal_passes}
 use Rattle.page_model.specs.declared.parts.Plane.{Plane}
 use Rattle.page_writing.specs.Files.{plate_files}
 use Rattle.page_writing.specs.Writing.{FinishesAll}
 use Rattle.page_writing.proofs.Steps.{plates_length, plates_names}
 use Rattle.pgm_plates.specs.declared.plate.Plate.{Plate as PlateRead}
 use Rattle.pgm_plates.specs.Planes.{plane_of}
+use Rattle.pgm_plates.specs.Reading.{AreFew}
 use Rattle.plain_words.specs.Parts.{CopyNames, copy_of}
 use Rattle.trapset_cli.specs.declared.cause.TrapsetError.{TrapsetError}
 use Rattle.trapset_cli.specs.declared.cause.TrapsetError.TheVariants as causes
 use Rattle.trapset_cli.specs.Commands.{inputs_of, read_names}
 use Rattle.trapset_cli.specs.Endings.{Answers, CarriesOut, NotRead, SetInHand}
-use Rattle.trapset_cli.specs.Putting.{AnswersPatch, AreInRange, Patches, PatchesPlanes, PutsPlates, ReadsPlanes}
+use Rattle.trapset_cli.specs.Putting.{AnswersPatch, AnswersPlanes, AreInRange, Patches, PatchesPlanes, PutsPlates, ReadsPlanes}
 use Rattle.trapset_cli.proofs.PlanesInRange.{kept_in_range, read_in_range}
 use Rattle.trapset_cli.proofs.TrapsLemmas.{nothing_written}
 use Rattle.trapset_cli.specs.Words.{ApplyWords, Apply, outputs_of}
@@ -34,28 +38,28 @@ use Rattle.trap_set.specs.declared.apply.SetRefusal.TheVariants as set_refusals
 pub planes_unread : (names : List (List ℕ)) (a b : TrayState) (refusal : Refusal) → ReadsPlates names a b (Err refusal) → ReadsPlanes names a b (Err refusal)
 planes_unread names a b refusal reads = record {
   keeps = reads.keeps;
-  few = reads.few;
-  count = refused_count (List PlateRead) (List Plane) a b refusal reads.count;
-  answer = reads.answer;
+  few = λ some. some_in_hand AreFew names (length names) a b some reads.in_hand;
+  count = refusal_passes (List Plane) reads.answer.0 refusal (name_at names reads.answer.0) a b reads.answer.2;
+  answer = inr reads.answer;
 }
 
 pub planes_read : (names : List (List ℕ)) (a b : TrayState) (plates : List PlateRead) (result : Result (List Plane) Refusal) → ReadsPlates names a b (Ok plates) → MatchResult result (λ planes. planes ≡ map plane_of plates) (λ refusal. refusal ≡ refusals.Memory) → ReadsPlanes names a b result
 planes_read names a b plates (Ok planes) reads is = record {
   keeps = reads.keeps;
-  few = reads.few;
-  count = reads.count;
+  few = λ some. some_in_hand AreFew names (length names) a b some reads.in_hand;
+  count = reads.answer.3;
   answer = (
     reads.answer.0,
     subst (λ (ps : List Plane). AreInRange ps (length names)) (sym is) (subst (λ (n : ℕ). AreInRange (map plane_of plates) n) reads.answer.1 (read_in_range plates reads.answer.2)),
-    λ tells. record { plates = plates; read = reads.answer.3 tells; same = is },
+    λ tells. record { plates = plates; read = reads.answer.4 tells; same = is },
   );
 }
 planes_read names a b plates (Err refusal) reads is =
     subst (λ (r : Refusal). ReadsPlanes names a b (Err r)) (sym is) (record {
       keeps = reads.keeps;
-      few = reads.few;
-      count = reads.count;
-      answer = asks_all a.asked b.asked names reads.answer.0;
+      few = λ some. some_in_hand AreFew names (length names) a b some reads.in_hand;
+      count = reads.answer.3;
+      answer = inl (refl, asks_all a.asked b.asked names reads.answer.0);
     })
 
 -- the names up to the plate that was refused are a prefix of all that are read
@@ -66,45 +70,36 @@ prefix_on a (Some all) names more f =
     let same : take f.1 names ≡ take n (names ++ more) = sym (take-append-le n names more (omega arith) ∙ take_min f.1 names) in
     (f.0, n, f.2, f.3 ∙ ap (λ (l : List (List ℕ)). f.0 ++ l) same)
 
-plates_prefix : (names : List (List ℕ)) (a b : TrayState) (refusal : Refusal) → AnswersPlates names a b (Err refusal) → AsksPrefix a.asked b.asked names
-plates_prefix names a b (refusals.Plate k fault) answer = asks_prefix a.asked b.asked (k + 1) names answer.0.asked
-plates_prefix names a b (refusals.Read (Some k)) answer = asks_prefix a.asked b.asked (k + 1) names answer.0.asked
-plates_prefix names a b refusals.Memory answer = answer
-plates_prefix names a b refusals.Usage answer = absurd answer
-plates_prefix names a b (refusals.Job fault) answer = absurd answer
-plates_prefix names a b (refusals.NoDetails k) answer = absurd answer
-plates_prefix names a b (refusals.Page fault) answer = absurd answer
-plates_prefix names a b (refusals.Read None) answer = absurd answer
-plates_prefix names a b (refusals.Write file) answer = absurd answer
+plates_prefix : (names : List (List ℕ)) (a b : TrayState) (refusal : Refusal) → AnswersPlanes names a b (Err refusal) → AsksPrefix a.asked b.asked names
+plates_prefix names a b refusal (inl memory) = memory.1
+plates_prefix names a b refusal (inr answer) = refused_prefix plates_sought names a b refusal answer
 
 -- a plate is refused
 module _ (words : ApplyWords) (a b : TrayState) where
-  not_patched : (refusal : Refusal) → ReadsPlanes (inputs_of words) a b (Err refusal) → NotRead (Apply words) a b (causes.Page refusal)
-  not_patched (refusals.Plate k fault) reads = NotRead.refused (inl refl) (refused_count (List Plane) (Unit {0}) a b (refusals.Plate k fault) reads.count) reads.answer.0.asked (λ tells. record {
-    known = reads.answer.0.known;
-    plates = reads.answer.0.plates;
-    before = reads.answer.0.before_it tells;
-    broken = reads.answer.1 tells;
-  })
-  not_patched (refusals.Read (Some k)) reads = NotRead.unread refl reads.answer.1 reads.answer.0.asked (record {
-    known = reads.answer.0.known;
-    plates = reads.answer.0.plates;
-    before_it = reads.answer.0.before_it;
-    in_hand = reads.answer.2;
-  })
-  not_patched refusals.Memory reads = NotRead.no_memory refl reads.count
-  not_patched refusals.Usage reads = absurd reads.answer
-  not_patched (refusals.Job fault) reads = absurd reads.answer
-  not_patched (refusals.NoDetails k) reads = absurd reads.answer
-  not_patched (refusals.Page fault) reads = absurd reads.answer
-  not_patched (refusals.Read None) reads = absurd reads.answer
-  not_patched (refusals.Write file) reads = absurd reads.answer
+  plate_not_patched : (refusal : Refusal) (k : ℕ) → StopsAt plates_sought (inputs_of words) k a b → Refuses plates_sought k (name_at (inputs_of words) k) a b refusal → NotRead (Apply words) a b (causes.Page refusal)
+  plate_not_patched refusal k at (Refuses.refused fault is count held) = subst (λ (r : Refusal). NotRead (Apply words) a b (causes.Page r)) (sym is) (NotRead.refused (inl refl) (plate_count (Unit {0}) k a b fault count) at.asked (λ tells. record {
+    known = at.known;
+    plates = at.found;
+    before = at.before_it tells;
+    broken = held tells;
+  }))
+  plate_not_patched refusal k at (Refuses.unread is rose taken) = subst (λ (r : Refusal). NotRead (Apply words) a b (causes.Page r)) (sym is) (NotRead.unread refl rose at.asked (record {
+    known = at.known;
+    plates = at.found;
+    before_it = at.before_it;
+    in_hand = taken;
+  }))
+  plate_not_patched refusal k at (Refuses.no_memory is calm) = NotRead.no_memory (ap causes.Page is) calm
+
+  not_patched : (refusal : Refusal) → PassesNoFault {T = List Plane} a b (Err refusal) → AnswersPlanes (inputs_of words) a b (Err refusal) → NotRead (Apply words) a b (causes.Page refusal)
+  not_patched refusal count (inl memory) = NotRead.no_memory (ap causes.Page memory.0) (subst (λ (r : Refusal). PassesNoFault {T = List Plane} a b (Err r)) memory.0 count)
+  not_patched refusal count (inr answer) = plate_not_patched refusal answer.0 answer.1 answer.2
 
   plate_refused : (refusal : Refusal) → 0 < length (inputs_of words) → ReadsPlanes (inputs_of words) a b (Err refusal) → PatchesPlanes words a b (Err (causes.Page refusal))
   plate_refused refusal some reads = record {
     asked = prefix_on a.asked b.asked (inputs_of words) (words.set ∷ []) (plates_prefix (inputs_of words) a b refusal reads.answer);
     in_hand = inr (inl (reads.few some));
-    answer = not_patched refusal reads;
+    answer = not_patched refusal reads.count reads.answer;
   }
 
 -- there are as many words as plates

@@ -1,10 +1,11 @@
 -- The steps of `traps` and of `apply`.
-use Rattle.std.specs.Prelude.{◌≡◌, ℕ, ◌*◌, ◌<◌, ◌≤◌, IsTrue, List, [], ◌∷◌, length, All, Result, Ok}
-use Rattle.std.specs.Prelude.{Err}
+use Rattle.std.specs.Prelude.{◌≡◌, ◌⊎◌, ℕ, ◌*◌, ◌<◌, ◌≤◌, IsTrue, List, [], ◌∷◌, length, All, Result}
+use Rattle.std.specs.Prelude.{Ok, Err}
 use Rattle.outside.specs.Causes.{Asks, AsksPrefix, RoseOnce}
 use Rattle.outside.specs.Tray.{TrayState, KeepsTray}
 use Rattle.outside.specs.Rack.{RackState, KeepsRack}
-use Rattle.page_gather.specs.Steps.{AnswersPlates, PassesNoFault, PlateInHand}
+use Rattle.page_gather.specs.Looks.{AnswersLooks}
+use Rattle.page_gather.specs.Steps.{PassesNoFault, PlateInHand, plates_sought}
 use Rattle.page_model.specs.declared.parts.PageParts.{PageParts}
 use Rattle.page_model.specs.declared.parts.Plane.{Plane}
 use Rattle.page_model.specs.Conditions.{IsPage, IsPlane}
@@ -57,7 +58,9 @@ abbrev pub AnswersPlanes : List (List ℕ) → TrayState → TrayState → Resul
     → Type 0
 AnswersPlanes names before after (Ok planes) = Asks before.asked after.asked names
     × AreInRange planes (length names) × (IsTrue before.tells → ArePlanes before.file names planes)
-AnswersPlanes names before after (Err refusal) = AnswersPlates names before after (Err refusal)
+AnswersPlanes names before after (Err refusal) =
+    ((refusal ≡ Memory) × AsksPrefix before.asked after.asked names)
+    ⊎ AnswersLooks plates_sought names before after (Err refusal)
 
 -- Plates are read, and turned into planes.
 pub record ReadsPlanes (names : List (List ℕ)) (before after : TrayState)

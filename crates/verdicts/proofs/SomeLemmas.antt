@@ -6,9 +6,9 @@ use Rattle.page_model.specs.declared.parts.PageParts.{PageParts}
 use Rattle.pgm_plates.specs.declared.plate.Plate.{Plate as PlateRead}
 use Rattle.pgm_plates.specs.declared.plate.PlateFault.{PlateFault}
 use Rattle.page_gather.specs.Assembly.{assembly, assembled, without_details}
-use Rattle.page_gather.specs.Inputs.{Sources, Spelling, Holds, AreRead, PlateFails, Makes, name_at}
+use Rattle.page_gather.specs.Inputs.{Sources, Spelling, Holds, AreRead, PlateFails, Makes, name_at, no_plate}
 use Rattle.page_gather.proofs.GatherLemmas.{NoneOther, none_other}
-use Rattle.page_gather.proofs.PlateLemmas.{read_more}
+use Rattle.page_gather.proofs.LookLemmas.{found_more}
 use Rattle.refusals.specs.declared.refusal.Refusal.{Refusal}
 use Rattle.refusals.specs.declared.refusal.Refusal.TheVariants.{Usage, Job, NoDetails, Plate, Page, Read, Write, Memory}
 use Rattle.verdicts.specs.Verdicts.{Verdict, Targets, IsVerdict, IsFile, SomeVerdict, outcome}
@@ -27,7 +27,7 @@ module _ (spelling : Spelling) (plate_or_fault : (bytes : List ℕ) → All (λ 
     one_more n within read =
         let there = plates_there n within in
         elim (plate_or_fault there.0 there.2) [
-          | inl plate ↦ inl (read.0 ++ plate.0 ∷ [], read_more spelling files source.inputs n read.0 plate.0 read.1 (there.0, there.1, plate.1))
+          | inl plate ↦ inl (read.0 ++ plate.0 ∷ [], found_more spelling.plate no_plate files source.inputs n read.0 plate.0 read.1 (there.0, there.1, plate.1))
           | inr fault ↦ inr (n, fault.0, record { job = job; plates = read.0; job_read = job_read; before = read.1; known = within; broken = (there.0, there.1, fault.1) })
         ]
 
