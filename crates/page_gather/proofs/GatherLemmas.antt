@@ -7,23 +7,27 @@ use Rattle.outside.proofs.Names.{asks_then, asks_all, asks_prefix, asks_first}
 use Rattle.outside.proofs.Steps.{kept_tray, rose_before}
 use Rattle.job_reader.specs.declared.job.Job.{Job}
 use Rattle.page_model.specs.declared.parts.PageParts.{PageParts}
+use Rattle.page_model.specs.declared.parts.Plane.{Plane}
 use Rattle.page_model.specs.declared.page.PageFault.{PageFault}
 use Rattle.pgm_plates.specs.declared.plate.Plate.{Plate as PlateRead}
 use Rattle.pgm_plates.specs.declared.plate.PlateFault.TheVariants.{BadMagic, BadHeader, SideRange, TooManySamples, MaxvalRange, SampleAboveMaxval, Truncated, TrailingBytes}
 use Rattle.pgm_plates.specs.Faults.{IsFault}
 use Rattle.pgm_plates.specs.Reading.{AreFew}
-use Rattle.page_gather.specs.Assembly.{assembly, assembled, detailed, faulted, without_details}
+use Rattle.page_gather.specs.Assembly.{CanAssemblePlanes, assembly, assembled, assembly_of_planes, detailed, faulted, without_details}
 use Rattle.page_model.specs.Faults.{page_fault}
 use Rattle.page_model.specs.Page.{plates}
-use Rattle.pgm_plates.specs.Planes.{plane_of}
+use Rattle.pgm_plates.specs.Laws.{PlaneTurnsBack}
+use Rattle.pgm_plates.specs.Planes.{plane_of, plate_of}
+use Rattle.pgm_plates.specs.Plates.{IsPlateFile}
 use Rattle.std.proofs.lemmas.List.{length-map}
 use Rattle.refusals.specs.declared.refusal.Refusal.{Refusal}
 use Rattle.refusals.specs.declared.refusal.Refusal.TheVariants.{Usage, Job as JobRefusal, NoDetails, Plate, Page, Read, Write, Memory}
-use Rattle.page_gather.specs.Inputs.{Sources, AreRead, Inputs, Makes, one_page, read_files, name_at}
+use Rattle.page_gather.specs.Inputs.{Sources, AreFound, AreRead, Inputs, Makes, one_page, read_files, name_at}
 use Rattle.page_gather.specs.Steps.{ReadsJob, AnswersJob, ReadsPlates, PassesNoFault, HaveNoFault, plates_sought}
 use Rattle.page_gather.specs.Gathering.{Gathers, AnswersPage, ReadsPage}
 use Rattle.page_gather.specs.Looks.{Refuses, StopsAt}
 use Rattle.page_gather.proofs.LookLemmas.{held_before, in_hand_before, refused_prefix, refuses_before, some_in_hand, taken_before}
+use Rattle.page_gather.proofs.PlaneLemmas.{planes_back, plates_found}
 use Rattle.page_gather.proofs.PlateLemmas.{refusal_passes}
 
 -- the count of faults where what came before kept it
@@ -96,9 +100,9 @@ asked_to source a b c plate one two =
     let same : (source.job ∷ []) ++ take (plate + 1) source.inputs ≡ take (plate + 2) (read_files source) = sym (take_two source.job plate source.inputs) in
     subst (λ (l : List (List ℕ)). Asks a.asked c.asked l) same (asks_then a.asked b.asked c.asked (source.job ∷ []) (take (plate + 1) source.inputs) one two)
 
--- plates that were read after the job, of the same tray
-read_before : (a b : TrayState) (names : List (List ℕ)) (count : ℕ) (plates : List PlateRead) → KeepsTray a b → AreRead one_page b.file names count plates → AreRead one_page a.file names count plates
-read_before a b names count plates keeps read = subst (λ (files : List ℕ → Option (List ℕ)). AreRead one_page files names count plates) keeps.file read
+-- planes that were read after the job, of the same tray, are those of its plates
+read_before : (a b : TrayState) (names : List (List ℕ)) (count : ℕ) (planes : List Plane) → KeepsTray a b → AreFound plates_sought.gives plates_sought.none b.file names count planes → AreRead one_page a.file names count (map plate_of planes)
+read_before a b names count planes keeps read = subst (λ (files : List ℕ → Option (List ℕ)). AreRead one_page files names count (map plate_of planes)) keeps.file (plates_found IsPlateFile b.file names count planes read)
 
 -- one of the plates is refused
 module _ (source : Sources) (a b c : TrayState) (job : Job) (first : ReadsJob source.job a b (Ok job)) where
@@ -107,7 +111,7 @@ module _ (source : Sources) (a b c : TrayState) (job : Job) (first : ReadsJob so
     asked_to source a b c k first.asked at.asked,
     λ tells. record {
       job = job;
-      plates = at.found;
+      plates = map plate_of at.found;
       job_read = first.answer.1 tells;
       before = read_before a b source.inputs k at.found first.keeps (at.before_it (first.keeps.tells ∙ tells));
       known = at.known;
@@ -120,7 +124,7 @@ module _ (source : Sources) (a b c : TrayState) (job : Job) (first : ReadsJob so
     record {
       known = at.known;
       job = job;
-      plates = at.found;
+      plates = map plate_of at.found;
       job_read = first.answer.1;
       before_it = λ tells. read_before a b source.inputs k at.found first.keeps (at.before_it (first.keeps.tells ∙ tells));
       in_hand = taken_before HaveNoFault a b c (name_at source.inputs k) first.keeps taken;
@@ -185,20 +189,34 @@ made_count source a c (Ok page) job read calm met = calm
 made_count source a c (Err refusal) job read calm (inl memory) = subst (λ (r : Refusal). PassesNoFault {T = PageParts} a c (Err r)) (sym memory) calm
 made_count source a c (Err refusal) job read calm (inr met) = refusal_count a c refusal calm (none_other (without_details job source.names) (assembled job read source.names) refusal met)
 
-pub page_made : (source : Sources) (a b c : TrayState) (job : Job) (plates : List PlateRead) (result : Result PageParts Refusal) → 0 < length source.inputs → ReadsJob source.job a b (Ok job) → ReadsPlates source.inputs b c (Ok plates) → MatchResult result (λ page. assembly job plates source.names ≡ Ok page) (λ refusal. (refusal ≡ Memory) ⊎ (assembly job plates source.names ≡ Err refusal)) → Gathers source a c result
-page_made source a b c job plates result some first next met =
+pub page_made : PlaneTurnsBack → (source : Sources) (a b c : TrayState) (job : Job) (planes : List Plane) (result : Result PageParts Refusal) → 0 < length source.inputs → ReadsJob source.job a b (Ok job) → ReadsPlates source.inputs b c (Ok planes) → MatchResult result (λ page. assembly_of_planes job planes source.names ≡ Ok page) (λ refusal. (refusal ≡ Memory) ⊎ (assembly_of_planes job planes source.names ≡ Err refusal)) → Gathers source a c result
+page_made law source a b c job planes result some first next made =
     let asked : Asks a.asked c.asked (read_files source) = asked_all source a b c first.asked next.answer.0 in
+    let plates : List PlateRead = map plate_of planes in
+    let back = planes_back law planes (λ k d within. (next.answer.2 k d within).0) in
+    let met = subst (λ (ps : List Plane). MatchResult result (λ page. assembly_of_planes job ps source.names ≡ Ok page) (λ refusal. (refusal ≡ Memory) ⊎ (assembly_of_planes job ps source.names ≡ Err refusal))) (sym back) made in
     record {
       keeps = kept_tray a b c first.keeps next.keeps;
       asked = asks_all a.asked c.asked (read_files source) asked;
       in_hand = inr (in_hand_before AreFew source.inputs a b c first.keeps (some_in_hand AreFew source.inputs (length source.inputs) b c some next.in_hand));
       count = made_count source a c result job plates (next.answer.3 ∙ first.count) met;
-      answer = answer_met source a c result job plates next.answer.1 asked
+      answer = answer_met source a c result job plates (length-map planes plate_of ∙ next.answer.1) asked
           (λ tells. record {
             job_read = first.answer.1 tells;
-            plates_read = read_before a b source.inputs (length source.inputs) plates first.keeps (next.answer.4 (first.keeps.tells ∙ tells));
+            plates_read = read_before a b source.inputs (length source.inputs) planes first.keeps (next.answer.4 (first.keeps.tells ∙ tells));
           })
           met;
+    }
+
+-- planes that are read can be assembled
+pub can_assemble : {X : Type 0} (text : X → List ℕ) (inputs : List X) (a b : TrayState) (names : List (List ℕ)) (planes : List Plane) → 1 ≤ length inputs → length inputs ≤ 16 → length names ≡ length inputs → ReadsPlates (map text inputs) a b (Ok planes) → CanAssemblePlanes planes names
+can_assemble text inputs a b names planes some few named reads =
+    let count : length planes ≡ length inputs = reads.answer.1 ∙ length-map inputs text in
+    record {
+      some = omega (arith, count, some);
+      few = omega (arith, count, few);
+      named = named ∙ sym count;
+      in_range = λ k d within. (reads.answer.2 k d within).0;
     }
 
 -- as many files as inputs that give their names

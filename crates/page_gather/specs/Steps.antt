@@ -1,24 +1,28 @@
 -- The steps in which a page is read.
-use Rattle.std.specs.Prelude.{◌≡◌, ℕ, Bool, true, false, IsTrue, List, [], ◌∷◌, Some, None, Result}
-use Rattle.std.specs.Prelude.{Ok, Err}
+use Rattle.std.specs.Prelude.{◌≡◌, ℕ, ◌*◌, ◌≤◌, Bool, true, false, IsTrue, List, [], ◌∷◌, Some}
+use Rattle.std.specs.Prelude.{None, Result, Ok, Err}
 use Rattle.outside.specs.Causes.{Rose, Asks}
 use Rattle.outside.specs.Reading.{TakesFew}
 use Rattle.outside.specs.Tray.{TrayState, KeepsTray}
 use Rattle.job_reader.specs.declared.job.Job.{Job}
 use Rattle.job_reader.specs.Jobs.{job_of}
 use Rattle.job_reader.specs.InRange.{IsJob}
-use Rattle.pgm_plates.specs.declared.plate.Plate.{Plate as PlateRead}
+use Rattle.page_model.specs.declared.parts.Plane.{Plane}
+use Rattle.page_model.specs.Conditions.{IsPlane}
+use Rattle.page_model.specs.Limits.{most_samples}
+use Rattle.page_model.specs.Planes.{no_plane}
 use Rattle.pgm_plates.specs.declared.plate.PlateFault.{PlateFault}
 use Rattle.pgm_plates.specs.declared.plate.PlateFault.TheVariants.{SampleAboveMaxval}
 use Rattle.pgm_plates.specs.Faults.{IsFault}
-use Rattle.pgm_plates.specs.Plates.{IsPlate, IsPlateFile}
+use Rattle.pgm_plates.specs.Planes.{plate_of}
+use Rattle.pgm_plates.specs.Plates.{IsPlateFile}
 use Rattle.pgm_plates.specs.Reading.{AreFew, IsTruncated}
 use Rattle.ps_tokens.specs.declared.faults.JobRefusal.{JobRefusal as JobRefusals}
 use Rattle.ps_tokens.specs.declared.faults.JobRefusal.TheVariants.{Fault, OutOfMemory}
 use Rattle.refusals.specs.declared.refusal.Refusal.{Refusal}
 use Rattle.refusals.specs.declared.refusal.Refusal.TheVariants.{Job as JobRefusal, Plate, Read}
 use Rattle.refusals.specs.declared.refusal.Refusal.TheVariants.{Memory}
-use Rattle.page_gather.specs.Inputs.{Holds, no_plate}
+use Rattle.page_gather.specs.Inputs.{Holds}
 use Rattle.page_gather.specs.Looks.{FileInHand, HasTaken, LooksThrough, Sought, Takes}
 
 -- how many bytes are taken of a job at most: as many as it may have, and one
@@ -74,12 +78,16 @@ abbrev pub may_hide : PlateFault → Bool
 may_hide (SampleAboveMaxval at) = true
 may_hide other = false
 
--- the plate of each file, or its first fault
-abbrev pub plates_sought : Sought PlateRead Refusal
+-- a plane in range, with no more samples than a page may have
+abbrev pub IsPlaneOfPage : Plane → Type 0
+IsPlaneOfPage plane = IsPlane plane × (plane.width * plane.height ≤ most_samples)
+
+-- the plate of each file, as its plane, or its first fault
+abbrev pub plates_sought : Sought Plane Refusal
 plates_sought = record {
-  gives = IsPlateFile;
-  fine = IsPlate;
-  none = no_plate;
+  gives = λ bytes plane. IsPlateFile bytes (plate_of plane);
+  fine = IsPlaneOfPage;
+  none = no_plane;
   Reason = PlateFault;
   because = λ fault bytes. IsFault bytes fault;
   may_hide = may_hide;
@@ -94,8 +102,8 @@ plates_sought = record {
 abbrev pub PlateInHand : List (List ℕ) → TrayState → TrayState → Type 0
 PlateInHand = FileInHand AreFew
 
--- The plates of these files are read, up to the first that is refused.
-abbrev pub ReadsPlates : List (List ℕ) → TrayState → TrayState → Result (List PlateRead) Refusal
+-- The plates of these files are read as planes, up to the first that is refused.
+abbrev pub ReadsPlates : List (List ℕ) → TrayState → TrayState → Result (List Plane) Refusal
     → Type 0
 ReadsPlates = LooksThrough plates_sought
 

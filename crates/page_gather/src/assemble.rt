@@ -143,8 +143,8 @@ pub fn parts_of(
     })
 }
 
-/// The planes of these plates, each with the tints that its samples stand for.
-pub fn planes_of(alloc: Global, plates: PlateList) -> Result<PlaneList, OutOfMemory>
+// The planes of these plates, each with the tints that its samples stand for.
+fn planes_of(alloc: Global, plates: PlateList) -> Result<PlaneList, OutOfMemory>
     requires { All IsPlate plates }
     ensures { IfOk result (λ planes. planes ≡ map plane_of plates) }
 {

@@ -3,13 +3,14 @@ ghost use Rattle.job_reader.specs.InRange.{IsJob};
 ghost use Rattle.page_gather.specs.Gathering.{Gathers, GathersRest};
 ghost use Rattle.page_gather.specs.Inputs.{sources};
 
-use crate::assemble::assemble;
+use crate::assemble::assemble_planes;
 use crate::job::read_job_file;
 use crate::plates::read_plates;
 use job_reader::job::Job;
 use lists::names::NameList;
 use outside::tray::Tray;
 use page_model::page::Page;
+use pgm_plates::laws::plane_turns_back;
 use refusals::refusal::Refusal;
 use std::alloc::Global;
 use std::convert::AsStr;
@@ -54,7 +55,10 @@ fn gather_plates<T: Tray, S: AsStr>(
         (T.state tray.old) (T.state tray.new) result }
 {
     match read_plates(alloc, tray, inputs) {
-        Ok(plates) => assemble(alloc, job, plates, names),
+        Ok(planes) => {
+            plane_turns_back();
+            assemble_planes(alloc, job, planes, names)
+        }
         Err(refusal) => Err(refusal),
     }
 }

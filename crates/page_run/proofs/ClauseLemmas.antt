@@ -1,5 +1,5 @@
 -- The clauses of the top call, by how the run of the words ended.
-use Rattle.std.proofs.Common.{◌≡◌, ◌≢◌, ◌⊎◌, ℕ, suc, ◌<◌, ◌≤◌, List, [], ◌++◌, length, take, All, Option, Some, None, Result, Ok, Err, Bool, IsTrue, IsFalse, inl, inr, refl, sym, ap, ◌∙◌, subst, arith}
+use Rattle.std.proofs.Common.{◌≡◌, ◌≢◌, ◌⊎◌, ℕ, suc, ◌<◌, ◌≤◌, List, [], ◌++◌, length, take, Option, Some, None, Result, Ok, Err, Bool, IsTrue, IsFalse, inl, inr, refl, sym, ap, ◌∙◌, subst, arith}
 use Rattle.std.proofs.lemmas.List.Elements.{All-cons}
 use Rattle.outside.specs.Causes.{Rose, RoseOnce, Asks, AsksPrefix}
 use Rattle.outside.specs.Tray.{TrayState}

@@ -2,14 +2,16 @@
 use Rattle.std.proofs.Common.{◌≡◌, ℕ, List, [], ◌++◌, length, Option, Some, None, Result, Ok, Err, IsTrue, inl, inr, refl, sym, ap, ◌∙◌, subst, arith}
 use Rattle.std.proofs.lemmas.List.{append_assoc, append-nil}
 use Rattle.outside.specs.Tray.{TrayState, KeepsTray}
+use Rattle.page_model.specs.declared.parts.Plane.{Plane}
 use Rattle.page_gather.specs.Inputs.{Holds}
 use Rattle.page_gather.specs.Looks.{HoldsOne, LooksAt, Refuses}
+use Rattle.page_gather.specs.Steps.{IsPlaneOfPage}
 use Rattle.page_gather.proofs.PlateLemmas.{kept_count}
 use Rattle.pgm_plates.specs.declared.plate.Plate.{Plate as PlateRead}
 use Rattle.pgm_plates.specs.declared.plate.PlateFault.{PlateFault}
 use Rattle.pgm_plates.specs.declared.plate.PlateRefusal.{PlateRefusal}
 use Rattle.pgm_plates.specs.declared.plate.PlateRefusal.TheVariants.{Fault, ReadFault}
-use Rattle.pgm_plates.specs.Plates.{IsPlate}
+use Rattle.pgm_plates.specs.Planes.{plate_of}
 use Rattle.pgm_plates.specs.Sequences.{AreFewOfPage, IsSequence, ReadsPage, StandsAfter}
 use Rattle.pgm_plates.proofs.Facts.{cut_or_not, fault_stays}
 use Rattle.page_run.specs.InHand.{MayHold, TakesImage}
@@ -45,9 +47,6 @@ module _ (name : List ℕ) (k : ℕ) (a b : TrayState) where
       is_image = reads.answer.4;
     },
   )
-
-  pub is_plate : (plate : PlateRead) → ReadsPage name k a b (Ok (Some plate)) → IsPlate plate
-  is_plate plate reads = reads.answer.4.plate_ok
 
   pub has_none : ReadsPage name k a b (Ok None) → IsTrue a.tells → Holds a.file name (HasNoImage k)
   has_none reads tells =
@@ -89,8 +88,8 @@ takes_image : (name : List ℕ) (k : ℕ) (a b : TrayState) (result : Result (Op
 takes_image name k a b result reads = record { bytes = reads.bytes; taken = reads.taken; few = reads.few }
 
 module _ (k plate : ℕ) (name : List ℕ) (a b : TrayState) where
-  pub image_read : (image : PlateRead) → ReadsPage name k a b (Ok (Some image)) → LooksAt (images_sought k) plate name a b (Ok image)
-  image_read image reads = record { keeps = reads.keeps; asked = reads.asked; takes = takes_image name k a b _ reads; answer = (is_plate name k a b image reads, reads.count, has_image name k a b image reads) }
+  pub image_read : (plane : Plane) → IsPlaneOfPage plane → ReadsPage name k a b (Ok (Some (plate_of plane))) → LooksAt (images_sought k) plate name a b (Ok plane)
+  image_read plane fine reads = record { keeps = reads.keeps; asked = reads.asked; takes = takes_image name k a b _ reads; answer = (fine, reads.count, has_image name k a b (plate_of plane) reads) }
 
   pub image_ends : ReadsPage name k a b (Ok None) → LooksAt (images_sought k) plate name a b (Err (Ends k plate))
   image_ends reads = record { keeps = reads.keeps; asked = reads.asked; takes = takes_image name k a b _ reads; answer = Refuses.refused None refl (λ open_. reads.count) (has_none name k a b reads) }

@@ -4,14 +4,16 @@ use Rattle.std.specs.Prelude.{◌≡◌, ℕ, Bool, false, IsTrue, List, [], ◌
 use Rattle.std.specs.Prelude.{Result, Ok, Err}
 use Rattle.outside.specs.Causes.{Rose, Asks}
 use Rattle.outside.specs.Tray.{TrayState, KeepsTray}
-use Rattle.page_gather.specs.Inputs.{Holds, no_plate}
+use Rattle.page_gather.specs.Inputs.{Holds}
 use Rattle.page_gather.specs.Looks.{HasTaken, LooksThrough, Sought}
-use Rattle.page_gather.specs.Steps.{HaveNoFault, TakesJob, may_hide}
+use Rattle.page_gather.specs.Steps.{HaveNoFault, IsPlaneOfPage, TakesJob, may_hide}
 use Rattle.job_pages.specs.declared.run.RunRefusal.TheVariants.{Fault as JobFails}
 use Rattle.job_pages.specs.declared.run.RunRefusal.TheVariants.{TooManyPages as HasTooMany}
+use Rattle.page_model.specs.declared.parts.Plane.{Plane}
+use Rattle.page_model.specs.Planes.{no_plane}
 use Rattle.pgm_plates.specs.declared.plate.Plate.{Plate as PlateRead}
 use Rattle.pgm_plates.specs.declared.plate.PlateFault.{PlateFault}
-use Rattle.pgm_plates.specs.Plates.{IsPlate}
+use Rattle.pgm_plates.specs.Planes.{plate_of}
 use Rattle.pgm_plates.specs.Sequences.{AreFewOfPage, StandsAfter}
 use Rattle.ps_tokens.specs.declared.faults.JobFault.{JobFault}
 use Rattle.traprun_verdicts.specs.declared.stop.TraprunError.{TraprunError}
@@ -81,12 +83,12 @@ abbrev pub image_stop : ℕ → ℕ → Option PlateFault → TraprunError
 image_stop page plate None = Ends page plate
 image_stop page plate (Some fault) = AtPage page (Plate plate fault)
 
--- the image of a page, of each plate's file
-abbrev pub images_sought : ℕ → Sought PlateRead TraprunError
+-- the image of a page, of each plate's file: its plane
+abbrev pub images_sought : ℕ → Sought Plane TraprunError
 images_sought page = record {
-  gives = HasImage page;
-  fine = IsPlate;
-  none = no_plate;
+  gives = λ bytes plane. HasImage page bytes (plate_of plane);
+  fine = IsPlaneOfPage;
+  none = no_plane;
   Reason = Option PlateFault;
   because = LacksImage page;
   may_hide = hides;
@@ -99,7 +101,7 @@ images_sought page = record {
 
 -- The images of a page are read, up to the first that is refused.
 abbrev pub ReadsImages : ℕ → List (List ℕ) → TrayState → TrayState
-    → Result (List PlateRead) TraprunError → Type 0
+    → Result (List Plane) TraprunError → Type 0
 ReadsImages page = LooksThrough (images_sought page)
 
 -- why a file does not end after so many pages: there is another image, or a fault

@@ -12,7 +12,7 @@ use job_pages::many::ManyPages;
 use job_reader::job::Job;
 use lists::names::NameList;
 use outside::tray::Tray;
-use page_gather::assemble::assemble;
+use page_gather::assemble::assemble_planes;
 use page_model::page::Page;
 use plain_words::files::{plate_inputs, plate_names};
 use ps_tokens::faults::JobRefusal;
@@ -104,7 +104,7 @@ fn gather_images<T: Tray>(
         result }
 {
     match read_images(alloc, tray, page, opened.inputs.as_slice()) {
-        Ok(plates) => match assemble(alloc, job, plates, &opened.names) {
+        Ok(planes) => match assemble_planes(alloc, job, planes, &opened.names) {
             Ok(made) => Ok(made),
             Err(refusal) => Err(stop_at(page, refusal)),
         },

@@ -2,22 +2,22 @@ ghost use Rattle.std.specs.Prelude.{◌<◌, ◌≤◌, length, map};
 ghost use Rattle.page_run.specs.Reading.{ExpectsEnd, ReadsImages, ends_sought, images_sought};
 
 use outside::tray::Tray;
-use page_gather::assemble::PlateList;
 use page_gather::looks::{Look, look_through};
-use pgm_plates::pages::read_page;
-use pgm_plates::plate::{Plate, PlateRefusal};
+use page_model::parts::{Plane, PlaneList};
+use pgm_plates::pages::{read_page, read_page_plane};
+use pgm_plates::plate::PlateRefusal;
 use refusals::refusal::Refusal;
 use std::alloc::Global;
 use traprun_verdicts::stop::TraprunError;
 
-/// Reads the image of that page from each of these files in order, up to the first that is refused. No file is begun after
-/// it.
+/// Reads the plane of that page's image from each of these files in order, up to the first that is refused. No file is
+/// begun after it.
 pub(crate) fn read_images<T: Tray>(
     alloc: Global,
     tray: &mut T,
     page: u32,
     inputs: &[&str],
-) -> Result<PlateList, TraprunError>
+) -> Result<PlaneList, TraprunError>
     requires { length inputs.now ≤ 16 }
     ensures { ReadsImages page (map (λ file. file.now) inputs.now) (T.state tray.old)
         (T.state tray.new) result }
@@ -42,14 +42,14 @@ pub(crate) fn expect_end<T: Tray>(
     }
 }
 
-// The image of a page.
+// The plane of a page's image.
 #[derive(Drop)]
 struct Images {
     page: u32,
 }
 
 impl Look for Images {
-    type Found = Plate;
+    type Found = Plane;
 
     type Refusal = TraprunError;
 
@@ -61,9 +61,9 @@ impl Look for Images {
         tray: &mut T,
         number: u32,
         name: &str,
-    ) -> Result<Plate, TraprunError> {
-        match read_page(alloc, tray, name, self.page) {
-            Ok(Some(image)) => Ok(image),
+    ) -> Result<Plane, TraprunError> {
+        match read_page_plane(alloc, tray, name, self.page) {
+            Ok(Some(plane)) => Ok(plane),
             Ok(None) => Err(TraprunError::Ends(self.page, number)),
             Err(PlateRefusal::Fault(fault)) => {
                 Err(TraprunError::AtPage(self.page, Refusal::Plate(number, fault)))

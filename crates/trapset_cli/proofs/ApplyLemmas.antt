@@ -1,5 +1,5 @@
 -- How `apply` ends, from how its plates and its set are read and its plates written.
-use Rattle.std.proofs.Common.{◌≡◌, ◌⊎◌, ℕ, ◌+◌, ◌<◌, ◌≤◌, Bool, true, false, min, List, [], ◌∷◌, ◌++◌, length, map, take, Option, Some, None, Result, Ok, Err, MatchResult, IsTrue, inl, inr, refl, sym, ap, ◌∙◌, subst, arith}
+use Rattle.std.proofs.Common.{◌≡◌, ◌⊎◌, ℕ, ◌<◌, ◌≤◌, Bool, true, false, min, List, [], ◌∷◌, ◌++◌, length, map, take, Option, Some, None, Result, Ok, Err, IsTrue, inl, inr, refl, sym, ap, ◌∙◌, subst, arith}
 use Rattle.std.proofs.lemmas.List.{length-map, take-append-le, take_min}
 use Rattle.outside.specs.Causes.{Asks, AsksPrefix}
 use Rattle.outside.specs.Tray.{TrayState}
@@ -8,59 +8,33 @@ use Rattle.outside.proofs.Names.{asks_all, asks_none_of, asks_then}
 use Rattle.outside.proofs.Steps.{rose_before}
 use Rattle.page_gather.specs.Inputs.{name_at}
 use Rattle.page_gather.specs.Looks.{Refuses, StopsAt}
-use Rattle.page_gather.specs.Steps.{PassesNoFault, ReadsPlates, plates_sought}
+use Rattle.page_gather.specs.Steps.{ReadsPlates, plates_sought}
 use Rattle.page_gather.proofs.LookLemmas.{refused_prefix, some_in_hand}
-use Rattle.page_gather.proofs.PlateLemmas.{plate_count, refusal_passes}
+use Rattle.page_gather.proofs.PlaneLemmas.{planes_back, plates_found}
+use Rattle.page_gather.proofs.PlateLemmas.{plate_count}
 use Rattle.page_model.specs.declared.parts.Plane.{Plane}
 use Rattle.page_writing.specs.Files.{plate_files}
 use Rattle.page_writing.specs.Writing.{FinishesAll}
 use Rattle.page_writing.proofs.Steps.{plates_length, plates_names}
-use Rattle.pgm_plates.specs.declared.plate.Plate.{Plate as PlateRead}
-use Rattle.pgm_plates.specs.Planes.{plane_of}
+use Rattle.pgm_plates.specs.Laws.{PlaneTurnsBack}
+use Rattle.pgm_plates.specs.Planes.{plate_of}
+use Rattle.pgm_plates.specs.Plates.{IsPlateFile}
 use Rattle.pgm_plates.specs.Reading.{AreFew}
 use Rattle.plain_words.specs.Parts.{CopyNames, copy_of}
 use Rattle.trapset_cli.specs.declared.cause.TrapsetError.{TrapsetError}
 use Rattle.trapset_cli.specs.declared.cause.TrapsetError.TheVariants as causes
 use Rattle.trapset_cli.specs.Commands.{inputs_of, read_names}
 use Rattle.trapset_cli.specs.Endings.{Answers, CarriesOut, NotRead, SetInHand}
-use Rattle.trapset_cli.specs.Putting.{AnswersPatch, AnswersPlanes, AreInRange, Patches, PatchesPlanes, PutsPlates, ReadsPlanes}
+use Rattle.trapset_cli.specs.Putting.{AnswersPatch, AreInRange, Patches, PatchesPlanes, PutsPlates}
 use Rattle.trapset_cli.proofs.PlanesInRange.{kept_in_range, read_in_range}
 use Rattle.trapset_cli.proofs.TrapsLemmas.{nothing_written}
+use Rattle.trapset_cli.specs.Verdicts.{ArePlanes}
 use Rattle.trapset_cli.specs.Words.{ApplyWords, Apply, outputs_of}
 use Rattle.refusals.specs.declared.refusal.Refusal.{Refusal}
 use Rattle.refusals.specs.declared.refusal.Refusal.TheVariants as refusals
 use Rattle.trap_set.specs.Applying.{AppliesSet, EndsWith}
 use Rattle.trap_set.specs.declared.apply.SetRefusal.{SetRefusal}
 use Rattle.trap_set.specs.declared.apply.SetRefusal.TheVariants as set_refusals
-
--- plates, from files to planes
-
-pub planes_unread : (names : List (List ℕ)) (a b : TrayState) (refusal : Refusal) → ReadsPlates names a b (Err refusal) → ReadsPlanes names a b (Err refusal)
-planes_unread names a b refusal reads = record {
-  keeps = reads.keeps;
-  few = λ some. some_in_hand AreFew names (length names) a b some reads.in_hand;
-  count = refusal_passes (List Plane) reads.answer.0 refusal (name_at names reads.answer.0) a b reads.answer.2;
-  answer = inr reads.answer;
-}
-
-pub planes_read : (names : List (List ℕ)) (a b : TrayState) (plates : List PlateRead) (result : Result (List Plane) Refusal) → ReadsPlates names a b (Ok plates) → MatchResult result (λ planes. planes ≡ map plane_of plates) (λ refusal. refusal ≡ refusals.Memory) → ReadsPlanes names a b result
-planes_read names a b plates (Ok planes) reads is = record {
-  keeps = reads.keeps;
-  few = λ some. some_in_hand AreFew names (length names) a b some reads.in_hand;
-  count = reads.answer.3;
-  answer = (
-    reads.answer.0,
-    subst (λ (ps : List Plane). AreInRange ps (length names)) (sym is) (subst (λ (n : ℕ). AreInRange (map plane_of plates) n) reads.answer.1 (read_in_range plates reads.answer.2)),
-    λ tells. record { plates = plates; read = reads.answer.4 tells; same = is },
-  );
-}
-planes_read names a b plates (Err refusal) reads is =
-    subst (λ (r : Refusal). ReadsPlanes names a b (Err r)) (sym is) (record {
-      keeps = reads.keeps;
-      few = λ some. some_in_hand AreFew names (length names) a b some reads.in_hand;
-      count = reads.answer.3;
-      answer = inl (refl, asks_all a.asked b.asked names reads.answer.0);
-    })
 
 -- the names up to the plate that was refused are a prefix of all that are read
 prefix_on : (a b : Option (List (List ℕ))) (names more : List (List ℕ)) → AsksPrefix a b names → AsksPrefix a b (names ++ more)
@@ -70,44 +44,36 @@ prefix_on a (Some all) names more f =
     let same : take f.1 names ≡ take n (names ++ more) = sym (take-append-le n names more (omega arith) ∙ take_min f.1 names) in
     (f.0, n, f.2, f.3 ∙ ap (λ (l : List (List ℕ)). f.0 ++ l) same)
 
-plates_prefix : (names : List (List ℕ)) (a b : TrayState) (refusal : Refusal) → AnswersPlanes names a b (Err refusal) → AsksPrefix a.asked b.asked names
-plates_prefix names a b refusal (inl memory) = memory.1
-plates_prefix names a b refusal (inr answer) = refused_prefix plates_sought names a b refusal answer
-
 -- a plate is refused
 module _ (words : ApplyWords) (a b : TrayState) where
   plate_not_patched : (refusal : Refusal) (k : ℕ) → StopsAt plates_sought (inputs_of words) k a b → Refuses plates_sought k (name_at (inputs_of words) k) a b refusal → NotRead (Apply words) a b (causes.Page refusal)
   plate_not_patched refusal k at (Refuses.refused fault is count held) = subst (λ (r : Refusal). NotRead (Apply words) a b (causes.Page r)) (sym is) (NotRead.refused (inl refl) (plate_count (Unit {0}) k a b fault count) at.asked (λ tells. record {
     known = at.known;
-    plates = at.found;
-    before = at.before_it tells;
+    plates = map plate_of at.found;
+    before = plates_found IsPlateFile a.file (inputs_of words) k at.found (at.before_it tells);
     broken = held tells;
   }))
   plate_not_patched refusal k at (Refuses.unread is rose taken) = subst (λ (r : Refusal). NotRead (Apply words) a b (causes.Page r)) (sym is) (NotRead.unread refl rose at.asked (record {
     known = at.known;
-    plates = at.found;
-    before_it = at.before_it;
+    plates = map plate_of at.found;
+    before_it = λ tells. plates_found IsPlateFile a.file (inputs_of words) k at.found (at.before_it tells);
     in_hand = taken;
   }))
   plate_not_patched refusal k at (Refuses.no_memory is calm) = NotRead.no_memory (ap causes.Page is) calm
 
-  not_patched : (refusal : Refusal) → PassesNoFault {T = List Plane} a b (Err refusal) → AnswersPlanes (inputs_of words) a b (Err refusal) → NotRead (Apply words) a b (causes.Page refusal)
-  not_patched refusal count (inl memory) = NotRead.no_memory (ap causes.Page memory.0) (subst (λ (r : Refusal). PassesNoFault {T = List Plane} a b (Err r)) memory.0 count)
-  not_patched refusal count (inr answer) = plate_not_patched refusal answer.0 answer.1 answer.2
-
-  plate_refused : (refusal : Refusal) → 0 < length (inputs_of words) → ReadsPlanes (inputs_of words) a b (Err refusal) → PatchesPlanes words a b (Err (causes.Page refusal))
+  plate_refused : (refusal : Refusal) → 0 < length (inputs_of words) → ReadsPlates (inputs_of words) a b (Err refusal) → PatchesPlanes words a b (Err (causes.Page refusal))
   plate_refused refusal some reads = record {
-    asked = prefix_on a.asked b.asked (inputs_of words) (words.set ∷ []) (plates_prefix (inputs_of words) a b refusal reads.answer);
-    in_hand = inr (inl (reads.few some));
-    answer = not_patched refusal reads.count reads.answer;
+    asked = prefix_on a.asked b.asked (inputs_of words) (words.set ∷ []) (refused_prefix plates_sought (inputs_of words) a b refusal reads.answer);
+    in_hand = inr (inl (some_in_hand AreFew (inputs_of words) (length (inputs_of words)) a b some reads.in_hand));
+    answer = plate_not_patched refusal reads.answer.0 reads.answer.1 reads.answer.2;
   }
 
 -- there are as many words as plates
 pub some_plates : {X : Type 0} (text : X → List ℕ) (words : List X) → 1 ≤ length words → 0 < length (map copy_of (map text words))
 some_plates text words some = omega (arith, some, length-map (map text words) copy_of, length-map words text)
 
-pub plates_unread : (words : ApplyWords) (a b : TrayState) (names : List (List ℕ)) (refusal : Refusal) → names ≡ inputs_of words → 0 < length words.plates → ReadsPlanes names a b (Err refusal) → PatchesPlanes words a b (Err (causes.Page refusal))
-plates_unread words a b names refusal named some reads = plate_refused words a b refusal (omega (arith, some, length-map words.plates (λ (p : CopyNames). p.input))) (subst (λ (ns : List (List ℕ)). ReadsPlanes ns a b (Err refusal)) named reads)
+pub plates_unread : (words : ApplyWords) (a b : TrayState) (names : List (List ℕ)) (refusal : Refusal) → names ≡ inputs_of words → 0 < length words.plates → ReadsPlates names a b (Err refusal) → PatchesPlanes words a b (Err (causes.Page refusal))
+plates_unread words a b names refusal named some reads = plate_refused words a b refusal (omega (arith, some, length-map words.plates (λ (p : CopyNames). p.input))) (subst (λ (ns : List (List ℕ)). ReadsPlates ns a b (Err refusal)) named reads)
 
 -- there was no memory to begin with
 pub none_read : (words : ApplyWords) (a : TrayState) → PatchesPlanes words a a (Err (causes.Page refusals.Memory))
@@ -126,7 +92,17 @@ was_begun : {T : Type 0} (name : List ℕ) (b c : TrayState) (old new : List Pla
 was_begun name b c old new result app other = elim (begun_or c.begun) [ inl begun ↦ begun | inr none ↦ absurd (other (app.not_begun none).1) ]
 
 -- the set after the plates
-module _ (words : ApplyWords) (a b c : TrayState) (old : List Plane) (reads : ReadsPlanes (inputs_of words) a b (Ok old)) where
+module _ (law : PlaneTurnsBack) (words : ApplyWords) (a b c : TrayState) (old : List Plane) (reads : ReadsPlates (inputs_of words) a b (Ok old)) where
+  in_range : AreInRange old (length (inputs_of words))
+  in_range = read_in_range old (length (inputs_of words)) reads.answer.2 reads.answer.1
+
+  are_planes : IsTrue a.tells → ArePlanes a.file (inputs_of words) old
+  are_planes tells = record {
+    plates = map plate_of old;
+    read = plates_found IsPlateFile a.file (inputs_of words) (length (inputs_of words)) old (reads.answer.4 tells);
+    same = sym (planes_back law old in_range.planes_ok);
+  }
+
   all_asked : Asks b.asked c.asked (words.set ∷ []) → Asks a.asked c.asked (read_names (Apply words))
   all_asked set = asks_then a.asked b.asked c.asked (inputs_of words) (words.set ∷ []) reads.answer.0 set
 
@@ -136,26 +112,26 @@ module _ (words : ApplyWords) (a b c : TrayState) (old : List Plane) (reads : Re
   patch_answer : (result : Result (List Plane) TrapsetError) → Patches words.set old b c result → AnswersPatch words a c result
   patch_answer (Ok new) app =
       let begun = was_begun words.set b c old new (Ok tt) app (λ (e : ◌≡◌ {A = Result (Unit {0}) SetRefusal} (Ok tt) (Err set_refusals.ReadFault)). absurd cc) in (
-        app.count ∙ reads.count,
+        app.count ∙ reads.answer.3,
         all_asked app.asked,
-        kept_in_range old new (length (inputs_of words)) app.planes reads.answer.1,
+        kept_in_range old new (length (inputs_of words)) app.planes in_range,
         λ tells.
             (let says = app.says begun (reads.keeps.tells ∙ tells) in
-            record { planes = old; read = reads.answer.2 tells; set = (says.0, same_file says.0 says.1, record { head = says.2.head; runs = says.2.runs; is_file = says.2.is_file; fits = says.2.fits; planes_are = says.2.planes }) }),
+            record { planes = old; read = are_planes tells; set = (says.0, same_file says.0 says.1, record { head = says.2.head; runs = says.2.runs; is_file = says.2.is_file; fits = says.2.fits; planes_are = says.2.planes }) }),
       )
   patch_answer (Err (causes.BadLine n)) (new, app) =
       let begun = was_begun words.set b c old new (Err (set_refusals.BadLine n)) app (λ (e : ◌≡◌ {A = Result (Unit {0}) SetRefusal} (Err (set_refusals.BadLine n)) (Err set_refusals.ReadFault)). absurd cc) in
-      NotRead.refused (inr refl) (app.count ∙ reads.count) (all_asked app.asked) (λ tells.
+      NotRead.refused (inr refl) (app.count ∙ reads.answer.3) (all_asked app.asked) (λ tells.
       (let says = app.says begun (reads.keeps.tells ∙ tells) in
-      record { planes = old; read = reads.answer.2 tells; set = (says.0, same_file says.0 says.1, record { good = says.2.good; is = says.2.is; bad = says.2.bad; same = says.2.same }) }))
+      record { planes = old; read = are_planes tells; set = (says.0, same_file says.0 says.1, record { good = says.2.good; is = says.2.is; bad = says.2.bad; same = says.2.same }) }))
   patch_answer (Err causes.Differs) (new, app) =
       let begun = was_begun words.set b c old new (Err set_refusals.Differs) app (λ (e : ◌≡◌ {A = Result (Unit {0}) SetRefusal} (Err set_refusals.Differs) (Err set_refusals.ReadFault)). absurd cc) in
-      NotRead.refused (inr refl) (app.count ∙ reads.count) (all_asked app.asked) (λ tells.
+      NotRead.refused (inr refl) (app.count ∙ reads.answer.3) (all_asked app.asked) (λ tells.
       (let says = app.says begun (reads.keeps.tells ∙ tells) in
-      record { planes = old; read = reads.answer.2 tells; set = (says.0, same_file says.0 says.1, says.2.0) }))
+      record { planes = old; read = are_planes tells; set = (says.0, same_file says.0 says.1, says.2.0) }))
   patch_answer (Err causes.SetUnread) (new, app) = NotRead.unread refl (rose_before a.faults b.faults c.faults reads.keeps.faults app.count) (all_asked app.asked) (record {
     planes = old;
-    before_it = reads.answer.2;
+    before_it = are_planes;
     in_hand = λ begun tells.
         (let says = app.says begun (reads.keeps.tells ∙ tells) in
         (says.0, new, same_file says.0 says.1, says.2));
@@ -181,7 +157,7 @@ module _ (words : ApplyWords) (a b c : TrayState) (old : List Plane) (reads : Re
   set_in_hand set = record {
     asked = all_asked set.0;
     planes = old;
-    read = reads.answer.2;
+    read = are_planes;
     taken = λ begun tells.
         let here = set.1 begun (reads.keeps.tells ∙ tells) in
         (here.0, same_file here.0 here.1, here.2);
@@ -192,8 +168,8 @@ module _ (words : ApplyWords) (a b c : TrayState) (old : List Plane) (reads : Re
       let set = set_taken result app in
       record { asked = asks_all a.asked c.asked (read_names (Apply words)) (all_asked set.0); in_hand = inr (inr (set_in_hand set)); answer = patch_answer result app }
 
-pub plates_patched : (words : ApplyWords) (a b c : TrayState) (names : List (List ℕ)) (old : List Plane) (result : Result (List Plane) TrapsetError) → names ≡ inputs_of words → ReadsPlanes names a b (Ok old) → Patches words.set old b c result → PatchesPlanes words a c result
-plates_patched words a b c names old result named reads app = set_put_on words a b c old (subst (λ (ns : List (List ℕ)). ReadsPlanes ns a b (Ok old)) named reads) result app
+pub plates_patched : PlaneTurnsBack → (words : ApplyWords) (a b c : TrayState) (names : List (List ℕ)) (old : List Plane) (result : Result (List Plane) TrapsetError) → names ≡ inputs_of words → ReadsPlates names a b (Ok old) → Patches words.set old b c result → PatchesPlanes words a c result
+plates_patched law words a b c names old result named reads app = set_put_on law words a b c old (subst (λ (ns : List (List ℕ)). ReadsPlates ns a b (Ok old)) named reads) result app
 
 -- the plates that are written
 

@@ -1,14 +1,11 @@
 -- The clauses of the top call, by how the command of the words ended.
-use Rattle.std.proofs.Common.{◌≡◌, ◌≢◌, ◌⊎◌, ℕ, ◌≤◌, List, [], ◌∷◌, ◌++◌, take, Option, Some, None, Result, Ok, Err, IsTrue, inl, inr, refl, sym, ap, ◌∙◌, subst, arith}
-use Rattle.std.proofs.lemmas.Bool.{cases_lt}
+use Rattle.std.proofs.Common.{◌≡◌, ◌≢◌, ◌⊎◌, ℕ, ◌≤◌, List, Option, Some, None, Result, Ok, Err, IsTrue, inl, inr, refl, sym, ap, ◌∙◌, subst, arith}
 use Rattle.outside.specs.Causes.{Rose, RoseOnce, Asks, AsksPrefix}
 use Rattle.outside.specs.Tray.{TrayState}
 use Rattle.outside.specs.Rack.{RackState, KeepsRack}
-use Rattle.outside.specs.Writing.{BreaksFile}
 use Rattle.page_gather.specs.Inputs.{one_page}
 use Rattle.page_writing.proofs.Told.{breaks_then, line_after}
-use Rattle.page_writing.specs.Files.{Written, put_all, names_of}
-use Rattle.page_writing.specs.Writing.{BreaksAt}
+use Rattle.page_writing.specs.Files.{Written}
 use Rattle.trapset_cli.specs.declared.cause.TrapsetError.{TrapsetError}
 use Rattle.trapset_cli.specs.declared.cause.TrapsetError.TheVariants as causes
 use Rattle.trapset_cli.specs.Causes.{RefusesCause, cause_line, cause_status}

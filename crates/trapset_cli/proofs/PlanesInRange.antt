@@ -1,7 +1,6 @@
--- Planes in range: those of plates that were read, those that a set was put onto, and those of a page before and after trapping.
-use Rattle.std.proofs.Common.{◌≡◌, ℕ, ◌*◌, ◌-◌, ◌<◌, ◌≤◌, List, length, map, get_or, All, sym, ap, ◌∙◌, subst, arith}
-use Rattle.std.proofs.lemmas.List.{get_or_default, length-map}
-use Rattle.std.proofs.lemmas.List.Elements.{All-map}
+-- Planes in range: those that were read, those that a set was put onto, and those of a page before and after trapping.
+use Rattle.std.proofs.Common.{◌≡◌, ℕ, ◌*◌, ◌<◌, ◌≤◌, List, length, All, sym, ap, ◌∙◌, subst, arith}
+use Rattle.std.proofs.lemmas.List.{get_or_default}
 use Rattle.lists.proofs.ListBelow.{length-list_below, list_below-at}
 use Rattle.page_model.specs.declared.parts.PageParts.{PageParts}
 use Rattle.page_model.specs.declared.parts.Plane.{Plane}
@@ -9,26 +8,19 @@ use Rattle.page_model.specs.Conditions.{IsPage, IsPlane}
 use Rattle.page_model.specs.Page.{plates}
 use Rattle.page_model.specs.Planes.{no_plane, plane_at}
 use Rattle.page_model.specs.Tints.{trapped_plane, trapped_planes}
-use Rattle.pgm_plates.specs.declared.plate.Plate.{Plate}
-use Rattle.pgm_plates.specs.Planes.{plane_of}
-use Rattle.pgm_plates.specs.Plates.{IsPlate}
-use Rattle.page_gather.proofs.AssemblyLemmas.{plane_ok}
+use Rattle.page_gather.specs.Steps.{IsPlaneOfPage}
 use Rattle.plane_shapes.specs.Shapes.{AreOneShape}
 use Rattle.trapset_cli.specs.Putting.{AreInRange, IsSmall}
-use Rattle.trap_set.specs.Applying.{IsBelow, IsFull, KeepsPlane, KeepsPlanes}
+use Rattle.trap_set.specs.Applying.{IsBelow, KeepsPlane, KeepsPlanes}
 use Rattle.trap_set.specs.Runs.{ArePair}
 
--- the planes of plates
-pub read_in_range : (plates : List Plate) → All IsPlate plates → AreInRange (map plane_of plates) (length plates)
-read_in_range plates all = record {
-  planes_ok = All-map IsPlane plane_of plates (λ k d within. plane_ok (get_or plates k d) (all k d within));
-  small = All-map IsSmall plane_of plates (λ k d within. (all k d within).product);
-  as_many = length-map plates plane_of;
+-- planes that were read
+pub read_in_range : (planes : List Plane) (count : ℕ) → All IsPlaneOfPage planes → length planes ≡ count → AreInRange planes count
+read_in_range planes count fine as_many = record {
+  planes_ok = λ k d within. (fine k d within).0;
+  small = λ k d within. (fine k d within).1;
+  as_many = as_many;
 }
-
--- planes in range have a tint for each sample
-pub are_full : (planes : List Plane) (count : ℕ) → AreInRange planes count → All IsFull planes
-are_full planes count is = λ k d within. (is.planes_ok k d within).full
 
 kept_area : (old new : Plane) → KeepsPlane old new → old.width * old.height ≡ new.width * new.height
 kept_area old new keeps = ap (λ (w : ℕ). w * old.height) (sym keeps.as_wide) ∙ ap (λ (h : ℕ). new.width * h) (sym keeps.as_tall)

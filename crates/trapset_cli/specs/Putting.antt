@@ -1,11 +1,9 @@
 -- The steps of `traps` and of `apply`.
-use Rattle.std.specs.Prelude.{◌≡◌, ◌⊎◌, ℕ, ◌*◌, ◌<◌, ◌≤◌, IsTrue, List, [], ◌∷◌, length, All, Result}
+use Rattle.std.specs.Prelude.{◌≡◌, ℕ, ◌*◌, ◌≤◌, IsTrue, List, [], ◌∷◌, length, All, Result}
 use Rattle.std.specs.Prelude.{Ok, Err}
 use Rattle.outside.specs.Causes.{Asks, AsksPrefix, RoseOnce}
-use Rattle.outside.specs.Tray.{TrayState, KeepsTray}
+use Rattle.outside.specs.Tray.{TrayState}
 use Rattle.outside.specs.Rack.{RackState, KeepsRack}
-use Rattle.page_gather.specs.Looks.{AnswersLooks}
-use Rattle.page_gather.specs.Steps.{PassesNoFault, PlateInHand, plates_sought}
 use Rattle.page_model.specs.declared.parts.PageParts.{PageParts}
 use Rattle.page_model.specs.declared.parts.Plane.{Plane}
 use Rattle.page_model.specs.Conditions.{IsPage, IsPlane}
@@ -16,9 +14,8 @@ use Rattle.trapset_cli.specs.declared.cause.TrapsetError.TheVariants.{Page, SetU
 use Rattle.trapset_cli.specs.declared.cause.TrapsetError.TheVariants.{BadLine, Differs}
 use Rattle.trapset_cli.specs.Commands.{inputs_of, read_names}
 use Rattle.trapset_cli.specs.Endings.{HasInHand, NotRead}
-use Rattle.trapset_cli.specs.Verdicts.{ArePlanes, Gives, OnPlanes, set_files}
+use Rattle.trapset_cli.specs.Verdicts.{Gives, OnPlanes, set_files}
 use Rattle.trapset_cli.specs.Words.{ApplyWords, Apply}
-use Rattle.refusals.specs.declared.refusal.Refusal.{Refusal}
 use Rattle.refusals.specs.declared.refusal.Refusal.TheVariants.{Memory}
 use Rattle.trap_set.specs.Applying.{AppliesSet}
 use Rattle.trap_set.specs.declared.apply.SetRefusal.TheVariants.{BadLine as bad_line}
@@ -52,23 +49,6 @@ pub record AreInRange (planes : List Plane) (count : ℕ) : Type 0 where
   pub planes_ok : All IsPlane planes
   pub small : All IsSmall planes
   pub as_many : length planes ≡ count
-
--- What the answer says where plates are read as planes.
-abbrev pub AnswersPlanes : List (List ℕ) → TrayState → TrayState → Result (List Plane) Refusal
-    → Type 0
-AnswersPlanes names before after (Ok planes) = Asks before.asked after.asked names
-    × AreInRange planes (length names) × (IsTrue before.tells → ArePlanes before.file names planes)
-AnswersPlanes names before after (Err refusal) =
-    ((refusal ≡ Memory) × AsksPrefix before.asked after.asked names)
-    ⊎ AnswersLooks plates_sought names before after (Err refusal)
-
--- Plates are read, and turned into planes.
-pub record ReadsPlanes (names : List (List ℕ)) (before after : TrayState)
-    (result : Result (List Plane) Refusal) : Type 0 where
-  pub keeps : KeepsTray before after
-  pub few : 0 < length names → PlateInHand names before after
-  pub count : PassesNoFault before after result
-  pub answer : AnswersPlanes names before after result
 
 -- The set of that name is put onto the planes.
 abbrev pub Patches : List ℕ → List Plane → TrayState → TrayState → Result (List Plane) TrapsetError

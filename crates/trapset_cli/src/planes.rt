@@ -1,9 +1,7 @@
 // The plates of `apply`, from their files to their planes with the set on them.
 
-ghost use Rattle.std.specs.Prelude.{◌≡◌, ◌≤◌, All, MatchResult, length, map};
-ghost use Rattle.pgm_plates.specs.Planes.{plane_of};
-ghost use Rattle.pgm_plates.specs.Plates.{IsPlate};
-ghost use Rattle.trapset_cli.specs.Putting.{Patches, PatchesPlanes, ReadsPlanes};
+ghost use Rattle.std.specs.Prelude.{◌≤◌, All, length};
+ghost use Rattle.trapset_cli.specs.Putting.{Patches, PatchesPlanes};
 ghost use Rattle.plain_words.specs.Inputs.{AreFew};
 ghost use Rattle.trapset_cli.specs.Held.{apply_in};
 ghost use Rattle.trap_set.specs.Applying.{IsFull};
@@ -11,9 +9,9 @@ ghost use Rattle.trap_set.specs.Applying.{IsFull};
 use crate::cause::TrapsetError;
 use crate::command::ApplyCommand;
 use outside::tray::Tray;
-use page_gather::assemble::{PlateList, planes_of};
 use page_gather::plates::read_plates;
-use page_model::parts::{OutOfMemory, PlaneList};
+use page_model::parts::PlaneList;
+use pgm_plates::laws::plane_turns_back;
 use plain_words::files::copy_inputs;
 use refusals::refusal::Refusal;
 use std::alloc::Global;
@@ -31,32 +29,12 @@ pub(crate) fn patched_planes<T: Tray>(
     let Ok(inputs) = copy_inputs(alloc, command.plates) else {
         return Err(TrapsetError::Page(Refusal::Memory));
     };
-    match read_planes(alloc, tray, inputs.as_slice()) {
-        Ok(planes) => patch_planes(tray, command.set, planes),
+    match read_plates(alloc, tray, inputs.as_slice()) {
+        Ok(planes) => {
+            plane_turns_back();
+            patch_planes(tray, command.set, planes)
+        }
         Err(refusal) => Err(TrapsetError::Page(refusal)),
-    }
-}
-
-// Reads plates of these files, and turns them into planes.
-fn read_planes<T: Tray>(alloc: Global, tray: &mut T, inputs: &[&str]) -> Result<PlaneList, Refusal>
-    requires { length inputs.now ≤ 16 }
-    ensures { ReadsPlanes (map (λ file. file.now) inputs.now) (T.state tray.old)
-        (T.state tray.new) result }
-{
-    match read_plates(alloc, tray, inputs) {
-        Ok(plates) => turn_plates(alloc, plates),
-        Err(refusal) => Err(refusal),
-    }
-}
-
-fn turn_plates(alloc: Global, plates: PlateList) -> Result<PlaneList, Refusal>
-    requires { All IsPlate plates }
-    ensures { MatchResult result (λ planes. planes ≡ map plane_of plates)
-        (λ refusal. refusal ≡ Refusal.Memory) }
-{
-    match planes_of(alloc, plates) {
-        Ok(planes) => Ok(planes),
-        Err(OutOfMemory) => Err(Refusal::Memory),
     }
 }
 

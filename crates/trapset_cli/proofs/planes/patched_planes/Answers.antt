@@ -3,12 +3,12 @@ use Rattle.trapset_cli.specs.Held.{apply_in}
 use Rattle.trapset_cli.proofs.ApplyLemmas.{plates_patched, plates_unread, some_plates}
 use Rattle.trapset_cli.proofs.planes.patched_planes.Goals as goal
 
-pub returns-in-Ok-read_planes : goal.returns-in-Ok-read_planes
-returns-in-Ok-read_planes g c =
+pub returns-in-Ok-read_plates : goal.returns-in-Ok-read_plates
+returns-in-Ok-read_plates g c =
     let named = ap (λ (fs : List (Bor (List ℕ))). map (λ (f : Bor (List ℕ)). f.now) fs) c.as_slice.ensures.value ∙ c.in-Ok.ensures in
-    plates_patched (apply_in c.args.command.now) (g.T.Tray.state c.args.tray.now) (g.T.Tray.state c.read_planes.new.tray) (g.T.Tray.state c.patch_planes.new.tray) (map (λ (f : Bor (List ℕ)). f.now) c.as_slice.result.now) c.in-Ok-read_planes.planes c.patch_planes.result named c.in-Ok-read_planes.ensures c.patch_planes.ensures
+    plates_patched c.plane_turns_back.ensures (apply_in c.args.command.now) (g.T.Tray.state c.args.tray.now) (g.T.Tray.state c.read_plates.new.tray) (g.T.Tray.state c.patch_planes.new.tray) (map (λ (f : Bor (List ℕ)). f.now) c.as_slice.result.now) c.in-Ok-read_plates.planes c.patch_planes.result named c.in-Ok-read_plates.ensures c.patch_planes.ensures
 
 pub returns : goal.returns
 returns g c =
     let named = ap (λ (fs : List (Bor (List ℕ))). map (λ (f : Bor (List ℕ)). f.now) fs) c.as_slice.ensures.value ∙ c.in-Ok.ensures in
-    plates_unread (apply_in c.args.command.now) (g.T.Tray.state c.args.tray.now) (g.T.Tray.state c.read_planes.new.tray) (map (λ (f : Bor (List ℕ)). f.now) c.as_slice.result.now) c.in-Err.refusal named (some_plates _ _ c.requires.some) c.in-Err.ensures
+    plates_unread (apply_in c.args.command.now) (g.T.Tray.state c.args.tray.now) (g.T.Tray.state c.read_plates.new.tray) (map (λ (f : Bor (List ℕ)). f.now) c.as_slice.result.now) c.in-Err.refusal named (some_plates _ _ c.requires.some) c.in-Err.ensures
