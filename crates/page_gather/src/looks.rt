@@ -6,7 +6,7 @@ use outside::tray::Tray;
 use std::alloc::Global;
 use std::convert::AsStr;
 
-/// A look into a file: what is sought in it, and what is told where it is refused.
+/// What is sought in a file, and the refusals where it is not there.
 pub trait Look {
     /// What a file gives.
     type Found: Drop;
@@ -24,9 +24,10 @@ pub trait Look {
         number: u32,
         name: &str,
     ) -> Result<Self::Found, Self::Refusal>
-        ensures { LooksAt (sought self.now) number name.now (T.state tray.old) (T.state tray.new) result };
+        ensures { LooksAt (sought self.now) number name.now (T.state tray.old)
+            (T.state tray.new) result };
 
-    /// What is told where there is no memory for what a file gave.
+    /// The refusal where there is no memory for what a file gave.
     fn no_memory(&self) -> Self::Refusal
         ensures { result ≡ (sought self.now).memory };
 }
