@@ -4,8 +4,8 @@
 Each case is a page by the call of a page, and then a window of that page by the call of a window, with memory of its own, guards
 before and after each buffer, and arguments of which some do not fit: the status, the text, its length, the samples, the gaps between
 rows and the guards have to be as the slow program says. Of a window it looks at the whole page, and takes what lies in the core.
-Where the arguments fit, the package's own calls have to give the same. The library is the one that TRAP_LIBRARY names, or
-library/out/libtrap.so.1.
+Where the arguments fit, the package's own calls have to give the same. A few calls that were worked out by hand come first. The
+library is the one that TRAP_LIBRARY names, or library/out/libtrap.so.1.
 """
 import array
 import ctypes
@@ -399,6 +399,33 @@ def sheet_of(call):
     return call._replace(numbers=numbers)
 
 
+# Calls whose answers were worked out by hand: an edge in the middle of a row, two names that are one, a core of one sample in its
+# window, and a core that stands too near its window's border.
+HAND_JOB = (b"<< /HWResolution [72 72] /TrappingDetails << /Type 1001 /ColorantDetails << /Cyan << /NeutralDensity 0.61 >> "
+            b"/Magenta << /NeutralDensity 0.76 >> >> >> >> setpagedevice << /TrapWidth 2 >> settrapparams showpage")
+HAND_NAMES = b"Cyan\nMagenta"
+HAND_HALO = 2
+BY_HAND = (
+    (Call(HAND_JOB, HAND_NAMES, [255] * 3 + [0] * 6 + [255] * 3, 6, 1, 6, 255, "H", 200), None,
+     Answer(0, "trap report\npage 6 1 255 plates 2\nzone 0 samples 6 changed 2\nedges 1\nplate Cyan changed 1\nplate Magenta changed 1\nend\n",
+            [255] * 4 + [0] * 4 + [255] * 4)),
+    (Call(HAND_JOB, b"Cyan\nCyan", [255, 0, 0, 255], 2, 1, 2, 255, "B", 5), None, Answer(2, "call: Names\n", [255, 0, 0, 255])),
+    (Call(HAND_JOB, HAND_NAMES, [255] * 4 + [0] * 8 + [255] * 4, 8, 1, 8, 255, "B", 200), Stands(12, 1, 2, 0, 3, 0, 1, 1),
+     Answer(0, "trap report\npage 12 1 255 plates 2\nzone 0 samples 1 changed 1\nedges 1\nplate Cyan changed 0\nplate Magenta changed 1\nend\n",
+            [255] * 4 + [0] * 7 + [255] * 5)),
+    (Call(HAND_JOB, HAND_NAMES, [0] * 16, 8, 1, 8, 255, "B", 20), Stands(12, 1, 2, 0, 1, 0, 1, 1), Answer(2, "call: Place\n", [0] * 16)),
+)
+
+
+def hand_faults():
+    """Which of the calls that were worked out by hand give something else."""
+    for number, (call, stands, answer) in enumerate(BY_HAND):
+        if not is_right(call, answer, stands):
+            yield "call %d by hand" % number
+    if trapping.halo(HAND_JOB) != HAND_HALO:
+        yield "the halo by hand"
+
+
 def version_faults():
     """What tells another version than the repository's file."""
     with open(os.path.join(TOP, "VERSION"), encoding="ascii") as file:
@@ -416,6 +443,9 @@ def main(count, seed):
     for name in version_faults():
         different += 1
         print("%s is not that of VERSION" % name)
+    for name in hand_faults():
+        different += 1
+        print("%s has another answer" % name)
     for number in range(count):
         rng = random.Random("%s %d" % (seed, number))
         call = made(rng)

@@ -2,8 +2,11 @@
 #![tactic(auto)]
 
 mod codes;
+mod lifts;
 mod looks;
 mod rows;
+mod spans;
 mod sweeps;
 
+pub use lifts::are_zero;
 pub use sweeps::columns;

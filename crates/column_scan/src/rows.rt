@@ -5,13 +5,15 @@ ghost use Rattle.page_model.specs.Marks.{held_rows};
 ghost use Rattle.page_model.specs.Limits.{most_column, most_reach, most_side};
 ghost use Rattle.column_scan.specs.Sweep.{above_of, column_of, raised, slot, IsRowWritten};
 
-use crate::codes::{above, lifted, nearer, stepped};
-use crate::looks::{decides, first_after, last_before, pass_down, pass_up};
+use crate::codes::{above, nearer};
+use crate::lifts::{LIFTED, span_up};
+use crate::looks::{first_after, last_before, pass_down, pass_up};
+use crate::spans::{SPAN, enter, span_down};
 use page_model::marks::Marks;
 use page_model::steps::Steps;
 use std::sync::ledger::Ledger;
 
-fn put(out: &mut [u16], columns: u32, row: u32, x2: u32, code: u16)
+pub(crate) fn put(out: &mut [u16], columns: u32, row: u32, x2: u32, code: u16)
     requires column { x2 < columns }
     requires place { row * columns + x2 < length out.old }
     requires columns { columns ≤ most_column + 1 }
@@ -21,7 +23,7 @@ fn put(out: &mut [u16], columns: u32, row: u32, x2: u32, code: u16)
     out[row as usize * columns as usize + x2 as usize] = code;
 }
 
-fn get(out: &[u16], columns: u32, row: u32, x2: u32) -> u16
+pub(crate) fn get(out: &[u16], columns: u32, row: u32, x2: u32) -> u16
     requires column { x2 < columns }
     requires place { row * columns + x2 < length out.now }
     requires columns { columns ≤ most_column + 1 }
@@ -29,27 +31,6 @@ fn get(out: &[u16], columns: u32, row: u32, x2: u32) -> u16
     ensures { result ≡ slice_index out.now (row * columns + x2) }
 {
     out[row as usize * columns as usize + x2 as usize]
-}
-
-/// Row r + 1 of the marks, from row r.
-fn enter<L: Ledger>(
-    marks: &Marks,
-    x2: u32,
-    r: u32,
-    reach2: u32,
-    code: u16,
-    steps: &mut Steps<L>,
-) -> u16
-    requires column { x2 + 2 ≤ 2 * marks.now.wide }
-    requires row { r + 1 < held_rows marks.now }
-    requires reach { reach2 ≤ most_reach }
-    requires code { code ≡ above_of marks.now x2 reach2 r }
-    ensures code { result ≡ above_of marks.now x2 reach2 (r + 1) }
-    ensures step { steps.new ≡ steps.old + 1 }
-{
-    let _valid = marks.rows();
-    let seen = decides(marks, x2, r + x2 % 2, steps);
-    stepped(x2, reach2, seen, code)
 }
 
 /// The first asked row: the edges at or above it.
@@ -77,8 +58,7 @@ pub(crate) fn first_row_of<L: Ledger>(
     }
 }
 
-/// Row k + 1 of the asked rows from row k, by one look at the marks for each column. Even and odd columns are gone over side
-/// by side, so that many go at once.
+/// Row k + 1 of the asked rows from row k, by one look at the marks for each column.
 pub(crate) fn row_down<L: Ledger>(
     marks: &Marks,
     columns: u32,
@@ -102,18 +82,12 @@ pub(crate) fn row_down<L: Ledger>(
     ensures steps { steps.new ≡ steps.old + columns }
 {
     let _valid = marks.rows();
-    for x in 0..columns / 2 {
-        let even = enter(marks, 2 * x, r, reach2, get(out, columns, k, 2 * x), steps);
-        let odd = enter(
-            marks,
-            2 * x + 1,
-            r,
-            reach2,
-            get(out, columns, k, 2 * x + 1),
-            steps,
-        );
-        put(out, columns, k + 1, 2 * x, even);
-        put(out, columns, k + 1, 2 * x + 1, odd);
+    let pairs = columns / 2;
+    let mut x = 0;
+    while x < pairs {
+        let count = (pairs - x).min(SPAN);
+        span_down(marks, columns, rows, k, x, count, r, reach2, out, steps);
+        x += count;
     }
     let x2 = columns - 1;
     let last = enter(marks, x2, r, reach2, get(out, columns, k, x2), steps);
@@ -163,12 +137,10 @@ pub(crate) fn row_up(columns: u32, rows: u32, k: u32, reach2: u32, out: &mut [u1
         (λ x2. raised reach2 (slot out.old columns k x2)
         (slot out.old columns (k + 1) x2)) columns }
 {
-    for x2 in 0..columns {
-        let code = lifted(
-            reach2,
-            get(out, columns, k, x2),
-            get(out, columns, k + 1, x2),
-        );
-        put(out, columns, k, x2, code);
+    let mut x2 = 0;
+    while x2 < columns {
+        let count = (columns - x2).min(LIFTED);
+        span_up(columns, rows, k, x2, count, reach2, out);
+        x2 += count;
     }
 }

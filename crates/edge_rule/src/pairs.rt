@@ -15,6 +15,9 @@ use page_model::bounds::SCALE;
 use page_model::page::Page;
 use page_model::parts::At;
 
+/// Pairs of a block.
+const BLOCK: usize = 32;
+
 /// The least fall of plate c, in tints, that is a step in the zone, or `None` where no fall is.
 fn least_step(page: &Page, zone: u32, c: u32) -> Option<u16>
     requires zone { zone < length page.now.zones }
@@ -66,21 +69,105 @@ fn tints_from<'a>(page: &'a Page, c: u32, p: At, count: usize) -> &'a [u16]
     part_of(plane_tints(page, c), start, count)
 }
 
-/// Notes where the tint falls by at least the step.
-fn note_falls(from: &[u16], to: &[u16], step: u16, noted: &mut [bool])
-    requires to { length to.now ≡ length from.now }
-    requires noted { length noted.old ≡ length from.now }
-    ensures len { length noted.new ≡ length noted.old }
-    ensures each { (k : ℕ) → k < length from.now
-        → slice_index_or noted.new k false
-        ≡ (slice_index_or noted.old k false
-        || nat_le step (slice_index from.now k - slice_index to.now k)) }
+/// Notes where the tint falls by at least the step, and where it rises by as much.
+fn note_each(here: &[u16], there: &[u16], step: u16, fallen: &mut [bool], risen: &mut [bool])
+    requires there { length there.now ≡ length here.now }
+    requires fallen { length fallen.old ≡ length here.now }
+    requires risen { length risen.old ≡ length here.now }
+    ensures fallen_len { length fallen.new ≡ length fallen.old }
+    ensures risen_len { length risen.new ≡ length risen.old }
+    ensures fallen { (k : ℕ) → k < length here.now
+        → slice_index_or fallen.new k false
+        ≡ (slice_index_or fallen.old k false
+        || nat_le step (slice_index here.now k - slice_index there.now k)) }
+    ensures risen { (k : ℕ) → k < length here.now
+        → slice_index_or risen.new k false
+        ≡ (slice_index_or risen.old k false
+        || nat_le step (slice_index there.now k - slice_index here.now k)) }
 {
-    for k in 0..from.len() {
-        // both are worked out first, without a branch, so that many samples go at once
-        let before = noted[k];
-        let falls = step <= from[k].saturating_sub(to[k]);
-        noted[k] = before || falls;
+    for k in 0..here.len() {
+        // all is worked out first, without a branch, so that many samples go at once
+        let was_fallen = fallen[k];
+        let was_risen = risen[k];
+        let falls = step <= here[k].saturating_sub(there[k]);
+        let rises = step <= there[k].saturating_sub(here[k]);
+        fallen[k] = was_fallen || falls;
+        risen[k] = was_risen || rises;
+    }
+}
+
+/// Whether the tint falls or rises somewhere by at least the step. It goes over all of them, without a branch, so that many
+/// go at once.
+fn has_step(here: &[u16], there: &[u16], step: u16) -> bool
+    requires there { length there.now ≡ length here.now }
+    ensures falls { result ≡ false → (k : ℕ) → k < length here.now
+        → nat_le step (slice_index here.now k - slice_index there.now k) ≡ false }
+    ensures rises { result ≡ false → (k : ℕ) → k < length here.now
+        → nat_le step (slice_index there.now k - slice_index here.now k) ≡ false }
+{
+    let mut most = 0;
+    for k in 0..here.len() {
+        most = here[k].abs_diff(there[k]).max(most);
+    }
+    step <= most
+}
+
+/// Notes the falls and the rises of a block. One without a step is not noted; of a last one, which is shorter, that is not
+/// asked.
+fn note_block(here: &[u16], there: &[u16], step: u16, fallen: &mut [bool], risen: &mut [bool])
+    requires step { 1 ≤ step }
+    requires there { length there.now ≡ length here.now }
+    requires fallen { length fallen.old ≡ length here.now }
+    requires risen { length risen.old ≡ length here.now }
+    ensures fallen_len { length fallen.new ≡ length fallen.old }
+    ensures risen_len { length risen.new ≡ length risen.old }
+    ensures fallen { (k : ℕ) → k < length here.now
+        → slice_index_or fallen.new k false
+        ≡ (slice_index_or fallen.old k false
+        || nat_le step (slice_index here.now k - slice_index there.now k)) }
+    ensures risen { (k : ℕ) → k < length here.now
+        → slice_index_or risen.new k false
+        ≡ (slice_index_or risen.old k false
+        || nat_le step (slice_index there.now k - slice_index here.now k)) }
+{
+    if here.len() == BLOCK {
+        // as long as it is known to be here, both loops are without a rest
+        if has_step(here, there, step) {
+            note_each(here, there, step, fallen, risen);
+        }
+    } else {
+        note_each(here, there, step, fallen, risen);
+    }
+}
+
+/// Notes the falls and the rises block by block. Most tints that differ from their neighbours do by less than a step.
+fn note_blocks(here: &[u16], there: &[u16], step: u16, fallen: &mut [bool], risen: &mut [bool])
+    requires step { 1 ≤ step }
+    requires there { length there.now ≡ length here.now }
+    requires fallen { length fallen.old ≡ length here.now }
+    requires risen { length risen.old ≡ length here.now }
+    ensures fallen_len { length fallen.new ≡ length fallen.old }
+    ensures risen_len { length risen.new ≡ length risen.old }
+    ensures fallen { (k : ℕ) → k < length here.now
+        → slice_index_or fallen.new k false
+        ≡ (slice_index_or fallen.old k false
+        || nat_le step (slice_index here.now k - slice_index there.now k)) }
+    ensures risen { (k : ℕ) → k < length here.now
+        → slice_index_or risen.new k false
+        ≡ (slice_index_or risen.old k false
+        || nat_le step (slice_index there.now k - slice_index here.now k)) }
+{
+    let mut at = 0;
+    while at < here.len() {
+        let end = at + BLOCK.min(here.len() - at);
+        note_block(
+            &here[at..end],
+            &there[at..end],
+            step,
+            &mut fallen[at..end],
+            &mut risen[at..end],
+        );
+        at = end;
     }
 }
 
@@ -110,8 +197,7 @@ fn note_both(here: &[u16], there: &[u16], step: u16, fallen: &mut [bool], risen:
         || nat_le step (slice_index there.now k - slice_index here.now k)) }
 {
     if !are_same(here, there) {
-        note_falls(here, there, step, fallen);
-        note_falls(there, here, step, risen);
+        note_blocks(here, there, step, fallen, risen);
     }
 }
 

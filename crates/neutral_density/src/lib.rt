@@ -8,7 +8,7 @@ mod sliding;
 mod steps;
 
 pub use black::is_black;
-pub use inks::{density, weight_of};
+pub use inks::{densities, density, weight_of};
 pub use shut::is_shut;
 pub use sliding::slid;
 pub use steps::steps_apart;

@@ -2,12 +2,13 @@
 use Rattle.std.specs.Prelude.{ℕ, Bool, false, not, ◌==◌, ◌&&◌, nat_le, if◌then◌else◌, List, [], ◌∷◌}
 use Rattle.std.specs.Prelude.{length, take, drop, map, Option, Some, None}
 use Rattle.std.specs.Char.{is_ascii_digit}
-use Rattle.std.specs.List.{list_all, list_any}
+use Rattle.std.specs.List.{list_all}
 use Rattle.std.specs.Str.{bytes_eq}
 use Rattle.page_gather.specs.Inputs.{Sources}
 use Rattle.plain_words.specs.Numbers.{number_of}
 use Rattle.plain_words.specs.Parts.{PlateNames, parts_of}
 use Rattle.plain_words.specs.Plates.{are_plates, inputs_of, names_of, outputs_of, stand_together}
+use Rattle.plain_words.specs.Written.{reads_written}
 use Rattle.verdicts.specs.Verdicts.{Targets}
 
 -- a run over many pages: its workers, the rows of its bands, the files that are read and written
@@ -43,14 +44,9 @@ is_page_file written name =
     nat_le (length written) (length name) && bytes_eq (take (length written) name) written
     && is_number_end (drop (length written) name)
 
--- whether a file of that name may be one that a page is written into
-abbrev pub is_written : List ℕ → List PlateNames → List ℕ → Bool
-is_written report plates name =
-    list_any (λ written. is_page_file written name) (report ∷ outputs_of plates)
-
 -- whether a file that is read may be one that a page is written into
 abbrev pub reads_page_file : List ℕ → List ℕ → List PlateNames → Bool
-reads_page_file job report plates = list_any (is_written report plates) (job ∷ inputs_of plates)
+reads_page_file = reads_written is_page_file
 
 -- the plates of these words, where each has its form, they stand together, and no file that is read
 -- is one that a page may be written into

@@ -1,14 +1,13 @@
 ghost use Rattle.std.specs.Prelude.{◌≡◌, ◌≤◌, IfSome, map, option_map, string_bytes};
-ghost use Rattle.std.specs.List.{list_all, list_any};
+ghost use Rattle.std.specs.List.{list_all};
 ghost use Rattle.std.specs.Option.{ForSome};
 ghost use Rattle.plain_words.specs.Parts.{parts_of};
 ghost use Rattle.page_run.specs.Opened.{order_in, IsWithin};
-ghost use Rattle.plain_words.specs.Plates.{inputs_of, outputs_of};
-ghost use Rattle.page_run.specs.Words.{is_number_end as number_end_test, is_page_file as page_file_test, is_written as written_test, order_of, order_with as order_meant, plates_of, reads_page_file as reads_test};
+ghost use Rattle.page_run.specs.Words.{is_number_end as number_end_test, is_page_file as page_file_test, order_of, order_with as order_meant, plates_of, reads_page_file as reads_test};
 
 use plain_words::numbers::read_number;
-use plain_words::parts::plate_parts;
 use plain_words::plates::{are_plates, stand_together};
+use plain_words::written::{Naming, reads_written};
 
 /// A run over many pages: its workers, the rows of its bands, the files that are read and written, and the words of the plates.
 #[derive(Clone, Copy)]
@@ -71,43 +70,17 @@ fn order_with<'a>(
 fn reads_page_file(job: &str, report: &str, words: &[String]) -> bool
     ensures { result ≡ reads_test job.now report.now (map parts_of (map string_bytes words.now)) }
 {
-    is_written(job, report, words) || is_some_input_written(words, report, words)
+    reads_written::<PageFiles, String>(job, report, words)
 }
 
-fn is_some_input_written(words: &[String], report: &str, all: &[String]) -> bool
-    ensures { let plates = map parts_of (map string_bytes all.now) in
-        let inputs = inputs_of (map parts_of (map string_bytes words.now)) in
-        result ≡ list_any (written_test report.now plates) inputs }
-{
-    match words {
-        [first, rest @ ..] => {
-            is_written(plate_parts(first.as_str()).input, report, all)
-                || is_some_input_written(rest, report, all)
-        }
-        [] => false,
-    }
-}
+// The names of the files of all pages: that of a word with a page's number after it.
+struct PageFiles;
 
-// Whether the report or a plate of some page could be written into that file.
-fn is_written(name: &str, report: &str, words: &[String]) -> bool
-    ensures { result
-        ≡ written_test report.now (map parts_of (map string_bytes words.now)) name.now }
-{
-    is_page_file(report.as_bytes(), name.as_bytes()) || is_plate_file(name, words)
-}
+impl Naming for PageFiles {
+    ghost may_name = { page_file_test };
 
-fn is_plate_file(name: &str, words: &[String]) -> bool
-    ensures { let outputs = outputs_of (map parts_of (map string_bytes words.now)) in
-        result ≡ list_any (λ output. page_file_test output name.now) outputs }
-{
-    match words {
-        [first, rest @ ..] => {
-            is_page_file(
-                plate_parts(first.as_str()).output.as_bytes(),
-                name.as_bytes(),
-            ) || is_plate_file(name, rest)
-        }
-        [] => false,
+    fn may_be(word: &str, name: &str) -> bool {
+        is_page_file(word.as_bytes(), name.as_bytes())
     }
 }
 

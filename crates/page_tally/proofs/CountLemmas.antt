@@ -42,6 +42,18 @@ pub count_none : (f : ℕ → Bool) (m : ℕ) → ((k : ℕ) → k < m → f k �
 count_none f zero h = refl
 count_none f (suc m) h = rw (h m (omega arith)) (omega (arith, count_none f m (λ k l. h k (omega (arith, l)))))
 
+-- none of so many that are counted as none
+pub none_counted : (f : ℕ → Bool) (m : ℕ) → count_below f m ≡ 0 → (k : ℕ) → k < m → f k ≡ false
+none_counted f zero e k l = absurd (omega (arith, l))
+none_counted f (suc m) e k l = elim (cases_Bool (f m)) [
+  | inl t ↦ (let some : count_below f m + 1 ≡ 0 = rw t at e in absurd (omega (arith, some)))
+  | inr n ↦ (let fewer : count_below f m + 0 ≡ 0 = rw n at e in
+      elim (cases_eq k m) [
+        | inl q ↦ rw q n
+        | inr ne ↦ none_counted f m (omega (arith, fewer)) k (omega (arith, l, ne))
+      ])
+]
+
 -- a row of which none is counted
 row_none : (f : ℕ → Bool) (y w : ℕ) → ((x : ℕ) → x < w → f (y * w + x) ≡ false) → count_below f ((y + 1) * w) ≡ count_below f (y * w)
 row_none f y w h = ap (count_below f) (sym (next_row y w)) ∙ count_below-add f (y * w) w ∙ omega (arith, count_none (λ x. f (y * w + x)) w h)

@@ -1,3 +1,4 @@
 pub mod Shapes
 pub mod Standing
 pub mod Tallies
+pub mod Uncounted

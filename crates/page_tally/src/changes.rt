@@ -5,7 +5,7 @@ ghost use Rattle.page_model.specs.Counts.{plate_changes, sample_changes};
 ghost use Rattle.page_model.specs.Page.{height, plates, width};
 ghost use Rattle.page_model.specs.Zones.{AreZones};
 ghost use Rattle.lists.specs.Words.{count_below};
-ghost use Rattle.page_tally.specs.Standing.{ArePlatesCounted, AreTrappedTo, AreZonesCounted, IsNewRow, IsTrappedTo};
+ghost use Rattle.page_tally.specs.Standing.{AreTrappedTo, AreZonesCounted, IsNewRow, IsTrappedTo};
 
 use crate::blocks::{BLOCK, are_clear, are_same, part_of};
 use page_model::page::Page;
@@ -83,33 +83,8 @@ pub fn differences(before: &[u16], after: &[u16]) -> u64
     }
 }
 
-/// How many samples of plate c change in row y.
-fn changed_in(page: &Page, row: &[u16], y: u32, c: u32) -> u64
-    requires row { IsNewRow page.now y row.now }
-    requires line { y < height page.now }
-    requires plate { c < plates page.now }
-    ensures count { result ≡ count_below (λ x. plate_changes page.now c (record { x = x; y = y }))
-        (width page.now) }
-    ensures few { result ≤ width page.now }
-{
-    differences(tints_of_row(page, c, y), plate_row(page, row, y, c))
-}
-
-/// Counts for each plate the samples of row y that change.
-pub fn count_plates(page: &Page, row: &[u16], y: u32, counts: &mut [u64])
-    requires row { IsNewRow page.now y row.now }
-    requires line { y < height page.now }
-    requires counts { ArePlatesCounted page.now (y * width page.now) counts.old }
-    ensures { ArePlatesCounted page.now ((y + 1) * width page.now) counts.new }
-{
-    let _valid = page.plates();
-    for c in 0..page.plates() {
-        counts[c as usize] += changed_in(page, row, y, c);
-    }
-}
-
 /// Notes where the tints differ.
-fn note_differences(before: &[u16], after: &[u16], changes: &mut [bool])
+pub fn note_differences(before: &[u16], after: &[u16], changes: &mut [bool])
     requires before { length before.now ≡ length after.now }
     requires changes { length changes.old ≡ length after.now }
     ensures len { length changes.new ≡ length changes.old }
@@ -122,24 +97,6 @@ fn note_differences(before: &[u16], after: &[u16], changes: &mut [bool])
         let earlier = changes[k];
         let differs = after[k] != before[k];
         changes[k] = earlier | differs;
-    }
-}
-
-/// Notes the samples of row y at which plate c changes.
-fn note_plate(page: &Page, row: &[u16], y: u32, c: u32, changes: &mut [bool])
-    requires row { IsNewRow page.now y row.now }
-    requires line { y < height page.now }
-    requires plate { c < plates page.now }
-    requires changes { length changes.old ≡ width page.now }
-    ensures len { length changes.new ≡ width page.now }
-    ensures each { (x : ℕ) → x < width page.now → slice_index_or changes.new x false
-        ≡ (slice_index_or changes.old x false
-        || plate_changes page.now c (record { x = x; y = y })) }
-{
-    let before = tints_of_row(page, c, y);
-    let after = plate_row(page, row, y, c);
-    if !are_same(before, after) {
-        note_differences(before, after, changes);
     }
 }
 
@@ -173,21 +130,6 @@ pub fn note_taken(page: &Page, planes: &[Plane], y: u32, changes: &mut [bool])
     changes.fill(false);
     for c in 0..page.plates() {
         note_plane(page, &planes[c as usize], y, c, changes);
-    }
-}
-
-/// Notes the samples of row y at which some plate changes.
-pub fn note_changes(page: &Page, row: &[u16], y: u32, changes: &mut [bool])
-    requires row { IsNewRow page.now y row.now }
-    requires line { y < height page.now }
-    requires changes { length changes.old ≡ width page.now }
-    ensures len { length changes.new ≡ width page.now }
-    ensures each { (x : ℕ) → x < width page.now → slice_index_or changes.new x false
-        ≡ sample_changes page.now (record { x = x; y = y }) }
-{
-    changes.fill(false);
-    for c in 0..page.plates() {
-        note_plate(page, row, y, c, changes);
     }
 }
 

@@ -7,6 +7,7 @@ mod counting;
 mod outcome;
 mod planes;
 mod sums;
+mod taking;
 
 pub use blocks::are_clear;
 pub use changes::{count_changed, differences, note_taken};

@@ -1,5 +1,5 @@
-// What comes of a page: its planes after trapping, and what is counted. It is taken in row by row from the top; or the planes are
-// put in whole, and then what is counted is added, some rows after others.
+// What comes of a page: its planes after trapping, and what is counted. It is taken in row by row from the top, counted or not; or
+// the planes are put in whole, and then what is counted is added, some rows after others.
 
 ghost use Rattle.std.specs.Prelude.{◌≡◌, ◌<◌, ◌≤◌, ◌+◌, ◌*◌, IfOk, MatchOption, length, slice_set};
 ghost use Rattle.page_model.specs.Counts.{page_counts};
@@ -9,11 +9,13 @@ ghost use Rattle.page_model.specs.Zones.{AreZones};
 ghost use Rattle.page_tally.specs.Standing.{AreMarks, ArePlatesCounted, AreTrappedTo, AreZonesCounted, HasRows, IsNewRow, KeepsRoom, KeepsRow};
 ghost use Rattle.page_tally.specs.Shapes.{HasShape, shape_of};
 ghost use Rattle.page_tally.specs.Tallies.{AreRowsCounted, HasPlates};
+ghost use Rattle.page_tally.specs.Uncounted.{HasTints};
 
-use crate::changes::{count_changed, count_plates, note_changes};
+use crate::changes::count_changed;
 use crate::counting::{count_zones, edges_in};
 use crate::planes::{copies_of, copy_all_over, put_row};
 use crate::sums::add_counts;
+use crate::taking::take_plates;
 use lists::list::List;
 use lists::memory::{filled, no_counts};
 use page_model::page::Page;
@@ -68,12 +70,37 @@ impl Outcome {
         ensures room { KeepsRoom self.old self.new }
     {
         let _valid = page.plates();
-        let alloc = *self.changes.allocator();
-        copy_all_over(alloc, page, &mut self.planes);
+        self.start_uncounted(page);
         self.zone_samples.as_mut_slice().fill(0);
         self.zone_changed.as_mut_slice().fill(0);
         self.plate_changed.as_mut_slice().fill(0);
         self.edges = 0;
+    }
+
+    /// The same for a page whose rows are not counted: its planes are copied, and the counts have no meaning. It takes no memory.
+    pub fn start_uncounted(&mut self, page: &Page)
+        requires shape { HasShape (shape_of page.now) self.old }
+        ensures tints { HasTints page.now 0 self.new }
+        ensures room { KeepsRoom self.old self.new }
+    {
+        let _valid = page.plates();
+        let alloc = *self.changes.allocator();
+        copy_all_over(alloc, page, &mut self.planes);
+    }
+
+    /// Puts in the new tints of row y, the next one, and counts nothing. `None` stands for the tints of a row that keeps
+    /// those of the page; it is left as it was copied.
+    pub fn take_uncounted(&mut self, page: &Page, y: u32, tints: Option<&[u16]>)
+        requires rows { HasTints page.now y self.old }
+        requires line { y < height page.now }
+        requires tints { MatchOption tints (KeepsRow page.now y)
+            (λ row. IsNewRow page.now y row.now) }
+        ensures rows { HasTints page.now (y + 1) self.new }
+        ensures room { KeepsRoom self.old self.new }
+    {
+        if let Some(row) = tints {
+            put_row(page, row, y, &mut self.planes);
+        }
     }
 
     /// Takes in row y, the next one: its zones, its marks and its new tints, plate after plate. `None` stands for the
@@ -124,9 +151,14 @@ impl Outcome {
         ensures zone_samples { self.new.zone_samples ≡ self.old.zone_samples }
         ensures edges { self.new.edges ≡ self.old.edges }
     {
-        put_row(page, row, y, &mut self.planes);
-        count_plates(page, row, y, &mut self.plate_changed);
-        note_changes(page, row, y, &mut self.changes);
+        take_plates(
+            page,
+            row,
+            y,
+            &mut self.planes,
+            &mut self.plate_changed,
+            &mut self.changes,
+        );
         count_changed(page, zones, 0, y, &self.changes, &mut self.zone_changed);
     }
 

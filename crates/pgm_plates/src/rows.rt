@@ -52,6 +52,9 @@ fn open_plate<T: Tray>(tray: &mut T, bounds: Bounds) -> Result<OpenPlate, PlateR
 
 /// Reads the next samples of a plate, of which so many were read before, row by row from the top: as many as there is
 /// room for in `samples`, by pieces of as many bytes as there is room for in `bytes`.
+///
+/// It refuses by a fault `SampleAboveMaxval` at the first sample that does not fit, a fault `Truncated` where the file
+/// ends before the last of them, and by `ReadFault` where a read fails.
 pub fn read_rows<T: Tray>(
     tray: &mut T,
     plate: OpenPlate,
@@ -74,6 +77,9 @@ pub fn read_rows<T: Tray>(
 
 /// Reads the next `count` samples of a plate, of which so many were read before, and keeps none of them: it judges their
 /// bytes, as many at once as there is room for in `bytes`.
+///
+/// The refusals are those of `read_rows`: a fault `SampleAboveMaxval` at the first sample that does not fit, a fault
+/// `Truncated` where the file ends before the last of them, and `ReadFault` where a read fails.
 pub fn judge_rows<T: Tray>(
     tray: &mut T,
     plate: OpenPlate,

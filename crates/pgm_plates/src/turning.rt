@@ -86,7 +86,7 @@ fn turned(values: Tints, most: u32) -> Tints
     List::from_vec(values)
 }
 
-/// Turns samples into tints, or tints into samples, where they stand.
+/// Turns samples into tints, or tints into samples, where they stand: each value becomes `maxval` less the value.
 pub fn turn(values: &mut [u16], maxval: u32)
     requires fits { maxval ≤ most_maxval }
     requires below { All (λ v. v ≤ maxval) values.old }

@@ -5,4 +5,5 @@ pub mod Held
 pub mod Distinct
 pub mod Inputs
 pub mod Plates
+pub mod Written
 pub mod Files

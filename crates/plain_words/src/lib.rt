@@ -10,3 +10,4 @@ pub mod parts;
 pub mod plates;
 #[cfg(test)]
 mod tests;
+pub mod written;

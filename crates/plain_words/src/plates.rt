@@ -67,8 +67,8 @@ fn have_distinct_outputs<S: AsStr>(words: &[S]) -> bool
     }
 }
 
-/// Whether some plate is written into that file.
-pub fn has_output<S: AsStr>(words: &[S], file: &str) -> bool
+// Whether some plate is written into that file.
+fn has_output<S: AsStr>(words: &[S], file: &str) -> bool
     ensures { let outputs = outputs_of (map parts_of (map S.text words.now)) in
         result ≡ list_any (bytes_eq file.now) outputs }
 {

@@ -1,10 +1,8 @@
 ghost use Rattle.std.specs.Prelude.{◌≡◌, ◌≢◌, ◌<◌, ◌≤◌, ◌-◌, ◌^◌, ℕ, IsTrue, length, map, Err};
-ghost use Rattle.std.specs.List.{All};
-ghost use Rattle.page_model.specs.Limits.{most_maxval};
 ghost use Rattle.page_model.specs.Planes.{plane_at};
 ghost use Rattle.pgm_plates.specs.Limits.{most_header};
 ghost use Rattle.pgm_plates.specs.Rows.{samples_of};
-ghost use Rattle.plate_rows.specs.Rereading.{BeginsOne, BeginsPlates, EndsPlates, IsReadTo, ReadsBehind, ReadsNext, ReadsPlane, ReadsTints, stop_at, turned, wanted};
+ghost use Rattle.plate_rows.specs.Rereading.{BeginsOne, BeginsPlates, EndsPlates, IsReadTo, ReadsBehind, ReadsNext, ReadsPlane, ReadsTints, stop_at, wanted};
 ghost use Rattle.plate_rows.specs.Trays.{open_at, tray_at};
 
 use crate::stop::RereadError;
@@ -14,6 +12,7 @@ use page_model::parts::Plane;
 use pgm_plates::bounds::Bounds;
 use pgm_plates::plate::PlateRefusal;
 use pgm_plates::rows::{Header, OpenPlate, begin_plate, end_plate, read_rows};
+use pgm_plates::turning::turn;
 use std::alloc::Global;
 use std::convert::AsStr;
 
@@ -190,18 +189,6 @@ pub fn read_tints<T: Tray>(
             Ok(())
         }
         Err(refusal) => Err(refusal),
-    }
-}
-
-// Turns samples into tints.
-fn turn(values: &mut [u16], maxval: u32)
-    requires maxval { maxval ≤ most_maxval }
-    requires fits { All (λ v. v ≤ maxval) values.old }
-    ensures { values.new ≡ turned maxval values.old }
-{
-    let most = maxval as u16;
-    for at in 0..values.len() {
-        values[at] = most - values[at];
     }
 }
 

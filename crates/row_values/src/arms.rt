@@ -5,7 +5,7 @@ ghost use Rattle.std.specs.Option.{MatchOption};
 ghost use Rattle.row_values.specs.Arms.{arm_of, AreArms, edge_at_place};
 ghost use Rattle.page_model.specs.Limits.{most_column, most_reach, most_side};
 
-use crate::quiet::are_zero;
+use column_scan::are_zero;
 use page_model::arms::Arm;
 use page_model::parts::EdgeAt;
 

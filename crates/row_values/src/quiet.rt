@@ -7,22 +7,8 @@ ghost use Rattle.row_values.specs.Rows.{doubled};
 ghost use Rattle.page_model.specs.Page.{width};
 ghost use Rattle.page_model.specs.Reach.{page_reach};
 
+use column_scan::are_zero;
 use page_model::page::Page;
-
-/// Whether all from one place on and before another are 0. It goes over all of them, without a branch, so that many go at
-/// once.
-pub fn are_zero(codes: &[u16], from: usize, to: usize) -> bool
-    requires order { from ≤ to }
-    requires inside { to ≤ length codes.now }
-    ensures only { result ≡ true → (k : ℕ) → from ≤ k → k < to → slice_index codes.now k ≡ 0 }
-    ensures always { ((k : ℕ) → from ≤ k → k < to → slice_index codes.now k ≡ 0) → result ≡ true }
-{
-    let mut all = true;
-    for k in from..to {
-        all = all & (codes[k] == 0);
-    }
-    all
-}
 
 /// Whether no column of row y has an answer. No edge decides then within reach of the row, and it keeps its tints.
 pub fn is_quiet(page: &Page, y: u32, codes: &[u16]) -> bool

@@ -3,6 +3,7 @@ pub mod RowReads
 pub mod OnSheets
 pub mod AtHand
 pub mod StepLemmas
+pub mod AwaitLemmas
 pub mod StreamLemmas
 pub mod SecondLemmas
 pub mod HeldLemmas

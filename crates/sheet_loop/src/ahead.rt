@@ -104,18 +104,12 @@ pub fn trap_and_read<H: Threads + Sync, T: Tray>(
         rt,
         &mut ||
             requires { IsTrappable plan.now row.now strip.now windows.now counts.now }
-            ensures { TrapsRow plan.entry.now row.entry.now strip.entry.now windows.entry.now
-                windows.exit.now counts.entry.now counts.exit.now }
         { trap_row(rt, plan, row, strip, windows, counts) },
         &mut || -> Result<(), RereadError>
             requires can { CanReadRow bare.now plan.now plates.now progress.now next.now
                 (map T.state trays.now) parts.now ahead.now }
             requires trays { length plates.now ≤ length trays.now }
             requires pieces { 2 ≤ length pieces.now.items }
-            ensures read { ReadsRow bare.entry.now plates.entry.now progress.entry.now
-                next.entry.now parts.entry.now ahead.exit.now (map T.state trays.entry.now)
-                (map T.state trays.exit.now) result }
-            ensures pieces { length pieces.exit.now.items ≡ length pieces.entry.now.items }
         {
             read_row(
                 alloc, trays, bare, plan, plates, progress, next, parts, ahead, pieces,

@@ -159,8 +159,6 @@ pub fn trap_beside<H: Threads + Sync, T: Tray, R: Rack>(
         rt,
         &mut ||
             requires { IsTrappable plan.now row.now strip.now windows.now counts.now }
-            ensures { TrapsRow plan.entry.now row.entry.now strip.entry.now windows.entry.now
-                windows.exit.now counts.entry.now counts.exit.now }
         { trap_row(rt, plan, row, strip, windows, counts) },
         &mut || -> Result<(), StreamStop>
             requires opened { PlatesOpen plan.now ahead.now (map R.state racks.now) }
@@ -171,17 +169,6 @@ pub fn trap_beside<H: Threads + Sync, T: Tray, R: Rack>(
             requires count { length ahead.now.planes ≡ length plates.now }
             requires racks { length plates.now ≤ length racks.now }
             requires pieces { 2 ≤ length pieces.now.items }
-            ensures windows { core.exit.now.windows ≡ core.entry.now.windows }
-            ensures line { length core.exit.now.line.items
-                ≡ length core.entry.now.line.items }
-            ensures bytes { length core.exit.now.bytes.items
-                ≡ length core.entry.now.bytes.items }
-            ensures pieces { length pieces.exit.now.items ≡ length pieces.entry.now.items }
-            ensures does { WritesAndReads bare.entry.now plan.entry.now plates.entry.now
-                progress.entry.now last.entry.now next.entry.now parts.entry.now
-                ahead.entry.now ahead.exit.now (map T.state trays.entry.now)
-                (map T.state trays.exit.now) (map R.state racks.entry.now)
-                (map R.state racks.exit.now) result }
         {
             write_and_read(
                 alloc, trays, racks, bare, plan, plates, progress, last, next, parts, ahead, core,

@@ -1,11 +1,13 @@
 -- What is taken in of a page, and a bench for it, have the page's shape.
-use Rattle.std.proofs.Common.{ℕ, ◌∙◌, ap, length}
+use Rattle.std.proofs.Common.{ℕ, Bool, ◌∙◌, ap, length}
 use Rattle.page_model.specs.declared.parts.PageParts.{PageParts}
 use Rattle.page_tally.specs.declared.outcome.Outcome.{Outcome}
 use Rattle.page_tally.specs.Shapes.{HasShape, shape_of}
 use Rattle.page_tally.specs.Standing.{HasRows}
+use Rattle.page_tally.specs.Uncounted.{HasTints}
 use Rattle.strip_engine.specs.declared.strips.Bench.{Bench}
 use Rattle.strip_engine.specs.Bench.{HasPlaces, IsBench}
+use Rattle.strip_engine.specs.Taken.{IsTaken}
 use Rattle.strip_engine.proofs.WholeLemmas.{sample_marks-length, sample_zones-length}
 
 pub outcome_shape : (page : PageParts) (rows : ℕ) (o : Outcome) → HasRows page rows o → HasShape (shape_of page) o
@@ -17,6 +19,13 @@ outcome_shape page rows o h = record {
   plate_changed = h.plate_changed.long;
   changes = h.changes;
 }
+
+-- rows that are counted are put in as well
+pub rows_tints : (page : PageParts) (rows : ℕ) (o : Outcome) → HasRows page rows o → HasTints page rows o
+rows_tints page rows o h = record { shape = outcome_shape page rows o h; planes = h.planes }
+
+pub rows_taken : (page : PageParts) (rows : ℕ) (counted : Bool) (o : Outcome) → HasRows page rows o → IsTaken page rows counted o
+rows_taken page rows counted o h = record { tints = rows_tints page rows o h; counts = λ _. h }
 
 pub bench_shape : (page : PageParts) (bench : Bench) → IsBench page bench → HasPlaces (shape_of page) bench
 bench_shape page bench h = record {

@@ -1,4 +1,5 @@
 pub mod Bench
 pub mod Rooms
 pub mod Rows
+pub mod Taken
 pub mod Whole

@@ -1,12 +1,14 @@
 // The room that pages of one shape are trapped in.
 
-ghost use Rattle.std.specs.Prelude.{◌≡◌, IfOk};
+ghost use Rattle.std.specs.Prelude.{◌≡◌, IfOk, true};
 ghost use Rattle.page_model.specs.Page.{height};
 ghost use Rattle.page_model.specs.Tints.{trapped_planes};
 ghost use Rattle.page_tally.specs.Shapes.{shape_of};
 ghost use Rattle.page_tally.specs.Standing.{HasRows};
+ghost use Rattle.page_tally.specs.Uncounted.{HasTints};
 ghost use Rattle.strip_engine.specs.Bench.{IsBench};
 ghost use Rattle.strip_engine.specs.Rooms.{IsRoomFor};
+ghost use Rattle.strip_engine.specs.Taken.{IsTaken};
 
 use crate::strips::{Bench, STRIP, fill_bench, new_bench, trap_strips};
 use lists::memory::filled;
@@ -64,6 +66,43 @@ impl PageRoom {
         ensures rows { HasRows page.now (height page.now) self.new.outcome }
         ensures planes { self.new.outcome.planes ≡ trapped_planes page.now }
     {
+        self.trap_rows(page, true);
+    }
+
+    /// Traps a page of the room's shape and counts nothing in it. It takes no memory, and no tint of the page before is left.
+    /// The room then has the page's zones, marks and new tints; its counts have no meaning.
+    pub fn trap_uncounted(&mut self, page: &Page)
+        requires room { IsRoomFor (shape_of page.now) self.old }
+        ensures room { IsRoomFor (shape_of page.now) self.new }
+        ensures bench { IsBench page.now self.new.bench }
+        ensures tints { HasTints page.now (height page.now) self.new.outcome }
+        ensures planes { self.new.outcome.planes ≡ trapped_planes page.now }
+    {
+        self.outcome.start_uncounted(page);
+        self.trap_new_uncounted(page);
+    }
+
+    /// The same for a page of which nothing is trapped yet.
+    pub fn trap_new_uncounted(&mut self, page: &Page)
+        requires room { IsRoomFor (shape_of page.now) self.old }
+        requires tints { HasTints page.now 0 self.old.outcome }
+        ensures room { IsRoomFor (shape_of page.now) self.new }
+        ensures bench { IsBench page.now self.new.bench }
+        ensures tints { HasTints page.now (height page.now) self.new.outcome }
+        ensures planes { self.new.outcome.planes ≡ trapped_planes page.now }
+    {
+        self.trap_rows(page, false);
+    }
+
+    // Traps all rows, and counts them if that is asked.
+    fn trap_rows(&mut self, page: &Page, counted: bool)
+        requires room { IsRoomFor (shape_of page.now) self.old }
+        requires outcome { IsTaken page.now 0 counted self.old.outcome }
+        ensures room { IsRoomFor (shape_of page.now) self.new }
+        ensures bench { IsBench page.now self.new.bench }
+        ensures outcome { IsTaken page.now (height page.now) counted self.new.outcome }
+        ensures planes { self.new.outcome.planes ≡ trapped_planes page.now }
+    {
         let _valid = page.plates();
         fill_bench(page, &mut self.bench, &mut self.workspace);
         trap_strips(
@@ -71,6 +110,7 @@ impl PageRoom {
             &mut self.codes,
             &mut self.bench,
             &mut self.workspace,
+            counted,
             &mut self.outcome,
         );
     }

@@ -1,6 +1,6 @@
 // The page strip by strip: the column answers of some rows, and then the traps of each row.
 
-ghost use Rattle.std.specs.Prelude.{◌≡◌, ◌<◌, ◌≤◌, ◌+◌, ◌*◌, ◌-◌, IfOk, length};
+ghost use Rattle.std.specs.Prelude.{◌≡◌, ◌<◌, ◌≤◌, ◌+◌, ◌*◌, ◌-◌, IfOk, MatchOption, length};
 ghost use Rattle.row_values.specs.Arms.{AreAnswers};
 ghost use Rattle.row_values.specs.Room.{Serves};
 ghost use Rattle.row_values.specs.Rows.{HoldsAnswers, doubled};
@@ -8,7 +8,9 @@ ghost use Rattle.page_model.specs.Page.{height};
 ghost use Rattle.page_model.specs.Reach.{page_reach};
 ghost use Rattle.page_tally.specs.Shapes.{shape_of};
 ghost use Rattle.strip_engine.specs.Bench.{HasPlaces, IsBench};
-ghost use Rattle.page_tally.specs.Standing.{HasRows};
+ghost use Rattle.page_model.specs.Zones.{AreZones};
+ghost use Rattle.strip_engine.specs.Taken.{IsTaken};
+ghost use Rattle.page_tally.specs.Standing.{AreMarks, IsNewRow, KeepsRow};
 
 use crate::grid::samples_of;
 use crate::marks::{fill_marks, marks_between, marks_of_row, zones_of_row};
@@ -55,6 +57,30 @@ pub fn fill_bench(page: &Page, bench: &mut Bench, room: &mut Workspace)
     fill_marks(page, &bench.zones, &mut bench.marks);
 }
 
+/// Takes in row y: its new tints and, where rows are counted, its zones and marks.
+fn take_row(
+    page: &Page,
+    y: u32,
+    zones: &[u8],
+    marks: &[u8],
+    tints: Option<&[u16]>,
+    counted: bool,
+    outcome: &mut Outcome,
+)
+    requires line { y < height page.now }
+    requires zones { AreZones page.now y zones.now }
+    requires marks { AreMarks page.now y marks.now }
+    requires tints { MatchOption tints (KeepsRow page.now y) (λ row. IsNewRow page.now y row.now) }
+    requires outcome { IsTaken page.now y counted outcome.old }
+    ensures { IsTaken page.now (y + 1) counted outcome.new }
+{
+    if counted {
+        outcome.take_in(page, y, zones, marks, tints);
+    } else {
+        outcome.take_uncounted(page, y, tints);
+    }
+}
+
 /// Traps row y, whose column answers these are. The tints of a quiet row are neither made nor compared.
 fn trap_row(
     page: &Page,
@@ -62,25 +88,27 @@ fn trap_row(
     codes: &[u16],
     bench: &mut Bench,
     room: &mut Workspace,
+    counted: bool,
     outcome: &mut Outcome,
 )
     requires line { y < height page.now }
     requires codes { AreAnswers page.now (page_reach page.now) y (doubled page.now) codes.now }
     requires bench { IsBench page.now bench.old }
     requires room { Serves room.old page.now }
-    requires outcome { HasRows page.now y outcome.old }
+    requires outcome { IsTaken page.now y counted outcome.old }
     ensures bench { IsBench page.now bench.new }
     ensures room { room.new ≡ room.old }
-    ensures outcome { HasRows page.now (y + 1) outcome.new }
+    ensures outcome { IsTaken page.now (y + 1) counted outcome.new }
 {
     let zones = zones_of_row(page, &bench.zones, y);
     let marks = marks_of_row(page, &bench.marks, y);
     if is_quiet(page, y, codes) {
-        outcome.take_in(page, y, zones, marks, None);
+        take_row(page, y, zones, marks, None, counted, outcome);
         return;
     }
     make_row(page, y, zones, codes, &mut bench.row, room);
-    outcome.take_in(page, y, zones, marks, Some(bench.row.as_slice()));
+    let tints = Some(bench.row.as_slice());
+    take_row(page, y, zones, marks, tints, counted, outcome);
 }
 
 /// Traps these rows, whose column answers these are.
@@ -90,21 +118,22 @@ fn trap_rows(
     codes: &[u16],
     bench: &mut Bench,
     room: &mut Workspace,
+    counted: bool,
     outcome: &mut Outcome,
 )
     requires inside { rows.first + rows.count ≤ height page.now }
     requires codes { HoldsAnswers page.now rows codes.now }
     requires bench { IsBench page.now bench.old }
     requires room { Serves room.old page.now }
-    requires outcome { HasRows page.now rows.first outcome.old }
+    requires outcome { IsTaken page.now rows.first counted outcome.old }
     ensures bench { IsBench page.now bench.new }
     ensures room { room.new ≡ room.old }
-    ensures outcome { HasRows page.now (rows.first + rows.count) outcome.new }
+    ensures outcome { IsTaken page.now (rows.first + rows.count) counted outcome.new }
 {
     let wide = 2 * page.width() as usize - 1;
     for k in 0..rows.count {
         let answers = row_of(codes, wide, k as usize);
-        trap_row(page, rows.first + k, answers, bench, room, outcome);
+        trap_row(page, rows.first + k, answers, bench, room, counted, outcome);
     }
 }
 
@@ -115,6 +144,7 @@ fn trap_strip(
     codes: &mut [u16],
     bench: &mut Bench,
     room: &mut Workspace,
+    counted: bool,
     outcome: &mut Outcome,
 )
     requires some { 1 ≤ rows.count }
@@ -122,11 +152,11 @@ fn trap_strip(
     requires codes { length codes.old ≡ rows.count * doubled page.now }
     requires bench { IsBench page.now bench.old }
     requires room { Serves room.old page.now }
-    requires outcome { HasRows page.now rows.first outcome.old }
+    requires outcome { IsTaken page.now rows.first counted outcome.old }
     ensures codes { length codes.new ≡ length codes.old }
     ensures bench { IsBench page.now bench.new }
     ensures room { room.new ≡ room.old }
-    ensures outcome { HasRows page.now (rows.first + rows.count) outcome.new }
+    ensures outcome { IsTaken page.now (rows.first + rows.count) counted outcome.new }
 {
     let halo = page.reach2().div_ceil(2);
     let first = rows.first.saturating_sub(halo);
@@ -137,25 +167,27 @@ fn trap_strip(
     };
     let near = marks_between(page, &bench.marks, held);
     make_answers(page, rows, held, near, codes);
-    trap_rows(page, rows, codes, bench, room, outcome);
+    trap_rows(page, rows, codes, bench, room, counted, outcome);
 }
 
-/// Traps the page, strip by strip. The codes have a place for each doubled column of each row of a strip.
+/// Traps the page, strip by strip, and counts its rows if that is asked. The codes have a place for each doubled column of each
+/// row of a strip.
 pub fn trap_strips(
     page: &Page,
     codes: &mut [u16],
     bench: &mut Bench,
     room: &mut Workspace,
+    counted: bool,
     outcome: &mut Outcome,
 )
     requires codes { length codes.old ≡ 64 * doubled page.now }
     requires bench { IsBench page.now bench.old }
     requires room { Serves room.old page.now }
-    requires outcome { HasRows page.now 0 outcome.old }
+    requires outcome { IsTaken page.now 0 counted outcome.old }
     ensures codes { length codes.new ≡ length codes.old }
     ensures bench { IsBench page.now bench.new }
     ensures room { room.new ≡ room.old }
-    ensures outcome { HasRows page.now (height page.now) outcome.new }
+    ensures outcome { IsTaken page.now (height page.now) counted outcome.new }
 {
     let height = page.height();
     let wide = 2 * page.width() as usize - 1;
@@ -163,7 +195,15 @@ pub fn trap_strips(
     while first < height {
         let count = (height - first).min(STRIP);
         let codes = &mut codes[..count as usize * wide];
-        trap_strip(page, Rows { first, count }, codes, bench, room, outcome);
+        trap_strip(
+            page,
+            Rows { first, count },
+            codes,
+            bench,
+            room,
+            counted,
+            outcome,
+        );
         first += count;
     }
 }

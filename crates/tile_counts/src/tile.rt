@@ -7,7 +7,8 @@ ghost use Rattle.page_model.specs.Tints.{new, trapped_planes};
 ghost use Rattle.page_model.specs.Zones.{AreZones};
 ghost use Rattle.sheet_windows.specs.Areas.{changes_in, changes_plate};
 ghost use Rattle.page_tally.specs.Shapes.{shape_of};
-ghost use Rattle.page_tally.specs.Standing.{AreTrappedTo, HasRows, IsTrappedTo};
+ghost use Rattle.page_tally.specs.Standing.{AreTrappedTo, IsTrappedTo};
+ghost use Rattle.page_tally.specs.Uncounted.{HasTints};
 ghost use Rattle.strip_engine.specs.Bench.{IsBench};
 ghost use Rattle.strip_engine.specs.Rooms.{IsRoomFor};
 ghost use Rattle.tile_counts.specs.Growth.{AddsArea, AddsRow, Grows, HasRoom, HasRooms, LiesOn, row_sum};
@@ -174,7 +175,7 @@ fn add_rows(
 fn add_core(page: &Page, core: &Cut, room: &mut PageRoom, counts: &mut SheetCounts)
     requires shape { IsRoomFor (shape_of page.now) room.old }
     requires bench { IsBench page.now room.old.bench }
-    requires rows { HasRows page.now (height page.now) room.old.outcome }
+    requires tints { HasTints page.now (height page.now) room.old.outcome }
     requires core { LiesOn page.now core.now }
     requires room { HasRooms page.now (core.now.width * core.now.height) counts.old }
     ensures shape { IsRoomFor (shape_of page.now) room.new }
@@ -203,7 +204,7 @@ pub fn trap_tile_in(page: &Page, core: &Cut, room: &mut PageRoom, counts: &mut S
     ensures counts { AddsArea page.now core.now.left core.now.top core.now.width core.now.height
         counts.old counts.new }
 {
-    room.trap(page);
+    room.trap_uncounted(page);
     add_core(page, core, room, counts);
 }
 
@@ -222,7 +223,7 @@ pub fn trap_tile(
         core.now.height counts.old counts.new) }
 {
     let mut room = PageRoom::new(alloc, page)?;
-    room.trap_new(page);
+    room.trap_new_uncounted(page);
     add_core(page, core, &mut room, counts);
     let outcome = room.outcome;
     Ok(outcome.planes)

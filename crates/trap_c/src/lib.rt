@@ -16,8 +16,6 @@ mod shift;
 mod source;
 mod stop;
 mod tally;
-#[cfg(test)]
-mod tests;
 mod window;
 mod work;
 

@@ -7,7 +7,7 @@ ghost use Rattle.page_model.specs.Within.{black, black_sample, edge_slid, within
 ghost use Rattle.trap_color.specs.There.{is_trapped_there};
 
 use crate::widths::is_near;
-use neutral_density::{density, is_black, is_shut, slid, steps_apart};
+use neutral_density::{densities, is_black, is_shut, slid, steps_apart};
 use page_model::bounds::SCALE;
 use page_model::edges::{across_of, own_of, squared_distance};
 use page_model::page::Page;
@@ -28,10 +28,8 @@ fn sides_of(page: &Page, p: At, e: EdgeAt) -> Sides
     ensures across { result.across ≡ density page.now (across p e) }
 {
     let _valid = page.plates();
-    Sides {
-        own: density(page, own_of(p, e)),
-        across: density(page, across_of(p, e)),
-    }
+    let (own, across) = densities(page, own_of(p, e), across_of(p, e));
+    Sides { own, across }
 }
 
 /// Whether a side of this density has a black ink, where no side has a greater one.

@@ -1,12 +1,13 @@
 -- A page that was accepted, and what is put in for it.
-use Rattle.std.proofs.Common.{◌≡◌, ◌∙◌, Option, Some, None, refl, sym, ap, subst}
+use Rattle.std.proofs.Common.{◌≡◌, ◌∙◌, List, length, Option, Some, None, refl, sym, ap, subst}
+use Rattle.std.proofs.lemmas.List.{length-map}
 use Rattle.page_model.specs.declared.parts.PageParts.{PageParts}
 use Rattle.trap_pool.specs.declared.outcome.Outcome.{Outcome}
 use Rattle.trap_pool.specs.declared.outcome.Outcome.TheVariants.{Done, Refused, TooLarge}
 use Rattle.trap_pool.specs.declared.traps.Traps.{Traps}
 use Rattle.trap_pool.specs.Made.{IsTrapsOf}
-use Rattle.trap_pool.specs.Replies.{IsReady, accepted_of}
-use Rattle.trap_pool.specs.Taking.{IsGathered, StandsFor, accepted_page, outcome_so_far}
+use Rattle.trap_pool.specs.Replies.{ReplyParts, IsReady, accepted_of}
+use Rattle.trap_pool.specs.Taking.{IsGathered, accepted_page, pages_of, waiting_of}
 
 -- what was accepted is the page
 pub accepted_is : (page : Option PageParts) (outcome : Outcome) (made : PageParts) → accepted_page page outcome ≡ Some made → page ≡ Some made
@@ -14,11 +15,6 @@ accepted_is None outcome made is = absurd (cc)
 accepted_is (Some page) TooLarge made is = absurd (cc)
 accepted_is (Some page) (Done other) made is = is
 accepted_is (Some page) (Refused refusal) made is = is
-
--- a page that stands for its line was accepted
-pub stands_accepted : (page : Option PageParts) (outcome : Option Outcome) (waiting : PageParts) → StandsFor page outcome (Some waiting) → accepted_page page (outcome_so_far outcome) ≡ Some waiting
-stands_accepted page outcome waiting stands =
-    ap (λ (o : Option Outcome). accepted_page page (outcome_so_far o)) stands.1 ∙ ap (λ (p : Option PageParts). accepted_page p (outcome_so_far None)) stands.0
 
 module _ (page : Option PageParts) (outcome : Outcome) (made : PageParts) (traps : Traps) (is : accepted_page page outcome ≡ Some made) (these : IsTrapsOf made traps) where
   pub done_gathers : IsGathered page (Some (Done traps.trapped))
@@ -32,3 +28,7 @@ done_takes None outcome made traps is = absurd (cc)
 done_takes (Some page) TooLarge made traps is = absurd (cc)
 done_takes (Some page) (Done other) made traps is = refl
 done_takes (Some page) (Refused refusal) made traps is = refl
+
+-- as many pages as lines
+pub as_many_pages : (replies : List ReplyParts) (pages : List (Option PageParts)) → pages ≡ pages_of replies → length pages ≡ length replies
+as_many_pages replies pages all = ap length all ∙ length-map replies waiting_of

@@ -3,6 +3,7 @@ use Rattle.std.specs.Prelude.{◌≡◌, ℕ, ◌≤◌, ◌<◌, true, [], vec_
 use Rattle.crossbeam_queue.specs.Passes.{IsPassOf, view}
 use Rattle.line_queue.specs.Rule.{pass_view, whole}
 use Rattle.line_queue.specs.Serving.{IsUnused}
+use Rattle.trap_pool.specs.declared.gathering.Gathering.{Gathering}
 use Rattle.trap_pool.specs.declared.pool.PoolRoom.{PoolRoom}
 use Rattle.trap_pool.specs.declared.trapping.Opening.{Opening}
 
@@ -13,10 +14,16 @@ pub record IsOpen (opening : Opening) : Type 0 where
   pub few : vec_len opening.rooms < whole
   pub unused : All IsUnused opening.rooms.items
 
+-- room for so many lines and their pages, in which none are yet
+pub record IsRoomOf (lines : ℕ) (room : Gathering) : Type 0 where
+  pub no_line : room.lines.items ≡ []
+  pub line_room : lines ≤ vec_capacity room.lines
+  pub no_page : room.pages.items ≡ []
+  pub page_room : lines ≤ vec_capacity room.pages
+
 -- room for so many lines, and for as many workers
 pub record IsRoomFor (lines workers : ℕ) (room : PoolRoom) : Type 0 where
-  pub none : room.gathered.items ≡ []
-  pub gathered : lines ≤ vec_capacity room.gathered
+  pub gathering : IsRoomOf lines room.gathering
   pub no_reply : room.replies.items ≡ []
   pub replies : lines ≤ vec_capacity room.replies
   pub no_number : room.numbers.items ≡ []

@@ -1,5 +1,6 @@
 -- What workers make of the pages that wait, and how replies take it in.
-use Rattle.std.specs.Prelude.{◌≡◌, ◌⊎◌, ℕ, ◌<◌, List, length, slice_index_or, Option, Some, None}
+use Rattle.std.specs.Prelude.{◌≡◌, ◌⊎◌, ℕ, ◌<◌, List, length, map, slice_index_or, Option, Some}
+use Rattle.std.specs.Prelude.{None}
 use Rattle.page_model.specs.declared.parts.PageParts.{PageParts}
 use Rattle.page_tally.specs.declared.outcome.Trapped.{Trapped}
 use Rattle.refusals.specs.declared.refusal.Refusal.TheVariants.{Memory}
@@ -40,14 +41,17 @@ accepted_page (Some page) (Refused refusal) = Some page
 accepted_page (Some page) TooLarge = None
 accepted_page None outcome = None
 
+-- the page of the reply that was accepted, if any: when the lines are gathered, it waits
+abbrev pub waiting_of : ReplyParts → Option PageParts
+waiting_of reply = accepted_page reply.page reply.outcome
+
+-- the pages that wait when the lines are gathered, with a place for each line
+abbrev pub pages_of : List ReplyParts → List (Option PageParts)
+pages_of replies = map waiting_of replies
+
 -- The page of the reply was accepted, and is this one.
 abbrev pub HasAccepted : ReplyParts → PageParts → Type 0
-HasAccepted reply page = accepted_page reply.page reply.outcome ≡ Some page
-
--- A page that stands for the line is the one that was gathered, and nothing is made of it yet.
-abbrev pub StandsFor : Option PageParts → Option Outcome → Option PageParts → Type 0
-StandsFor page outcome None = Unit {0}
-StandsFor page outcome (Some waiting) = (page ≡ Some waiting) × (outcome ≡ None)
+HasAccepted reply page = waiting_of reply ≡ Some page
 
 -- Line k has a page that was accepted, and it is this one.
 abbrev pub HasPage : List ReplyParts → ℕ → PageParts → Type 0

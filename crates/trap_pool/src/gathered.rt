@@ -1,7 +1,7 @@
-ghost use Rattle.std.specs.Prelude.{◌≡◌, ◌≤◌, IfSome, Ok, None, Some};
+ghost use Rattle.std.specs.Prelude.{◌≡◌, ◌≤◌, Ok, None, Some};
 ghost use Rattle.trap_pool.specs.Pools.{KeepsLimit};
 ghost use Rattle.trap_pool.specs.Replies.{IsReading, IsReply, accepted_of, gathered_of, most_in_all, reply_parts};
-ghost use Rattle.trap_pool.specs.Taking.{HasAccepted, SettlesBy};
+ghost use Rattle.trap_pool.specs.Taking.{SettlesBy, waiting_of};
 
 use crate::outcome::Outcome;
 use crate::reply::Reply;
@@ -13,12 +13,11 @@ use std::marker::Model;
 use std::snapshot::Snapshot;
 
 /// A line that the pool works on: its number, the page that was gathered for it, as clauses see it, and what became of it. A page
-/// that waits to be trapped has no outcome yet, and stands here until a worker's slot takes it.
+/// that waits to be trapped has no outcome yet, and stands beside the line until a worker's slot takes it.
 #[derive(Drop)]
 pub(crate) struct Gathered {
     line: u32,
     page: Snapshot<Option<Page>>,
-    waiting: Option<Page>,
     // How many samples of the list's the page takes.
     samples: u64,
     outcome: Option<Outcome>,
@@ -28,7 +27,7 @@ pub(crate) struct Gathered {
 impl Model for Gathered {
     ghost use Rattle.std.specs.Prelude.{◌≡◌};
     ghost use Rattle.trap_pool.specs.Replies.{IsReady, ReplyParts, accepted_of, reply_parts};
-    ghost use Rattle.trap_pool.specs.Taking.{IsGathered, StandsFor, outcome_so_far};
+    ghost use Rattle.trap_pool.specs.Taking.{IsGathered, outcome_so_far};
 
     ghost Value = { ReplyParts };
 
@@ -36,43 +35,43 @@ impl Model for Gathered {
 
     ghost invariant = { λ g. IsGathered g.page.value g.outcome
         × IsReady g.page.value (outcome_so_far g.outcome) g.report
-        × StandsFor g.page.value g.outcome g.waiting
         × (g.samples ≡ accepted_of g.page.value (outcome_so_far g.outcome)) };
 }
 
 const MOST_IN_ALL: u64 = 320_000_000;
 
 impl Gathered {
-    // A line whose page was gathered, where the accepted pages have so many samples. The page waits, unless it is too large.
-    pub(crate) fn of_page(line: u32, used: u64, page: Page) -> Gathered
+    // A line whose page was gathered, where the accepted pages have so many samples; and the page, which waits, unless it is too
+    // large.
+    pub(crate) fn of_page(line: u32, used: u64, page: Page) -> (Gathered, Option<Page>)
         requires { used ≤ most_in_all }
-        ensures line { result.line ≡ line }
-        ensures page { gathered_of result.page result.outcome ≡ Ok page }
-        ensures kind { IsReply result.page result.outcome }
-        ensures limit { KeepsLimit used result.page result.outcome }
+        ensures line { result.0.line ≡ line }
+        ensures page { gathered_of result.0.page result.0.outcome ≡ Ok page }
+        ensures kind { IsReply result.0.page result.0.outcome }
+        ensures limit { KeepsLimit used result.0.page result.0.outcome }
+        ensures waits { result.1 ≡ waiting_of result.0 }
     {
         let samples = page.width() as u64 * page.height() as u64 * page.plates() as u64;
         let page = Some(page);
         let seen = Snapshot::of(&page);
         if used + samples > MOST_IN_ALL {
-            let samples = 0;
-            return Gathered {
+            let gathered = Gathered {
                 line,
                 page: seen,
-                waiting: None,
-                samples,
+                samples: 0,
                 outcome: Some(Outcome::TooLarge),
                 report: None,
             };
+            return (gathered, None);
         }
-        Gathered {
+        let gathered = Gathered {
             line,
             page: seen,
-            waiting: page,
             samples,
             outcome: None,
             report: None,
-        }
+        };
+        (gathered, page)
     }
 
     // A line whose page was refused.
@@ -80,11 +79,9 @@ impl Gathered {
         requires { IsReading refusal }
         ensures { result ≡ reply_parts line None (Outcome.Refused refusal) }
     {
-        let none = None;
         Gathered {
             line,
-            page: Snapshot::of(&none),
-            waiting: none,
+            page: Snapshot::of(&None),
             samples: 0,
             outcome: Some(Outcome::Refused(refusal)),
             report: None,
@@ -98,26 +95,12 @@ impl Gathered {
         self.samples
     }
 
-    // Whether a page stands here that waits to be trapped.
-    pub(crate) fn waits(&self) -> bool {
-        self.waiting.is_some()
-    }
-
-    // Takes the page that waits to be trapped.
-    pub(crate) fn take_waiting(&mut self) -> Option<Page>
-        ensures same { self.new ≡ self.old }
-        ensures page { IfSome result (λ page. HasAccepted self.old page) }
-    {
-        std::mem::replace(&mut self.waiting, None)
-    }
-
     // Puts in what the accepted page is trapped to.
     pub(crate) fn settle(&mut self, traps: Traps)
         requires { SettlesBy self.old traps }
         ensures { self.new ≡ reply_parts self.old.line self.old.page (Outcome.Done traps.trapped) }
     {
         let Traps { trapped, report } = traps;
-        self.waiting = None;
         self.report = Some(report);
         self.outcome = Some(Outcome::Done(trapped));
     }

@@ -1,13 +1,23 @@
-ghost use Rattle.std.specs.Prelude.{◌≡◌, ◌+◌, ◌<◌, ◌≤◌, ◌^◌, [], length, vec_capacity};
+ghost use Rattle.std.specs.Prelude.{◌≡◌, ◌+◌, ◌<◌, ◌≤◌, ◌^◌, length};
 ghost use Rattle.page_gather.specs.Gathering.{Gathers};
 ghost use Rattle.trap_pool.specs.Pools.{AnswersLine, InTurn, source_of};
 ghost use Rattle.trap_pool.specs.Replies.{accepted_of, most_in_all};
+ghost use Rattle.trap_pool.specs.Rooms.{IsRoomOf};
+ghost use Rattle.trap_pool.specs.Taking.{pages_of, waiting_of};
 
 use crate::gathered::Gathered;
 use job_list::line::{LineList, ListLine};
 use outside::tray::Tray;
 use page_gather::gather::gather;
+use page_model::page::Page;
 use std::alloc::Global;
+
+/// The lines of a list, and beside each of them its page, where one waits to be trapped.
+#[derive(Drop)]
+pub(crate) struct Gathering {
+    pub lines: Vec<Gathered>,
+    pub pages: Vec<Option<Page>>,
+}
 
 // Gathers the page of each line in order, and puts them into the room, which has a place for each. The pages of lines
 // that come later may be too large beside those that were accepted before.
@@ -15,39 +25,51 @@ pub(crate) fn gather_lines<T: Tray>(
     alloc: Global,
     tray: &mut T,
     lines: &LineList,
-    room: Vec<Gathered>,
-) -> Vec<Gathered>
+    room: Gathering,
+) -> Gathering
     requires numbered { length lines.now < 2 ^ 32 }
-    requires empty { room.items ≡ [] }
-    requires room { length lines.now ≤ vec_capacity room }
-    ensures { InTurn 0 0 lines.now (T.state tray.old) (T.state tray.new) result.items }
+    requires room { IsRoomOf (length lines.now) room }
+    ensures turn { InTurn 0 0 lines.now (T.state tray.old) (T.state tray.new) result.lines.items }
+    ensures pages { result.pages.items ≡ pages_of result.lines.items }
 {
-    let mut gathered = room;
+    let Gathering {
+        lines: mut gathered,
+        mut pages,
+    } = room;
     let mut used = 0u64;
     for number in 0..lines.len() {
-        let line = gather_line(alloc, tray, &lines.as_slice()[number], number as u32, used);
+        let (line, page) = gather_line(alloc, tray, &lines.as_slice()[number], number as u32, used);
         used += line.accepted_samples();
         let Ok(()) = gathered.push(line) else {
             unreachable!()
         };
+        let Ok(()) = pages.push(page) else {
+            unreachable!()
+        };
     }
-    gathered
+    Gathering {
+        lines: gathered,
+        pages,
+    }
 }
 
+// The line as it was gathered, and its page, where it waits to be trapped.
 fn gather_line<T: Tray>(
     alloc: Global,
     tray: &mut T,
     line: &ListLine,
     number: u32,
     used: u64,
-) -> Gathered
+) -> (Gathered, Option<Page>)
     requires { used ≤ most_in_all }
-    ensures answer { AnswersLine number used line.now (T.state tray.old) (T.state tray.new) result }
-    ensures limit { used + accepted_of result.page result.outcome ≤ most_in_all }
+    ensures answer { AnswersLine number used line.now (T.state tray.old) (T.state tray.new)
+        result.0 }
+    ensures limit { used + accepted_of result.0.page result.0.outcome ≤ most_in_all }
+    ensures waits { result.1 ≡ waiting_of result.0 }
 {
     let job = line.job();
     match gather(alloc, tray, job, line.names(), line.inputs()) {
         Ok(page) => Gathered::of_page(number, used, page),
-        Err(refusal) => Gathered::of_refusal(number, refusal),
+        Err(refusal) => (Gathered::of_refusal(number, refusal), None),
     }
 }

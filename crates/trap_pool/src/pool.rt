@@ -5,8 +5,7 @@ ghost use Rattle.line_queue.specs.Serving.{IsUnused};
 ghost use Rattle.trap_pool.specs.Pools.{AnswersPool};
 ghost use Rattle.trap_pool.specs.Rooms.{IsOpen, IsRoomFor};
 
-use crate::gathered::Gathered;
-use crate::gathering::gather_lines;
+use crate::gathering::{Gathering, gather_lines};
 use crate::reply::{Reply, ReplyList};
 use crate::taking::replies_of;
 use crate::trapping::{Opening, trap_lines};
@@ -15,6 +14,7 @@ use job_list::line::LineList;
 use line_queue::{open_queue, rooms_of};
 use lists::list::List;
 use outside::tray::Tray;
+use page_model::page::Page;
 use page_model::parts::OutOfMemory;
 use std::alloc::{AllocError, Global};
 use std::marker::Brand;
@@ -49,21 +49,21 @@ pub fn pool_run<H: Threads + Wait + Sync, T: Tray, G: TakeGate + Sync>(
         return Err(OutOfMemory);
     };
     let PoolRoom {
-        gathered,
+        gathering,
         replies,
         numbers,
         opening,
     } = room;
-    let gathered = gather_lines(alloc, tray, lines, gathered);
-    let numbers = waiting_lines(gathered.as_slice(), numbers);
-    let gathered = trap_lines::<Brand, H, G>(rt, alloc, gathered, numbers, opening, gate);
+    let gathering = gather_lines(alloc, tray, lines, gathering);
+    let numbers = waiting_lines(gathering.pages.as_slice(), numbers);
+    let gathered = trap_lines::<Brand, H, G>(rt, alloc, gathering, numbers, opening, gate);
     Ok(List::from_vec(replies_of(gathered, replies)))
 }
 
 // What a pool takes before it begins: a place for each line's page, reply and number, and what its workers begin with.
 #[derive(Drop)]
 struct PoolRoom {
-    gathered: Vec<Gathered>,
+    gathering: Gathering,
     replies: Vec<Reply>,
     numbers: Vec<u32>,
     opening: Opening,
@@ -74,12 +74,16 @@ impl PoolRoom {
         ensures { IfOk result (λ room. IsRoomFor lines workers room) }
     {
         let gathered = Vec::with_capacity(alloc, lines)?;
+        let pages = Vec::with_capacity(alloc, lines)?;
         let replies = Vec::with_capacity(alloc, lines)?;
         let numbers = Vec::with_capacity(alloc, lines)?;
         let rooms = rooms_of(alloc, workers, lines.min(PLACES))?;
         let (queue, pass) = open_queue(alloc, PLACES)?;
         Ok(PoolRoom {
-            gathered,
+            gathering: Gathering {
+                lines: gathered,
+                pages,
+            },
             replies,
             numbers,
             opening: Opening { queue, pass, rooms },
@@ -88,21 +92,21 @@ impl PoolRoom {
 }
 
 // The lines whose pages wait to be trapped, in order.
-fn waiting_lines(gathered: &[Gathered], room: Vec<u32>) -> Vec<u32>
-    requires numbered { length gathered.now < 2 ^ 32 }
+fn waiting_lines(pages: &[Option<Page>], room: Vec<u32>) -> Vec<u32>
+    requires numbered { length pages.now < 2 ^ 32 }
     requires empty { room.items ≡ [] }
-    requires room { length gathered.now ≤ vec_capacity room }
+    requires room { length pages.now ≤ vec_capacity room }
     ensures { Ascends result.items }
 {
     let mut numbers = room;
-    for number in 0..gathered.len() {
-        note_waiting(&gathered[number], number as u32, &mut numbers);
+    for number in 0..pages.len() {
+        note_waiting(&pages[number], number as u32, &mut numbers);
     }
     numbers
 }
 
 // Adds the line's number, where its page waits to be trapped.
-fn note_waiting(line: &Gathered, number: u32, numbers: &mut Vec<u32>)
+fn note_waiting(page: &Option<Page>, number: u32, numbers: &mut Vec<u32>)
     requires ascends { Ascends numbers.old.items }
     requires above { IsAbove number numbers.old.items }
     requires room { vec_len numbers.old < vec_capacity numbers.old }
@@ -111,7 +115,7 @@ fn note_waiting(line: &Gathered, number: u32, numbers: &mut Vec<u32>)
     ensures few { vec_len numbers.new ≤ vec_len numbers.old + 1 }
     ensures room { vec_capacity numbers.old ≤ vec_capacity numbers.new }
 {
-    if line.waits() {
+    if page.is_some() {
         let Ok(()) = numbers.push(number) else {
             unreachable!()
         };

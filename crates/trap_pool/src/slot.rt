@@ -1,9 +1,9 @@
 // Where the page of a line waits for a worker, and what a worker made of it.
 
-ghost use Rattle.std.specs.Prelude.{◌≡◌, IfSome, List, []};
+ghost use Rattle.std.specs.Prelude.{◌≡◌, ◌<◌, IfSome, List, [], length};
 ghost use Rattle.trap_pool.specs.Replies.{ReplyParts};
-ghost use Rattle.trap_pool.specs.Slots.{MadeOf};
-ghost use Rattle.trap_pool.specs.Taking.{HasPage, TrapsLine};
+ghost use Rattle.trap_pool.specs.Slots.{MadeOf, traps_of};
+ghost use Rattle.trap_pool.specs.Taking.{TrapsLine, reply_at, waiting_of};
 
 use crate::desk::Desk;
 use crate::stage::Stage;
@@ -40,8 +40,10 @@ impl<L: Lines> Model for Slot<L> {
 }
 
 impl<L: Lines> Slot<L> {
+    // The slot of a line, with its page, where one was accepted.
     pub(crate) fn new(line: u32, page: Option<Page>) -> Slot<L>
-        requires { IfSome page (λ page. HasPage L.replies line page) }
+        requires line { line < length L.replies }
+        requires page { page ≡ waiting_of (reply_at L.replies line) }
     {
         match page {
             Some(page) => Slot {
@@ -75,7 +77,8 @@ impl<L: Lines> Slot<L> {
 
     // The line, and what was made of its page.
     pub(crate) fn into_traps(self) -> (u32, Option<Traps>)
-        ensures { IfSome result.1 (λ traps. TrapsLine L.replies result.0 traps) }
+        ensures line { IfSome result.1 (λ traps. TrapsLine L.replies result.0 traps) }
+        ensures made { result.1 ≡ traps_of self.stage }
     {
         let Slot {
             line,

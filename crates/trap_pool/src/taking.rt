@@ -1,29 +1,30 @@
 ghost use Rattle.std.specs.Prelude.{◌≡◌, ◌≤◌, ◌<◌, ◌^◌, [], vec_capacity, vec_len};
-ghost use Rattle.trap_pool.specs.Taking.{AllSettled, TrapsLine};
+ghost use Rattle.trap_pool.specs.Taking.{AllSettled, TrapsLine, pages_of};
 
 use crate::desk::Desk;
 use crate::gathered::Gathered;
 use crate::reply::Reply;
 use crate::slot::{Lines, Slot};
 use crate::traps::Traps;
+use page_model::page::Page;
 use std::alloc::Global;
 use std::sync::Mutex;
 
 // A slot for each line, with its page where one waits, in the room, which has a place for each.
 pub(crate) fn slots_of<L: Lines>(
-    gathered: &mut Vec<Gathered>,
+    pages: Vec<Option<Page>>,
     room: Vec<Mutex<Slot<L>>>,
 ) -> Vec<Mutex<Slot<L>>>
-    requires lines { gathered.old.items ≡ L.replies }
-    requires numbered { vec_len gathered.old < 2 ^ 32 }
+    requires pages { pages.items ≡ pages_of L.replies }
+    requires numbered { vec_len pages < 2 ^ 32 }
     requires empty { room.items ≡ [] }
-    requires room { vec_len gathered.old ≤ vec_capacity room }
-    ensures { gathered.new.items ≡ gathered.old.items }
+    requires room { vec_len pages ≤ vec_capacity room }
+    ensures { vec_len result ≡ vec_len pages }
 {
     let mut slots = room;
-    for place in 0..gathered.len() {
-        let page = gathered[place].take_waiting();
-        let Ok(()) = slots.push(Mutex::new(Slot::new(place as u32, page))) else {
+    for page in pages {
+        let line = slots.len() as u32;
+        let Ok(()) = slots.push(Mutex::new(Slot::new(line, page))) else {
             unreachable!()
         };
     }
@@ -36,7 +37,8 @@ pub(crate) fn take_in<L: Lines>(
     gathered: &mut Vec<Gathered>,
     slots: Vec<Mutex<Slot<L>>>,
 )
-    requires { gathered.old.items ≡ L.replies }
+    requires lines { gathered.old.items ≡ L.replies }
+    requires slots { vec_len slots ≡ vec_len gathered.old }
     ensures { AllSettled gathered.old.items gathered.new.items }
 {
     let mut idle: Option<Desk> = None;

@@ -3,9 +3,10 @@
 ghost use Rattle.std.specs.Prelude.{◌≡◌, ◌<◌, ◌^◌, vec_len};
 ghost use Rattle.line_queue.specs.Rule.{Ascends};
 ghost use Rattle.trap_pool.specs.Rooms.{IsOpen};
-ghost use Rattle.trap_pool.specs.Taking.{AllSettled};
+ghost use Rattle.trap_pool.specs.Taking.{AllSettled, pages_of};
 
 use crate::gathered::Gathered;
+use crate::gathering::Gathering;
 use crate::slot::Lines;
 use crate::taking::{slots_of, take_in};
 use crate::work::{PageWork, TakeGate};
@@ -27,22 +28,24 @@ pub(crate) struct Opening {
 pub(crate) fn trap_lines<L: Lines + Send + Sync, H: Threads + Wait + Sync, G: TakeGate + Sync>(
     rt: &H,
     alloc: Global,
-    gathered: Vec<Gathered>,
+    gathering: Gathering,
     numbers: Vec<u32>,
     opening: Opening,
     gate: &G,
 ) -> Vec<Gathered>
-    requires lines { gathered.items ≡ L.replies }
-    requires numbered { vec_len gathered < 2 ^ 32 }
+    requires lines { gathering.lines.items ≡ L.replies }
+    requires pages { gathering.pages.items ≡ pages_of L.replies }
+    requires numbered { vec_len gathering.lines < 2 ^ 32 }
     requires ascends { Ascends numbers.items }
     requires open { IsOpen opening }
-    ensures { AllSettled gathered.items result.items }
+    ensures { AllSettled gathering.lines.items result.items }
 {
-    let mut gathered = gathered;
-    let Ok(room) = Vec::with_capacity(alloc, gathered.len()) else {
+    let Gathering { lines, pages } = gathering;
+    let mut gathered = lines;
+    let Ok(room) = Vec::with_capacity(alloc, pages.len()) else {
         return gathered;
     };
-    let slots = slots_of::<L>(&mut gathered, room);
+    let slots = slots_of::<L>(pages, room);
     let desks = Mutex::new(Vec::new(alloc));
     let work = PageWork {
         rt,

@@ -1,11 +1,11 @@
 -- What the words of a sheet mean.
 use Rattle.std.specs.Prelude.{ℕ, Bool, not, ◌&&◌, if◌then◌else◌, List, ◌∷◌, map, Option, Some, None}
-use Rattle.std.specs.List.{list_any}
 use Rattle.std.specs.Str.{bytes_eq}
 use Rattle.page_gather.specs.Inputs.{Sources}
 use Rattle.plain_words.specs.Numbers.{number_of}
 use Rattle.plain_words.specs.Parts.{PlateNames, parts_of}
 use Rattle.plain_words.specs.Plates.{are_plates, inputs_of, names_of, outputs_of, stand_together}
+use Rattle.plain_words.specs.Written.{reads_written as reads_named}
 use Rattle.verdicts.specs.Verdicts.{Targets}
 
 -- a sheet: its workers, and the files that are read and written
@@ -28,13 +28,9 @@ sources_of order = record {
 abbrev pub targets_of : SheetWords → Targets
 targets_of order = record { outputs = outputs_of order.plates; report = order.report }
 
--- whether a file of that name is written
-abbrev pub is_written : List ℕ → List PlateNames → List ℕ → Bool
-is_written report plates name = list_any (bytes_eq name) (report ∷ outputs_of plates)
-
--- whether a file that is read is one that is written
+-- whether a file that is read is one that is written, each by the name that its word is
 abbrev pub reads_written : List ℕ → List ℕ → List PlateNames → Bool
-reads_written job report plates = list_any (is_written report plates) (job ∷ inputs_of plates)
+reads_written = reads_named (λ word name. bytes_eq name word)
 
 -- the plates of these words, where each has its form, they stand together, and no file that is read
 -- is one that is written

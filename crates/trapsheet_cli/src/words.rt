@@ -1,14 +1,14 @@
-ghost use Rattle.std.specs.Prelude.{◌≡◌, ◌≤◌, ◌∷◌, IfSome, map, option_map, string_bytes};
-ghost use Rattle.std.specs.List.{list_any};
+ghost use Rattle.std.specs.Prelude.{◌≡◌, ◌≤◌, IfSome, map, option_map, string_bytes};
 ghost use Rattle.std.specs.Option.{ForSome};
+ghost use Rattle.std.specs.Str.{bytes_eq};
 ghost use Rattle.plain_words.specs.Parts.{parts_of};
-ghost use Rattle.plain_words.specs.Plates.{inputs_of};
 ghost use Rattle.trapsheet_cli.specs.Held.{IsWithin, order_in};
-ghost use Rattle.trapsheet_cli.specs.Words.{is_written as written_test, order_of, order_with as order_meant, plates_of, reads_written as reads_test};
+ghost use Rattle.trapsheet_cli.specs.Words.{order_of, order_with as order_meant, plates_of, reads_written as reads_test};
 
 use plain_words::numbers::read_number;
-use plain_words::parts::plate_parts;
-use plain_words::plates::{are_plates, has_output, stand_together};
+use plain_words::plates::{are_plates, stand_together};
+use plain_words::written;
+use plain_words::written::Naming;
 
 /// A sheet: its workers, the files that are read and written, and the words of the plates.
 #[derive(Clone, Copy)]
@@ -63,27 +63,16 @@ fn order_with<'a>(
 fn reads_written(job: &str, report: &str, words: &[String]) -> bool
     ensures { result ≡ reads_test job.now report.now (map parts_of (map string_bytes words.now)) }
 {
-    is_written(job, report, words) || is_some_input_written(words, report, words)
+    written::reads_written::<SheetFiles, String>(job, report, words)
 }
 
-fn is_some_input_written(words: &[String], report: &str, all: &[String]) -> bool
-    ensures { let plates = map parts_of (map string_bytes all.now) in
-        let inputs = inputs_of (map parts_of (map string_bytes words.now)) in
-        result ≡ list_any (written_test report.now plates) inputs }
-{
-    match words {
-        [first, rest @ ..] => {
-            is_written(plate_parts(first.as_str()).input, report, all)
-                || is_some_input_written(rest, report, all)
-        }
-        [] => false,
+// The names of a sheet's files: those of the words.
+struct SheetFiles;
+
+impl Naming for SheetFiles {
+    ghost may_name = { λ word name. bytes_eq name word };
+
+    fn may_be(word: &str, name: &str) -> bool {
+        name == word
     }
-}
-
-// Whether that file is the report or one that a plate is written into.
-fn is_written(name: &str, report: &str, words: &[String]) -> bool
-    ensures { result
-        ≡ written_test report.now (map parts_of (map string_bytes words.now)) name.now }
-{
-    name == report || has_output(words, name)
 }

@@ -1,3 +1,5 @@
+-- sound_words_law: a change of a word that is an event which may happen, with the defined value
+-- where it fills a cell, keeps the words those of a sound board.
 use Rattle.band_board.proofs.TableWords.{sound_words, words_kept}
 use Rattle.band_board.proofs.laws.sound_words_law.Goals as goal
 

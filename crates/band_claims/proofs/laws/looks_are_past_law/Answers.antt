@@ -1,3 +1,4 @@
+-- looks_are_past_law: whatever steps were made.
 use Rattle.band_claims.proofs.Past.{looks_are_past}
 use Rattle.band_claims.proofs.laws.looks_are_past_law.Goals as goal
 

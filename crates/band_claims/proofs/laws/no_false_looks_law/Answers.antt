@@ -1,3 +1,4 @@
+-- What `no_false_looks_law` has to show.
 use Rattle.band_claims.proofs.Refuted.{no_false_looks}
 use Rattle.band_claims.proofs.laws.no_false_looks_law.Goals as goal
 

@@ -1,3 +1,4 @@
+-- The loops of are_zero: whether all values are 0.
 use Rattle.std.proofs.Common.{◌≡◌, ℕ, ◌<◌, true, slice_index}
 use Rattle.band_claims.proofs.putting.are_zero.Given as goal
 

@@ -1,3 +1,4 @@
+-- What `cut_of` has to show.
 use Rattle.std.proofs.Common.{ℕ, ◌*◌, ap, ◌∙◌, arith}
 use Rattle.row_cells.specs.Places.{lanes_of}
 use Rattle.band_claims.proofs.Cutting.{cell_at}

@@ -1,3 +1,4 @@
+-- make_words: the words of so many cells of a piece of that phase, from cell `first` on.
 use Rattle.std.proofs.Common.{◌≡◌, ℕ, ◌+◌, ◌-◌, ◌*◌, ◌<◌, ◌≤◌, List, length, slice_index, sym, ap, ◌∙◌, subst, arith}
 use Rattle.row_cells.specs.Places.{lanes_of}
 use Rattle.row_cells.proofs.Numbers.{as_many}

@@ -1,3 +1,4 @@
+-- How far the loops of `pack_words` have come.
 use Rattle.std.proofs.Common.{◌≡◌, ℕ, ◌+◌, ◌<◌, slice_index}
 use Rattle.row_cells.specs.Places.{first_cell_of}
 use Rattle.band_claims.specs.Sheets.{cell}

@@ -1,3 +1,4 @@
+-- What `part_of` has to show.
 use Rattle.std.proofs.Common.{ℕ, ◌+◌, ◌-◌, List, drop, slice_index, ap, ◌∙◌, arith}
 use Rattle.std.proofs.lemmas.List.{get_or-drop, get_or-take}
 use Rattle.row_cells.proofs.Numbers.{cut_out}

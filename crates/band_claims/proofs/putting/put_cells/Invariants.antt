@@ -1,3 +1,4 @@
+-- How far the loops of `put_cells` have come.
 use Rattle.std.proofs.Common.{◌≡◌, ◌-◌, ◌≤◌}
 use Rattle.band_claims.specs.Seating.{Seats}
 use Rattle.band_claims.specs.Filled.{filled_to}

@@ -1,3 +1,5 @@
+-- The loops of put_words: stores these words in the next cells of the piece that the pass holds,
+-- whose defined values they are.
 use Rattle.std.proofs.Common.{◌≡◌, ◌+◌}
 use Rattle.band_claims.specs.Seating.{Seats}
 use Rattle.band_claims.specs.Filled.{filled_to}

@@ -1,3 +1,4 @@
+-- What `values_word` has to show.
 use Rattle.std.proofs.Common.{ℕ, List, ◌∙◌, arith}
 use Rattle.row_cells.proofs.Numbers.{as_many}
 use Rattle.band_claims.proofs.Cutting.{AreCellValues, packs, small}

@@ -1,3 +1,4 @@
+-- opened: a table whose words are all 0.
 use Rattle.std.proofs.Common.{ap, ◌∙◌, arith, replicate, ℕ}
 use Rattle.page_model.specs.Bands.{pieces_of}
 use Rattle.band_claims.proofs.Steps.{opens}

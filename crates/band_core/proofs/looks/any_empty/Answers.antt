@@ -1,3 +1,4 @@
+-- any_empty: whether some cell of a piece is empty.
 use Rattle.std.proofs.Common.{◌∙◌, arith}
 use Rattle.band_core.proofs.LookLemmas.{empty_is, ends_inside, ends_fit}
 use Rattle.band_core.proofs.looks.any_empty.Goals as goal

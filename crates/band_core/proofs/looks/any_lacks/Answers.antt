@@ -1,3 +1,4 @@
+-- any_lacks: whether some need of a piece is not done.
 use Rattle.std.proofs.Common.{arith}
 use Rattle.band_core.proofs.LookLemmas.{lacks_is, lacks_next, same_count, same_need}
 use Rattle.band_core.proofs.looks.any_lacks.Goals as goal

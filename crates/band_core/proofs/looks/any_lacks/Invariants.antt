@@ -1,3 +1,4 @@
+-- The loops of any_lacks: whether some need of a piece is not done.
 use Rattle.std.proofs.Common.{◌≡◌, true, false}
 use Rattle.lists.specs.Words.{count_below}
 use Rattle.band_graph.specs.Needs.{is_need}

@@ -1,3 +1,4 @@
+-- any_takes: whether a cell is one of a claimed piece.
 use Rattle.std.proofs.Common.{◌<◌, ◌∙◌, arith}
 use Rattle.row_cells.specs.Places.{piece_count}
 use Rattle.band_core.proofs.LookLemmas.{hand_is, ends_fit}

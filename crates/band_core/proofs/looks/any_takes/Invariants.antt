@@ -1,3 +1,4 @@
+-- The loops of any_takes: whether a cell is one of a claimed piece.
 use Rattle.std.proofs.Common.{◌≡◌, ◌+◌, nat_le, nat_lt, ◌&&◌}
 use Rattle.std.specs.Prelude.{slice_index_or}
 use Rattle.lists.specs.Words.{any_below}

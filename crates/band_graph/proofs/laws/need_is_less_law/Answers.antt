@@ -1,3 +1,4 @@
+-- need_is_less_law: each need has a lesser number.
 use Rattle.band_graph.proofs.NeedLemmas.{need_less}
 use Rattle.band_graph.proofs.laws.need_is_less_law.Goals as goal
 

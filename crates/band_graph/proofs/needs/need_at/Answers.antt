@@ -1,3 +1,4 @@
+-- need_at: the need of a piece before which `k` of its needs stand.
 use Rattle.std.proofs.Common.{ℕ, ◌<◌, subst, ap, ◌∙◌}
 use Rattle.lists.specs.Words.{count_below}
 use Rattle.page_model.specs.declared.bands.Bands.{Bands}

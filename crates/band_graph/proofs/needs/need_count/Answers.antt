@@ -1,3 +1,4 @@
+-- need_count: how many pieces a piece needs.
 use Rattle.std.proofs.Common.{sym, ◌∙◌}
 use Rattle.band_graph.proofs.NeedLemmas.{needs-counted}
 use Rattle.band_graph.proofs.needs.need_count.Goals as goal

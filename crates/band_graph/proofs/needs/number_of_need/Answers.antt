@@ -1,3 +1,4 @@
+-- What `number_of_need` has to show.
 use Rattle.std.proofs.Common.{arith}
 use Rattle.band_graph.proofs.NeedLemmas.{number_less}
 use Rattle.band_graph.proofs.needs.number_of_need.Goals as goal

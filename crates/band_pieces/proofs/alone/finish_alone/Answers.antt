@@ -1,3 +1,5 @@
+-- finish_alone: makes each piece that is not done, in order, from the closed words alone, and adds
+-- it to the list of the pieces that were made alone.
 use Rattle.std.proofs.Common.{◌≡◌, ℕ, ◌<◌, ◌&&◌, not, nat_lt, refl, sym, ap, ◌∙◌, subst, arith}
 use Rattle.page_model.specs.Bands.{AreBands, pieces_of}
 use Rattle.std.specs.Prelude.{◌==◌}

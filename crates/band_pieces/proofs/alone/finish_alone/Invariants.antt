@@ -1,3 +1,5 @@
+-- The loops of finish_alone: makes each piece that is not done, in order, from the closed words
+-- alone, and adds it to the list of the pieces that were made alone.
 use Rattle.std.proofs.Common.{◌≡◌}
 use Rattle.page_model.specs.Bands.{pieces_of}
 use Rattle.band_pieces.specs.Fills.{FinishesTo}

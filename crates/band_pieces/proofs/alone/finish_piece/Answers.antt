@@ -1,3 +1,4 @@
+-- finish_piece: makes a piece that is left, whose needs are among the pieces before it.
 use Rattle.std.proofs.Common.{◌<◌, sym, ◌∙◌, subst}
 use Rattle.page_model.specs.Bands.{pieces_of}
 use Rattle.row_cells.specs.Layouts.{Layout}

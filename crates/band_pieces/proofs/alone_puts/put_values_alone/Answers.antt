@@ -1,3 +1,4 @@
+-- put_values_alone: packs the values of a piece into its cells.
 use Rattle.std.proofs.Common.{◌+◌, ◌<◌, sym, ap, ◌∙◌, subst, arith}
 use Rattle.page_model.specs.Bands.{pieces_of}
 use Rattle.row_cells.specs.Layouts.{Layout}

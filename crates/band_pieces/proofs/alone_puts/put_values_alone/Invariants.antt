@@ -1,3 +1,4 @@
+-- The loops of put_values_alone: packs the values of a piece into its cells.
 use Rattle.band_pieces.proofs.Filling.{FillsUpTo}
 use Rattle.band_pieces.proofs.alone_puts.put_values_alone.Given as goal
 

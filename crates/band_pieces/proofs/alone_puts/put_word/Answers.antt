@@ -1,3 +1,4 @@
+-- put_word: puts its defined word in cell o of a piece, whose first cells, o of them, have theirs.
 use Rattle.std.proofs.Common.{◌+◌, ap, ◌∙◌, arith}
 use Rattle.std.specs.Prelude.{slice_set}
 use Rattle.row_cells.specs.Layouts.{Layout}

@@ -1,3 +1,4 @@
+-- fill_tints: the new tints of a band, from its zones and its column answers.
 use Rattle.std.proofs.Common.{◌≡◌, ℕ, ◌<◌, sym, ap, ◌∙◌, subst, arith}
 use Rattle.page_model.specs.declared.bands.Bands.{Bands}
 use Rattle.page_model.specs.declared.parts.PageParts.{PageParts}

@@ -1,3 +1,4 @@
+-- fill_zones: the zones of a band, from the page alone.
 use Rattle.std.proofs.Common.{◌≡◌, ℕ, ap, ◌∙◌}
 use Rattle.page_model.specs.declared.bands.Bands.{Bands}
 use Rattle.band_claims.specs.declared.sheet.Sheet.{Sheet}

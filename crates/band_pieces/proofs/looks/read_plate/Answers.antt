@@ -1,3 +1,4 @@
+-- read_plate: the new tints of one plate in row y, from the cells of its band.
 use Rattle.std.proofs.Common.{◌+◌, ◌*◌, ◌/◌, ◌∙◌, ap, sym, arith}
 use Rattle.page_model.specs.declared.parts.PageParts.{PageParts}
 use Rattle.page_model.proofs.BandLemmas.{piece_inside, row_in_band}

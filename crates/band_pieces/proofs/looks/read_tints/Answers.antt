@@ -1,3 +1,5 @@
+-- read_tints: the new tints of these rows, in each row plate after plate, from the cells of their
+-- bands.
 use Rattle.std.proofs.Common.{◌/◌, sym, subst, arith}
 use Rattle.page_model.specs.declared.parts.PageParts.{PageParts}
 use Rattle.page_model.proofs.BandLemmas.{piece_inside, row_in_band}

@@ -1,3 +1,4 @@
+-- read_zones: the zones of these rows, from the cells of their bands.
 use Rattle.std.proofs.Common.{◌/◌, sym, subst, arith}
 use Rattle.page_model.specs.declared.parts.PageParts.{PageParts}
 use Rattle.page_model.proofs.BandLemmas.{piece_inside, row_in_band}

@@ -1,3 +1,4 @@
+-- all_done: whether all pieces are done.
 use Rattle.band_claims.proofs.Looking.{looks_more}
 use Rattle.band_pieces.proofs.Looked.{known_before}
 use Rattle.band_pieces.proofs.pages.all_done.Goals as goal

@@ -1,3 +1,4 @@
+-- The loops of all_done: whether all pieces are done.
 use Rattle.std.proofs.Common.{◌≡◌, ℕ, ◌<◌}
 use Rattle.page_model.specs.Bands.{pieces_of}
 use Rattle.band_claims.specs.Seating.{Seats}

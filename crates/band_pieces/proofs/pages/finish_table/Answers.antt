@@ -1,3 +1,5 @@
+-- finish_table: closes the table, whose passes have all been joined into this one, so that it has
+-- all shares, and makes alone what the workers left.
 use Rattle.std.proofs.Common.{◌<◌, sym, ap, ◌∙◌, subst, arith}
 use Rattle.band_claims.specs.declared.sheet.Sheet.{Sheet}
 use Rattle.band_claims.specs.Sheets.{IsFit, shape_of}

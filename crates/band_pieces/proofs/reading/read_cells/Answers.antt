@@ -1,3 +1,4 @@
+-- read_cells: unpacks all values of whole cells.
 use Rattle.std.proofs.Common.{◌≡◌, ℕ, ◌+◌, ◌*◌, ◌≤◌, sym, ap, ◌∙◌, subst, arith}
 use Rattle.band_core.specs.Values.{value}
 use Rattle.band_claims.specs.declared.sheet.Sheet.{Sheet}

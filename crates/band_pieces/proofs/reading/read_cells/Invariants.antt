@@ -1,3 +1,4 @@
+-- The loops of read_cells: unpacks all values of whole cells.
 use Rattle.std.proofs.Common.{◌≡◌, ℕ, ◌+◌, ◌*◌, ◌<◌, length, slice_index}
 use Rattle.band_core.specs.Values.{value}
 use Rattle.band_pieces.proofs.reading.read_cells.Given as goal

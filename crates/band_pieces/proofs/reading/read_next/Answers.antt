@@ -1,3 +1,4 @@
+-- read_next: unpacks the first values of a run, of which there are some, and gives how many.
 use Rattle.std.proofs.Common.{◌≡◌, ℕ, ◌*◌, ◌/◌, sym, ap, ◌∙◌, arith}
 use Rattle.page_model.specs.declared.bands.Bands.{Bands}
 use Rattle.page_model.specs.Bands.{phase_of}

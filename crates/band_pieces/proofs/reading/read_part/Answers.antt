@@ -1,3 +1,4 @@
+-- read_part: unpacks values from one cell.
 use Rattle.std.proofs.Common.{ℕ, ◌+◌, ◌-◌, sym, ap, ◌∙◌, subst, arith}
 use Rattle.row_cells.specs.Packing.{lane}
 use Rattle.row_cells.specs.Places.{first_cell_of}

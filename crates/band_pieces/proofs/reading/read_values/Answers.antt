@@ -1,3 +1,4 @@
+-- read_values: unpacks values of a piece.
 use Rattle.std.proofs.Common.{◌≡◌, ℕ, ◌+◌, ap, ◌∙◌, arith}
 use Rattle.band_core.specs.Values.{value}
 use Rattle.band_claims.proofs.Cutting.{few_values}

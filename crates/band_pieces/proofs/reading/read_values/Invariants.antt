@@ -1,3 +1,4 @@
+-- The loops of read_values: unpacks values of a piece.
 use Rattle.std.proofs.Common.{◌≡◌, ℕ, ◌+◌, ◌-◌, ◌<◌, ◌≤◌, length, slice_index}
 use Rattle.band_core.specs.Values.{value}
 use Rattle.band_pieces.proofs.reading.read_values.Given as goal

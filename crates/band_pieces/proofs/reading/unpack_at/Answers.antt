@@ -1,3 +1,4 @@
+-- unpack_at: unpacks the first values of a cell to a place.
 use Rattle.std.proofs.Common.{ℕ, List, take, slice_index, ap, ◌∙◌, arith, length-take}
 use Rattle.std.proofs.lemmas.List.{get_or_append_left, get_or-take}
 use Rattle.row_cells.proofs.Numbers.{as_many, part_written}

@@ -1,3 +1,4 @@
+-- read_plate_row: the new tints of one plate in row y, where the piece of its band is known.
 use Rattle.std.proofs.Common.{◌≡◌, ℕ, ◌+◌, ◌*◌, ◌/◌, ◌%◌, sym, ap, ◌∙◌, arith}
 use Rattle.std.specs.Prelude.{slice_index}
 use Rattle.page_model.specs.Bands.{band_of_row, piece_of}

@@ -1,3 +1,4 @@
+-- read_row: the values of a phase of row k of these rows.
 use Rattle.std.proofs.Common.{◌≡◌, ℕ, ◌+◌, ◌*◌, ◌/◌, ◌%◌, ◌≤◌, sym, ap, ◌∙◌, subst, arith}
 use Rattle.std.specs.Prelude.{slice_index}
 use Rattle.page_model.specs.Bands.{band_of_row, phase_of, piece_of}

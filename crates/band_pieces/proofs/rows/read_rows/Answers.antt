@@ -1,3 +1,5 @@
+-- read_rows: the values of a phase of these rows, row by row, where the pieces of their bands are
+-- known.
 use Rattle.std.proofs.Common.{ℕ, ◌+◌, ◌∙◌, arith}
 use Rattle.row_cells.specs.Places.{per_row}
 use Rattle.band_core.specs.Values.{row_value}

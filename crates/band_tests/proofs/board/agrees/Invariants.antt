@@ -1,3 +1,4 @@
+-- The loops of agrees: whether the board answers so to each event, from its opening on.
 use Rattle.std.proofs.Common.{◌≡◌}
 use Rattle.band_tests.proofs.board.agrees.Given as goal
 

@@ -1,3 +1,5 @@
+-- left_at: what a table is that was left with so many pieces done and the next one claimed, and
+-- then finished alone.
 use Rattle.std.proofs.Common.{sym, ap, ◌∙◌, subst, arith}
 use Rattle.band_claims.specs.declared.sheet.Sheet.{Sheet}
 use Rattle.band_claims.specs.Sheets.{IsFit}

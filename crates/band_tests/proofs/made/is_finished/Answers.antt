@@ -1,3 +1,4 @@
+-- is_finished: whether a closed table of a finished page is that of the two tiles.
 use Rattle.std.proofs.Common.{sym}
 use Rattle.band_pieces.proofs.Finishing.{finished_has_cells}
 use Rattle.band_tests.proofs.made.is_finished.Goals as goal

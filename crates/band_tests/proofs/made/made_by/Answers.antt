@@ -1,3 +1,4 @@
+-- made_by: the page made by so many workers.
 use Rattle.std.proofs.Common.{◌≡◌, sym, subst, refl, arith}
 use Rattle.band_claims.specs.declared.sheet.Sheet.{Sheet}
 use Rattle.band_claims.specs.declared.view.View.{View}

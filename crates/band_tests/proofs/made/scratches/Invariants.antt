@@ -1,3 +1,4 @@
+-- The loops of scratches: the memory of so many workers.
 use Rattle.std.proofs.Common.{◌≡◌, length, All}
 use Rattle.page_model.specs.Page.{plates, width}
 use Rattle.band_tests.proofs.made.scratches.Given as goal

@@ -1,3 +1,4 @@
+-- both_zones: the words of both bands' zones, where the pass finds them done.
 use Rattle.std.proofs.Common.{◌≡◌, ℕ, ◌+◌, inl, inr, arith, subst}
 use Rattle.std.proofs.lemmas.Bool.{cases_eq}
 use Rattle.band_board.specs.Shapes.{Has}

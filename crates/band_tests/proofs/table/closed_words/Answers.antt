@@ -1,3 +1,5 @@
+-- closed_words: the words of the two ZONES pieces and their cells of a table that was left half
+-- done, before and after it is finished alone.
 use Rattle.std.proofs.Common.{◌<◌, sym, ap, ◌∙◌, subst, arith}
 use Rattle.band_claims.specs.declared.sheet.Sheet.{Sheet}
 use Rattle.row_cells.specs.Places.{cells_of}

@@ -1,3 +1,4 @@
+-- make_zone: makes the zones of the band that the pass holds.
 use Rattle.std.proofs.Common.{ℕ, ◌+◌, sym, ap, ◌∙◌, arith}
 use Rattle.band_claims.specs.Sheets.{cell}
 use Rattle.row_cells.specs.Places.{first_cell_of}

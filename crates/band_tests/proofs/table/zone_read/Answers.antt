@@ -1,3 +1,4 @@
+-- zone_read: the word of the first band's zones, where a seat that reads alone finds them done.
 use Rattle.std.proofs.Common.{arith}
 use Rattle.band_claims.proofs.Looking.{knows_here}
 use Rattle.band_tests.proofs.OneZone.{cell_has}

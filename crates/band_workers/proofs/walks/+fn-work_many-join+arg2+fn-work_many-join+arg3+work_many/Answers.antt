@@ -1,3 +1,4 @@
+-- work_many: runs `work` once for each maker, on threads of their own, and joins their passes.
 use denote.Param.Send.{sendable}
 use Rattle.band_claims.proofs.Crosses.{shared_sync, pass_send}
 use Rattle.page_model.proofs.page.Page.TheSendSync as page

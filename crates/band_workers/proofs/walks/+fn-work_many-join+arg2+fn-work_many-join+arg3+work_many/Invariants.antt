@@ -1,3 +1,4 @@
+-- What becomes less at each call of work_many by itself.
 use Rattle.std.proofs.Common.{◌+◌, ◌*◌, length}
 use Rattle.band_workers.proofs.walks.+fn-work_many-join+arg2+fn-work_many-join+arg3+work_many.Given as goal
 

@@ -1,3 +1,4 @@
+-- visit: claims the piece and makes it, if it can.
 use Rattle.band_workers.proofs.Accounting.{made_by}
 use Rattle.band_workers.proofs.walks.visit.Goals as goal
 

@@ -1,3 +1,4 @@
+-- walk: one walk over the pieces in order.
 use Rattle.std.proofs.Common.{ℕ, sym, ◌∙◌, arith, inl, inr, subst}
 use Rattle.std.proofs.lemmas.Bool.{cases_eq, false≢true}
 use Rattle.page_model.specs.Bands.{pieces_of}

@@ -1,3 +1,4 @@
+-- The loops of walk: one walk over the pieces in order.
 use Rattle.std.proofs.Common.{◌≡◌, ℕ, ◌+◌, ◌<◌, ◌≤◌, length, None, true, false}
 use Rattle.page_model.specs.Bands.{pieces_of}
 use Rattle.band_claims.specs.Seating.{Seats}

@@ -1,3 +1,5 @@
+-- The loops of work: walks over the pieces, claims and makes those that it can, and ends after a
+-- walk that won nothing.
 use Rattle.std.proofs.Common.{◌≡◌, ℕ, ◌+◌, ◌-◌, ◌<◌, length, None, false, if◌then◌else◌}
 use Rattle.page_model.specs.Bands.{pieces_of}
 use Rattle.band_claims.specs.Seating.{Seats}

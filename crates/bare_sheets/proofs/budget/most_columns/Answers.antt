@@ -1,3 +1,4 @@
+-- most_columns: how many columns a window of so many rows has at most.
 use Rattle.std.proofs.Common.{◌*◌, ◌/◌, ◌≤◌, arith}
 use Rattle.bare_sheets.proofs.SizeLemmas.{bounded, columns_few}
 use Rattle.bare_sheets.proofs.budget.most_columns.Goals as goal

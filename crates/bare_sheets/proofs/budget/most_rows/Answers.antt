@@ -1,3 +1,4 @@
+-- most_rows: how many rows a window has at most, with so many columns and rows at least.
 use Rattle.std.proofs.Common.{◌*◌, ◌/◌}
 use Rattle.bare_sheets.proofs.SizeLemmas.{bounded, rows_few}
 use Rattle.bare_sheets.proofs.budget.most_rows.Goals as goal

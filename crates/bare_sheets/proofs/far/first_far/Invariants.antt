@@ -1,3 +1,4 @@
+-- The loops of first_far: the first zone that has such a vertex.
 use Rattle.std.proofs.Common.{◌≡◌, length}
 use Rattle.lists.specs.Words.{first_some}
 use Rattle.bare_sheets.specs.Refusals.{far}

@@ -1,3 +1,4 @@
+-- The loops of has_far: whether a path has such a vertex.
 use Rattle.std.proofs.Common.{◌≡◌, take}
 use Rattle.std.specs.List.{list_any}
 use Rattle.bare_sheets.specs.Refusals.{is_far_by}

@@ -1,3 +1,4 @@
+-- The loops of first_wide: the first zone that reaches too far.
 use Rattle.std.proofs.Common.{◌≡◌, length}
 use Rattle.lists.specs.Words.{first_some}
 use Rattle.page_model.specs.Faults.{too_wide}

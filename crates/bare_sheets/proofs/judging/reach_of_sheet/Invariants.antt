@@ -1,3 +1,4 @@
+-- The loops of reach_of_sheet: the reach of a sheet in half-samples.
 use Rattle.std.proofs.Common.{◌≡◌, ◌≤◌, length}
 use Rattle.lists.specs.Words.{greatest_below}
 use Rattle.page_model.specs.Reach.{zone_reach}

@@ -1,3 +1,4 @@
+-- cuttable_law: a sheet that no fault keeps from being cut may be cut.
 use Rattle.bare_sheets.proofs.BareLemmas.{cuttable_is}
 use Rattle.bare_sheets.proofs.laws.cuttable_law.Goals as goal
 

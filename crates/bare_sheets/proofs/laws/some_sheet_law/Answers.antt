@@ -1,3 +1,4 @@
+-- some_sheet_law: for each bare sheet there is a sheet, whatever its planes begin with.
 use Rattle.bare_sheets.proofs.BegunLemmas.{some_sheet}
 use Rattle.bare_sheets.proofs.laws.some_sheet_law.Goals as goal
 

@@ -1,3 +1,5 @@
+-- strip_core_law: the rows of a strip's core, trapped in windows of the strip, are rows of the
+-- sheet.
 use Rattle.bare_sheets.proofs.CoreLemmas.{core_law}
 use Rattle.bare_sheets.proofs.laws.strip_core_law.Goals as goal
 

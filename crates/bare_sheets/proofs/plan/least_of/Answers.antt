@@ -1,3 +1,4 @@
+-- What `least_of` has to show.
 use Rattle.std.proofs.Common.{length}
 use Rattle.lists.specs.Words.{first_some}
 use Rattle.lists.proofs.FirstSome.{both_none}

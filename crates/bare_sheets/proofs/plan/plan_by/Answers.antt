@@ -1,3 +1,4 @@
+-- What `plan_by` has to show.
 use Rattle.std.proofs.Common.{arith}
 use Rattle.page_model.specs.Page.{plates}
 use Rattle.bare_sheets.proofs.SizeLemmas.{least_few}

@@ -1,3 +1,4 @@
+-- is_short: whether the step at a resolution is at most 2,048 samples.
 use Rattle.bare_sheets.proofs.StepLemmas.{short-is}
 use Rattle.bare_sheets.proofs.steps.is_short.Goals as goal
 

@@ -1,3 +1,4 @@
+-- sheet_step: the step of a sheet in samples, the least one.
 use Rattle.std.proofs.Common.{arith}
 use Rattle.bare_sheets.proofs.StepLemmas.{step_short}
 use Rattle.bare_sheets.proofs.steps.sheet_step.Goals as goal

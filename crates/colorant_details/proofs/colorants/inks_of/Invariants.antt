@@ -1,3 +1,4 @@
+-- The loops of inks_of: the inks of these keys, in their order.
 use Rattle.std.proofs.Common.{◌≡◌, take}
 use Rattle.colorant_details.specs.Colorants.{inks_of}
 use Rattle.colorant_details.proofs.colorants.inks_of.Given as goal

@@ -1,3 +1,5 @@
+-- inks: the inks that the value of TrappingDetails at a place names, in ascending byte order of
+-- their names (PLRM3's trapping section, in this project's profile).
 use Rattle.std.proofs.Common.{◌≡◌, List, sym, ap, ◌∙◌}
 use Rattle.page_model.specs.declared.parts.Ink.{Ink}
 use Rattle.colorant_details.specs.Colorants.{AscendByName, colorants_at}

@@ -1,3 +1,4 @@
+-- The loops of first_after: the first row from `end` on whose edge in the column decides.
 use Rattle.std.proofs.Common.{◌≡◌, ◌+◌, ◌-◌}
 use Rattle.page_model.specs.Marks.{held_rows}
 use Rattle.column_scan.specs.Sweep.{passes, first_before}

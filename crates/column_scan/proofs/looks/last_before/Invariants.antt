@@ -1,3 +1,4 @@
+-- The loops of last_before: the last row before `first` whose edge in the column decides.
 use Rattle.std.proofs.Common.{◌≡◌, ◌+◌}
 use Rattle.column_scan.specs.Sweep.{passes, last_below}
 use Rattle.column_scan.proofs.looks.last_before.Given as goal

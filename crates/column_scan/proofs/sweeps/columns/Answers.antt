@@ -1,3 +1,6 @@
+-- columns: writes, row by row from `first_row` on, for each of the `2 * width - 1` doubled columns
+-- 0 where no deciding edge is within `reach2` half-samples above or below the row's middle, else
+-- the offset `Y - 2y` of the nearest one, the upper one where two are as near, plus 257.
 use Rattle.std.proofs.Common.{arith, ◌∙◌, ◌+◌, ◌-◌}
 use Rattle.column_scan.proofs.ColumnLemmas.{column-meets}
 use Rattle.column_scan.proofs.RowLemmas.{all_steps}

@@ -1,3 +1,4 @@
+-- rows_down: goes down over the asked rows.
 use Rattle.std.proofs.Common.{arith, ◌+◌, ◌∙◌, ◌≡◌, ap, refl, inl, inr}
 use Rattle.std.proofs.lemmas.Bool.{cases_eq}
 use Rattle.column_scan.specs.Sweep.{above_of}

@@ -1,3 +1,4 @@
+-- The loops of rows_down: goes down over the asked rows.
 use Rattle.std.proofs.Common.{◌≡◌, ◌+◌, ◌-◌, ◌*◌, ◌<◌, ◌≤◌, ℕ, length}
 use Rattle.column_scan.specs.Sweep.{above_of, slot}
 use Rattle.column_scan.proofs.sweeps.rows_down.Given as goal

@@ -1,3 +1,4 @@
+-- The loops of rows_up: goes up over the asked rows.
 use Rattle.std.proofs.Common.{◌≡◌, ◌+◌, ◌-◌, ◌*◌, ◌<◌, ◌≤◌, ℕ, length}
 use Rattle.column_scan.specs.Sweep.{above_of, column_of, slot}
 use Rattle.column_scan.proofs.sweeps.rows_up.Given as goal

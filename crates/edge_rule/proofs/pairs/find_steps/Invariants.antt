@@ -1,3 +1,5 @@
+-- The loops of find_steps: finds at which pairs some plate falls by a step, and at which some plate
+-- rises by one.
 use Rattle.std.proofs.Common.{◌≡◌, ◌<◌, ℕ, false, length, slice_index_or}
 use Rattle.edge_rule.specs.Pairs.{along}
 use Rattle.page_model.specs.Apart.{falls}

@@ -1,3 +1,4 @@
+-- The loops of keep_open: keeps the pairs of which neither sample is shut.
 use Rattle.std.proofs.Common.{◌≡◌, ◌≤◌, ◌<◌, ◌&&◌, ℕ, false, length, not, slice_index_or}
 use Rattle.edge_rule.specs.Pairs.{along}
 use Rattle.page_model.specs.Density.{shut}

@@ -1,3 +1,5 @@
+-- The loops of keep_risen: keeps of the pairs at which some plate falls those at which some plate
+-- rises.
 use Rattle.std.proofs.Common.{◌≡◌, ◌≤◌, ◌<◌, ◌&&◌, ℕ, false, length, slice_index_or}
 use Rattle.edge_rule.proofs.pairs.keep_risen.Given as goal
 

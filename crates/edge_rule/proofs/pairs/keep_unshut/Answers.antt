@@ -1,3 +1,5 @@
+-- keep_unshut: keeps the pairs of which neither sample is shut, without a look at them where no ink
+-- of the page shuts any.
 use Rattle.std.proofs.Common.{◌∙◌, false, slice_index_or, sym}
 use Rattle.edge_rule.specs.Pairs.{along}
 use Rattle.edge_rule.proofs.PairLemmas.{all_open}

@@ -1,3 +1,4 @@
+-- note_steps: notes at which pairs plate c falls by a step, and at which it rises by one.
 use Rattle.std.proofs.Common.{◌-◌, ◌||◌, ◌∙◌, ℕ, Bool, false, ap, arith, nat_le, slice_index_or}
 use Rattle.page_model.specs.Apart.{falls}
 use Rattle.page_model.specs.Page.{InPage, tint}

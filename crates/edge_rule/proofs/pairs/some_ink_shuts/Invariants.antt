@@ -1,3 +1,4 @@
+-- The loops of some_ink_shuts: whether some ink of the page shuts the samples that it covers.
 use Rattle.std.proofs.Common.{◌≡◌}
 use Rattle.page_model.specs.Density.{shuts}
 use Rattle.page_model.specs.Page.{ink_at, plates}

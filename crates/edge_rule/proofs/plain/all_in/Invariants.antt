@@ -1,3 +1,4 @@
+-- The loops of all_in: whether all these samples lie in the zone.
 use Rattle.std.proofs.Common.{◌≡◌, ◌<◌, ℕ, true, length, slice_index}
 use Rattle.edge_rule.proofs.plain.all_in.Given as goal
 

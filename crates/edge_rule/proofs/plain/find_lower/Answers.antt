@@ -1,3 +1,4 @@
+-- find_lower: finds which of so many samples of row y, from x on, have a deciding edge below them.
 use Rattle.std.proofs.Common.{◌∙◌}
 use Rattle.edge_rule.proofs.PairLemmas.{lower-plain}
 use Rattle.edge_rule.proofs.plain.find_lower.Goals as goal

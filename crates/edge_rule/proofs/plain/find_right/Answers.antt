@@ -1,3 +1,5 @@
+-- find_right: finds which of so many samples of row y, from x on, have a deciding edge to their
+-- right.
 use Rattle.std.proofs.Common.{◌∙◌}
 use Rattle.edge_rule.proofs.PairLemmas.{right-plain}
 use Rattle.edge_rule.proofs.plain.find_right.Goals as goal

@@ -1,3 +1,5 @@
+-- The loops of plain_until: how many samples from x on, at most so many, lie in the zone of x, with
+-- those to their right and below them.
 use Rattle.std.proofs.Common.{◌≡◌, ◌≤◌, ◌<◌, ◌+◌, ◌-◌, ℕ, slice_index}
 use Rattle.edge_rule.proofs.plain.plain_until.Given as goal
 

@@ -1,3 +1,4 @@
+-- The loops of write_marks: writes the marks of which these are the two halves.
 use Rattle.std.proofs.Common.{◌≡◌, ◌<◌, ◌+◌, ℕ, false, if◌then◌else◌, length, slice_index, slice_index_or}
 use Rattle.edge_rule.proofs.plain.write_marks.Given as goal
 

@@ -1,3 +1,4 @@
+-- The loops of edge_row: writes the marks of each sample of row y, from the left.
 use Rattle.std.proofs.Common.{◌≡◌, ◌<◌, ◌≤◌, ◌-◌, ℕ, length}
 use Rattle.std.specs.Prelude.{slice_index}
 use Rattle.page_model.specs.Deciding.{mark}

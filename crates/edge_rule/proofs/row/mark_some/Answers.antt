@@ -1,3 +1,5 @@
+-- mark_some: writes the marks of some samples of row y, from x on, and answers where the next one
+-- stands.
 use Rattle.std.proofs.Common.{◌≡◌, ◌+◌, ◌-◌, ◌<◌, ◌≤◌, ◌∙◌, ◌++◌, ℕ, ap, arith, drop, length, length-drop, subst, sym, take}
 use Rattle.std.proofs.lemmas.List.{get_or_append_left, get_or-append_right, length-take}
 use borrow.Rule.Slice.PartMut.{post_of}

@@ -1,3 +1,4 @@
+-- How far the loops of `some_planes` have come.
 use Rattle.std.proofs.Common.{◌≡◌, length}
 use Rattle.std.specs.Prelude.{All}
 use Rattle.page_model.specs.Conditions.{IsPlane}

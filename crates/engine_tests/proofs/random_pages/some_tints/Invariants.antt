@@ -1,3 +1,4 @@
+-- The loops of some_tints: few tints, each for some whole runs.
 use Rattle.std.proofs.Common.{◌≡◌, ◌≤◌}
 use Rattle.std.specs.Prelude.{All, vec_len}
 use Rattle.engine_tests.proofs.random_pages.some_tints.Given as goal

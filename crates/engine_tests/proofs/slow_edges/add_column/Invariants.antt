@@ -1,3 +1,4 @@
+-- The loops of add_column: adds the deciding edges of a column of the doubled grid.
 use Rattle.std.proofs.Common.{◌≡◌, ◌*◌, ◌-◌, All}
 use Rattle.page_model.specs.Edges.{IsEdge}
 use Rattle.page_model.specs.Page.{height}

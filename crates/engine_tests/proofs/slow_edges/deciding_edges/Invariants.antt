@@ -1,3 +1,4 @@
+-- The loops of deciding_edges: all deciding edges of the page.
 use Rattle.std.proofs.Common.{◌≡◌, ◌*◌, ◌-◌, All}
 use Rattle.page_model.specs.Edges.{IsEdge}
 use Rattle.page_model.specs.Page.{width}

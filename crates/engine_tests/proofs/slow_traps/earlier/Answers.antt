@@ -1,3 +1,4 @@
+-- earlier: of the edge found and another the one that comes first for p.
 use Rattle.engine_tests.proofs.slow_traps.earlier.Goals as goal
 
 pub comes_before-requires-clause-f : goal.comes_before-requires-clause-f

@@ -1,3 +1,4 @@
+-- slow_deciders: the decider of each sample.
 use Rattle.std.proofs.Common.{◌∷◌, [], All, List, Option, ap, arith, length, subst, sym}
 use Rattle.std.proofs.lemmas.List.{length-append}
 use Rattle.std.proofs.lemmas.List.Elements.{All-push}

@@ -1,3 +1,4 @@
+-- The loops of slow_deciders: the decider of each sample.
 use Rattle.std.proofs.Common.{◌≡◌, All, length}
 use Rattle.std.specs.Option.{ForSome}
 use Rattle.page_model.specs.Edges.{IsEdge}

@@ -1,3 +1,4 @@
+-- fill_marks: writes the marks of each sample, row by row.
 use Rattle.strip_engine.proofs.ZoneRows.{all_zones}
 use Rattle.engine_tests.proofs.zones.fill_marks.Goals as goal
 

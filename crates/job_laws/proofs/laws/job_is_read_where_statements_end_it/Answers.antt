@@ -1,3 +1,4 @@
+-- job_is_read_where_statements_end_it: statements give a job exactly where they end one.
 use Rattle.job_laws.proofs.Ends.{read-ends, ends-read}
 use Rattle.job_laws.proofs.laws.job_is_read_where_statements_end_it.Goals as goal
 

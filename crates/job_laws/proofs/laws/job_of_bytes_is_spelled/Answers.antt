@@ -1,3 +1,4 @@
+-- job_of_bytes_is_spelled: a job is that of bytes exactly where they spell it.
 use Rattle.job_laws.proofs.Ends.{job-spelled, spelled-job}
 use Rattle.job_laws.proofs.laws.job_of_bytes_is_spelled.Goals as goal
 

@@ -1,3 +1,5 @@
+-- statements_are_cut_where_it_is_said: the path and the zones are of statements cut where their
+-- definitions say.
 use Rattle.job_laws.proofs.Cuts.{since-last, since-start, zone-at, zones-counted}
 use Rattle.job_laws.proofs.laws.statements_are_cut_where_it_is_said.Goals as goal
 

@@ -1,3 +1,4 @@
+-- some_reading: bytes are a list, or have a first bad line.
 use Rattle.job_list.proofs.Readings.{some_reading}
 use Rattle.job_list.proofs.laws.some_reading.Goals as goal
 

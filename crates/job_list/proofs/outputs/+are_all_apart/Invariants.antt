@@ -1,3 +1,4 @@
+-- What becomes less at each call of are_all_apart by itself.
 use Rattle.std.proofs.Common.{length}
 use Rattle.job_list.proofs.outputs.+are_all_apart.Given as goal
 

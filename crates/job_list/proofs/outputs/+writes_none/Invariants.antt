@@ -1,3 +1,4 @@
+-- What becomes less at each call of writes_none by itself.
 use Rattle.std.proofs.Common.{length}
 use Rattle.job_list.proofs.outputs.+writes_none.Given as goal
 

@@ -1,3 +1,4 @@
+-- cut: what stands before the first LF, and what stands after it; `None` where there is none.
 use Rattle.std.proofs.Common.{sym}
 use Rattle.job_list.proofs.Cuts.{cut_there, nowhere}
 use Rattle.job_list.proofs.reading.cut.Goals as goal

@@ -1,3 +1,5 @@
+-- next_line: the line that comes next after so many bytes and these lines, and what is after it;
+-- `None` where it is a bad one.
 use Rattle.std.proofs.Common.{◌≡◌, ◌∙◌, ℕ, List, Option, Some, sym, subst, arith}
 use Rattle.job_list.specs.Apart.{NextLine}
 use Rattle.job_list.specs.Lines.{LineParts, line_of}

@@ -1,3 +1,4 @@
+-- read_list: the jobs of a list.
 use Rattle.std.proofs.Common.{◌≡◌, ◌∙◌, ◌-◌, List, length, Some, [], ◌∷◌, ◌++◌, ◌+◌, ap, sym, subst, arith, length-append}
 use Rattle.job_list.specs.Apart.{NextLine, Stands, next_in}
 use Rattle.job_list.specs.Lines.{LineParts}

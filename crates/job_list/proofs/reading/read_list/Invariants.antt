@@ -1,3 +1,4 @@
+-- The loops of read_list: the jobs of a list.
 use Rattle.std.proofs.Common.{◌≡◌, length}
 use Rattle.job_list.specs.Apart.{Stands}
 use Rattle.job_list.proofs.reading.read_list.Given as goal

@@ -1,3 +1,4 @@
+-- How far the loops of `names_of` have come.
 use Rattle.std.proofs.Common.{◌≡◌, map, take}
 use Rattle.plain_words.specs.Parts.{parts_of}
 use Rattle.plain_words.specs.Plates.{names_of}

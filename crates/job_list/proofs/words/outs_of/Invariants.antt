@@ -1,3 +1,4 @@
+-- How far the loops of `outs_of` have come.
 use Rattle.std.proofs.Common.{◌≡◌, map, take, string_bytes}
 use Rattle.plain_words.specs.Parts.{parts_of}
 use Rattle.job_list.proofs.words.outs_of.Given as goal

@@ -1,3 +1,4 @@
+-- read_line: the job that a line's bytes mean; `None` where they are no line.
 use Rattle.std.proofs.Common.{◌≡◌, ◌∙◌, ℕ, List, Bor, Option, IfOk, map, sym, ap, subst}
 use Rattle.std.specs.List.{slice_split}
 use Rattle.job_list.specs.Lines.{LineParts, is_space, line_of, line_of_words}

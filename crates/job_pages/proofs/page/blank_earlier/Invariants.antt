@@ -1,3 +1,5 @@
+-- The loops of blank_earlier: puts spaces in the place of the statements before a page that set
+-- nothing which stays in force.
 use Rattle.std.proofs.Common.{◌≡◌, take}
 use Rattle.std.specs.Prelude.{filter, fold}
 use Rattle.job_pages.specs.PageText.{blanked, is_left_after}

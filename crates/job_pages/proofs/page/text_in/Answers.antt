@@ -1,3 +1,4 @@
+-- text_in: the text of page k.
 use Rattle.std.proofs.Common.{rules, ◌≡◌, ℕ, ◌++◌, length, take, drop, min, sym, ap, ◌∙◌}
 use Rattle.std.proofs.Math.Seq.{take-append_seam}
 use Rattle.job_pages.proofs.Blanks.{text_made}

@@ -1,3 +1,4 @@
+-- passages: the statements of a job's objects, in their order.
 use Rattle.std.proofs.Common.{rules, ◌≡◌, ◌+◌, [], ◌∷◌, ◌++◌, Some, None, append-nil, sym, ap, ◌∙◌, arith}
 use Rattle.std.specs.Prelude.{slice_get}
 use Rattle.job_reader.specs.Calls.{call_of}

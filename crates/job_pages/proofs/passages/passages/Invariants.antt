@@ -1,3 +1,4 @@
+-- The loops of passages: the statements of a job's objects, in their order.
 use Rattle.std.proofs.Common.{◌≡◌, ◌≤◌, ◌++◌}
 use Rattle.job_pages.specs.Passages.{passages_of}
 use Rattle.job_pages.proofs.Cuts.{passages_from}

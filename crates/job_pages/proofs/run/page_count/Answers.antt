@@ -1,3 +1,4 @@
+-- page_count: how many pages a job has.
 use Rattle.std.proofs.Common.{arith}
 use Rattle.job_pages.proofs.Counts.{shown_few}
 use Rattle.job_pages.proofs.run.page_count.Goals as goal

@@ -1,3 +1,4 @@
+-- The loops of shown_among: the statements that end pages.
 use Rattle.std.proofs.Common.{◌≡◌, take}
 use Rattle.std.specs.Prelude.{filter}
 use Rattle.job_pages.specs.Passages.{shows}

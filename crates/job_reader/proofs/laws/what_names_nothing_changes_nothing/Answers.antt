@@ -1,3 +1,5 @@
+-- what_names_nothing_changes_nothing: a dictionary that names none of the keys that its operator
+-- knows leaves all in force as it was, and an empty one names no key at all.
 use Rattle.job_reader.proofs.NamingNone.{page_device-none, trap_params-none, empty-all-none}
 use Rattle.job_reader.proofs.laws.what_names_nothing_changes_nothing.Goals as goal
 

@@ -1,3 +1,4 @@
+-- read_job: the job that bytes spell, in this project's job language.
 use Rattle.job_reader.proofs.JobRanges.{tokens_given-in_range}
 use Rattle.job_reader.proofs.reader.read_job.Goals as goal
 

@@ -1,3 +1,4 @@
+-- read_statements: the job of its objects, statement after statement.
 use Rattle.std.proofs.Common.{◌≡◌, Some, None, sym, ◌∙◌, arith}
 use Rattle.std.specs.Prelude.{slice_get}
 use Rattle.job_reader.specs.Calls.{call_of}

@@ -1,3 +1,4 @@
+-- The loops of read_statements: the job of its objects, statement after statement.
 use Rattle.std.proofs.Common.{◌≡◌, ◌≤◌}
 use Rattle.job_reader.specs.Starts.{nothing_read}
 use Rattle.job_reader.proofs.Reading.{read_on}

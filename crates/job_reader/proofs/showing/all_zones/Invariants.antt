@@ -1,3 +1,5 @@
+-- The loops of all_zones: a zone and then others, these as they are where Trapping is true or
+-- false.
 use Rattle.std.proofs.Common.{◌≡◌, ◌∷◌}
 use Rattle.std.specs.Prelude.{map}
 use Rattle.job_reader.specs.Statements.{under_trapping}

@@ -1,3 +1,5 @@
+-- push_lines: pushes lines in order, up to the first that finds the queue full, and says how many
+-- it pushed.
 use Rattle.std.proofs.Common.{slice_index_or, rules, sym, ap, subst}
 use Rattle.line_queue.specs.declared.rule.PassView.{PassView}
 use Rattle.line_queue.specs.Rule.{IsAbove}

@@ -1,3 +1,5 @@
+-- The loops of push_lines: pushes lines in order, up to the first that finds the queue full, and
+-- says how many it pushed.
 use Rattle.std.proofs.Common.{◌≡◌, ◌≤◌, true, [], length, take}
 use Rattle.crossbeam_queue.specs.Passes.{view, IsPassOf}
 use Rattle.line_queue.specs.Rule.{pass_view, whole}

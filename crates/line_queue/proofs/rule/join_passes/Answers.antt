@@ -1,3 +1,4 @@
+-- join_passes: joins the other pass into this one.
 use Rattle.line_queue.proofs.Keeps.{merges}
 use Rattle.line_queue.proofs.rule.join_passes.Goals as goal
 

@@ -1,3 +1,4 @@
+-- look: what the pass knows of the lines in the queue at one moment of the call.
 use Rattle.line_queue.proofs.Keeps.{learns}
 use Rattle.line_queue.proofs.rule.look.Goals as goal
 

@@ -1,3 +1,4 @@
+-- pop_line: takes a line, or finds none.
 use Rattle.line_queue.proofs.Keeps.{pops, learns}
 use Rattle.line_queue.proofs.rule.pop_line.Goals as goal
 

@@ -1,3 +1,4 @@
+-- push_line: pushes a line, or finds the queue full and hands the line back.
 use Rattle.line_queue.proofs.Keeps.{pushes, learns}
 use Rattle.line_queue.proofs.rule.push_line.Goals as goal
 

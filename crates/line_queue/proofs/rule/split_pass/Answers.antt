@@ -1,3 +1,4 @@
+-- split_pass: a new pass with one part, which has pushed and taken nothing.
 use Rattle.line_queue.proofs.Keeps.{forks}
 use Rattle.line_queue.proofs.rule.split_pass.Goals as goal
 

@@ -1,3 +1,4 @@
+-- serve_rooms: a worker for each room, on a thread of its own, serves the lines of the queue.
 use Rattle.std.proofs.Common.{rules}
 use Rattle.line_queue.proofs.Rooms.{drained, served_more, served_with}
 use Rattle.line_queue.proofs.serving.+fn-serve_rooms-join+arg3+serve_rooms.Goals as goal

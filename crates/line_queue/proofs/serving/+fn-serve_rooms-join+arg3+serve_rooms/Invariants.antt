@@ -1,3 +1,4 @@
+-- What becomes less at each call of serve_rooms by itself.
 use Rattle.std.proofs.Common.{vec_len}
 use Rattle.line_queue.proofs.serving.+fn-serve_rooms-join+arg3+serve_rooms.Given as goal
 

@@ -1,3 +1,4 @@
+-- rooms_of: so many rooms, each with so many places.
 use Rattle.std.proofs.Common.{rules, refl}
 use Rattle.line_queue.proofs.Rooms.{made_more}
 use Rattle.line_queue.proofs.serving.rooms_of.Goals as goal

@@ -1,3 +1,4 @@
+-- The loops of rooms_of: so many rooms, each with so many places.
 use Rattle.std.proofs.Common.{◌≡◌, ◌≤◌, vec_len, vec_capacity, All}
 use Rattle.line_queue.specs.Serving.{IsUnused}
 use Rattle.line_queue.proofs.serving.rooms_of.Given as goal

@@ -1,3 +1,5 @@
+-- The loops of serve: takes lines until it finds none, or its room is full, and keeps what it makes
+-- of each.
 use Rattle.std.proofs.Common.{◌≡◌, false, [], None, All}
 use Rattle.crossbeam_queue.specs.Passes.{view, IsPassOf}
 use Rattle.line_queue.specs.Rule.{pass_view}

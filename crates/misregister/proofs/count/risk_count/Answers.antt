@@ -1,3 +1,5 @@
+-- risk_count: how many samples of the sheet are at risk where each plate shifts by at most `radius`
+-- samples to each side.
 use Rattle.std.proofs.Common.{◌≡◌, ℕ, length, ap, ◌∙◌, arith, count_by, nat_eq}
 use Rattle.misregister.specs.Sweep.{least_shade}
 use Rattle.misregister.proofs.CountLemmas.{risk_by}

@@ -1,3 +1,5 @@
+-- The loops of risk_count: how many samples of the sheet are at risk where each plate shifts by at
+-- most `radius` samples to each side.
 use Rattle.std.proofs.Common.{◌≡◌, ◌+◌, ◌<◌, ◌*◌, ℕ}
 use Rattle.plane_shapes.specs.Shapes.{wide, tall}
 use Rattle.misregister.specs.Sweep.{HasRoom, at, least_shade}

@@ -1,3 +1,4 @@
+-- The loops of whiten: no plate has ink yet.
 use Rattle.std.proofs.Common.{◌≡◌, ◌<◌, ℕ, slice_index}
 use Rattle.misregister.proofs.count.whiten.Given as goal
 

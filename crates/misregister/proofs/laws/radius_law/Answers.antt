@@ -1,3 +1,5 @@
+-- radius_law: a press that shifts further puts no fewer samples at risk, and one that does not
+-- shift puts none.
 use Rattle.misregister.proofs.RiskLaws.{risk_grows, risk_at_rest}
 use Rattle.misregister.proofs.laws.radius_law.Goals as goal
 

@@ -1,3 +1,4 @@
+-- The loops of begin: no column is bared yet.
 use Rattle.std.proofs.Common.{◌≡◌, ◌<◌, ℕ, slice_index}
 use Rattle.misregister.proofs.plate.begin.Given as goal
 

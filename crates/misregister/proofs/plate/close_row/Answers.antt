@@ -1,3 +1,4 @@
+-- close_row: the samples of row y that no row bares are not at risk.
 use Rattle.std.proofs.Common.{◌≡◌, nat_lt, length, slice_index, refl, arith, if◌then◌else◌}
 use Rattle.std.proofs.lemmas.Bool.Decides.{nat_tests}
 use Rattle.misregister.specs.Sweep.{at}

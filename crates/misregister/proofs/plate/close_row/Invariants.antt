@@ -1,3 +1,4 @@
+-- The loops of close_row: the samples of row y that no row bares are not at risk.
 use Rattle.std.proofs.Common.{ℕ, nat_lt, length, slice_index, if◌then◌else◌}
 use Rattle.misregister.specs.Sweep.{IsRowSoFar, at}
 use Rattle.misregister.proofs.plate.close_row.Given as goal

@@ -1,3 +1,4 @@
+-- darken_row: no sample of row y is lighter than the plate's row.
 use Rattle.std.proofs.Common.{ℕ, min, length, slice_index, refl, ap, ◌∙◌, arith}
 use Rattle.misregister.proofs.RowLemmas.{row_next, place_in}
 use Rattle.misregister.proofs.plate.darken_row.Goals as goal

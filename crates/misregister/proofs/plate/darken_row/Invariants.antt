@@ -1,3 +1,4 @@
+-- The loops of darken_row: no sample of row y is lighter than the plate's row.
 use Rattle.std.proofs.Common.{ℕ, min, length, slice_index}
 use Rattle.misregister.specs.Sweep.{IsRowSoFar, at}
 use Rattle.misregister.proofs.plate.darken_row.Given as goal

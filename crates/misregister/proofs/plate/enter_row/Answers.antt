@@ -1,3 +1,4 @@
+-- enter_row: asks plate c for row y, and notes where it has no ink and which columns the row bares.
 use Rattle.std.proofs.Common.{List, ℕ, slice_index, ap, ◌∙◌, arith}
 use Rattle.std.specs.Vec.{with_items}
 use Rattle.std.proofs.lemmas.List.{with_items_is}

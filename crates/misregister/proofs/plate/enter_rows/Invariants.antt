@@ -1,3 +1,4 @@
+-- The loops of enter_rows: asks plate c for the first rows.
 use Rattle.std.proofs.Common.{◌≡◌, ℕ, ◌+◌, ◌*◌, List}
 use Rattle.plane_shapes.specs.Shapes.{wide}
 use Rattle.misregister.specs.Sweep.{HasRoom, IsUnderWay}

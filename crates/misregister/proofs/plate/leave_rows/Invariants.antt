@@ -1,3 +1,4 @@
+-- The loops of leave_rows: closes the last rows, all rows having been asked.
 use Rattle.std.proofs.Common.{ℕ, ◌+◌, ◌≤◌, List}
 use Rattle.plane_shapes.specs.Shapes.{tall}
 use Rattle.misregister.specs.Sweep.{HasRoom, IsUnderWay}

@@ -1,3 +1,5 @@
+-- pass_rows: asks plate c for each row that is left, and closes the row that lies `radius` above
+-- it.
 use Rattle.std.proofs.Common.{◌+◌, ◌≤◌, min, refl, arith}
 use Rattle.plane_shapes.specs.Shapes.{tall}
 use Rattle.misregister.proofs.PlateLemmas.{way_at}

@@ -1,3 +1,5 @@
+-- The loops of pass_rows: asks plate c for each row that is left, and closes the row that lies
+-- `radius` above it.
 use Rattle.std.proofs.Common.{◌≡◌, ℕ, ◌+◌, ◌*◌, min, List}
 use Rattle.plane_shapes.specs.Shapes.{wide, tall}
 use Rattle.misregister.specs.Sweep.{HasRoom, IsUnderWay}

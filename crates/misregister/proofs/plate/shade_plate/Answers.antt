@@ -1,3 +1,4 @@
+-- shade_plate: darkens the samples by plate c, each of which is asked for once.
 use Rattle.std.proofs.Common.{List, ℕ, min, slice_index, ap, ◌∙◌, refl, arith}
 use Rattle.std.specs.Vec.{with_items}
 use Rattle.std.proofs.lemmas.List.{with_items_is}

@@ -1,3 +1,5 @@
+-- put_ahead: puts the value where a sample up to `lead` places ahead bares the place, as far as
+-- that sample lies in the row.
 use Rattle.std.proofs.Common.{◌≡◌, ◌+◌, ◌<◌, length, nat_lt, slice_index, ap, sym, ◌∙◌, inl, inr, arith, if◌then◌else◌}
 use Rattle.std.proofs.lemmas.Bool.{cases_eq}
 use Rattle.std.proofs.lemmas.Bool.Decides.{nat_tests}

@@ -1,3 +1,5 @@
+-- The loops of put_ahead: puts the value where a sample up to `lead` places ahead bares the place,
+-- as far as that sample lies in the row.
 use Rattle.std.proofs.Common.{◌≡◌, ◌+◌, ◌<◌, ◌≤◌, ℕ, nat_lt, slice_index, if◌then◌else◌}
 use Rattle.misregister.specs.Sweep.{bared_until, is_clear}
 use Rattle.misregister.proofs.row.put_ahead.Given as goal

@@ -1,3 +1,4 @@
+-- The loops of put_last: puts the value in the places from `from` on that are before `reach`.
 use Rattle.std.proofs.Common.{◌≡◌, ◌<◌, ◌≤◌, ℕ, nat_lt, slice_index, if◌then◌else◌}
 use Rattle.misregister.proofs.row.put_last.Given as goal
 

@@ -1,3 +1,4 @@
+-- put_near: puts the value in each place of a row that some sample without ink is near.
 use Rattle.std.proofs.Common.{ℕ, ◌+◌, Bool, nat_lt, length, slice_index, ap, ◌∙◌, inl, inr, arith, if◌then◌else◌}
 use Rattle.std.proofs.lemmas.Bool.{cases_lt}
 use Rattle.misregister.specs.Sweep.{is_clear}

@@ -1,3 +1,4 @@
+-- The loops of is_black: whether the sample has an ink that counts as black by these parameters.
 use Rattle.std.proofs.Common.{◌≡◌}
 use Rattle.page_model.specs.Page.{plates}
 use Rattle.page_model.specs.Within.{black_plate}

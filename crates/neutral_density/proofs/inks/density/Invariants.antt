@@ -1,3 +1,4 @@
+-- The loops of density: the neutral density of a sample.
 use Rattle.std.proofs.Common.{◌≡◌, ◌≤◌, ◌*◌}
 use Rattle.page_model.specs.Density.{weight}
 use Rattle.page_model.specs.Page.{plates, tint}

@@ -1,3 +1,5 @@
+-- The loops of is_shut: whether an OpaqueIgnore ink has a tint above 0 at the sample, which then
+-- takes no part in trapping.
 use Rattle.std.proofs.Common.{◌≡◌, ◌&&◌}
 use Rattle.std.specs.Prelude.{nat_lt}
 use Rattle.page_model.specs.Density.{shuts}

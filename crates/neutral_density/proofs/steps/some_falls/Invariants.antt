@@ -1,3 +1,4 @@
+-- How far the loops of `some_falls` have come.
 use Rattle.std.proofs.Common.{◌≡◌}
 use Rattle.page_model.specs.Apart.{falls}
 use Rattle.page_model.specs.Page.{plates}

@@ -1,3 +1,4 @@
+-- The loops of have_distinct_names: whether no two of the files have one name.
 use Rattle.std.proofs.Common.{◌≢◌, ℕ, ◌<◌}
 use Rattle.outside.specs.MemFiles.{file_at}
 use Rattle.outside.proofs.distinct_names.have_distinct_names.Given as goal

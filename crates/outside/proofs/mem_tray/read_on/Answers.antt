@@ -1,3 +1,4 @@
+-- read_on: reads on in a file of which so many bytes were taken.
 use Rattle.std.proofs.Common.{length, rules}
 use Rattle.outside.proofs.MemReads.{given}
 use Rattle.outside.proofs.mem_tray.read_on.Goals as goal

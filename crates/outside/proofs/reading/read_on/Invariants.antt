@@ -1,3 +1,4 @@
+-- The loops of read_on: reads on in the file that is begun.
 use Rattle.std.proofs.Common.{◌≡◌, IsTrue, ◌++◌, ◌≤◌, ◌-◌, length}
 use Rattle.outside.specs.Tray.{KeepsTray}
 use Rattle.outside.proofs.reading.read_on.Given as goal

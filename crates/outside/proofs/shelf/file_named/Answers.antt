@@ -1,3 +1,4 @@
+-- file_named: the bytes of the last file of that name.
 use Rattle.std.proofs.Common.{rules, ◌≡◌, [], ◌∷◌, ◌++◌, ◌+◌, take, Some, Bool, cond, true, false, List, ℕ, ap, sym, ◌∙◌}
 use Rattle.std.specs.Option.{option_copied}
 use Rattle.std.specs.Str.{bytes_eq}

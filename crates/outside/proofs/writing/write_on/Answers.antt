@@ -1,3 +1,4 @@
+-- write_on: writes a piece at the end of the open file.
 use Rattle.std.proofs.Common.{rules, IsTrue, take, drop, length, ◌-◌, refl, ◌∙◌, arith}
 use Rattle.outside.proofs.Files.{grows_none, grows_more, grows_all}
 use Rattle.outside.proofs.Steps.{write_failed}

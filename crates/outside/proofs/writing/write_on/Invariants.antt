@@ -1,3 +1,4 @@
+-- The loops of write_on: writes a piece at the end of the open file.
 use Rattle.std.proofs.Common.{◌≡◌, IsTrue, ◌≤◌, ◌-◌, length, take}
 use Rattle.outside.specs.Rack.{KeepsRack}
 use Rattle.outside.specs.Writing.{Grows}

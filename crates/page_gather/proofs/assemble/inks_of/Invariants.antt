@@ -1,3 +1,4 @@
+-- How far the loops of `inks_of` have come.
 use Rattle.std.proofs.Common.{◌≡◌, map, take}
 use Rattle.page_gather.specs.Assembly.{ink_of}
 use Rattle.page_gather.proofs.assemble.inks_of.Given as goal

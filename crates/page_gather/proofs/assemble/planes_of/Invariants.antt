@@ -1,3 +1,5 @@
+-- The loops of planes_of: the planes of these plates, each with the tints that its samples stand
+-- for.
 use Rattle.std.proofs.Common.{◌≡◌, ◌++◌, map}
 use Rattle.std.specs.Vec.Iter.{into_iter_items}
 use Rattle.pgm_plates.specs.Planes.{plane_of}

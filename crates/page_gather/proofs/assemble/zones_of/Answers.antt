@@ -1,3 +1,4 @@
+-- What `zones_of` has to show.
 use Rattle.std.proofs.Common.{◌<◌, length, arith}
 use Rattle.std.proofs.lemmas.List.Edits.{map_over_more}
 use Rattle.page_gather.specs.Assembly.{zone_for}

@@ -1,3 +1,4 @@
+-- How far the loops of `zones_of` have come.
 use Rattle.std.proofs.Common.{◌≡◌, ◌++◌, map, take, drop}
 use Rattle.page_gather.specs.Assembly.{zone_for}
 use Rattle.page_gather.proofs.assemble.zones_of.Given as goal

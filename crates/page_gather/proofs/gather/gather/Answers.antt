@@ -1,3 +1,5 @@
+-- gather: reads the job of that name and then each plate in the order of its file, to their ends,
+-- and makes the page of them.
 use Rattle.std.proofs.Common.{map}
 use Rattle.page_gather.proofs.GatherLemmas.{job_refused}
 use Rattle.page_gather.proofs.gather.gather.Goals as goal

@@ -1,3 +1,4 @@
+-- gather_plates: reads the plates after the job, and makes the page of both.
 use Rattle.std.proofs.Common.{map}
 use Rattle.page_gather.proofs.GatherLemmas.{can_assemble, page_made, plates_refused, some_inputs}
 use Rattle.page_gather.proofs.gather.gather_plates.Goals as goal

@@ -1,3 +1,4 @@
+-- read_job_file: reads the job of that name.
 use Rattle.std.proofs.Common.{subst, List, ℕ}
 use Rattle.job_reader.specs.Jobs.{job_of}
 use Rattle.ps_tokens.specs.Tokens.{Gives}

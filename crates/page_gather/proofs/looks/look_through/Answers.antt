@@ -1,3 +1,4 @@
+-- look_through: looks into each of these files in order, up to the first that is refused.
 use Rattle.std.proofs.Common.{◌≡◌, ◌<◌, ◌++◌, ◌∷◌, [], length, rules, arith, sym}
 use Rattle.page_gather.proofs.LookLemmas.{look_refused, more_so_far, no_room}
 use Rattle.page_gather.proofs.looks.look_through.Goals as goal

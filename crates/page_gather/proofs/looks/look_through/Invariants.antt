@@ -1,3 +1,5 @@
+-- The loops of look_through: looks into each of these files in order, up to the first that is
+-- refused.
 use Rattle.std.proofs.Common.{map}
 use Rattle.page_gather.proofs.LookLemmas.{SoFar}
 use Rattle.page_gather.proofs.looks.look_through.Given as goal

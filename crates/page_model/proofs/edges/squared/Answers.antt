@@ -1,3 +1,4 @@
+-- What `squared` has to show.
 use Rattle.std.proofs.Common.{◌≤◌, ◌*◌, arith}
 use Rattle.std.proofs.Math.Nat.{mul-le-mul}
 use Rattle.page_model.proofs.edges.squared.Goals as goal

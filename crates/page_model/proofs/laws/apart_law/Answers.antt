@@ -1,3 +1,4 @@
+-- apart_law: whether two samples are apart does not depend on their order.
 use Rattle.page_model.proofs.DensityLemmas.{apart_comm}
 use Rattle.page_model.proofs.laws.apart_law.Goals as goal
 

@@ -1,3 +1,5 @@
+-- decider_law: the decider of a sample decides, and no deciding edge of the page is less in squared
+-- distance, column and row.
 use Rattle.page_model.proofs.DeciderLemmas.{decider_found, decider_none}
 use Rattle.page_model.proofs.laws.decider_law.Goals as goal
 

@@ -1,3 +1,5 @@
+-- full_density_law: a sample's full tints are at least as dense as its tints, and those of a
+-- trapped sample have a density above 0.
 use Rattle.page_model.proofs.DensityLemmas.{density-le-full, trapped-pos}
 use Rattle.page_model.proofs.laws.full_density_law.Goals as goal
 

@@ -1,3 +1,4 @@
+-- locality_law: a sample without a decider, or whose decider is not within, keeps its tints.
 use Rattle.page_model.proofs.ReachLaws.{keeps_unless_within, keeps_by_edges}
 use Rattle.page_model.proofs.laws.locality_law.Goals as goal
 

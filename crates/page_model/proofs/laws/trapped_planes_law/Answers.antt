@@ -1,3 +1,4 @@
+-- trapped_planes_law: the planes of a page after trapping are in range.
 use Rattle.page_model.proofs.TrappedPlanes.{planes_in_range, few_in_planes}
 use Rattle.page_model.proofs.laws.trapped_planes_law.Goals as goal
 

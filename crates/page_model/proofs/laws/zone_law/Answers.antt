@@ -1,3 +1,5 @@
+-- zone_law: the zone of a sample is the last one whose path winds round it, and zone 0 where there
+-- is none.
 use Rattle.page_model.proofs.ZoneLemmas.{zone_of-is}
 use Rattle.page_model.proofs.laws.zone_law.Goals as goal
 

@@ -1,3 +1,5 @@
+-- keep: drops the limits of all names that are not in the list, and keeps the others in their
+-- order.
 use Rattle.std.proofs.Common.{rules}
 use Rattle.std.proofs.lemmas.Fn.{filter_same}
 use Rattle.page_model.proofs.limits.keep.Goals as goal

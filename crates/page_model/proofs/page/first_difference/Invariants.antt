@@ -1,3 +1,4 @@
+-- The loops of first_difference: the first plate that differs from plate 0.
 use Rattle.std.proofs.Common.{◌≡◌}
 use Rattle.page_model.specs.Faults.{difference}
 use Rattle.page_model.specs.Page.{plates}

@@ -1,3 +1,4 @@
+-- How far the loops of `first_wide` have come.
 use Rattle.std.proofs.Common.{◌≡◌, length}
 use Rattle.page_model.specs.Faults.{too_wide}
 use Rattle.lists.specs.Words.{first_some}

@@ -1,3 +1,4 @@
+-- outcome_of: traps a page by so many workers, in bands of so many rows, and reports what changed.
 use Rattle.std.proofs.Common.{sym, subst}
 use Rattle.page_model.specs.declared.parts.Counts.{Counts}
 use Rattle.trap_report.specs.Report.{AreCounts}

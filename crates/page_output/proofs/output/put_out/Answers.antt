@@ -1,3 +1,4 @@
+-- put_out: traps the page and writes its files, and gives the receipt.
 use Rattle.std.proofs.Common.{List, Result, All, length, map, refl, ap, sym, ◌∙◌, subst}
 use Rattle.std.proofs.lemmas.List.{length-map}
 use Rattle.page_model.specs.declared.parts.Plane.{Plane}

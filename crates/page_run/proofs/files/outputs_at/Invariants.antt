@@ -1,3 +1,4 @@
+-- The loops of outputs_at: the files that the plates of a page are written into.
 use Rattle.std.proofs.Common.{◌≡◌, map, string_bytes, take}
 use Rattle.plain_words.specs.Parts.{parts_of}
 use Rattle.plain_words.specs.Plates.{outputs_of}

@@ -1,3 +1,4 @@
+-- gather_images: reads the images of the page after its job, and makes the page of both.
 use Rattle.std.proofs.Common.{ℕ, List, Bor, map, Ok, Err, sym, ap, ◌∙◌, subst, arith}
 use Rattle.page_gather.specs.Assembly.{assembly_of_planes}
 use Rattle.page_run.specs.Opened.{order_in}

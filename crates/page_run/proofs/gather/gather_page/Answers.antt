@@ -1,3 +1,4 @@
+-- gather_page: reads the page of that number, counted from 0.
 use Rattle.std.proofs.Common.{Err, sym, subst}
 use Rattle.page_run.specs.Gathering.{GathersPage}
 use Rattle.page_run.specs.Opened.{order_in}

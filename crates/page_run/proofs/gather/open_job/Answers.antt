@@ -1,3 +1,4 @@
+-- open_job: reads the job of a run.
 use Rattle.std.proofs.Common.{refl}
 use Rattle.page_run.specs.Gathering.{OpensJob}
 use Rattle.page_run.proofs.OpenLemmas.{run_held}

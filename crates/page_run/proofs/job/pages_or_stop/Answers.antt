@@ -1,3 +1,4 @@
+-- pages_or_stop: the pages of a job of these bytes, or its first refusal.
 use Rattle.std.proofs.Common.{ℕ, ◌≤◌, length, Result, Ok, Err, List, refl, ap, ◌∙◌, arith}
 use Rattle.job_pages.specs.declared.passages.Passage.{Passage}
 use Rattle.job_pages.specs.declared.run.RunRefusal.{RunRefusal}

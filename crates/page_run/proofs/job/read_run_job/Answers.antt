@@ -1,3 +1,4 @@
+-- read_run_job: reads the job of that name.
 use Rattle.std.proofs.Common.{arith}
 use Rattle.page_run.proofs.JobLemmas.{job_judged}
 use Rattle.page_run.proofs.job.read_run_job.Goals as goal

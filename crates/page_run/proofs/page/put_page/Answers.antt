@@ -1,3 +1,4 @@
+-- put_page: traps a page and writes its files, each under its name and the page's number.
 use Rattle.std.proofs.Common.{Global, Result, length, map, string_bytes, ap, sym, ◌∙◌, subst}
 use Rattle.band_claims.specs.Receipt.{Receipt}
 use Rattle.page_output.specs.Output.{PutsOut}

@@ -1,3 +1,4 @@
+-- trap_one: reads the page of that number, traps it, and writes its files.
 use Rattle.page_run.proofs.PutLemmas.{gathered_and_put, not_gathered}
 use Rattle.page_run.specs.Opened.{order_in}
 use Rattle.page_run.specs.Words.{sources_of, targets_of}

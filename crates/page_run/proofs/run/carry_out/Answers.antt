@@ -1,3 +1,5 @@
+-- carry_out: reads the job, and page after page reads, traps and writes; and looks after the last
+-- page.
 use Rattle.page_run.proofs.RunLemmas.{carried, not_carried}
 use Rattle.page_run.proofs.run.carry_out.Goals as goal
 

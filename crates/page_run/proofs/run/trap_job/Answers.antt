@@ -1,3 +1,4 @@
+-- trap_job: traps all pages of a job that was read, and looks after the last one.
 use Rattle.std.proofs.Common.{◌≡◌, ℕ, List, Bor, map, ap, ◌∙◌, subst, arith}
 use Rattle.page_run.proofs.RunLemmas.{looked_after, same_count}
 use Rattle.page_run.specs.Opened.{order_in}

@@ -1,3 +1,4 @@
+-- trap_pages: traps all pages of the job, in their order.
 use Rattle.std.proofs.Common.{◌≡◌, ◌<◌, length, [], refl, arith}
 use Rattle.page_run.proofs.PageLemmas.{no_page_done, pages_more, pages_stopped}
 use Rattle.page_run.proofs.RunLemmas.{same_count}

@@ -1,3 +1,4 @@
+-- The loops of trap_pages: traps all pages of the job, in their order.
 use Rattle.std.proofs.Common.{◌≡◌, List, length}
 use Rattle.outside.specs.Tray.{TrayState}
 use Rattle.page_model.specs.declared.parts.PageParts.{PageParts}

@@ -1,3 +1,4 @@
+-- refuse_words: words that are no run are refused by this program's own usage line.
 use Rattle.std.proofs.Common.{ℕ, List, refl, subst}
 use Rattle.refusals.specs.Telling.{TellsText}
 use Rattle.page_run.proofs.top.refuse_words.Goals as goal

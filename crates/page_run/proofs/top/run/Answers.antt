@@ -1,3 +1,4 @@
+-- What `run` has to show.
 use Rattle.std.proofs.Common.{sym}
 use Rattle.page_run.specs.Endings.EndsWords.{run}
 use Rattle.page_run.specs.Opened.{order_in}

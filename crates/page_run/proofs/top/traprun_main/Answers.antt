@@ -1,3 +1,5 @@
+-- traprun_main: traps each page of a job of many pages, and answers the status that the program
+-- ends with.
 use Rattle.std.proofs.Common.{map, string_bytes, Global}
 use Rattle.page_run.proofs.ClauseLemmas.{success, usage_ends, refused_input, read_fault, write_fault, leaves_pages, fault_line, completeness}
 use Rattle.page_run.proofs.top.traprun_main.Goals as goal

@@ -1,3 +1,4 @@
+-- The loops of plane_tints: the tints of one plate, from its tints in the eight colours.
 use Rattle.std.proofs.Common.{◌≡◌}
 use Rattle.lists.specs.Words.{list_below}
 use Rattle.page_source.specs.Sample.{tint_at}

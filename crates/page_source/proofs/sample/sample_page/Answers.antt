@@ -1,3 +1,4 @@
+-- sample_page: the sample page of that number.
 use Rattle.std.proofs.Common.{sym, subst}
 use Rattle.page_model.specs.Conditions.{IsParts}
 use Rattle.page_source.proofs.SampleLemmas.{is_parts}

@@ -1,3 +1,5 @@
+-- The loops of are_alike: whether so many samples, from one on, lie in the zone of the first of
+-- them.
 use Rattle.std.proofs.Common.{◌≡◌, ◌<◌, ◌+◌, ℕ, not, true, false, slice_index}
 use Rattle.std.specs.Prelude.{◌==◌}
 use Rattle.lists.specs.Words.{any_below}

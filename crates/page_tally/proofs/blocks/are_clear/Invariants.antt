@@ -1,3 +1,4 @@
+-- The loops of are_clear: whether none of so many samples, from one on, is noted.
 use Rattle.std.proofs.Common.{◌≡◌, ◌<◌, ◌+◌, ℕ, true, false, slice_index_or}
 use Rattle.lists.specs.Words.{any_below}
 use Rattle.page_tally.proofs.blocks.are_clear.Given as goal

@@ -1,3 +1,4 @@
+-- count_block: counts for each zone the samples of row y that change, of some samples from one on.
 use Rattle.std.proofs.Common.{◌≡◌, ℕ, ◌+◌, ◌*◌, arith, subst}
 use Rattle.page_model.specs.Page.{width}
 use Rattle.page_tally.specs.Standing.{AreZonesCounted}

@@ -1,3 +1,5 @@
+-- The loops of count_block: counts for each zone the samples of row y that change, of some samples
+-- from one on.
 use Rattle.std.proofs.Common.{◌+◌, ◌*◌}
 use Rattle.page_model.specs.Page.{width}
 use Rattle.page_tally.specs.Standing.{AreZonesCounted}

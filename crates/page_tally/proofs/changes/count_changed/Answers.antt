@@ -1,3 +1,4 @@
+-- count_changed: counts for each zone the samples of row y that change.
 use Rattle.std.proofs.Common.{◌≡◌, ◌∙◌, true, sym, arith, rules}
 use Rattle.page_tally.proofs.CountLemmas.{counted_row, run_passed}
 use Rattle.page_tally.proofs.changes.count_changed.Goals as goal

@@ -1,3 +1,4 @@
+-- The loops of count_changed: counts for each zone the samples of row y that change.
 use Rattle.std.proofs.Common.{◌≤◌, ◌+◌, ◌-◌, ◌*◌, length}
 use Rattle.page_model.specs.Page.{width}
 use Rattle.page_tally.specs.Standing.{AreZonesCounted}

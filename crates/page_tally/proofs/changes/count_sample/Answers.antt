@@ -1,3 +1,4 @@
+-- count_sample: counts sample x of row y in its zone, where it changes.
 use Rattle.std.proofs.Common.{◌≡◌, ◌<◌, arith, true, false, length, refl}
 use Rattle.page_model.specs.Counts.{sample_changes}
 use Rattle.page_model.specs.Zones.{zone_of}

@@ -1,3 +1,4 @@
+-- The loops of differences_here: how many tints of a block differ.
 use Rattle.std.proofs.Common.{◌≡◌, ◌≤◌, length, not, slice_index}
 use Rattle.std.specs.Prelude.{◌==◌}
 use Rattle.lists.specs.Words.{count_below}

@@ -1,3 +1,4 @@
+-- The loops of note_differences: notes where the tints differ.
 use Rattle.std.proofs.Common.{◌≡◌, ◌≤◌, ◌<◌, ◌||◌, ℕ, false, length, not, slice_index, slice_index_or}
 use Rattle.std.specs.Prelude.{◌==◌}
 use Rattle.page_tally.proofs.changes.note_differences.Given as goal

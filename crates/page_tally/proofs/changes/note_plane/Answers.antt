@@ -1,3 +1,5 @@
+-- note_plane: notes the samples of row y at which plate c, whose plane has all its new tints,
+-- changes.
 use Rattle.std.proofs.Common.{◌≡◌, ◌∙◌, ◌||◌, Bool, true, false, ap, arith, rules}
 use Rattle.std.specs.Prelude.{slice_index_or}
 use Rattle.page_tally.proofs.CountLemmas.{alike_here, changes_here, or_none}

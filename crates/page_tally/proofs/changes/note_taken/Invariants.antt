@@ -1,3 +1,4 @@
+-- The loops of note_taken: notes the samples of row y at which some plate changes.
 use Rattle.std.proofs.Common.{◌≡◌, ◌<◌, ℕ, false, length, slice_index_or}
 use Rattle.page_model.specs.Counts.{plate_changes}
 use Rattle.page_model.specs.Page.{plates, width}

@@ -1,3 +1,4 @@
+-- count_each: counts the samples of row y from one on and before another, each in its zone.
 use Rattle.std.proofs.Common.{◌≡◌, ℕ, ◌+◌, ◌*◌, arith, subst}
 use Rattle.page_model.specs.Page.{width}
 use Rattle.page_tally.specs.Standing.{AreSamplesCounted}

@@ -1,3 +1,4 @@
+-- count_run: counts so many samples of row y, from sample x on, in the zone that they all lie in.
 use Rattle.std.proofs.Common.{◌≡◌, ◌<◌, ◌∙◌, arith, sym, length, refl}
 use Rattle.page_model.specs.Zones.{zone_of}
 use Rattle.page_tally.proofs.CountLemmas.{run_fits, run_tallied, zone_known}

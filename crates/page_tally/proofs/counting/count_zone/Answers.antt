@@ -1,3 +1,4 @@
+-- count_zone: counts sample x of row y in its zone.
 use Rattle.std.proofs.Common.{◌≡◌, ◌<◌, arith, length, refl}
 use Rattle.page_model.specs.Zones.{zone_of}
 use Rattle.page_tally.proofs.CountLemmas.{sample_fits, sample_tallied, zone_known}

@@ -1,3 +1,4 @@
+-- count_zones: counts the samples of row y in their zones, block by block.
 use Rattle.std.proofs.Common.{arith}
 use Rattle.page_tally.proofs.CountLemmas.{samples_row}
 use Rattle.page_tally.proofs.counting.count_zones.Goals as goal

@@ -1,3 +1,4 @@
+-- The loops of count_zones: counts the samples of row y in their zones, block by block.
 use Rattle.std.proofs.Common.{◌≤◌, ◌+◌, ◌-◌, ◌*◌, length}
 use Rattle.page_model.specs.Page.{width}
 use Rattle.page_tally.specs.Standing.{AreSamplesCounted}

@@ -1,3 +1,4 @@
+-- copies_of: copies of all plates.
 use Rattle.std.proofs.Common.{arith, ap, sym, subst, length, List, ◌∷◌, []}
 use Rattle.std.proofs.lemmas.List.{length-append}
 use Rattle.page_model.specs.declared.parts.Plane.{Plane}

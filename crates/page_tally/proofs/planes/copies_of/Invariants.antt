@@ -1,3 +1,4 @@
+-- The loops of copies_of: copies of all plates.
 use Rattle.std.proofs.Common.{◌≡◌, ◌<◌, ℕ, length}
 use Rattle.page_model.specs.Page.{plates}
 use Rattle.page_model.specs.Planes.{plane_at}

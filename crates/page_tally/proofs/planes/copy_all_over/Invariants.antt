@@ -1,3 +1,4 @@
+-- The loops of copy_all_over: copies all plates over planes that have as many tints.
 use Rattle.std.proofs.Common.{◌≡◌, ◌<◌, ◌≤◌, ℕ, length}
 use Rattle.page_model.specs.Page.{plates, samples}
 use Rattle.page_model.specs.Planes.{plane_at}

@@ -1,3 +1,5 @@
+-- put_block: puts the new tints of some samples of plate c into row y of its plane, from sample x
+-- on, where they are not those of the page.
 use Rattle.std.proofs.Common.{◌≡◌, ◌∙◌, true, arith, rules, ap, sym, List, ℕ}
 use Rattle.std.specs.Prelude.{slice_index}
 use Rattle.page_tally.proofs.StandingLemmas.{row_kept}

@@ -1,3 +1,4 @@
+-- put_each: puts the new tints of plate c into row y of its plane, block by block.
 use Rattle.std.proofs.Common.{arith}
 use Rattle.page_tally.proofs.StandingLemmas.{row_all, row_none}
 use Rattle.page_tally.proofs.planes.put_each.Goals as goal

@@ -1,3 +1,4 @@
+-- The loops of put_each: puts the new tints of plate c into row y of its plane, block by block.
 use Rattle.std.proofs.Common.{◌≤◌, ◌+◌, ◌-◌, ◌*◌}
 use Rattle.page_model.specs.Page.{width}
 use Rattle.page_tally.specs.Standing.{IsTrappedTo}

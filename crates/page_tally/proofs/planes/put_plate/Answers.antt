@@ -1,3 +1,4 @@
+-- put_plate: puts the new tints of plate c into its row y, where they are not those of the page.
 use Rattle.std.proofs.Common.{◌∙◌}
 use Rattle.page_tally.specs.Standing.{IsPlateRow, IsTintRow}
 use Rattle.page_tally.proofs.StandingLemmas.{plate_same}

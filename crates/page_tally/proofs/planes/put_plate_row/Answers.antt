@@ -1,3 +1,5 @@
+-- put_plate_row: puts the new tints of plate c into row y of its plane, where they are not those of
+-- the page, and tells how many are not.
 use Rattle.std.proofs.Common.{◌∙◌, arith}
 use Rattle.page_tally.specs.Standing.{IsTintRow}
 use Rattle.page_tally.proofs.CountLemmas.{row_alike, row_differences}

@@ -1,3 +1,4 @@
+-- put_row: puts the new tints of row y into the planes.
 use Rattle.std.proofs.Common.{arith}
 use Rattle.page_tally.proofs.StandingLemmas.{trapping_all}
 use Rattle.page_tally.proofs.planes.put_row.Goals as goal

@@ -1,3 +1,4 @@
+-- The loops of put_row: puts the new tints of row y into the planes.
 use Rattle.std.proofs.Common.{◌≡◌, ◌*◌}
 use Rattle.page_model.specs.Page.{plates, width}
 use Rattle.page_tally.specs.Standing.{AreTrapping}

@@ -1,3 +1,5 @@
+-- put_samples: puts the new tints of plate c into row y of its plane, sample by sample from one on
+-- and before another.
 use Rattle.std.proofs.Common.{◌≡◌, ℕ, ◌+◌, ◌*◌, arith, subst}
 use Rattle.page_model.specs.Page.{width}
 use Rattle.page_tally.specs.Standing.{IsTrappedTo}

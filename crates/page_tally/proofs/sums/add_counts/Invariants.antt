@@ -1,3 +1,4 @@
+-- The loops of add_counts: adds to each count the other of its place.
 use Rattle.std.proofs.Common.{◌≡◌, ℕ, ◌+◌, ◌<◌, ◌≤◌, length, slice_index}
 use Rattle.page_tally.proofs.sums.add_counts.Given as goal
 

@@ -1,3 +1,5 @@
+-- write_page: writes each plane as a plate into the file of its name, and then the text into the
+-- report, as this project orders them.
 use Rattle.std.proofs.Common.{map, ◌∙◌, sym}
 use Rattle.std.proofs.lemmas.List.{length-map}
 use Rattle.page_writing.proofs.Steps.{page_written, report_broken, plates_broken}

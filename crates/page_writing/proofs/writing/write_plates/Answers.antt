@@ -1,3 +1,5 @@
+-- write_plates: writes each plane as a plate into the file of its name, in order, as far as
+-- `write_page` goes before the report.
 use Rattle.std.proofs.Common.{map, List, subst, rules, ◌≡◌, ◌++◌, [], ◌∷◌, ◌∙◌, sym, ap, arith}
 use Rattle.std.proofs.lemmas.List.{append_assoc, append-nil, length-append, length-map, nil_from_length}
 use Rattle.std.specs.Vec.Iter.{into_iter_items}

@@ -1,3 +1,5 @@
+-- The loops of write_plates: writes each plane as a plate into the file of its name, in order, as
+-- far as `write_page` goes before the report.
 use Rattle.std.proofs.Common.{◌≡◌, ◌++◌, IsTrue, length, map}
 use Rattle.std.specs.Vec.Iter.{into_iter_items}
 use Rattle.outside.specs.Rack.{KeepsRack}

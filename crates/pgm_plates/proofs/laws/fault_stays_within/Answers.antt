@@ -1,3 +1,4 @@
+-- fault_stays_within: within any bounds.
 use Rattle.pgm_plates.proofs.Facts.{fault_stays_within}
 use Rattle.pgm_plates.proofs.laws.fault_stays_within.Goals as goal
 

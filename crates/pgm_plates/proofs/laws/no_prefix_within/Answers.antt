@@ -1,3 +1,4 @@
+-- no_prefix_within: within any bounds.
 use Rattle.pgm_plates.proofs.Facts.{no_prefix_within}
 use Rattle.pgm_plates.proofs.laws.no_prefix_within.Goals as goal
 

@@ -1,3 +1,4 @@
+-- one_fault: bytes have at most one fault.
 use Rattle.pgm_plates.proofs.Facts.{one_fault}
 use Rattle.pgm_plates.proofs.laws.one_fault.Goals as goal
 

@@ -1,3 +1,4 @@
+-- read_image: reads one image from what is left of the file, and says how many bytes it has.
 use Rattle.std.proofs.Common.{◌*◌, ◌+◌, ap, ℕ}
 use Rattle.pgm_plates.specs.declared.bounds.Bounds.TheVariants.{Page}
 use Rattle.pgm_plates.specs.Readers.{samples_from}

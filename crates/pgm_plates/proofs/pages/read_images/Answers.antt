@@ -1,3 +1,4 @@
+-- read_images: reads on to the image of that number.
 use Rattle.std.proofs.Common.{ℕ, Option, Ok, Err, sym, subst, rules, arith}
 use Rattle.pgm_plates.specs.declared.plate.PlateRefusal.{PlateRefusal}
 use Rattle.pgm_plates.specs.declared.values.Values.{Values}

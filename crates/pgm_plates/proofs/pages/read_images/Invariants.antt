@@ -1,3 +1,4 @@
+-- The loops of read_images: reads on to the image of that number.
 use Rattle.pgm_plates.specs.Images.{Passed}
 use Rattle.pgm_plates.proofs.pages.read_images.Given as goal
 

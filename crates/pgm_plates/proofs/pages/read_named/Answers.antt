@@ -1,3 +1,5 @@
+-- read_named: reads the image of that number from the file of that name, and keeps its samples in
+-- that form.
 use Rattle.pgm_plates.specs.Planes.{map_ok, map_some}
 use Rattle.pgm_plates.specs.Readers.{plate_from}
 use Rattle.pgm_plates.proofs.Sequences.{page_begun, page_not_begun}

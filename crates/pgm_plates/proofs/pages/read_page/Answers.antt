@@ -1,3 +1,5 @@
+-- read_page: reads the plate of that number, counted from 0, of the file of that name, in which
+-- plate files stand one directly after the other; or none, where there are at most so many.
 use Rattle.std.proofs.Common.{Option, Some, Ok, sym, subst}
 use Rattle.pgm_plates.specs.declared.plate.Plate.{Plate}
 use Rattle.pgm_plates.specs.declared.values.Form.TheVariants.{Samples}

@@ -1,3 +1,4 @@
+-- read_page_plane: reads the plate of that number as its plane.
 use Rattle.std.proofs.Common.{Option, Some, Ok, IfSome, sym, subst, ◌≤◌, ◌*◌}
 use Rattle.page_model.specs.Conditions.{IsPlane}
 use Rattle.page_model.specs.Limits.{most_samples}

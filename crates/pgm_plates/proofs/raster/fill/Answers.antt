@@ -1,3 +1,5 @@
+-- fill: reads until the buffer is full, the file ends or a read fails, and says how many bytes are
+-- there.
 use Rattle.std.proofs.Common.{◌∙◌, ◌+◌, ◌-◌, ◌++◌, take, length, rules}
 use borrow.Rule.Slice.PartMut.{put_mid}
 use Rattle.outside.proofs.Steps.{takes_then, takes_as, takes_read, filled_more}

@@ -1,3 +1,5 @@
+-- The loops of fill: reads until the buffer is full, the file ends or a read fails, and says how
+-- many bytes are there.
 use Rattle.std.proofs.Common.{◌≡◌, ◌≤◌, ◌-◌, take, length}
 use Rattle.outside.specs.Reading.{Takes}
 use Rattle.pgm_plates.proofs.raster.fill.Given as goal

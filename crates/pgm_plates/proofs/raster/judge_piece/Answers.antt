@@ -1,3 +1,4 @@
+-- judge_piece: reads as many bytes as there is room for, and judges the samples that they spell.
 use Rattle.std.proofs.Common.{◌≡◌, ◌*◌, ◌+◌, List, length, take, ap, sym, subst, ◌∙◌, ℕ, arith}
 use Rattle.std.proofs.lemmas.List.{length-take-le, take_all}
 use Rattle.pgm_plates.specs.Plates.{sample_size}

@@ -1,3 +1,4 @@
+-- read_piece: reads as many samples as there is room for.
 use Rattle.std.proofs.Common.{rules, ◌≡◌, ◌*◌, length}
 use Rattle.pgm_plates.specs.Plates.{sample_size}
 use Rattle.pgm_plates.specs.Readers.{samples_spelled}

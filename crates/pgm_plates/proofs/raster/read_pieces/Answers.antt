@@ -1,3 +1,4 @@
+-- read_pieces: reads samples after the ones that are there, until there are that many.
 use Rattle.std.proofs.Common.{rules, arith, ◌≡◌, ◌≤◌, ◌*◌, ◌+◌, length, ap, ℕ, ◌∙◌}
 use Rattle.std.proofs.lemmas.Grind.{common_steps}
 use Rattle.pgm_plates.specs.Plates.{sample_size}

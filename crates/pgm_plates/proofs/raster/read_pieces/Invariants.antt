@@ -1,3 +1,4 @@
+-- The loops of read_pieces: reads samples after the ones that are there, until there are that many.
 use Rattle.std.proofs.Common.{◌≡◌, ◌≤◌, ◌-◌, length}
 use Rattle.outside.specs.Reading.{Takes}
 use Rattle.pgm_plates.specs.Plates.{raster}

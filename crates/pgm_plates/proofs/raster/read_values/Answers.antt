@@ -1,3 +1,4 @@
+-- read_values: reads as many samples as there is room for, and leaves them in that form.
 use Rattle.pgm_plates.proofs.ReadValues.{taken_from}
 use Rattle.pgm_plates.proofs.raster.read_values.Goals as goal
 

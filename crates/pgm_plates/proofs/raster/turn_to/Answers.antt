@@ -1,3 +1,4 @@
+-- turn_to: turns samples into that form.
 use Rattle.std.proofs.Common.{◌≡◌, sym, subst}
 use Rattle.pgm_plates.specs.declared.values.Form.{Form}
 use Rattle.pgm_plates.specs.Readers.{samples_from}

@@ -1,3 +1,4 @@
+-- end_of_file: looks for a byte after the raster.
 use Rattle.std.proofs.Common.{rules, arith, get_or, refl}
 use Rattle.std.proofs.lemmas.Grind.{common_steps}
 use Rattle.pgm_plates.proofs.Headers.{takes_one, takes_end, takes_failed}

@@ -1,3 +1,4 @@
+-- read_begun: reads a plate from the file that is begun.
 use Rattle.std.proofs.Common.{◌*◌, ◌+◌, ap, ℕ}
 use Rattle.pgm_plates.specs.Readers.{samples_from}
 use Rattle.pgm_plates.proofs.Wholes.{raster_refused, end_refused, plate_read}

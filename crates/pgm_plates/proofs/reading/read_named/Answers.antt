@@ -1,3 +1,4 @@
+-- read_named: reads a plate from the file of that name, and keeps its samples in that form.
 use Rattle.pgm_plates.specs.Planes.{map_ok}
 use Rattle.pgm_plates.specs.Readers.{plate_from}
 use Rattle.pgm_plates.proofs.Wholes.{begun_then, not_begun}

@@ -1,3 +1,4 @@
+-- read_plane: reads the plate of a page that the file of that name spells, as its plane.
 use Rattle.std.proofs.Common.{Ok, sym, subst, ◌≤◌, ◌*◌}
 use Rattle.page_model.specs.Conditions.{IsPlane}
 use Rattle.page_model.specs.Limits.{most_samples}

@@ -1,3 +1,4 @@
+-- read_plate_within: reads the plate within these bounds that the file of that name spells.
 use Rattle.std.proofs.Common.{Ok, sym, subst}
 use Rattle.pgm_plates.specs.declared.plate.Plate.{Plate}
 use Rattle.pgm_plates.specs.Reading.{ReadsPlateWithin}

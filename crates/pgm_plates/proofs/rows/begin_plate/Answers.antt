@@ -1,3 +1,5 @@
+-- begin_plate: begins the file of that name and reads the header of the plate within these bounds
+-- that it spells.
 use Rattle.pgm_plates.proofs.RowLemmas.{plate_begun}
 use Rattle.pgm_plates.proofs.Wholes.{not_begun}
 use Rattle.pgm_plates.proofs.rows.begin_plate.Goals as goal

@@ -1,3 +1,4 @@
+-- end_plate: looks for what stands after the last sample of a plate.
 use Rattle.std.proofs.Common.{◌+◌, ◌*◌, ap, ℕ}
 use Rattle.pgm_plates.proofs.RowLemmas.{end_answered}
 use Rattle.pgm_plates.proofs.rows.end_plate.Goals as goal

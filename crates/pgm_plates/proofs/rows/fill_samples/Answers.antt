@@ -1,3 +1,4 @@
+-- fill_samples: reads samples until there are as many as there is room for.
 use Rattle.std.proofs.Common.{arith, ◌≡◌, ◌≤◌, ◌*◌, ◌+◌, ◌-◌, length, ap, ℕ, ◌∙◌}
 use Rattle.std.proofs.lemmas.Grind.{common_steps}
 use borrow.Rule.Slice.PartMut.{put_mid}

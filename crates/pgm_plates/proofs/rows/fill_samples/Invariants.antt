@@ -1,3 +1,4 @@
+-- The loops of fill_samples: reads samples until there are as many as there is room for.
 use Rattle.std.proofs.Common.{◌≡◌, ◌≤◌, ◌-◌, take, length}
 use Rattle.outside.specs.Reading.{Takes}
 use Rattle.pgm_plates.specs.Plates.{raster}

@@ -1,3 +1,5 @@
+-- judge_rows: reads the next `count` samples of a plate, of which so many were read before, and
+-- keeps none of them.
 use Rattle.std.proofs.Common.{◌+◌, ◌*◌, ap, ℕ}
 use Rattle.pgm_plates.proofs.RowLemmas.{unkept_answered}
 use Rattle.pgm_plates.proofs.rows.judge_rows.Goals as goal

@@ -1,3 +1,4 @@
+-- judge_samples: judges so many samples.
 use Rattle.std.proofs.Common.{rules, arith, ◌≡◌, ◌*◌, ◌+◌, [], length, refl, ap, ℕ, ◌∙◌}
 use Rattle.pgm_plates.specs.Plates.{sample_size}
 use Rattle.pgm_plates.specs.Readers.{samples_spelled}

@@ -1,3 +1,4 @@
+-- The loops of judge_samples: judges so many samples.
 use Rattle.std.proofs.Common.{◌≡◌, ◌≤◌, ◌-◌, IsTrue}
 use Rattle.pgm_plates.proofs.RowLemmas.{Unkept}
 use Rattle.pgm_plates.proofs.rows.judge_samples.Given as goal

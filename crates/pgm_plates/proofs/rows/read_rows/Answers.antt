@@ -1,3 +1,5 @@
+-- read_rows: reads the next samples of a plate, of which so many were read before, row by row from
+-- the top.
 use Rattle.std.proofs.Common.{◌+◌, ◌*◌, ap, ℕ}
 use Rattle.pgm_plates.proofs.RowLemmas.{rows_answered}
 use Rattle.pgm_plates.proofs.rows.read_rows.Goals as goal

@@ -1,3 +1,4 @@
+-- What `are_wide_fit` has to show.
 use Rattle.std.proofs.Common.{sym, subst, ℕ}
 use Rattle.pgm_plates.specs.Readers.{Fit, wide_samples}
 use Rattle.pgm_plates.proofs.Spelled.{wide_below}

@@ -1,3 +1,4 @@
+-- How far the loops of `decode_narrow` have come.
 use Rattle.std.proofs.Common.{◌≡◌, take}
 use Rattle.pgm_plates.proofs.samples.decode_narrow.Given as goal
 

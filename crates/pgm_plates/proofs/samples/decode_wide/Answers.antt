@@ -1,3 +1,4 @@
+-- What `decode_wide` has to show.
 use Rattle.std.proofs.Common.{◌<◌, ◌≤◌, length, arith, rules}
 use Rattle.pgm_plates.specs.Readers.{wide_samples}
 use Rattle.pgm_plates.proofs.Spelled.{set_same, take_same, wide_size}

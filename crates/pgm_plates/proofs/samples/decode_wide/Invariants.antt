@@ -1,3 +1,4 @@
+-- How far the loops of `decode_wide` have come.
 use Rattle.std.proofs.Common.{◌≡◌, take}
 use Rattle.pgm_plates.specs.Readers.{wide_samples}
 use Rattle.pgm_plates.proofs.samples.decode_wide.Given as goal

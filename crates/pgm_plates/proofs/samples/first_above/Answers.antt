@@ -1,3 +1,5 @@
+-- first_above: the place of the first sample above the maxval among the whole samples that these
+-- bytes spell.
 use Rattle.std.proofs.Common.{◌≡◌, ◌<◌, ◌≤◌, ◌/◌, length, get_or, ℕ, sym, ap, ◌∙◌, arith}
 use Rattle.pgm_plates.specs.Readers.{samples_spelled}
 use Rattle.pgm_plates.proofs.Pieces.{fit_more, fit_end}

@@ -1,3 +1,4 @@
+-- What `most_narrow` has to show.
 use Rattle.std.proofs.Common.{rules}
 use Rattle.pgm_plates.proofs.Pieces.{most_more, fit_end}
 use Rattle.pgm_plates.proofs.samples.most_narrow.Goals as goal

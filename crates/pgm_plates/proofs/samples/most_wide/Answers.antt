@@ -1,3 +1,4 @@
+-- What `most_wide` has to show.
 use Rattle.std.proofs.Common.{◌<◌, ◌≤◌, length, max, ℕ, ap, ◌∙◌, arith}
 use Rattle.pgm_plates.specs.Readers.{wide_samples}
 use Rattle.pgm_plates.proofs.Pieces.{most_more, fit_end}

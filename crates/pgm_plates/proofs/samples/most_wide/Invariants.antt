@@ -1,3 +1,4 @@
+-- How far the loops of `most_wide` have come.
 use Rattle.std.proofs.Common.{◌≤◌, ℕ, take}
 use Rattle.std.specs.List.{All}
 use Rattle.pgm_plates.specs.Readers.{wide_samples}

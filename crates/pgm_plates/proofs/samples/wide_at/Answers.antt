@@ -1,3 +1,4 @@
+-- What `wide_at` has to show.
 use Rattle.std.proofs.Common.{sym}
 use Rattle.pgm_plates.proofs.Spelled.{wide_nth}
 use Rattle.pgm_plates.proofs.samples.wide_at.Goals as goal

@@ -1,3 +1,4 @@
+-- turn: turns samples into tints, or tints into samples, where they stand.
 use Rattle.std.proofs.Common.{◌-◌, ◌<◌, ℕ, length, arith}
 use Rattle.std.specs.Prelude.{slice_index_or}
 use Rattle.std.proofs.lemmas.List.{get_or_default}

@@ -1,3 +1,4 @@
+-- The loops of turn: turns samples into tints, or tints into samples, where they stand.
 use Rattle.std.proofs.Common.{◌≡◌, ◌-◌, ◌++◌, map, take, drop}
 use Rattle.pgm_plates.proofs.turning.turn.Given as goal
 

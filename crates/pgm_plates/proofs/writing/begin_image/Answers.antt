@@ -1,3 +1,5 @@
+-- begin_image: creates the file of that name and writes the header of a plate on it, in its
+-- canonical spelling.
 use Rattle.pgm_plates.proofs.WrittenRows.{image_begun}
 use Rattle.pgm_plates.proofs.writing.begin_image.Goals as goal
 

@@ -1,3 +1,4 @@
+-- end_image: finishes the file of a plate, after its last tint.
 use Rattle.pgm_plates.proofs.WrittenRows.{image_ended}
 use Rattle.pgm_plates.proofs.writing.end_image.Goals as goal
 

@@ -1,3 +1,4 @@
+-- fill_file: writes all of the open file, and finishes it.
 use Rattle.outside.proofs.Steps.{written_then_finished}
 use Rattle.pgm_plates.specs.Planes.{plate_in}
 use Rattle.pgm_plates.specs.Plates.{spelled}

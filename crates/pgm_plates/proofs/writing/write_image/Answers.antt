@@ -1,3 +1,4 @@
+-- What `write_image` has to show.
 use Rattle.outside.proofs.Steps.{created_then_filled}
 use Rattle.pgm_plates.specs.Planes.{plate_in}
 use Rattle.pgm_plates.specs.Plates.{spelled}

@@ -1,3 +1,5 @@
+-- write_rows: writes the samples of the next tints of a plane, row by row from the top, by pieces
+-- of as many bytes as there is room for in `bytes`.
 use Rattle.pgm_plates.proofs.WrittenRows.{rows_written}
 use Rattle.pgm_plates.proofs.writing.write_rows.Goals as goal
 

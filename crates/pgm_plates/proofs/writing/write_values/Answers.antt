@@ -1,3 +1,4 @@
+-- write_values: writes the samples of an image by pieces of as many bytes as there is room for.
 use Rattle.std.proofs.Common.{◌+◌, ◌-◌, ◌++◌, ◌∙◌, arith, take, drop, ap, Ok, Err, ◌≤◌}
 use Rattle.std.proofs.lemmas.List.{take_all, length-map}
 use Rattle.outside.proofs.Steps.{writes_then, writes_stopped, writes_as}

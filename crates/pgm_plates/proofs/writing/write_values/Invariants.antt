@@ -1,3 +1,5 @@
+-- The loops of write_values: writes the samples of an image by pieces of as many bytes as there is
+-- room for.
 use Rattle.std.proofs.Common.{◌≤◌, ◌-◌, take, length, Ok}
 use Rattle.outside.specs.declared.tray.Failed.{Failed}
 use Rattle.outside.specs.Writing.{WritesOn}

@@ -1,3 +1,4 @@
+-- What becomes less at each call of are_distinct by itself.
 use Rattle.std.proofs.Common.{length}
 use Rattle.plain_words.proofs.distinct.+are_distinct.Given as goal
 

@@ -1,3 +1,4 @@
+-- What becomes less at each call of is_among by itself.
 use Rattle.std.proofs.Common.{length}
 use Rattle.plain_words.proofs.distinct.+is_among.Given as goal
 

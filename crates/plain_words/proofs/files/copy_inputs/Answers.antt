@@ -1,3 +1,4 @@
+-- copy_inputs: the files that plates are read from, of words IN:OUT.
 use Rattle.std.proofs.Common.{◌≡◌, ℕ, List, IfOk, map, string_bytes, sym, subst}
 use Rattle.std.proofs.lemmas.Simd.{map-map}
 use Rattle.plain_words.specs.Parts.{CopyNames, copy_of}

@@ -1,3 +1,4 @@
+-- The loops of files_at: the file at that place of each word.
 use Rattle.std.proofs.Common.{◌≡◌, map, string_bytes, take}
 use Rattle.plain_words.specs.Files.{part_at}
 use Rattle.plain_words.proofs.files.files_at.Given as goal

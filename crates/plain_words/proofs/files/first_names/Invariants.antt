@@ -1,3 +1,4 @@
+-- The loops of first_names: the names of the colorants.
 use Rattle.std.proofs.Common.{◌≡◌, map, string_bytes, take}
 use Rattle.plain_words.specs.Parts.{before_colon}
 use Rattle.plain_words.proofs.files.first_names.Given as goal

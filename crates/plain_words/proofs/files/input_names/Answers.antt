@@ -1,3 +1,4 @@
+-- input_names: the names of the colorants, of words NAME:IN.
 use Rattle.std.proofs.Common.{◌≡◌, ℕ, List, IfOk, map, string_bytes, sym, subst}
 use Rattle.std.proofs.lemmas.Simd.{map-map}
 use Rattle.plain_words.specs.Parts.{InputNames, input_of}

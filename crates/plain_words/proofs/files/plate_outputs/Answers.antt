@@ -1,3 +1,4 @@
+-- plate_outputs: the files that plates are written into, of words NAME:IN:OUT.
 use Rattle.std.proofs.Common.{◌≡◌, ℕ, List, IfOk, map, string_bytes, sym, subst}
 use Rattle.std.proofs.lemmas.Simd.{map-map}
 use Rattle.plain_words.specs.Parts.{PlateNames, parts_of}

@@ -1,3 +1,4 @@
+-- What becomes less at each call of are_all_inputs by itself.
 use Rattle.std.proofs.Common.{length}
 use Rattle.plain_words.proofs.inputs.+are_all_inputs.Given as goal
 

@@ -1,3 +1,4 @@
+-- What becomes less at each call of have_distinct_names by itself.
 use Rattle.std.proofs.Common.{length}
 use Rattle.plain_words.proofs.inputs.+have_distinct_names.Given as goal
 

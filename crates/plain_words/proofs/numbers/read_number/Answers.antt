@@ -1,3 +1,4 @@
+-- read_number: the number that the word writes.
 use Rattle.std.proofs.Common.{◌<◌, sym, arith, rules}
 use Rattle.plain_words.proofs.NumberLemmas.{too_large}
 use Rattle.plain_words.proofs.numbers.read_number.Goals as goal

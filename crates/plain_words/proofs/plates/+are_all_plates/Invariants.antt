@@ -1,3 +1,4 @@
+-- What becomes less at each call of are_all_plates by itself.
 use Rattle.std.proofs.Common.{length}
 use Rattle.plain_words.proofs.plates.+are_all_plates.Given as goal
 

@@ -1,3 +1,4 @@
+-- What becomes less at each call of has_name by itself.
 use Rattle.std.proofs.Common.{length}
 use Rattle.plain_words.proofs.plates.+has_name.Given as goal
 

@@ -1,3 +1,4 @@
+-- What becomes less at each call of has_output by itself.
 use Rattle.std.proofs.Common.{length}
 use Rattle.plain_words.proofs.plates.+has_output.Given as goal
 

@@ -1,3 +1,4 @@
+-- What becomes less at each call of have_distinct_outputs by itself.
 use Rattle.std.proofs.Common.{length}
 use Rattle.plain_words.proofs.plates.+have_distinct_outputs.Given as goal
 

@@ -1,3 +1,4 @@
+-- page_planes_law: the planes of a page are of one shape, and so they are after trapping.
 use Rattle.plane_shapes.proofs.ShapeLemmas.{page_shape, trapped_shape}
 use Rattle.plane_shapes.proofs.laws.page_planes_law.Goals as goal
 

@@ -1,3 +1,5 @@
+-- begin_images: creates the files of these names, each by the rack of its number, and writes that
+-- header on each of them.
 use Rattle.std.proofs.Common.{◌<◌, ℕ, List, Ok, Err, length, map, get_or, arith, ap, sym, subst, ◌∙◌}
 use Rattle.std.proofs.lemmas.List.{length-map}
 use Rattle.pgm_plates.specs.Rows.{BeginsImage}

@@ -1,3 +1,5 @@
+-- The loops of begin_images: creates the files of these names, each by the rack of its number, and
+-- writes that header on each of them.
 use Rattle.std.proofs.Common.{map}
 use Rattle.plate_rows.specs.Images.{CreatesAt}
 use Rattle.plate_rows.specs.Racks.{EachRack}

@@ -1,3 +1,4 @@
+-- end_images: finishes the files of so many plates, each by the rack of its number.
 use Rattle.std.proofs.Common.{◌<◌, length, map, arith}
 use Rattle.plate_rows.proofs.WriteLemmas.{finished, not_finished}
 use Rattle.plate_rows.proofs.images.end_images.Goals as goal

@@ -1,3 +1,4 @@
+-- The loops of end_images: finishes the files of so many plates, each by the rack of its number.
 use Rattle.std.proofs.Common.{map}
 use Rattle.plate_rows.specs.Images.{FinishesAt}
 use Rattle.plate_rows.specs.Racks.{EachRack}

@@ -1,3 +1,5 @@
+-- write_next: writes the next tints of so many plates, turned into samples, each by the rack of its
+-- number.
 use Rattle.std.proofs.Common.{◌≡◌, ◌<◌, ◌+◌, ◌-◌, ◌*◌, ℕ, Ok, Err, length, map, get_or, take, drop, arith, subst}
 use Rattle.pgm_plates.specs.Rows.{WritesRows}
 use Rattle.plate_rows.specs.Images.{part_at}

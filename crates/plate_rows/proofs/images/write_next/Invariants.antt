@@ -1,3 +1,5 @@
+-- The loops of write_next: writes the next tints of so many plates, turned into samples, each by
+-- the rack of its number.
 use Rattle.std.proofs.Common.{map}
 use Rattle.plate_rows.specs.Images.{WritesAt, part_at}
 use Rattle.plate_rows.specs.Racks.{EachRack}

@@ -1,3 +1,4 @@
+-- How far the loops of `judge_each` have come.
 use Rattle.std.proofs.Common.{map}
 use Rattle.plate_rows.specs.Judging.{Judges}
 use Rattle.plate_rows.specs.Trays.{EachTray}

@@ -1,3 +1,4 @@
+-- judge_rest: reads a plate that is begun to its end.
 use Rattle.plate_rows.proofs.JudgeLemmas.{rest_judged, rest_refused}
 use Rattle.plate_rows.proofs.judging.judge_rest.Goals as goal
 

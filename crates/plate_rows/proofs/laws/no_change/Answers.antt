@@ -1,3 +1,4 @@
+-- no_change: a plate whose file the tray tells does not change between two readings.
 use Rattle.plate_rows.proofs.StopLemmas.{no_change}
 use Rattle.plate_rows.proofs.laws.no_change.Goals as goal
 

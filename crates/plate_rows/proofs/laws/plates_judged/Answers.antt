@@ -1,3 +1,4 @@
+-- plates_judged: what is so of plates that were judged.
 use Rattle.plate_rows.proofs.JudgedLemmas.{judging_ends, judging_stops}
 use Rattle.plate_rows.proofs.laws.plates_judged.Goals as goal
 

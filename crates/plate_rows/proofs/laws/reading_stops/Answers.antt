@@ -1,3 +1,4 @@
+-- reading_stops: what is so of a second reading that stops.
 use Rattle.plate_rows.proofs.StopLemmas.{ends_stop, reading_stops, rows_stop}
 use Rattle.plate_rows.proofs.laws.reading_stops.Goals as goal
 

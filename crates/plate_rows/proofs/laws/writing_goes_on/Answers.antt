@@ -1,3 +1,4 @@
+-- writing_goes_on: what was written of each plate.
 use Rattle.plate_rows.proofs.WriteLemmas.{writing_breaks, writing_ends, writing_grows, writing_leaves}
 use Rattle.plate_rows.proofs.laws.writing_goes_on.Goals as goal
 

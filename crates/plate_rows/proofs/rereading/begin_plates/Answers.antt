@@ -1,3 +1,5 @@
+-- begin_plates: begins the plates of these files once more, each by the tray of its number, and
+-- gives in `plates` how they were begun.
 use Rattle.std.proofs.Common.{◌<◌, ℕ, List, Ok, Err, length, map, get_or, arith, ap, sym, subst, ◌∙◌}
 use Rattle.std.proofs.lemmas.List.{length-map}
 use Rattle.plate_rows.specs.Rereading.{BeginsOne}

@@ -1,3 +1,5 @@
+-- The loops of begin_plates: begins the plates of these files once more, each by the tray of its
+-- number, and gives in `plates` how they were begun.
 use Rattle.std.proofs.Common.{map}
 use Rattle.plate_rows.specs.Rereading.{BeginsAt}
 use Rattle.plate_rows.specs.Trays.{EachTray}

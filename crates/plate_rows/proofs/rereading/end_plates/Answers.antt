@@ -1,3 +1,4 @@
+-- end_plates: looks for what stands after the last sample of each plate, by the tray of its number.
 use Rattle.std.proofs.Common.{◌<◌, Err, length, map, arith, sym, subst}
 use Rattle.std.specs.Prelude.{slice_set}
 use Rattle.plate_rows.specs.declared.stop.RereadError.{RereadError}

@@ -1,3 +1,5 @@
+-- The loops of end_plates: looks for what stands after the last sample of each plate, by the tray
+-- of its number.
 use Rattle.std.proofs.Common.{map}
 use Rattle.plate_rows.specs.Rereading.{EndsAt}
 use Rattle.plate_rows.specs.Trays.{EachTray}

@@ -1,3 +1,4 @@
+-- read_behind: fills tints with the next rows of a plate, behind those that are kept.
 use Rattle.std.proofs.Common.{◌≡◌, ◌-◌, ◌++◌, ℕ, List, length, take, arith, sym, subst}
 use Rattle.plate_rows.specs.Rereading.{ReadsBehind}
 use Rattle.plate_rows.proofs.ReadLemmas.{rows_behind, to_the_end}

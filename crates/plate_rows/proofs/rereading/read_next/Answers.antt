@@ -1,3 +1,5 @@
+-- read_next: reads the next rows of each plate by the tray of its number, and turns their samples
+-- into tints of the plane of its number.
 use Rattle.std.proofs.Common.{◌<◌, Ok, Err, length, map, get_or, arith, sym, subst, ◌∙◌}
 use Rattle.std.specs.Prelude.{slice_set}
 use Rattle.page_model.specs.declared.parts.Plane.{Plane}

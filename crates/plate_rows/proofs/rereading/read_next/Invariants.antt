@@ -1,3 +1,5 @@
+-- The loops of read_next: reads the next rows of each plate by the tray of its number, and turns
+-- their samples into tints of the plane of its number.
 use Rattle.std.proofs.Common.{map}
 use Rattle.plate_rows.proofs.ReadLemmas.{NextSoFar}
 use Rattle.plate_rows.proofs.rereading.read_next.Given as goal

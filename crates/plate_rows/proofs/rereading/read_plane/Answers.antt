@@ -1,3 +1,4 @@
+-- read_plane: fills a plane with the next rows of a plate, behind the tints that are kept.
 use Rattle.std.proofs.Common.{◌≡◌, ◌++◌, List, ℕ, length, take, drop, arith, ap, sym, subst, rules, ◌∙◌}
 use Rattle.std.proofs.Math.Seq.{take-append_seam}
 use Rattle.std.proofs.lemmas.Grind.{common_steps}

@@ -1,11 +1,13 @@
+-- read_tints: reads the next samples of a plate, of which so many were read before, and turns them
+-- into tints.
 use Rattle.std.proofs.Common.{◌≡◌, List, ℕ, Ok, arith, length, sym, subst}
 use Rattle.std.proofs.lemmas.Grind.{common_steps}
 use Rattle.plate_rows.specs.Rereading.{IsReadTo, ReadsTints}
 use Rattle.plate_rows.proofs.ReadLemmas.{rows_fit, rows_turned}
 use Rattle.plate_rows.proofs.rereading.read_tints.Goals as goal
 
-pub turn-requires-clause-fits : goal.turn-requires-clause-fits
-turn-requires-clause-fits g c =
+pub turn-requires-clause-below : goal.turn-requires-clause-below
+turn-requires-clause-below g c =
     let before = g.T.Tray.state c.args.tray.now in
     let rows = c.read_rows.new.samples in
     let same : length c.args.tints.now ≡ length rows = grind (arith, common_steps) in

@@ -1,3 +1,4 @@
+-- read_again: reads the plates once more.
 use Rattle.std.proofs.Common.{◌≡◌, ◌<◌, ◌-◌, ℕ, length, map, arith, subst}
 use Rattle.page_model.specs.Planes.{plane_at}
 use Rattle.pgm_plates.specs.Rows.{samples_of}

@@ -1,3 +1,4 @@
+-- check_page: reads the page, and gives the text that tells of it.
 use Rattle.press_check.specs.Held.{check_in}
 use Rattle.press_check.specs.Words.{sources_of}
 use Rattle.press_check.proofs.EndLemmas.{read_and_made, refused_first}

@@ -1,3 +1,5 @@
+-- presscheck_main: tells how many samples of a page misregister could leave bare, before it is
+-- trapped and after, and answers the status that the program ends with.
 use Rattle.std.proofs.Common.{map, string_bytes, Global}
 use Rattle.press_check.proofs.ClauseLemmas.{success, usage_ends, refused_input, read_fault, tell_fault, keeps_files, fault_line, completeness}
 use Rattle.press_check.proofs.top.presscheck_main.Goals as goal

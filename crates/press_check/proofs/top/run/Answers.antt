@@ -1,3 +1,4 @@
+-- What `run` has to show.
 use Rattle.std.proofs.Common.{sym}
 use Rattle.press_check.specs.Endings.Ends.{check}
 use Rattle.press_check.specs.Held.{check_in}

@@ -1,3 +1,5 @@
+-- last_is_of_the_last_entry: what is looked up under a name is the value of the last entry of that
+-- name, and nothing where no entry has it.
 use Rattle.ps_laws.proofs.LastEntries.{last-found, last-given, last-missing, last-none}
 use Rattle.ps_laws.proofs.laws.last_is_of_the_last_entry.Goals as goal
 

@@ -1,3 +1,5 @@
+-- last_keys_are_of_the_last_entries: the last keys of a dictionary are those of the last entries of
+-- its names.
 use Rattle.ps_tokens.proofs.Ascending.{ascend-last_keys}
 use Rattle.ps_laws.proofs.LastEntries.{last-key, key-last, name-of-key, key-of-name}
 use Rattle.ps_laws.proofs.laws.last_keys_are_of_the_last_entries.Goals as goal

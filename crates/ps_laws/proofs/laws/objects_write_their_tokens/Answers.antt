@@ -1,3 +1,5 @@
+-- objects_write_their_tokens: written out in order, each closing token after the last object within
+-- its bracket, the objects that are read give the tokens.
 use Rattle.ps_laws.proofs.TokenKinds.{read-kinds, read-places, read-bodies}
 use Rattle.ps_laws.proofs.Nesting.{read-nested}
 use Rattle.ps_laws.proofs.laws.objects_write_their_tokens.Goals as goal

@@ -1,3 +1,5 @@
+-- open_brackets_are_left_open: the brackets that are open after tokens are those that the tokens
+-- leave open.
 use Rattle.ps_laws.proofs.Opening.{brackets-left, left-brackets}
 use Rattle.ps_laws.proofs.laws.open_brackets_are_left_open.Goals as goal
 

@@ -1,3 +1,4 @@
+-- count: how many objects a list has that `objects` gave.
 use Rattle.std.proofs.Common.{arith}
 use Rattle.ps_tokens.proofs.Entries.{length-objects}
 use Rattle.ps_tokens.proofs.dictionary.count.Goals as goal

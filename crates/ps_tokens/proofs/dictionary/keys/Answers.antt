@@ -1,3 +1,4 @@
+-- keys: the places of the keys of the dictionary at a place, in order.
 use Rattle.std.proofs.Common.{◌≡◌, ◌<◌, ◌-◌, ◌+◌, ◌++◌, ◌∷◌, [], length, false-eqb, sym, ap, ◌∙◌, append_assoc, arith, rules}
 use Rattle.ps_tokens.specs.Dictionaries.{keys_from}
 use Rattle.ps_tokens.proofs.Entries.{keys_from-entry, length-objects}

@@ -1,3 +1,4 @@
+-- The loops of keys: the places of the keys of the dictionary at a place, in order.
 use Rattle.std.proofs.Common.{◌≡◌, ◌-◌, ◌<◌, ◌≤◌, ◌++◌, length}
 use Rattle.ps_tokens.specs.Dictionaries.{keys_from, keys_of}
 use Rattle.ps_tokens.proofs.dictionary.keys.Given as goal

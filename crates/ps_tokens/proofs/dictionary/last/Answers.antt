@@ -1,3 +1,5 @@
+-- last: the place of the value of a key's last entry in the dictionary at a place, or `None`
+-- exactly where there is no such entry.
 use Rattle.std.proofs.Common.{◌≡◌, ◌<◌, ◌-◌, ◌+◌, length, Some, cond, false-eqb, sym, ap, ◌∙◌, arith, rules}
 use Rattle.std.specs.Prelude.{slice_get}
 use Rattle.ps_tokens.specs.Dictionaries.{keys_from, last_among, names}

@@ -1,3 +1,5 @@
+-- The loops of last: the place of the value of a key's last entry in the dictionary at a place, or
+-- `None` exactly where there is no such entry.
 use Rattle.std.proofs.Common.{◌≡◌, ◌-◌, ◌<◌, ◌≤◌, length}
 use Rattle.ps_tokens.specs.Dictionaries.{keys_from, last_among, last_of}
 use Rattle.ps_tokens.proofs.dictionary.last.Given as goal

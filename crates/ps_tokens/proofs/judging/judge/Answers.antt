@@ -1,3 +1,4 @@
+-- judge: the first fault of a job's tokens, judged one after the other.
 use Rattle.std.proofs.Common.{sym, ap, ◌∙◌, Ok, fold}
 use Rattle.std.proofs.lemmas.List.{at_drop_all}
 use Rattle.ps_tokens.specs.Brackets.{after_next}

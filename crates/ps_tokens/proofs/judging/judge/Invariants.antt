@@ -1,3 +1,4 @@
+-- The loops of judge: the first fault of a job's tokens, judged one after the other.
 use Rattle.std.proofs.Common.{◌≡◌, drop, fold, Ok}
 use Rattle.ps_tokens.specs.Brackets.{after_next, brackets_after}
 use Rattle.ps_tokens.proofs.judging.judge.Given as goal

@@ -1,3 +1,4 @@
+-- by_name: the names of keys, each with the last of its places.
 use Rattle.std.proofs.Common.{[], get_or, take, fold, sym, ap, ◌∙◌}
 use Rattle.std.specs.Prelude.{map}
 use Rattle.std.specs.Ordering.{nat_cmp}

@@ -1,3 +1,4 @@
+-- The loops of by_name: the names of keys, each with the last of its places.
 use Rattle.std.proofs.Common.{◌≡◌, [], take, fold}
 use Rattle.std.specs.Prelude.{map}
 use Rattle.ps_tokens.specs.Dictionaries.{by_bytes, put_key}

@@ -1,3 +1,5 @@
+-- last_keys: the places of the last key of each name in the dictionary at a place, in ascending
+-- byte order of the names.
 use Rattle.std.proofs.Common.{◌≡◌, [], List, ℕ, subst, sym, ap, ◌∙◌, fold}
 use Rattle.std.specs.Prelude.{map}
 use Rattle.std.specs.BTreeMap.{values}

@@ -1,3 +1,4 @@
+-- The loops of places_of: the places, in the order of their names.
 use Rattle.std.proofs.Common.{◌≡◌, ◌++◌}
 use Rattle.std.specs.BTreeMap.{values}
 use Rattle.ps_tokens.proofs.names.places_of.Given as goal

@@ -1,3 +1,4 @@
+-- The loops of whole_value: the number that digits spell, as far as `LARGEST_WHOLE` and one more.
 use Rattle.std.proofs.Common.{◌≡◌, ◌+◌, take, min}
 use Rattle.ps_tokens.specs.Limits.{largest_whole}
 use Rattle.ps_tokens.specs.Numbers.{decimal}

@@ -1,3 +1,4 @@
+-- objects: the objects that a job's tokens write out.
 use Rattle.std.proofs.Common.{ap, arith, length}
 use Rattle.ps_tokens.proofs.Counting.{length-tokens}
 use Rattle.ps_tokens.proofs.reader.objects.Goals as goal

@@ -1,3 +1,4 @@
+-- The loops of written: the objects that tokens begin.
 use Rattle.std.proofs.Common.{◌≡◌, ◌+◌, ◌≤◌, length, drop}
 use Rattle.std.specs.Prelude.{reverse}
 use Rattle.ps_tokens.specs.Objects.{AreEnds, objects_in}

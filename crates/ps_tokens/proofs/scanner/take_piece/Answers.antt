@@ -1,3 +1,5 @@
+-- take_piece: adds the token that stands at the beginning of the rest, if it is one, and tells how
+-- many bytes were taken.
 use Rattle.std.proofs.Common.{◌≡◌, ◌++◌, ◌∷◌, [], drop, ◌+◌, Ok, ap, sym, ◌∙◌, rules}
 use Rattle.std.proofs.lemmas.List.{append-nil}
 use Rattle.ps_tokens.specs.declared.token.Token.{Token}

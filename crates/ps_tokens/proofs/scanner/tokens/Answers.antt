@@ -1,3 +1,5 @@
+-- tokens: the tokens that a job's bytes spell, each the longest that stands at its place, with
+-- whitespace and comments between them (after PLRM3's token syntax, in this project's profile).
 use Rattle.std.proofs.Common.{sym, ◌∙◌, rules}
 use Rattle.ps_tokens.proofs.Scanning.{tokens_from-end}
 use Rattle.ps_tokens.proofs.scanner.tokens.Goals as goal

@@ -1,3 +1,6 @@
+-- The loops of tokens: the tokens that a job's bytes spell, each the longest that stands at its
+-- place, with whitespace and comments between them (after PLRM3's token syntax, in this project's
+-- profile).
 use Rattle.std.proofs.Common.{◌≡◌, ◌+◌, length, Ok}
 use Rattle.ps_tokens.specs.Tokens.{tokens_then, tokens_from, tokens_of}
 use Rattle.ps_tokens.proofs.scanner.tokens.Given as goal

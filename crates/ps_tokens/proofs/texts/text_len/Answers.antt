@@ -1,3 +1,4 @@
+-- text_len: how many bytes a string has up to and with its closing parenthesis.
 use Rattle.std.proofs.Common.{arith}
 use Rattle.std.proofs.lemmas.Bool.Decides.{nat_tests}
 use Rattle.ps_tokens.proofs.Prefixes.{text_end-drop}

@@ -1,3 +1,4 @@
+-- The loops of text_len: how many bytes a string has up to and with its closing parenthesis.
 use Rattle.std.proofs.Common.{◌≡◌, ◌≤◌, ◌+◌, drop, false}
 use Rattle.ps_tokens.specs.Texts.{text_end}
 use Rattle.ps_tokens.proofs.texts.text_len.Given as goal

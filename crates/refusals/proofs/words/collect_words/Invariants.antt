@@ -1,3 +1,4 @@
+-- How far the loops of `collect_words` have come.
 use Rattle.std.proofs.Common.{◌≡◌, ◌++◌}
 use Rattle.std.specs.Vec.Iter.{into_iter_items}
 use Rattle.refusals.proofs.words.collect_words.Given as goal

@@ -1,3 +1,4 @@
+-- What `write_plate` has to show.
 use Rattle.std.proofs.Common.{◌++◌, ◌∷◌, [], codes, decimal}
 use Rattle.outside.proofs.Steps.{writes_as, writes_stopped, writes_then}
 use Rattle.trap_report.specs.Report.{plate_line}

@@ -1,3 +1,4 @@
+-- write_two: writes two pieces.
 use Rattle.outside.proofs.Steps.{writes_then, writes_stopped}
 use Rattle.report_writing.proofs.pieces.write_two.Goals as goal
 

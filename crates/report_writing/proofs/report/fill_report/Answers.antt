@@ -1,3 +1,4 @@
+-- fill_report: writes all of the open file, and finishes it.
 use Rattle.outside.proofs.Steps.{written_then_finished}
 use Rattle.trap_report.specs.Report.{report_of}
 use Rattle.report_writing.proofs.report.fill_report.Goals as goal

@@ -1,3 +1,4 @@
+-- write_body: writes all lines after the page's.
 use Rattle.std.proofs.Common.{◌++◌, ap, codes, length}
 use Rattle.outside.proofs.Steps.{writes_as, writes_stopped, writes_then}
 use Rattle.page_model.specs.Page.{plates}

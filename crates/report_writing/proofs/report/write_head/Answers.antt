@@ -1,3 +1,4 @@
+-- What `write_head` has to show.
 use Rattle.std.proofs.Common.{◌≡◌, ℕ, List, ◌++◌, ◌∷◌, [], ◌∙◌, codes, decimal}
 use Rattle.outside.proofs.Steps.{writes_as}
 use Rattle.page_model.specs.Page.{height, maxval, plates, width}

@@ -1,3 +1,4 @@
+-- write_last: writes the lines of the plates, and the last line.
 use Rattle.std.proofs.Common.{codes}
 use Rattle.outside.proofs.Steps.{writes_stopped, writes_then}
 use Rattle.page_model.specs.Page.{plates}

@@ -1,3 +1,4 @@
+-- What `write_lines` has to show.
 use Rattle.std.proofs.Common.{◌++◌, codes, length}
 use Rattle.outside.proofs.Steps.{writes_as, writes_stopped, writes_then}
 use Rattle.page_model.specs.Page.{height, plates, width}

@@ -1,3 +1,4 @@
+-- What `write_plates` has to show.
 use Rattle.std.proofs.Common.{◌≡◌, ◌∙◌, ap, arith, slice_index, ℕ, List, Ok, Err, subst}
 use Rattle.outside.specs.declared.tray.Failed.{Failed}
 use Rattle.outside.specs.Writing.{WritesOn}

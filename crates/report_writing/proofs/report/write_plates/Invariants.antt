@@ -1,3 +1,4 @@
+-- How far the loops of `write_plates` have come.
 use Rattle.std.proofs.Common.{◌≡◌, IsTrue, Ok, length}
 use Rattle.outside.specs.Writing.{WritesOn}
 use Rattle.outside.specs.declared.tray.Failed.{Failed}

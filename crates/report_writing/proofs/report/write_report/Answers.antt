@@ -1,3 +1,4 @@
+-- write_report: writes the report of a sheet with these counts into the file of that name.
 use Rattle.outside.proofs.Steps.{created_then_filled}
 use Rattle.trap_report.specs.Report.{report_of}
 use Rattle.report_writing.proofs.report.write_report.Goals as goal

@@ -1,3 +1,4 @@
+-- write_tail: writes all lines after those of the zones.
 use Rattle.std.proofs.Common.{◌≡◌, ◌++◌, ◌∙◌, codes}
 use Rattle.outside.proofs.Steps.{writes_as, writes_stopped, writes_then}
 use Rattle.page_model.specs.Page.{plates}

@@ -1,3 +1,4 @@
+-- How far the loops of `write_zones` have come.
 use Rattle.std.proofs.Common.{IsTrue, Ok}
 use Rattle.outside.specs.Writing.{WritesOn}
 use Rattle.outside.specs.declared.tray.Failed.{Failed}

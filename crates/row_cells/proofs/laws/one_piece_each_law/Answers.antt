@@ -1,3 +1,4 @@
+-- one_piece_each_law: each cell is one of one piece, and of no other.
 use Rattle.row_cells.proofs.Places.{owner, owner-is}
 use Rattle.row_cells.proofs.laws.one_piece_each_law.Goals as goal
 

@@ -1,3 +1,4 @@
+-- What `cut_some` has to show.
 use Rattle.std.proofs.Common.{ℕ, ◌/◌, ◌%◌, List, slice_index, ap, ◌∙◌, arith}
 use Rattle.row_cells.proofs.Lanes.{lane_fits, lane_next, one_written}
 use Rattle.row_cells.proofs.Numbers.{as_many, one_set}

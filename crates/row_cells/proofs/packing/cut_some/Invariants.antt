@@ -1,3 +1,4 @@
+-- How far the loops of `cut_some` have come.
 use Rattle.std.proofs.Common.{◌≡◌, ℕ, ◌*◌, ◌/◌, ◌^◌, ◌<◌, slice_index}
 use Rattle.row_cells.specs.Packing.{lane}
 use Rattle.row_cells.proofs.packing.cut_some.Given as goal

@@ -1,3 +1,4 @@
+-- The loops of cut_whole: cuts the values of a whole cell out of their number.
 use Rattle.std.proofs.Common.{◌≡◌, ℕ, ◌*◌, ◌/◌, ◌^◌, ◌<◌, slice_index}
 use Rattle.row_cells.specs.Packing.{lane}
 use Rattle.row_cells.proofs.packing.cut_whole.Given as goal

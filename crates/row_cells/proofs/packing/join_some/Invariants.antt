@@ -1,3 +1,4 @@
+-- How far the loops of `join_some` have come.
 use Rattle.std.proofs.Common.{◌≡◌, ◌^◌, ◌≤◌, length, drop}
 use Rattle.row_cells.specs.Packing.{packed}
 use Rattle.row_cells.proofs.packing.join_some.Given as goal

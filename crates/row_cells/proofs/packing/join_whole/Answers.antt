@@ -1,3 +1,4 @@
+-- join_whole: the values of a whole cell as one number.
 use Rattle.std.proofs.Common.{ℕ, ◌-◌, List, ◌∙◌, arith}
 use Rattle.row_cells.proofs.Lanes.{next_small, next_sum, under, drop_le}
 use Rattle.row_cells.proofs.Numbers.{as_many, number_read}

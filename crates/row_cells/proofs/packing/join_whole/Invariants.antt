@@ -1,3 +1,4 @@
+-- The loops of join_whole: the values of a whole cell as one number.
 use Rattle.std.proofs.Common.{◌≡◌, ◌^◌, ◌≤◌, length, drop}
 use Rattle.row_cells.specs.Packing.{packed}
 use Rattle.row_cells.proofs.packing.join_whole.Given as goal

@@ -1,3 +1,5 @@
+-- without_lanes: the cell whose first value is the one that stands after so many lanes of this
+-- cell.
 use Rattle.std.proofs.Common.{◌≡◌, ℕ, ◌+◌, ◌-◌, ◌*◌, ◌/◌, ◌^◌, ap, ◌∙◌, arith}
 use Rattle.row_cells.specs.Packing.{lane}
 use Rattle.row_cells.proofs.Lanes.{lane_after}

@@ -1,3 +1,4 @@
+-- raised: the hull of all arms, and how many entries it has.
 use Rattle.std.proofs.Common.{arith, refl}
 use Rattle.std.proofs.lemmas.List.{length-set}
 use Rattle.row_envelope.proofs.HullLemmas.{joined}

@@ -1,3 +1,4 @@
+-- The loops of raised: the hull of all arms, and how many entries it has.
 use Rattle.std.proofs.Common.{◌≤◌, ◌≡◌, ◌+◌, ◌*◌, length}
 use Rattle.row_envelope.specs.Hull.{IsHull}
 use Rattle.row_envelope.proofs.hull.raised.Given as goal

@@ -1,3 +1,4 @@
+-- settle: drops the entries of the hull that arm i hides.
 use Rattle.std.proofs.Common.{arith, slice_index, ◌-◌}
 use Rattle.row_envelope.proofs.HullLemmas.{rising_at, arm_read, stopped, dropped, emptied}
 use Rattle.row_envelope.proofs.hull.settle.Goals as goal

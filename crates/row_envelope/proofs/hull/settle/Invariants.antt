@@ -1,3 +1,4 @@
+-- The loops of settle: drops the entries of the hull that arm i hides.
 use Rattle.std.proofs.Common.{◌≤◌, ◌<◌, ◌+◌, ℕ, suc, slice_index}
 use Rattle.row_envelope.specs.Hull.{Wins}
 use Rattle.row_envelope.proofs.hull.settle.Given as goal

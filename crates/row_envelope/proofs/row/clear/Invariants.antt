@@ -1,3 +1,4 @@
+-- The loops of clear: no sample has a nearest arm.
 use Rattle.std.proofs.Common.{◌<◌, ◌≡◌, ℕ, slice_index_or, None}
 use Rattle.row_envelope.proofs.row.clear.Given as goal
 

@@ -1,3 +1,4 @@
+-- The loops of give: gives the samples from x on and before `end` the arm at a place.
 use Rattle.std.proofs.Common.{◌≤◌, ◌<◌, ◌≡◌, ℕ, length, slice_index_or, None, Some}
 use Rattle.row_envelope.proofs.row.give.Given as goal
 

@@ -1,3 +1,5 @@
+-- nearest_row: writes for each sample of a row the place in `arms` of the arm with the least `((X -
+-- 2x)^2 + offset^2, X)`.
 use Rattle.std.proofs.Common.{ap, arith, ◌∙◌, sym}
 use Rattle.std.proofs.lemmas.Bool.{eqb-true}
 use Rattle.row_envelope.specs.Room.{Room}

@@ -1,3 +1,4 @@
+-- spread: gives each sample the hull's entry that has it, entry by entry.
 use Rattle.std.proofs.Common.{arith, ◌+◌, ◌*◌, ◌<◌, ◌≡◌, slice_index, inl, inr, ◌∙◌}
 use Rattle.std.proofs.lemmas.Bool.{cases_lt}
 use Rattle.row_envelope.proofs.HullLemmas.{nearest_by_entry}

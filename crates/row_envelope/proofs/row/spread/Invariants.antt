@@ -1,3 +1,4 @@
+-- The loops of spread: gives each sample the hull's entry that has it, entry by entry.
 use Rattle.std.proofs.Common.{◌≤◌, ◌<◌, ◌≡◌, ◌*◌, ◌-◌, ℕ, length, slice_index, slice_index_or, None}
 use Rattle.row_envelope.specs.Envelope.{nearest}
 use Rattle.row_envelope.proofs.row.spread.Given as goal

@@ -1,3 +1,4 @@
+-- The loops of are_blank: whether no sample of these has a mark.
 use Rattle.std.proofs.Common.{◌≡◌, ◌<◌, ℕ, true, length, slice_index}
 use Rattle.row_values.proofs.answers.are_blank.Given as goal
 

@@ -1,3 +1,4 @@
+-- make_answers: writes the column answers of these rows, row by row from doubled column 0 on.
 use Rattle.std.proofs.Common.{◌∙◌, arith, sym}
 use Rattle.std.proofs.lemmas.Nat.{mul-add-lt}
 use Rattle.row_values.proofs.AnswerLemmas.{blank}

@@ -1,3 +1,4 @@
+-- marks_of: the marks of some rows, as the columns read them.
 use Rattle.std.proofs.Common.{arith, subst, sym}
 use Rattle.page_model.specs.Columns.{AreMarks}
 use Rattle.page_model.specs.Marks.{Marked}

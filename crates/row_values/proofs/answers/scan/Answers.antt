@@ -1,3 +1,4 @@
+-- What `scan` has to show.
 use Rattle.std.proofs.Common.{◌∙◌}
 use Rattle.row_values.proofs.AnswerLemmas.{answers_held, covered}
 use Rattle.row_values.proofs.answers.scan.Goals as goal

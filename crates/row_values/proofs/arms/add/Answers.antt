@@ -1,3 +1,4 @@
+-- add: adds the arm of one column where it has a code, and gives the new number of arms.
 use Rattle.std.proofs.Common.{arith}
 use Rattle.row_values.proofs.ArmsLemmas.{added}
 use Rattle.row_values.proofs.arms.add.Goals as goal

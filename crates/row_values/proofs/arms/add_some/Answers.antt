@@ -1,3 +1,4 @@
+-- add_some: adds the arms of so many columns from x2 on, and gives the new number of arms.
 use Rattle.row_values.proofs.ArmsLemmas.{added_blank}
 use Rattle.row_values.proofs.arms.add_some.Goals as goal
 

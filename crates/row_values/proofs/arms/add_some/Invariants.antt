@@ -1,3 +1,5 @@
+-- The loops of add_some: adds the arms of so many columns from x2 on, and gives the new number of
+-- arms.
 use Rattle.std.proofs.Common.{◌≡◌, ◌≤◌, ◌+◌, length}
 use Rattle.row_values.specs.Arms.{AreArms}
 use Rattle.row_values.proofs.arms.add_some.Given as goal

@@ -1,3 +1,5 @@
+-- The loops of raise_arms: writes the arms of the columns that have a code, with their columns, and
+-- gives their number.
 use Rattle.std.proofs.Common.{◌≡◌, ◌≤◌, ◌-◌, length}
 use Rattle.row_values.specs.Arms.{AreArms}
 use Rattle.row_values.proofs.arms.raise_arms.Given as goal

@@ -1,3 +1,4 @@
+-- quiet_law: no mark within reach, no new tint.
 use Rattle.row_values.proofs.QuietLemmas.{quiet}
 use Rattle.row_values.proofs.laws.quiet_law.Goals as goal
 

@@ -1,3 +1,4 @@
+-- The loops of make_marks: writes the marks of the samples of these rows, row by row.
 use Rattle.std.proofs.Common.{◌≡◌, ◌+◌, ◌*◌, ◌<◌, ℕ, length, slice_index}
 use Rattle.page_model.specs.Deciding.{mark}
 use Rattle.page_model.specs.Page.{width}

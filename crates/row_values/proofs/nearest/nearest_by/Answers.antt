@@ -1,3 +1,4 @@
+-- nearest_by: with a counter of the ledger's own.
 use Rattle.std.proofs.Common.{arith, ◌∙◌}
 use Rattle.row_values.proofs.ArmsLemmas.{answer_fits, ready, ready_rising, ready_inside, ready_known, ready_decides}
 use Rattle.row_values.proofs.RowLemmas.{some_width}

@@ -1,3 +1,5 @@
+-- are_quiet: whether no column has an answer that is within reach of some of so many samples of row
+-- y from x on.
 use Rattle.std.proofs.Common.{arith}
 use Rattle.row_values.proofs.QuietLemmas.{quiet_samples}
 use Rattle.row_values.proofs.quiet.are_quiet.Goals as goal

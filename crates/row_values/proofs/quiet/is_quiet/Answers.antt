@@ -1,3 +1,4 @@
+-- is_quiet: whether no column of row y has an answer.
 use Rattle.std.proofs.Common.{arith}
 use Rattle.row_values.proofs.QuietLemmas.{quiet_row}
 use Rattle.row_values.proofs.quiet.is_quiet.Goals as goal

@@ -1,3 +1,4 @@
+-- copy_row: writes the page's own tints of row y, plate after plate.
 use Rattle.std.proofs.Common.{◌∙◌, ℕ}
 use Rattle.page_model.specs.Page.{tint, width}
 use Rattle.row_values.proofs.RowLemmas.{rows_more}

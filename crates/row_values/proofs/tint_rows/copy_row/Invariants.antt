@@ -1,3 +1,4 @@
+-- The loops of copy_row: writes the page's own tints of row y, plate after plate.
 use Rattle.std.proofs.Common.{◌≡◌, ◌+◌, ◌*◌, ◌<◌, ℕ, length, slice_index}
 use Rattle.page_model.specs.Page.{plates, tint, width}
 use Rattle.row_values.proofs.tint_rows.copy_row.Given as goal

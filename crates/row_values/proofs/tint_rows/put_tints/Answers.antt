@@ -1,3 +1,4 @@
+-- put_tints: puts the new tints of sample x into the row.
 use Rattle.std.proofs.Common.{arith}
 use Rattle.row_values.proofs.RowLemmas.{put_next}
 use Rattle.row_values.proofs.tint_rows.put_tints.Goals as goal

@@ -1,3 +1,4 @@
+-- The loops of put_tints: puts the new tints of sample x into the row.
 use Rattle.std.proofs.Common.{◌≡◌, length}
 use Rattle.row_values.specs.Quiet.{IsRowPut}
 use Rattle.row_values.proofs.tint_rows.put_tints.Given as goal

@@ -1,3 +1,5 @@
+-- make_row: writes the new tints of row y, plate after plate, from the zones of its samples and its
+-- column answers.
 use Rattle.row_values.proofs.RowLemmas.{row_values, some_width}
 use Rattle.row_values.proofs.tints.make_row.Goals as goal
 

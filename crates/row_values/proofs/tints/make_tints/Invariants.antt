@@ -1,3 +1,5 @@
+-- The loops of make_tints: writes the new tints of these rows, in each row plate after plate, from
+-- the zones of their samples and their column answers.
 use Rattle.std.proofs.Common.{◌≡◌, ◌+◌, ◌*◌, ◌<◌, ℕ, length, slice_index}
 use Rattle.page_model.specs.Page.{plates, width}
 use Rattle.row_values.specs.Rows.{tint_value}

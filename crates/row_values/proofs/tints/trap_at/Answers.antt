@@ -1,3 +1,4 @@
+-- trap_at: puts the new tints of p, whose deciding edge the row's columns give, into the row.
 use Rattle.std.proofs.Common.{◌∙◌, sym}
 use Rattle.row_values.proofs.QuietLemmas.{edge_is, edge_small, keeps_far, keeps_here, new_by_columns}
 use Rattle.row_values.proofs.RowLemmas.{kept_further}

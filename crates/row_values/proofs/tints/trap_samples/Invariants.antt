@@ -1,3 +1,4 @@
+-- The loops of trap_samples: traps the samples of row y, whose nearest arms stand at these places.
 use Rattle.std.proofs.Common.{◌≡◌, ◌≤◌, ◌-◌, length}
 use Rattle.page_model.specs.Page.{plates, width}
 use Rattle.row_values.specs.Quiet.{IsRowTo}

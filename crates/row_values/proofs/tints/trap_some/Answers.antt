@@ -1,3 +1,4 @@
+-- trap_some: traps so many samples of row y from x on, whose nearest arms stand at these places.
 use Rattle.row_values.proofs.RowLemmas.{kept_all}
 use Rattle.row_values.proofs.tints.trap_some.Goals as goal
 

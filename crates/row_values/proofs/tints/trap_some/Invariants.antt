@@ -1,3 +1,5 @@
+-- The loops of trap_some: traps so many samples of row y from x on, whose nearest arms stand at
+-- these places.
 use Rattle.std.proofs.Common.{◌≡◌, ◌≤◌, ◌+◌, length}
 use Rattle.page_model.specs.Page.{plates}
 use Rattle.row_values.specs.Quiet.{IsRowTo}

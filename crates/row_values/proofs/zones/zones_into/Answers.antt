@@ -1,3 +1,4 @@
+-- What `zones_into` has to show.
 use Rattle.std.proofs.Common.{◌∙◌, ◌+◌, ℕ}
 use Rattle.page_model.specs.Page.{width}
 use Rattle.row_values.specs.Rows.{zone_value}

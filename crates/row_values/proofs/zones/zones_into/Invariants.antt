@@ -1,3 +1,4 @@
+-- How far the loops of `zones_into` have come.
 use Rattle.std.proofs.Common.{◌≡◌, ◌+◌, ◌*◌, ◌<◌, ℕ, length, slice_index}
 use Rattle.page_model.specs.Page.{width}
 use Rattle.row_values.specs.Rows.{zone_value}

@@ -1,3 +1,4 @@
+-- The loops of expect_rows: looks at each row of a page.
 use Rattle.std.proofs.Common.{◌≡◌}
 use Rattle.rule_tests.proofs.zones.expect_rows.Given as goal
 

@@ -1,3 +1,4 @@
+-- judge_rest: judges the plates after the job, and the sheet of both.
 use Rattle.std.proofs.Common.{◌≤◌, ℕ, List, length, map, take, subst, sym, arith}
 use Rattle.pgm_plates.specs.declared.header.Header.{Header}
 use Rattle.page_gather.specs.Inputs.{sources}

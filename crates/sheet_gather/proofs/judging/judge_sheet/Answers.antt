@@ -1,3 +1,6 @@
+-- judge_sheet: reads the job of that name from the first tray, and then each plate in the order of
+-- its file, plate k from tray k, to their ends, and judges the sheet that they make; nothing is
+-- kept of a plate but its header.
 use Rattle.std.proofs.Common.{◌≤◌, length, map, arith}
 use Rattle.page_gather.specs.Inputs.{sources}
 use Rattle.sheet_gather.proofs.GatherLemmas.{as_many, job_refused}

@@ -1,3 +1,4 @@
+-- one_sheet_verdict: the bytes of a sheet's files have one verdict at most.
 use Rattle.sheet_gather.proofs.VerdictLemmas.{one_verdict}
 use Rattle.sheet_gather.proofs.laws.one_sheet_verdict.Goals as goal
 

@@ -1,3 +1,4 @@
+-- sheet_is_reread: whatever was read of a sheet's plates a second time, a sheet begins with it.
 use Rattle.sheet_gather.proofs.RereadLemmas.{reread_of}
 use Rattle.sheet_gather.proofs.laws.sheet_is_reread.Goals as goal
 

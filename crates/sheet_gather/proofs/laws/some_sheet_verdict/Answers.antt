@@ -1,3 +1,4 @@
+-- some_sheet_verdict: where the job and all plates have files, there is a verdict.
 use Rattle.sheet_gather.proofs.SomeLemmas.{some_verdict}
 use Rattle.sheet_gather.proofs.laws.some_sheet_verdict.Goals as goal
 

@@ -1,3 +1,4 @@
+-- How far the loops of `bare_planes` have come.
 use Rattle.std.proofs.Common.{◌≡◌, map, take}
 use Rattle.sheet_gather.specs.Planning.{plane_for}
 use Rattle.sheet_gather.proofs.planning.bare_planes.Given as goal

@@ -1,3 +1,5 @@
+-- plan_headers: the sheet that a job and plates of these headers make, but for its tints, and how
+-- it is to be trapped within a budget for each window.
 use Rattle.sheet_gather.proofs.PlanLemmas.{can_plan, plans_with, plans_without}
 use Rattle.sheet_gather.proofs.planning.plan_headers.Goals as goal
 

@@ -1,3 +1,4 @@
+-- plan_parts: these parts with their plan, or the sheet's refusal.
 use Rattle.std.proofs.Common.{refl}
 use Rattle.sheet_gather.specs.Planning.{PlansParts}
 use Rattle.sheet_gather.proofs.planning.plan_parts.Goals as goal

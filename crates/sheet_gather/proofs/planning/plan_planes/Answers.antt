@@ -1,3 +1,4 @@
+-- plan_planes: the sheet of planes without tints, none of which lacks its details.
 use Rattle.std.proofs.Common.{◌<◌, ◌^◌, sym, subst}
 use Rattle.page_model.specs.declared.parts.PageParts.{PageParts}
 use Rattle.page_model.specs.Page.{height, width}

@@ -1,3 +1,5 @@
+-- read_row: turns the next strip to these rows, copies those of them that the strip at hand has too
+-- out of it, and reads the others, each plate by the tray of its number.
 use Rattle.std.proofs.Common.{◌≡◌, ◌*◌, List, map, get_or, sym, ap, ◌∙◌, subst}
 use Rattle.page_model.specs.declared.parts.Plane.{Plane}
 use Rattle.page_model.specs.Page.{width}

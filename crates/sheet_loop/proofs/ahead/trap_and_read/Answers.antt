@@ -1,3 +1,4 @@
+-- trap_and_read: traps the strip at hand and counts its core, and makes the next strip.
 use Rattle.std.proofs.Common.{map, sym, subst}
 use Rattle.page_model.specs.declared.parts.PageParts.{PageParts}
 use Rattle.sheet_loop.specs.declared.rows.Progress.{Progress}

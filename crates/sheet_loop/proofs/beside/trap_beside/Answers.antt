@@ -1,3 +1,5 @@
+-- trap_beside: traps the strip at hand and counts its core, writes the core of the strip before it,
+-- which waits for that, and makes the next strip.
 use Rattle.std.proofs.Common.{map, sym, subst}
 use Rattle.page_model.specs.declared.parts.PageParts.{PageParts}
 use Rattle.sheet_loop.specs.declared.rows.Progress.{Progress}

@@ -1,3 +1,5 @@
+-- write_and_read: writes the core of the strip that waits for it, each plate by the rack of its
+-- number, and makes it the next strip, each plate by the tray of its number.
 use Rattle.std.proofs.Common.{map, sym, subst}
 use Rattle.sheet_loop.specs.Reading.{CanReadRow}
 use Rattle.sheet_loop.proofs.beside.write_and_read.Goals as goal

@@ -1,3 +1,5 @@
+-- write_waiting: writes the rows of the core of a strip that waits for it, each plate by the rack
+-- of its number.
 use Rattle.std.proofs.Common.{◌≡◌, ◌*◌, ◌∙◌, length, map, sym, ap, subst, arith}
 use Rattle.page_model.specs.declared.parts.PageParts.{PageParts}
 use Rattle.page_model.specs.Page.{maxval, plates, width}

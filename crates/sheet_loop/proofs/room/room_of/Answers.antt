@@ -1,3 +1,4 @@
+-- What `room_of` has to show.
 use Rattle.std.proofs.Common.{ℕ, List, sym, subst, arith}
 use Rattle.page_model.specs.declared.parts.PageParts.{PageParts}
 use Rattle.page_model.specs.Page.{width}

@@ -1,3 +1,4 @@
+-- gone_on_by: how far it has been read once the strip of these rows is.
 use Rattle.sheet_loop.proofs.GoingLemmas.{goes_on}
 use Rattle.sheet_loop.proofs.rows.gone_on_by.Goals as goal
 

@@ -1,3 +1,4 @@
+-- next_row: the rows of the next strip, as many as each strip has.
 use Rattle.sheet_loop.proofs.GoingLemmas.{hand_of, next_is}
 use Rattle.sheet_loop.proofs.rows.next_row.Goals as goal
 

@@ -1,3 +1,6 @@
+-- stream_sheet: reads the plates of a sheet that was judged once more, each by the tray of its
+-- number, and traps it strip by strip; what comes of each plate is written into the file of its
+-- name by the rack of its number.
 use Rattle.std.proofs.Common.{◌≡◌, ℕ, ◌≤◌, length, map, inl, refl, sym, ◌∙◌, arith}
 use Rattle.std.specs.Prelude.{replicate}
 use Rattle.std.proofs.lemmas.List.{length-map}

@@ -1,3 +1,4 @@
+-- What `write_begun` has to show.
 use Rattle.std.proofs.Common.{map}
 use Rattle.sheet_loop.proofs.SecondLemmas.{both_end, can_end, still_open, strips_stop}
 use Rattle.sheet_loop.proofs.sheet.write_begun.Goals as goal

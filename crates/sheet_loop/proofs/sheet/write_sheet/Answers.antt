@@ -1,3 +1,4 @@
+-- What `write_sheet` has to show.
 use Rattle.std.proofs.Common.{◌≡◌, length, map, ◌∙◌}
 use Rattle.std.proofs.lemmas.List.{length-map}
 use Rattle.page_model.specs.Page.{plates}

@@ -1,3 +1,5 @@
+-- read_first: reads the rows of the first strip, which is at hand then, each plate by the tray of
+-- its number.
 use Rattle.std.proofs.Common.{Ok, Err, ◌∙◌, map, sym, subst, arith}
 use Rattle.page_model.specs.declared.parts.PageParts.{PageParts}
 use Rattle.sheet_loop.specs.Going.{not_begun}

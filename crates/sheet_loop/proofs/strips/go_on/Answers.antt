@@ -1,3 +1,4 @@
+-- What `go_on` has to show.
 use Rattle.std.proofs.Common.{◌≡◌, ℕ, ◌*◌, ◌≤◌, map, refl, sym, subst, arith}
 use Rattle.page_model.specs.Page.{plates, width}
 use Rattle.sheet_loop.specs.declared.rows.Progress.{Progress}

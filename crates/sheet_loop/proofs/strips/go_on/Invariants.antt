@@ -1,3 +1,4 @@
+-- How far the loops of `go_on` have come.
 use Rattle.std.proofs.Common.{◌≡◌, ◌-◌, length, map}
 use Rattle.sheet_loop.specs.Courses.{AwaitsCore, Course}
 use Rattle.sheet_loop.specs.Going.{IsProgress, IsStripRow, gone_on}

@@ -1,3 +1,4 @@
+-- reach_last: puts all strips but the last, which is at hand then.
 use Rattle.std.proofs.Common.{map, subst}
 use Rattle.sheet_loop.specs.declared.rows.Progress.{Progress}
 use Rattle.sheet_loop.specs.Going.{IsNextRow}

@@ -1,3 +1,4 @@
+-- stream_strips: streams a sheet whose plates and files are begun.
 use Rattle.std.proofs.Common.{map}
 use Rattle.sheet_loop.proofs.StreamLemmas.{finished}
 use Rattle.sheet_loop.proofs.strips.stream_strips.Goals as goal

@@ -1,3 +1,4 @@
+-- What `hold_begun` has to show.
 use Rattle.std.proofs.Common.{map}
 use Rattle.sheet_loop.proofs.HeldLemmas.{all_to_read, held_end, reading_stopped, rows_can_end}
 use Rattle.sheet_loop.proofs.whole.hold_begun.Goals as goal

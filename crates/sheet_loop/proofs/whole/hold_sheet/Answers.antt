@@ -1,3 +1,5 @@
+-- hold_sheet: reads the plates of a sheet that was judged once more, each by the tray of its
+-- number, with all their rows into the room that is made for them, which is the sheet then.
 use Rattle.std.proofs.Common.{◌≡◌, ℕ, ◌≤◌, length, map, sym, ◌∙◌, arith}
 use Rattle.std.specs.Prelude.{replicate}
 use Rattle.std.proofs.lemmas.List.{length-map}

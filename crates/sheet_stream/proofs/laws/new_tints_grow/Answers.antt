@@ -1,3 +1,5 @@
+-- new_tints_grow: the rows of new tints that are written grow by a row of a core, up to all of
+-- them.
 use Rattle.sheet_stream.proofs.GrowLemmas.{all_new, grow}
 use Rattle.sheet_stream.proofs.laws.new_tints_grow.Goals as goal
 

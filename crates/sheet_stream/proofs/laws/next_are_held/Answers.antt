@@ -1,3 +1,5 @@
+-- next_are_held: rows that are kept, and rows that are read behind them, are held for the next
+-- strip; and all rows of the first strip are read.
 use Rattle.sheet_stream.proofs.HoldLemmas.{next_held, none_held}
 use Rattle.sheet_stream.proofs.laws.next_are_held.Goals as goal
 

@@ -1,3 +1,5 @@
+-- strip_is_held: the rows that are held are those of the strip, of each sheet that begins with what
+-- was read.
 use Rattle.sheet_stream.proofs.HoldLemmas.{holds_strip}
 use Rattle.sheet_stream.proofs.laws.strip_is_held.Goals as goal
 

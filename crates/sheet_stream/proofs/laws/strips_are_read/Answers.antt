@@ -1,3 +1,5 @@
+-- strips_are_read: the rows of the first strip are read, and after the rows of a strip those of the
+-- next one, and held.
 use Rattle.sheet_stream.proofs.ReadLemmas.{first_read, next_read}
 use Rattle.sheet_stream.proofs.laws.strips_are_read.Goals as goal
 

@@ -1,3 +1,5 @@
+-- strips_turn: a strip that is turned to as many rows is a strip of them; and the zones of all
+-- strips have one form.
 use Rattle.sheet_stream.proofs.TurnLemmas.{have_form, turned_is}
 use Rattle.sheet_stream.proofs.laws.strips_turn.Goals as goal
 

@@ -1,3 +1,4 @@
+-- How far the loops of `blank_planes` have come.
 use Rattle.std.proofs.Common.{◌≡◌, map, take}
 use Rattle.sheet_stream.specs.Strips.{blank_plane}
 use Rattle.sheet_stream.proofs.strip.blank_planes.Given as goal

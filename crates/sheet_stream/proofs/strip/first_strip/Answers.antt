@@ -1,3 +1,4 @@
+-- first_strip: the strip of these rows of a sheet but its tints, whose planes have room for them.
 use Rattle.std.proofs.Common.{◌≡◌, ◌+◌, ◌-◌, map, refl, sym, ap, ◌∙◌}
 use Rattle.page_model.specs.declared.parts.Plane.{Plane}
 use Rattle.page_model.specs.Page.{height}

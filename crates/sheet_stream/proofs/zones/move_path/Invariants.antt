@@ -1,3 +1,4 @@
+-- The loops of move_path: puts the moved vertices of a path in the place of as many others.
 use Rattle.std.proofs.Common.{◌≡◌, length, take}
 use Rattle.std.specs.Prelude.{map}
 use Rattle.sheet_windows.specs.Windows.{moved_vertex}

@@ -1,3 +1,4 @@
+-- page_law: a sheet within the limits of a page is a page.
 use Rattle.sheet_windows.proofs.Pages.{sheet_is_page}
 use Rattle.sheet_windows.proofs.laws.page_law.Goals as goal
 

@@ -1,3 +1,5 @@
+-- even_span_at: the span whose core begins at that sample of the side, of a window that has as many
+-- samples as each other.
 use Rattle.sheet_windows.proofs.SpanLemmas.{even_window}
 use Rattle.sheet_windows.proofs.spans.even_span_at.Goals as goal
 

@@ -1,3 +1,5 @@
+-- even_spans_of: the spans of a side, from its first sample to its last, whose windows all have as
+-- many samples.
 use Rattle.std.proofs.Common.{◌≡◌, ◌+◌, ◌∷◌, ◌++◌, [], Bool, ap, ◌∙◌, sym, subst, arith, List}
 use Rattle.std.specs.Prelude.{if◌then◌else◌}
 use Rattle.sheet_windows.specs.declared.spans.Span.{Span}

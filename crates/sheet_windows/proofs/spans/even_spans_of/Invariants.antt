@@ -1,3 +1,5 @@
+-- The loops of even_spans_of: the spans of a side, from its first sample to its last, whose windows
+-- all have as many samples.
 use Rattle.std.proofs.Common.{◌≡◌, ◌-◌, ◌≤◌}
 use Rattle.std.specs.List.{All}
 use Rattle.sheet_windows.specs.declared.spans.Span.{Span}

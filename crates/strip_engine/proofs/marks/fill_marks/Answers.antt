@@ -1,3 +1,4 @@
+-- fill_marks: writes the marks of all samples, row by row.
 use Rattle.strip_engine.proofs.ZoneRows.{all_zones, some_width, whole_marks}
 use Rattle.strip_engine.proofs.marks.fill_marks.Goals as goal
 

@@ -1,3 +1,4 @@
+-- marks_between: the marks of these rows.
 use Rattle.std.proofs.Common.{◌+◌, ◌∙◌, ap, arith, length, refl}
 use Rattle.strip_engine.proofs.WholeLemmas.{sample_marks-length}
 use Rattle.strip_engine.proofs.ZoneRows.{part_of_marks, rows_fit}

@@ -1,3 +1,4 @@
+-- marks_of_row: the marks of row y.
 use Rattle.std.proofs.Common.{◌+◌, ◌∙◌, ap, arith, length}
 use Rattle.strip_engine.proofs.WholeLemmas.{sample_marks-length}
 use Rattle.strip_engine.proofs.ZoneRows.{marks_of_row-are, rows_fit}

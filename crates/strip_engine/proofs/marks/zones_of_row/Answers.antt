@@ -1,3 +1,4 @@
+-- zones_of_row: the zones of row y.
 use Rattle.std.proofs.Common.{◌+◌, ◌∙◌, ap, arith, length}
 use Rattle.strip_engine.proofs.WholeLemmas.{sample_zones-length}
 use Rattle.strip_engine.proofs.ZoneRows.{rows_fit, zones_of_row-are}

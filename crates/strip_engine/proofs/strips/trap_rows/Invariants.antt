@@ -1,6 +1,7 @@
+-- The loops of trap_rows: traps these rows, whose column answers these are.
 use Rattle.std.proofs.Common.{◌≡◌, ◌+◌}
 use Rattle.strip_engine.specs.Bench.{IsBench}
-use Rattle.page_tally.specs.Standing.{HasRows}
+use Rattle.strip_engine.specs.Taken.{IsTaken}
 use Rattle.strip_engine.proofs.strips.trap_rows.Given as goal
 
 abbrev pub invariant-loop-k : goal.invariant-loop-k
@@ -8,5 +9,5 @@ invariant-loop-k l = record {
   end : l.k-end ≡ l.rows.count;
   bench : IsBench l.page l.bench;
   room : l.room ≡ l.initial.room;
-  outcome : HasRows l.page (l.rows.first + l.k) l.outcome;
+  outcome : IsTaken l.page (l.rows.first + l.k) l.counted l.outcome;
 }

@@ -1,7 +1,8 @@
+-- The loops of trap_strips: traps the page, strip by strip, and counts its rows if that is asked.
 use Rattle.std.proofs.Common.{◌≡◌, ◌≤◌, ◌-◌, length}
 use Rattle.page_model.specs.Page.{height}
 use Rattle.strip_engine.specs.Bench.{IsBench}
-use Rattle.page_tally.specs.Standing.{HasRows}
+use Rattle.strip_engine.specs.Taken.{IsTaken}
 use Rattle.strip_engine.proofs.strips.trap_strips.Given as goal
 
 abbrev pub invariant-loop-first : goal.invariant-loop-first
@@ -10,7 +11,7 @@ invariant-loop-first l = record {
   codes : length l.codes ≡ length l.initial.codes;
   bench : IsBench l.page l.bench;
   room : l.room ≡ l.initial.room;
-  outcome : HasRows l.page l.first l.outcome;
+  outcome : IsTaken l.page l.first l.counted l.outcome;
 }
 
 abbrev pub decreases-loop-first : goal.decreases-loop-first

@@ -1,3 +1,4 @@
+-- fill_zones: writes the zone of each sample, row by row.
 use Rattle.strip_engine.proofs.ZoneRows.{some_width, whole_zones}
 use Rattle.strip_engine.proofs.zones.fill_zones.Goals as goal
 

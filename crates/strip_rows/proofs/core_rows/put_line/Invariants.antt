@@ -1,3 +1,5 @@
+-- The loops of put_line: puts row k of the core of the strip that was trapped in the room last in
+-- `line`.
 use Rattle.std.proofs.Common.{◌≡◌, ℕ, ◌<◌, length}
 use Rattle.page_model.specs.Page.{plates, width}
 use Rattle.plate_rows.specs.Images.{part_at}

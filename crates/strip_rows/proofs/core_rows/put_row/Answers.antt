@@ -1,3 +1,4 @@
+-- put_row: puts row k of the core of one plate in a line, from there on.
 use Rattle.std.proofs.Common.{◌≡◌, ℕ, ◌+◌, ◌-◌, List, ◌++◌, drop, take, ap, ◌∙◌, arith}
 use Rattle.page_model.specs.Page.{width}
 use Rattle.strip_rows.proofs.RowLemmas.{drop_more, row_is}

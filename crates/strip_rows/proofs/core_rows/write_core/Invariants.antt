@@ -1,3 +1,6 @@
+-- The loops of write_core: writes the rows of the core of the strip that was trapped in the room
+-- last, row after row, each of every plate by the rack of its number, through room for a row of all
+-- plates and for some bytes.
 use Rattle.std.proofs.Common.{◌≡◌, ℕ, ◌*◌, ◌≤◌, List, ◌++◌, length, map}
 use Rattle.outside.specs.Rack.{RackState}
 use Rattle.page_model.specs.Page.{plates, width}

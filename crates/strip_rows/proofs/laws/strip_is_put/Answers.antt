@@ -1,3 +1,5 @@
+-- strip_is_put: what is written and counted of a strip's core is written and counted of the sheet;
+-- and where that fails, a row of the sheet is not written.
 use Rattle.strip_rows.proofs.OnSheetLemmas.{is_broken, is_counted, is_written}
 use Rattle.strip_rows.proofs.laws.strip_is_put.Goals as goal
 

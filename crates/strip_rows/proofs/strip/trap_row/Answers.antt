@@ -1,3 +1,5 @@
+-- trap_row: traps the strip of these rows by as many workers as the plan has, in the room for its
+-- windows, and adds what is counted in its core.
 use Rattle.std.proofs.Common.{◌∙◌, List, map, sym, subst}
 use Rattle.page_model.specs.Page.{width}
 use Rattle.sheet_windows.specs.declared.spans.Span.{Span}

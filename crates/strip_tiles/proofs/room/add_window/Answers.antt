@@ -1,3 +1,4 @@
+-- add_window: adds what is counted in a window of which the core begins at that column.
 use Rattle.std.proofs.Common.{ℕ, ◌+◌, subst}
 use Rattle.strip_tiles.proofs.WorkLemmas.{added, can_add}
 use Rattle.tile_counts.specs.Growth.{AddsArea}

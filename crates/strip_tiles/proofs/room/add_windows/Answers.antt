@@ -1,3 +1,4 @@
+-- add_windows: adds what is counted in the windows of a strip.
 use Rattle.std.proofs.Common.{◌≡◌, ℕ, ◌+◌, drop, subst, arith}
 use Rattle.std.specs.Prelude.{map}
 use Rattle.page_model.specs.Page.{width}

@@ -1,3 +1,4 @@
+-- The loops of add_windows: adds what is counted in the windows of a strip.
 use Rattle.std.proofs.Common.{drop}
 use Rattle.std.specs.Prelude.{map}
 use Rattle.page_model.specs.Page.{width}

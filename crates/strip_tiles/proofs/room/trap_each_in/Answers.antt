@@ -1,3 +1,4 @@
+-- What `trap_each_in` has to show.
 use denote.Param.Send.{sendable}
 use Rattle.strip_tiles.proofs.room.RowPlan.TheSendSync as plan
 use Rattle.window_pages.proofs.sheet.Sheet.TheSendSync as sheet

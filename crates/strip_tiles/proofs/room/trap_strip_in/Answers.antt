@@ -1,3 +1,5 @@
+-- trap_strip_in: traps the windows of a strip side by side, by so many workers, in a room for
+-- strips of its form and number of rows, and adds what is counted in the strip.
 use Rattle.std.proofs.Common.{List, ap, arith, length, subst, sym, ◌∙◌}
 use Rattle.std.specs.Prelude.{map}
 use Rattle.std.specs.List.{All}

@@ -1,3 +1,4 @@
+-- trap_window_in: traps the window of a strip in its room.
 use Rattle.std.proofs.Common.{◌+◌, ◌*◌, ap, sym, subst, ◌∙◌, Some}
 use Rattle.page_model.specs.declared.parts.PageParts.{PageParts}
 use Rattle.page_tally.specs.Shapes.{Shape}

@@ -1,3 +1,4 @@
+-- window_room: room for a window of a strip.
 use Rattle.std.proofs.Common.{◌+◌, ap, sym, subst, ◌∙◌}
 use Rattle.page_tally.specs.Shapes.{Shape}
 use Rattle.sheet_windows.specs.Sheets.{IsSmall}

@@ -1,3 +1,5 @@
+-- put_strip_row: puts row k of the new tints of plate c of the strip that was trapped in the room
+-- last.
 use Rattle.std.proofs.Common.{◌≡◌, ℕ, ◌+◌, ◌++◌, ◌<◌, ◌≤◌, List, ap, arith, drop, length, sym, take, ◌∙◌}
 use Rattle.std.specs.Prelude.{map, slice_index_or}
 use Rattle.std.proofs.lemmas.List.{length-map}

@@ -1,3 +1,5 @@
+-- The loops of put_strip_row: puts row k of the new tints of plate c of the strip that was trapped
+-- in the room last.
 use Rattle.std.proofs.Common.{◌≡◌, drop, length, take}
 use Rattle.std.specs.Prelude.{map}
 use Rattle.page_model.specs.Page.{width}

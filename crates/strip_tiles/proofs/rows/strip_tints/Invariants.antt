@@ -1,3 +1,5 @@
+-- The loops of strip_tints: the new tints of plate c of the strip that was trapped in the room
+-- last, row by row.
 use Rattle.std.proofs.Common.{◌≡◌, length}
 use Rattle.std.specs.Prelude.{map}
 use Rattle.page_model.specs.Page.{width}

@@ -1,3 +1,4 @@
+-- trap_sheet: traps a sheet of any sides, window by window, by rulers for its columns and rows.
 use Rattle.std.proofs.Common.{◌≡◌, ℕ, ◌+◌, ◌≤◌, get_or, sym, subst, arith, drop, length, List, ap, ◌∙◌}
 use Rattle.std.specs.List.{All}
 use Rattle.std.proofs.lemmas.List.{with_items_is}

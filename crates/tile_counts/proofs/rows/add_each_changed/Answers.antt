@@ -1,3 +1,4 @@
+-- What `add_each_changed` has to show.
 use Rattle.std.proofs.Common.{◌≡◌, ℕ, ◌<◌, ◌+◌, ◌&&◌, ◌∙◌, ap, length, slice_index, arith}
 use Rattle.std.specs.Prelude.{◌==◌, slice_index_or, false}
 use Rattle.page_model.specs.declared.parts.At.{At}

@@ -1,3 +1,4 @@
+-- What `add_each_zone` has to show.
 use Rattle.std.proofs.Common.{◌≡◌, ◌<◌, ◌+◌, ◌∙◌, length, arith, refl}
 use Rattle.std.specs.Prelude.{◌==◌}
 use Rattle.page_model.specs.declared.parts.At.{At}

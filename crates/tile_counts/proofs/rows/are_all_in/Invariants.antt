@@ -1,3 +1,4 @@
+-- The loops of are_all_in: whether all of these samples lie in the zone.
 use Rattle.std.proofs.Common.{◌≡◌, ◌<◌, ◌+◌, ℕ, true, slice_index}
 use Rattle.tile_counts.proofs.rows.are_all_in.Given as goal
 

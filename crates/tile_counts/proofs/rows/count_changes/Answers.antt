@@ -1,3 +1,4 @@
+-- count_changes: how many of these samples of row y change.
 use Rattle.std.proofs.Common.{ℕ, false, ◌<◌, ◌+◌, ◌∙◌, ap, arith}
 use Rattle.std.specs.Prelude.{slice_index_or}
 use Rattle.page_model.specs.Counts.{sample_changes}

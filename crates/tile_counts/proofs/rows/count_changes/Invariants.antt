@@ -1,3 +1,4 @@
+-- The loops of count_changes: how many of these samples of row y change.
 use Rattle.std.proofs.Common.{◌≤◌, ◌≡◌}
 use Rattle.page_model.specs.Counts.{sample_changes}
 use Rattle.sheet_windows.specs.Areas.{one_if}

@@ -1,3 +1,4 @@
+-- How far the loops of `files_of` have come.
 use Rattle.std.proofs.Common.{◌≡◌, map, take}
 use Rattle.trap_words.specs.Held.{plates_in}
 use Rattle.trap_cli.specs.Files.{file_in}

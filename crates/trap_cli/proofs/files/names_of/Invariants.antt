@@ -1,3 +1,4 @@
+-- The loops of names_of: the names of the plates' colorants.
 use Rattle.std.proofs.Common.{◌≡◌, take}
 use Rattle.trap_words.specs.Held.{plates_in}
 use Rattle.plain_words.specs.Plates.{names_of}

@@ -1,3 +1,4 @@
+-- carry_out: reads the page, traps it, and only then writes.
 use Rattle.page_gather.proofs.GatherLemmas.{gathered}
 use Rattle.trap_words.specs.Held.{page_in}
 use Rattle.trap_cli.specs.Commands.{sources_of, targets_of}

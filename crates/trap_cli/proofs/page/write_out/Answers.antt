@@ -1,3 +1,4 @@
+-- write_out: traps the page and writes its files, and gives the receipt.
 use Rattle.std.proofs.Common.{ℕ, List, Bor, length, map, ap, sym, ◌∙◌, subst}
 use Rattle.plain_words.specs.declared.parts.PlateWord.{PlateWord}
 use Rattle.trap_words.specs.Held.{page_in, plates_in}

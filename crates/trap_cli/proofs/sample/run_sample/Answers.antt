@@ -1,3 +1,4 @@
+-- run_sample: traps a sample page and tells its report, and gives how the command ends.
 use Rattle.std.proofs.Common.{◌∙◌}
 use Rattle.trap_words.specs.Held.{sample_in}
 use Rattle.trap_cli.proofs.SampleLemmas.{told_a_part, told_whole}

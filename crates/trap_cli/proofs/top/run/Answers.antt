@@ -1,3 +1,4 @@
+-- What `run` has to show.
 use Rattle.std.proofs.Common.{Some, refl, sym, ap, ◌∙◌}
 use Rattle.std.specs.Option.{option_map}
 use Rattle.trap_words.specs.Held.{command_in, page_in, sample_in}

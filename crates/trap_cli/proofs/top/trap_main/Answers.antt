@@ -1,3 +1,5 @@
+-- trap_main: carries out the command that the words mean, and answers the status that the program
+-- ends with, and at status 0 the receipt of the work.
 use Rattle.std.proofs.Common.{map, string_bytes, Global}
 use Rattle.trap_cli.specs.Commands.{sources_of}
 use Rattle.trap_cli.proofs.ClauseLemmas.{success, refused_input, leaves_files, read_fault, write_fault, fault_line, sample_page, completeness}

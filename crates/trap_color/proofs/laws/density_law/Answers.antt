@@ -1,3 +1,5 @@
+-- density_law: on a page without an Opaque ink a trapped sample grows by at most TrapColorScaling
+-- of what its full tints would add.
 use Rattle.page_model.specs.Zones.{zone_of}
 use Rattle.trap_color.proofs.DensityLaw.{density_law}
 use Rattle.trap_color.proofs.laws.density_law.Goals as goal

@@ -1,3 +1,4 @@
+-- How far the loops of `keep_tints` have come.
 use Rattle.std.proofs.Common.{◌≡◌, ◌<◌, ℕ, length, slice_index}
 use Rattle.page_model.specs.Page.{plates, tint}
 use Rattle.trap_color.proofs.sample.keep_tints.Given as goal

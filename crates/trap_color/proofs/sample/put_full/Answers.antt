@@ -1,3 +1,4 @@
+-- put_full: writes the new tints of p, which e traps, where the zone scales them by 1.
 use Rattle.std.proofs.Common.{arith}
 use Rattle.std.proofs.lemmas.List.{length-set}
 use Rattle.trap_color.proofs.TintLemmas.{more}

@@ -1,3 +1,4 @@
+-- The loops of put_full: writes the new tints of p, which e traps, where the zone scales them by 1.
 use Rattle.std.proofs.Common.{◌≡◌, ◌<◌, ℕ, length, slice_index}
 use Rattle.page_model.specs.Page.{plates}
 use Rattle.page_model.specs.Tints.{new_in}

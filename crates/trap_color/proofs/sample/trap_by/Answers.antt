@@ -1,3 +1,4 @@
+-- trap_by: writes the new tints of p with e as its decider, and tells whether p is trapped.
 use Rattle.std.proofs.Common.{◌≡◌, false, arith, sym, ◌∙◌}
 use Rattle.page_model.specs.Trapped.{trapped_in}
 use Rattle.trap_color.proofs.TintLemmas.{kept_in}

@@ -1,3 +1,5 @@
+-- trap_sample: writes the new tints of p, one for each plate, with the given edge as its decider,
+-- and tells whether p is trapped.
 use Rattle.std.proofs.Common.{◌∙◌, ap}
 use Rattle.page_model.specs.Tints.{new_in}
 use Rattle.trap_color.proofs.sample.trap_sample.Goals as goal

@@ -1,3 +1,4 @@
+-- The loops of density_of_full: the neutral density of the full tints.
 use Rattle.std.proofs.Common.{◌≡◌, ◌≤◌, ◌*◌}
 use Rattle.page_model.specs.Density.{weight}
 use Rattle.page_model.specs.Page.{plates}

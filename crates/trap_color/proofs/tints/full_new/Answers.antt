@@ -1,3 +1,4 @@
+-- full_new: the new tint of plate c at p, which e traps, where the zone scales tints by 1.
 use Rattle.std.proofs.Common.{◌∙◌}
 use Rattle.trap_color.proofs.TintLemmas.{full_is_new}
 use Rattle.trap_color.proofs.tints.full_new.Goals as goal

@@ -1,3 +1,4 @@
+-- is_edge_black: whether a side of the edge's greater density has a black ink.
 use Rattle.std.proofs.Common.{arith}
 use Rattle.trap_color.proofs.SideLemmas.{black_sides}
 use Rattle.trap_color.proofs.trapped.is_edge_black.Goals as goal

@@ -1,3 +1,4 @@
+-- The loops of add_parts: adds what is counted in all parts of the page to the outcome.
 use Rattle.std.proofs.Common.{◌≡◌, ◌<◌, length}
 use Rattle.std.specs.Prelude.{slice_index_or}
 use Rattle.page_model.specs.Page.{height}

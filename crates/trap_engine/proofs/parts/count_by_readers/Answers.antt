@@ -1,3 +1,4 @@
+-- count_by_readers: counts in all parts by their own readers, in a thread for each.
 use denote.Param.Send.{sendable}
 use Rattle.band_claims.proofs.Crosses.{shared_sync}
 use Rattle.page_model.proofs.page.Page.TheSendSync as page

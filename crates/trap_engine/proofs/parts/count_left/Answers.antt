@@ -1,3 +1,4 @@
+-- count_left: counts in the rows of a part out of the closed table, if it is not done yet.
 use Rattle.trap_engine.proofs.TableRows.{cells_held}
 use Rattle.trap_engine.proofs.parts.count_left.Goals as goal
 

@@ -1,3 +1,4 @@
+-- count_those_left: counts out of the closed table in the parts that are not done yet.
 use Rattle.std.proofs.Common.{◌<◌, ◌∙◌, ap, arith, inl, inr, length, refl, subst, sym}
 use Rattle.std.specs.Prelude.{slice_set}
 use Rattle.std.proofs.lemmas.Bool.{cases_eq}

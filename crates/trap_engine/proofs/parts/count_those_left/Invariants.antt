@@ -1,3 +1,4 @@
+-- The loops of count_those_left: counts out of the closed table in the parts that are not done yet.
 use Rattle.std.proofs.Common.{◌≡◌, ℕ, ◌<◌, ◌≤◌, length}
 use Rattle.std.specs.Prelude.{slice_index_or}
 use Rattle.trap_engine.specs.declared.parts.Part.{Part}

@@ -1,3 +1,5 @@
+-- parts_of: the page's rows in so many parts at most, one after the other and of as many rows; the
+-- last has what is left.
 use Rattle.std.specs.Prelude.{◌-◌, ℕ, min}
 use Rattle.std.proofs.Common.{◌≡◌, ◌∙◌, ◌+◌, ◌/◌, ◌≤◌, ◌∷◌, ◌++◌, [], ap, arith, false, length, refl}
 use Rattle.std.proofs.lemmas.Bool.{false≢true}

@@ -1,3 +1,5 @@
+-- The loops of parts_of: the page's rows in so many parts at most, one after the other and of as
+-- many rows; the last has what is left.
 use Rattle.std.proofs.Common.{◌≡◌, ◌+◌, ◌-◌, ◌*◌, ◌/◌, ◌<◌, ◌≤◌, length}
 use Rattle.page_model.specs.Page.{height}
 use Rattle.trap_engine.specs.Parts.{AreOfSize, AreSeatedParts}

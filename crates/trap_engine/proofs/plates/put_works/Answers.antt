@@ -1,3 +1,5 @@
+-- put_works: puts the plates, which are all taken, into the outcome, and how many samples of each
+-- change.
 use Rattle.std.proofs.Common.{◌≡◌, ◌∙◌, ◌∷◌, ◌++◌, ◌<◌, ◌+◌, ℕ, [], List, ap, arith, length, subst, inl, inr}
 use Rattle.std.specs.Prelude.{slice_index_or, vec_len}
 use Rattle.std.proofs.lemmas.Bool.{cases_eq}

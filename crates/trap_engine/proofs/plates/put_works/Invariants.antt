@@ -1,3 +1,5 @@
+-- The loops of put_works: puts the plates, which are all taken, into the outcome, and how many
+-- samples of each change.
 use Rattle.std.proofs.Common.{◌≡◌, ℕ, ◌*◌, ◌<◌, ◌≤◌, slice_index}
 use Rattle.std.specs.Prelude.{slice_index_or, vec_len}
 use Rattle.lists.specs.Words.{count_below}

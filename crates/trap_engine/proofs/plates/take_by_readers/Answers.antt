@@ -1,3 +1,4 @@
+-- take_by_readers: takes all plates by their own readers, in so many threads.
 use denote.Param.Send.{sendable}
 use Rattle.band_claims.proofs.Crosses.{pass_send, shared_sync}
 use Rattle.page_model.proofs.page.Page.TheSendSync as page

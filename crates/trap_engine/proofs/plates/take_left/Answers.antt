@@ -1,3 +1,4 @@
+-- take_left: takes plate c out of the closed table, if it is not taken yet.
 use Rattle.trap_engine.proofs.TableRows.{cells_held}
 use Rattle.trap_engine.proofs.plates.take_left.Goals as goal
 

@@ -1,3 +1,5 @@
+-- take_plate: takes plate c out of the cells of a table whose pieces are done, row by row, and
+-- tells how many of its samples change.
 use Rattle.std.proofs.Common.{◌∙◌, arith, refl}
 use Rattle.page_tally.proofs.CountLemmas.{row_counted}
 use Rattle.trap_engine.proofs.TakeLemmas.{changed_fits, none_changed, plane_begun, plate_all}

@@ -1,3 +1,5 @@
+-- The loops of take_plate: takes plate c out of the cells of a table whose pieces are done, row by
+-- row, and tells how many of its samples change.
 use Rattle.std.proofs.Common.{◌≡◌, ◌*◌, length}
 use Rattle.lists.specs.Words.{count_below}
 use Rattle.page_model.specs.Counts.{plate_changes}

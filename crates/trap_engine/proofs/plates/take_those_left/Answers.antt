@@ -1,3 +1,4 @@
+-- take_those_left: takes out of the closed table the plates that are not taken yet.
 use Rattle.std.proofs.Common.{◌<◌, ◌∙◌, ap, arith, inl, inr, length, sym}
 use Rattle.std.specs.Prelude.{vec_capacity}
 use Rattle.std.proofs.lemmas.Bool.{cases_eq}

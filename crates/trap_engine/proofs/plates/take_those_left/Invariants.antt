@@ -1,3 +1,4 @@
+-- The loops of take_those_left: takes out of the closed table the plates that are not taken yet.
 use Rattle.std.proofs.Common.{◌≡◌, ℕ, ◌<◌, ◌≤◌, length}
 use Rattle.std.specs.Prelude.{slice_index_or}
 use Rattle.page_model.specs.Page.{plates}

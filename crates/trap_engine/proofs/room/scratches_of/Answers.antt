@@ -1,3 +1,4 @@
+-- scratches_of: the memory of so many workers.
 use Rattle.std.proofs.Common.{◌≡◌, ◌∙◌, ◌∷◌, ◌++◌, [], Bool, ap, arith, if◌then◌else◌, length}
 use Rattle.std.proofs.lemmas.List.{length-append}
 use Rattle.page_model.specs.Page.{plates, width}

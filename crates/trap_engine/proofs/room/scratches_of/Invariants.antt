@@ -1,3 +1,4 @@
+-- The loops of scratches_of: the memory of so many workers.
 use Rattle.std.proofs.Common.{◌≡◌, ◌≤◌, ◌-◌, All}
 use Rattle.std.specs.Prelude.{vec_len}
 use Rattle.page_model.specs.Page.{plates, width}

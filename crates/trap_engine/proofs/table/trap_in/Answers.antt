@@ -1,3 +1,4 @@
+-- trap_in: traps the page that the room was made for, by the workers that it has memory for.
 use Rattle.std.proofs.Common.{◌≡◌, ◌∙◌, ap, arith, sym}
 use Rattle.std.proofs.lemmas.List.{with_items_is}
 use Rattle.band_claims.specs.declared.sheet.Sheet.{Sheet}

@@ -1,3 +1,5 @@
+-- count_row: counts in row y, whose zones and marks are at hand, beside what is counted of the rows
+-- from `first` on.
 use Rattle.std.proofs.Common.{arith, length}
 use Rattle.std.proofs.lemmas.List.{with_items_is}
 use Rattle.trap_engine.proofs.TakeLemmas.{part_edges, part_few}

@@ -1,3 +1,4 @@
+-- take_row: counts in row y, out of the cells of a table whose pieces are done.
 use Rattle.std.proofs.Common.{arith}
 use Rattle.std.proofs.lemmas.List.{with_items_is}
 use Rattle.trap_engine.proofs.TableRows.{row_marks, row_zones}

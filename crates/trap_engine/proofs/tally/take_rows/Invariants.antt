@@ -1,3 +1,4 @@
+-- The loops of take_rows: counts in these rows, out of the cells of a table whose pieces are done.
 use Rattle.std.proofs.Common.{◌≡◌, ◌+◌}
 use Rattle.trap_engine.specs.Memory.{KeepsTally}
 use Rattle.trap_engine.specs.Taking.{HasCounted}

@@ -1,3 +1,4 @@
+-- The loops of copy_of: a copy of limits.
 use Rattle.std.proofs.Common.{◌≡◌, take}
 use Rattle.trap_params.proofs.limits.copy_of.Given as goal
 

@@ -1,3 +1,4 @@
+-- The loops of limits_of: the limits of these keys, in their order.
 use Rattle.std.proofs.Common.{◌≡◌, take}
 use Rattle.trap_params.specs.Limits.{limits_of}
 use Rattle.trap_params.proofs.limits.limits_of.Given as goal

@@ -1,3 +1,4 @@
+-- zone_limits: the step limits after the dictionary at a place.
 use Rattle.std.proofs.Common.{List}
 use Rattle.page_model.specs.declared.parts.Limit.{Limit}
 use Rattle.ps_tokens.specs.Dictionaries.{last_keys_of}

@@ -1,3 +1,4 @@
+-- counts_of: all that is counted of a page whose rows are all taken in.
 use Rattle.std.proofs.Common.{◌≡◌, ◌∙◌}
 use Rattle.page_tally.proofs.OutcomeLemmas.{counts_whole}
 use Rattle.trap_pool.proofs.at_desk.counts_of.Goals as goal

@@ -1,7 +1,10 @@
+-- One line more is gathered.
 use Rattle.std.proofs.Common.{◌≡◌, ◌∙◌, ◌+◌, ℕ, List, [], ◌∷◌, ◌++◌, get_or, length, take, sym, ap, subst, arith, length-append}
 use Rattle.job_list.specs.Lines.{LineParts}
 use Rattle.trap_pool.specs.Pools.{InTurn}
+use Rattle.std.proofs.lemmas.List.{map-append}
 use Rattle.trap_pool.specs.Replies.{ReplyParts, accepted, accepted_of}
+use Rattle.trap_pool.specs.Taking.{pages_of, waiting_of}
 use Rattle.trap_pool.proofs.Turns.{accepted_more, next_turn}
 use Rattle.trap_pool.proofs.gathering.gather_lines.Goals as goal
 
@@ -12,7 +15,7 @@ loop-number-preserved g c =
     let d = g.T.Tray.state c.gather_line-line.new.tray in
     let n = c.loop-number.number in
     let line = c.index-as_slice-number.result in
-    let reply = c.gather_line-line.result in
+    let reply = c.gather_line-line.result.0 in
     let pushed : c.push.new.self.items ≡ c.loop-number.gathered.items ++ reply ∷ [] = c.in-Ok.ensures.items in
     let item : line ≡ get_or c.args.lines.now n line = c.index-as_slice-number.is ∙ ap (λ (l : List LineParts). get_or l n line) c.as_slice.ensures in
     let before = c.loop-number.invariant in
@@ -23,4 +26,6 @@ loop-number-preserved g c =
       used = ap (λ (m : ℕ). c.loop-number.used + m) c.accepted_samples-used.ensures ∙ ap (λ (m : ℕ). m + accepted_of reply.page reply.outcome) before.used ∙ sym (ap accepted pushed ∙ accepted_more c.loop-number.gathered.items reply);
       few = let limit = c.gather_line-line.ensures.limit in let took = c.accepted_samples-used.ensures in omega arith;
       room = let kept = c.in-Ok.ensures.capacity in let room = before.room in omega arith;
+      pages = c.in-Ok-push.ensures.items ∙ (λ i. before.pages i ++ c.gather_line-line.ensures.waits i ∷ []) ∙ sym (ap pages_of pushed ∙ map-append waiting_of c.loop-number.gathered.items (reply ∷ []));
+      page_room = let kept = c.in-Ok-push.ensures.capacity in let room = before.page_room in omega arith;
     }

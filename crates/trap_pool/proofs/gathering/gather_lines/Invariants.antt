@@ -1,6 +1,8 @@
+-- What holds each time round the loop of gather_lines.
 use Rattle.std.proofs.Common.{◌≡◌, ◌≤◌, length, take, vec_capacity}
 use Rattle.trap_pool.specs.Pools.{InTurn}
 use Rattle.trap_pool.specs.Replies.{accepted, most_in_all}
+use Rattle.trap_pool.specs.Taking.{pages_of}
 use Rattle.trap_pool.proofs.gathering.gather_lines.Given as goal
 
 abbrev pub invariant-loop-number : goal.invariant-loop-number
@@ -10,4 +12,6 @@ invariant-loop-number g l = record {
   used : l.used ≡ accepted l.gathered.items;
   few : l.used ≤ most_in_all;
   room : length l.lines ≤ vec_capacity l.gathered;
+  pages : l.pages.items ≡ pages_of l.gathered.items;
+  page_room : length l.lines ≤ vec_capacity l.pages;
 }

@@ -1,3 +1,4 @@
+-- The loops of waiting_lines: the lines whose pages wait to be trapped, in order.
 use Rattle.std.proofs.Common.{◌≤◌, length, vec_capacity, vec_len}
 use Rattle.line_queue.specs.Rule.{Ascends, IsAbove}
 use Rattle.trap_pool.proofs.pool.waiting_lines.Given as goal
@@ -7,5 +8,5 @@ invariant-loop-number l = record {
   ascends : Ascends l.numbers.items;
   above : IsAbove l.number l.numbers.items;
   few : vec_len l.numbers ≤ l.number;
-  room : length l.gathered ≤ vec_capacity l.numbers;
+  room : length l.pages ≤ vec_capacity l.numbers;
 }

@@ -1,3 +1,5 @@
+-- The loops of replies_of: the replies to the lines, in their order, in the room, which has a place
+-- for each.
 use Rattle.std.proofs.Common.{◌≡◌, ◌≤◌, ◌++◌, vec_capacity, vec_len}
 use Rattle.std.specs.Vec.Iter.{into_iter_items}
 use Rattle.trap_pool.proofs.taking.replies_of.Given as goal

@@ -1,3 +1,4 @@
+-- The loops of take_in: puts in all that was made.
 use Rattle.trap_pool.specs.Taking.{AllSettled}
 use Rattle.trap_pool.proofs.taking.take_in.Given as goal
 

@@ -1,3 +1,4 @@
+-- How far the loops of `add_zones` have come.
 use Rattle.std.proofs.Common.{◌≡◌, ◌++◌}
 use Rattle.trap_report.specs.Report.{zone_lines}
 use Rattle.trap_report.proofs.lines.add_zones.Given as goal

@@ -1,3 +1,4 @@
+-- How far the loops of `add_plates` have come.
 use Rattle.std.proofs.Common.{◌≡◌, ◌++◌}
 use Rattle.trap_report.specs.Report.{plate_lines}
 use Rattle.trap_report.proofs.parts.add_plates.Given as goal

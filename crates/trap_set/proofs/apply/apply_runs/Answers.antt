@@ -1,3 +1,4 @@
+-- apply_runs: applies the runs after the page line.
 use Rattle.std.proofs.Common.{refl, ap, arith}
 use Rattle.trap_set.specs.Bytes.{held_in}
 use Rattle.trap_set.specs.Reading.{head_in, run_in}

@@ -1,3 +1,4 @@
+-- The loops of apply_runs: applies the runs after the page line.
 use Rattle.std.proofs.Common.{◌≡◌, ◌<◌, ◌-◌, ◌+◌, ◌*◌, IsTrue, length}
 use Rattle.trap_set.specs.Bytes.{IsIn, held_in}
 use Rattle.trap_set.specs.Reading.{head_in}

@@ -1,3 +1,5 @@
+-- apply_set: applies the set of the file of that name to the planes, run by run, and takes no
+-- memory.
 use Rattle.trap_set.proofs.StandLemmas.{begun_applied, begin_failed}
 use Rattle.trap_set.proofs.apply.apply_set.Goals as goal
 

@@ -1,3 +1,4 @@
+-- apply_text: applies the set of the file that is begun.
 use Rattle.std.proofs.Common.{◌≡◌, ℕ, List, [], ◌∷◌, refl}
 use Rattle.std.proofs.lemmas.Bool.{both_ways}
 use Rattle.trap_set.specs.Bytes.{held_in}

@@ -1,3 +1,4 @@
+-- end_set: looks for bytes after the last line, which would be a bad one of that number.
 use Rattle.trap_set.proofs.StandLemmas.{byte_after}
 use Rattle.trap_set.proofs.apply.end_set.Goals as goal
 

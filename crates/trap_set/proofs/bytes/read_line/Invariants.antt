@@ -1,3 +1,4 @@
+-- The loops of read_line: reads the next line, and says whether there is one.
 use Rattle.std.proofs.Common.{◌<◌, ◌-◌, length}
 use Rattle.trap_set.specs.Bytes.{IsIn, held_in, most_line}
 use Rattle.trap_set.proofs.NextLemmas.{ReadSoFar}

@@ -1,3 +1,4 @@
+-- flush: writes what is held back.
 use Rattle.std.proofs.Common.{[]}
 use Rattle.trap_set.proofs.HoldingLemmas.{puts_written, puts_broken}
 use Rattle.trap_set.proofs.holding.flush.Goals as goal

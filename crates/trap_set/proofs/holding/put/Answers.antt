@@ -1,3 +1,4 @@
+-- put: puts a piece after what is held back, which is written where there is no room for it.
 use Rattle.std.proofs.Common.{[], ap, refl}
 use Rattle.trap_set.proofs.HoldingLemmas.{puts_then, puts_failed, puts_as}
 use Rattle.trap_set.proofs.holding.put.Goals as goal

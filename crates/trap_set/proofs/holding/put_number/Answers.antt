@@ -1,3 +1,4 @@
+-- put_number: puts a space and a number.
 use Rattle.std.proofs.Common.{[], ◌∷◌, refl, ◌∙◌}
 use Rattle.std.specs.Fmt.{decimal}
 use Rattle.trap_set.proofs.HoldingLemmas.{puts_then, puts_failed, puts_as}

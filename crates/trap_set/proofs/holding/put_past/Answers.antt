@@ -1,3 +1,4 @@
+-- put_past: puts a piece where nothing is held back.
 use Rattle.std.proofs.Common.{◌∙◌, ap}
 use Rattle.trap_set.proofs.HoldingLemmas.{puts_past}
 use Rattle.trap_set.proofs.holding.put_past.Goals as goal

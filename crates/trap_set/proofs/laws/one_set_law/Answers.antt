@@ -1,3 +1,4 @@
+-- one_set_law: a text has one set at most.
 use Rattle.trap_set.proofs.SetLines.{one_set}
 use Rattle.trap_set.proofs.laws.one_set_law.Goals as goal
 

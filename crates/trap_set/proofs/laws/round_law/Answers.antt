@@ -1,3 +1,5 @@
+-- round_law: the set of what changed, applied to the planes as they were, gives the planes after
+-- the change.
 use Rattle.trap_set.proofs.RunLemmas.{round}
 use Rattle.trap_set.proofs.laws.round_law.Goals as goal
 

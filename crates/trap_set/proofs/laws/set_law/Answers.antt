@@ -1,3 +1,5 @@
+-- set_law: the runs of planes of one shape are a set, whose text is a set file, and a sample that a
+-- run covers has another tint than before in some plate.
 use Rattle.trap_set.proofs.SetLemmas.{is_set, covers_changes}
 use Rattle.trap_set.proofs.laws.set_law.Goals as goal
 

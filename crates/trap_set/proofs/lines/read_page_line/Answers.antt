@@ -1,3 +1,5 @@
+-- read_page_line: the sides, the maxval and the number of planes of a page line, which has its LF;
+-- `None` for every other line.
 use Rattle.std.proofs.Common.{sym, ◌∙◌, subst}
 use Rattle.std.proofs.lemmas.Bool.{both_ways}
 use Rattle.trap_set.specs.Reading.{head_in}

@@ -1,3 +1,4 @@
+-- read_page_words: the numbers of a page line, in range or not.
 use Rattle.std.proofs.Common.{refl, ◌≡◌, length, arith}
 use Rattle.std.proofs.lemmas.Bool.{both_ways}
 use Rattle.trap_set.proofs.LineLemmas.{sides_there, sides_same, count_there, count_same, sides_of, three, page_again}

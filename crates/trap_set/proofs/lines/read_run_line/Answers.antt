@@ -1,3 +1,4 @@
+-- read_run_line: reads the numbers of a run's line, which has its LF.
 use Rattle.std.proofs.Common.{length, refl, sym, ◌∙◌, arith, subst}
 use Rattle.std.proofs.lemmas.Bool.{both_ways}
 use Rattle.trap_set.specs.Reading.{head_in}

@@ -1,3 +1,4 @@
+-- read_run_words: reads the numbers of a run's line, in range or not.
 use Rattle.std.proofs.Common.{arith}
 use Rattle.std.proofs.lemmas.Bool.{both_ways}
 use Rattle.trap_set.proofs.LineLemmas.{numbers_of, run_there, same_numbers}

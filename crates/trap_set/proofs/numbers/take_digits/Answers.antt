@@ -1,3 +1,4 @@
+-- take_digits: the number that the text begins with, and what stands after it.
 use Rattle.std.proofs.Common.{◌-◌, sym, subst, take, drop, length}
 use Rattle.std.specs.Str.Parse.{digits_value}
 use Rattle.std.proofs.lemmas.Bool.{both_ways}

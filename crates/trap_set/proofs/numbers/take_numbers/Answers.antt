@@ -1,3 +1,5 @@
+-- take_numbers: puts the numbers that the text begins with into the list, as many as it has places,
+-- and gives what stands after them.
 use Rattle.std.proofs.Common.{arith}
 use Rattle.std.proofs.lemmas.List.{length-set}
 use Rattle.trap_set.proofs.NumberLemmas.{numbers_on, below_on, meant_on, no_first}

@@ -1,3 +1,5 @@
+-- The loops of take_numbers: puts the numbers that the text begins with into the list, as many as
+-- it has places, and gives what stands after them.
 use Rattle.std.proofs.Common.{◌≡◌, ◌<◌, ℕ, List, ◌++◌, length, take, drop}
 use Rattle.std.specs.List.{All, flat_map}
 use Rattle.trap_set.specs.Numbers.{BeginsNumbers, NoDigit, past_numbers}

@@ -1,3 +1,4 @@
+-- take_word: what stands after the word with which the text begins.
 use Rattle.std.proofs.Common.{ℕ, List, Option, Some, None, Bor, IfSome, IfNone, MatchOption}
 use Rattle.std.proofs.lemmas.Bool.Decides.{Decides-eqb}
 use Rattle.std.proofs.lemmas.Slice.Eq.{strip_prefix_is}

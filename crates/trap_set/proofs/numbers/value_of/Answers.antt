@@ -1,3 +1,4 @@
+-- value_of: the number that these digits write.
 use Rattle.std.proofs.Common.{arith}
 use Rattle.std.proofs.lemmas.Int.Digits.{digits_value_more}
 use Rattle.trap_set.proofs.NumberLemmas.{digit_range, digit_worth, prefix_short}

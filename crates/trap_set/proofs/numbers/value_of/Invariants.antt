@@ -1,3 +1,4 @@
+-- The loops of value_of: the number that these digits write.
 use Rattle.std.proofs.Common.{◌≡◌, take}
 use Rattle.std.specs.Str.Parse.{digits_value}
 use Rattle.trap_set.proofs.numbers.value_of.Given as goal

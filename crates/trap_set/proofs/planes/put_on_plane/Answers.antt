@@ -1,3 +1,4 @@
+-- put_on_plane: puts plate c's tint of a run on a plane.
 use Rattle.std.proofs.Common.{refl, sym, ◌∙◌, ap, arith, ◌≡◌, ◌+◌, slice_index}
 use Rattle.std.proofs.lemmas.List.{get_or-drop}
 use Rattle.trap_set.specs.Reading.{run_in}

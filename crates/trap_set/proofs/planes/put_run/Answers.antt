@@ -1,3 +1,4 @@
+-- put_run: puts the tints of a run on the samples that it covers.
 use Rattle.std.proofs.Common.{[], ◌∷◌, ◌∙◌, sym, ap, subst, arith, ◌≡◌, ◌*◌, ◌<◌, length}
 use Rattle.page_model.specs.declared.parts.Plane.{Plane}
 use Rattle.page_model.specs.Planes.{plane_at, no_plane}

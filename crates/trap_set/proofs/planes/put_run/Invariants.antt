@@ -1,3 +1,4 @@
+-- The loops of put_run: puts the tints of a run on the samples that it covers.
 use Rattle.std.proofs.Common.{[], ◌∷◌}
 use Rattle.trap_set.specs.Reading.{run_in}
 use Rattle.trap_set.proofs.PlaneLemmas.{PutSoFar}

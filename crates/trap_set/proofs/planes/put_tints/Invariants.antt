@@ -1,3 +1,4 @@
+-- The loops of put_tints: puts a tint in the places from one to before another.
 use Rattle.std.proofs.Common.{◌≡◌, ℕ, ◌<◌, ◌≤◌, length, slice_index}
 use Rattle.trap_set.proofs.planes.put_tints.Given as goal
 

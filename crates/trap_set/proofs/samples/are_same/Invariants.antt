@@ -1,3 +1,4 @@
+-- The loops of are_same: whether the tints at each place are the same.
 use Rattle.std.proofs.Common.{◌≡◌, ◌<◌, ℕ, IsTrue, get_or}
 use Rattle.trap_set.proofs.samples.are_same.Given as goal
 

@@ -1,3 +1,4 @@
+-- The loops of changes_at: whether some plane has another tint than before at a sample.
 use Rattle.std.proofs.Common.{◌≡◌, ℕ, not, ◌==◌}
 use Rattle.lists.specs.Words.{any_below}
 use Rattle.trap_set.specs.Runs.{tint_at}

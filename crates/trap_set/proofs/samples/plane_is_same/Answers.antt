@@ -1,3 +1,5 @@
+-- plane_is_same: whether plane c has the tints of before at some samples of a row, one beside
+-- another.
 use Rattle.std.proofs.Common.{◌-◌, ◌*◌, ◌<◌, ℕ, List, length, take, drop, get_or, sym, ap, ◌∙◌, arith, length-drop, length-take}
 use Rattle.page_model.specs.Planes.{tints_of}
 use Rattle.plane_shapes.specs.Shapes.{wide}

@@ -1,3 +1,4 @@
+-- run_length: how many samples the run has that begins at a sample.
 use Rattle.std.proofs.Common.{◌∙◌, sym, arith}
 use Rattle.trap_set.proofs.TextLemmas.{run_on_step}
 use Rattle.trap_set.proofs.samples.run_length.Goals as goal

@@ -1,3 +1,4 @@
+-- The loops of run_length: how many samples the run has that begins at a sample.
 use Rattle.std.proofs.Common.{◌≡◌, ◌+◌, ◌-◌, suc}
 use Rattle.trap_set.specs.Runs.{run_on}
 use Rattle.trap_set.proofs.samples.run_length.Given as goal

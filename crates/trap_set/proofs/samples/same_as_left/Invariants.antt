@@ -1,3 +1,4 @@
+-- The loops of same_as_left: whether a sample has the new tints of the sample to its left.
 use Rattle.std.proofs.Common.{◌≡◌, ℕ, suc, not, ◌==◌}
 use Rattle.lists.specs.Words.{any_below}
 use Rattle.trap_set.specs.Runs.{tint_at}

@@ -1,3 +1,5 @@
+-- The loops of span_is_same: whether no plane has another tint than before at some samples of a
+-- row, one beside another.
 use Rattle.std.proofs.Common.{◌≡◌, ◌<◌, ◌≤◌, ◌==◌, ℕ, false, not}
 use Rattle.lists.specs.Words.{any_below}
 use Rattle.trap_set.specs.Runs.{tint_at}

@@ -1,3 +1,4 @@
+-- fill_set: fills the open file with the set.
 use Rattle.std.proofs.Common.{refl, []}
 use Rattle.trap_set.specs.SetText.{set_text}
 use Rattle.trap_set.proofs.HoldingLemmas.{fills_whole, fills_part, puts_as}

@@ -1,3 +1,4 @@
+-- put_lines: puts the first two lines, and those of the runs.
 use Rattle.std.proofs.Common.{◌++◌}
 use Rattle.plane_shapes.specs.Shapes.{tall}
 use Rattle.trap_set.specs.Rows.{rows_text}

@@ -1,3 +1,4 @@
+-- put_set: puts the whole set.
 use Rattle.std.proofs.Common.{◌++◌, sym, refl}
 use Rattle.plane_shapes.specs.Shapes.{tall}
 use Rattle.trap_set.specs.Rows.{rows_text}

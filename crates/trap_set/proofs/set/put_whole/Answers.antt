@@ -1,3 +1,4 @@
+-- put_whole: puts the whole set, and holds nothing back.
 use Rattle.std.proofs.Common.{[], ◌++◌, sym, refl}
 use Rattle.trap_set.specs.SetText.{set_text}
 use Rattle.trap_set.proofs.HoldingLemmas.{puts_as, puts_then, puts_prefix}

@@ -1,3 +1,4 @@
+-- write_set: writes the set of what changed between planes of one shape, as a file of that name.
 use Rattle.outside.proofs.Steps.{created_then_filled}
 use Rattle.trap_set.specs.SetText.{set_text}
 use Rattle.trap_set.proofs.set.write_set.Goals as goal

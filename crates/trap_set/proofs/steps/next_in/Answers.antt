@@ -1,3 +1,4 @@
+-- next_in: what a whole line is.
 use Rattle.std.proofs.Common.{sym, ◌∙◌, subst, inl, inr}
 use Rattle.std.proofs.lemmas.Bool.{both_ways}
 use Rattle.trap_set.specs.Reading.{head_in, run_in}

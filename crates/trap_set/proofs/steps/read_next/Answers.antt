@@ -1,3 +1,4 @@
+-- read_next: reads a later line, and puts the numbers of a run into the list.
 use Rattle.trap_set.specs.Reading.{head_in}
 use Rattle.trap_set.specs.Standing.{MayCome}
 use Rattle.trap_set.proofs.NextLemmas.{next_none, run_found, short_next}

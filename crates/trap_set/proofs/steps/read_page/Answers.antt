@@ -1,3 +1,4 @@
+-- read_page: reads the second line, where it is a page line.
 use Rattle.trap_set.specs.Standing.{IsPageLine}
 use Rattle.trap_set.proofs.NextLemmas.{next_none, page_found, short_page}
 use Rattle.trap_set.proofs.steps.read_page.Goals as goal

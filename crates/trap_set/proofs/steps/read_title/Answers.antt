@@ -1,3 +1,4 @@
+-- read_title: reads the first line, and says whether a set may begin with it.
 use Rattle.std.proofs.Common.{◌≡◌, ◌↔◌, IsTrue, subst, List, ℕ}
 use Rattle.trap_set.specs.SetText.{title_line}
 use Rattle.trap_set.proofs.NextLemmas.{next_none, short_title, title_found}

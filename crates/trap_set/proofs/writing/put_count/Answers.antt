@@ -1,3 +1,4 @@
+-- put_count: puts how many planes there are.
 use Rattle.std.specs.Prelude.{codes}
 use Rattle.trap_set.specs.SetText.{number}
 use Rattle.trap_set.proofs.HoldingLemmas.{puts_then, puts_failed}

@@ -1,3 +1,4 @@
+-- put_last_tints: puts a sample's tints and the end of the line.
 use Rattle.std.proofs.Common.{ℕ, [], ◌∷◌, length}
 use Rattle.std.specs.List.{flat_map}
 use Rattle.lists.specs.Words.{list_below}

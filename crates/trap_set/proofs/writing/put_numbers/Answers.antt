@@ -1,3 +1,4 @@
+-- put_numbers: puts a space and a number, for each of some.
 use Rattle.std.proofs.Common.{◌++◌, get_or, take, drop, Err, ◌+◌}
 use Rattle.std.specs.List.{flat_map}
 use Rattle.trap_set.specs.SetText.{number}

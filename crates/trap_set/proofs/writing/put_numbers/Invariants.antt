@@ -1,3 +1,4 @@
+-- The loops of put_numbers: puts a space and a number, for each of some.
 use Rattle.std.proofs.Common.{take, Ok}
 use Rattle.std.specs.List.{flat_map}
 use Rattle.outside.specs.declared.tray.Failed.{Failed}

@@ -1,3 +1,4 @@
+-- put_place: puts the first words of a run's line.
 use Rattle.std.proofs.Common.{[], ◌∷◌}
 use Rattle.std.specs.Prelude.{codes}
 use Rattle.std.specs.List.{flat_map}

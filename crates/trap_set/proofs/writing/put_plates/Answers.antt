@@ -1,3 +1,4 @@
+-- put_plates: puts how many planes there are, and the end of the line.
 use Rattle.std.proofs.Common.{[], ◌∷◌, ◌++◌}
 use Rattle.std.specs.Prelude.{codes}
 use Rattle.trap_set.specs.SetText.{number}

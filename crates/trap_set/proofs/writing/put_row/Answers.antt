@@ -1,3 +1,4 @@
+-- put_row: puts the lines of the runs of a row.
 use Rattle.std.proofs.Common.{◌++◌, ◌+◌, sym, refl, arith, Ok, Err}
 use Rattle.plane_shapes.specs.Shapes.{wide}
 use Rattle.trap_set.specs.Rows.{row_text, run_text}

@@ -1,3 +1,4 @@
+-- The loops of put_row: puts the lines of the runs of a row.
 use Rattle.std.proofs.Common.{Ok, ◌-◌, ◌≤◌}
 use Rattle.outside.specs.declared.tray.Failed.{Failed}
 use Rattle.trap_set.specs.Holding.{Puts}

@@ -1,3 +1,4 @@
+-- put_rows: puts the lines of all runs.
 use Rattle.std.proofs.Common.{◌++◌, ◌+◌, sym, refl, arith, Ok, Err}
 use Rattle.plane_shapes.specs.Shapes.{wide, tall}
 use Rattle.trap_set.specs.Rows.{row_text, rows_text}

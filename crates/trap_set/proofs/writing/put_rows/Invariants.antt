@@ -1,3 +1,4 @@
+-- The loops of put_rows: puts the lines of all runs.
 use Rattle.std.proofs.Common.{Ok}
 use Rattle.outside.specs.declared.tray.Failed.{Failed}
 use Rattle.trap_set.specs.Holding.{Puts}

@@ -1,3 +1,4 @@
+-- put_run: puts the line of the run that begins at a sample.
 use Rattle.std.proofs.Common.{ℕ, [], ◌∷◌, ◌++◌, length, ap, sym, ◌∙◌, refl}
 use Rattle.std.specs.Prelude.{codes}
 use Rattle.std.specs.List.{flat_map}

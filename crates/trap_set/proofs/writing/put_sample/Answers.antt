@@ -1,3 +1,4 @@
+-- put_sample: puts the line of the run that begins at a sample, where one does.
 use Rattle.std.proofs.Common.{◌≡◌, [], ap, sym, ◌∙◌, refl}
 use Rattle.trap_set.specs.Rows.{run_text}
 use Rattle.trap_set.specs.Runs.{run_at}

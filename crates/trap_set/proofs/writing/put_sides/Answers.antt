@@ -1,3 +1,4 @@
+-- put_sides: puts the first line, and the sides and the maxval of the second.
 use Rattle.std.proofs.Common.{[], ◌∷◌, ◌++◌}
 use Rattle.std.specs.Prelude.{codes}
 use Rattle.std.specs.List.{flat_map}

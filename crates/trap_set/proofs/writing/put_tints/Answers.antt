@@ -1,3 +1,4 @@
+-- put_tints: puts a sample's tints.
 use Rattle.std.proofs.Common.{◌≡◌, ◌++◌, ◌+◌, ◌-◌, ℕ, length, ap, refl, sym, arith, ◌<◌, Ok, Err}
 use Rattle.std.specs.List.{flat_map}
 use Rattle.lists.specs.Words.{list_below}

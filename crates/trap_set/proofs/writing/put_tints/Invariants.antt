@@ -1,3 +1,4 @@
+-- The loops of put_tints: puts a sample's tints.
 use Rattle.std.proofs.Common.{ℕ, Ok}
 use Rattle.std.specs.List.{flat_map}
 use Rattle.lists.specs.Words.{list_below}

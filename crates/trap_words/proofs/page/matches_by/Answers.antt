@@ -1,3 +1,4 @@
+-- What `matches_by` has to show.
 use Rattle.std.proofs.Common.{ℕ, List, sym, map, string_bytes, Global}
 use Rattle.clap.specs.Words.{app_of}
 use Rattle.trap_words.proofs.PageLemmas.{nothing_found, nothing_taken, rows_found, taken}

@@ -1,3 +1,4 @@
+-- page_command: page [--workers N] [--band B] JOB REPORT PLATE.
 use Rattle.std.proofs.Common.{◌≡◌, ◌∙◌, ap₂, codes, refl, rules}
 use Rattle.clap.specs.Words.{rule_of, with_rule}
 use Rattle.trap_words.specs.PageApp.{option_rule, word_rule, words_rule}

@@ -1,3 +1,4 @@
+-- How far the loops of `parts_of_all` have come.
 use Rattle.std.proofs.Common.{◌≡◌, map, take, vec_len}
 use Rattle.plain_words.specs.Parts.{parts_of}
 use Rattle.trap_words.specs.Held.{plates_in}

@@ -1,3 +1,5 @@
+-- The loops of answer_all: line by line writes the files of what is done, and tells what became of
+-- it.
 use Rattle.std.proofs.Common.{ℕ, drop}
 use Rattle.std.specs.Vec.Iter.{into_iter_items}
 use Rattle.outside.specs.Rack.{RackState}

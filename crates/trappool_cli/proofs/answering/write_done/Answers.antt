@@ -1,3 +1,4 @@
+-- What `write_done` has to show.
 use Rattle.std.proofs.Common.{◌≡◌, ◌∙◌, length, map, string_bytes, Err, Ok, sym, ap, arith}
 use Rattle.std.proofs.lemmas.List.{length-map}
 use Rattle.trappool_cli.proofs.Writing.{page_written}

@@ -1,3 +1,4 @@
+-- write_reply: writes the files of a line whose page is done, and says what became of it.
 use Rattle.std.proofs.Common.{◌≡◌, ◌∙◌, List, Option, Some, ℕ, length, sym, ap, subst}
 use Rattle.page_model.specs.declared.parts.Plane.{Plane}
 use Rattle.trap_report.proofs.ReportLemmas.{as_many_planes}

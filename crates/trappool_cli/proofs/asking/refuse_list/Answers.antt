@@ -1,3 +1,4 @@
+-- refuse_list: tells why nothing was written, and gives the status of it.
 use Rattle.std.proofs.Common.{ℕ, List, refl, sym, subst}
 use Rattle.refusals.specs.Telling.{TellsText}
 use Rattle.trappool_cli.specs.Endings.{Refuses, fault_line, fault_status}

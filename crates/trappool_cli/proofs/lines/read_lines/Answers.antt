@@ -1,3 +1,4 @@
+-- read_lines: reads the list of that name.
 use Rattle.std.proofs.Common.{ℕ, List, subst, arith}
 use Rattle.job_list.specs.Lists.{ReadsList}
 use Rattle.trappool_cli.proofs.Prefixes.{read_judged}

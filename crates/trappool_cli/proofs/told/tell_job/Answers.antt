@@ -1,3 +1,4 @@
+-- tell_job: tells what is said of a job of the list, or a prefix of it where the rack has a fault.
 use Rattle.std.proofs.Common.{◌∙◌}
 use Rattle.trappool_cli.specs.Text.{job_name, said_text}
 use Rattle.trappool_cli.proofs.Telling.{told_part, told_then}

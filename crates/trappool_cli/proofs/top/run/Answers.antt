@@ -1,3 +1,4 @@
+-- What `run` has to show.
 use Rattle.std.proofs.Common.{sym}
 use Rattle.trappool_cli.proofs.Outs.{made_outs}
 use Rattle.trappool_cli.specs.Endings.{answered, no_list}

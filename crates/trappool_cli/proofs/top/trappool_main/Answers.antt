@@ -1,3 +1,5 @@
+-- trappool_main: traps the pages of a list of jobs, and answers the status that the program ends
+-- with.
 use Rattle.std.proofs.Common.{map, string_bytes, Global}
 use Rattle.trappool_cli.proofs.Clauses.{answers_lines, leaves_files, refused_list, statuses, success, untold, usage_ends}
 use Rattle.trappool_cli.proofs.Judging.{answers_each, begins_list, completeness, judges_list}

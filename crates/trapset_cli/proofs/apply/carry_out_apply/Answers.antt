@@ -1,3 +1,4 @@
+-- carry_out_apply: carries out a command `apply`.
 use Rattle.std.proofs.Common.{List, ℕ, Bor, map, ap, ◌∙◌}
 use Rattle.trapset_cli.specs.Held.{apply_in}
 use Rattle.trapset_cli.proofs.ApplyLemmas.{patched_out, some_plates}

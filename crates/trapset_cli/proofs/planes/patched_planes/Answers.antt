@@ -1,3 +1,5 @@
+-- patched_planes: reads the plates in the order of the words and then the set, and gives the planes
+-- with the set on them.
 use Rattle.std.proofs.Common.{List, ℕ, Bor, map, ap, ◌∙◌}
 use Rattle.trapset_cli.specs.Held.{apply_in}
 use Rattle.trapset_cli.proofs.ApplyLemmas.{plates_patched, plates_unread, some_plates}

@@ -1,3 +1,4 @@
+-- What becomes less at each call of are_all_copies by itself.
 use Rattle.std.proofs.Common.{length}
 use Rattle.trapset_cli.proofs.plates.+are_all_copies.Given as goal
 

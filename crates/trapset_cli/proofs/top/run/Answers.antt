@@ -1,3 +1,4 @@
+-- What `run` has to show.
 use Rattle.std.proofs.Common.{sym}
 use Rattle.trapset_cli.specs.Endings.Ends.{command}
 use Rattle.trapset_cli.specs.Held.{command_in}

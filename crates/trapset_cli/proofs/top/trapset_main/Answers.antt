@@ -1,3 +1,5 @@
+-- trapset_main: carries out the command that the words mean, and answers the status that the
+-- program ends with.
 use Rattle.std.proofs.Common.{map, string_bytes, Global}
 use Rattle.trapset_cli.proofs.ClauseLemmas.{success, usage_ends, refused_input, read_fault, write_fault, leaves_files, set_fault, fault_line, completeness}
 use Rattle.trapset_cli.proofs.top.trapset_main.Goals as goal

@@ -1,3 +1,4 @@
+-- put_set: traps the page, and writes the set of what changed.
 use Rattle.std.proofs.Common.{List, sym, subst}
 use Rattle.page_model.specs.declared.parts.Plane.{Plane}
 use Rattle.trap_set.specs.Runs.{ArePair}

@@ -1,3 +1,4 @@
+-- What `hold_in` has to show.
 use Rattle.std.proofs.Common.{Err, refl, ap}
 use Rattle.sheet_gather.specs.declared.stop.TrapsheetError.{TrapsheetError}
 use Rattle.trapsheet_cli.specs.Holding.{HoldsAll}

@@ -1,3 +1,4 @@
+-- page_outcome: a page after trapping by one thread.
 use Rattle.std.proofs.Common.{sym, subst}
 use Rattle.page_model.specs.declared.parts.Counts.{Counts}
 use Rattle.trap_report.specs.Report.{AreCounts}

@@ -1,3 +1,4 @@
+-- The loops of planes_with: the planes of these tints, with the sides and the maxval of a sheet.
 use Rattle.std.proofs.Common.{◌≡◌, ◌++◌, map}
 use Rattle.std.specs.Vec.Iter.{into_iter_items}
 use Rattle.trapsheet_cli.specs.Trapping.{plane_with}

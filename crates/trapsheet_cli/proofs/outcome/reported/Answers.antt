@@ -1,3 +1,4 @@
+-- reported: the planes of a trapped sheet, with the report of what changed.
 use Rattle.std.proofs.Common.{◌∙◌}
 use Rattle.trapsheet_cli.proofs.OutcomeLemmas.{planes_are}
 use Rattle.trapsheet_cli.proofs.outcome.reported.Goals as goal

@@ -1,3 +1,5 @@
+-- report_counts: writes the report of a sheet with these counts by the first rack, where all of the
+-- sheet but its tints is known.
 use Rattle.std.proofs.Common.{ℕ, ◌<◌, List, length, map, sym, subst, arith}
 use Rattle.outside.specs.Rack.{RackState}
 use Rattle.outside.specs.Writing.{WritesFile}

@@ -1,3 +1,4 @@
+-- told_counts: what is counted of a sheet, as its report tells it.
 use Rattle.std.proofs.Common.{ℕ, List, length, ap, ◌∙◌}
 use Rattle.trapsheet_cli.proofs.OutcomeLemmas.{counts_are}
 use Rattle.trapsheet_cli.proofs.reporting.told_counts.Goals as goal

@@ -1,3 +1,4 @@
+-- carry_out: judges the sheet, reads it once more, traps it and writes its files.
 use Rattle.std.proofs.Common.{ℕ, List, Bor, Ok, Err, map, ap, ◌∙◌, subst}
 use Rattle.page_gather.specs.Inputs.{sources}
 use Rattle.sheet_gather.specs.Judging.{JudgesSheet}

@@ -1,3 +1,4 @@
+-- put_out: traps a sheet and writes its files.
 use Rattle.std.proofs.Common.{◌≤◌, ℕ, List, Bor, Global, length, map, ap, sym, ◌∙◌, subst, string_bytes}
 use Rattle.std.specs.List.{All}
 use Rattle.std.proofs.lemmas.List.{length-map}

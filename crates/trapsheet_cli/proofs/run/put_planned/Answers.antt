@@ -1,3 +1,5 @@
+-- put_planned: reads a sheet that was judged once more, traps it and writes its files, strip by
+-- strip where it can be cut so.
 use Rattle.std.proofs.Common.{subst, sym}
 use Rattle.bare_sheets.specs.Planned.{IsPlan}
 use Rattle.trapsheet_cli.specs.Holding.{CanHold}

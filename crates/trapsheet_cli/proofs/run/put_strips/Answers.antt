@@ -1,3 +1,4 @@
+-- What `put_strips` has to show.
 use Rattle.std.proofs.Common.{ℕ, List, Bor, map, ap, ◌∙◌, subst}
 use Rattle.sheet_loop.specs.Second.{course_of}
 use Rattle.trapsheet_cli.specs.Streaming.{StreamsOut}

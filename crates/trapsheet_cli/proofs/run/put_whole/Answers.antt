@@ -1,3 +1,4 @@
+-- What `put_whole` has to show.
 use Rattle.std.proofs.Common.{ℕ, List, Bor, map, sym, ◌∙◌}
 use Rattle.trapsheet_cli.specs.Held.{order_in}
 use Rattle.trapsheet_cli.specs.Planned.{PutsWhole}

@@ -1,3 +1,4 @@
+-- report_room: writes the report of what is counted in a room.
 use Rattle.std.proofs.Common.{refl}
 use Rattle.trapsheet_cli.specs.Streaming.{EndsReport}
 use Rattle.trapsheet_cli.proofs.streaming.report_room.Goals as goal

@@ -1,3 +1,4 @@
+-- What `stream_in` has to show.
 use Rattle.std.proofs.Common.{Err, map, sym, subst}
 use Rattle.sheet_gather.specs.declared.stop.TrapsheetError.{TrapsheetError}
 use Rattle.sheet_loop.specs.Second.{StreamsSheet, course_of}

@@ -1,3 +1,4 @@
+-- trapsheet_main: traps a sheet of any size, and answers the status that the program ends with.
 use Rattle.std.proofs.Common.{map, string_bytes, Global}
 use Rattle.sheet_gather.specs.Inputs.{held_by}
 use Rattle.trapsheet_cli.specs.Words.{sources_of}

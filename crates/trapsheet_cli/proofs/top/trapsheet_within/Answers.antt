@@ -1,3 +1,4 @@
+-- trapsheet_within: as `trapsheet_main`, with windows of at most so many rows and samples.
 use Rattle.std.proofs.Common.{sym}
 use Rattle.trapsheet_cli.specs.Endings.EndsWords.{sheet}
 use Rattle.trapsheet_cli.specs.Held.{order_in}

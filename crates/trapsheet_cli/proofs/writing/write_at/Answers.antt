@@ -1,3 +1,4 @@
+-- write_at: writes a plane by the rack of that number.
 use Rattle.std.proofs.Common.{map, sym, subst}
 use Rattle.outside.specs.Rack.{RackState}
 use Rattle.outside.specs.Writing.{WritesFile}

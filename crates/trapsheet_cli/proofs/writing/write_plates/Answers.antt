@@ -1,3 +1,4 @@
+-- write_plates: writes the planes, each by the rack of its number.
 use Rattle.std.proofs.Common.{◌≡◌, ◌<◌, ℕ, List, Ok, Err, length, get_or, map, refl, arith, ap, ◌∙◌, subst}
 use Rattle.std.proofs.lemmas.List.{length-map}
 use Rattle.outside.specs.Writing.{WritesFile}

@@ -1,3 +1,4 @@
+-- The loops of write_plates: writes the planes, each by the rack of its number.
 use Rattle.std.proofs.Common.{map}
 use Rattle.trapsheet_cli.specs.Racks.{WritesFirst}
 use Rattle.trapsheet_cli.proofs.writing.write_plates.Given as goal

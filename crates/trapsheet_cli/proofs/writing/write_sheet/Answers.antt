@@ -1,3 +1,5 @@
+-- write_sheet: writes each plane, turned into a plate, into the file of its name, plane k by rack
+-- k, and then the text into the report by the first rack.
 use Rattle.std.proofs.Common.{◌≤◌, length, map, arith}
 use Rattle.std.proofs.lemmas.List.{length-map}
 use Rattle.trapsheet_cli.proofs.RackLemmas.{plates_failed, report_failed, sheet_wrote}

@@ -1,3 +1,4 @@
+-- one_verdict: the bytes of a page's files have one verdict at most.
 use Rattle.page_gather.specs.Inputs.{one_page}
 use Rattle.verdicts.proofs.VerdictLemmas.{one_verdict}
 use Rattle.verdicts.proofs.laws.one_verdict.Goals as goal

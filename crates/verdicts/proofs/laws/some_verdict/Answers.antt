@@ -1,3 +1,4 @@
+-- some_verdict: where the job and all plates are among the files, there is a verdict.
 use Rattle.page_gather.specs.Inputs.{one_page}
 use Rattle.verdicts.proofs.SomeLemmas.{some_verdict}
 use Rattle.verdicts.proofs.laws.some_verdict.Goals as goal

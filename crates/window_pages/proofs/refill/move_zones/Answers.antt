@@ -1,3 +1,4 @@
+-- move_zones: moves zones into the places of zones of their form.
 use Rattle.std.proofs.Common.{◌∙◌, ap, arith, refl, sym}
 use Rattle.window_pages.specs.Forms.{zone_form}
 use Rattle.window_pages.proofs.FormLemmas.{item_read, zone_each, zones_many}

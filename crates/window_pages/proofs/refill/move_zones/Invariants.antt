@@ -1,3 +1,4 @@
+-- The loops of move_zones: moves zones into the places of zones of their form.
 use Rattle.std.proofs.Common.{◌≡◌, ℕ, ◌<◌, ◌≤◌, length, take}
 use Rattle.std.specs.Prelude.{map, slice_index_or}
 use Rattle.page_model.specs.declared.parts.Zone.{Zone}

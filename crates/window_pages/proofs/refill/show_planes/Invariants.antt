@@ -1,3 +1,5 @@
+-- The loops of show_planes: puts what a window shows of each plane in the place of as many planes
+-- with as many tints.
 use Rattle.std.proofs.Common.{◌≡◌, ℕ, ◌*◌, ◌<◌, ◌≤◌, length, take}
 use Rattle.std.specs.Prelude.{map}
 use Rattle.page_model.specs.Planes.{plane_at}

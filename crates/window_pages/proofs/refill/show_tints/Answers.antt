@@ -1,3 +1,4 @@
+-- show_tints: puts the tints that a window shows in the place of as many others.
 use Rattle.std.proofs.Common.{◌≡◌, ◌+◌, ◌*◌, ◌++◌, ◌≤◌, List, ℕ, ap, ◌∙◌, arith, length, take}
 use Rattle.window_pages.proofs.Showing.{put_front, put_long, row_inside, shown_next}
 use Rattle.window_pages.proofs.refill.show_tints.Goals as goal

@@ -1,3 +1,4 @@
+-- The loops of show_tints: puts the tints that a window shows in the place of as many others.
 use Rattle.std.proofs.Common.{◌≡◌, ◌*◌, length, take}
 use Rattle.window_pages.specs.Shown.{shown_tints}
 use Rattle.window_pages.proofs.refill.show_tints.Given as goal

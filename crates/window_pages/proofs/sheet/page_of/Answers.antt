@@ -1,3 +1,4 @@
+-- page_of: the page of parts that make one.
 use Rattle.std.proofs.Common.{◌∙◌, sym}
 use Rattle.page_model.proofs.FaultLemmas.{faultless}
 use Rattle.lists.proofs.FirstSome.{some_is_none}

@@ -1,3 +1,4 @@
+-- across_of: where the segment from a to b stands at height y, times its rise.
 use Rattle.std.proofs.Common.{◌∙◌}
 use Rattle.zone_map.proofs.Widths.{sum_fits, whole_sum_is, same_sum, way_is, near_64}
 use Rattle.zone_map.proofs.crossings.across_of.Goals as goal

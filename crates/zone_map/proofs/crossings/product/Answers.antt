@@ -1,3 +1,4 @@
+-- product: the product of two lengths on the page.
 use Rattle.std.proofs.Common.{arith}
 use Rattle.std.specs.Int.{w128}
 use Rattle.std.proofs.lemmas.Int.{to_z-of_z, fits_signed_mul}

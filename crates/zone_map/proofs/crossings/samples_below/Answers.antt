@@ -1,3 +1,5 @@
+-- samples_below: how many samples of a row have their middles left of a point of it, which is given
+-- times the rise.
 use Rattle.zone_map.proofs.Leans.{floor-left}
 use Rattle.zone_map.proofs.crossings.samples_below.Goals as goal
 

@@ -1,3 +1,5 @@
+-- samples_left_of: how many samples have their middles left of where the rising segment from a to b
+-- crosses the row at height y.
 use Rattle.std.proofs.Common.{◌≡◌, ◌∙◌, refl, sym, ap, ◌+◌, ◌*◌}
 use Rattle.std.specs.Prelude.{nat_abs, ◌-ℤ◌, ℤ}
 use Rattle.zone_map.specs.Spots.{point}

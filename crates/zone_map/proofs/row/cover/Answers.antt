@@ -1,3 +1,4 @@
+-- cover: writes zone z for each sample of row y that its path covers.
 use Rattle.std.proofs.Common.{◌≡◌, ◌∙◌, sym, refl, ◌+◌, arith, pos}
 use Rattle.std.specs.Prelude.{slice_index, sum}
 use Rattle.page_model.specs.declared.parts.At.{At}

@@ -1,3 +1,4 @@
+-- zone_row: writes the zone of each sample of row y, from the left.
 use Rattle.std.proofs.Common.{◌≡◌, ◌-◌, arith, length}
 use Rattle.page_model.specs.Zones.{zone_of}
 use Rattle.zone_map.proofs.row.zone_row.Goals as goal

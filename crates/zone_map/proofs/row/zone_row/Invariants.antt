@@ -1,3 +1,4 @@
+-- The loops of zone_row: writes the zone of each sample of row y, from the left.
 use Rattle.std.proofs.Common.{◌≡◌, ◌<◌, ◌-◌, ◌+◌, ℕ, length}
 use Rattle.std.specs.Prelude.{slice_index, sum}
 use Rattle.page_model.specs.Page.{width}

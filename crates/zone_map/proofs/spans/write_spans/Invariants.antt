@@ -1,3 +1,4 @@
+-- The loops of write_spans: writes the zone wherever the crossings to the right do not cancel out.
 use Rattle.std.proofs.Common.{◌≡◌, ◌+◌, ℕ, ◌<◌, ◌≤◌, if◌then◌else◌, length, pos, drop}
 use Rattle.std.specs.Prelude.{slice_index, sum}
 use Rattle.std.specs.Ordering.{int_eq}

@@ -1,3 +1,4 @@
+-- add_at: counts one crossing with n samples left of it.
 use Rattle.zone_map.proofs.TallyLemmas.{past-more}
 use Rattle.zone_map.proofs.tally.add_at.Goals as goal
 

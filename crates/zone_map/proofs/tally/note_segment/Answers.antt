@@ -1,3 +1,5 @@
+-- note_segment: counts the segment from a to b where it crosses the row at height y, upwards or
+-- downwards.
 use Rattle.std.proofs.Common.{◌∙◌, sym, ap, pos, ℕ, if◌then◌else◌, Bool}
 use Rattle.std.specs.Prelude.{◌-ℤ◌, nat_lt}
 use Rattle.zone_map.specs.Spots.{middle, point}

@@ -1,3 +1,4 @@
+-- tally_path: counts where the segments of a path cross the row at height y, and tells how many do.
 use Rattle.std.proofs.Common.{◌≡◌, ◌∙◌, ◌<◌, ◌+◌, length, sym, ap, arith, false, pos, ℕ, w64, rules}
 use Rattle.std.specs.Prelude.{slice_index_or}
 use Rattle.page_model.specs.declared.parts.Vertex.{Vertex}

@@ -1,3 +1,5 @@
+-- The loops of tally_path: counts where the segments of a path cross the row at height y, and tells
+-- how many do.
 use Rattle.std.proofs.Common.{◌≡◌, ◌≤◌, ◌<◌, ◌+◌, ℕ, drop, length}
 use Rattle.std.specs.Prelude.{◌+ℤ◌, sum}
 use Rattle.page_model.specs.Conditions.{IsVertex}

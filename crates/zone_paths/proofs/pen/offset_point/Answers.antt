@@ -1,3 +1,5 @@
+-- offset_point: the point that lies so far away from a near one; none where it is so far that it is
+-- no near one.
 use Rattle.std.proofs.Common.{◌≡◌, ◌≤◌, ◌+ℤ◌, FitsSigned, w64, true, arith, ℕ, ℤ, refl}
 use Rattle.std.specs.Prelude.{nat_abs, nat_le}
 use Rattle.std.proofs.lemmas.Bool.{and_parts}

@@ -1,3 +1,4 @@
+-- Closed::cell: the word of a cell.
 use Rattle.std.proofs.Common.{ap, ◌∙◌, ◌+◌, slice_index}
 use Rattle.page_model.specs.Bands.{pieces_of}
 use Rattle.band_claims.specs.Rule.{cell_word}

@@ -1,3 +1,5 @@
+-- Closed::set_done: makes a piece done that was not, and adds it to the list of the pieces that
+-- were made alone, which ascends.
 use Rattle.std.proofs.Common.{set, ◌≡◌, ◌≢◌, ℕ, ◌+◌, ◌==◌, ◌<◌, slice_index, sym, ap, ◌∙◌, arith}
 use Rattle.page_model.specs.Bands.{pieces_of}
 use Rattle.band_claims.specs.Views.{one_if, times}

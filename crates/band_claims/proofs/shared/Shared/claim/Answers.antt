@@ -1,3 +1,4 @@
+-- Shared::claim: claims a piece.
 use Rattle.std.proofs.Common.{ap, ◌∙◌, sym, arith, ◌≡◌, ◌≢◌, ℕ, subst, Bool, true, false}
 use Rattle.std.proofs.lemmas.Bool.{false≢true}
 use Rattle.std.specs.Prelude.{IsTrue}

@@ -1,3 +1,4 @@
+-- The loops of Shared::claim: claims a piece.
 use Rattle.band_claims.specs.Seating.{Seats}
 use Rattle.band_claims.specs.Views.{Looks}
 use Rattle.band_claims.proofs.Looking.{KnowsBefore}

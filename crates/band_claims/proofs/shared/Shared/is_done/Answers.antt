@@ -1,3 +1,4 @@
+-- Shared::is_done: whether a piece is done.
 use Rattle.std.proofs.Common.{ap, ◌∙◌, sym, arith, ◌<◌}
 use Rattle.page_model.specs.Bands.{pieces_of}
 use Rattle.band_claims.proofs.Steps.{looks}

@@ -1,3 +1,5 @@
+-- Shared::join: one pass of two, which has published and seen what both had, and has the shares of
+-- both.
 use Rattle.std.proofs.Common.{ap, ◌∙◌, sym, arith}
 use Rattle.band_claims.proofs.Steps.{joins}
 use Rattle.band_claims.proofs.shared.Shared.join.Goals as goal

@@ -1,3 +1,4 @@
+-- Shared::new: a table with all words 0 for a page, and its first pass, which knows nothing.
 use Rattle.std.proofs.Common.{sym, subst}
 use Rattle.page_model.specs.declared.parts.PageParts.{PageParts}
 use Rattle.band_core.specs.Values.{IsFor}

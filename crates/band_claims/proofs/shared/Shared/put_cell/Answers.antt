@@ -1,3 +1,4 @@
+-- Shared::put_cell: fills the next cell of the held piece with its defined value.
 use Rattle.std.proofs.Common.{ap, ◌∙◌, sym, arith, ◌<◌, ◌≡◌, ℕ, ◌+◌, Some}
 use Rattle.band_claims.specs.Sheets.{shape_of, cell}
 use Rattle.band_claims.proofs.Carrying.{carried}

@@ -1,3 +1,4 @@
+-- What `Shared::read_alone` has to show.
 use Rattle.std.proofs.Common.{ap, ◌∙◌, sym, arith, ◌≡◌, ℕ, ◌+◌, Some}
 use Rattle.page_model.specs.Bands.{pieces_of}
 use Rattle.band_board.specs.Shapes.{Has}

@@ -1,3 +1,4 @@
+-- Shared::read_cell: the word of one cell of a piece that the pass saw done or published.
 use Rattle.std.proofs.Common.{ap, ◌∙◌, sym, arith, ◌≡◌, ℕ, ◌+◌, Some}
 use Rattle.page_model.specs.Bands.{pieces_of}
 use Rattle.band_board.specs.Shapes.{Has}

@@ -1,3 +1,5 @@
+-- Shared::read_cells: the words of cells, from number `first` on, of pieces that the pass saw done
+-- or published.
 use Rattle.std.proofs.Common.{ap, arith, ◌+◌}
 use Rattle.band_claims.specs.Sheets.{shape_of}
 use Rattle.band_board.specs.Shapes.{Has}

@@ -1,3 +1,4 @@
+-- Shared::reader: a seat that reads alone, and has seen what the pass knows.
 use Rattle.std.proofs.Common.{false, ap, ◌∙◌, sym, arith}
 use Rattle.band_claims.proofs.Steps.{splits}
 use Rattle.band_claims.proofs.shared.Shared.reader.Goals as goal

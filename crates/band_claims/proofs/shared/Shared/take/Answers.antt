@@ -1,3 +1,4 @@
+-- Shared::take: the exchange of a claim.
 use Rattle.std.proofs.Common.{ap, ◌∙◌, sym, arith, ◌<◌, ◌≡◌, ℕ, None, true}
 use Rattle.page_model.specs.Bands.{pieces_of}
 use Rattle.band_graph.specs.Needs.{is_need}

@@ -1,3 +1,5 @@
+-- Board::step: makes the event happen, and answers false exactly where it may not happen; nothing
+-- then changes.
 use Rattle.std.proofs.Common.{ap}
 use Rattle.band_core.specs.LaidBoards.{LaidBoard}
 use Rattle.band_core.specs.Shapes.{shape_of}

@@ -1,3 +1,4 @@
+-- Scratch::new: the memory for the pieces of pages like this one, in these bands.
 use Rattle.std.proofs.Common.{◌≡◌, ℕ, ◌*◌, ◌≤◌, sym, ap, ◌∙◌, arith}
 use Rattle.std.proofs.Math.Nat.{mul-le-mul_right}
 use Rattle.page_model.specs.declared.bands.Bands.{Bands}

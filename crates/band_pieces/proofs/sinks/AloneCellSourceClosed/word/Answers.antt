@@ -1,3 +1,4 @@
+-- What `AloneCellSourceClosed::word` has to show.
 use Rattle.band_claims.proofs.Steps.{small_word}
 use Rattle.band_pieces.proofs.sinks.AloneCellSourceClosed.word.Goals as goal
 

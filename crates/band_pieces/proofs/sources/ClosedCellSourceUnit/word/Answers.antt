@@ -1,3 +1,4 @@
+-- What `ClosedCellSourceUnit::word` has to show.
 use Rattle.band_claims.proofs.Steps.{small_word}
 use Rattle.band_pieces.proofs.sources.ClosedCellSourceUnit.word.Goals as goal
 

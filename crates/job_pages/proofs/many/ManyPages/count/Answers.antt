@@ -1,3 +1,4 @@
+-- ManyPages::count: how many pages there are.
 use Rattle.std.proofs.Common.{arith}
 use Rattle.job_pages.proofs.Counts.{shown_few}
 use Rattle.job_pages.proofs.many.ManyPages.count.Goals as goal

@@ -1,3 +1,5 @@
+-- The loops of Sheet::bare_row: notes for each sample of a row of plate c 2 where it has no ink,
+-- else 1.
 use Rattle.std.proofs.Common.{◌≡◌, ◌+◌, ◌<◌, ℕ, slice_index}
 use Rattle.misregister.specs.Risk.{is_bare}
 use Rattle.misregister.specs.Sweep.{bit}

@@ -1,3 +1,4 @@
+-- What `PlatesLook::look` has to show.
 use Rattle.page_gather.proofs.PlateLemmas.{one_refused}
 use Rattle.page_gather.proofs.plates.PlatesLook.look.Goals as goal
 

@@ -1,3 +1,4 @@
+-- Page::new: the page of these parts, or the first of their faults.
 use Rattle.std.proofs.Common.{sym}
 use Rattle.page_model.proofs.FaultLemmas.{page_from}
 use Rattle.page_model.proofs.page.Page.new.Goals as goal

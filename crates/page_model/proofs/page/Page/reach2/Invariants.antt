@@ -1,3 +1,4 @@
+-- The loops of Page::reach2: the reach of the page in half-samples.
 use Rattle.std.proofs.Common.{◌≡◌, ◌≤◌, length}
 use Rattle.page_model.specs.Reach.{zone_reach}
 use Rattle.lists.specs.Words.{greatest_below}

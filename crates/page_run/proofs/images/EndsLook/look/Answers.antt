@@ -1,3 +1,4 @@
+-- What `EndsLook::look` has to show.
 use Rattle.page_run.proofs.ImageLemmas.{end_extra, end_fails, end_unread}
 use Rattle.page_run.proofs.images.EndsLook.look.Goals as goal
 

@@ -1,3 +1,4 @@
+-- What `ImagesLook::look` has to show.
 use Rattle.page_run.proofs.ImageLemmas.{image_ends, image_fails, image_read, image_unread}
 use Rattle.page_run.proofs.images.ImagesLook.look.Goals as goal
 

@@ -1,3 +1,4 @@
+-- Outcome::add: adds what is counted in the next rows.
 use Rattle.std.proofs.Common.{◌∙◌, ◌+◌, ◌*◌, ℕ, List, ap, arith, length}
 use Rattle.std.proofs.lemmas.List.{with_items_is}
 use Rattle.page_model.specs.Page.{width}

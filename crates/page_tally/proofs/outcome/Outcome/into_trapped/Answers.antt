@@ -1,3 +1,4 @@
+-- Outcome::into_trapped: the page after trapping, when all its rows are taken in.
 use Rattle.page_tally.proofs.OutcomeLemmas.{counts_whole}
 use Rattle.page_tally.proofs.StandingLemmas.{trapped_whole}
 use Rattle.page_tally.proofs.outcome.Outcome.into_trapped.Goals as goal

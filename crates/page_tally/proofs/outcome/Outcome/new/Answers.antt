@@ -1,3 +1,4 @@
+-- Outcome::new: the outcome with no row of the page taken in.
 use Rattle.std.proofs.Common.{arith, refl}
 use Rattle.page_tally.proofs.OutcomeLemmas.{none_taken}
 use Rattle.page_tally.proofs.outcome.Outcome.new.Goals as goal

@@ -1,3 +1,4 @@
+-- Outcome::take_in: takes in row y, the next one.
 use Rattle.std.proofs.Common.{◌∙◌, arith, length}
 use Rattle.std.proofs.lemmas.List.{with_items_is}
 use Rattle.page_model.specs.Page.{width}

@@ -1,3 +1,4 @@
+-- What `Plate::into_plane` has to show.
 use Rattle.std.proofs.Common.{subst, sym}
 use Rattle.page_model.specs.Conditions.{IsPlane}
 use Rattle.pgm_plates.proofs.Turned.{plane_in_range}

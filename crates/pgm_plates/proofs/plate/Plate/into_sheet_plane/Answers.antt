@@ -1,3 +1,4 @@
+-- What `Plate::into_sheet_plane` has to show.
 use Rattle.std.proofs.Common.{subst, sym}
 use Rattle.pgm_plates.specs.declared.bounds.Bounds.TheVariants.{Sheet}
 use Rattle.pgm_plates.specs.Planes.{IsPlaneWithin}

@@ -1,3 +1,4 @@
+-- What `Plate::of_plane` has to show.
 use Rattle.std.proofs.Common.{subst, sym}
 use Rattle.pgm_plates.specs.Plates.{IsPlate}
 use Rattle.pgm_plates.proofs.Turned.{plate_in_range}

@@ -1,3 +1,5 @@
+-- What the calls in first_difference pass on for clauses: the first radius at which the two counts
+-- differ.
 use Rattle.presscheck_tests.proofs.tests.counts.first_difference.Given as goal
 
 abbrev pub ghosts-counted : goal.ghosts-counted

@@ -1,3 +1,4 @@
+-- The loops of random_planes: planes of one shape, each with other samples.
 use Rattle.std.proofs.Common.{◌≡◌, vec_len}
 use Rattle.std.specs.List.{All}
 use Rattle.misregister.proofs.SmallSheets.{IsSmall}

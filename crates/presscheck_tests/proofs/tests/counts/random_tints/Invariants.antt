@@ -1,3 +1,4 @@
+-- The loops of random_tints: random samples, of eight so many without ink.
 use Rattle.std.proofs.Common.{◌≡◌, ◌≤◌, ℕ, vec_len}
 use Rattle.std.specs.List.{All}
 use Rattle.presscheck_tests.proofs.tests.counts.random_tints.Given as goal

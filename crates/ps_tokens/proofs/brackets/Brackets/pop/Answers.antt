@@ -1,3 +1,4 @@
+-- Brackets::pop: closes the innermost bracket.
 use Rattle.std.proofs.Common.{sym, ap, ◌∙◌, drop}
 use Rattle.std.proofs.lemmas.List.{drop-drop}
 use Rattle.ps_tokens.proofs.brackets.Brackets.pop.Goals as goal

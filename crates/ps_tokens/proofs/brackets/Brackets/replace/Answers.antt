@@ -1,3 +1,4 @@
+-- Brackets::replace: puts another bracket in the innermost one's place.
 use Rattle.std.proofs.Common.{◌<◌, ◌∷◌, length, sym, ap, ◌∙◌, drop, arith, length-drop}
 use Rattle.std.proofs.lemmas.List.{drop-drop, drop-set}
 use Rattle.ps_tokens.proofs.brackets.Brackets.replace.Goals as goal

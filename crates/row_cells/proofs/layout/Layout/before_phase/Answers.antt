@@ -1,3 +1,4 @@
+-- Layout::before_phase: the cells of the phases before one.
 use Rattle.std.proofs.Common.{arith}
 use Rattle.row_cells.proofs.Places.{most_next}
 use Rattle.row_cells.proofs.layout.Layout.before_phase.Goals as goal

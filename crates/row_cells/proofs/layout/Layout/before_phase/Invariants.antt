@@ -1,3 +1,4 @@
+-- The loops of Layout::before_phase: the cells of the phases before one.
 use Rattle.std.proofs.Common.{◌≡◌, ◌≤◌, ◌*◌}
 use Rattle.row_cells.specs.Most.{most_before}
 use Rattle.row_cells.specs.Places.{first_cell_of}

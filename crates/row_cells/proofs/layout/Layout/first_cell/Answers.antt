@@ -1,3 +1,4 @@
+-- Layout::first_cell: the number of the first cell of a piece.
 use Rattle.std.proofs.Common.{◌≡◌, ℕ, ◌+◌, ◌*◌, ap, subst, arith}
 use Rattle.page_model.specs.Bands.{phase_of, band_of}
 use Rattle.page_model.proofs.BandLemmas.{band-less, piece-is}

@@ -1,3 +1,4 @@
+-- PageRoom::new: the room for pages of this page's shape.
 use Rattle.std.proofs.Common.{arith}
 use Rattle.strip_engine.proofs.RoomLemmas.{outcome_shape}
 use Rattle.strip_engine.proofs.room.PageRoom.new.Goals as goal

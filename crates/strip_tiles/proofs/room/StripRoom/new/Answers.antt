@@ -1,3 +1,5 @@
+-- StripRoom::new: all memory that strips of this one's form and number of rows are trapped in, cut
+-- into these columns.
 use Rattle.std.proofs.Common.{◌∙◌, List, ap, sym, subst}
 use Rattle.std.specs.Prelude.{map}
 use Rattle.std.specs.List.{All}

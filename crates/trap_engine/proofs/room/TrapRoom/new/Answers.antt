@@ -1,3 +1,4 @@
+-- TrapRoom::new: the room for trapping this page by so many workers, in bands of so many rows.
 use Rattle.std.proofs.Common.{◌∙◌, ap, arith}
 use Rattle.band_claims.specs.declared.view.View.{View}
 use Rattle.trap_engine.proofs.RoomLemmas.{newcomer_whole, one_served_by, served_by}

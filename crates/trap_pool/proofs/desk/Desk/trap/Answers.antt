@@ -1,3 +1,4 @@
+-- What `Desk::trap` has to show.
 use Rattle.std.proofs.Common.{◌≡◌, ◌∙◌, ◌≤◌, ◌*◌, All, List, length, sym, ap, subst, arith}
 use Rattle.page_model.specs.declared.parts.Counts.{Counts}
 use Rattle.page_model.specs.declared.parts.PageParts.{PageParts}

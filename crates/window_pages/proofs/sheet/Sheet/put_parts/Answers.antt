@@ -1,3 +1,4 @@
+-- Sheet::put_parts: what a window is made of, in the place of the parts of such a page.
 use Rattle.std.proofs.Common.{◌∙◌, ap, length, sym}
 use Rattle.std.specs.Prelude.{map}
 use Rattle.page_model.specs.declared.parts.PageParts.{PageParts}

@@ -1,3 +1,5 @@
+-- Sheet::refill: the window as a page, put in the place of a page with the sheet's form and the
+-- window's sides, as an earlier window of it or of another sheet of its form is.
 use Rattle.std.proofs.Common.{sym, subst}
 use Rattle.page_model.specs.Conditions.{IsPage}
 use Rattle.sheet_windows.proofs.Pages.{window_is_page}

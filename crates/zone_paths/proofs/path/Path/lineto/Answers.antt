@@ -1,3 +1,5 @@
+-- Path::lineto: adds a vertex, in ten-thousandths of a point; after `close` it first begins a
+-- subpath at the current point.
 use Rattle.zone_paths.proofs.Drawings.{lined_to-drawing}
 use Rattle.zone_paths.proofs.path.Path.lineto.Goals as goal
 

@@ -1,3 +1,4 @@
+-- Path::moveto: begins a subpath with one vertex, in ten-thousandths of a point.
 use Rattle.zone_paths.proofs.Drawings.{begun_at-drawing}
 use Rattle.zone_paths.proofs.path.Path.moveto.Goals as goal
 

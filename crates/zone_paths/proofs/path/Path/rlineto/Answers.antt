@@ -1,3 +1,5 @@
+-- Path::rlineto: adds a vertex so far from the current point; after `close` it first begins a
+-- subpath there.
 use Rattle.std.proofs.Common.{◌≡◌, sym, ap, ◌∙◌, arith, rules, w64}
 use Rattle.std.proofs.lemmas.Int.{ints}
 use mir.Val.{to_z, of_z}

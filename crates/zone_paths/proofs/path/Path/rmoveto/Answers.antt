@@ -1,3 +1,4 @@
+-- Path::rmoveto: begins a subpath so far from the current point.
 use Rattle.std.proofs.Common.{◌≡◌, sym, ap, ◌∙◌, arith, rules, w64}
 use Rattle.std.proofs.lemmas.Int.{ints}
 use mir.Val.{to_z, of_z}

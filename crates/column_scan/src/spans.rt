@@ -1,0 +1,143 @@
+// Columns of one row taken down to the next, many at once.
+
+ghost use Rattle.std.specs.Prelude.{◌≡◌, ◌≤◌, ◌<◌, ◌+◌, ◌*◌, ℕ, length, slice_index};
+ghost use Rattle.page_model.specs.Marks.{held_rows};
+ghost use Rattle.page_model.specs.Limits.{most_column, most_reach, most_side};
+ghost use Rattle.column_scan.specs.Sweep.{above_of, slot};
+
+use crate::codes::stepped;
+use crate::looks::decides;
+use page_model::marks::Marks;
+use page_model::steps::Steps;
+use std::sync::ledger::Ledger;
+
+/// How many samples' columns go down at once at most, two for each sample.
+pub(crate) const SPAN: u32 = 256;
+
+/// Row r + 1 of the marks, from row r.
+pub(crate) fn enter<L: Ledger>(
+    marks: &Marks,
+    x2: u32,
+    r: u32,
+    reach2: u32,
+    code: u16,
+    steps: &mut Steps<L>,
+) -> u16
+    requires column { x2 + 2 ≤ 2 * marks.now.wide }
+    requires row { r + 1 < held_rows marks.now }
+    requires reach { reach2 ≤ most_reach }
+    requires code { code ≡ above_of marks.now x2 reach2 r }
+    ensures code { result ≡ above_of marks.now x2 reach2 (r + 1) }
+    ensures step { steps.new ≡ steps.old + 1 }
+{
+    let _valid = marks.rows();
+    let seen = decides(marks, x2, r + x2 % 2, steps);
+    stepped(x2, reach2, seen, code)
+}
+
+/// So many codes of a row, from one on.
+fn codes_of(out: &[u16], columns: u32, row: u32, x2: u32, count: usize) -> &[u16]
+    requires columns { columns ≤ most_column + 1 }
+    requires row { row ≤ most_side }
+    requires column { x2 ≤ columns }
+    requires inside { row * columns + x2 + count ≤ length out.now }
+    ensures len { length result.now ≡ count }
+    ensures each { (j : ℕ) → j < count
+        → slice_index result.now j ≡ slice_index out.now (row * columns + x2 + j) }
+{
+    let start = row as usize * columns as usize + x2 as usize;
+    &out[start..start + count]
+}
+
+/// Puts codes into a row, from one column on.
+fn put_codes(out: &mut [u16], columns: u32, row: u32, x2: u32, codes: &[u16])
+    requires columns { columns ≤ most_column + 1 }
+    requires row { row ≤ most_side }
+    requires column { x2 ≤ columns }
+    requires inside { row * columns + x2 + length codes.now ≤ length out.old }
+    ensures len { length out.new ≡ length out.old }
+    ensures each { (j : ℕ) → j < length codes.now
+        → slice_index out.new (row * columns + x2 + j) ≡ slice_index codes.now j }
+    ensures before { (i : ℕ) → i < row * columns + x2
+        → slice_index out.new i ≡ slice_index out.old i }
+    ensures after { (i : ℕ) → row * columns + x2 + length codes.now ≤ i
+        → slice_index out.new i ≡ slice_index out.old i }
+{
+    let start = row as usize * columns as usize + x2 as usize;
+    out[start..start + codes.len()].copy_from_slice(codes);
+}
+
+/// Takes the codes of so many samples' columns, from sample x on, from row r to the next.
+fn pairs_down<L: Ledger>(
+    marks: &Marks,
+    x: u32,
+    count: u32,
+    r: u32,
+    reach2: u32,
+    codes: &mut [u16],
+    steps: &mut Steps<L>,
+)
+    requires inside { x + count < marks.now.wide }
+    requires row { r + 1 < held_rows marks.now }
+    requires reach { reach2 ≤ most_reach }
+    requires long { length codes.old ≡ 2 * count }
+    requires above { (j : ℕ) → j < 2 * count
+        → slice_index codes.old j ≡ above_of marks.now (2 * x + j) reach2 r }
+    ensures len { length codes.new ≡ length codes.old }
+    ensures each { (j : ℕ) → j < 2 * count
+        → slice_index codes.new j ≡ above_of marks.now (2 * x + j) reach2 (r + 1) }
+    ensures steps { steps.new ≡ steps.old + 2 * count }
+{
+    let _valid = marks.rows();
+    for k in 0..count {
+        let even = 2 * k as usize;
+        let odd = even + 1;
+        let one = enter(marks, 2 * (x + k), r, reach2, codes[even], steps);
+        let two = enter(marks, 2 * (x + k) + 1, r, reach2, codes[odd], steps);
+        codes[even] = one;
+        codes[odd] = two;
+    }
+}
+
+/// Writes the columns of so many samples, from sample x on, in row k + 1 of the asked rows, from row k. They go down in a list
+/// of their own: the rows stand in one list, and while one of them is written the other can not be read many codes at once.
+pub(crate) fn span_down<L: Ledger>(
+    marks: &Marks,
+    columns: u32,
+    rows: u32,
+    k: u32,
+    x: u32,
+    count: u32,
+    r: u32,
+    reach2: u32,
+    out: &mut [u16],
+    steps: &mut Steps<L>,
+)
+    requires columns { columns + 1 ≡ 2 * marks.now.wide }
+    requires inside { x + count < marks.now.wide }
+    requires few { count ≤ 256 }
+    requires row { r + 1 < held_rows marks.now }
+    requires reach { reach2 ≤ most_reach }
+    requires k { k + 1 < rows }
+    requires rows { rows ≤ most_side }
+    requires out { length out.old ≡ rows * columns }
+    requires above { (x2 : ℕ) → x2 < columns
+        → slot out.old columns k x2 ≡ above_of marks.now x2 reach2 r }
+    ensures len { length out.new ≡ length out.old }
+    ensures each { (j : ℕ) → j < 2 * count
+        → slice_index out.new ((k + 1) * columns + 2 * x + j)
+        ≡ above_of marks.now (2 * x + j) reach2 (r + 1) }
+    ensures before { (i : ℕ) → i < (k + 1) * columns + 2 * x
+        → slice_index out.new i ≡ slice_index out.old i }
+    ensures after { (i : ℕ) → (k + 1) * columns + 2 * x + 2 * count ≤ i
+        → slice_index out.new i ≡ slice_index out.old i }
+    ensures steps { steps.new ≡ steps.old + 2 * count }
+{
+    let _valid = marks.rows();
+    let long = 2 * count as usize;
+    let mut room = [0u16; 2 * SPAN as usize];
+    let codes = &mut room[..long];
+    codes.copy_from_slice(codes_of(out, columns, k, 2 * x, long));
+    pairs_down(marks, x, count, r, reach2, codes, steps);
+    put_codes(out, columns, k + 1, 2 * x, codes);
+}

@@ -1,5 +1,0 @@
-use Rattle.std.proofs.Common.{◌≡◌, ◌-◌, ◌++◌, map, take, drop}
-use Rattle.plate_rows.proofs.rereading.turn.Given as goal
-
-abbrev pub invariant-loop-at : goal.invariant-loop-at
-invariant-loop-at l = l.values ≡ map (λ v. l.most - v) (take l.at l.initial.values) ++ drop l.at l.initial.values

@@ -1,9 +1,0 @@
-use Rattle.std.proofs.Common.{◌≡◌, ◌≤◌, ◌<◌, ℕ, true, slice_index}
-use Rattle.row_values.proofs.quiet.are_zero.Given as goal
-
-abbrev pub invariant-loop-k : goal.invariant-loop-k
-invariant-loop-k l = record {
-  from : l.from ≤ l.k;
-  done : l.all ≡ true → (j : ℕ) → l.from ≤ j → j < l.k → slice_index l.codes j ≡ 0;
-  none : ((j : ℕ) → l.from ≤ j → j < l.fn.to → slice_index l.codes j ≡ 0) → l.all ≡ true;
-}

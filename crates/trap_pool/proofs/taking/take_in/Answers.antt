@@ -1,0 +1,8 @@
+-- What is made of one line more is put in.
+use Rattle.trap_pool.proofs.Settling.{all_then}
+use Rattle.trap_pool.proofs.taking.take_in.Goals as goal
+
+pub loop-slot-preserved-in_default-Some : goal.loop-slot-preserved-in_default-Some
+loop-slot-preserved-in_default-Some g c =
+    all_then c.args.gathered.now.items c.loop-slot.gathered.items c.settle_at.new.gathered.items
+    c.loop-slot.invariant c.settle_at.ensures
