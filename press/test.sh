@@ -577,8 +577,9 @@ try_check() {
   goes "$here/check" font.pdf
   told 'font.pdf: pages 1-2: warning: font: the PDF lacks the font FancyFont-Bold; [^ ]* stands in its place'
   [ "$(grep -c FancyFont ../told)" = 1 ] || wrong "check: a font is told twice: $(cat ../told)"
+  # Without Debian's fonts-droid-fallback, which Ghostscript only recommends, it tells the font by the page's name for it.
   goes "$here/check" japan.pdf
-  told 'japan.pdf: page 1: warning: font: the PDF lacks the font HeiseiKakuGo-W5; .* stands in its place'
+  told 'japan.pdf: page 1: warning: font: the PDF lacks the font (HeiseiKakuGo-W5|F); .* stands in its place'
   goes "$here/check" --box trim pair.pdf
   told 'pair.pdf: page 1: warning: box: the page has no TrimBox'
   goes "$here/check" cropped.pdf
