@@ -1,4 +1,3 @@
-pub mod ArgLemmas
 pub mod PageLemmas
 pub mod PlateLemmas
 mod WorkedWords

@@ -1,7 +1,7 @@
 ghost use Rattle.std.specs.Prelude.{◌≡◌, ◌≢◌, ◌≤◌, false, IfOk, IfSome, OnErr, OnOk, is_some, map, option_map, string_bytes, vec_len};
 ghost use Rattle.std.specs.Option.{ForSome};
-ghost use Rattle.clap.specs.Words.{app_of, found_of, rows_of};
-ghost use Rattle.trap_words.specs.PageApp.{is_taken, page_app, rows_in};
+ghost use Rattle.clap.specs.Words.{app_of, found_of, rows_of, with_rule};
+ghost use Rattle.trap_words.specs.PageApp.{is_taken, option_rule, page_app, rows_in, word_rule, words_rule};
 ghost use Rattle.trap_words.specs.Words.{page_of as page_meant, page_of_rows, page_of_words, page_with as page_made};
 ghost use Rattle.trap_words.specs.Held.{IsPageWithin, page_in, plates_in};
 
@@ -73,18 +73,44 @@ fn without_matches<'a>(kind: ErrorKind) -> Result<Option<ArgMatches<'a>>, OutOfM
 fn page_command<'a>(alloc: Global) -> Result<Command<'a>, AllocError>
     ensures { IfOk result (λ c. app_of c ≡ page_app) }
 {
-    let workers = Arg::new(alloc, "workers").long("workers");
-    let band = Arg::new(alloc, "band").long("band");
-    let job = Arg::new(alloc, "job").required(true);
-    let report = Arg::new(alloc, "report").required(true);
-    let plates = Arg::new(alloc, "plate").required(true).num_args(1..);
-    let command = Command::new(alloc, "page")
-        .arg(workers)?
-        .arg(band)?
-        .arg(job)?
-        .arg(report)?
-        .arg(plates)?;
-    Ok(command)
+    let command = with_option(alloc, Command::new(alloc, "page"), "workers")?;
+    let command = with_option(alloc, command, "band")?;
+    let command = with_word(alloc, command, "job")?;
+    let command = with_word(alloc, command, "report")?;
+    with_words(alloc, command, "plate")
+}
+
+// The command with one more option, which has one text.
+fn with_option<'a>(
+    alloc: Global,
+    command: Command<'a>,
+    name: &'a str,
+) -> Result<Command<'a>, AllocError>
+    ensures { IfOk result (λ c. app_of c ≡ with_rule (app_of command.entry) (option_rule name.entry.now)) }
+{
+    command.arg(Arg::new(alloc, name).long(name))
+}
+
+// The command with one more word, which has to be there.
+fn with_word<'a>(
+    alloc: Global,
+    command: Command<'a>,
+    name: &'a str,
+) -> Result<Command<'a>, AllocError>
+    ensures { IfOk result (λ c. app_of c ≡ with_rule (app_of command.entry) (word_rule name.entry.now)) }
+{
+    command.arg(Arg::new(alloc, name).required(true))
+}
+
+// The command with one word or more at its end.
+fn with_words<'a>(
+    alloc: Global,
+    command: Command<'a>,
+    name: &'a str,
+) -> Result<Command<'a>, AllocError>
+    ensures { IfOk result (λ c. app_of c ≡ with_rule (app_of command.entry) (words_rule name.entry.now)) }
+{
+    command.arg(Arg::new(alloc, name).required(true).num_args(1..))
 }
 
 fn page_of_matches<'a>(
