@@ -1,5 +1,5 @@
 -- The next strip is at hand, and the core of the strip that was trapped waits to be written.
-use Rattle.std.proofs.Common.{◌≡◌, ◌∙◌, ◌+◌, List, length, Ok, Err, sym, subst, arith}
+use Rattle.std.proofs.Common.{◌≡◌, ◌+◌, List, length, Ok, Err, sym, subst, arith}
 use Rattle.outside.specs.Rack.{RackState}
 use Rattle.outside.specs.Tray.{TrayState}
 use Rattle.page_model.specs.declared.parts.PageParts.{PageParts}
@@ -44,7 +44,7 @@ module _ (bare : PageParts) (plan : StripPlan) (begun : List OpenPlate) (row nex
     other = subst (CanHoldStrip bare plan) (sym trapped)
         (can_hold_still bare plan begun row can is old trays course none stands old.windows
         mid.windows mid.counts traps room.one);
-    line = line ∙ room.line;
+    line = (let l = room.line in omega (arith, line, l));
     bytes = (let b = room.bytes in omega (arith, bytes, b));
     pieces = (let b = room.pieces in omega (arith, pieces, b));
   }
@@ -58,7 +58,8 @@ module _ (bare : PageParts) (plan : StripPlan) (begun : List OpenPlate) (row nex
         cut = subst (IsCutStrip old.strip (strip_cut plan.across plan.down row)) (sym trapped)
             traps.cut;
         line = line_long bare plan begun row can is old trays course none stands
-            (length end.core.line.items) (line ∙ room.line);
+            (length end.core.line.items)
+            (let l = room.line in omega (arith, line, l));
         bytes = (let b = room.bytes in omega (arith, bytes, b));
         deep = deep_is bare plan begun row can is old trays course none stands;
       })

@@ -1,5 +1,5 @@
 -- A second reading, from its beginning to its end.
-use Rattle.std.proofs.Common.{◌≡◌, ℕ, ◌+◌, ◌*◌, ◌-◌, ◌<◌, ◌≤◌, IsTrue, List, [], ◌++◌, length, Result, Some, None, Ok, Err, inl, inr, sym, ap, ◌∙◌, subst, arith, take, length-take}
+use Rattle.std.proofs.Common.{append_assoc, ◌≡◌, ℕ, ◌+◌, ◌*◌, ◌-◌, ◌<◌, ◌≤◌, IsTrue, List, [], ◌++◌, length, Result, Some, None, Ok, Err, inl, inr, sym, ap, ◌∙◌, subst, arith, take, length-take}
 use Rattle.std.specs.Prelude.{replicate}
 use Rattle.std.proofs.lemmas.Bool.{cases_lt}
 use Rattle.std.proofs.lemmas.List.{get_or-replicate, get_or-take}
@@ -42,7 +42,7 @@ use Rattle.sheet_loop.proofs.OnSheets.{height_same, may_begin, none_same}
 use Rattle.sheet_stream.specs.Growing.{new_rows}
 use Rattle.sheet_stream.specs.Reading.{HaveHeader, tints_for}
 use Rattle.sheet_stream.specs.Writing.{StandsInPart}
-use Rattle.sheet_stream.proofs.GrowLemmas.{all_new, grow}
+use Rattle.sheet_stream.proofs.GrowLemmas.{all_new}
 use Rattle.sheet_stream.proofs.WriteLemmas.{part_stands}
 use Rattle.strip_rows.specs.declared.parts.StripPlan.{StripPlan}
 use Rattle.strip_tiles.specs.Works.{AreNone}
@@ -67,19 +67,22 @@ rows_of_all sheet c rows l =
     ∙ ap (new_from sheet c 0) (let e : rows + (height sheet - rows) ≡ height sheet = omega (arith, l) in let m : (rows + (height sheet - rows)) * width sheet ≡ height sheet * width sheet = ap (λ (n : ℕ). n * width sheet) e in let t : rows * width sheet + (height sheet - rows) * width sheet ≡ height sheet * width sheet = omega (arith, m) in t)
     ∙ all_new sheet c
 
--- with the row after them
-row_of_all : (sheet : PageParts) (c row : ℕ) → row < height sheet → new_rows sheet c row ++ (new_from sheet c (row * width sheet) (width sheet) ++ rest_of sheet c (row + 1)) ≡ new_tints sheet c
-row_of_all sheet c row l =
+-- n rows more
+rows_more : (sheet : PageParts) (c row n : ℕ) → new_rows sheet c row ++ new_from sheet c (row * width sheet) (n * width sheet) ≡ new_rows sheet c (row + n)
+rows_more sheet c row n =
     let w = width sheet in
-    let next : 0 + (row + 1) * w ≡ row * w + w = omega arith in
-    let tail : w + (height sheet - (row + 1)) * w ≡ (height sheet - row) * w = (let e : height sheet - row ≡ 1 + (height sheet - (row + 1)) = omega (arith, l) in let m = ap (λ (n : ℕ). n * w) e in omega (arith, m)) in
     let from : row * w ≡ 0 + row * w = omega arith in
-    ap (λ (t : List ℕ). new_rows sheet c row ++ t)
-    (ap (λ (n : ℕ). new_from sheet c (row * w) w ++ new_from sheet c n ((height sheet - (row + 1)) * w)) next
-    ∙ new_more sheet c (row * w) w ((height sheet - (row + 1)) * w)
-    ∙ ap (new_from sheet c (row * w)) tail
-    ∙ ap (λ (n : ℕ). new_from sheet c n ((height sheet - row) * w)) from)
-    ∙ rows_of_all sheet c row (omega (arith, l))
+    let all : row * w + n * w ≡ (row + n) * w = omega arith in
+    ap (λ (k : ℕ). new_rows sheet c row ++ new_from sheet c k (n * w)) from
+    ∙ new_more sheet c 0 (row * w) (n * w)
+    ∙ ap (new_from sheet c 0) all
+
+-- with the n rows after them
+rows_of_all_by : (sheet : PageParts) (c row n : ℕ) → row + n ≤ height sheet → new_rows sheet c row ++ (new_from sheet c (row * width sheet) (n * width sheet) ++ rest_of sheet c (row + n)) ≡ new_tints sheet c
+rows_of_all_by sheet c row n l =
+    sym (append_assoc (new_rows sheet c row) (new_from sheet c (row * width sheet) (n * width sheet)) (rest_of sheet c (row + n)))
+    ∙ ap (λ (t : List ℕ). t ++ rest_of sheet c (row + n)) (rows_more sheet c row n)
+    ∙ rows_of_all sheet c (row + n) l
 
 -- a stop of a reading, with the sheet's header
 pub stops_same : (inputs : List (List ℕ)) (bare : PageParts) (begun : List OpenPlate) → HaveHeader bare begun → (start : List TrayState) (stop : RereadError) (trays : List TrayState) → StopsReading inputs (header_of begun) (length begun) start trays stop → StopsReading inputs (λ k. sheet_header bare) (plates bare) start trays stop
@@ -127,15 +130,15 @@ module _ (course : Course) (bare : PageParts) (plan : StripPlan) (begun : List O
     | inr more ↦ ap (λ (t : TrayState). t.faults) (read.others j more)
   ]
 
-  -- a row could not be written
-  broken : (sheet : PageParts) (k row : ℕ) (racks : List RackState) → row < height sheet → BreaksRows course.outputs plan.header (plates bare) k (λ c. new_rows sheet c row) (λ c. new_from sheet c (row * width sheet) (width sheet)) course.racks racks → PlateBreaks course bare plan.header k racks sheet
-  broken sheet k row racks l breaks = record {
+  -- some rows could not be written
+  broken : (sheet : PageParts) (k row n : ℕ) (racks : List RackState) → row + n ≤ height sheet → BreaksRows course.outputs plan.header (plates bare) k (λ c. new_rows sheet c row) (λ c. new_from sheet c (row * width sheet) (n * width sheet)) course.racks racks → PlateBreaks course bare plan.header k racks sheet
+  broken sheet k row n racks l breaks = record {
     known = breaks.known;
     failed = breaks.failed;
-    here = subst (λ (ts : List ℕ). WritesFile {T = Unit {0}} (name_at course.outputs k) (spelled_so_far plan.header ts) (rack_at course.racks k) (rack_at racks k) (Err breaks.failed)) (row_of_all sheet k row l) (breaks.here (rest_of sheet k (row + 1)));
+    here = subst (λ (ts : List ℕ). WritesFile {T = Unit {0}} (name_at course.outputs k) (spelled_so_far plan.header ts) (rack_at course.racks k) (rack_at racks k) (Err breaks.failed)) (rows_of_all_by sheet k row n l) (breaks.here (rest_of sheet k (row + n)));
     each = λ j less other. elim (cases_lt j k) [
-      | inl before ↦ inl (stands sheet j (row + 1) racks (omega (arith, l))
-          (subst (λ (ts : List ℕ). HasWritten (name_at course.outputs j) plan.header ts (rack_at course.racks j) (rack_at racks j)) (grow sheet j row) (breaks.done j before)))
+      | inl before ↦ inl (stands sheet j (row + n) racks l
+          (subst (λ (ts : List ℕ). HasWritten (name_at course.outputs j) plan.header ts (rack_at course.racks j) (rack_at racks j)) (rows_more sheet j row n) (breaks.done j before)))
       | inr after ↦ inl (stands sheet j row racks (omega (arith, l)) (breaks.left j (omega (arith, after, other)) less))
     ];
     others = breaks.others;
@@ -146,8 +149,8 @@ module _ (course : Course) (bare : PageParts) (plan : StripPlan) (begun : List O
     was = record { begun = begun; headers = headers; samples = s.samples; between = trays; read = s.read };
     takes = takes_rows s.samples trays s.read;
     calm = calm_rows s.samples trays s.read;
-    written = λ sheet is. (let w = s.written sheet is in let e = height_same bare sheet (tints_for bare s.samples) is in let l = w.1 in
-        broken sheet k w.0 racks (omega (arith, e, l)) w.2);
+    written = λ sheet is. (let w = s.written sheet is in let e = height_same bare sheet (tints_for bare s.samples) is in let l = w.3 in
+        broken sheet k w.0 w.1 racks (omega (arith, e, l)) w.4);
   }
 
   pub strips_stop : (counts : SheetCounts) (trays : List TrayState) (racks : List RackState) (stop : StreamStop) → Stops course bare plan begun trays racks stop → ComesTo course bare plan.header counts trays racks (Err stop)

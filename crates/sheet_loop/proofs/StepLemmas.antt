@@ -250,8 +250,8 @@ module _ (bare : PageParts) (plan : StripPlan) (begun : List OpenPlate) (row : S
   pub plates_are : plates old.strip ≡ plates bare
   plates_are = held.count
 
-  pub line_long : (line : ℕ) → line ≡ plates bare * width bare → line ≡ plates old.strip * width old.strip
-  line_long line long = long ∙ (λ i. sym held.count i * sym wide_is i)
+  pub line_long : (line : ℕ) → plates bare * width bare ≤ line → plates old.strip * width old.strip ≤ line
+  line_long line long = subst (λ (most : ℕ). most ≤ line) (λ i. sym held.count i * sym wide_is i) long
 
   pub deep_is : plan.header.maxval ≡ maxval old.strip
   deep_is = can.deep ∙ sym (held.deep 0 (let s = can.valid.parts.some_plates in omega (arith, s)))
@@ -307,7 +307,7 @@ module _ (bare : PageParts) (plan : StripPlan) (begun : List OpenPlate) (row : S
         let broken = strip_broken one plan.across plan.down (core_top row) row starts.valid cut.near rule is.span course.outputs plan.header (plates bare) k course.racks racks racks' (above one starts)
         (subst (λ (s : PageParts). WritesCore (plates bare) plan.header s (strip_cut plan.across plan.down row) racks racks' (Err (Write (Some k)))) (strip_made one starts)
         (subst (λ (n : ℕ). WritesCore n plan.header old.strip (strip_cut plan.across plan.down row) racks racks' (Err (Write (Some k)))) held.count writes)) in
-        (broken.0, (let l = broken.1 in let i = core_low in omega (arith, l, i)), broken.2)
+        (broken.0, broken.1, broken.2, (let l = broken.3 in let i = core_low in omega (arith, l, i)), broken.4)
 
     -- .. or that fails, whatever more was read by then
     module _ (trays' : List TrayState) (more : ℕ → List ℕ) (read : HaveRead course.inputs begun (length begun) more course.trays trays') (before_more : (one : PageParts) → BeginsWith bare (tints_for bare more) one → BeginsWith bare tints one) where

@@ -100,11 +100,11 @@ pub record StopsUnread (course : Course) (bare : PageParts) (plan : StripPlan)
   pub few : rows ≤ height bare
   pub written : OfEach bare samples (RowsStand course bare plan rows racks)
 
--- A row of a sheet could not be written of plate k.
+-- Some rows of a sheet could not be written of plate k.
 abbrev pub RowBreaks : Course → PageParts → StripPlan → ℕ → List RackState → PageParts → Type 0
-RowBreaks course bare plan k racks sheet = (row : ℕ) × (row < height bare)
+RowBreaks course bare plan k racks sheet = (row n : ℕ) × (1 ≤ n) × (row + n ≤ height bare)
     × BreaksRows course.outputs plan.header (plates bare) k (λ c. new_rows sheet c row)
-    (λ c. new_from sheet c (row * width sheet) (width sheet)) course.racks racks
+    (λ c. new_from sheet c (row * width sheet) (n * width sheet)) course.racks racks
 
 -- The writing stops at plate k, of each sheet that begins with what was read.
 pub record StopsUnwritten (course : Course) (bare : PageParts) (plan : StripPlan)

@@ -46,7 +46,7 @@ pub record IsStreamRoom (bare : PageParts) (plan : StripPlan) (room : StreamRoom
   pub ahead : IsSomeStrip bare plan room.ahead
   pub one : CanHoldStrip bare plan room.windows
   pub other : CanHoldStrip bare plan room.core.windows
-  pub line : length room.core.line.items ≡ plates bare * width bare
+  pub line : plates bare * width bare ≤ length room.core.line.items
   pub bytes : 2 ≤ length room.core.bytes.items
   pub pieces : 2 ≤ length room.pieces.items
 

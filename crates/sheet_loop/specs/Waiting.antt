@@ -22,7 +22,7 @@ pub record IsWaiting (plan : StripPlan) (row : Span) (strip : PageParts) (core :
     : Type 0 where
   pub cuttable : IsCuttable strip
   pub cut : IsCutStrip strip (strip_cut plan.across plan.down row) core.windows
-  pub line : length core.line.items ≡ plates strip * width strip
+  pub line : plates strip * width strip ≤ length core.line.items
   pub bytes : 2 ≤ length core.bytes.items
   pub deep : plan.header.maxval ≡ maxval strip
 

@@ -27,7 +27,7 @@ use strip_tiles::room::StripRoom;
 use tile_counts::counts::SheetCounts;
 use window_pages::sheet::Sheet;
 
-// How many bytes of a plate are read or written at a time.
+// How many bytes of a plate are read or written at a time, at most.
 const PIECE: usize = 65_536;
 
 /// What a sheet is streamed through: the strip at hand, the other one, which was trapped before it and is the next one once its
@@ -117,17 +117,17 @@ fn windows_of(
     StripRoom::new(alloc, strip, &cut.across, &cut.down, columns, &cut.row)
 }
 
-// With room for a row of all plates, and for some bytes.
+// With room for as many rows of all plates as are written at a time, one at least, and for some bytes.
 fn core_room(alloc: Global, bare: &PageParts, windows: StripRoom) -> Result<CoreRoom, OutOfMemory>
     requires bare { IsBareSheet bare.now }
     requires narrow { width bare.now < 2 ^ 30 }
     ensures windows { IfOk result (λ core. core.windows ≡ windows) }
-    ensures line { IfOk result (λ core. length core.line.items ≡ plates bare.now * width bare.now) }
+    ensures line { IfOk result (λ core. plates bare.now * width bare.now ≤ length core.line.items) }
     ensures bytes { IfOk result (λ core. 2 ≤ length core.bytes.items) }
 {
     let planes = bare.planes.as_slice();
     let wide = planes[0].width as usize;
-    let line = filled(alloc, 0u16, planes.len() * wide)?;
+    let line = filled(alloc, 0u16, planes.len() * wide.max(PIECE))?;
     let bytes = filled(alloc, 0u8, PIECE)?;
     Ok(CoreRoom {
         windows,

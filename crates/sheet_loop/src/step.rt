@@ -169,7 +169,7 @@ pub fn put_last<H: Threads + Sync, R: Rack>(
     requires racks { plates room.old.strip ≤ length racks.old }
     requires open { AreOpen plan.now.header (plates room.old.strip) (map R.state racks.old) }
     requires line { let strip = room.old.strip in
-        length room.old.core.line.items ≡ plates strip * width strip }
+        plates strip * width strip ≤ length room.old.core.line.items }
     requires bytes { 2 ≤ length room.old.core.bytes.items }
     requires maxval { plan.now.header.maxval ≡ maxval room.old.strip }
     ensures trapped { TrapsRow plan.now row.now room.old.strip room.old.core.windows

@@ -1,14 +1,10 @@
 -- What is put of a strip is put of the sheet.
-use Rattle.std.proofs.Common.{◌≡◌, ℕ, zero, suc, ◌+◌, ◌*◌, ◌<◌, ◌≤◌, List, ◌++◌, Some, Ok, Err, sym, ap, ◌∙◌, subst, arith}
-use Rattle.lists.specs.Words.{list_below}
-use Rattle.lists.proofs.ListBelow.{list_below-add}
-use Rattle.lists.proofs.Same.{list_below-same}
+use Rattle.std.proofs.Common.{◌≡◌, ℕ, zero, suc, ◌+◌, ◌*◌, ◌≤◌, List, ◌++◌, Some, Ok, Err, sym, ap, ◌∙◌, subst, arith}
 use Rattle.outside.specs.Rack.{RackState}
 use Rattle.bare_sheets.specs.StripCores.{new_from}
 use Rattle.bare_sheets.proofs.CoreLemmas.{row_alike, wide_is}
 use Rattle.page_model.specs.declared.parts.PageParts.{PageParts}
-use Rattle.page_model.specs.Page.{sample_at, width}
-use Rattle.page_model.specs.Tints.{new}
+use Rattle.page_model.specs.Page.{width}
 use Rattle.page_model.specs.Planes.{no_plane}
 use Rattle.pgm_plates.specs.declared.header.Header.{Header}
 use Rattle.pgm_plates.specs.Rows.{HasWritten}
@@ -26,37 +22,39 @@ use Rattle.sheet_windows.specs.Spans.{IsSpan}
 use Rattle.sheet_windows.specs.Strips.{strip_parts, strip_tile}
 use Rattle.sheet_windows.proofs.StripLemmas.{strip_law}
 use Rattle.strip_tiles.proofs.Adding.{tile_adds}
-use Rattle.strip_rows.specs.Cores.{WritesCore, core_row_of, core_rows_of}
+use Rattle.strip_rows.specs.Cores.{WritesCore, core_row_of, core_rows_of, core_span_of}
 use Rattle.strip_rows.specs.OnSheet.{StripIsBroken, StripIsCounted, StripIsWritten, strip_cut}
-use Rattle.strip_rows.proofs.RowLemmas.{core_more, core_none}
+use Rattle.strip_rows.proofs.RowLemmas.{new_more, span_more, span_none}
 use Rattle.tile_counts.specs.Growth.{AddsArea}
 use Rattle.tile_counts.specs.declared.counts.SheetCounts.{SheetCounts}
-
--- so many new tints of a sheet, and so many more
-new_more : (sheet : PageParts) (c first a b : ℕ) → new_from sheet c first a ++ new_from sheet c (first + a) b ≡ new_from sheet c first (a + b)
-new_more sheet c first a b =
-    let f : ℕ → ℕ = λ i. new sheet (sample_at sheet (first + i)) c in
-    ap (λ (t : List ℕ). list_below f a ++ t) (list_below-same (λ i. new sheet (sample_at sheet (first + a + i)) c) (λ i. f (a + i)) b (λ i l. ap (λ (n : ℕ). new sheet (sample_at sheet n) c) (let e : first + a + i ≡ first + (a + i) = omega arith in e)))
-    ∙ sym (list_below-add f a b)
 
 module _ (sheet : PageParts) (across down : Ruler) (at : ℕ) (row : Span) (ok : IsSheet sheet) (near : IsNearSheet sheet) (are : AreRulers sheet across down) (is : IsSpan down at row) where
   abbrev strip : PageParts
   strip = strip_parts sheet row
 
-  -- the first rows of the core, by the strip and by the sheet
-  core_same : (c n : ℕ) → n ≤ row.core → core_rows_of strip (strip_cut across down row) n c ≡ new_from sheet c (at * width sheet) (n * width sheet)
-  core_same c zero l = core_none strip (strip_cut across down row) c ∙ sym (let e : 0 * width sheet ≡ 0 = omega arith in ap (new_from sheet c (at * width sheet)) e)
-  core_same c (suc n) l =
-      let before = core_same c n (omega (arith, l)) in
-      let here : core_row_of strip (strip_cut across down row) n c ≡ new_from sheet c ((at + n) * width sheet) (width sheet) = row_alike sheet across down at row ok near are is c n (omega (arith, l)) in
-      let place : (at + n) * width sheet ≡ at * width sheet + n * width sheet = omega arith in
+  -- rows of the core, by the strip and by the sheet
+  span_same : (c k n : ℕ) → k + n ≤ row.core → core_span_of strip (strip_cut across down row) k n c ≡ new_from sheet c ((at + k) * width sheet) (n * width sheet)
+  span_same c k zero l = span_none strip (strip_cut across down row) k c ∙ sym (let e : 0 * width sheet ≡ 0 = omega arith in ap (new_from sheet c ((at + k) * width sheet)) e)
+  span_same c k (suc n) l =
+      let before = span_same c k n (omega (arith, l)) in
+      let here : core_row_of strip (strip_cut across down row) (k + n) c ≡ new_from sheet c ((at + (k + n)) * width sheet) (width sheet) = row_alike sheet across down at row ok near are is c (k + n) (omega (arith, l)) in
+      let place : (at + (k + n)) * width sheet ≡ (at + k) * width sheet + n * width sheet = omega arith in
       let end : n * width sheet + width sheet ≡ suc n * width sheet = omega arith in
-      ap (λ (k : ℕ). core_rows_of strip (strip_cut across down row) k c) (let e : suc n ≡ n + 1 = omega arith in e)
-      ∙ sym (core_more strip (strip_cut across down row) n c)
+      ap (λ (rows : ℕ). core_span_of strip (strip_cut across down row) k rows c) (let e : suc n ≡ n + 1 = omega arith in e)
+      ∙ sym (span_more strip (strip_cut across down row) k n c)
       ∙ (λ i. before i ++ here i)
-      ∙ ap (λ (k : ℕ). new_from sheet c (at * width sheet) (n * width sheet) ++ new_from sheet c k (width sheet)) place
-      ∙ new_more sheet c (at * width sheet) (n * width sheet) (width sheet)
-      ∙ ap (new_from sheet c (at * width sheet)) end
+      ∙ ap (λ (from : ℕ). new_from sheet c ((at + k) * width sheet) (n * width sheet) ++ new_from sheet c from (width sheet)) place
+      ∙ new_more sheet c ((at + k) * width sheet) (n * width sheet) (width sheet)
+      ∙ ap (new_from sheet c ((at + k) * width sheet)) end
+
+  -- .. the first ones
+  core_same : (c n : ℕ) → n ≤ row.core → core_rows_of strip (strip_cut across down row) n c ≡ new_from sheet c (at * width sheet) (n * width sheet)
+  core_same c n l =
+      let top : row.skip * width strip ≡ (row.skip + 0) * width strip = omega arith in
+      let place : (at + 0) * width sheet ≡ at * width sheet = omega arith in
+      ap (λ (from : ℕ). new_from strip c from (n * width strip)) top
+      ∙ span_same c 0 n (omega (arith, l))
+      ∙ ap (λ (from : ℕ). new_from sheet c from (n * width sheet)) place
 
   rows_more : (c n : ℕ) → n ≤ row.core → new_rows sheet c at ++ core_rows_of strip (strip_cut across down row) n c ≡ new_rows sheet c (at + n)
   rows_more c n l =
@@ -74,17 +72,21 @@ module _ (sheet : PageParts) (across down : Ruler) (at : ℕ) (row : Span) (ok :
         others = more.others;
       }
 
-  pub strip_broken : (outputs : List (List ℕ)) (header : Header) (count k : ℕ) (start before after : List RackState) → RowsAreWritten outputs header count sheet at start before → WritesCore count header strip (strip_cut across down row) before after (Err (Write (Some k))) → (line : ℕ) × (line < at + row.core) × BreaksRows outputs header count k (λ c. new_rows sheet c line) (λ c. new_from sheet c (line * width sheet) (width sheet)) start after
+  pub strip_broken : (outputs : List (List ℕ)) (header : Header) (count k : ℕ) (start before after : List RackState) → RowsAreWritten outputs header count sheet at start before → WritesCore count header strip (strip_cut across down row) before after (Err (Write (Some k))) → (line n : ℕ) × (1 ≤ n) × (line + n ≤ at + row.core) × BreaksRows outputs header count k (λ c. new_rows sheet c line) (λ c. new_from sheet c (line * width sheet) (n * width sheet)) start after
   strip_broken outputs header count k start before after wrote writes =
       let breaks = writes outputs (λ c. new_rows sheet c at) start wrote in
-      let n : ℕ = breaks.0 in
-      let less : n < row.core = breaks.1 in
-      let so_far : (c : ℕ) → new_rows sheet c at ++ core_rows_of strip (strip_cut across down row) n c ≡ new_rows sheet c (at + n) = λ c. rows_more c n (omega (arith, less)) in
-      let here : (c : ℕ) → core_row_of strip (strip_cut across down row) n c ≡ new_from sheet c ((at + n) * width sheet) (width sheet) = λ c. row_alike sheet across down at row ok near are is c n less in (
-        at + n,
+      let m : ℕ = breaks.0 in
+      let n : ℕ = breaks.1 in
+      let some : 1 ≤ n = breaks.2 in
+      let less : m + n ≤ row.core = breaks.3 in
+      let so_far : (c : ℕ) → new_rows sheet c at ++ core_rows_of strip (strip_cut across down row) m c ≡ new_rows sheet c (at + m) = λ c. rows_more c m (omega (arith, less)) in
+      let here : (c : ℕ) → core_span_of strip (strip_cut across down row) m n c ≡ new_from sheet c ((at + m) * width sheet) (n * width sheet) = λ c. span_same c m n less in (
+        at + m,
+        n,
+        some,
         omega (arith, less),
-        subst (λ (f : ℕ → List ℕ). BreaksRows outputs header count k f (λ c. new_from sheet c ((at + n) * width sheet) (width sheet)) start after) (λ i c. so_far c i)
-            (subst (λ (f : ℕ → List ℕ). BreaksRows outputs header count k (λ c. new_rows sheet c at ++ core_rows_of strip (strip_cut across down row) n c) f start after) (λ i c. here c i) breaks.2),
+        subst (λ (f : ℕ → List ℕ). BreaksRows outputs header count k f (λ c. new_from sheet c ((at + m) * width sheet) (n * width sheet)) start after) (λ i c. so_far c i)
+            (subst (λ (f : ℕ → List ℕ). BreaksRows outputs header count k (λ c. new_rows sheet c at ++ core_rows_of strip (strip_cut across down row) m c) f start after) (λ i c. here c i) breaks.4),
       )
 
   some : 1 ≤ width sheet

@@ -1,5 +1,5 @@
 -- The rows of the core of a strip that was trapped, and what is written of them.
-use Rattle.std.specs.Prelude.{◌≡◌, ℕ, ◌+◌, ◌*◌, ◌<◌, List, ◌++◌, map, Result, Ok, Err, Some}
+use Rattle.std.specs.Prelude.{◌≡◌, ℕ, ◌+◌, ◌*◌, ◌≤◌, List, ◌++◌, map, Result, Ok, Err, Some}
 use Rattle.bare_sheets.specs.StripCores.{new_from}
 use Rattle.outside.specs.Rack.{RackState}
 use Rattle.page_model.specs.declared.parts.PageParts.{PageParts}
@@ -26,7 +26,12 @@ pub record IsCutStrip (strip : PageParts) (cut : StripCut) (room : StripRoom) : 
 abbrev pub core_row_of : PageParts → StripCut → ℕ → ℕ → List ℕ
 core_row_of strip cut k c = new_from strip c ((cut.row.skip + k) * width strip) (width strip)
 
--- its first rows
+-- n rows of them, from row k on
+abbrev pub core_span_of : PageParts → StripCut → ℕ → ℕ → ℕ → List ℕ
+core_span_of strip cut k n c =
+    new_from strip c ((cut.row.skip + k) * width strip) (n * width strip)
+
+-- the first rows of the core
 abbrev pub core_rows_of : PageParts → StripCut → ℕ → ℕ → List ℕ
 core_rows_of strip cut rows c = new_from strip c (cut.row.skip * width strip) (rows * width strip)
 
@@ -37,7 +42,7 @@ pub record AreOpen (header : Header) (count : ℕ) (racks : List RackState) : Ty
   pub start : List RackState
   pub written : HaveWritten names header count tints start racks
 
--- The rows of the core are written after what was written so far, up to the row and the plate at
+-- The rows of the core are written after what was written so far, up to the rows and the plate at
 -- which that fails.
 abbrev pub WritesCore : ℕ → Header → PageParts → StripCut → List RackState → List RackState
     → Result (Unit {0}) Refusal → Type 0
@@ -49,6 +54,6 @@ WritesCore count header strip cut before after (Ok done) = (names : List (List �
 WritesCore count header strip cut before after (Err (Write (Some k))) = (names : List (List ℕ))
     (tints : ℕ → List ℕ) (start : List RackState)
     → HaveWritten names header count tints start before
-    → (row : ℕ) × (row < cut.row.core) × BreaksRows names header count k
-    (λ c. tints c ++ core_rows_of strip cut row c) (core_row_of strip cut row) start after
+    → (row n : ℕ) × (1 ≤ n) × (row + n ≤ cut.row.core) × BreaksRows names header count k
+    (λ c. tints c ++ core_rows_of strip cut row c) (core_span_of strip cut row n) start after
 WritesCore count header strip cut before after (Err other) = ⊥

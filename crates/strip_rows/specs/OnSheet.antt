@@ -1,5 +1,5 @@
 -- A strip of a sheet that is put: what is so of the sheet then.
-use Rattle.std.specs.Prelude.{ℕ, ◌+◌, ◌*◌, ◌<◌, List, Some, Ok, Err}
+use Rattle.std.specs.Prelude.{ℕ, ◌+◌, ◌*◌, ◌≤◌, List, Some, Ok, Err}
 use Rattle.bare_sheets.specs.StripCores.{inner_row, inner_ruler, new_from}
 use Rattle.outside.specs.Rack.{RackState}
 use Rattle.page_model.specs.declared.parts.PageParts.{PageParts}
@@ -35,17 +35,17 @@ StripIsWritten = (outputs : List (List ℕ)) (header : Header) (count at : ℕ) 
     → WritesCore count header (strip_parts sheet row) (strip_cut across down row) before after
     (Ok tt) → RowsAreWritten outputs header count sheet (at + row.core) start after
 
--- Where a row of a strip's core cannot be written of plate k, it is a row of the sheet's new tints,
--- and the rows above it are written.
+-- Where some rows of a strip's core cannot be written of plate k, they are rows of the sheet's new
+-- tints, and the rows above them are written.
 abbrev pub StripIsBroken : Type 0
 StripIsBroken = (outputs : List (List ℕ)) (header : Header) (count at k : ℕ) (sheet : PageParts)
     (across down : Ruler) (row : Span) (start before after : List RackState) → IsSheet sheet
     → IsNearSheet sheet → AreRulers sheet across down → IsSpan down at row
     → RowsAreWritten outputs header count sheet at start before
     → WritesCore count header (strip_parts sheet row) (strip_cut across down row) before after
-    (Err (Write (Some k))) → (line : ℕ) × (line < at + row.core)
+    (Err (Write (Some k))) → (line n : ℕ) × (1 ≤ n) × (line + n ≤ at + row.core)
     × BreaksRows outputs header count k (λ c. new_rows sheet c line)
-    (λ c. new_from sheet c (line * width sheet) (width sheet)) start after
+    (λ c. new_from sheet c (line * width sheet) (n * width sheet)) start after
 
 -- What is counted in a strip's core is counted in those rows of the sheet.
 abbrev pub StripIsCounted : Type 0

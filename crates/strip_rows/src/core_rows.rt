@@ -1,9 +1,9 @@
-// Row after row of a core, of all plates.
+// The rows of a core, several of each plate at once.
 
 ghost use Rattle.std.specs.Prelude.{◌≡◌, ◌+◌, ◌*◌, ◌<◌, ◌≤◌, ◌++◌, ℕ, drop, length, map, take};
 ghost use Rattle.page_model.specs.Page.{maxval, plates, width};
 ghost use Rattle.plate_rows.specs.Images.{part_at};
-ghost use Rattle.strip_rows.specs.Cores.{AreOpen, IsCutStrip, WritesCore, core_row_of};
+ghost use Rattle.strip_rows.specs.Cores.{AreOpen, IsCutStrip, WritesCore, core_row_of, core_span_of};
 
 use outside::rack::Rack;
 use pgm_plates::rows::Header;
@@ -22,20 +22,46 @@ pub struct StripCut {
     pub row: Span,
 }
 
-/// Puts row k of the core of the strip that was trapped in the room last in `line`: that of each plate, one plate after the
-/// other.
-pub fn put_line(strip: &Sheet, cut: &StripCut, room: &StripRoom, k: u32, line: &mut [u16])
+/// Puts n rows of the core of the strip that was trapped in the room last in `line`, from row k on: those of each plate, one
+/// plate after the other.
+pub fn put_rows(strip: &Sheet, cut: &StripCut, room: &StripRoom, k: u32, n: u32, line: &mut [u16])
     requires cut { IsCutStrip strip.now cut.now room.now }
-    requires row { k < cut.now.row.core }
-    requires line { length line.old ≡ plates strip.now * width strip.now }
+    requires rows { k + n ≤ cut.now.row.core }
+    requires line { length line.old ≡ plates strip.now * (n * width strip.now) }
     ensures long { length line.new ≡ length line.old }
-    ensures rows { (c : ℕ) → c < plates strip.now → part_at (width strip.now) line.new c
-        ≡ core_row_of strip.now cut.now k c }
+    ensures rows { (c : ℕ) → c < plates strip.now → part_at (n * width strip.now) line.new c
+        ≡ core_span_of strip.now cut.now k n c }
 {
     let _valid = strip.width();
     let wide = strip.width() as usize;
+    let each = n as usize * wide;
     for c in 0..strip.plates() {
-        put_row(strip, cut, room, k, c, c as usize * wide, line);
+        put_plate(strip, cut, room, k, n, c, c as usize * each, line);
+    }
+}
+
+// Puts n rows of the core of one plate in a line, from row k on, from there on.
+fn put_plate(
+    strip: &Sheet,
+    cut: &StripCut,
+    room: &StripRoom,
+    k: u32,
+    n: u32,
+    c: u32,
+    from: usize,
+    line: &mut [u16],
+)
+    requires cut { IsCutStrip strip.now cut.now room.now }
+    requires rows { k + n ≤ cut.now.row.core }
+    requires plate { c < plates strip.now }
+    requires room { from + n * width strip.now ≤ length line.old }
+    ensures { line.new ≡ take from line.old ++ (core_span_of strip.now cut.now k n c
+        ++ drop (from + n * width strip.now) line.old) }
+{
+    let _valid = strip.width();
+    let wide = strip.width() as usize;
+    for i in 0..n {
+        put_row(strip, cut, room, k + i, c, from + i as usize * wide, line);
     }
 }
 
@@ -70,8 +96,20 @@ fn put_row(
     );
 }
 
-/// Writes the rows of the core of the strip that was trapped in the room last, row after row, each of every plate by the rack
-/// of its number, through room for a row of all plates and for some bytes.
+// How many of so many rows there is room for, each of so many tints.
+fn rows_at_once(room: usize, each: usize, rows: u32) -> u32
+    requires some { 1 ≤ each }
+    requires room { each ≤ room }
+    requires rows { 1 ≤ rows }
+    ensures some { 1 ≤ result }
+    ensures few { result ≤ rows }
+    ensures fits { result * each ≤ room }
+{
+    (room / each).min(rows as usize) as u32
+}
+
+/// Writes the rows of the core of the strip that was trapped in the room last, each plate by the rack of its number: as many
+/// rows of all plates at once as there is room for in `line`, by pieces of as many bytes as there is room for in `bytes`.
 ///
 /// Where a call of a rack fails, it stops with `Write` and the plate's number.
 pub fn write_core<R: Rack>(
@@ -86,7 +124,7 @@ pub fn write_core<R: Rack>(
     requires racks { plates strip.now ≤ length racks.old }
     requires open { AreOpen header (plates strip.now) (map R.state racks.old) }
     requires cut { IsCutStrip strip.now cut.now room.now }
-    requires line { length line.old ≡ plates strip.now * width strip.now }
+    requires line { plates strip.now * width strip.now ≤ length line.old }
     requires bytes { 2 ≤ length bytes.old }
     requires maxval { header.maxval ≡ maxval strip.now }
     ensures { WritesCore (plates strip.now) header strip.now cut.now (map R.state racks.old)
@@ -95,12 +133,17 @@ pub fn write_core<R: Rack>(
     let _valid = strip.width();
     let count = strip.plates() as usize;
     let wide = strip.width() as usize;
-    for k in 0..cut.row.core {
-        put_line(strip, cut, room, k, line);
-        match write_next(racks, count, header, line, wide, bytes) {
+    let mut k = 0;
+    while k < cut.row.core {
+        let n = rows_at_once(line.len(), count * wide, cut.row.core - k);
+        let each = n as usize * wide;
+        let rows = &mut line[..count * each];
+        put_rows(strip, cut, room, k, n, rows);
+        match write_next(racks, count, header, rows, each, bytes) {
             Ok(()) => {}
             Err(refusal) => return Err(refusal),
         }
+        k += n;
     }
     Ok(())
 }

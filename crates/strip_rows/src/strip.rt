@@ -16,7 +16,8 @@ use strip_tiles::room::{StripRoom, trap_strip_in};
 use tile_counts::counts::SheetCounts;
 use window_pages::sheet::Sheet;
 
-/// What a strip is trapped and written through: the room for its windows, room for a row of all plates, and for some bytes.
+/// What a strip is trapped and written through: the room for its windows, room in `line` for some rows of all plates, one at
+/// least, and for some bytes.
 #[derive(Drop)]
 pub struct CoreRoom {
     pub windows: StripRoom,
@@ -52,8 +53,8 @@ pub fn trap_row<H: Threads + Sync>(
     );
 }
 
-/// Writes the rows of the core of the strip of these rows, which was trapped in the room last, row after row, each of every
-/// plate by the rack of its number. It takes no memory.
+/// Writes the rows of the core of the strip of these rows, which was trapped in the room last, some rows of all plates at once,
+/// each plate by the rack of its number. It takes no memory.
 ///
 /// Where a call of a rack fails, it stops with `Write` and the plate's number.
 pub fn write_row<R: Rack>(
@@ -67,7 +68,7 @@ pub fn write_row<R: Rack>(
     requires open { AreOpen plan.now.header (plates strip.now) (map R.state racks.old) }
     requires cut { IsCutStrip strip.now (strip_cut plan.now.across plan.now.down row.now)
         room.old.windows }
-    requires line { length room.old.line.items ≡ plates strip.now * width strip.now }
+    requires line { plates strip.now * width strip.now ≤ length room.old.line.items }
     requires bytes { 2 ≤ length room.old.bytes.items }
     requires maxval { plan.now.header.maxval ≡ maxval strip.now }
     ensures windows { room.new.windows ≡ room.old.windows }

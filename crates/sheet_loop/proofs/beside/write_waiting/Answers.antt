@@ -1,6 +1,6 @@
 -- write_waiting: writes the rows of the core of a strip that waits for it, each plate by the rack
 -- of its number.
-use Rattle.std.proofs.Common.{◌≡◌, ◌*◌, ◌∙◌, length, map, sym, ap, subst, arith}
+use Rattle.std.proofs.Common.{◌≤◌, ◌*◌, ◌∙◌, length, map, sym, ap, subst, arith}
 use Rattle.page_model.specs.declared.parts.PageParts.{PageParts}
 use Rattle.page_model.specs.Page.{maxval, plates, width}
 use Rattle.sheet_loop.specs.Waiting.{WritesRow}
@@ -30,7 +30,7 @@ write_row-result-requires-clause-cut g c =
 pub write_row-result-requires-clause-line : goal.write_row-result-requires-clause-line
 write_row-result-requires-clause-line g c =
     let core = c.args.core.now in
-    subst (λ (s : PageParts). length core.line.items ≡ plates s * width s) (sym (c.of-sheet.ensures ∙ c.replace.ensures.value)) c.requires.waiting.line
+    subst (λ (s : PageParts). plates s * width s ≤ length core.line.items) (sym (c.of-sheet.ensures ∙ c.replace.ensures.value)) c.requires.waiting.line
 
 pub write_row-result-requires-clause-bytes : goal.write_row-result-requires-clause-bytes
 write_row-result-requires-clause-bytes g c = c.requires.waiting.bytes

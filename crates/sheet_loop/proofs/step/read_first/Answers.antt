@@ -1,6 +1,6 @@
 -- read_first: reads the rows of the first strip, which is at hand then, each plate by the tray of
 -- its number.
-use Rattle.std.proofs.Common.{Ok, Err, ◌∙◌, map, sym, subst, arith}
+use Rattle.std.proofs.Common.{Ok, Err, map, sym, subst, arith}
 use Rattle.page_model.specs.declared.parts.PageParts.{PageParts}
 use Rattle.sheet_loop.specs.Going.{not_begun}
 use Rattle.sheet_loop.specs.Reading.{ReadsRow}
@@ -58,7 +58,7 @@ returns-in-Ok-clause-room g c =
       ahead = subst (IsSomeStrip bare plan) (sym put.ahead) room.strip;
       one = subst (CanHoldStrip bare plan) (sym put.windows) room.other;
       other = subst (CanHoldStrip bare plan) (sym put.trapped) room.one;
-      line = put.line ∙ room.line;
+      line = (let l = room.line in let e = put.line in omega (arith, l, e));
       bytes = (let b = room.bytes in let e = put.bytes in omega (arith, b, e));
       pieces = (let b = room.pieces in let e = put.pieces in let a = c.read_row.ensures.bytes in omega (arith, b, e, a));
     }

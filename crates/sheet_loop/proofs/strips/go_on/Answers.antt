@@ -1,6 +1,5 @@
 -- What `go_on` has to show.
-use Rattle.std.proofs.Common.{◌≡◌, ℕ, ◌*◌, ◌≤◌, map, refl, sym, subst, arith}
-use Rattle.page_model.specs.Page.{plates, width}
+use Rattle.std.proofs.Common.{◌≤◌, map, refl, sym, subst, arith}
 use Rattle.sheet_loop.specs.declared.rows.Progress.{Progress}
 use Rattle.sheet_loop.specs.Going.{IsNextRow}
 use Rattle.sheet_loop.specs.Rooms.{CanHoldStrip, IsSomeStrip}
@@ -79,7 +78,7 @@ returns-in-Ok-write_waiting-clause-room g c =
       ahead = subst (IsSomeStrip bare plan) (sym put.strip) is.ahead;
       one = is.one;
       other = subst (CanHoldStrip bare plan) (sym put.windows) is.other;
-      line = subst (λ (n : ℕ). n ≡ plates bare * width bare) (sym put.line) is.line;
+      line = (let l = is.line in let e = put.line in omega (arith, l, e));
       bytes = (let e = put.bytes in let b = is.bytes in omega (arith, e, b));
       pieces = is.pieces;
     }
