@@ -1,5 +1,5 @@
 -- Plates of the headers that were judged.
-use Rattle.std.proofs.Common.{◌≡◌, ◌⊎◌, ℕ, zero, suc, ◌+◌, ◌<◌, ◌≤◌, List, [], ◌∷◌, ◌++◌, length, Err, inl, inr, refl, sym, ap, ◌∙◌, subst, arith, below_more}
+use Rattle.std.proofs.Common.{◌≡◌, ◌⊎◌, ℕ, zero, suc, ◌+◌, ◌<◌, ◌≤◌, List, [], ◌∷◌, ◌++◌, length, Ok, Err, inl, inr, refl, sym, ap, ◌∙◌, subst, arith, below_more}
 use Rattle.std.proofs.Math.Seq.{get_or-append_seam}
 use Rattle.std.proofs.lemmas.Bool.{cases_lt}
 use Rattle.std.proofs.lemmas.List.{get_or_append_left, length-append, map-append, take_more}
@@ -12,9 +12,9 @@ use Rattle.pgm_plates.specs.Laws.{FilePlateWithin}
 use Rattle.pgm_plates.specs.Plates.{IsPlateWithin}
 use Rattle.pgm_plates.specs.Rows.{plate_with}
 use Rattle.plate_rows.specs.Judged.{ArePlates, JudgingEnds, JudgingStops, Tells, no_plate, plate_at}
-use Rattle.plate_rows.specs.Judging.{Judges}
-use Rattle.plate_rows.specs.Trays.{IsCalm, header_at, header_in, name_at, no_header, tray_at}
-use Rattle.plate_rows.proofs.StopLemmas.{Went, stops_there, taken_to, taken_whole, went_whole}
+use Rattle.plate_rows.specs.Judging.{Judges, MayJudge}
+use Rattle.plate_rows.specs.Trays.{IsCalm, MayTakeFile, header_at, header_in, name_at, no_header, tray_at}
+use Rattle.plate_rows.proofs.StopLemmas.{Went, taken_to, taken_whole, went_whole}
 
 module _ (law : FilePlateWithin Sheet) (names : List (List ℕ)) (headers : List Header) (a b : List TrayState) where
   Plates : ℕ → Type 0
@@ -74,19 +74,24 @@ judging_ends law names headers a b many judged =
       calm_at k (inl less) = (went law names headers a b k (judged.each k less)).calm
       calm_at k (inr more) = ap (λ (t : TrayState). t.faults) (judged.others k more)
 
+-- what may have been taken of a later file
+may_take : (name : List ℕ) (a b : TrayState) → MayJudge name a b → MayTakeFile name a b
+may_take name a b (inl same) = inl same
+may_take name a b (inr (Ok header, judges)) = inr (taken_whole name a b (Ok (plate_with header judges.0)) judges.1)
+may_take name a b (inr (Err refusal, judges)) = inr (taken_whole name a b (Err refusal) judges)
+
 pub judging_stops : FilePlateWithin Sheet → JudgingStops
 unfolding Plates
-judging_stops law names headers k refusal a b many stops =
-    let known = stops.known in
-    let plates = plates_to law names headers a b k (omega arith) stops.each in
-    let there = stops_there names (length names) k a b stops.known (λ j less. went law names headers a b j (stops.each j less)) (taken_whole (name_at names k) (tray_at a k) (tray_at b k) (Err refusal) stops.here) stops.others in
+judging_stops law names headers k refusal a b many first =
+    let known = first.known in
+    let plates = plates_to law names headers a b k (omega arith) first.each in
+    let went_to : (j : ℕ) → j < k → Went (name_at names j) (tray_at a j) (tray_at b j) = λ j less. went law names headers a b j (first.each j less) in
     record {
-      known = stops.known;
+      known = first.known;
       plates = plates.0;
       are_plates = plates.1;
-      takes = record {
-        each = taken_to names k a b (λ j less. went law names headers a b j (stops.each j less)) (taken_whole (name_at names k) (tray_at a k) (tray_at b k) (Err refusal) stops.here);
-        others = λ j more. stops.others j (omega arith);
-      };
-      calm = there.calm;
+      takes = λ j least. taken_to names k a b went_to (taken_whole (name_at names k) (tray_at a k) (tray_at b k) (Err refusal) first.here) j (omega arith);
+      later = λ j past less. may_take (name_at names j) (tray_at a j) (tray_at b j) (first.later j past less);
+      others = first.others;
+      calm = λ j less. (went_to j less).calm;
     }

@@ -4,19 +4,20 @@ use Rattle.std.specs.Prelude.{slice_set}
 use Rattle.std.specs.List.{All}
 use Rattle.std.proofs.lemmas.Bool.{cases_eq}
 use Rattle.std.proofs.Math.Seq.{drop-append_seam, take-append_seam}
-use Rattle.std.proofs.lemmas.List.Elements.{All-drop, All-head, All-map, All-tail}
-use Rattle.std.proofs.lemmas.List.{get_or_default, get_or-set_same, get_or-set_other, append-nil, drop_all, length-append, length-drop, length-map, length-set, length-take-le}
+use Rattle.std.proofs.lemmas.List.Elements.{All-append, All-drop, All-head, All-map, All-tail}
+use Rattle.std.proofs.lemmas.List.{append_assoc, get_or_default, get_or-set_same, get_or-set_other, append-nil, drop_all, length-append, length-drop, length-map, length-set, length-take-le, map-append}
 use Rattle.outside.specs.Tray.{TrayState}
 use Rattle.page_model.specs.declared.parts.Plane.{Plane}
 use Rattle.page_model.specs.Limits.{most_maxval}
 use Rattle.page_model.specs.Planes.{no_plane, plane_at}
+use Rattle.pgm_plates.specs.declared.bounds.Bounds.{Bounds}
 use Rattle.pgm_plates.specs.declared.bounds.Bounds.TheVariants.{Sheet}
 use Rattle.pgm_plates.specs.declared.header.Header.{Header}
 use Rattle.pgm_plates.specs.declared.plate.PlateRefusal.{PlateRefusal}
 use Rattle.pgm_plates.specs.declared.plate.PlateRefusal.TheVariants.{Fault, ReadFault, OutOfMemory}
 use Rattle.pgm_plates.specs.declared.rows.OpenPlate.{OpenPlate}
 use Rattle.pgm_plates.specs.Reading.{ReadsPlateWithin}
-use Rattle.pgm_plates.specs.Rows.{EndsPlate, HasRead, ReadsRows, ReadsSome}
+use Rattle.pgm_plates.specs.Rows.{EndsPlate, HasRead, ReadsRows, ReadsSome, samples_of}
 use Rattle.plate_rows.specs.declared.rereading.NextRows.{NextRows}
 use Rattle.plate_rows.specs.declared.stop.RereadError.{RereadError}
 use Rattle.plate_rows.specs.declared.stop.RereadError.TheVariants.{Changed, Unread}
@@ -48,6 +49,59 @@ module _ (plate : OpenPlate) (done : ℕ) (rows : List ℕ) (a b : TrayState) (t
   rows_turned = (
     subst (λ (l : List ℕ). ReadsRows plate done l a b (Ok tt)) (sym (turned_back plate.header.maxval rows rows_fit)) reads,
     turned_fit plate.header.maxval rows,
+  )
+
+-- Of the samples that are wanted these are read and turned first, and then the next piece.
+module _ (plate : OpenPlate) (done : ℕ) (first : List ℕ) (a b : TrayState) (reads : ReadsTints plate done first a b (Ok tt)) where
+  rows : List ℕ
+  rows = turned plate.header.maxval first
+
+  as_many : length rows ≡ length first
+  unfolding rows
+  as_many = length-map first (λ (v : ℕ). plate.header.maxval - v)
+
+  read_by_now : (more : ℕ) → done + (length first + more) ≤ samples_of plate.header → (bounds : Bounds) (name : List ℕ) (start : TrayState) (samples : List ℕ) → HasRead bounds name start a plate samples → length samples ≡ done → HasRead bounds name start b plate (samples ++ rows)
+  unfolding rows
+  read_by_now more room bounds name start samples has count = reads.0 bounds name start samples has count (omega (arith, as_many))
+
+  counted : (samples : List ℕ) → length samples ≡ done → length (samples ++ rows) ≡ done + length first
+  counted samples count = length-append samples rows ∙ omega (arith, as_many)
+
+  -- the next piece can be read
+  pub next_piece : (all want : ℕ) → length first + want ≤ all → IsReadTo plate done all a → IsReadTo plate (done + length first) want b
+  next_piece all want few to =
+      let room = to.room in
+      record {
+        name = to.name;
+        start = to.start;
+        samples = to.samples ++ rows;
+        read = read_by_now want (omega (arith, room, few)) Sheet to.name to.start to.samples to.read to.count;
+        count = counted to.samples to.count;
+        room = omega (arith, room, few);
+      }
+
+  pub piece_turned : (part : List ℕ) (c : TrayState) → ReadsTints plate (done + length first) part b c (Ok tt) → ReadsTints plate done (first ++ part) a c (Ok tt)
+  unfolding rows
+  piece_turned part c more =
+      let m = plate.header.maxval in
+      let both : turned m (first ++ part) ≡ rows ++ turned m part = map-append (λ (v : ℕ). m - v) first part in
+      let long : length (turned m part) ≡ length part = length-map part (λ (v : ℕ). m - v) in
+      let reads_both : ReadsRows plate done (rows ++ turned m part) a c (Ok tt) = λ bounds name start samples has count room.
+      let size = length-append rows (turned m part) in
+      subst (HasRead bounds name start c plate) (append_assoc samples rows (turned m part))
+      (more.0 bounds name start (samples ++ rows) (read_by_now (length part) (omega (arith, size, long, as_many, room)) bounds name start samples has count) (counted samples count) (omega (arith, size, long, as_many, room))) in (
+        subst (λ (l : List ℕ). ReadsRows plate done l a c (Ok tt)) (sym both) reads_both,
+        All-append (λ (t : ℕ). t ≤ m) first part reads.1 more.1,
+      )
+
+  -- Where a piece is refused, so are all samples that are wanted, whatever they are.
+  pub piece_refused : (buf : List ℕ) (want : ℕ) (c : TrayState) (refusal : PlateRefusal) → length first + want ≤ length buf → ReadsSome plate (done + length first) want b c (Err refusal) → ReadsSome plate done (length buf) a c (Err refusal)
+  piece_refused buf want c refusal few some = (
+    buf,
+    refl,
+    (λ bounds name start samples has count room.
+        let long = some.1 in
+        some.2 bounds name start (samples ++ rows) (read_by_now want (omega (arith, few, room)) bounds name start samples has count) (counted samples count) (omega (arith, few, room, long))),
   )
 
 -- .. into the tints behind those that are kept

@@ -1,6 +1,6 @@
 -- What is so of plates that were judged: there are plates of these headers, which the trays' files
 -- spell where they are told.
-use Rattle.std.specs.Prelude.{◌≡◌, ◌⊎◌, ℕ, ◌+◌, ◌<◌, ◌≤◌, IsTrue, List, [], length, map, take, Some}
+use Rattle.std.specs.Prelude.{◌≡◌, ℕ, ◌<◌, ◌≤◌, IsTrue, List, [], length, map, take, Some}
 use Rattle.std.specs.Prelude.{Ok, slice_index_or}
 use Rattle.std.specs.List.{All}
 use Rattle.outside.specs.Tray.{TrayState}
@@ -9,8 +9,8 @@ use Rattle.pgm_plates.specs.declared.header.Header.{Header}
 use Rattle.pgm_plates.specs.declared.plate.Plate.{Plate}
 use Rattle.pgm_plates.specs.declared.plate.PlateRefusal.{PlateRefusal}
 use Rattle.pgm_plates.specs.Plates.{IsPlateFileWithin, IsPlateWithin}
-use Rattle.plate_rows.specs.Judging.{Judges, JudgesPlates, Refuses}
-use Rattle.plate_rows.specs.Trays.{IsCalm, TakesFiles, TrayStops, header_in, name_at}
+use Rattle.plate_rows.specs.Judging.{JudgesPlates, RefusesFirst}
+use Rattle.plate_rows.specs.Trays.{IsCalm, MayTakeFile, TakesFile, TakesFiles, header_in, name_at}
 use Rattle.plate_rows.specs.Trays.{tray_at}
 
 -- stands where there is no plate
@@ -42,14 +42,18 @@ pub record AreJudged (names : List (List ℕ)) (headers : List Header)
   pub takes : TakesFiles names (length names) before after
   pub calm : (k : ℕ) → IsCalm before after k
 
--- The plates before plate k were judged, and no fault of another tray than its own was passed over.
+-- The plates before plate k were judged, and no fault of their trays was passed over. The file of
+-- plate k was asked for, and those of plates after it may have been.
 pub record AreJudgedTo (names : List (List ℕ)) (headers : List Header) (k : ℕ)
     (before after : List TrayState) : Type 0 where
   pub known : k < length names
   pub plates : List Plate
   pub are_plates : ArePlates names headers k before plates
-  pub takes : TakesFiles names (k + 1) before after
-  pub calm : (j : ℕ) → j < k ⊎ k < j → IsCalm before after j
+  pub takes : (j : ℕ) → j ≤ k → TakesFile (name_at names j) (tray_at before j) (tray_at after j)
+  pub later : (j : ℕ) → k < j → j < length names
+      → MayTakeFile (name_at names j) (tray_at before j) (tray_at after j)
+  pub others : (j : ℕ) → length names ≤ j → tray_at after j ≡ tray_at before j
+  pub calm : (j : ℕ) → j < k → IsCalm before after j
 
 -- Where no plate is refused, this is so.
 abbrev pub JudgingEnds : Type 0
@@ -61,5 +65,5 @@ JudgingEnds = (names : List (List ℕ)) (headers : List Header) (before after : 
 abbrev pub JudgingStops : Type 0
 JudgingStops = (names : List (List ℕ)) (headers : List Header) (k : ℕ) (refusal : PlateRefusal)
     (before after : List TrayState) → length names ≤ length headers
-    → TrayStops (length names) k (Judges names headers) (Refuses names refusal) before after
+    → RefusesFirst names headers k refusal before after
     → AreJudgedTo names headers k before after

@@ -1,5 +1,6 @@
--- A first reading of plates, of which nothing is kept but the headers.
-use Rattle.std.specs.Prelude.{ℕ, List, [], length, Some, Result, Ok, Err}
+-- A first reading of plates, of which nothing is kept but the headers. Some are read side by side.
+use Rattle.std.specs.Prelude.{◌≡◌, ◌≢◌, ◌⊎◌, ℕ, ◌+◌, ◌<◌, ◌≤◌, List, [], length, Some, Result, Ok}
+use Rattle.std.specs.Prelude.{Err}
 use Rattle.outside.specs.Tray.{TrayState}
 use Rattle.pgm_plates.specs.declared.bounds.Bounds.TheVariants.{Sheet}
 use Rattle.pgm_plates.specs.declared.header.Header.{Header}
@@ -10,7 +11,8 @@ use Rattle.pgm_plates.specs.Reading.{ReadsPlateWithin}
 use Rattle.pgm_plates.specs.Rows.{HasRead, plate_with}
 use Rattle.refusals.specs.declared.refusal.Refusal.{Refusal}
 use Rattle.refusals.specs.declared.refusal.Refusal.TheVariants.{Memory, Plate, Read}
-use Rattle.plate_rows.specs.Trays.{EachTray, TrayStops, header_at, name_at}
+use Rattle.plate_rows.specs.declared.judging.RefusedPlate.{RefusedPlate}
+use Rattle.plate_rows.specs.Trays.{EachTray, header_at, name_at, tray_at}
 
 -- The plate of that header is read to its end, whatever its samples are, or it is refused.
 abbrev pub JudgesPlate : List ℕ → TrayState → TrayState → Result Header PlateRefusal → Type 0
@@ -46,13 +48,47 @@ refusal_at k (Fault fault) = Plate k fault
 refusal_at k ReadFault = Read (Some k)
 refusal_at k OutOfMemory = Memory
 
--- The plates of these files are judged, each by its own tray, up to the first that is refused.
+-- The tray of a plate is as it was, or the plate was judged, whatever that came to.
+abbrev pub MayJudge : List ℕ → TrayState → TrayState → Type 0
+MayJudge name before after = (after ≡ before)
+    ⊎ ((answer : Result Header PlateRefusal) × JudgesPlate name before after answer)
+
+-- Plate k is the first that is refused: each before it is judged. Those after it may have been
+-- judged beside it, and the trays of no plate are as they were.
+pub record RefusesFirst (names : List (List ℕ)) (headers : List Header) (k : ℕ)
+    (refusal : PlateRefusal) (before after : List TrayState) : Type 0 where
+  pub known : k < length names
+  pub each : (j : ℕ) → j < k → Judges names headers j (tray_at before j) (tray_at after j)
+  pub here : Refuses names refusal k (tray_at before k) (tray_at after k)
+  pub later : (j : ℕ) → k < j → j < length names
+      → MayJudge (name_at names j) (tray_at before j) (tray_at after j)
+  pub others : (j : ℕ) → length names ≤ j → tray_at after j ≡ tray_at before j
+
+-- The plates of these files are judged, each by its own tray, or one is the first that is refused.
 abbrev pub JudgesPlates : List (List ℕ) → List Header → List TrayState → List TrayState
     → Result (Unit {0}) Refusal → Type 0
 JudgesPlates names headers before after (Ok done) =
     EachTray (length names) (Judges names headers) before after
 JudgesPlates names headers before after (Err (Plate k fault)) =
-    TrayStops (length names) k (Judges names headers) (Refuses names (Fault fault)) before after
+    RefusesFirst names headers k (Fault fault) before after
 JudgesPlates names headers before after (Err (Read (Some k))) =
-    TrayStops (length names) k (Judges names headers) (Refuses names ReadFault) before after
+    RefusesFirst names headers k ReadFault before after
 JudgesPlates names headers before after (Err other) = ⊥
+
+-- The same of some of the plates, of which the first that is refused is told by its number among
+-- them. Memory is wanted for none.
+abbrev pub JudgesShare : List (List ℕ) → List Header → List TrayState → List TrayState
+    → Result (Unit {0}) RefusedPlate → Type 0
+JudgesShare names headers before after (Ok done) =
+    EachTray (length names) (Judges names headers) before after
+JudgesShare names headers before after (Err stop) =
+    RefusesFirst names headers stop.plate stop.refusal before after
+    × (stop.refusal ≢ OutOfMemory)
+
+-- the first refusal of two shares, of which the first has so many plates
+abbrev pub first_refusal : ℕ → Result (Unit {0}) RefusedPlate → Result (Unit {0}) RefusedPlate
+    → Result (Unit {0}) RefusedPlate
+first_refusal count (Err stop) second = Err stop
+first_refusal count (Ok done) (Err stop) =
+    Err (record { plate = count + stop.plate; refusal = stop.refusal })
+first_refusal count (Ok done) (Ok both) = Ok both

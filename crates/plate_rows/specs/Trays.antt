@@ -1,5 +1,5 @@
 -- Several trays, of which each reads the file of one plate.
-use Rattle.std.specs.Prelude.{◌≡◌, ℕ, false, IsTrue, List, [], ◌∷◌, ◌++◌, Some, None}
+use Rattle.std.specs.Prelude.{◌≡◌, ◌⊎◌, ℕ, false, IsTrue, List, [], ◌∷◌, ◌++◌, Some, None}
 use Rattle.std.specs.Prelude.{slice_index_or}
 use Rattle.outside.specs.Causes.{Asks}
 use Rattle.outside.specs.Tray.{TrayState, KeepsTray}
@@ -66,6 +66,10 @@ pub record TakesFile (name : List ℕ) (before after : TrayState) : Type 0 where
   pub taken : IsTrue after.begun → IsTrue before.tells
       → before.file name ≡ Some (bytes ++ after.left)
   pub few : AreFew bytes
+
+-- The tray is as it was, or the file of that name was asked for.
+abbrev pub MayTakeFile : List ℕ → TrayState → TrayState → Type 0
+MayTakeFile name before after = (after ≡ before) ⊎ TakesFile name before after
 
 -- The first so many files are asked for, each of its own tray.
 abbrev pub TakesFiles : List (List ℕ) → ℕ → List TrayState → List TrayState → Type 0

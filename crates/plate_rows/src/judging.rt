@@ -1,7 +1,8 @@
-ghost use Rattle.std.specs.Prelude.{◌≡◌, ◌≢◌, ◌≤◌, ◌^◌, IsTrue, length, map, Err};
+ghost use Rattle.std.specs.Prelude.{◌≡◌, ◌≢◌, ◌<◌, ◌≤◌, ◌^◌, IsTrue, IfErr, length, map, Err};
+ghost use Rattle.std.specs.Thread.{IsSend, IsSync};
 ghost use Rattle.pgm_plates.specs.Limits.{most_header};
 ghost use Rattle.pgm_plates.specs.Rows.{samples_of};
-ghost use Rattle.plate_rows.specs.Judging.{JudgesPlate, JudgesPlates, JudgesRest, refusal_at};
+ghost use Rattle.plate_rows.specs.Judging.{JudgesPlate, JudgesPlates, JudgesRest, JudgesShare, first_refusal, refusal_at};
 
 use outside::tray::Tray;
 use pgm_plates::bounds::Bounds;
@@ -9,73 +10,211 @@ use pgm_plates::plate::PlateRefusal;
 use pgm_plates::rows::{Header, OpenPlate, begin_plate, end_plate, judge_rows};
 use refusals::refusal::Refusal;
 use std::convert::AsStr;
+use std::thread;
+use std::thread::Threads;
 
-/// Judges the plates of these files in order, each by the tray of its number, and gives their headers in `headers`. It
-/// takes no memory, and keeps nothing else of a plate.
+// The first of some plates that is refused, by its number among them, and what for.
+#[derive(Clone, Copy, Drop)]
+struct RefusedPlate {
+    plate: u32,
+    refusal: PlateRefusal,
+}
+
+/// Judges the plates of these files, each by the tray of its number, and gives their headers in `headers`: side by side,
+/// by as many threads as there are workers, or plates where these are fewer; each thread judges some of the plates in order.
+/// It takes no memory but that of threads, and keeps nothing else of a plate.
 ///
-/// It stops at the first plate that is refused: `Plate` with its fault, by the limits of a sheet, or `Read` where a read
-/// failed, each with the plate's number. No later plate is begun.
-pub fn judge_plates<T: Tray, S: AsStr>(
+/// The refusal is that of the first plate that is refused, in the order of the files: `Plate` with its fault, by the limits
+/// of a sheet, or `Read` where a read failed, each with the plate's number. Of the plates after it some may be judged as
+/// well, whatever that comes to; which of them were begun is not said.
+pub fn judge_plates<H: Threads + Sync, T: Tray + Send, S: AsStr + Sync>(
+    rt: &H,
+    workers: u32,
     trays: &mut [T],
     inputs: &[S],
     headers: &mut [Header],
 ) -> Result<(), Refusal>
+    requires some_workers { 1 ≤ workers }
     requires few { length inputs.now ≤ 16 }
     requires trays { length inputs.now ≤ length trays.old }
     requires headers { length inputs.now ≤ length headers.old }
     ensures { JudgesPlates (map S.text inputs.now) headers.new (map T.state trays.old)
         (map T.state trays.new) result }
 {
-    judge_by::<T, S, 131_072>(trays, inputs, headers)
+    match judge_share(rt, workers as usize, inputs, trays, headers) {
+        Ok(()) => Ok(()),
+        Err(stop) => Err(numbered(stop)),
+    }
 }
 
-// The same by pieces of so many bytes. Their number is a parameter, so that no proof unfolds lists of so many.
-fn judge_by<T: Tray, S: AsStr, const PIECE: usize>(
-    trays: &mut [T],
+// Judges some of the plates by so many workers: by one of them in order, by more of them in two shares side by side.
+#[cycle(shares)]
+fn judge_share<H: Threads + Sync, T: Tray + Send, S: AsStr + Sync>(
+    rt: &H,
+    workers: usize,
     inputs: &[S],
+    trays: &mut [T],
     headers: &mut [Header],
-) -> Result<(), Refusal>
+) -> Result<(), RefusedPlate>
+    requires few { length inputs.now ≤ 16 }
+    requires trays { length inputs.now ≤ length trays.old }
+    requires headers { length inputs.now ≤ length headers.old }
+    ensures { JudgesShare (map S.text inputs.now) headers.new (map T.state trays.old)
+        (map T.state trays.new) result }
+{
+    let workers = workers.min(inputs.len());
+    if workers < 2 {
+        return judge_by::<T, S, 131_072>(inputs, trays, headers);
+    }
+    let half = workers / 2;
+    let count = share_of(inputs.len(), half, workers);
+    let (inputs, inputs_after) = inputs.split_at(count);
+    let (trays, trays_after) = trays.split_at_mut(count);
+    let (headers, headers_after) = headers.split_at_mut(count);
+    let (first, second) = judge_beside(
+        rt,
+        half,
+        inputs,
+        trays,
+        headers,
+        workers - half,
+        inputs_after,
+        trays_after,
+        headers_after,
+    );
+    first_of(count as u32, first, second)
+}
+
+// How many of so many plates the first of the workers judge, each of them as many as another.
+fn share_of(plates: usize, first: usize, workers: usize) -> usize
+    requires few { plates ≤ 16 }
+    requires some_workers { 1 ≤ workers }
+    requires first { first ≤ workers }
+    requires plates { workers ≤ plates }
+    ensures { result ≤ plates }
+{
+    plates * first / workers
+}
+
+// Judges two shares of plates side by side, each by its workers. It is a function of its own, so that what the closures
+// require is what this function is given.
+#[cycle(shares)]
+fn judge_beside<H: Threads + Sync, T: Tray + Send, S: AsStr + Sync>(
+    rt: &H,
+    workers: usize,
+    inputs: &[S],
+    trays: &mut [T],
+    headers: &mut [Header],
+    workers_after: usize,
+    inputs_after: &[S],
+    trays_after: &mut [T],
+    headers_after: &mut [Header],
+) -> (Result<(), RefusedPlate>, Result<(), RefusedPlate>)
+    requires some_workers { 1 ≤ workers }
+    requires some_workers_after { 1 ≤ workers_after }
+    requires few { length inputs.now ≤ 16 }
+    requires trays { length inputs.now ≤ length trays.old }
+    requires headers { length inputs.now ≤ length headers.old }
+    requires few_after { length inputs_after.now ≤ 16 }
+    requires trays_after { length inputs_after.now ≤ length trays_after.old }
+    requires headers_after { length inputs_after.now ≤ length headers_after.old }
+    ensures first { JudgesShare (map S.text inputs.now) headers.new (map T.state trays.old)
+        (map T.state trays.new) result.0 }
+    ensures second { JudgesShare (map S.text inputs_after.now) headers_after.new
+        (map T.state trays_after.old) (map T.state trays_after.new) result.1 }
+{
+    let mut first = || -> Result<(), RefusedPlate>
+        requires bounds { IsSync H.row × IsSend T.row × IsSync S.row }
+        requires few { length inputs.now ≤ 16 }
+        requires trays { length inputs.now ≤ length trays.now }
+        requires headers { length inputs.now ≤ length headers.now }
+        ensures { JudgesShare (map S.text inputs.entry.now) headers.exit.now
+            (map T.state trays.entry.now) (map T.state trays.exit.now) result }
+    { judge_share(rt, workers, inputs, trays, headers) };
+    let mut second = || -> Result<(), RefusedPlate>
+        requires bounds { IsSync H.row × IsSend T.row × IsSync S.row }
+        requires few { length inputs_after.now ≤ 16 }
+        requires trays { length inputs_after.now ≤ length trays_after.now }
+        requires headers { length inputs_after.now ≤ length headers_after.now }
+        ensures { JudgesShare (map S.text inputs_after.entry.now) headers_after.exit.now
+            (map T.state trays_after.entry.now) (map T.state trays_after.exit.now) result }
+    { judge_share(rt, workers_after, inputs_after, trays_after, headers_after) };
+    thread::join_mut(rt, &mut first, &mut second)
+}
+
+// What two shares come to together, where the first has so many plates: its refusal, or else that of the second, whose
+// plates are counted on.
+fn first_of(
+    count: u32,
+    first: Result<(), RefusedPlate>,
+    second: Result<(), RefusedPlate>,
+) -> Result<(), RefusedPlate>
+    requires few { count ≤ 16 }
+    requires known { IfErr second (λ stop. stop.plate < 16) }
+    ensures { result ≡ first_refusal count first second }
+{
+    match (first, second) {
+        (Ok(()), Ok(())) => Ok(()),
+        (Ok(()), Err(stop)) => Err(RefusedPlate {
+            plate: count + stop.plate,
+            refusal: stop.refusal,
+        }),
+        (Err(stop), _) => Err(stop),
+    }
+}
+
+// Judges plates in order by pieces of so many bytes. Their number is a parameter, so that no proof unfolds lists of so many.
+fn judge_by<T: Tray, S: AsStr, const PIECE: usize>(
+    inputs: &[S],
+    trays: &mut [T],
+    headers: &mut [Header],
+) -> Result<(), RefusedPlate>
     requires some { 2 ≤ PIECE }
     requires small { PIECE ≤ 2 ^ 20 }
     requires few { length inputs.now ≤ 16 }
     requires trays { length inputs.now ≤ length trays.old }
     requires headers { length inputs.now ≤ length headers.old }
-    ensures { JudgesPlates (map S.text inputs.now) headers.new (map T.state trays.old)
+    ensures { JudgesShare (map S.text inputs.now) headers.new (map T.state trays.old)
         (map T.state trays.new) result }
 {
     let mut bytes = [0u8; PIECE];
-    judge_each(trays, inputs, headers, bytes.as_mut_slice())
+    judge_each(inputs, trays, headers, bytes.as_mut_slice())
 }
 
 fn judge_each<T: Tray, S: AsStr>(
-    trays: &mut [T],
     inputs: &[S],
+    trays: &mut [T],
     headers: &mut [Header],
     bytes: &mut [u8],
-) -> Result<(), Refusal>
+) -> Result<(), RefusedPlate>
     requires few { length inputs.now ≤ 16 }
     requires trays { length inputs.now ≤ length trays.old }
     requires headers { length inputs.now ≤ length headers.old }
     requires room { 2 ≤ length bytes.old }
-    ensures { JudgesPlates (map S.text inputs.now) headers.new (map T.state trays.old)
+    ensures { JudgesShare (map S.text inputs.now) headers.new (map T.state trays.old)
         (map T.state trays.new) result }
 {
     for place in 0..inputs.len() {
         match judge_plate(&mut trays[place], inputs[place].as_str(), bytes) {
             Ok(header) => headers[place] = header,
-            Err(refusal) => return Err(numbered(place as u32, refusal)),
+            Err(refusal) => {
+                return Err(RefusedPlate {
+                    plate: place as u32,
+                    refusal,
+                });
+            }
         }
     }
     Ok(())
 }
 
 // What a plate is refused for, with its number.
-fn numbered(plate: u32, refusal: PlateRefusal) -> Refusal
-    ensures { result ≡ refusal_at plate refusal }
+fn numbered(stop: RefusedPlate) -> Refusal
+    ensures { result ≡ refusal_at stop.plate stop.refusal }
 {
-    match refusal {
-        PlateRefusal::Fault(fault) => Refusal::Plate(plate, fault),
-        PlateRefusal::ReadFault => Refusal::Read(Some(plate)),
+    match stop.refusal {
+        PlateRefusal::Fault(fault) => Refusal::Plate(stop.plate, fault),
+        PlateRefusal::ReadFault => Refusal::Read(Some(stop.plate)),
         PlateRefusal::OutOfMemory => Refusal::Memory,
     }
 }

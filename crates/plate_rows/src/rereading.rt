@@ -170,8 +170,48 @@ fn read_behind<T: Tray>(
 }
 
 /// Reads the next samples of a plate, of which so many were read before, and turns them into tints: as many as there is
-/// room for in `tints`, by pieces of as many bytes as there is room for in `bytes`.
+/// room for in `tints`, by pieces of as many bytes as there is room for in `bytes`. Each piece is turned before the next one
+/// is read, while the cache still has it.
 pub fn read_tints<T: Tray>(
+    tray: &mut T,
+    plate: OpenPlate,
+    done: u64,
+    tints: &mut [u16],
+    bytes: &mut [u8],
+) -> Result<(), PlateRefusal>
+    requires read { IsReadTo plate done (length tints.old) (T.state tray.old) }
+    requires room { 2 ≤ length bytes.old }
+    ensures answer { ReadsTints plate done tints.new (T.state tray.old) (T.state tray.new) result }
+    ensures memory { result ≢ Err PlateRefusal.OutOfMemory }
+{
+    let most = samples_at_once(bytes.len(), plate.header.maxval);
+    let mut filled = 0usize;
+    while filled < tints.len() {
+        let want = most.min(tints.len() - filled);
+        match read_piece(
+            tray,
+            plate,
+            done + filled as u64,
+            &mut tints[filled..filled + want],
+            bytes,
+        ) {
+            Ok(()) => filled += want,
+            Err(refusal) => return Err(refusal),
+        }
+    }
+    Ok(())
+}
+
+// How many samples have room in so many bytes.
+fn samples_at_once(bytes: usize, maxval: u32) -> usize
+    requires { 2 ≤ bytes }
+    ensures { 1 ≤ result }
+{
+    if maxval < 256 { bytes } else { bytes / 2 }
+}
+
+// Reads the next samples of a plate and turns them into tints, all at once.
+fn read_piece<T: Tray>(
     tray: &mut T,
     plate: OpenPlate,
     done: u64,

@@ -14,6 +14,7 @@ use plate_rows::stop::RereadError;
 use refusals::refusal::Refusal;
 use std::alloc::Global;
 use std::process::Abort;
+use std::thread::Threads;
 
 const INPUTS: [&str; 2] = ["in", "in"];
 
@@ -55,11 +56,12 @@ enum End {
     Read([[u16; 4]; 2]),
 }
 
-fn judged(trays: &mut [MemTray]) -> Result<[Header; 2], Refusal>
+// Judges two plates side by side.
+fn judged(rt: &(impl Threads + Sync), trays: &mut [MemTray]) -> Result<[Header; 2], Refusal>
     requires { length trays.old ≡ 2 }
 {
     let mut headers = [NONE.header; 2];
-    match judge_plates(trays, &INPUTS, &mut headers) {
+    match judge_plates(rt, 2, trays, &INPUTS, &mut headers) {
         Ok(()) => Ok(headers),
         Err(refusal) => Err(refusal),
     }
@@ -126,9 +128,14 @@ fn tints_of(plane: &Plane) -> [u16; 4] {
 }
 
 // Judges two plates and reads them again, by the same trays.
-fn read_both(rt: &impl Abort, alloc: Global, trays: &mut [MemTray], planes: &mut [Plane]) -> End {
+fn read_both(
+    rt: &(impl Abort + Threads + Sync),
+    alloc: Global,
+    trays: &mut [MemTray],
+    planes: &mut [Plane],
+) -> End {
     assert!(rt; trays.len() == 2);
-    match judged(trays) {
+    match judged(rt, trays) {
         Ok(headers) => {
             assert!(rt; headers == HEADERS);
             read_second(rt, alloc, trays, planes)
@@ -148,13 +155,18 @@ fn read_second(rt: &impl Abort, alloc: Global, trays: &mut [MemTray], planes: &m
     }
 }
 
-fn ended(rt: &impl Abort, alloc: Global, trays: &mut [MemTray]) -> End {
+fn ended(rt: &(impl Abort + Threads + Sync), alloc: Global, trays: &mut [MemTray]) -> End {
     let mut planes = [plane_of(rt, alloc), plane_of(rt, alloc)];
     read_both(rt, alloc, trays, &mut planes)
 }
 
 // How both readings of two files end, of which a call may fail.
-fn end_of(rt: &impl Abort, alloc: Global, files: &[&str; 2], fault: Option<Fault>) -> End {
+fn end_of(
+    rt: &(impl Abort + Threads + Sync),
+    alloc: Global,
+    files: &[&str; 2],
+    fault: Option<Fault>,
+) -> End {
     let mut trays = trays_of(rt, alloc, files, fault);
     ended(rt, alloc, &mut trays)
 }
@@ -268,7 +280,13 @@ fn is_told(end: End, tray: u32) -> bool {
 }
 
 // Whether it does where that call fails, and both readings end well from call `last` on.
-fn is_told_at(rt: &impl Abort, alloc: Global, tray: u32, call: u64, last: u64) -> bool {
+fn is_told_at(
+    rt: &(impl Abort + Threads + Sync),
+    alloc: Global,
+    tray: u32,
+    call: u64,
+    last: u64,
+) -> bool {
     let fault = Fault {
         device: tray as usize,
         call,

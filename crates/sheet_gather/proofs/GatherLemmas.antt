@@ -1,5 +1,5 @@
 -- A sheet of a job and plates that are read, each plate by its own tray.
-use Rattle.std.proofs.Common.{◌≡◌, ◌≢◌, ◌⊎◌, ℕ, zero, suc, ◌+◌, ◌<◌, ◌≤◌, List, [], ◌∷◌, length, map, Option, Some, None, Result, Ok, Err, IsTrue, inl, inr, refl, sym, ap, ◌∙◌, subst, arith}
+use Rattle.std.proofs.Common.{◌≡◌, ◌≢◌, ℕ, zero, suc, ◌+◌, ◌<◌, ◌≤◌, List, [], ◌∷◌, length, map, Option, Some, None, Result, Ok, Err, IsTrue, inl, inr, refl, sym, ap, ◌∙◌, subst, arith}
 use Rattle.std.proofs.lemmas.Bool.{cases_lt}
 use Rattle.std.proofs.lemmas.List.{length-map}
 use Rattle.job_reader.specs.declared.job.Job.{Job}
@@ -27,7 +27,7 @@ use Rattle.bare_sheets.specs.Refusals.{sheet_refusal}
 use Rattle.sheet_windows.specs.Sheets.{IsSheet}
 use Rattle.sheet_gather.specs.Inputs.{AreSpelled, MakesSheet, SheetInputs, Spells, detailed, held_by, judged, plates_by, sheet_of}
 use Rattle.sheet_gather.specs.SheetFiles.{IsSheetFault}
-use Rattle.sheet_gather.specs.Steps.{IsFaultless, ReadsFirst, ReadsPlates, StopsAt, TakesFiles, common}
+use Rattle.sheet_gather.specs.Steps.{IsFaultless, MayTakeFile, ReadsFirst, ReadsPlates, StopsAt, TakesFile, TakesFiles, common}
 use Rattle.sheet_gather.specs.Gathering.{AsksAll, InHand, IsMadeSheet, TakesTrays}
 use Rattle.sheet_gather.specs.Judging.{AnswersJudging, JudgesSheet}
 use Rattle.plate_rows.specs.Trays.{IsCalm, tray_at}
@@ -41,49 +41,63 @@ prefix_is : (a b : TrayState) (names : List (List ℕ)) → b ≡ a → AsksPref
 prefix_is a b names same = subst (λ (t : TrayState). AsksPrefix a.asked t.asked names) (sym same) (asks_none_of a.asked names)
 
 -- The job was read by the first tray, and so many plates by their trays.
-module _ (source : Sources) (count : ℕ) (a b c : List TrayState) (first : KeepsTray (tray_at a 0) (tray_at b 0)) (asked : Asks (tray_at a 0).asked (tray_at b 0).asked (source.job ∷ [])) (few : TakesJob source.job (tray_at a 0) (tray_at b 0)) (others : (k : ℕ) → k ≢ 0 → tray_at b k ≡ tray_at a k) (next : TakesFiles source.inputs count b c) (some : 1 ≤ length source.inputs) (within : count ≤ length source.inputs) where
+module _ (source : Sources) (count : ℕ) (a b c : List TrayState) (first : KeepsTray (tray_at a 0) (tray_at b 0)) (asked : Asks (tray_at a 0).asked (tray_at b 0).asked (source.job ∷ [])) (few : TakesJob source.job (tray_at a 0) (tray_at b 0)) (others : (k : ℕ) → k ≢ 0 → tray_at b k ≡ tray_at a k) (next : TakesFiles source.inputs count b c) (some : 1 ≤ length source.inputs) where
   -- the job left each tray of the same files
   job_keeps : (k : ℕ) → KeepsTray (tray_at a k) (tray_at b k)
   job_keeps zero = first
   job_keeps (suc k) = keeps_is (tray_at a (suc k)) (tray_at b (suc k)) (others (suc k) (omega arith))
 
-  plates_keep : (k : ℕ) → (k < count) ⊎ (count ≤ k) → KeepsTray (tray_at b k) (tray_at c k)
-  plates_keep k (inl less) = (next.each k less).keeps
-  plates_keep k (inr more) = keeps_is (tray_at b k) (tray_at c k) (next.others k more)
+  -- a tray after the job: its plate was taken, or it is as it was
+  After : ℕ → Type 0
+  After k = MayTakeFile (name_at source.inputs k) (tray_at b k) (tray_at c k)
 
-  less_or_more : (k : ℕ) → (k < count) ⊎ (count ≤ k)
-  less_or_more k = elim (cases_lt k count) [ inl less ↦ inl less | inr more ↦ inr (omega arith) ]
+  after : (k : ℕ) → After k
+  unfolding After
+  after k = elim (cases_lt k count) [
+    | inl less ↦ inr (next.each k less)
+    | inr more ↦ elim (cases_lt k (length source.inputs)) [
+      | inl known ↦ next.later k (omega arith) known
+      | inr past ↦ inl (next.others k (omega arith))
+    ]
+  ]
+
+  plate_keeps : (k : ℕ) → After k → KeepsTray (tray_at b k) (tray_at c k)
+  unfolding After
+  plate_keeps k (inl same) = keeps_is (tray_at b k) (tray_at c k) same
+  plate_keeps k (inr takes) = takes.keeps
 
   pub keeps : (k : ℕ) → KeepsTray (tray_at a k) (tray_at c k)
-  keeps k = kept_tray (tray_at a k) (tray_at b k) (tray_at c k) (job_keeps k) (plates_keep k (less_or_more k))
+  keeps k = kept_tray (tray_at a k) (tray_at b k) (tray_at c k) (job_keeps k) (plate_keeps k (after k))
 
-  asks_each : (k : ℕ) → k < count → AsksAll source a c k
-  asks_each zero less = asks_then (tray_at a 0).asked (tray_at b 0).asked (tray_at c 0).asked (source.job ∷ []) (name_at source.inputs 0 ∷ []) asked (next.each 0 less).asked
-  asks_each (suc k) less = subst (λ (t : TrayState). Asks t.asked (tray_at c (suc k)).asked (name_at source.inputs (suc k) ∷ [])) (others (suc k) (omega arith)) (next.each (suc k) less).asked
+  asks_with : (k : ℕ) → TakesFile (name_at source.inputs k) (tray_at b k) (tray_at c k) → AsksAll source a c k
+  asks_with zero takes = asks_then (tray_at a 0).asked (tray_at b 0).asked (tray_at c 0).asked (source.job ∷ []) (name_at source.inputs 0 ∷ []) asked takes.asked
+  asks_with (suc k) takes = subst (λ (t : TrayState). Asks t.asked (tray_at c (suc k)).asked (name_at source.inputs (suc k) ∷ [])) (others (suc k) (omega arith)) takes.asked
 
   pub asks_of : (k : ℕ) → k < count → AsksAll source a c k
-  asks_of = asks_each
+  asks_of k less = asks_with k (next.each k less)
 
-  prefix_of : (k : ℕ) → (k < count) ⊎ (count ≤ k) → AsksPrefix (tray_at a k).asked (tray_at c k).asked (tray_files source k)
-  prefix_of k (inl less) = asks_all (tray_at a k).asked (tray_at c k).asked (tray_files source k) (asks_each k less)
-  prefix_of zero (inr more) = subst (λ (t : TrayState). AsksPrefix (tray_at a 0).asked t.asked (tray_files source 0)) (sym (next.others 0 more)) (asks_prefix (tray_at a 0).asked (tray_at b 0).asked 1 (tray_files source 0) asked)
-  prefix_of (suc k) (inr more) = prefix_is (tray_at a (suc k)) (tray_at c (suc k)) (tray_files source (suc k)) (next.others (suc k) more ∙ others (suc k) (omega arith))
+  prefix_of : (k : ℕ) → After k → AsksPrefix (tray_at a k).asked (tray_at c k).asked (tray_files source k)
+  unfolding After
+  prefix_of k (inr takes) = asks_all (tray_at a k).asked (tray_at c k).asked (tray_files source k) (asks_with k takes)
+  prefix_of zero (inl same) = subst (λ (t : TrayState). AsksPrefix (tray_at a 0).asked t.asked (tray_files source 0)) (sym same) (asks_prefix (tray_at a 0).asked (tray_at b 0).asked 1 (tray_files source 0) asked)
+  prefix_of (suc k) (inl same) = prefix_is (tray_at a (suc k)) (tray_at c (suc k)) (tray_files source (suc k)) (same ∙ others (suc k) (omega arith))
 
-  hand_of : (k : ℕ) → (k < count) ⊎ (count ≤ k) → InHand source k (tray_at a k) (tray_at c k)
-  hand_of zero (inl less) = inr (inr (takes_before (name_at source.inputs 0) (tray_at a 0) (tray_at b 0) (tray_at c 0) first (next.each 0 less).few))
-  hand_of zero (inr more) = inr (inl (subst (λ (t : TrayState). TakesJob source.job (tray_at a 0) t) (sym (next.others 0 more)) few))
-  hand_of (suc k) (inl less) = inr (takes_before (name_at source.inputs (suc k)) (tray_at a (suc k)) (tray_at b (suc k)) (tray_at c (suc k)) (job_keeps (suc k)) (next.each (suc k) less).few)
-  hand_of (suc k) (inr more) = inl (next.others (suc k) more ∙ others (suc k) (omega arith))
+  hand_of : (k : ℕ) → After k → InHand source k (tray_at a k) (tray_at c k)
+  unfolding After
+  hand_of zero (inr takes) = inr (inr (takes_before (name_at source.inputs 0) (tray_at a 0) (tray_at b 0) (tray_at c 0) first takes.few))
+  hand_of zero (inl same) = inr (inl (subst (λ (t : TrayState). TakesJob source.job (tray_at a 0) t) (sym same) few))
+  hand_of (suc k) (inr takes) = inr (takes_before (name_at source.inputs (suc k)) (tray_at a (suc k)) (tray_at b (suc k)) (tray_at c (suc k)) (job_keeps (suc k)) takes.few)
+  hand_of (suc k) (inl same) = inl (same ∙ others (suc k) (omega arith))
 
   past : (k : ℕ) → length source.inputs ≤ k → tray_at c k ≡ tray_at a k
   past zero more = absurd (omega arith)
-  past (suc k) more = next.others (suc k) (omega arith) ∙ others (suc k) (omega arith)
+  past (suc k) more = next.others (suc k) more ∙ others (suc k) (omega arith)
 
   pub takes_trays : TakesTrays source a c
   takes_trays = record {
     keeps = keeps;
-    asked = λ k. prefix_of k (less_or_more k);
-    in_hand = λ k. hand_of k (less_or_more k);
+    asked = λ k. prefix_of k (after k);
+    in_hand = λ k. hand_of k (after k);
     beyond = past;
   }
 
@@ -130,10 +144,10 @@ module _ (a b c : List TrayState) (others : (k : ℕ) → k ≢ 0 → tray_at b 
 -- The job is refused.
 module _ (source : Sources) (budget : Budget) (a b : List TrayState) (some : 1 ≤ length source.inputs) (others : (k : ℕ) → k ≢ 0 → tray_at b k ≡ tray_at a k) where
   none_taken : TakesFiles source.inputs 0 b b
-  none_taken = record { each = λ k less. absurd (omega arith); others = λ k more. refl }
+  none_taken = record { each = λ k less. absurd (omega arith); later = λ k more less. inl refl; others = λ k more. refl }
 
   job_takes : KeepsTray (tray_at a 0) (tray_at b 0) → Asks (tray_at a 0).asked (tray_at b 0).asked (source.job ∷ []) → TakesJob source.job (tray_at a 0) (tray_at b 0) → TakesTrays source a b
-  job_takes keeps asked few = takes_trays source 0 a b b keeps asked few others none_taken some (omega arith)
+  job_takes keeps asked few = takes_trays source 0 a b b keeps asked few others none_taken some
 
   answer_job : (refusal : Refusal) → ReadsJob source.job (tray_at a 0) (tray_at b 0) (Err refusal) → AnswersJob source.job (tray_at a 0) (tray_at b 0) (Err refusal) → PassesNoFault {T = Job} (tray_at a 0) (tray_at b 0) (Err refusal) → AnswersJudging source budget a b (Err (Common refusal))
   answer_job (JobFails fault) reads answer count = AnswersJudging.refused (Common (JobFails fault)) refl (record {
@@ -177,11 +191,11 @@ pub record IsReady (source : Sources) (a c : List TrayState) (sheet : PageParts)
 
 -- The job is read, and then the plates.
 module _ (source : Sources) (budget : Budget) (a b c : List TrayState) (job : Job) (some : 1 ≤ length source.inputs) (named : length source.names ≡ length source.inputs) (others : (k : ℕ) → k ≢ 0 → tray_at b k ≡ tray_at a k) (first : ReadsJob source.job (tray_at a 0) (tray_at b 0) (Ok job)) where
-  trays : (count : ℕ) → count ≤ length source.inputs → TakesFiles source.inputs count b c → TakesTrays source a c
-  trays count within next = takes_trays source count a b c first.keeps first.asked first.few others next some within
+  trays : (count : ℕ) → TakesFiles source.inputs count b c → TakesTrays source a c
+  trays count next = takes_trays source count a b c first.keeps first.asked first.few others next some
 
-  asks : (count : ℕ) → count ≤ length source.inputs → TakesFiles source.inputs count b c → (k : ℕ) → k < count → AsksAll source a c k
-  asks count within next = asks_of source count a b c first.keeps first.asked first.few others next some within
+  asks : (count : ℕ) → TakesFiles source.inputs count b c → (k : ℕ) → k < count → AsksAll source a c k
+  asks count next = asks_of source count a b c first.keeps first.asked first.few others next some
 
   job_told : IsTrue (tray_at a 0).tells → Spells ((tray_at a 0).file source.job) (λ bytes. job_of bytes ≡ Ok job)
   job_told tells = first.answer.1 tells
@@ -198,9 +212,9 @@ module _ (source : Sources) (budget : Budget) (a b c : List TrayState) (job : Jo
       job_read = job_told (tells 0 (omega arith));
       before = before plate stops (λ k less. tells k (let known = stops.known in omega arith));
       known = (let known = stops.known in omega arith);
-      broken = held_before source (plate + 1) a b c first.keeps first.asked first.few others stops.takes some (let known = stops.known in omega arith) plate (name_at source.inputs plate) (λ bytes. IsSheetFault bytes fault) (told ((job_keeps_at plate).tells ∙ tells plate stops.known));
+      broken = held_before source (plate + 1) a b c first.keeps first.asked first.few others stops.takes some plate (name_at source.inputs plate) (λ bytes. IsSheetFault bytes fault) (told ((job_keeps_at plate).tells ∙ tells plate stops.known));
     };
-    begun = λ k less. asks (plate + 1) (let known = stops.known in omega arith) stops.takes k (omega arith);
+    begun = λ k less. asks (plate + 1) stops.takes k (omega arith);
     count = (λ k less. both_calm a b c others first.count k (stops.calm k less), count_before a b c others first.count plate fault count);
   }) where
     job_keeps_at : (k : ℕ) → KeepsTray (tray_at a k) (tray_at b k)
@@ -208,20 +222,20 @@ module _ (source : Sources) (budget : Budget) (a b c : List TrayState) (job : Jo
     job_keeps_at (suc k) = keeps_is (tray_at a (suc k)) (tray_at b (suc k)) (others (suc k) (omega arith))
 
     before : (plate : ℕ) (stops : StopsAt source.inputs plate b c) → AllTell plate a → AreSpelled (plates_by a source.inputs) plate stops.plates
-    before plate stops tells = spelled_before source (plate + 1) a b c first.keeps first.asked first.few others stops.takes some (let known = stops.known in omega arith) plate stops.plates (stops.before_it (λ k less. (job_keeps_at k).tells ∙ tells k less))
+    before plate stops tells = spelled_before source (plate + 1) a b c first.keeps first.asked first.few others stops.takes some plate stops.plates (stops.before_it (λ k less. (job_keeps_at k).tells ∙ tells k less))
 
   plate_breaks : (plate : ℕ) → StopsAt source.inputs plate b c → Rose (tray_at b plate).faults (tray_at c plate).faults → IsFaultless (name_at source.inputs plate) (tray_at b plate) (tray_at c plate) → AnswersJudging source budget a c (Err (Common (Read (Some plate))))
   plate_breaks plate stops rose faultless = AnswersJudging.unread (Some plate) refl (record {
     rose = rose_before (tray_at a plate).faults (tray_at b plate).faults (tray_at c plate).faults (job_keeps_at plate).faults rose;
-    begun = λ k less. asks (plate + 1) (let known = stops.known in omega arith) stops.takes k (omega arith);
+    begun = λ k less. asks (plate + 1) stops.takes k (omega arith);
     count = λ k less. both_calm a b c others first.count k (stops.calm k less);
     breaks = record {
       known = stops.known;
       job = job;
       plates = stops.plates;
       job_read = job_told;
-      before_it = λ tells. spelled_before source (plate + 1) a b c first.keeps first.asked first.few others stops.takes some (let known = stops.known in omega arith) plate stops.plates (stops.before_it (λ k less. (job_keeps_at k).tells ∙ tells k less));
-      taken = faultless_before source (plate + 1) a b c first.keeps first.asked first.few others stops.takes some (let known = stops.known in omega arith) plate faultless;
+      before_it = λ tells. spelled_before source (plate + 1) a b c first.keeps first.asked first.few others stops.takes some plate stops.plates (stops.before_it (λ k less. (job_keeps_at k).tells ∙ tells k less));
+      taken = faultless_before source (plate + 1) a b c first.keeps first.asked first.few others stops.takes some plate faultless;
     };
   }) where
     job_keeps_at : (k : ℕ) → KeepsTray (tray_at a k) (tray_at b k)
@@ -235,12 +249,12 @@ module _ (source : Sources) (budget : Budget) (a b c : List TrayState) (job : Jo
   by_plates stop (ReadsPlates.read plates is long ok takes calm told) = absurd (cc)
   by_plates stop (ReadsPlates.fails plate fault is stops count told) =
       subst (λ (s : TrapsheetError). JudgesSheet source budget a c (Err s)) (same_error stop (Common (Plate plate fault)) is) (record {
-        takes = trays (plate + 1) (let known = stops.known in omega arith) stops.takes;
+        takes = trays (plate + 1) stops.takes;
         answer = plate_fails plate fault stops count told;
       })
   by_plates stop (ReadsPlates.unread plate is stops rose faultless) =
       subst (λ (s : TrapsheetError). JudgesSheet source budget a c (Err s)) (same_error stop (Common (Read (Some plate))) is) (record {
-        takes = trays (plate + 1) (let known = stops.known in omega arith) stops.takes;
+        takes = trays (plate + 1) stops.takes;
         answer = plate_breaks plate stops rose faultless;
       })
 
@@ -250,8 +264,8 @@ module _ (source : Sources) (budget : Budget) (a b c : List TrayState) (job : Jo
     inputs_told tells = record {
       job_read = job_told (tells 0 (omega arith));
       plates_read = subst (λ (n : ℕ). AreSpelled (plates_by a source.inputs) n read) (sym named)
-          (spelled_before source (length source.inputs) a b c first.keeps first.asked first.few others next some (omega arith) (length source.inputs) read
-          (told (all_tell_on source (length source.inputs) a b c first.keeps first.asked first.few others next some (omega arith) (length source.inputs) tells)));
+          (spelled_before source (length source.inputs) a b c first.keeps first.asked first.few others next some (length source.inputs) read
+          (told (all_tell_on source (length source.inputs) a b c first.keeps first.asked first.few others next some (length source.inputs) tells)));
     }
 
     makes : (made : Result PageParts TrapsheetError) → sheet_of job read source.names ≡ made → AllTell (length source.inputs) a → MakesSheet (held_by a source) source.names made
@@ -286,25 +300,25 @@ module _ (source : Sources) (budget : Budget) (a b c : List TrayState) (job : Jo
     sheet_refused stop is (of_details plate same) = subst (λ (s : TrapsheetError). AnswersJudging source budget a c (Err s)) (sym same) (AnswersJudging.refused (Common (NoDetails plate)) refl (record {
       of_input = tt;
       verdict = λ tells. makes (Err (Common (NoDetails plate))) (is ∙ ap (λ (s : TrapsheetError). Err s) same) tells;
-      begun = asks (length source.inputs) (omega arith) next;
+      begun = asks (length source.inputs) next;
       count = all_calm calm;
     }))
     sheet_refused stop is (of_sheet refusal same) = subst (λ (s : TrapsheetError). AnswersJudging source budget a c (Err s)) (sym same) (AnswersJudging.refused (OfSheet refusal) refl (record {
       of_input = tt;
       verdict = λ tells. makes (Err (OfSheet refusal)) (is ∙ ap (λ (s : TrapsheetError). Err s) same) tells;
-      begun = asks (length source.inputs) (omega arith) next;
+      begun = asks (length source.inputs) next;
       count = all_calm calm;
     }))
 
     pub made_refused : (stop : TrapsheetError) → sheet_of job read source.names ≡ Err stop → JudgesSheet source budget a c (Err stop)
     made_refused stop is = record {
-      takes = trays (length source.inputs) (omega arith) next;
+      takes = trays (length source.inputs) next;
       answer = sheet_refused stop is (of_made (without_details job source.names) (assembled job read source.names) stop is);
     }
 
     pub no_memory : JudgesSheet source budget a c (Err (Common Memory))
     no_memory = record {
-      takes = trays (length source.inputs) (omega arith) next;
+      takes = trays (length source.inputs) next;
       answer = AnswersJudging.no_memory refl (all_calm calm);
     }
 
@@ -312,9 +326,9 @@ module _ (source : Sources) (budget : Budget) (a b c : List TrayState) (job : Jo
     pub made_of : (sheet : PageParts) → sheet_of job read source.names ≡ Ok sheet → IsSheet sheet → sheet_refusal sheet ≡ None → IsReady source a c sheet
     made_of sheet made valid accepted = record {
       made = record { valid = valid; accepted = accepted; count = sheet_count sheet made; made = makes (Ok sheet) made };
-      asks = asks (length source.inputs) (omega arith) next;
+      asks = asks (length source.inputs) next;
       calm = all_calm calm;
-      takes = trays (length source.inputs) (omega arith) next;
+      takes = trays (length source.inputs) next;
     }
 
 -- A job that was read is the one that was answered.

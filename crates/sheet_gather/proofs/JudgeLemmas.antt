@@ -1,5 +1,5 @@
 -- A sheet of plates of which nothing is kept but the headers: the plates are there all the same.
-use Rattle.std.proofs.Common.{◌≡◌, ℕ, zero, suc, ◌+◌, ◌<◌, ◌≤◌, List, length, take, get_or, Option, Some, None, Result, Ok, Err, IsTrue, inl, refl, sym, ap, ◌∙◌, subst, arith}
+use Rattle.std.proofs.Common.{◌≡◌, ℕ, zero, suc, ◌+◌, ◌<◌, ◌≤◌, List, length, take, get_or, Option, Some, None, Result, Ok, Err, IsTrue, inl, inr, refl, sym, ap, ◌∙◌, subst, arith}
 use Rattle.std.specs.List.{All}
 use Rattle.std.proofs.lemmas.List.{get_or-map, length-map}
 use Rattle.job_reader.specs.declared.job.Job.{Job}
@@ -19,7 +19,7 @@ use Rattle.pgm_plates.specs.Planes.{plane_of}
 use Rattle.pgm_plates.specs.Rows.{IsWithin}
 use Rattle.plate_rows.specs.Judged.{AreJudged, AreJudgedTo, ArePlates, JudgingStops}
 use Rattle.plate_rows.specs.Judging.{JudgesPlates}
-use Rattle.plate_rows.specs.Trays.{TakesFile as FileTaken, TakesFiles as FilesTaken, header_in as header_there}
+use Rattle.plate_rows.specs.Trays.{MayTakeFile as MayBeTaken, TakesFile as FileTaken, TakesFiles as FilesTaken, header_in as header_there}
 use Rattle.refusals.specs.declared.refusal.Refusal.{Refusal}
 use Rattle.refusals.specs.declared.refusal.Refusal.TheVariants.{Job as JobFails, Memory, NoDetails, Page, Plate, Read, Usage, Write}
 use Rattle.bare_sheets.specs.declared.budget.Budget.{Budget}
@@ -32,7 +32,7 @@ use Rattle.sheet_gather.specs.Inputs.{AreSpelled, Spells, plates_by}
 use Rattle.sheet_gather.specs.Judging.{AnswersJudging, JudgesSheet, header_in}
 use Rattle.sheet_gather.specs.Planning.{CanPlan, HaveHeaders, MakesWhole, PlansSheet, header_of}
 use Rattle.sheet_gather.specs.SheetFiles.{IsSheetFile, IsSheetPlate}
-use Rattle.sheet_gather.specs.Steps.{ReadsFirst, ReadsPlates, StopsAt, TakesFile, TakesFiles}
+use Rattle.sheet_gather.specs.Steps.{MayTakeFile, ReadsFirst, ReadsPlates, StopsAt, TakesFile, TakesFiles}
 use Rattle.plate_rows.specs.Trays.{tray_at}
 use Rattle.sheet_gather.specs.Trays.{AllTell}
 use Rattle.sheet_gather.proofs.GatherLemmas.{IsReady, no_memory_left, plates_refused, sheet_ready, sheet_refused_as}
@@ -47,10 +47,24 @@ taken_file name a b takes = record {
   few = record { bytes = takes.bytes; taken = takes.taken; few = takes.few };
 }
 
-taken_files : (names : List (List ℕ)) (count : ℕ) (a b : List TrayState) → FilesTaken names count a b → TakesFiles names count a b
-taken_files names count a b takes = record {
+may_take : (name : List ℕ) (a b : TrayState) → MayBeTaken name a b → MayTakeFile name a b
+may_take name a b (inl same) = inl same
+may_take name a b (inr takes) = inr (taken_file name a b takes)
+
+-- where all are taken
+taken_files : (names : List (List ℕ)) (a b : List TrayState) → FilesTaken names (length names) a b → TakesFiles names (length names) a b
+taken_files names a b takes = record {
   each = λ k less. taken_file (name_at names k) (tray_at a k) (tray_at b k) (takes.each k less);
+  later = λ k more less. absurd (omega arith);
   others = takes.others;
+}
+
+-- where one is the first that is refused
+taken_to : (names : List (List ℕ)) (headers : List Header) (k : ℕ) (a b : List TrayState) → AreJudgedTo names headers k a b → TakesFiles names (k + 1) a b
+taken_to names headers k a b to = record {
+  each = λ j less. taken_file (name_at names j) (tray_at a j) (tray_at b j) (to.takes j (omega arith));
+  later = λ j past less. may_take (name_at names j) (tray_at a j) (tray_at b j) (to.later j (omega arith) less);
+  others = to.others;
 }
 
 spelled : (names : List (List ℕ)) (headers : List Header) (count : ℕ) (a : List TrayState) (read : List PlateRead) → ArePlates names headers count a read → AllTell count a → AreSpelled (plates_by a names) count read
@@ -59,8 +73,8 @@ spelled names headers count a read are tells = record { all = are.all; each = λ
 stops : (names : List (List ℕ)) (headers : List Header) (k : ℕ) (a b : List TrayState) → AreJudgedTo names headers k a b → StopsAt names k a b
 stops names headers k a b to = record {
   known = to.known;
-  takes = taken_files names (k + 1) a b to.takes;
-  calm = λ j less. to.calm j (inl less);
+  takes = taken_to names headers k a b to;
+  calm = to.calm;
   plates = to.plates;
   before_it = spelled names headers k a to.plates to.are_plates;
 }
@@ -111,7 +125,7 @@ module _ (source : Sources) (budget : Budget) (headers : List Header) (a b c : L
   have = record { in_range = judged.are_plates.in_range; same = judged.are_plates.same }
 
   takes : TakesFiles source.inputs (length source.inputs) b c
-  takes = taken_files source.inputs (length source.inputs) b c judged.takes
+  takes = taken_files source.inputs b c judged.takes
 
   told : AllTell (length source.inputs) b → AreSpelled (plates_by b source.inputs) (length source.inputs) read
   told = spelled source.inputs headers (length source.inputs) b read judged.are_plates

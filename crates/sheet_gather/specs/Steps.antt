@@ -1,6 +1,6 @@
 -- The steps in which a sheet is read: the job, and each plate by its own tray.
-use Rattle.std.specs.Prelude.{◌≡◌, ◌≢◌, ℕ, ◌<◌, ◌≤◌, ◌+◌, ◌++◌, IsTrue, List, [], ◌∷◌, length, All}
-use Rattle.std.specs.Prelude.{Some, Result, Ok, Err}
+use Rattle.std.specs.Prelude.{◌≡◌, ◌≢◌, ◌⊎◌, ℕ, ◌<◌, ◌≤◌, ◌+◌, ◌++◌, IsTrue, List, [], ◌∷◌, length}
+use Rattle.std.specs.Prelude.{All, Some, Result, Ok, Err}
 use Rattle.job_reader.specs.declared.job.Job.{Job}
 use Rattle.outside.specs.Causes.{Rose, Asks}
 use Rattle.outside.specs.Tray.{TrayState, KeepsTray}
@@ -45,13 +45,19 @@ pub record TakesFile (name : List ℕ) (before after : TrayState) : Type 0 where
   pub asked : Asks before.asked after.asked (name ∷ [])
   pub few : TakesPlate name before after
 
--- The first so many files are asked for, each of its own tray. The trays after them are as they
--- were.
+-- The tray is as it was, or the file of that name was asked for.
+abbrev pub MayTakeFile : List ℕ → TrayState → TrayState → Type 0
+MayTakeFile name before after = (after ≡ before) ⊎ TakesFile name before after
+
+-- The first so many files are asked for, each of its own tray, and those after them may have been.
+-- The trays of no plate are as they were.
 pub record TakesFiles (names : List (List ℕ)) (count : ℕ)
     (before after : List TrayState) : Type 0 where
   pub each : (k : ℕ) → k < count
       → TakesFile (name_at names k) (tray_at before k) (tray_at after k)
-  pub others : (k : ℕ) → count ≤ k → tray_at after k ≡ tray_at before k
+  pub later : (k : ℕ) → count ≤ k → k < length names
+      → MayTakeFile (name_at names k) (tray_at before k) (tray_at after k)
+  pub others : (k : ℕ) → length names ≤ k → tray_at after k ≡ tray_at before k
 
 -- Plate k is asked for, and the plates before it are read.
 pub record StopsAt (names : List (List ℕ)) (k : ℕ) (before after : List TrayState) : Type 0 where
@@ -61,7 +67,7 @@ pub record StopsAt (names : List (List ℕ)) (k : ℕ) (before after : List Tray
   pub plates : List PlateRead
   pub before_it : AllTell k before → AreSpelled (plates_by before names) k plates
 
--- The plates of these files are read, each by its own tray, up to the first that is refused.
+-- The plates of these files are read, each by its own tray, or one is the first that is refused.
 pub data ReadsPlates (names : List (List ℕ)) (before after : List TrayState)
     (result : Result (List PlateRead) TrapsheetError) : Type 0 where
   read : (plates : List PlateRead) → result ≡ Ok plates → length plates ≡ length names

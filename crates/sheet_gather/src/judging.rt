@@ -17,21 +17,26 @@ use plate_rows::judging::judge_plates;
 use plate_rows::laws::plates_judged;
 use std::alloc::Global;
 use std::convert::AsStr;
+use std::thread::Threads;
 
-/// Reads the job of that name from the first tray, and then each plate in the order of its file, plate k from tray k, to
-/// their ends, and judges the sheet that they make; nothing is kept of a plate but its header. The names are those of the
-/// plates' colorants.
+/// Reads the job of that name from the first tray, and then the plates, plate k from tray k, to their ends: side by side, by
+/// so many workers, which are threads of this call. It judges the sheet that they make; nothing is kept of a plate but its
+/// header. The names are those of the plates' colorants.
 ///
 /// A refusal is the first of these: a read that fails, the job's fault, a plate's fault, a plate without details, a fault of
-/// the sheet, or out of memory.
-pub fn judge_sheet<T: Tray, S: AsStr>(
+/// the sheet, or out of memory. Of plates that are refused it is the first in the order of the files; of the plates after it
+/// some may have been read as well.
+pub fn judge_sheet<H: Threads + Sync, T: Tray + Send, S: AsStr + Sync>(
+    rt: &H,
     alloc: Global,
+    workers: u32,
     trays: &mut [T],
     job: &str,
     names: &NameList,
     inputs: &[S],
     budget: &Budget,
 ) -> Result<PlannedSheet, TrapsheetError>
+    requires some_workers { 1 ≤ workers }
     requires some { 1 ≤ length inputs.now }
     requires few { length inputs.now ≤ 16 }
     requires named { length names.now ≡ length inputs.now }
@@ -40,20 +45,23 @@ pub fn judge_sheet<T: Tray, S: AsStr>(
         (map T.state trays.old) (map T.state trays.new) result }
 {
     match read_first(alloc, trays, job) {
-        Ok(read) => judge_rest(alloc, trays, read, names, inputs, budget),
+        Ok(read) => judge_rest(rt, alloc, workers, trays, read, names, inputs, budget),
         Err(stop) => Err(stop),
     }
 }
 
 // Judges the plates after the job, and the sheet of both.
-fn judge_rest<T: Tray, S: AsStr>(
+fn judge_rest<H: Threads + Sync, T: Tray + Send, S: AsStr + Sync>(
+    rt: &H,
     alloc: Global,
+    workers: u32,
     trays: &mut [T],
     job: Job,
     names: &NameList,
     inputs: &[S],
     budget: &Budget,
 ) -> Result<PlannedSheet, TrapsheetError>
+    requires some_workers { 1 ≤ workers }
     requires some { 1 ≤ length inputs.now }
     requires few { length inputs.now ≤ 16 }
     requires named { length names.now ≡ length inputs.now }
@@ -70,7 +78,7 @@ fn judge_rest<T: Tray, S: AsStr>(
         maxval: 0,
     };
     let mut headers = [none; 16];
-    match judge_plates(trays, inputs, &mut headers) {
+    match judge_plates(rt, workers, trays, inputs, &mut headers) {
         Ok(()) => plan_headers(alloc, job, &headers[..inputs.len()], names, budget),
         Err(refusal) => Err(TrapsheetError::Common(refusal)),
     }

@@ -1,10 +1,8 @@
 -- What `judge_each` has to show.
 use Rattle.std.proofs.Common.{◌<◌, ℕ, List, Ok, Err, length, map, get_or, arith, ap, sym, subst, ◌∙◌}
-use Rattle.std.specs.Prelude.{slice_set}
 use Rattle.std.proofs.lemmas.List.{length-map}
-use Rattle.refusals.specs.declared.refusal.Refusal.{Refusal}
-use Rattle.plate_rows.specs.Judging.{JudgesPlate, JudgesPlates}
-use Rattle.plate_rows.proofs.JudgeLemmas.{named, one_judged, one_refused, plates_refused}
+use Rattle.plate_rows.specs.Judging.{JudgesPlate}
+use Rattle.plate_rows.proofs.JudgeLemmas.{named, one_judged, one_refused}
 use Rattle.plate_rows.proofs.judging.judge_each.Goals as goal
 
 pub loop-place-preserved : goal.loop-place-preserved
@@ -34,9 +32,5 @@ returns-in-Err g c =
     let within : k < length inputs = omega arith in
     let held : k < length trays = omega arith in
     let known : k < length (map text inputs) = omega (arith, length-map inputs text) in
-    let a = map state c.args.trays.now in
-    let b = map state (slice_set trays k new) in
-    subst (λ (r : Refusal). JudgesPlates (map text inputs) c.loop-place.headers a b (Err r)) (sym c.numbered.ensures)
-    (plates_refused (map text inputs) c.loop-place.headers a b k c.in-Err.refusal c.in-Err.ensures.memory
-    (one_refused state (map text inputs) c.loop-place.headers a trays k old new held c.loop-place.invariant c.in-Err.refusal known
-    (subst (λ (n : List ℕ). JudgesPlate n (state (get_or trays k old)) (state new) (Err c.in-Err.refusal)) (c.as_str.ensures ∙ ap text c.index-inputs-place.is ∙ sym (named text inputs k c.index-inputs-place.result within)) c.in-Err.ensures.answer)))
+    one_refused state (map text inputs) c.loop-place.headers (map state c.args.trays.now) trays k old new held c.loop-place.invariant c.in-Err.refusal known c.in-Err.ensures.memory
+    (subst (λ (n : List ℕ). JudgesPlate n (state (get_or trays k old)) (state new) (Err c.in-Err.refusal)) (c.as_str.ensures ∙ ap text c.index-inputs-place.is ∙ sym (named text inputs k c.index-inputs-place.result within)) c.in-Err.ensures.answer)
