@@ -27,7 +27,7 @@ use strip_tiles::room::StripRoom;
 use tile_counts::counts::SheetCounts;
 use window_pages::sheet::Sheet;
 
-// How many bytes of a plate are read or written at a time, at most.
+// How many bytes of a plate are read at a time, and how many of its samples are written at a time, at most.
 const PIECE: usize = 65_536;
 
 /// What a sheet is streamed through: the strip at hand, the other one, which was trapped before it and is the next one once its
@@ -117,7 +117,8 @@ fn windows_of(
     StripRoom::new(alloc, strip, &cut.across, &cut.down, columns, &cut.row)
 }
 
-// With room for as many rows of all plates as are written at a time, one at least, and for some bytes.
+// With room for so many rows of all plates that those of one are a piece at most, or for one row, and for two bytes of each
+// sample of a piece.
 fn core_room(alloc: Global, bare: &PageParts, windows: StripRoom) -> Result<CoreRoom, OutOfMemory>
     requires bare { IsBareSheet bare.now }
     requires narrow { width bare.now < 2 ^ 30 }
@@ -128,7 +129,7 @@ fn core_room(alloc: Global, bare: &PageParts, windows: StripRoom) -> Result<Core
     let planes = bare.planes.as_slice();
     let wide = planes[0].width as usize;
     let line = filled(alloc, 0u16, planes.len() * wide.max(PIECE))?;
-    let bytes = filled(alloc, 0u8, PIECE)?;
+    let bytes = filled(alloc, 0u8, 2 * PIECE)?;
     Ok(CoreRoom {
         windows,
         line,
