@@ -54,7 +54,8 @@ APPLY = case("trapset", ["apply", "set", "Cyan:c.out", "Magenta:m.out"],
              {"Cyan": PAIR["Cyan"], "Magenta": PAIR["Magenta"], "set": SET}, ["c.out", "m.out"], ["m.out"])
 RUN = run_case()
 POOL = pool_case()
-SHEET = case("trapsheet", ["2", *PAGE[1:]], PAIR, ["c.out", "m.out", "report"], ["c.out", "report"], together=("c.out", "m.out"))
+# By one worker: more of them read the plates side by side, and a call has another number in each run.
+SHEET = case("trapsheet", ["1", *PAGE[1:]], PAIR, ["c.out", "m.out", "report"], ["c.out", "report"], together=("c.out", "m.out"))
 
 # These write files in ways that a place on the disk can stand in the way of.
 WRITING = [TRAP, TRAPS, APPLY, RUN, POOL, SHEET]

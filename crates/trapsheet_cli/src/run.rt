@@ -35,7 +35,7 @@ use std::alloc::Global;
 use std::thread::Threads;
 
 // Carries out the work on a sheet, and gives the status that it ends with.
-pub(crate) fn run_order<H: Threads + Sync, T: Tray, R: Rack>(
+pub(crate) fn run_order<H: Threads + Sync, T: Tray + Send, R: Rack>(
     rt: &H,
     alloc: Global,
     order: &SheetArgs<'_>,
@@ -64,7 +64,7 @@ fn refuse_first<R: Rack>(racks: &mut [R], stop: &TrapsheetError) -> u8
 }
 
 // Judges the sheet, reads it once more, traps it and writes its files.
-fn carry_out<H: Threads + Sync, T: Tray, R: Rack>(
+fn carry_out<H: Threads + Sync, T: Tray + Send, R: Rack>(
     rt: &H,
     alloc: Global,
     order: &SheetArgs<'_>,
@@ -86,7 +86,16 @@ fn carry_out<H: Threads + Sync, T: Tray, R: Rack>(
     ) else {
         return Err(TrapsheetError::Common(Refusal::Memory));
     };
-    match judge_sheet(alloc, trays, order.job, &names, inputs.as_slice(), budget) {
+    match judge_sheet(
+        rt,
+        alloc,
+        order.workers,
+        trays,
+        order.job,
+        &names,
+        inputs.as_slice(),
+        budget,
+    ) {
         Ok(planned) => put_planned(
             rt,
             alloc,

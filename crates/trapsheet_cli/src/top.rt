@@ -27,10 +27,11 @@ const WINDOW: Budget = Budget {
 /// by the tray and written by the rack of its number. The job is read by the first tray, before its plate, and the report is
 /// written by the first rack, after all plates; lines are told to it.
 ///
-/// The job and the plates are read to their ends and judged, and nothing is kept of a plate but its header. Then each plate is
-/// begun once more, and strip by strip from the top its rows are read, trapped in windows by the workers, which are threads of
-/// `rt`, and written. A sheet of which no strips of one height can be cut is held with all its rows. What is written is the
-/// same for every number of workers, and that of the undivided sheet.
+/// The job is read to its end, and then the plates are, side by side by the workers, which are threads of `rt`. All are
+/// judged, and nothing is kept of a plate but its header: where plates are refused, the first in the order of the words is
+/// told, and which of the later ones were begun is not said. Then each plate is begun once more, and strip by strip from the
+/// top its rows are read, trapped in windows by the workers, and written. A sheet of which no strips of one height can be cut
+/// is held with all its rows. What is written is the same for every number of workers, and that of the undivided sheet.
 ///
 /// The status is 0 where the work is done; 2 where the words mean no sheet; 3 where the job has a fault or lacks the details
 /// of a plate's colorant; 4 where a plate's file has a fault, or the plates are no sheet that can be trapped, or a plate is not
