@@ -7,5 +7,6 @@ mod reporting;
 mod run;
 mod streaming;
 pub mod top;
+mod windows;
 mod words;
 pub mod writing;

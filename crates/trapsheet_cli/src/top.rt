@@ -3,6 +3,7 @@ ghost use Rattle.trapsheet_cli.specs.Clauses.{Completeness, FaultLine, LeavesFil
 ghost use Rattle.trapsheet_cli.specs.Endings.{EndsWords, RefusesWords, TellsUsage};
 
 use crate::run::run_order;
+use crate::windows::WINDOW;
 use crate::words::read_words;
 use bare_sheets::budget::Budget;
 use outside::rack::Rack;
@@ -13,12 +14,6 @@ use refusals::telling::tell_line;
 use sheet_gather::laws::one_sheet_verdict;
 use std::alloc::Global;
 use std::thread::Threads;
-
-// A window has so many rows, and so many samples in all plates, where its halo leaves room for that.
-const WINDOW: Budget = Budget {
-    rows: 128,
-    samples: 400_000,
-};
 
 /// Traps a sheet of any size, and answers the status that the program ends with.
 ///
@@ -67,7 +62,8 @@ pub fn trapsheet_main<H: Threads + Sync, T: Tray + Send, R: Rack + Send>(
     trapsheet_within(rt, alloc, words, &WINDOW, trays, racks)
 }
 
-/// As `trapsheet_main`, with windows of at most so many rows and samples.
+/// As `trapsheet_main`, with windows of at most so many rows and samples; where these are the usual rows, those of a narrow sheet have twice
+/// as many.
 pub fn trapsheet_within<H: Threads + Sync, T: Tray + Send, R: Rack + Send>(
     rt: &H,
     alloc: Global,
