@@ -1,27 +1,33 @@
 -- The result as it is taken out of a table: plate by plate, and then counted.
-use Rattle.std.specs.Prelude.{◌≡◌, ℕ, ◌*◌, ◌<◌, false, true, All, List, length, slice_index_or}
+use Rattle.std.specs.Prelude.{◌≡◌, ℕ, ◌*◌, ◌<◌, ◌≤◌, false, true, All, List, [], length, slice_index}
+use Rattle.std.specs.Prelude.{slice_index_or, vec_capacity}
 use Rattle.band_claims.specs.Seating.{OpenTable, Seats}
 use Rattle.page_model.specs.declared.parts.PageParts.{PageParts}
-use Rattle.page_model.specs.declared.parts.Plane.{Plane}
 use Rattle.page_model.specs.Counts.{plate_changes}
-use Rattle.page_model.specs.Page.{height, plates, sample_at, width}
+use Rattle.page_model.specs.Page.{height, plates, sample_at, samples, width}
+use Rattle.page_model.specs.Tints.{new}
 use Rattle.lists.specs.Words.{count_below}
-use Rattle.page_tally.specs.Standing.{IsTrappedTo}
 use Rattle.page_tally.specs.Tallies.{AreRowsCounted}
 use Rattle.trap_engine.specs.declared.plates.PlateWork.{PlateWork}
 use Rattle.trap_engine.specs.declared.tally.Tally.{Tally}
 
--- the plane has all new tints of plate c, and so many of its samples change
-pub record IsTakenPlate (page : PageParts) (c : ℕ) (plane : Plane) (changed : ℕ) : Type 0 where
-  pub trapped : IsTrappedTo page c (height page * width page) plane
+-- these are the new tints of plate c in the page's first n samples
+pub record HasTaken (page : PageParts) (c n : ℕ) (tints : List ℕ) : Type 0 where
+  pub long : length tints ≡ n
+  pub each : (k : ℕ) → k < n → slice_index tints k ≡ new page (sample_at page k) c
+
+-- these are all new tints of plate c, and so many of its samples change
+pub record IsTakenPlate (page : PageParts) (c : ℕ) (tints : List ℕ) (changed : ℕ) : Type 0 where
+  pub taken : HasTaken page c (height page * width page) tints
   pub counted : changed
       ≡ count_below (λ k. plate_changes page c (sample_at page k)) (height page * width page)
 
--- plate c is taken where the work is done, and is a copy of the page's where it is not
+-- plate c is taken where the work is done; where it is not there is room for its tints
 pub record IsPlateWork (page : PageParts) (c : ℕ) (work : PlateWork) : Type 0 where
   pub row : length work.row.items ≡ width page
-  pub begun : work.done ≡ false → IsTrappedTo page c 0 work.plane
-  pub ended : work.done ≡ true → IsTakenPlate page c work.plane work.changed
+  pub none : work.done ≡ false → work.tints.items ≡ []
+  pub room : work.done ≡ false → samples page ≤ vec_capacity work.tints
+  pub ended : work.done ≡ true → IsTakenPlate page c work.tints.items work.changed
 
 -- the works of all plates
 pub record ArePlateWorks (page : PageParts) (works : List PlateWork) : Type 0 where
@@ -33,7 +39,8 @@ pub record ArePlateWorks (page : PageParts) (works : List PlateWork) : Type 0 wh
 pub record AreTakenPlates (page : PageParts) (works : List PlateWork) : Type 0 where
   pub count : length works ≡ plates page
   pub each : (c : ℕ) (d : PlateWork) → c < plates page
-      → IsTakenPlate page c (slice_index_or works c d).plane (slice_index_or works c d).changed
+      → IsTakenPlate page c (slice_index_or works c d).tints.items
+      (slice_index_or works c d).changed
 
 -- each has a seat of this table
 abbrev pub AreSeatedWorks : OpenTable → List PlateWork → Type 0

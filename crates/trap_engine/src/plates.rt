@@ -1,34 +1,57 @@
 // The plates of the result, each read out of a table's cells: by the reader of each, side by side with the others, or from the
 // closed table.
-ghost use Rattle.std.specs.Prelude.{◌≡◌, ℕ, ◌+◌, ◌*◌, ◌<◌, ◌≤◌, length, slice_index_or, vec_capacity, false, true};
+ghost use Rattle.std.specs.Prelude.{◌≡◌, ℕ, ◌+◌, ◌*◌, ◌<◌, ◌≤◌, [], length, slice_index_or, vec_capacity, false, true};
 ghost use Rattle.band_claims.specs.Seating.{Seats};
 ghost use Rattle.band_claims.specs.Sheets.{IsFit};
 ghost use Rattle.band_pieces.specs.Finished.{IsFinished};
+ghost use Rattle.lists.specs.Words.{count_below};
 ghost use Rattle.page_model.specs.Bands.{pieces_of};
-ghost use Rattle.page_model.specs.Page.{height, plates, width};
-ghost use Rattle.page_tally.specs.Standing.{IsTrappedTo, KeepsRoom};
+ghost use Rattle.page_model.specs.Counts.{plate_changes};
+ghost use Rattle.page_model.specs.Page.{height, maxval, plates, samples, width};
+ghost use Rattle.page_tally.specs.Standing.{IsPlateRow, KeepsRoom};
 ghost use Rattle.page_tally.specs.Tallies.{HasPlates, HasTallies};
 ghost use Rattle.trap_engine.specs.Memory.{KeepsWorks};
-ghost use Rattle.trap_engine.specs.Taking.{ArePlateWorks, AreSeatedWorks, AreTakenPlates, IsPlateWork, IsTakenPlate};
+ghost use Rattle.trap_engine.specs.Taking.{ArePlateWorks, AreSeatedWorks, AreTakenPlates, HasTaken, IsPlateWork, IsTakenPlate};
 
 use band_claims::{Closed, Reader, Shared};
 use band_pieces::{CellSource, all_done, read_plate};
+use lists::list::List;
 use page_model::page::Page;
 use page_model::parts::Plane;
-use page_tally::{Outcome, put_plate_row};
+use page_tally::{Outcome, differences};
 use row_cells::layout::Layout;
+use row_values::tints_of_row;
 use std::thread;
 use std::thread::Threads;
 
-/// What a plate of the result is taken with: a seat of its own to read by, room for a row, and the plane. Until it is `done`
-/// the plane is a copy of the page's; then it has its new tints, and `changed` tells how many they are.
+/// What a plate of the result is taken with: a seat of its own to read by, room for a row, and room for all tints. Until it is
+/// `done` there are none; then they are the new ones, and `changed` tells how many are not the page's own.
 #[derive(Drop)]
 pub struct PlateWork {
     pub reader: Reader,
     pub row: Vec<u16>,
-    pub plane: Plane,
+    pub tints: Vec<u16>,
     pub changed: u64,
     pub done: bool,
+}
+
+/// Adds the new tints of plate c in row y to those of the rows above it, and tells how many are not the page's own.
+fn add_row(page: &Page, y: u32, c: u32, row: &[u16], tints: &mut Vec<u16>) -> u64
+    requires line { y < height page.now }
+    requires plate { c < plates page.now }
+    requires row { IsPlateRow page.now y c row.now }
+    requires tints { HasTaken page.now c (y * width page.now) tints.old.items }
+    requires room { samples page.now ≤ vec_capacity tints.old }
+    ensures tints { HasTaken page.now c ((y + 1) * width page.now) tints.new.items }
+    ensures room { vec_capacity tints.old ≤ vec_capacity tints.new }
+    ensures count { result ≡ count_below (λ x. plate_changes page.now c (record { x = x; y = y }))
+        (width page.now) }
+    ensures few { result ≤ width page.now }
+{
+    let Ok(()) = tints.extend_from_slice(row) else {
+        unreachable!()
+    };
+    differences(tints_of_row(page, c, y), row)
 }
 
 /// Takes plate c out of the cells of a table whose pieces are done, row by row, and tells how many of its samples change.
@@ -39,7 +62,7 @@ fn take_plate<S, C: CellSource<S>>(
     layout: &Layout,
     c: u32,
     row: &mut [u16],
-    plane: &mut Plane,
+    tints: &mut Vec<u16>,
 ) -> u64
     requires page { page.now ≡ (C.sheet source.now seat.old).page.value }
     requires layout { layout.now ≡ (C.sheet source.now seat.old).layout }
@@ -47,16 +70,17 @@ fn take_plate<S, C: CellSource<S>>(
     requires known { (i : ℕ) → i < pieces_of layout.now.bands → C.knows source.now seat.old i }
     requires plate { c < plates page.now }
     requires row { length row.old ≡ width page.now }
-    requires plane { IsTrappedTo page.now c 0 plane.old }
+    requires none { tints.old.items ≡ [] }
+    requires room { samples page.now ≤ vec_capacity tints.old }
     ensures seat { seat.new ≡ seat.old }
     ensures row { length row.new ≡ width page.now }
-    ensures taken { IsTakenPlate page.now c plane.new result }
+    ensures taken { IsTakenPlate page.now c tints.new.items result }
 {
     let _valid = page.plates();
     let mut changed = 0;
     for y in 0..page.height() {
         read_plate(source, seat, page, layout, y, c, row);
-        changed += put_plate_row(page, y, c, row, plane);
+        changed += add_row(page, y, c, row, tints);
     }
     changed
 }
@@ -84,7 +108,7 @@ fn take_by_reader(shared: &Shared, page: &Page, c: u32, work: &mut PlateWork)
         shared.layout(),
         c,
         &mut work.row,
-        &mut work.plane,
+        &mut work.tints,
     );
     work.done = true;
 }
@@ -136,7 +160,7 @@ fn take_left(closed: &Closed, page: &Page, c: u32, work: &mut PlateWork)
     requires finished { IsFinished page.now closed.now }
     requires plate { c < plates page.now }
     requires work { IsPlateWork page.now c work.old }
-    ensures taken { IsTakenPlate page.now c work.new.plane work.new.changed }
+    ensures taken { IsTakenPlate page.now c work.new.tints.items work.new.changed }
     ensures room { vec_capacity work.new.row ≡ vec_capacity work.old.row }
 {
     if work.done {
@@ -150,7 +174,7 @@ fn take_left(closed: &Closed, page: &Page, c: u32, work: &mut PlateWork)
         layout,
         c,
         &mut work.row,
-        &mut work.plane,
+        &mut work.tints,
     );
     work.done = true;
 }
@@ -176,6 +200,22 @@ pub fn put_works(outcome: &mut Outcome, page: &Page, works: Vec<PlateWork>)
 {
     let mut works = works;
     while let Some(work) = works.pop() {
-        outcome.put_in(works.len(), work.plane, work.changed);
+        let plane = plane_of(page, work.tints);
+        outcome.put_in(works.len(), plane, work.changed);
+    }
+}
+
+// The plane of a plate that has these tints.
+fn plane_of(page: &Page, tints: Vec<u16>) -> Plane
+    ensures wide { result.width ≡ width page.now }
+    ensures tall { result.height ≡ height page.now }
+    ensures deep { result.maxval ≡ maxval page.now }
+    ensures tints { result.tints ≡ tints.items }
+{
+    Plane {
+        width: page.width(),
+        height: page.height(),
+        maxval: page.maxval(),
+        tints: List::from_vec(tints),
     }
 }

@@ -1,14 +1,12 @@
 // All the memory of a page's work at the shared table.
-ghost use Rattle.std.specs.Prelude.{◌≡◌, ◌+◌, ◌<◌, ◌≤◌, All, IfOk, None, false, length, min, vec_len};
+ghost use Rattle.std.specs.Prelude.{◌≡◌, ◌+◌, ◌<◌, ◌≤◌, [], All, IfOk, None, false, length, min, vec_capacity, vec_len};
 ghost use Rattle.band_claims.specs.Seating.{Seats};
 ghost use Rattle.band_claims.specs.Views.{newcomer};
-ghost use Rattle.band_core.specs.Values.{IsFor};
 ghost use Rattle.page_model.specs.Bands.{AreBands};
 ghost use Rattle.page_model.specs.Limits.{most_band_height, most_workers};
-ghost use Rattle.page_model.specs.Page.{height, plates, width};
-ghost use Rattle.page_model.specs.Planes.{no_plane as none};
+ghost use Rattle.page_model.specs.Page.{height, plates, samples, width};
 ghost use Rattle.page_model.specs.Reach.{page_reach};
-ghost use Rattle.page_tally.specs.Standing.{AreTrappedTo, HasRows};
+ghost use Rattle.page_tally.specs.Tallies.{HasTallies};
 ghost use Rattle.trap_engine.specs.Taking.{ArePlateWorks, AreSeatedWorks};
 
 use crate::parts::{Part, parts_of};
@@ -16,7 +14,7 @@ use crate::plates::PlateWork;
 use band_claims::{Pass, Reader, Shared};
 use band_pieces::Scratch;
 use lists::list::List;
-use lists::memory::{filled, push};
+use lists::memory::{filled, no_counts, push};
 use page_model::bands::Bands;
 use page_model::page::Page;
 use page_model::parts::{OutOfMemory, Plane, PlaneList};
@@ -94,10 +92,8 @@ fn scratches_of(
     Ok(scratches)
 }
 
-/// An empty plane, to stand where one was taken out.
-fn no_plane(alloc: Global) -> Plane
-    ensures { result ≡ none }
-{
+/// An empty plane, to stand where one is put in.
+fn no_plane(alloc: Global) -> Plane {
     Plane {
         width: 0,
         height: 0,
@@ -106,68 +102,81 @@ fn no_plane(alloc: Global) -> Plane
     }
 }
 
-/// What a plate is taken with, where this is a copy of the page's.
-fn work_of(
-    alloc: Global,
-    page: &Page,
-    reader: Reader,
-    plane: Plane,
-) -> Result<PlateWork, OutOfMemory>
+/// Room for the tints of a plate, of which there are none. Nothing is written into it, so that its memory is first touched where
+/// the plate is taken.
+fn no_tints(alloc: Global, page: &Page) -> Result<Vec<u16>, OutOfMemory>
+    ensures none { IfOk result (λ tints. tints.items ≡ []) }
+    ensures room { IfOk result (λ tints. samples page.now ≤ vec_capacity tints) }
+{
+    let count = page.width() as usize * page.height() as usize;
+    match Vec::with_capacity(alloc, count) {
+        Ok(tints) => Ok(tints),
+        Err(_) => Err(OutOfMemory),
+    }
+}
+
+/// What a plate is taken with.
+fn work_of(alloc: Global, page: &Page, reader: Reader) -> Result<PlateWork, OutOfMemory>
     ensures row { IfOk result (λ work. length work.row.items ≡ width page.now) }
     ensures reader { IfOk result (λ work. work.reader ≡ reader) }
-    ensures plane { IfOk result (λ work. work.plane ≡ plane) }
+    ensures none { IfOk result (λ work. work.tints.items ≡ []) }
+    ensures room { IfOk result (λ work. samples page.now ≤ vec_capacity work.tints) }
     ensures done { IfOk result (λ work. work.done ≡ false) }
 {
     Ok(PlateWork {
         reader,
         row: filled(alloc, 0u16, page.width() as usize)?,
-        plane,
+        tints: no_tints(alloc, page)?,
         changed: 0,
         done: false,
     })
 }
 
-/// What each plate is taken with. The copies of the planes are taken out of the list, and a reader for each is split off.
+/// What each plate is taken with. A reader for each is split off.
 fn works_of(
     alloc: Global,
     page: &Page,
     shared: &Shared,
     pass: &mut Pass,
-    planes: &mut PlaneList,
 ) -> Result<Vec<PlateWork>, OutOfMemory>
     requires pass { Seats shared.now pass.old }
     requires idle { pass.old.view.held ≡ None }
-    requires planes { AreTrappedTo page.now planes.old 0 }
     ensures pass { pass.new ≡ pass.old }
     ensures works { IfOk result (λ works. ArePlateWorks page.now works.items) }
     ensures seats { IfOk result (λ works. AreSeatedWorks shared.now works.items) }
-    ensures planes { length planes.new ≡ length planes.old }
 {
     let mut works = List::new(alloc);
-    for c in 0..page.plates() {
+    for _ in 0..page.plates() {
         let reader = shared.reader(pass);
-        let plane = planes.set(c as usize, no_plane(alloc));
-        push(&mut works, work_of(alloc, page, reader, plane)?)?;
+        push(&mut works, work_of(alloc, page, reader)?)?;
     }
     Ok(works.into_vec())
 }
 
-/// The table of a page with its first pass, and an outcome with no row of the page taken in. The table comes first: the zeros that
-/// it is copied from are let go, and the planes of the outcome then lie in memory that was theirs.
-fn table_and_outcome(
-    alloc: Global,
-    page: &Page,
-    layout: &Layout,
-) -> Result<(Shared, Pass, Outcome), OutOfMemory>
-    requires layout { IsFor page.now layout.now }
-    ensures pass { IfOk result (λ t. Seats t.0 t.1) }
-    ensures new { IfOk result (λ t. t.1.view ≡ newcomer t.0.sheet) }
-    ensures page { IfOk result (λ t. t.0.sheet.page.value ≡ page.now) }
-    ensures layout { IfOk result (λ t. t.0.sheet.layout ≡ layout.now) }
-    ensures outcome { IfOk result (λ t. HasRows page.now 0 t.2) }
+/// Empty planes, to stand where those of the plates are put in.
+fn no_planes(alloc: Global, count: u32) -> Result<PlaneList, OutOfMemory>
+    ensures { IfOk result (λ planes. length planes ≡ count) }
 {
-    let (shared, pass) = Shared::new(alloc, page, layout.bands(), layout)?;
-    Ok((shared, pass, Outcome::new(alloc, page)?))
+    let mut planes = List::new(alloc);
+    for _ in 0..count {
+        push(&mut planes, no_plane(alloc))?;
+    }
+    Ok(planes)
+}
+
+/// An outcome with no row of the page taken in, into which the planes are to be put.
+fn no_outcome(alloc: Global, page: &Page) -> Result<Outcome, OutOfMemory>
+    ensures { IfOk result (HasTallies page.now 0) }
+{
+    let zones = page.zones() as usize;
+    Ok(Outcome {
+        planes: no_planes(alloc, page.plates())?,
+        zone_samples: no_counts(alloc, zones)?,
+        zone_changed: no_counts(alloc, zones)?,
+        plate_changed: no_counts(alloc, page.plates() as usize)?,
+        edges: 0,
+        changes: filled(alloc, false, page.width() as usize)?,
+    })
 }
 
 impl TrapRoom {
@@ -186,8 +195,9 @@ impl TrapRoom {
         let bands = Bands::new(page.height(), band, page.reach2());
         let layout = Layout::new(page.width(), page.plates(), &bands);
         let count = workers_for(&bands, workers);
-        let (shared, mut pass, mut outcome) = table_and_outcome(alloc, page, &layout)?;
-        let works = works_of(alloc, page, &shared, &mut pass, &mut outcome.planes)?;
+        // The table comes first: the zeros that it is copied from are let go, and the tints then lie in memory that was theirs.
+        let (shared, mut pass) = Shared::new(alloc, page, layout.bands(), &layout)?;
+        let works = works_of(alloc, page, &shared, &mut pass)?;
         let parts = parts_of(alloc, page, &shared, &mut pass, count)?;
         Ok(TrapRoom {
             shared,
@@ -196,7 +206,7 @@ impl TrapRoom {
             spare: Scratch::new(alloc, page, &bands)?,
             works,
             parts,
-            outcome,
+            outcome: no_outcome(alloc, page)?,
         })
     }
 }

@@ -8,7 +8,7 @@ use Rattle.page_model.specs.declared.parts.Plane.{Plane}
 use Rattle.page_model.specs.Planes.{no_plane}
 use Rattle.trap_engine.specs.declared.plates.PlateWork.{PlateWork}
 use Rattle.trap_engine.specs.Taking.{IsTakenPlate}
-use Rattle.trap_engine.proofs.TakeLemmas.{fewer_taken, last_taken}
+use Rattle.trap_engine.proofs.TakeLemmas.{fewer_taken, last_taken, plane_taken}
 use Rattle.trap_engine.proofs.plates.put_works.Goals as goal
 
 pub loop-work-preserved : goal.loop-work-preserved
@@ -18,12 +18,13 @@ loop-work-preserved c =
     let n = c.len.result in
     let long : n ≡ length works = omega (arith, c.len.ensures, c.pop.new.self.ok) in
     let one_more : vec_len c.loop-work.works ≡ n + 1 = omega (arith, h.len, c.len.ensures) in
-    let all : (j : ℕ) (d : PlateWork) → j < n + 1 → IsTakenPlate page j (slice_index_or (works ++ work ∷ []) j d).plane (slice_index_or (works ++ work ∷ []) j d).changed =
-    λ j d l. subst (λ (ws : List PlateWork). IsTakenPlate page j (slice_index_or ws j d).plane (slice_index_or ws j d).changed) h.items (v.works j d (omega (arith, l, one_more))) in
+    let all : (j : ℕ) (d : PlateWork) → j < n + 1 → IsTakenPlate page j (slice_index_or (works ++ work ∷ []) j d).tints.items (slice_index_or (works ++ work ∷ []) j d).changed =
+    λ j d l. subst (λ (ws : List PlateWork). IsTakenPlate page j (slice_index_or ws j d).tints.items (slice_index_or ws j d).changed) h.items (v.works j d (omega (arith, l, one_more))) in
     let last = last_taken page works work n long all in
+    let plane = c.plane_of-plane.result in let made = c.plane_of-plane.ensures in
     record {
       counted = record {
-        planes = ap (λ (ps : List Plane). length ps) p.planes ∙ (length-set old.planes n work.plane ∙ v.counted.planes);
+        planes = ap (λ (ps : List Plane). length ps) p.planes ∙ (length-set old.planes n plane ∙ v.counted.planes);
         plate_changed = ap (λ (ns : List ℕ). length ns) p.plate_changed ∙ (length-set old.plate_changed.items n work.changed ∙ v.counted.plate_changed);
         zone_samples = rw p.zone_samples v.counted.zone_samples;
         zone_changed = rw p.zone_changed v.counted.zone_changed;
@@ -40,8 +41,8 @@ loop-work-preserved c =
       few = omega (arith, v.few, one_more, c.len.ensures);
       works = λ j d l. fewer_taken page works work n long all j d (omega (arith, l, c.len.ensures));
       planes = λ j a l. rw p.planes (elim (cases_eq j n) [
-        | inl e ↦ rw (e, get_or-set_same old.planes n work.plane no_plane (omega (arith, v.counted.planes, e, l))) last.trapped
-        | inr ne ↦ rw (get_or-set_other old.planes n j work.plane no_plane ne) (v.planes j (omega (arith, a, ne, one_more, c.len.ensures)) l)
+        | inl e ↦ rw (e, get_or-set_same old.planes n plane no_plane (omega (arith, v.counted.planes, e, l))) (plane_taken page n plane work.tints.items made.wide made.tall made.deep made.tints last.taken)
+        | inr ne ↦ rw (get_or-set_other old.planes n j plane no_plane ne) (v.planes j (omega (arith, a, ne, one_more, c.len.ensures)) l)
       ]);
       changed = λ j a l. rw p.plate_changed (elim (cases_eq j n) [
         | inl e ↦ rw (e, get_or-set_same old.plate_changed.items n work.changed 0 (omega (arith, v.counted.plate_changed, e, l))) last.counted

@@ -17,7 +17,7 @@ invariant-loop-work l = record {
   counted : HasTallies l.page 0 l.outcome;
   room : KeepsRoom l.initial.outcome l.outcome;
   few : vec_len l.works ≤ plates l.page;
-  works : (j : ℕ) (d : PlateWork) → j < vec_len l.works → IsTakenPlate l.page j (slice_index_or l.works.items j d).plane (slice_index_or l.works.items j d).changed;
+  works : (j : ℕ) (d : PlateWork) → j < vec_len l.works → IsTakenPlate l.page j (slice_index_or l.works.items j d).tints.items (slice_index_or l.works.items j d).changed;
   planes : (j : ℕ) → vec_len l.works ≤ j → j < plates l.page → IsTrappedTo l.page j (height l.page * width l.page) (plane_at l.outcome.planes j);
   changed : (j : ℕ) → vec_len l.works ≤ j → j < plates l.page → slice_index l.outcome.plate_changed.items j ≡ count_below (λ k. plate_changes l.page j (sample_at l.page k)) (height l.page * width l.page);
 }

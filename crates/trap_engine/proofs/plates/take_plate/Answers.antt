@@ -2,7 +2,7 @@
 -- tells how many of its samples change.
 use Rattle.std.proofs.Common.{◌∙◌, arith, refl}
 use Rattle.page_tally.proofs.CountLemmas.{row_counted}
-use Rattle.trap_engine.proofs.TakeLemmas.{changed_fits, none_changed, plane_begun, plate_all}
+use Rattle.trap_engine.proofs.TakeLemmas.{changed_fits, none_changed, none_held, plate_all}
 use Rattle.trap_engine.proofs.plates.take_plate.Goals as goal
 
 pub loop-y-init : goal.loop-y-init
@@ -10,7 +10,8 @@ loop-y-init g c = record {
   end = c.height-y-end.ensures.value;
   seat = refl;
   row = c.requires.row;
-  plane = plane_begun c.args.page.now c.args.c c.args.plane.now c.requires.plane;
+  room = c.requires.room;
+  tints = none_held c.args.page.now c.args.c c.args.tints.now.items c.requires.none;
   changed = none_changed _ _;
 }
 
@@ -26,20 +27,24 @@ read_plate-requires-clause-fit g c = rw c.loop-y.invariant.seat c.requires.fit
 pub read_plate-requires-clause-known : goal.read_plate-requires-clause-known
 read_plate-requires-clause-known g c = rw c.loop-y.invariant.seat c.requires.known
 
-pub put_plate_row-changed-requires-clause-after : goal.put_plate_row-changed-requires-clause-after
-put_plate_row-changed-requires-clause-after g c = record { long = c.read_plate.ensures.len ∙ c.loop-y.invariant.row; each = c.read_plate.ensures.tints }
+pub add_row-changed-requires-clause-row : goal.add_row-changed-requires-clause-row
+add_row-changed-requires-clause-row g c = record { long = c.read_plate.ensures.len ∙ c.loop-y.invariant.row; each = c.read_plate.ensures.tints }
+
+pub add_row-changed-requires-clause-room : goal.add_row-changed-requires-clause-room
+add_row-changed-requires-clause-room g c = c.loop-y.invariant.room
 
 pub overflow_add-changed : goal.overflow_add-changed
-overflow_add-changed g c = omega (arith, changed_fits c.args.page.now c.loop-y.y c.args.c c.loop-y.changed c.put_plate_row-changed.result c.plates-valid.ensures.valid (omega arith) c.put_plate_row-changed.ensures.few c.loop-y.invariant.changed)
+overflow_add-changed g c = omega (arith, changed_fits c.args.page.now c.loop-y.y c.args.c c.loop-y.changed c.add_row-changed.result c.plates-valid.ensures.valid (omega arith) c.add_row-changed.ensures.few c.loop-y.invariant.changed)
 
 pub loop-y-preserved : goal.loop-y-preserved
 loop-y-preserved g c = record {
   end = c.loop-y.invariant.end;
   seat = c.read_plate.ensures.seat ∙ c.loop-y.invariant.seat;
   row = c.read_plate.ensures.len ∙ c.loop-y.invariant.row;
-  plane = c.put_plate_row-changed.ensures.plane;
-  changed = row_counted c.args.page.now c.loop-y.y c.args.c c.loop-y.changed c.put_plate_row-changed.result c.loop-y.invariant.changed c.put_plate_row-changed.ensures.count;
+  room = omega (arith, c.add_row-changed.ensures.room, c.loop-y.invariant.room);
+  tints = c.add_row-changed.ensures.tints;
+  changed = row_counted c.args.page.now c.loop-y.y c.args.c c.loop-y.changed c.add_row-changed.result c.loop-y.invariant.changed c.add_row-changed.ensures.count;
 }
 
 pub returns-clause-taken : goal.returns-clause-taken
-returns-clause-taken g c = plate_all c.args.page.now c.args.c c.loop-y.y c.loop-y.plane c.loop-y.changed (omega (arith, c.loop-y.invariant.end, c.loop-y-test.false, c.loop-y.auto.y-end)) c.loop-y.invariant.plane c.loop-y.invariant.changed
+returns-clause-taken g c = plate_all c.args.page.now c.args.c c.loop-y.y c.loop-y.tints.items c.loop-y.changed (omega (arith, c.loop-y.invariant.end, c.loop-y-test.false, c.loop-y.auto.y-end)) c.loop-y.invariant.tints c.loop-y.invariant.changed

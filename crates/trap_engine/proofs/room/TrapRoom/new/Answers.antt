@@ -2,11 +2,7 @@
 use Rattle.std.proofs.Common.{◌∙◌, ap, arith}
 use Rattle.band_claims.specs.declared.view.View.{View}
 use Rattle.trap_engine.proofs.RoomLemmas.{newcomer_whole, one_served_by, served_by}
-use Rattle.trap_engine.proofs.TakeLemmas.{planes_begun, tallies_begun}
 use Rattle.trap_engine.proofs.room.TrapRoom.new.Goals as goal
-
-pub works_of-requires-clause-planes : goal.works_of-requires-clause-planes
-works_of-requires-clause-planes c = planes_begun c.args.page.now c.in_ok-shared.outcome.planes c.in_ok-shared.ensures.outcome.planes
 
 pub invariant_of-result-3 : goal.invariant_of-result-3
 invariant_of-result-3 c =
@@ -23,5 +19,5 @@ invariant_of-result-3 c =
       part_seats = c.in_ok-parts.ensures.seats;
       row_parts = rw c.in_ok-shared.ensures.page c.in_ok-parts.ensures.parts;
       few_parts = omega (arith, c.in_ok-parts.ensures.few, c.in_ok-scratches_of.ensures.count, c.in_ok-scratches_of.field-0.ok);
-      begun = rw c.in_ok-shared.ensures.page (tallies_begun c.args.page.now c.works_of.new.planes c.in_ok-shared.outcome c.in_ok-works.ensures.planes c.in_ok-shared.ensures.outcome);
+      begun = rw c.in_ok-shared.ensures.page c.in_ok-no_outcome.ensures;
     })
