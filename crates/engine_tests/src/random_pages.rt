@@ -1,7 +1,8 @@
 // Small pages by chance, for tests: some plates of runs of few tints, inks of every kind, and two zones.
 
 ghost use Rattle.std.specs.Prelude.{◌≡◌, ◌≤◌, ◌<◌, [], All, length, vec_len};
-ghost use Rattle.page_model.specs.Conditions.{AreLimits, InRange, IsInk, IsParts, IsPath, IsPlane, IsVertex, IsZone};
+ghost use Rattle.page_model.specs.Parameters.{InRange};
+ghost use Rattle.page_model.specs.Conditions.{AreLimits, IsInk, IsParts, IsPath, IsPlane, IsVertex, IsZone};
 
 use crate::memory::{both, put};
 use lists::list::List;

@@ -13,7 +13,7 @@ use lists::list::List;
 use page_model::edges::{first_of, second_of};
 use page_model::laws::zone_law;
 use page_model::page::Page;
-use page_model::parts::{At, EdgeAt, InkKind};
+use page_model::parts::{At, EdgeAt};
 use std::alloc::Global;
 use std::process::Abort;
 
@@ -40,9 +40,10 @@ fn more_of(page: &Page, c: u32, one: At, other: At) -> u64
 {
     let here = page.tint(c, one.x, one.y);
     let there = page.tint(c, other.x, other.y);
-    match page.ink(c).kind {
-        InkKind::Normal | InkKind::Opaque => u64::from(here.saturating_sub(there)),
-        InkKind::Transparent | InkKind::OpaqueIgnore => 0,
+    if page.ink(c).kind.counts() {
+        u64::from(here.saturating_sub(there))
+    } else {
+        0
     }
 }
 
@@ -101,7 +102,7 @@ fn is_covered(page: &Page, p: At) -> bool
 {
     let mut found = false;
     for c in 0..page.plates() {
-        found = page.ink(c).kind == InkKind::OpaqueIgnore && page.tint(c, p.x, p.y) > 0 || found;
+        found = page.ink(c).kind.shuts() && page.tint(c, p.x, p.y) > 0 || found;
     }
     found
 }

@@ -25,6 +25,7 @@ use Rattle.job_reader.specs.InRange.{IsJob}
 use Rattle.job_reader.specs.Jobs.{then_job, statement_then, read_from, job_of_objects, job_of_tokens, job_of}
 use Rattle.job_reader.specs.Starts.{nothing_read}
 use Rattle.job_reader.specs.Statements.{after_fault, fault, job_at, job_unless, state_after, job_shown, shown_fault, under_trapping, wants_device, zone_0}
+use Rattle.trap_params.proofs.FieldLemmas.{switched-in_range}
 use Rattle.job_reader.proofs.StateRanges.{IsState, nothing_read-state, state_after-leaves}
 
 -- a job that is made, or a fault
@@ -34,7 +35,7 @@ Makes r = (job : Job) → r ≡ Ok job → IsJob job
 -- a switched zone is a zone of the same path
 under_trapping-zones : (trapping : Bool) (zones : List Zone) → All IsZone zones → All IsZone (map (under_trapping trapping) zones)
 under_trapping-zones trapping zones are =
-    All-map IsZone (under_trapping trapping) zones (All-weaker IsZone (λ (z : Zone). IsZone (under_trapping trapping z)) (λ z is. record { params = record { some_width = is.params.some_width; width = is.params.width; some_factor = is.params.some_factor; factor = is.params.factor; color = is.params.color; some_density = is.params.some_density; density = is.params.density; step = is.params.step; sliding = is.params.sliding; scaling = is.params.scaling }; path = is.path; limits = is.limits }) zones are)
+    All-map IsZone (under_trapping trapping) zones (All-weaker IsZone (λ (z : Zone). IsZone (under_trapping trapping z)) (λ (z : Zone) is. record { params = switched-in_range z.params (z.params.enabled && trapping) is.params; path = is.path; limits = is.limits }) zones are)
 
 under_trapping-vertices : (trapping : Bool) (zones : List Zone) → sum_by (λ (z : Zone). length z.path) (map (under_trapping trapping) zones) ≡ sum_by (λ (z : Zone). length z.path) zones
 under_trapping-vertices trapping [] = refl
@@ -45,7 +46,7 @@ under_trapping-vertices trapping (z ∷ zs) =
 
 zone_0-zone : (now : State) → IsState now → IsZone (zone_0 now)
 zone_0-zone now here = record {
-  params = record { some_width = here.params.some_width; width = here.params.width; some_factor = here.params.some_factor; factor = here.params.factor; color = here.params.color; some_density = here.params.some_density; density = here.params.density; step = here.params.step; sliding = here.params.sliding; scaling = here.params.scaling };
+  params = switched-in_range now.params (now.params.enabled && now.trapping && (length now.zones == 0)) here.params;
   path = record { begun = refl; few = omega arith; near = All-nil IsVertex };
   limits = here.limits;
 }

@@ -5,7 +5,7 @@ use Rattle.std.specs.Result.{result_unwrap_or}
 use Rattle.std.proofs.lemmas.Bool.{and_parts}
 use Rattle.std.proofs.lemmas.Bool.Decides.{nat_tests}
 use Rattle.page_model.specs.declared.parts.TrapParams.{TrapParams}
-use Rattle.page_model.specs.Conditions.{InRange}
+use Rattle.page_model.specs.Parameters.{InRange}
 use Rattle.ps_tokens.specs.declared.faults.FaultKind.TheVariants.{OutOfRange}
 use Rattle.ps_tokens.specs.declared.parameters.Key.{Key}
 use Rattle.ps_tokens.specs.declared.misfits.Misfit.{Misfit}

@@ -12,7 +12,8 @@ use Rattle.page_model.specs.declared.parts.Limit.{Limit}
 use Rattle.page_model.specs.declared.parts.TrapParams.{TrapParams}
 use Rattle.page_model.specs.declared.parts.Vertex.{Vertex}
 use Rattle.page_model.specs.declared.parts.Zone.{Zone}
-use Rattle.page_model.specs.Conditions.{InRange, AreLimits, IsInk, IsVertex, IsZone}
+use Rattle.page_model.specs.Conditions.{AreLimits, IsInk, IsVertex, IsZone}
+use Rattle.page_model.specs.Parameters.{InRange}
 use Rattle.ps_tokens.specs.declared.faults.FaultKind.{FaultKind}
 use Rattle.ps_tokens.specs.declared.faults.FaultKind.TheVariants.{BadResolution, TooManyVertices, TooManyZones, WrongOperands}
 use Rattle.ps_tokens.specs.declared.faults.JobFault.{JobFault}
@@ -241,7 +242,7 @@ state_after-leaves objects from place at ShowPage now here = leaves now here
 -- before the first statement
 pub nothing_read-state : IsState nothing_read
 nothing_read-state = record {
-  params = record { some_width = omega arith; width = omega arith; some_factor = omega arith; factor = omega arith; color = omega arith; some_density = omega arith; density = omega arith; step = omega arith; sliding = omega arith; scaling = omega arith };
+  params = grind arith;
   limits = record { once = λ i j d lt within. absurd (omega arith); steps = All-nil (λ (l : Limit). l.step ≤ 10000) };
   fine = omega arith;
   details = All-nil IsInk;

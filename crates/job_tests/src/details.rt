@@ -3,28 +3,19 @@ ghost use Rattle.ps_tokens.specs.Limits.{longest_job};
 
 use crate::reading::read;
 use colorant_details::inks;
-use page_model::parts::{DetailList, Ink, InkKind};
+use page_model::parts::{DetailList, Ink};
 use ps_tokens::LONGEST_JOB;
 use ps_tokens::faults::{JobFault, JobRefusal};
 use std::alloc::{AllocError, Global};
 use std::process::Abort;
 use std::test::Fail;
 
-fn kind_text(kind: InkKind) -> &'static str {
-    match kind {
-        InkKind::Normal => "normal",
-        InkKind::Transparent => "transparent",
-        InkKind::Opaque => "opaque",
-        InkKind::OpaqueIgnore => "ignored",
-    }
-}
-
 fn ink_text(alloc: Global, ink: &Ink) -> Result<String, AllocError> {
     let len = ink.name.len();
     let first = ink.name.as_slice().first().copied().unwrap_or(0);
     let density = ink.density;
-    let kind = kind_text(ink.kind);
-    format!(in alloc; "{len} {first} {density} {kind};")
+    let kind = ink.kind;
+    format!(in alloc; "{len} {first} {density} {kind:?};")
 }
 
 fn inks_text(alloc: Global, inks: &DetailList) -> Result<String, AllocError> {
@@ -66,23 +57,23 @@ static DETAILS: [(&[u8], &str); 34] = [
     (b"<< /Type 1001 /ColorantDetails << >> >>", ""),
     (
         b"<< /ColorantDetails << /Cyan << /NeutralDensity .61 >> >> /Type 1001.00001 >>",
-        "4 67 6100 normal;",
+        "4 67 6100 Normal;",
     ),
     (
         b"<< /Type 1001 /ColorantDetails << /D << /NeutralDensity 0.001 /ColorantType /Normal >> /C << /NeutralDensity 10 /ColorantType /Transparent >> /B << /ColorantType /Opaque /NeutralDensity 1 >> /A << /NeutralDensity 1.70 /ColorantType /OpaqueIgnore >> >> >>",
-        "1 65 17000 ignored;1 66 10000 opaque;1 67 100000 transparent;1 68 10 normal;",
+        "1 65 17000 OpaqueIgnore;1 66 10000 Opaque;1 67 100000 Transparent;1 68 10 Normal;",
     ),
     (
         b"<< /Type 1001 /ColorantDetails << /aa << /NeutralDensity 1 >> /a << /NeutralDensity 2 >> /B << /NeutralDensity 3 >> / << /NeutralDensity 4 >> >> >>",
-        "0 0 40000 normal;1 66 30000 normal;1 97 20000 normal;2 97 10000 normal;",
+        "0 0 40000 Normal;1 66 30000 Normal;1 97 20000 Normal;2 97 10000 Normal;",
     ),
     (
         b"<< /Type 1001 /ColorantDetails << /A << /NeutralDensity 0 >> /A << /NeutralDensity 2 >> >> >>",
-        "1 65 20000 normal;",
+        "1 65 20000 Normal;",
     ),
     (
         b"<< /Type 1001 /ColorantDetails << /A << /NeutralDensity (x) /NeutralDensity 2 /ColorantType 5 /ColorantType /Opaque >> >> >>",
-        "1 65 20000 opaque;",
+        "1 65 20000 Opaque;",
     ),
     (
         b"<< /Type 5 /Type 1001 /ColorantDetails 5 /ColorantDetails << >> >>",
@@ -90,7 +81,7 @@ static DETAILS: [(&[u8], &str); 34] = [
     ),
     (
         b"<< /Other 5 /Type 1001 /ColorantDetails << /A << /Other [ /NeutralDensity ] /NeutralDensity 2 >> >> >>",
-        "1 65 20000 normal;",
+        "1 65 20000 Normal;",
     ),
     (b"5", "NotDictionary at 0"),
     (b"[ << /Type 1001 >> ]", "NotDictionary at 0"),

@@ -3,7 +3,7 @@ ghost use Rattle.ps_tokens.specs.Limits.{longest_job};
 
 use crate::reading::read;
 use lists::list::List;
-use page_model::parts::{LimitList, TrapParams};
+use page_model::parts::{LimitList, TrapParams, USUAL_PARAMS};
 use ps_tokens::LONGEST_JOB;
 use ps_tokens::faults::{FaultKind, JobFault, JobRefusal};
 use ps_tokens::parameters::Key;
@@ -12,102 +12,91 @@ use std::process::Abort;
 use std::test::Fail;
 use trap_params::{apply, zone_limits};
 
-const NOW: TrapParams = TrapParams {
-    trap_width: 2500,
-    black_width: 10_000,
-    black_color_limit: 9500,
-    black_density_limit: 16_000,
-    step_limit: 2500,
-    sliding_trap_limit: 7000,
-    trap_color_scaling: 10_000,
-    enabled: true,
-};
-
 // A dictionary, and the parameters after it.
 static SETTINGS: [(&[u8], TrapParams); 18] = [
-    (b"<< >>", NOW),
+    (b"<< >>", USUAL_PARAMS),
     (
         b"<< /TrapWidth 0.0001 >>",
         TrapParams {
             trap_width: 1,
-            ..NOW
+            ..USUAL_PARAMS
         },
     ),
     (
         b"<< /TrapWidth 100 >>",
         TrapParams {
             trap_width: 1_000_000,
-            ..NOW
+            ..USUAL_PARAMS
         },
     ),
     (
         b"<< /TrapWidth 100.00009 >>",
         TrapParams {
             trap_width: 1_000_000,
-            ..NOW
+            ..USUAL_PARAMS
         },
     ),
     (
         b"<< /BlackWidth .0001 >>",
         TrapParams {
             black_width: 1,
-            ..NOW
+            ..USUAL_PARAMS
         },
     ),
     (
         b"<< /BlackWidth 10 >>",
         TrapParams {
             black_width: 100_000,
-            ..NOW
+            ..USUAL_PARAMS
         },
     ),
     (
         b"<< /BlackColorLimit 0 >>",
         TrapParams {
             black_color_limit: 0,
-            ..NOW
+            ..USUAL_PARAMS
         },
     ),
     (
         b"<< /BlackColorLimit 1 >>",
         TrapParams {
             black_color_limit: 10_000,
-            ..NOW
+            ..USUAL_PARAMS
         },
     ),
     (
         b"<< /BlackDensityLimit 0.001 >>",
         TrapParams {
             black_density_limit: 10,
-            ..NOW
+            ..USUAL_PARAMS
         },
     ),
     (
         b"<< /BlackDensityLimit 10 >>",
         TrapParams {
             black_density_limit: 100_000,
-            ..NOW
+            ..USUAL_PARAMS
         },
     ),
     (
         b"<< /StepLimit -0.00001 >>",
         TrapParams {
             step_limit: 0,
-            ..NOW
+            ..USUAL_PARAMS
         },
     ),
     (
         b"<< /StepLimit 1 >>",
         TrapParams {
             step_limit: 10_000,
-            ..NOW
+            ..USUAL_PARAMS
         },
     ),
     (
         b"<< /SlidingTrapLimit 0 /TrapColorScaling 1 >>",
         TrapParams {
             sliding_trap_limit: 0,
-            ..NOW
+            ..USUAL_PARAMS
         },
     ),
     (
@@ -115,33 +104,33 @@ static SETTINGS: [(&[u8], TrapParams); 18] = [
         TrapParams {
             sliding_trap_limit: 10_000,
             trap_color_scaling: 0,
-            ..NOW
+            ..USUAL_PARAMS
         },
     ),
     (
         b"<< /Enabled false >>",
         TrapParams {
             enabled: false,
-            ..NOW
+            ..USUAL_PARAMS
         },
     ),
     (
         b"<< /TrapWidth 0 /TrapWidth 2 >>",
         TrapParams {
             trap_width: 20_000,
-            ..NOW
+            ..USUAL_PARAMS
         },
     ),
     (
         b"<< /TrapWidth /x /Other << /TrapWidth 9 >> /TrapWidth 2 /Trapping 5 >>",
         TrapParams {
             trap_width: 20_000,
-            ..NOW
+            ..USUAL_PARAMS
         },
     ),
     (
         b"<< /trapwidth 3 /TrapWidt 3 /TrapWidthh 3 /HalftoneName (x) >>",
-        NOW,
+        USUAL_PARAMS,
     ),
 ];
 
@@ -294,7 +283,7 @@ fn expect_settings(rt: &impl Abort, alloc: Global, table: &[(&[u8], TrapParams)]
     for (bytes, want) in table {
         assert!(rt; bytes.len() <= LONGEST_JOB);
         match read(alloc, bytes) {
-            Ok(all) => assert_eq!(rt; apply(&NOW, &all, 0), Ok(*want), "{bytes:?}"),
+            Ok(all) => assert_eq!(rt; apply(&USUAL_PARAMS, &all, 0), Ok(*want), "{bytes:?}"),
             Err(_) => assert!(rt; false, "{bytes:?}"),
         }
     }
@@ -308,7 +297,7 @@ fn expect_misfits(rt: &impl Abort, alloc: Global, table: &[(&[u8], FaultKind, u3
             at: *at,
         };
         match read(alloc, bytes) {
-            Ok(all) => assert_eq!(rt; apply(&NOW, &all, 0), Err(fault), "{bytes:?}"),
+            Ok(all) => assert_eq!(rt; apply(&USUAL_PARAMS, &all, 0), Err(fault), "{bytes:?}"),
             Err(_) => assert!(rt; false, "{bytes:?}"),
         }
     }

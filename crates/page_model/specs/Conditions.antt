@@ -5,15 +5,15 @@ use Rattle.page_model.specs.declared.parts.Ink.{Ink}
 use Rattle.page_model.specs.declared.parts.Limit.{Limit}
 use Rattle.page_model.specs.declared.parts.PageParts.{PageParts}
 use Rattle.page_model.specs.declared.parts.Plane.{Plane}
-use Rattle.page_model.specs.declared.parts.TrapParams.{TrapParams}
 use Rattle.page_model.specs.declared.parts.Vertex.{Vertex}
 use Rattle.page_model.specs.declared.parts.Zone.{Zone}
 use Rattle.page_model.specs.Page.{plates, width, height, maxval, params_at, path_at}
+use Rattle.page_model.specs.Parameters.{InRange}
 use Rattle.page_model.specs.Planes.{plane_at}
 use Rattle.page_model.specs.Reach.{zone_reach}
-use Rattle.page_model.specs.Limits.{least_ink_density, most_black_width, most_coordinate}
-use Rattle.page_model.specs.Limits.{most_ink_density, most_maxval, most_plates, most_reach}
-use Rattle.page_model.specs.Limits.{most_resolution, most_samples, most_side, most_trap_width}
+use Rattle.page_model.specs.Limits.{least_ink_density, most_coordinate, most_ink_density}
+use Rattle.page_model.specs.Limits.{most_maxval, most_plates, most_reach, most_resolution}
+use Rattle.page_model.specs.Limits.{most_samples, most_side}
 use Rattle.page_model.specs.Limits.{most_vertices, most_vertices_in_all, most_zones, scale}
 
 -- a plane within the limits, with a tint for each of its samples
@@ -31,19 +31,6 @@ pub record IsPlane (plane : Plane) : Type 0 where
 pub record IsInk (ink : Ink) : Type 0 where
   pub some_density : least_ink_density ≤ ink.density
   pub most_density : ink.density ≤ most_ink_density
-
--- the ranges of a zone's parameters, in ten-thousandths
-pub record InRange (params : TrapParams) : Type 0 where
-  pub some_width : 1 ≤ params.trap_width
-  pub width : params.trap_width ≤ most_trap_width
-  pub some_factor : 1 ≤ params.black_width
-  pub factor : params.black_width ≤ most_black_width
-  pub color : params.black_color_limit ≤ scale
-  pub some_density : least_ink_density ≤ params.black_density_limit
-  pub density : params.black_density_limit ≤ most_ink_density
-  pub step : params.step_limit ≤ scale
-  pub sliding : params.sliding_trap_limit ≤ scale
-  pub scaling : params.trap_color_scaling ≤ scale
 
 -- a vertex at most a million points from the origin in x and in y
 pub record IsVertex (vertex : Vertex) : Type 0 where

@@ -10,6 +10,7 @@ use Rattle.page_model.specs.declared.parts.PageParts.{PageParts}
 use Rattle.page_model.specs.declared.parts.TrapParams.{TrapParams}
 use Rattle.page_model.specs.declared.parts.Vertex.{Vertex}
 use Rattle.page_model.specs.declared.parts.Zone.{Zone}
+use Rattle.page_model.specs.Parameters.{usual_params}
 use Rattle.page_model.specs.Planes.{plane_at}
 
 -- stand where a number is out of range; no promise speaks of them
@@ -18,17 +19,7 @@ no_ink = record { name = []; density = 0; kind = Transparent }
 
 -- the parameters of no zone
 abbrev pub no_params : TrapParams
-no_params =
-    record {
-      trap_width = 0;
-      black_width = 0;
-      black_color_limit = 0;
-      black_density_limit = 0;
-      step_limit = 0;
-      sliding_trap_limit = 0;
-      trap_color_scaling = 0;
-      enabled = false;
-    }
+no_params = record usual_params { enabled = false }
 
 -- what stands past the last zone
 abbrev pub no_zone : Zone

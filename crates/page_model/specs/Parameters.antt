@@ -1,6 +1,8 @@
--- The trapping parameters of a job that sets none.
-use Rattle.std.specs.Prelude.{true}
+-- The trapping parameters: of a job that sets none, and in which ranges they are.
+use Rattle.std.specs.Prelude.{◌≤◌, true}
 use Rattle.page_model.specs.declared.parts.TrapParams.{TrapParams}
+use Rattle.page_model.specs.Limits.{least_ink_density, most_black_width, most_ink_density}
+use Rattle.page_model.specs.Limits.{most_trap_width, scale}
 
 -- in ten-thousandths: traps of a quarter of a point, and the shares and densities of PLRM3's
 -- section 6.3
@@ -15,3 +17,16 @@ usual_params = record {
   trap_color_scaling = 10000;
   enabled = true;
 }
+
+-- the ranges of a zone's parameters, in ten-thousandths
+pub record InRange (params : TrapParams) : Type 0 where
+  pub some_width : 1 ≤ params.trap_width
+  pub width : params.trap_width ≤ most_trap_width
+  pub some_factor : 1 ≤ params.black_width
+  pub factor : params.black_width ≤ most_black_width
+  pub color : params.black_color_limit ≤ scale
+  pub some_density : least_ink_density ≤ params.black_density_limit
+  pub density : params.black_density_limit ≤ most_ink_density
+  pub step : params.step_limit ≤ scale
+  pub sliding : params.sliding_trap_limit ≤ scale
+  pub scaling : params.trap_color_scaling ≤ scale

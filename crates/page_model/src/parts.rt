@@ -96,24 +96,27 @@ pub struct TrapParams {
     pub enabled: bool,
 }
 
+/// The parameters of a job that sets none: a quarter of a point, this project's defaults throughout.
+pub const USUAL_PARAMS: TrapParams = TrapParams {
+    trap_width: 2_500,
+    black_width: 10_000,
+    black_color_limit: 9_500,
+    black_density_limit: 16_000,
+    step_limit: 2_500,
+    sliding_trap_limit: 7_000,
+    trap_color_scaling: 10_000,
+    enabled: true,
+};
+
 impl TrapParams {
     ghost use Rattle.std.specs.Prelude.{◌≡◌};
     ghost use Rattle.page_model.specs.Parameters.{usual_params};
 
-    /// The parameters of a job that sets none: a quarter of a point, this project's defaults throughout.
+    /// The parameters of a job that sets none.
     pub fn usual() -> TrapParams
         ensures { result ≡ usual_params }
     {
-        TrapParams {
-            trap_width: 2_500,
-            black_width: 10_000,
-            black_color_limit: 9_500,
-            black_density_limit: 16_000,
-            step_limit: 2_500,
-            sliding_trap_limit: 7_000,
-            trap_color_scaling: 10_000,
-            enabled: true,
-        }
+        USUAL_PARAMS
     }
 }
 

@@ -1,5 +1,6 @@
 ghost use Rattle.std.specs.Prelude.{◌≡◌, ◌≤◌, ◌<◌, length};
-ghost use Rattle.page_model.specs.Conditions.{InRange, IsParts};
+ghost use Rattle.page_model.specs.Conditions.{IsParts};
+ghost use Rattle.page_model.specs.Parameters.{InRange};
 ghost use Rattle.page_model.specs.Limits.{most_resolution};
 ghost use Rattle.page_model.specs.Reach.{params_reach, zone_reach};
 

@@ -51,7 +51,7 @@ ink_ok name density some most = record { some_density = some; most_density = mos
 
 zone_ok : IsZone sample_zone
 zone_ok = record {
-  params = record { some_width = omega arith; width = omega arith; some_factor = omega arith; factor = omega arith; color = omega arith; some_density = omega arith; density = omega arith; step = omega arith; sliding = omega arith; scaling = omega arith };
+  params = grind arith;
   path = record { begun = refl; few = omega arith; near = all_none IsVertex };
   limits = record { once = λ i j d before within. absurd (omega arith); steps = all_none (λ (l : Limit). l.step ≤ 10000) };
 }

@@ -13,5 +13,4 @@ pub use blocks::are_clear;
 pub use changes::{count_changed, differences, note_taken};
 pub use counting::{count_zones, edges_in};
 pub use outcome::{Outcome, Trapped};
-pub use planes::put_plate_row;
 pub use sums::add_counts;

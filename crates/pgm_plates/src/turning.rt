@@ -2,10 +2,9 @@ ghost use Rattle.std.specs.Prelude.{◌≡◌, ◌*◌, ◌-◌, ◌≤◌, map}
 ghost use Rattle.std.specs.List.{All};
 ghost use Rattle.page_model.specs.Conditions.{IsPlane};
 ghost use Rattle.page_model.specs.Limits.{most_samples, most_maxval};
-ghost use Rattle.pgm_plates.specs.Plates.{IsPlate, IsPlateWithin};
-ghost use Rattle.pgm_plates.specs.Planes.{IsPlaneWithin, plane_of, plate_of};
+ghost use Rattle.pgm_plates.specs.Plates.{IsPlate};
+ghost use Rattle.pgm_plates.specs.Planes.{plane_of, plate_of};
 
-use crate::bounds::Bounds;
 use crate::plate::Plate;
 use lists::list::List;
 use page_model::parts::{Plane, Tints};
@@ -21,30 +20,12 @@ impl Plate {
         self.into_tints()
     }
 
-    /// Turns the samples of a sheet's plate into tints, as `into_plane` does.
-    pub fn into_sheet_plane(self) -> Plane
-        requires { IsPlateWithin Bounds.Sheet self }
-        ensures tints { result ≡ plane_of self }
-        ensures in_range { IsPlaneWithin Bounds.Sheet result }
-    {
-        self.into_tints()
-    }
-
     /// Turns the tints of a plane into samples, in place.
     pub fn of_plane(plane: Plane) -> Plate
         requires in_range { IsPlane plane }
         requires few { plane.width * plane.height ≤ most_samples }
         ensures samples { result ≡ plate_of plane }
         ensures in_range { IsPlate result }
-    {
-        Plate::of_tints(plane)
-    }
-
-    /// Turns the tints of a sheet's plane into samples, as `of_plane` does.
-    pub fn of_sheet_plane(plane: Plane) -> Plate
-        requires { IsPlaneWithin Bounds.Sheet plane }
-        ensures samples { result ≡ plate_of plane }
-        ensures in_range { IsPlateWithin Bounds.Sheet result }
     {
         Plate::of_tints(plane)
     }

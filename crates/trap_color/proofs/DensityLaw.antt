@@ -40,10 +40,7 @@ cancelled d f x some le = elim (cases_lt x (d * 10000)) [
 ]
 
 kind_cases : (kind : InkKind) → (spreads kind ≡ true) ⊎ ((counts kind ≡ false) ⊎ (kind ≡ Opaque))
-kind_cases Normal = inl refl
-kind_cases Transparent = inr (inl refl)
-kind_cases Opaque = inr (inr refl)
-kind_cases OpaqueIgnore = inr (inl refl)
+kind_cases kind = grind arith
 
 no_weight : (page : PageParts) (c : ℕ) → plate_counts page c ≡ false → weight page c ≡ 0
 no_weight page c h = ap (λ (b : Bool). if b then (ink_at page c).density else 0) h

@@ -1,38 +1,18 @@
 -- The table of trapping parameters read by its keys: what holds of each key holds of each field.
-use Rattle.std.proofs.Common.{◌≡◌, ℕ, ◌≤◌, Bool, true, All, refl, arith}
+use Rattle.std.proofs.Common.{◌≡◌, ℕ, ◌≤◌, Bool, true, List, [], ◌∷◌, All, refl, subst, sym, arith}
 use Rattle.page_model.specs.declared.parts.TrapParams.{TrapParams}
-use Rattle.page_model.specs.Conditions.{InRange}
+use Rattle.page_model.specs.Parameters.{InRange}
 use Rattle.ps_tokens.specs.declared.parameters.Key.{Key}
-use Rattle.ps_tokens.specs.declared.parameters.Key.TheVariants.{TrapWidth, BlackWidth, BlackColorLimit}
-use Rattle.ps_tokens.specs.declared.parameters.Key.TheVariants.{BlackDensityLimit, StepLimit}
-use Rattle.ps_tokens.specs.declared.parameters.Key.TheVariants.{SlidingTrapLimit, TrapColorScaling}
-use Rattle.ps_tokens.specs.declared.parameters.Key.TheVariants.{Enabled, Trapping}
 use Rattle.ps_tokens.specs.Parameters.{least_of, most_of}
 use Rattle.trap_params.specs.Fields.{number_keys, number_at, params_by, is_number}
 
 -- each number is among the keys
 pub each_number : (P : Key → Type 0) → All P number_keys → (key : Key) → is_number key ≡ true → P key
-each_number P all TrapWidth is = all 0 TrapWidth (omega arith)
-each_number P all BlackWidth is = all 1 TrapWidth (omega arith)
-each_number P all BlackColorLimit is = all 2 TrapWidth (omega arith)
-each_number P all BlackDensityLimit is = all 3 TrapWidth (omega arith)
-each_number P all StepLimit is = all 4 TrapWidth (omega arith)
-each_number P all SlidingTrapLimit is = all 5 TrapWidth (omega arith)
-each_number P all TrapColorScaling is = all 6 TrapWidth (omega arith)
-each_number P all Enabled is = absurd (cc)
-each_number P all Trapping is = absurd (cc)
+each_number P all key is = grind (arith, all)
 
 -- a number of parameters that are given by their keys
 pub number_at-by : (f : Key → ℕ) (enabled : Bool) (key : Key) → is_number key ≡ true → number_at key (params_by f enabled) ≡ f key
-number_at-by f enabled TrapWidth is = refl
-number_at-by f enabled BlackWidth is = refl
-number_at-by f enabled BlackColorLimit is = refl
-number_at-by f enabled BlackDensityLimit is = refl
-number_at-by f enabled StepLimit is = refl
-number_at-by f enabled SlidingTrapLimit is = refl
-number_at-by f enabled TrapColorScaling is = refl
-number_at-by f enabled Enabled is = absurd (cc)
-number_at-by f enabled Trapping is = absurd (cc)
+number_at-by f enabled key is = grind arith
 
 -- two functions of the keys that agree on each number
 abbrev pub Agree : (Key → ℕ) → (Key → ℕ) → Type 0
@@ -40,15 +20,7 @@ Agree f g = (key : Key) → is_number key ≡ true → f key ≡ g key
 
 -- they give the same parameters
 pub params_by-same : (f g : Key → ℕ) (a b : Bool) → Agree f g → a ≡ b → params_by f a ≡ params_by g b
-params_by-same f g a b agree same =
-    let width = agree TrapWidth refl in
-    let factor = agree BlackWidth refl in
-    let color = agree BlackColorLimit refl in
-    let density = agree BlackDensityLimit refl in
-    let step = agree StepLimit refl in
-    let sliding = agree SlidingTrapLimit refl in
-    let scaling = agree TrapColorScaling refl in
-    cc
+params_by-same f g a b agree same = grind (arith, agree)
 
 -- parameters are given by their own numbers
 pub params_by-own : (params : TrapParams) → params_by (λ key. number_at key params) params.enabled ≡ params
@@ -61,27 +33,28 @@ pub record IsWithin (key : Key) (n : ℕ) : Type 0 where
 
 -- parameters in range have each number within
 pub number_at-within : (params : TrapParams) → InRange params → (key : Key) → is_number key ≡ true → IsWithin key (number_at key params)
-number_at-within params here TrapWidth is = record { least = here.some_width; most = here.width }
-number_at-within params here BlackWidth is = record { least = here.some_factor; most = here.factor }
-number_at-within params here BlackColorLimit is = record { least = omega arith; most = here.color }
-number_at-within params here BlackDensityLimit is = record { least = here.some_density; most = here.density }
-number_at-within params here StepLimit is = record { least = omega arith; most = here.step }
-number_at-within params here SlidingTrapLimit is = record { least = omega arith; most = here.sliding }
-number_at-within params here TrapColorScaling is = record { least = omega arith; most = here.scaling }
-number_at-within params here Enabled is = absurd (cc)
-number_at-within params here Trapping is = absurd (cc)
+number_at-within params here key is = grind arith
+
+-- what holds of each key of a list
+abbrev Each : (Key → Type 0) → List Key → Type 0
+Each P [] = Unit
+Each P (key ∷ keys) = P key × Each P keys
+
+each-of : (P : Key → Type 0) → ((key : Key) → is_number key ≡ true → P key) → (keys : List Key) → Each (λ key. is_number key ≡ true) keys → Each P keys
+each-of P each [] numbers = tt
+each-of P each (key ∷ keys) numbers = (each key numbers.0, each-of P each keys numbers.1)
 
 -- and parameters with each number within are in range
 pub in_range-from : (params : TrapParams) → ((key : Key) → is_number key ≡ true → IsWithin key (number_at key params)) → InRange params
-in_range-from params each = record {
-  some_width = (each TrapWidth refl).least;
-  width = (each TrapWidth refl).most;
-  some_factor = (each BlackWidth refl).least;
-  factor = (each BlackWidth refl).most;
-  color = (each BlackColorLimit refl).most;
-  some_density = (each BlackDensityLimit refl).least;
-  density = (each BlackDensityLimit refl).most;
-  step = (each StepLimit refl).most;
-  sliding = (each SlidingTrapLimit refl).most;
-  scaling = (each TrapColorScaling refl).most;
-}
+in_range-from params each =
+    let numbers : Each (λ key. is_number key ≡ true) number_keys = grind arith in
+    let all : Each (λ key. IsWithin key (number_at key params)) number_keys =
+    each-of (λ key. IsWithin key (number_at key params)) each number_keys numbers in
+    grind (arith, all)
+
+-- so are those of a zone that is switched on or off
+pub switched-in_range : (params : TrapParams) (enabled : Bool) → InRange params → InRange (record params { enabled = enabled })
+switched-in_range params enabled here =
+    let f : Key → ℕ = λ key. number_at key params in
+    in_range-from (record params { enabled = enabled })
+    (λ key is. subst (IsWithin key) (sym (number_at-by f enabled key is)) (number_at-within params here key is))
