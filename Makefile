@@ -55,7 +55,7 @@ install: built $(if $(LIBRARY),install-library install-headers)
 	for one in $(notdir $(BUILT)); do install -m 755 tools/installed $(DESTDIR)$(PREFIX)/bin/$$one || exit 1; done
 	install -m 644 VERSION $(DESTDIR)$(OWN)
 	install -m 755 $(COMMANDS:%=press/%) $(DESTDIR)$(PRESS)
-	install -m 644 press/lib/*.py press/lib/press.sh press/lib/proof.css press/lib/proof.js $(DESTDIR)$(PRESS)/lib
+	install -m 644 press/lib/*.py press/lib/press.sh press/lib/proof.css press/lib/proof.js docs/JOBS.md $(DESTDIR)$(PRESS)/lib
 	install -m 644 press/inks/*.inks $(DESTDIR)$(PRESS)/inks
 	install -m 644 press/presets/*.preset $(DESTDIR)$(PRESS)/presets
 	ln -sf ../lib/trap/press/press $(DESTDIR)$(PREFIX)/bin/press

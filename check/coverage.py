@@ -4,7 +4,7 @@ import sys
 from collections import Counter
 
 import slow.rule
-from slow.entries import PARAMETERS, S
+from slow.entries import KINDS, PARAMETERS, S
 from slow.rule import distance_squared, samples_of, sides
 
 JOB_KINDS = ["JobTooLong", "BadToken", "NumberTooLarge", "Unclosed", "Unmatched", "OddDictionary", "KeyNotName",
@@ -42,7 +42,7 @@ LINES = {
 
 FEATURES = [
     "maxval 1", "maxval of one byte", "maxval 255", "maxval 256", "maxval of two bytes", "maxval 65535", "one plate",
-    "sixteen plates", "ink Normal", "ink Transparent", "ink Opaque", "ink OpaqueIgnore", "no zone made",
+    "sixteen plates", *("ink " + kind for kind in KINDS), "no zone made",
     "zone of no path", "zone 0 has samples beside others", "zones that overlap", "disabled zone with samples",
     "winding number of 2 or more", "winding number below 0", "sample inside a path with winding number 0",
     "border through a sample's centre", "edge between zones decides", "one zone's limits make apart, the other's not",

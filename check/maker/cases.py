@@ -299,9 +299,9 @@ def large_case():
 
 
 def trapsheet(rng):
-    """A page, now and then one whose plates are too wide for a page."""
+    """A page, now and then one of several strips or windows, or one whose plates are too wide for a page."""
     files = {}
-    picture, job, inputs = one_page(rng, files)
+    picture, job, inputs = one_page(rng, files, pictures.picture(rng, cut_shape(rng)) if rng.random() < 0.04 else None)
     if rng.random() < 0.03:
         job, inputs = wide_sheet(rng, files, len(inputs))
     report = rng.choice(inputs + [job]) if rng.random() < 0.02 else output_name(rng, "report")
@@ -309,10 +309,17 @@ def trapsheet(rng):
     return with_bad_words(rng, words), files
 
 
+def cut_shape(rng):
+    """Sides by which a sheet of a few plates is cut: strips have 256 rows, and windows 800,000 samples."""
+    if rng.random() < 0.7:
+        return rng.randint(1, 4), rng.randint(257, 600)
+    return rng.randint(1600, 2600), rng.randint(1, 2)
+
+
 def wide_sheet(rng, files, count):
     """Plates above a page's limits of a few rows or columns, and a job that traps nothing, some with a zone that is refused."""
     side = rng.choice([16385, 16384, 20000, 262144, 262145])
-    width, height = rng.choice([(side, 1), (1, side), (side, 2)]) if side < 100000 else (side, 1)
+    width, height = rng.choice([(side, 1), (1, side), (side, 2)])
     resolution, far = rng.choice([(600, 288), (9973, 288), (600, 1000000), (72, 999000)])
     zone = b"0 0 moveto %d 0 lineto 0 9 lineto settrapzone " % far if rng.random() < 0.7 else b""
     files["sheet-job"] = (b"<< /HWResolution [%d %d] >> setpagedevice << /Enabled false >> settrapparams " % (resolution, resolution)

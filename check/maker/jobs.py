@@ -37,7 +37,9 @@ def page_statements(rng, picture, device=True):
     """The statements of one page."""
     if rng.random() < 0.03:
         return [disabling(rng), SHOWPAGE]
-    resolution = rng.choice([72, 72, 72, 36, 144, 100, 300, 600, 1, 10000])
+    # The last ones do not divide 720,000: windows of a sheet with zones lie at multiples of 7, 7, 127 and 1,219 samples then, and
+    # of 9,973, which is too much for a window, so that trapsheet takes such a page whole.
+    resolution = rng.choice([72, 72, 72, 36, 144, 100, 300, 600, 1, 10000, 350, 700, 2540, 2438, 9973])
     statements = [device_statement(rng, picture.names, resolution)] if device else []
     for _ in range(rng.choice([0, 1, 1, 1, 2])):
         statements.append(params_statement(rng, picture, resolution))
@@ -125,7 +127,7 @@ def ink(rng, densities):
             value = rng.choice([[b"0.0009"], [b"10.0001"], [b"-1"], [b"/x"], [b"0"], [b"null"]])
         entries.append((b"/NeutralDensity", value))
     if rng.random() < 0.4:
-        kind = b"/" + rng.choice((b"Normal",) * 7 + KINDS)
+        kind = b"/" + rng.choice(["Normal"] * 7 + [*KINDS]).encode()
         if rng.random() < 0.005:
             kind = rng.choice([b"/Metal", b"null", b"1", b"/"])
         entries.append((b"/ColorantType", [kind]))

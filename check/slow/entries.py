@@ -1,29 +1,18 @@
 """What the entries of a dictionary before `settrapparams` or `setpagedevice` may be, and their first misfit."""
 from collections import namedtuple
 
+from . import tables
 from .objects import last_entries
 from .refusals import JobFault
+from .tables import S
 
-S = 10000
 LONGEST_NAME = 64
 
-Parameter = namedtuple("Parameter", "least greatest default")
-
-# In ten-thousandths, judged after cutting. Enabled is a boolean.
-PARAMETERS = {
-    "TrapWidth": Parameter(1, 100 * S, 2500),
-    "BlackWidth": Parameter(1, 10 * S, S),
-    "BlackColorLimit": Parameter(0, S, 9500),
-    "BlackDensityLimit": Parameter(10, 10 * S, 16000),
-    "StepLimit": Parameter(0, S, 2500),
-    "SlidingTrapLimit": Parameter(0, S, 7000),
-    "TrapColorScaling": Parameter(0, S, S),
-    "Enabled": None,
-}
-DEFAULTS = {key: True if parameter is None else parameter.default for key, parameter in PARAMETERS.items()}
+# In ten-thousandths, judged after cutting.
+PARAMETERS, DEFAULTS = tables.parameters()
 
 Ink = namedtuple("Ink", "density kind")
-KINDS = (b"Normal", b"Transparent", b"Opaque", b"OpaqueIgnore")
+KINDS = tables.kinds()
 
 
 def text(name):
@@ -124,7 +113,7 @@ def ink_in(details):
                 raise JobFault("BadDensity", value.at)
             density = value.value
         elif key == b"ColorantType":
-            if value.kind != "Literal" or value.value not in KINDS:
+            if value.kind != "Literal" or text(value.value) not in KINDS:
                 raise JobFault("BadKind", value.at)
             kind = text(value.value)
     if density is None:

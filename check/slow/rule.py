@@ -5,7 +5,7 @@ Samples are (x, y) with row 0 at the top. Edges are points (X, Y) of the doubled
 """
 from functools import lru_cache
 
-from .entries import S
+from .entries import KINDS, S
 
 
 class Rule:
@@ -15,8 +15,10 @@ class Rule:
         self.page = page
         for name in ("zone", "density", "is_shut", "slid", "is_black", "new_planes"):
             setattr(self, name, lru_cache(maxsize=None)(getattr(self, name)))
-        self.counting = [plate for plate in page.plates if page.inks[plate].kind in ("Normal", "Opaque")]
-        self.closing = [plate for plate in page.plates if page.inks[plate].kind == "OpaqueIgnore"]
+        kinds = [KINDS[ink.kind] for ink in page.inks]
+        self.counting = [plate for plate in page.plates if kinds[plate].counts]
+        self.closing = [plate for plate in page.plates if kinds[plate].shuts]
+        self.spreading = [kind.spreads for kind in kinds]
         self.deciding = [edge for edge in self.edges() if self.decides(edge)]
 
     # Zones
@@ -135,12 +137,11 @@ class Rule:
         old = [self.page.tint(plate, sample) for plate in self.page.plates]
         if edge is None or not self.is_trapped(sample, edge):
             return old
-        normal = [ink.kind == "Normal" for ink in self.page.inks]
         across = sides(sample, edge)[1]
-        full = [max(tint, self.page.tint(plate, across)) if normal[plate] else tint for plate, tint in enumerate(old)]
+        full = [max(tint, self.page.tint(plate, across)) if self.spreading[plate] else tint for plate, tint in enumerate(old)]
         before, after = self.density(sample), self.density_of(full)
         share = before * S + self.params(sample)["TrapColorScaling"] * (after - before)
-        return [full[plate] * share // (after * S) if normal[plate] else tint for plate, tint in enumerate(old)]
+        return [full[plate] * share // (after * S) if self.spreading[plate] else tint for plate, tint in enumerate(old)]
 
     def new_planes(self):
         """The tints of all plates after trapping, row after row."""

@@ -7,6 +7,7 @@ import re
 import unicodedata
 from collections import namedtuple
 
+import job_tables
 import press
 from press import Refusal
 
@@ -30,9 +31,21 @@ def density_of(text, what):
 
 
 def kind_of(text, what):
-    if text in press.KINDS:
+    kinds = job_tables.kinds()
+    if text in kinds:
         return text
-    raise press.usage(f"{what}: a kind is {', '.join(press.KINDS[:-1])} or {press.KINDS[-1]}, and not '{text}'")
+    *others, last = kinds
+    raise press.usage(f"{what}: a kind is {', '.join(others)} or {last}, and not '{text}'")
+
+
+def counts(kind):
+    """Whether an ink of this kind counts towards densities: of a varnish or a foil the density counts for nothing."""
+    return job_tables.kinds()[kind].counts
+
+
+def is_seen(kind):
+    """Whether an ink of this kind is drawn: it darkens what it covers, or traps keep away from it. A varnish is not."""
+    return any(job_tables.kinds()[kind])
 
 
 def is_utf16(text):

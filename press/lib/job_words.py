@@ -7,6 +7,7 @@ import re
 import tempfile
 from collections import namedtuple
 
+import job_tables
 import press
 from press import Refusal
 
@@ -18,8 +19,7 @@ Zone = namedtuple("Zone", "width black slide enabled")
 Reading = namedtuple("Reading", "zones strangers makes_zones last")
 
 WORD = re.compile(rb"%[^\r\n\f]*|\((?:[^()\\]|\\.)*\)|<<|>>|<[0-9A-Fa-f\s]*>|\[|\]|/[^\s()<>\[\]{}/%\0]*|[^\s()<>\[\]{}/%\0]+", re.DOTALL)
-PARAMETERS = ("TrapWidth", "BlackWidth", "BlackColorLimit", "BlackDensityLimit", "StepLimit", "SlidingTrapLimit",
-              "TrapColorScaling", "Enabled", "ColorantZoneDetails")
+LIMITS_BY_COLORANT = "ColorantZoneDetails"
 DEVICE = ("HWResolution", "Trapping", "TrappingDetails")
 DETAILS, INK, LIMITS = ("Type", "ColorantDetails"), ("NeutralDensity", "ColorantType"), ("StepLimit",)
 # Entries of PostScript's trapping that other trappers heed, and this one passes over.
@@ -67,7 +67,7 @@ def judge_keys(value, known, place, strangers):
 
 def look_at_parameters(value, zone, strangers):
     """What a dictionary before settrapparams makes of the parameters that hold."""
-    judge_keys(value, PARAMETERS, "settrapparams", strangers)
+    judge_keys(value, (*job_tables.parameters(), LIMITS_BY_COLORANT), "settrapparams", strangers)
     for key, _, body in pairs_of(value):
         if key in FIELDS and isinstance(body, Token):
             try:
@@ -76,9 +76,9 @@ def look_at_parameters(value, zone, strangers):
                 pass
         elif key == "Enabled" and isinstance(body, Token):
             zone = zone._replace(enabled=body.text != "false")
-        elif key == "ColorantZoneDetails":
+        elif key == LIMITS_BY_COLORANT:
             for _, _, limits in pairs_of(body):
-                judge_keys(limits, LIMITS, "ColorantZoneDetails", strangers)
+                judge_keys(limits, LIMITS, LIMITS_BY_COLORANT, strangers)
     return zone
 
 

@@ -4,6 +4,7 @@ leave. Varnish is not drawn. A spot has the colour of the process inks that look
 import functools
 import os
 
+import ink_tables
 import job_words
 import press
 
@@ -42,7 +43,7 @@ class Painter:
         # Of each plate, and each of red, green and blue, what share of the light a sample's value leaves.
         values = 1 - numpy.arange(256, dtype="f4") / 255
         self.shares = [[1 - values * (1 - back / 255) for back in light] for light in self.lights]
-        self.drawn = [k for k, one in enumerate(page.colorants) if one.kind != "Transparent"]
+        self.drawn = [k for k, one in enumerate(page.colorants) if ink_tables.is_seen(one.kind)]
         self.before = [self.plane(page.plate(one)) for one in page.colorants]
         self.after = [self.plane(page.plate(one, True)) for one in page.colorants] if with_trapped else None
 

@@ -26,11 +26,17 @@ OPTIONS = {"--dpi": "one", "--box": "one", "--density": "each", "--kind": "each"
 SMALL_SAMPLES, SMALL_DPI, LEAST_DPI = 500_000, 72, 10
 MOST_PAGES, LEAST_LOOK = 999_999, 60
 # What a page takes, as measured on pages of a label and of A4 (docs/FARM.md): seconds of a processor from PDF to proof, for a
-# page and for a sample; bytes a sample in trap's table; of trapsheet the bytes of a strip and its windows, however large the sheet is.
-SECONDS_A_PAGE, SECONDS_A_SAMPLE, TABLE_BYTES, STRIP_BYTES = 2.5, 1e-7, 12, 400_000_000
+# page and for a sample; bytes a sample in trap's table; and of trapsheet bytes for each sample of a strip.
+SECONDS_A_PAGE, SECONDS_A_SAMPLE, TABLE_BYTES, STRIP_BYTES = 2.5, 1e-7, 12, 13
 # From which tint on a sample has ink, and below which it has none, where one ink knocks out others: full ink is 0.
 MUCH, LITTLE = 127, 250
 KNOCK_OUT_SAMPLES = 3
+
+
+def sheet_memory(width, plates):
+    """What trapsheet takes: it grows with the width and the plates, and not with the height. Strips of wide sheets have fewer rows."""
+    row = width * max(plates, 1)
+    return STRIP_BYTES * row * min(128, max(32, 67_108_864 // row))
 
 
 class Plan:
@@ -262,7 +268,7 @@ class Preflight:
             details = self.inks.details(one.colorant, one.name, one.mixed)
             for kind, level, line in separations.ink_lines(one, details):
                 self.add(kind, level, page, line)
-            technical = self.inks.technical.within(one.colorant) is not None or details.kind in ("Transparent", "OpaqueIgnore")
+            technical = self.inks.technical.within(one.colorant) is not None or not ink_tables.counts(details.kind)
             if one.name not in press.PROCESS and technical and one in inked:
                 self.look_at_knock_out(page, one, details, plates, [other for other in inked if other is not one])
         width, height, samples = self.judge_size(page, max(1, len(inked)))
@@ -282,7 +288,7 @@ class Preflight:
     def look_at_knock_out(self, page, one, details, plates, others):
         """Whether a technical ink leaves a hole in the inks that lie around it."""
         if knocked_out(plates[one.name], [plates[other.name] for other in others]) >= KNOCK_OUT_SAMPLES:
-            shown, trapped = press.said(one.colorant), details.kind in ("Normal", "Opaque")
+            shown, trapped = press.said(one.colorant), ink_tables.counts(details.kind)
             # Whoever told the kind knows the ink, as a foil on bare paper.
             level = NOTE if details.kind_from[0] in ("told", "house") else WARNING
             meaning = "and is trapped as any other ink" if trapped else "and the hole's edge is not trapped"
@@ -292,7 +298,7 @@ class Preflight:
     def needs(self, page, width, height, inks, inked, samples):
         """What a page takes: processor seconds, memory, and disk for plates before and after and TIFF files."""
         whole = samples > press.MOST_SAMPLES or max(width, height) > press.LONGEST_SIDE
-        memory = STRIP_BYTES if whole else samples * TABLE_BYTES
+        memory = sheet_memory(width, inked) if whole else samples * TABLE_BYTES
         return Sheet(page, width, height, inks, inked, samples, round(samples * SECONDS_A_SAMPLE + SECONDS_A_PAGE, 1), memory,
                      width * height * (inks + inked))
 

@@ -40,7 +40,6 @@ MOST_PLATES, LONGEST_SIDE, MOST_SAMPLES, LONGEST_NAME = 16, 16_384, 160_000_000,
 LONGEST_SHEET_SIDE = 262_144
 PROCESS = {"Cyan": (0.61, (100, 0, 0, 0)), "Magenta": (0.76, (0, 100, 0, 0)), "Yellow": (0.16, (0, 0, 100, 0)),
            "Black": (1.70, (0, 0, 0, 100))}
-KINDS = ("Normal", "Transparent", "Opaque", "OpaqueIgnore")
 TABLE, JOB, TRAPPED, REPORT, CHECK, JSON = "colorants.txt", "page.job", "trapped", "report", "check", "report.json"
 LOCK = ".press-lock"
 HERE = os.path.dirname(os.path.dirname(os.path.realpath(__file__)))

@@ -93,8 +93,7 @@ def ink_lines(one, details):
     if one.name not in press.PROCESS and ink_tables.process_meant(one.colorant):
         yield "process-name", "warning", (f"{shown} is a spot with a plate of its own, and is called like a process ink: is "
                                           f"{ink_tables.process_meant(one.colorant)} meant?")
-    # Of a varnish or a foil the density counts for nothing.
-    if details.kind not in ("Normal", "Opaque"):
+    if not ink_tables.counts(details.kind):
         return
     if details.density_from[0] == "guess":
         yield "ink-density", "warning", (f"the density of {shown} is not told; {details.density} is a guess "

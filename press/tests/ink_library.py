@@ -9,7 +9,7 @@ import sys
 sys.dont_write_bytecode = True
 sys.path.insert(0, os.path.join(os.path.dirname(os.path.realpath(__file__)), "..", "lib"))
 import ink_tables
-import press
+import job_tables
 
 KINDS = {"CutContour": "Transparent", "Stanzlinie": "Transparent", "Découpe": "Transparent", "Die-Line": "Transparent",
          "Varnish_Gloss": "Transparent", "UV Lack": "Transparent", "White opaque": "Transparent", "Deckweiß": "Transparent",
@@ -36,7 +36,7 @@ def main():
         for number, line in ink_tables.table_lines(os.path.join(ink_tables.LIBRARY, name)):
             pattern, figure, kind, source, *color = line.split("\t")
             assert source in sources, f"{name}: line {number}: no source {source}"
-            assert kind in press.KINDS and (figure == "-" or 0.001 <= float(figure) <= 10), f"{name}: line {number}"
+            assert kind in job_tables.kinds() and (figure == "-" or 0.001 <= float(figure) <= 10), f"{name}: line {number}"
             assert source != "look" or density(color[0]) == figure, f"{name}: line {number}: {density(color[0])}"
     inks = ink_tables.Inks({"--density": [], "--kind": []}, None)
     for name, kind in KINDS.items():

@@ -15,7 +15,7 @@ ghost use Rattle.sheet_windows.specs.Sheets.{IsSheet};
 use crate::holding::hold;
 use crate::outcome::outcome_of;
 use crate::streaming::stream;
-use crate::windows::deepened;
+use crate::windows::rulers_for;
 use crate::words::SheetArgs;
 use crate::writing::write_sheet;
 use bare_sheets::budget::Budget;
@@ -137,7 +137,7 @@ fn put_planned<H: Threads + Sync, T: Tray, R: Rack>(
     let bare = &planned.bare;
     match planned.plan {
         Plan::Strips(rulers) => {
-            let rulers = deepened(bare, rulers);
+            let rulers = rulers_for(bare, rulers);
             put_strips(rt, alloc, order, bare, &rulers, inputs, trays, racks)
         }
         Plan::Windows(_rulers) => put_whole(rt, alloc, order, planned, inputs, trays, racks),

@@ -62,8 +62,8 @@ pub fn trapsheet_main<H: Threads + Sync, T: Tray + Send, R: Rack + Send>(
     trapsheet_within(rt, alloc, words, &WINDOW, trays, racks)
 }
 
-/// As `trapsheet_main`, with windows of at most so many rows and samples; where these are the usual rows, those of a narrow sheet have twice
-/// as many.
+/// As `trapsheet_main`, with windows of at most so many rows and samples; where these are the usual rows, those of a narrow sheet
+/// have twice as many, and those of a wide one fewer.
 pub fn trapsheet_within<H: Threads + Sync, T: Tray + Send, R: Rack + Send>(
     rt: &H,
     alloc: Global,

@@ -13,33 +13,46 @@ pub(crate) const WINDOW: Budget = Budget {
     samples: 400_000,
 };
 
-// In a narrow sheet: less of each strip is halo then, and the workers meet half as often.
+// Less of a deep strip is halo, and the workers meet less often.
 const DEEP_WINDOW: Budget = Budget {
     rows: 256,
     samples: 800_000,
 };
 
-// A sheet is narrow where a strip of deep windows has at most so many samples in all plates.
-const NARROW_STRIP: u64 = 8_388_608;
+// The most samples in all plates of a strip of deep windows, and of one whose rows can be fewer.
+const MOST_DEEP: u64 = 8_388_608;
 
-/// The rulers of a sheet's strips, or of strips twice as high where these have the usual rows and the sheet is narrow.
-pub(crate) fn deepened(bare: &PageParts, rulers: Rulers) -> Rulers
+const MOST_STRIP: u64 = 67_108_864;
+
+// However wide the sheet is, so many rows are worth a strip.
+const LEAST_ROWS: u64 = 32;
+
+/// The rulers of a sheet's strips, or where these have the usual rows, those of strips that are twice as high in a narrow
+/// sheet, and lower in a wide one, so that a strip takes about as much memory however wide the sheet is.
+pub(crate) fn rulers_for(bare: &PageParts, rulers: Rulers) -> Rulers
     requires by { StreamsBy bare.now rulers }
     ensures { StreamsBy bare.now result }
 {
-    if rulers.down.most != WINDOW.rows || !is_narrow(bare) {
+    if rulers.down.most != WINDOW.rows {
         return rulers;
     }
-    match plan_sheet(bare, &DEEP_WINDOW) {
-        Ok(Plan::Strips(deep)) => deep,
+    match plan_sheet(bare, &window_for(bare)) {
+        Ok(Plan::Strips(fit)) => fit,
         _ => rulers,
     }
 }
 
-fn is_narrow(bare: &PageParts) -> bool
+fn window_for(bare: &PageParts) -> Budget
     requires { IsBareSheet bare.now }
 {
     let planes = bare.planes.as_slice();
     let wide = planes.len() as u64 * u64::from(planes[0].width);
-    wide <= NARROW_STRIP / u64::from(DEEP_WINDOW.rows)
+    if wide <= MOST_DEEP / u64::from(DEEP_WINDOW.rows) {
+        return DEEP_WINDOW;
+    }
+    let rows = (MOST_STRIP / wide).max(LEAST_ROWS);
+    Budget {
+        rows: rows.min(u64::from(WINDOW.rows)) as u32,
+        samples: WINDOW.samples,
+    }
 }

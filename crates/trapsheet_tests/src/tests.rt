@@ -1,3 +1,4 @@
+mod cut;
 mod failing;
 mod words;
 mod worked;
@@ -26,6 +27,18 @@ const WIDE: Budget = Budget {
     rows: 512,
     samples: 2_000_000,
 };
+
+// A column of twelve samples, cut into several strips: the same edge, from above to below.
+const CYAN_DOWN: &[u8] = b"P5\n1 12\n255\n\0\0\0\0\0\0\xFF\xFF\xFF\xFF\xFF\xFF";
+
+const MAGENTA_DOWN: &[u8] = b"P5\n1 12\n255\n\xFF\xFF\xFF\xFF\xFF\xFF\0\0\0\0\0\0";
+
+const BOTH_CYAN_DOWN: &[u8] = b"P5\n1 12\n255\n\0\0\0\0\0\0\0\xFF\xFF\xFF\xFF\xFF";
+
+const BOTH_MAGENTA_DOWN: &[u8] = b"P5\n1 12\n255\n\xFF\xFF\xFF\xFF\xFF\0\0\0\0\0\0\0";
+
+const DOWN_REPORT: &[u8] =
+    b"trap report\npage 1 12 255 plates 2\nzone 0 samples 12 changed 2\nedges 1\nplate Cyan changed 1\nplate Magenta changed 1\nend\n";
 
 // How many trays and racks there are.
 const DEVICES: usize = 16;

@@ -1,10 +1,14 @@
-use super::{Case, Fault, WIDE, case_of, run};
+use super::{
+    BOTH_CYAN_DOWN, BOTH_MAGENTA_DOWN, CYAN_DOWN, Case, DOWN_REPORT, Fault, MAGENTA_DOWN, NARROW,
+    Pieces, WIDE, case_of, run,
+};
+use bare_sheets::budget::Budget;
 use outside::mem_rack::MemRack;
 use std::alloc::{AllocError, Global};
 use std::process::Abort;
 use std::test::Fail;
 use std::thread::Threads;
-use test_files::{CYAN, DISABLED, MAGENTA, UNTRAPPED_REPORT};
+use test_files::{CYAN, DISABLED, INKS, MAGENTA, UNTRAPPED_REPORT, WIDE as SPREAD};
 
 // The lines of a read that fails, by the tray, in the order of its calls.
 const READS: &[&[&str]] = &[
@@ -18,8 +22,42 @@ const WRITES: &[&[&str]] = &[
     &["write fault: plate 1\n"],
 ];
 
+// With a worker beside the caller, strips are trapped while others are read and written.
+const TWO_WORKERS: &str = "2 job report Cyan:in0:out0 Magenta:in1:out1";
+
 // More calls than a device gets.
-const CALLS: u64 = 40;
+const CALLS: u64 = 64;
+
+// A sheet whose devices fail: its job and plates, how it is cut, and the three files that it makes.
+#[derive(Clone, Copy)]
+struct Tried<'a> {
+    job: Pieces<'a>,
+    plates: &'a [Pieces<'a>],
+    windows: Budget,
+    out0: &'a [u8],
+    out1: &'a [u8],
+    report: &'a [u8],
+}
+
+// In one window, with nothing to trap; and in several strips, of which some are written while others are read.
+const TRIED: &[Tried<'static>] = &[
+    Tried {
+        job: &[DISABLED],
+        plates: &[&[CYAN], &[MAGENTA]],
+        windows: WIDE,
+        out0: CYAN,
+        out1: MAGENTA,
+        report: UNTRAPPED_REPORT,
+    },
+    Tried {
+        job: &[INKS, SPREAD],
+        plates: &[&[CYAN_DOWN], &[MAGENTA_DOWN]],
+        windows: NARROW,
+        out0: BOTH_CYAN_DOWN,
+        out1: BOTH_MAGENTA_DOWN,
+        report: DOWN_REPORT,
+    },
+];
 
 // How a run ended: with one of these lines, or done.
 #[derive(Clone, Copy, PartialEq, Eq)]
@@ -28,10 +66,14 @@ enum End {
     Done,
 }
 
-fn case_with(tray_fails: Option<Fault>, rack_fails: Option<Fault>) -> Case<'static> {
-    let usual = case_of(&[DISABLED], &[&[CYAN], &[MAGENTA]], WIDE);
+fn case_with<'a>(
+    tried: Tried<'a>,
+    tray_fails: Option<Fault>,
+    rack_fails: Option<Fault>,
+) -> Case<'a> {
+    let usual = case_of(tried.job, tried.plates, tried.windows);
     Case {
-        words: usual.words,
+        words: TWO_WORKERS,
         job: usual.job,
         plates: usual.plates,
         windows: usual.windows,
@@ -42,12 +84,12 @@ fn case_with(tray_fails: Option<Fault>, rack_fails: Option<Fault>) -> Case<'stat
 }
 
 // How many of the three files stand there whole; `None` where one of them has other bytes than a prefix of its own.
-fn whole_of(racks: &[MemRack]) -> Option<usize> {
+fn whole_of(tried: Tried<'_>, racks: &[MemRack]) -> Option<usize> {
     let mut count = 0usize;
     for (rack, name, wanted) in [
-        (0, "out0", CYAN),
-        (1, "out1", MAGENTA),
-        (0, "report", UNTRAPPED_REPORT),
+        (0, "out0", tried.out0),
+        (1, "out1", tried.out1),
+        (0, "report", tried.report),
     ] {
         if let Some(bytes) = racks.get(rack)?.file(name) {
             if !wanted.starts_with(bytes) {
@@ -79,17 +121,17 @@ fn line_of(lines: &[&str], racks: &[MemRack]) -> Option<usize> {
     lines.iter().position(|line| line.as_bytes() == told)
 }
 
-fn is_done(status: u8, racks: &[MemRack]) -> bool {
-    status == 0 && whole_of(racks) == Some(3) && files_on(racks) == 3
+fn is_done(tried: Tried<'_>, status: u8, racks: &[MemRack]) -> bool {
+    status == 0 && whole_of(tried, racks) == Some(3) && files_on(racks) == 3
 }
 
 // How a run ended where a read fails: each file is then a prefix, or not there.
-fn read_end(lines: &[&str], status: u8, racks: &[MemRack]) -> Option<End> {
-    if is_done(status, racks) {
+fn read_end(tried: Tried<'_>, lines: &[&str], status: u8, racks: &[MemRack]) -> Option<End> {
+    if is_done(tried, status, racks) {
         return Some(End::Done);
     }
     let line = line_of(lines, racks)?;
-    let _whole = whole_of(racks)?;
+    let _whole = whole_of(tried, racks)?;
     if status == 5 {
         Some(End::Line(line))
     } else {
@@ -98,12 +140,12 @@ fn read_end(lines: &[&str], status: u8, racks: &[MemRack]) -> Option<End> {
 }
 
 // How a run ended where a write fails: each file is then whole, a prefix, or not there.
-fn write_end(lines: &[&str], status: u8, racks: &[MemRack]) -> Option<End> {
-    if is_done(status, racks) {
+fn write_end(tried: Tried<'_>, lines: &[&str], status: u8, racks: &[MemRack]) -> Option<End> {
+    if is_done(tried, status, racks) {
         return Some(End::Done);
     }
     let line = line_of(lines, racks)?;
-    let _whole = whole_of(racks)?;
+    let _whole = whole_of(tried, racks)?;
     if status == 6 {
         Some(End::Line(line))
     } else {
@@ -111,32 +153,34 @@ fn write_end(lines: &[&str], status: u8, racks: &[MemRack]) -> Option<End> {
     }
 }
 
-fn read_ended(lines: &[&str], status: u8, racks: Vec<MemRack>) -> Option<End> {
-    read_end(lines, status, racks.as_slice())
+fn read_ended(tried: Tried<'_>, lines: &[&str], status: u8, racks: Vec<MemRack>) -> Option<End> {
+    read_end(tried, lines, status, racks.as_slice())
 }
 
-fn write_ended(lines: &[&str], status: u8, racks: Vec<MemRack>) -> Option<End> {
-    write_end(lines, status, racks.as_slice())
+fn write_ended(tried: Tried<'_>, lines: &[&str], status: u8, racks: Vec<MemRack>) -> Option<End> {
+    write_end(tried, lines, status, racks.as_slice())
 }
 
 fn end_of_read(
     rt: &(impl Abort + Threads + Sync),
     alloc: Global,
+    tried: Tried<'_>,
     lines: &[&str],
     fault: Fault,
 ) -> Result<Option<End>, AllocError> {
-    let (status, racks) = run(rt, alloc, case_with(Some(fault), None))?;
-    Ok(read_ended(lines, status, racks))
+    let (status, racks) = run(rt, alloc, case_with(tried, Some(fault), None))?;
+    Ok(read_ended(tried, lines, status, racks))
 }
 
 fn end_of_write(
     rt: &(impl Abort + Threads + Sync),
     alloc: Global,
+    tried: Tried<'_>,
     lines: &[&str],
     fault: Fault,
 ) -> Result<Option<End>, AllocError> {
-    let (status, racks) = run(rt, alloc, case_with(None, Some(fault)))?;
-    Ok(write_ended(lines, status, racks))
+    let (status, racks) = run(rt, alloc, case_with(tried, None, Some(fault)))?;
+    Ok(write_ended(tried, lines, status, racks))
 }
 
 // Whether an end may follow another one, by the next call: the same line, the next one, or done.
@@ -154,38 +198,66 @@ fn line_or(end: End, before: usize) -> usize {
     }
 }
 
+// Fails each call of a device in turn, and looks at how the run ends.
+fn try_each_read(
+    rt: &(impl Abort + Threads + Sync),
+    alloc: Global,
+    tried: Tried<'_>,
+    device: usize,
+    lines: &[&str],
+) -> Result<(), Fail> {
+    let mut line = 0;
+    let mut done = false;
+    for call in 0..CALLS {
+        let end = end_of_read(rt, alloc, tried, lines, Fault { device, call })?;
+        let end = end.ok_or("another end")?;
+        assert!(rt; line <= 16);
+        assert!(rt; may_follow(lines, line, end), "{device} {call}");
+        line = line_or(end, line);
+        done = end == End::Done;
+    }
+    assert!(rt; done);
+    Ok(())
+}
+
 #[test]
 fn each_read_fails_in_turn(rt: HostRuntime) -> Result<(), Fail> {
-    for (device, lines) in READS.iter().enumerate() {
-        let mut line = 0;
-        let mut done = false;
-        for call in 0..CALLS {
-            let end = end_of_read(&rt, rt.alloc(), lines, Fault { device, call })?;
-            let end = end.ok_or("another end")?;
-            assert!(rt; line <= 16);
-            assert!(rt; may_follow(lines, line, end), "{device} {call}");
-            line = line_or(end, line);
-            done = end == End::Done;
+    for tried in TRIED {
+        for (device, lines) in READS.iter().enumerate() {
+            try_each_read(&rt, rt.alloc(), *tried, device, lines)?;
         }
-        assert!(rt; done);
     }
+    Ok(())
+}
+
+// Fails each call of a device in turn, and looks at how the run ends.
+fn try_each_write(
+    rt: &(impl Abort + Threads + Sync),
+    alloc: Global,
+    tried: Tried<'_>,
+    device: usize,
+    lines: &[&str],
+) -> Result<(), Fail> {
+    let mut line = 0;
+    let mut done = false;
+    for call in 0..CALLS {
+        let end = end_of_write(rt, alloc, tried, lines, Fault { device, call })?;
+        let end = end.ok_or("another end")?;
+        assert!(rt; line <= 16);
+        assert!(rt; may_follow(lines, line, end), "{device} {call}");
+        line = line_or(end, line);
+        done = end == End::Done;
+    }
+    assert!(rt; done);
     Ok(())
 }
 
 #[test]
 fn each_write_fails_in_turn(rt: HostRuntime) -> Result<(), Fail> {
-    for (device, lines) in WRITES.iter().enumerate() {
-        let mut line = 0;
-        let mut done = false;
-        for call in 0..CALLS {
-            let end = end_of_write(&rt, rt.alloc(), lines, Fault { device, call })?;
-            let end = end.ok_or("another end")?;
-            assert!(rt; line <= 16);
-            assert!(rt; may_follow(lines, line, end), "{device} {call}");
-            line = line_or(end, line);
-            done = end == End::Done;
+    for tried in TRIED {
+        for (device, lines) in WRITES.iter().enumerate() {
+            try_each_write(&rt, rt.alloc(), *tried, device, lines)?;
         }
-        assert!(rt; done);
     }
     Ok(())
 }

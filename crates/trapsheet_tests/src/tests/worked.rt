@@ -1,4 +1,7 @@
-use super::{NARROW, Pieces, WIDE, Wanted, case_of, ends};
+use super::{
+    BOTH_CYAN_DOWN, BOTH_MAGENTA_DOWN, CYAN_DOWN, DOWN_REPORT, MAGENTA_DOWN, NARROW, Pieces, WIDE,
+    Wanted, case_of, ends,
+};
 use bare_sheets::budget::Budget;
 use std::test::Fail;
 use test_files::{
@@ -67,18 +70,6 @@ fn the_workers_change_nothing(rt: HostRuntime) -> Result<(), Fail> {
     }
     Ok(())
 }
-
-// A column of twelve samples, cut into several strips: the same edge, from above to below.
-const CYAN_DOWN: &[u8] = b"P5\n1 12\n255\n\0\0\0\0\0\0\xFF\xFF\xFF\xFF\xFF\xFF";
-
-const MAGENTA_DOWN: &[u8] = b"P5\n1 12\n255\n\xFF\xFF\xFF\xFF\xFF\xFF\0\0\0\0\0\0";
-
-const BOTH_CYAN_DOWN: &[u8] = b"P5\n1 12\n255\n\0\0\0\0\0\0\0\xFF\xFF\xFF\xFF\xFF";
-
-const BOTH_MAGENTA_DOWN: &[u8] = b"P5\n1 12\n255\n\xFF\xFF\xFF\xFF\xFF\0\0\0\0\0\0\0";
-
-const DOWN_REPORT: &[u8] =
-    b"trap report\npage 1 12 255 plates 2\nzone 0 samples 12 changed 2\nedges 1\nplate Cyan changed 1\nplate Magenta changed 1\nend\n";
 
 #[test]
 fn strips_make_the_sheet(rt: HostRuntime) -> Result<(), Fail> {
