@@ -481,7 +481,7 @@ try_traps() {
     mkdir ../sheets && ln -s "$sheets" "$TRAP_BIN"/* ../sheets/
     goes env TRAP_BIN="$PWD/../sheets" "$here/all" --quiet wide.pdf sheet
     grep -q '^page 16667 17 255 plates 1$' sheet/page-001/trapped/report && rm -r sheet || wrong "traps: trapsheet"
-    goes env TRAP_BIN="$PWD/../sheets" "$here/all" --check 1 wide.pdf sheet
+    goes env TRAP_BIN="$PWD/../sheets" "$here/all" --quiet --check 1 wide.pdf sheet
     grep -q 'presscheck takes no page of this size: not checked' ../line && [ -s sheet/page-001/trapped/report ] && rm -r sheet ||
       wrong "traps: a sheet that is to be checked: $(cat ../line)"
   else

@@ -1,5 +1,5 @@
 -- What a sheet is streamed by, and through.
-use Rattle.std.specs.Prelude.{◌≡◌, ◌*◌, ◌<◌, ◌≤◌, ◌^◌, length, map, None}
+use Rattle.std.specs.Prelude.{◌≡◌, ◌*◌, ◌<◌, ◌≤◌, ◌^◌, List, length, map, None}
 use Rattle.bare_sheets.specs.Bare.{IsBareSheet, bare_sheet}
 use Rattle.page_model.specs.declared.parts.PageParts.{PageParts}
 use Rattle.page_model.specs.Page.{height, maxval, plates, width}
@@ -60,3 +60,9 @@ pub record CanBeCut (strip : PageParts) (cut : StripCut) : Type 0 where
   pub rulers : AreRulers strip cut.across cut.down
   pub small : AreSmall strip cut.across cut.down
   pub row : IsSomeSpan cut.down cut.row
+
+-- Room for the windows of these columns, in strips like this one.
+pub record IsRoomFor (strip : PageParts) (row : Span) (columns : List Span) (room : StripRoom)
+    : Type 0 where
+  pub columns_are : columns_in room ≡ columns
+  pub windows : IsStripRoom (form_of strip) row.wide room

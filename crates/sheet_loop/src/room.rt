@@ -4,13 +4,11 @@ ghost use Rattle.std.specs.Prelude.{◌≡◌, ◌*◌, ◌<◌, ◌≤◌, ◌^
 ghost use Rattle.bare_sheets.specs.Bare.{IsBareSheet};
 ghost use Rattle.page_model.specs.Page.{plates, width};
 ghost use Rattle.sheet_loop.specs.Going.{IsNextRow, not_begun};
-ghost use Rattle.sheet_loop.specs.Rooms.{CanBeCut, CanStream, IsBlankStrip, IsStreamRoom};
+ghost use Rattle.sheet_loop.specs.Rooms.{CanBeCut, CanStream, IsBlankStrip, IsRoomFor, IsStreamRoom};
 ghost use Rattle.sheet_windows.specs.Spans.{AreSpans, IsRuler};
 ghost use Rattle.strip_rows.specs.OnSheet.{strip_cut};
-ghost use Rattle.strip_tiles.specs.Rooms.{IsStripRoom, columns_in};
 ghost use Rattle.strip_tiles.specs.Strips.{IsSomeSpan};
 ghost use Rattle.strip_tiles.specs.Works.{AreNone};
-ghost use Rattle.window_pages.specs.Forms.{form_of};
 ghost use Rattle.window_pages.specs.Sheets.{IsCuttable};
 
 use crate::rows::{Progress, next_row};
@@ -85,19 +83,83 @@ fn room_of(
     ensures counts { IfOk result (λ room. AreNone bare.now room.counts) }
 {
     let sheet = Sheet::of(strip);
-    let windows = windows_of(alloc, plan, row, columns, &sheet)?;
-    let others = windows_of(alloc, plan, row, columns, &sheet)?;
-    let counts = no_sheet_counts(alloc, &sheet)?;
-    let core = core_room(alloc, bare, others)?;
+    match means_of(alloc, bare, plan, row, columns, &sheet) {
+        Ok(means) => Ok(StreamRoom {
+            strip: sheet,
+            ahead,
+            windows: means.windows,
+            core: means.core,
+            counts: means.counts,
+            pieces: means.pieces,
+        }),
+        Err(OutOfMemory) => Err(OutOfMemory),
+    }
+}
+
+// What strips are trapped, counted and read through.
+#[derive(Drop)]
+struct Means {
+    windows: StripRoom,
+    core: CoreRoom,
+    counts: SheetCounts,
+    pieces: Vec<u8>,
+}
+
+// All that a strip of these rows wants beside itself. What is small is taken first, so that little has to be let go where memory
+// runs out.
+fn means_of(
+    alloc: Global,
+    bare: &PageParts,
+    plan: &StripPlan,
+    row: &Span,
+    columns: &[Span],
+    strip: &Sheet,
+) -> Result<Means, OutOfMemory>
+    requires bare { IsBareSheet bare.now }
+    requires narrow { width bare.now < 2 ^ 30 }
+    requires columns { All (IsSomeSpan plan.now.across) columns.now }
+    requires cut { CanBeCut strip.now (strip_cut plan.now.across plan.now.down row.now) }
+    ensures one { IfOk result (λ means. IsRoomFor strip.now row.now columns.now means.windows) }
+    ensures other { IfOk result (λ means. IsRoomFor strip.now row.now columns.now means.core.windows) }
+    ensures line { IfOk result (λ means. plates bare.now * width bare.now
+        ≤ length means.core.line.items) }
+    ensures bytes { IfOk result (λ means. 2 ≤ length means.core.bytes.items) }
+    ensures pieces { IfOk result (λ means. 2 ≤ length means.pieces.items) }
+    ensures counts { IfOk result (λ means. AreNone strip.now means.counts) }
+{
     let pieces = filled(alloc, 0u8, PIECE)?;
-    Ok(StreamRoom {
-        strip: sheet,
-        ahead,
+    let counts = no_sheet_counts(alloc, strip)?;
+    let core = second_room(alloc, bare, plan, row, columns, strip)?;
+    let windows = windows_of(alloc, plan, row, columns, strip)?;
+    Ok(Means {
         windows,
         core,
         counts,
         pieces,
     })
+}
+
+// The second room for the windows of a strip of these rows, with room to write its core through.
+fn second_room(
+    alloc: Global,
+    bare: &PageParts,
+    plan: &StripPlan,
+    row: &Span,
+    columns: &[Span],
+    strip: &Sheet,
+) -> Result<CoreRoom, OutOfMemory>
+    requires bare { IsBareSheet bare.now }
+    requires narrow { width bare.now < 2 ^ 30 }
+    requires columns { All (IsSomeSpan plan.now.across) columns.now }
+    requires cut { CanBeCut strip.now (strip_cut plan.now.across plan.now.down row.now) }
+    ensures windows { IfOk result (λ core. IsRoomFor strip.now row.now columns.now core.windows) }
+    ensures line { IfOk result (λ core. plates bare.now * width bare.now ≤ length core.line.items) }
+    ensures bytes { IfOk result (λ core. 2 ≤ length core.bytes.items) }
+{
+    match windows_of(alloc, plan, row, columns, strip) {
+        Ok(windows) => core_room(alloc, bare, windows),
+        Err(OutOfMemory) => Err(OutOfMemory),
+    }
 }
 
 // The room for the windows of a strip of these rows.
@@ -110,8 +172,7 @@ fn windows_of(
 ) -> Result<StripRoom, OutOfMemory>
     requires columns { All (IsSomeSpan plan.now.across) columns.now }
     requires cut { CanBeCut strip.now (strip_cut plan.now.across plan.now.down row.now) }
-    ensures columns { IfOk result (λ room. columns_in room ≡ columns.now) }
-    ensures room { IfOk result (IsStripRoom (form_of strip.now) row.now.wide) }
+    ensures { IfOk result (IsRoomFor strip.now row.now columns.now) }
 {
     let cut = cut_of(plan, row);
     StripRoom::new(alloc, strip, &cut.across, &cut.down, columns, &cut.row)
