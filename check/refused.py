@@ -45,6 +45,9 @@ SHOP = {
     "job": b"%!PS\n" + job("/TrapWidth 0.25 /BlackWidth 2 /ColorantZoneDetails << /Cyan << /StepLimit .2 >> >>", 600, "/Trapping true ",
                            BOX % ("0", "0") + "<< /Enabled false >> settrapparams " + BOX % ("1.08", "1.08") + "showpage"),
 }
+# A sheet of three strips, and one that is no page's windows: its resolution has no step that a window could lie at.
+STRIPS = {"Cyan": plate(2, 600, "00FF"), "Magenta": plate(2, 600, "FF00"), "job": job("/TrapWidth 1")}
+UNCUT = {**PAIR, "job": job("/TrapWidth 0.02", 9973, end="0 0 moveto 1 0 lineto 1 1 lineto 0 1 lineto settrapzone showpage")}
 SET = b"trap set\npage 6 1 255 plates 2\nrun 0 2 2 255 255\nend\n"
 TWICE = {"job": PAIR["job"] + b" << /SlidingTrapLimit 1 >> settrapparams showpage",
          "Cyan": PAIR["Cyan"] * 2, "Magenta": PAIR["Magenta"] * 2}
@@ -69,7 +72,7 @@ CASES = {
     ],
     "traprun": [(["2", "1", "job", "report", *outs(TWICE)], TWICE)],
     "trappool": [(["2", "list"], {**PAIR, "list": b"job report Cyan:Cyan:c.out Magenta:Magenta:m.out\n"})],
-    "trapsheet": [(["2", "job", "report", *outs(SHOP)], SHOP)],
+    "trapsheet": [(["2", "job", "report", *outs(files)], files) for files in (SHOP, STRIPS, UNCUT)],
 }
 
 

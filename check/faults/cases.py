@@ -1,7 +1,7 @@
 """The runs that faults are tried on: small pages, what stands there before, and what is told where a call fails."""
 from collections import namedtuple
 
-from refused import PAIR, SET, TWICE, ZONES, job, plate
+from refused import PAIR, SET, STRIPS, TWICE, ZONES, job, plate
 
 OLD = b"what stood here before\n"
 
@@ -56,6 +56,8 @@ RUN = run_case()
 POOL = pool_case()
 # By one worker: more of them read the plates side by side, and a call has another number in each run.
 SHEET = case("trapsheet", ["1", *PAGE[1:]], PAIR, ["c.out", "m.out", "report"], ["c.out", "report"], together=("c.out", "m.out"))
+# The same of three strips: calls fail while some rows are written and others not.
+HIGH = case("trapsheet", ["1", *PAGE[1:]], STRIPS, ["c.out", "m.out", "report"], ["m.out"], together=("c.out", "m.out"))
 
 # These write files in ways that a place on the disk can stand in the way of.
 WRITING = [TRAP, TRAPS, APPLY, RUN, POOL, SHEET]
@@ -74,6 +76,7 @@ CASES = [
     case("presscheck", ["1", "job", "Cyan:Cyan", "Magenta:Magenta"], PAIR, []),
     POOL,
     SHEET,
+    HIGH,
 ]
 
 # The same page by another job, and another set, for two runs into the same names.
