@@ -27,7 +27,7 @@ SMALL_SAMPLES, SMALL_DPI, LEAST_DPI = 500_000, 72, 10
 MOST_PAGES, LEAST_LOOK = 999_999, 60
 # What a page takes, as measured on pages of a label and of A4 (docs/FARM.md): seconds of a processor from PDF to proof, for a
 # page and for a sample; bytes a sample in trap's table; and of trapsheet bytes for each sample of a strip.
-SECONDS_A_PAGE, SECONDS_A_SAMPLE, TABLE_BYTES, STRIP_BYTES = 2.5, 1e-7, 12, 13
+SECONDS_A_PAGE, SECONDS_A_SAMPLE, TABLE_BYTES, STRIP_BYTES = 2.5, 1e-7, 12, 15
 # From which tint on a sample has ink, and below which it has none, where one ink knocks out others: full ink is 0.
 MUCH, LITTLE = 127, 250
 KNOCK_OUT_SAMPLES = 3
