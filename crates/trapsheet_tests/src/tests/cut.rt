@@ -1,4 +1,4 @@
-// Pages by chance, cut into windows of a few samples: whatever the cut, the files are those of the page in one window.
+// Random pages, cut into windows of a few samples: whatever the cut, the files are those of the page in one window.
 
 use super::{NARROW, Pieces, WIDE, case_of, run};
 use bare_sheets::budget::Budget;
@@ -45,7 +45,7 @@ const CUTS: &[Budget] = &[
     },
 ];
 
-// The next byte by chance: one of four tints, or mostly the byte before.
+// The next random byte: one of four tints, or mostly the byte before.
 fn next_byte(dice: &mut u64, last: u8) -> u8 {
     *dice = dice
         .wrapping_mul(6_364_136_223_846_793_005)
@@ -59,7 +59,7 @@ fn next_byte(dice: &mut u64, last: u8) -> u8 {
     }
 }
 
-// A plate's file: this header, and so many bytes by chance.
+// A plate's file: this header, and `count` random bytes.
 fn plate_of(
     alloc: Global,
     header: &[u8],
@@ -117,7 +117,7 @@ fn is_cut_well(
     Ok(are_alike(cut, whole, first) && status == 0 && whole_status == 0)
 }
 
-// The same of a page by chance.
+// The same of a random page.
 fn some_page_is_cut_well(
     rt: &(impl Abort + Threads + Sync),
     alloc: Global,

@@ -66,12 +66,19 @@ enum End {
     Done,
 }
 
-fn case_with<'a>(
-    tried: Tried<'a>,
-    tray_fails: Option<Fault>,
-    rack_fails: Option<Fault>,
-) -> Case<'a> {
+// Which calls fail: those of a tray, or those of a rack.
+#[derive(Clone, Copy)]
+enum Failing {
+    Reads,
+    Writes,
+}
+
+fn case_with<'a>(tried: Tried<'a>, failing: Failing, fault: Fault) -> Case<'a> {
     let usual = case_of(tried.job, tried.plates, tried.windows);
+    let (tray_fails, rack_fails) = match failing {
+        Failing::Reads => (Some(fault), None),
+        Failing::Writes => (None, Some(fault)),
+    };
     Case {
         words: TWO_WORKERS,
         job: usual.job,
@@ -80,6 +87,13 @@ fn case_with<'a>(
         grain: usual.grain,
         tray_fails,
         rack_fails,
+    }
+}
+
+fn status_of(failing: Failing) -> u8 {
+    match failing {
+        Failing::Reads => 5,
+        Failing::Writes => 6,
     }
 }
 
@@ -125,62 +139,46 @@ fn is_done(tried: Tried<'_>, status: u8, racks: &[MemRack]) -> bool {
     status == 0 && whole_of(tried, racks) == Some(3) && files_on(racks) == 3
 }
 
-// How a run ended where a read fails: each file is then a prefix, or not there.
-fn read_end(tried: Tried<'_>, lines: &[&str], status: u8, racks: &[MemRack]) -> Option<End> {
+// How a run ended where a call fails: each file is then whole, a prefix, or not there.
+fn end_by(
+    tried: Tried<'_>,
+    failing: Failing,
+    lines: &[&str],
+    status: u8,
+    racks: &[MemRack],
+) -> Option<End> {
     if is_done(tried, status, racks) {
         return Some(End::Done);
     }
     let line = line_of(lines, racks)?;
     let _whole = whole_of(tried, racks)?;
-    if status == 5 {
+    if status == status_of(failing) {
         Some(End::Line(line))
     } else {
         None
     }
 }
 
-// How a run ended where a write fails: each file is then whole, a prefix, or not there.
-fn write_end(tried: Tried<'_>, lines: &[&str], status: u8, racks: &[MemRack]) -> Option<End> {
-    if is_done(tried, status, racks) {
-        return Some(End::Done);
-    }
-    let line = line_of(lines, racks)?;
-    let _whole = whole_of(tried, racks)?;
-    if status == 6 {
-        Some(End::Line(line))
-    } else {
-        None
-    }
+fn end_among(
+    tried: Tried<'_>,
+    failing: Failing,
+    lines: &[&str],
+    status: u8,
+    racks: Vec<MemRack>,
+) -> Option<End> {
+    end_by(tried, failing, lines, status, racks.as_slice())
 }
 
-fn read_ended(tried: Tried<'_>, lines: &[&str], status: u8, racks: Vec<MemRack>) -> Option<End> {
-    read_end(tried, lines, status, racks.as_slice())
-}
-
-fn write_ended(tried: Tried<'_>, lines: &[&str], status: u8, racks: Vec<MemRack>) -> Option<End> {
-    write_end(tried, lines, status, racks.as_slice())
-}
-
-fn end_of_read(
+fn end_of(
     rt: &(impl Abort + Threads + Sync),
     alloc: Global,
     tried: Tried<'_>,
+    failing: Failing,
     lines: &[&str],
     fault: Fault,
 ) -> Result<Option<End>, AllocError> {
-    let (status, racks) = run(rt, alloc, case_with(tried, Some(fault), None))?;
-    Ok(read_ended(tried, lines, status, racks))
-}
-
-fn end_of_write(
-    rt: &(impl Abort + Threads + Sync),
-    alloc: Global,
-    tried: Tried<'_>,
-    lines: &[&str],
-    fault: Fault,
-) -> Result<Option<End>, AllocError> {
-    let (status, racks) = run(rt, alloc, case_with(tried, None, Some(fault)))?;
-    Ok(write_ended(tried, lines, status, racks))
+    let (status, racks) = run(rt, alloc, case_with(tried, failing, fault))?;
+    Ok(end_among(tried, failing, lines, status, racks))
 }
 
 // Whether an end may follow another one, by the next call: the same line, the next one, or done.
@@ -199,17 +197,18 @@ fn line_or(end: End, before: usize) -> usize {
 }
 
 // Fails each call of a device in turn, and looks at how the run ends.
-fn try_each_read(
+fn try_each(
     rt: &(impl Abort + Threads + Sync),
     alloc: Global,
     tried: Tried<'_>,
+    failing: Failing,
     device: usize,
     lines: &[&str],
 ) -> Result<(), Fail> {
     let mut line = 0;
     let mut done = false;
     for call in 0..CALLS {
-        let end = end_of_read(rt, alloc, tried, lines, Fault { device, call })?;
+        let end = end_of(rt, alloc, tried, failing, lines, Fault { device, call })?;
         let end = end.ok_or("another end")?;
         assert!(rt; line <= 16);
         assert!(rt; may_follow(lines, line, end), "{device} {call}");
@@ -224,31 +223,9 @@ fn try_each_read(
 fn each_read_fails_in_turn(rt: HostRuntime) -> Result<(), Fail> {
     for tried in TRIED {
         for (device, lines) in READS.iter().enumerate() {
-            try_each_read(&rt, rt.alloc(), *tried, device, lines)?;
+            try_each(&rt, rt.alloc(), *tried, Failing::Reads, device, lines)?;
         }
     }
-    Ok(())
-}
-
-// Fails each call of a device in turn, and looks at how the run ends.
-fn try_each_write(
-    rt: &(impl Abort + Threads + Sync),
-    alloc: Global,
-    tried: Tried<'_>,
-    device: usize,
-    lines: &[&str],
-) -> Result<(), Fail> {
-    let mut line = 0;
-    let mut done = false;
-    for call in 0..CALLS {
-        let end = end_of_write(rt, alloc, tried, lines, Fault { device, call })?;
-        let end = end.ok_or("another end")?;
-        assert!(rt; line <= 16);
-        assert!(rt; may_follow(lines, line, end), "{device} {call}");
-        line = line_or(end, line);
-        done = end == End::Done;
-    }
-    assert!(rt; done);
     Ok(())
 }
 
@@ -256,7 +233,7 @@ fn try_each_write(
 fn each_write_fails_in_turn(rt: HostRuntime) -> Result<(), Fail> {
     for tried in TRIED {
         for (device, lines) in WRITES.iter().enumerate() {
-            try_each_write(&rt, rt.alloc(), *tried, device, lines)?;
+            try_each(&rt, rt.alloc(), *tried, Failing::Writes, device, lines)?;
         }
     }
     Ok(())
