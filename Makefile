@@ -5,7 +5,7 @@
 #   make uninstall PREFIX=/usr/local
 #   make library                     the engine as a library, in library/out; make install then puts it into place too
 #   make deb                         Debian packages of the same, in out/: trap, and libtrap-dev where the library is built
-#   make lint                        the manual pages by mandoc, the shell's scripts by shellcheck where it is there
+#   make lint                        the manual pages by mandoc, what tools/pages makes, the shell's scripts by shellcheck where it is there
 #
 # A program comes in as soon as it is built, and a page of man/ as soon as it is there. With BIN=DIR the programs are taken from
 # that folder. In PREFIX/bin stands a script for each, which gives it large pages of memory (tools/installed).
@@ -65,7 +65,7 @@ install: built $(if $(LIBRARY),install-library install-headers)
 	install -m 644 $(PAGES1) $(DESTDIR)$(MAN)/man1
 	install -m 644 $(PAGES5) $(DESTDIR)$(MAN)/man5
 	install -m 644 $(COMPLETIONS) $(DESTDIR)$(COMPLETION)
-	install -m 644 README.md docs/JOBS.md docs/PRESS.md docs/FARM.md docs/LIBRARY.md CHANGELOG.md $(DESTDIR)$(DOC)
+	install -m 644 README.md docs/JOBS.md docs/STATUSES.md docs/PRESS.md docs/FARM.md docs/LIBRARY.md CHANGELOG.md $(DESTDIR)$(DOC)
 
 # The shared object, for programs that are linked with it.
 install-library:
@@ -108,4 +108,4 @@ lint:
 	if command -v pandoc >/dev/null; then tools/pages --check; fi
 	if command -v shellcheck >/dev/null; then \
 	  shellcheck -x -e SC2015 press/farm.sbatch press/slurm-here press/press press/*.sh press/lib/deb-control tools/prove tools/launch \
-	  tools/release tools/stamp tools/pages tools/installed tools/test-launch test library/build check/library.sh examples/library/run.sh; fi
+	  tools/release tools/stamp tools/installed tools/test-launch test library/build check/library.sh examples/library/run.sh; fi

@@ -2,19 +2,17 @@
 #SBATCH --job-name=press
 #SBATCH --ntasks=1
 #SBATCH --output=press-%A_%a.out
-# An array job for Slurm: each task does one page of a PDF by press/all.
+# Where a cluster has Slurm, "farm.sbatch" beside the press commands is an array job: each task does one page of a PDF by press/all.
 #
 #     sbatch --array=1-$(press/plates --count IN.pdf) press/farm.sbatch IN.pdf OUT [option of press/all ...]
 #
-# The proof sheet of all pages is made after them, by press/proof OUT. The commands are looked for in the folder that the
-# variable PRESS names; where it is not set, in the folder press of the one that sbatch was called in; or else the installed
-# command `press` is taken. IN.pdf, OUT and the commands must have the same paths on all nodes. A page that failed is done again
-# by its number: --array=3,17.
+# A page that failed is done again by its number, --array=3,17, and the proof sheet of all pages is made after them by press/proof.
+# The commands are looked for in the folder that the variable PRESS names; where it is not set, in the folder "press" of the one that
+# sbatch was called in; or else the installed command "press" is taken. IN.pdf, OUT and the commands must have the same paths on all
+# nodes.
 #
 # Where PRESS_LOCAL names a folder on the node's own disk, the page is made there, and put into OUT when it is done: with
 # --tiff-only its plates then never go over the network.
-#
-#     press/farm.sbatch --help
 
 set -u
 name=farm.sbatch

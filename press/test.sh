@@ -288,10 +288,12 @@ try_pages() {
     [ ${#named[@]} -gt 0 ] || wrong "pages: $page names no other page"
     grep -oE -- '--[a-z][a-z-]*[a-z]' ../told | grep -vxE -- '--(help|version|sshlogin)' | sort -u >../options || true
     while read -r option; do
-      cat "$top/man/$page.1" "${named[@]}" | grep -qE -- "(^|[^a-z-])-{1,2}${option#--}([^a-z-]|$)" || wrong "pages: $page has no $option"
+      cat "$top/man/$page.1" "${named[@]}" | sed 's/\\-/-/g' | grep -qE -- "(^|[^a-z-])-{1,2}${option#--}([^a-z-]|$)" ||
+        wrong "pages: $page has no $option"
     done <../options
     tried=$((tried + 1))
   done
+  if there pandoc; then "$top/tools/pages" --check || wrong "pages: tools/pages --check"; else skip "tools/pages --check" pandoc; fi
   if ! there mandoc; then skip "manual pages" mandoc; return; fi
   (cd "$top/man" && ! mandoc -Tlint ./*.[15] 2>/dev/null | grep -v 'referenced manual not found\|operating system explicitly specified') || wrong "manual pages"
   tried=$((tried + 1))
@@ -453,6 +455,8 @@ try_traps() {
   local name
   if [ "$built" = no ]; then skip traps "the program trap"; return; fi
   for name in two gray blank odd; do
+    # Where this part runs alone, no other has made its plates.
+    [ -d "$name" ] || goes "$here/plates" "$name.pdf" "$name"
     goes "$here/trap" "$name"
     goes "$here/tiff" "$name" "$name/tiff"
     grep -q '^end$' "$name/trapped/report" || wrong "$name: no report"

@@ -21,9 +21,10 @@ from collections import namedtuple
 
 # The statuses, one for each kind of refusal. They stand in press(1) and in each command's --help.
 PAGES_FAILED, USAGE, NO_TOOL, INPUT, PDF, NO_PLATES, PLATES, OUTPUT, PROGRAM, WARNED = 1, 2, 3, 4, 5, 6, 7, 8, 9, 10
+# Made of the statuses of docs/PRESS.md by tools/pages.
 STATUSES = """Status:
   0  done
-  1  some page failed; the others stand (all, farm)
+  1  some page failed; the others stand (press/all, press/farm)
   2  the words are no command: an unknown option, a word too few or too many
   3  a tool or a program is not there
   4  a file cannot be read
@@ -31,9 +32,10 @@ STATUSES = """Status:
   6  the folder has no plates
   7  the plates make no page: two sizes, too many colorants or samples
   8  an output cannot be written, stands in the way, or another run is at work there
-  9  a program of traps refuses the page or its job; its line is told
+  9  a program of traps refuses the page or its job; its line is printed
   10 the preflight warns of something, and --strict is given
 """
+# End of what is made.
 
 MOST_PLATES, LONGEST_SIDE, MOST_SAMPLES, LONGEST_NAME = 16, 16_384, 160_000_000, 64
 # The sides of a sheet, which the program trapsheet traps window by window.
