@@ -24,7 +24,7 @@ sys.path[:0] = [os.path.join(TOP, "python"), HERE]
 import trapping  # noqa: E402
 from maker import jobs, pictures  # noqa: E402
 from slow.pages import assemble, judged_job  # noqa: E402
-from slow.plates import Plate  # noqa: E402
+from slow.plates import LONGEST_SHEET_SIDE, LONGEST_SIDE, MOST_SAMPLES, Plate  # noqa: E402
 from slow.refusals import Refusal  # noqa: E402
 from slow.reports import report  # noqa: E402
 from slow.rule import rule_of  # noqa: E402
@@ -32,8 +32,6 @@ from trapping._library import Place, export  # noqa: E402
 
 GUARD = b"\xa5" * 64
 DELIMITERS = b"()<>[]{}/%"
-MOST_SIDE, MOST_SAMPLES = 16_384, 160_000_000
-MOST_SHEET_SIDE = 262_144
 MOST_COORDINATE = 10 ** 10  # a million points
 MOST = {"B": 255, "H": 65_535}
 
@@ -54,7 +52,7 @@ def unfit(call):
     names = call.names.split(b"\n")
     if not (len(names) <= 16 and all(map(is_name, names)) and len(set(names)) == len(names)):
         return "Names"
-    if not (1 <= call.width <= MOST_SIDE and 1 <= call.height <= MOST_SIDE and call.width * call.height <= MOST_SAMPLES):
+    if not (1 <= call.width <= LONGEST_SIDE and 1 <= call.height <= LONGEST_SIDE and call.width * call.height <= MOST_SAMPLES):
         return "Sides"
     if call.width > call.step:
         return "Step"
@@ -162,9 +160,9 @@ def spoiled(call, rng):
             b"", names + b"\n", b"\n" + names, names.replace(b"\n", b" "), names + b"\n" + names.split(b"\n")[0],
             b"\n".join(b"i%d" % k for k in range(17)), names + b"x" * 65, b"(x)"]))
     if kind == 2:
-        return call._replace(width=rng.choice([0, MOST_SIDE + 1, call.width + 1, 2 ** 32 - 1]))
+        return call._replace(width=rng.choice([0, LONGEST_SIDE + 1, call.width + 1, 2 ** 32 - 1]))
     if kind == 3:
-        return call._replace(height=rng.choice([0, MOST_SIDE + 1, call.height + 1, 2 ** 32 - 1]))
+        return call._replace(height=rng.choice([0, LONGEST_SIDE + 1, call.height + 1, 2 ** 32 - 1]))
     if kind == 4:
         return call._replace(maxval=rng.choice([0, 65535, 65536, 2 ** 32 - 1, most, most + 1]))
     if kind == 5:
@@ -199,8 +197,8 @@ def made(rng):
 
 def is_on_sheet(call, stands):
     """Whether a window lies on its sheet, and its core in the window."""
-    return (stands.left + call.width <= stands.sheet_width <= MOST_SHEET_SIDE
-            and stands.top + call.height <= stands.sheet_height <= MOST_SHEET_SIDE
+    return (stands.left + call.width <= stands.sheet_width <= LONGEST_SHEET_SIDE
+            and stands.top + call.height <= stands.sheet_height <= LONGEST_SHEET_SIDE
             and stands.core_left + stands.core_width <= call.width and stands.core_top + stands.core_height <= call.height)
 
 
@@ -323,7 +321,7 @@ def window_of(sheet, rng):
                           room=rng.choice([65536, 65536, 65536, 0, 1, 10, 40, rng.randrange(300)]))
     if 0.05 <= kind < 0.1:
         name = rng.choice(Stands._fields)
-        number = rng.choice([0, getattr(stands, name) + 1, max(0, getattr(stands, name) - 1), MOST_SHEET_SIDE + 1, 2 ** 32 - 1])
+        number = rng.choice([0, getattr(stands, name) + 1, max(0, getattr(stands, name) - 1), LONGEST_SHEET_SIDE + 1, 2 ** 32 - 1])
         stands = stands._replace(**{name: number})
     return (spoiled(call, rng) if 0.1 <= kind < 0.14 else call), stands
 

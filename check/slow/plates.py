@@ -16,7 +16,8 @@ GREATEST_MAXVAL = 65535
 
 # The limits of a plate: the samples of a side, and those of all.
 Limits = namedtuple("Limits", "side samples")
-PAGE, SHEET = Limits(LONGEST_SIDE, MOST_SAMPLES), Limits(262144, 262144 ** 2)
+LONGEST_SHEET_SIDE = 262144
+PAGE, SHEET = Limits(LONGEST_SIDE, MOST_SAMPLES), Limits(LONGEST_SHEET_SIDE, LONGEST_SHEET_SIDE ** 2)
 
 Plate = namedtuple("Plate", "width height maxval samples")
 

@@ -2,7 +2,7 @@
 from .entries import DEFAULTS, Ink
 from .jobs import Zone
 from .pages import Page, gather
-from .plates import MOST_SAMPLES
+from .plates import LONGEST_SIDE, MOST_SAMPLES
 from .refusals import page_refusal, usage
 from .reports import report
 from .rule import rule_of
@@ -11,7 +11,6 @@ from .writing import write_page
 
 USAGE = ("trap page [--workers N] [--band B] JOB REPORT NAME:IN:OUT ... | "
          "trap sample NUMBER WIDTH HEIGHT WORKERS")
-LONGEST_SIDE = 16384
 OPTIONS = {"--workers": 64, "--band": 4096}
 
 

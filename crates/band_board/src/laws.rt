@@ -8,38 +8,39 @@ ghost use Rattle.band_board.specs.Shapes.{Shape, IsShape};
 ghost use Rattle.band_board.specs.Stuck.{NeverStuck};
 ghost use Rattle.band_board.specs.TableWords.{AreWords, board_of, rewritten};
 
-/// Whatever the defined cells are, each event that may happen, with the defined value where it fills a cell, keeps a
-/// sound board sound.
+/// A board that is sound stays sound with each event that may happen, if each cell is filled with its defined value.
+/// This holds for all definitions of the cells.
 pub fn keeps_sound_law()
     ensures { (k : Shape) → IsShape k → (defined : ℕ → ℕ) → KeepsSound k defined }
 {}
 
-/// Where the recipe gives the defined value of each cell whose piece has its needs done, over every run each board is
+/// If the recipe gives the defined value of each cell whose piece has its needs done, then over every run each board is
 /// sound, no cell changes once it is filled, and no piece is claimed twice or done twice.
 pub fn run_law()
     ensures { (k : Shape) → IsShape k → (defined : ℕ → ℕ) (recipe : Board → ℕ → ℕ)
         → Halo k defined recipe → RunLaw k defined recipe }
 {}
 
-/// Where no piece is claimed and some piece is not done, some free piece has all its needs done.
+/// If no piece is claimed and some piece is not done, then some free piece has all its needs done: work can always go
+/// on.
 pub fn never_stuck_law()
     ensures { (k : Shape) → IsShape k → NeverStuck k }
 {}
 
-/// A table's words that are all 0 are the opening board.
+/// The words of a table that are all 0 are the opening board.
 pub fn opening_words_law()
     ensures { (k : Shape) → board_of k (replicate (k.pieces + k.cells) 0) ≡ opening k }
 {}
 
-/// An event is one change of one word: the words with that change are the board with the event's change.
+/// An event changes exactly one word: the words with that change are the board after the event.
 pub fn one_word_law()
     ensures { (k : Shape) (words : List ℕ) (event : Event)
         → length words ≡ k.pieces + k.cells → InRange k event
         → board_of k (rewritten k words event) ≡ changed (board_of k words) event }
 {}
 
-/// A change of a word that is an event which may happen, with the defined value where it fills a cell, keeps the
-/// words those of a sound board.
+/// If a change of a word is an event that may happen, and a cell is filled with its defined value, the words stay those
+/// of a sound board.
 pub fn sound_words_law()
     ensures words { (k : Shape) (words : List ℕ) (event : Event)
         → AreWords k words → InRange k event → AreWords k (rewritten k words event) }

@@ -1,5 +1,5 @@
-//! Boards of pieces of work: which pieces are free, claimed or done, what stands in their cells, and what events make
-//! of them, for any number of pieces, any cells and any needs. Nothing here knows of a page.
+//! Boards of pieces of work: which pieces are free, claimed or done, what is in their cells, and how events change
+//! that, for any number of pieces, any cells and any needs. Nothing here depends on a page.
 #![tactic(auto)]
 
 pub mod event;

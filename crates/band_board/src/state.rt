@@ -1,7 +1,7 @@
 ghost use Rattle.std.specs.Prelude.{◌≡◌};
 ghost use Rattle.band_board.specs.Boards.{state_free, state_claimed, state_done};
 
-/// How far a piece is.
+/// The state of a piece.
 #[derive(Clone, Copy, Drop)]
 pub enum State {
     Free,
@@ -10,7 +10,7 @@ pub enum State {
 }
 
 impl State {
-    /// Whether nobody has claimed the piece.
+    /// Whether the piece is free: no worker has claimed it.
     pub fn is_free(self) -> bool
         ensures { result ≡ state_free self }
     {

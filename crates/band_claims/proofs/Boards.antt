@@ -9,7 +9,7 @@ use Rattle.band_board.specs.TableWords.{state_of, board_of}
 use Rattle.band_board.specs.Runs.{Sound}
 use Rattle.band_board.proofs.Keeps.{sound_claim as board_claim, sound_done as board_done, sound_put as board_put}
 use Rattle.band_board.proofs.TableWords.{state_is, cell_is, piece_changed, cell_changed}
-use Rattle.band_claims.specs.declared.sheet.Sheet.{Sheet}
+use Rattle.band_claims.specs.declared.table_key.TableKey.{TableKey}
 use Rattle.band_claims.specs.declared.view.View.{View}
 use Rattle.band_claims.specs.Views.{one_if, is_hand, holds, Knows}
 use Rattle.band_claims.specs.Rule.{piece_word, cell_word}
@@ -113,7 +113,7 @@ module _ (k : Shape) (ok : IsShape k) (words : List ℕ) (wide : length words �
     pub some_cell : (j : ℕ) → j < k.cells → (cell_word k words j ≡ 0) ⊎ (cell_word k words j ≡ defined j)
     some_cell j m = subst (λ (z : ℕ). (z ≡ 0) ⊎ (z ≡ defined j)) (cell_is k words j m) (r.cells j m)
 
-  module _ (key : Sheet) where
+  module _ (key : TableKey) where
     hand_piece : (i n : ℕ) → i < k.pieces → (filled : ℕ) (h : Option ℕ) → MatchOption h (Unit {0}) (Holding k words filled) → is_hand i h ≡ 0 → MatchOption h (Unit {0}) (Holding k (after_piece i n) filled)
     hand_piece i n l filled None t out = tt
     hand_piece i n l filled (Some j) t out =

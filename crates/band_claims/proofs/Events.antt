@@ -11,7 +11,7 @@ use Rattle.band_board.specs.Runs.{Sound, ByDefinition, Halo, Step, IsRun, played
 use Rattle.band_board.specs.TableWords.{board_of, rewritten}
 use Rattle.band_board.proofs.Runs.{defined_fits}
 use Rattle.band_board.proofs.TableWords.{one_word, cell_is}
-use Rattle.band_claims.specs.declared.sheet.Sheet.{Sheet}
+use Rattle.band_claims.specs.declared.table_key.TableKey.{TableKey}
 use Rattle.band_claims.specs.declared.view.View.{View}
 use Rattle.band_claims.specs.Kinds.{Kind, looks, wins, loses, reads, puts, finishes, splits, joins, Happens, Leads, event_of, events_of, and_then}
 use Rattle.band_claims.specs.Rule.{piece_word}
@@ -33,7 +33,7 @@ abbrev pub Does : Shape → (ℕ → ℕ) → List ℕ → List ℕ → Option E
 Does k defined words next None = next ≡ words
 Does k defined words next (Some event) = IsEvent k defined words next event
 
-module _ (k : Shape) (ok : IsShape k) (defined : ℕ → ℕ) (some_value : (j : ℕ) → j < k.cells → 1 ≤ defined j) (key : Sheet) where
+module _ (k : Shape) (ok : IsShape k) (defined : ℕ → ℕ) (some_value : (j : ℕ) → j < k.cells → 1 ≤ defined j) (key : TableKey) where
   abbrev St : Type 0
   St = State (Unit {0}) View
 

@@ -5,9 +5,9 @@ use Rattle.std.proofs.lemmas.Bool.{cases_eq}
 use Rattle.std.proofs.lemmas.List.{length-append}
 use mathlib.Core.Option.{some, some-injective, some-ne-none}
 use lib.ListN.{get_elem?}
-use Rattle.atomic_table.specs.Table.{State, Me, Splits, Joins, opening}
+use Rattle.atomic_table.specs.Table.{State, Splits, Joins, opening}
 use Rattle.atomic_table.proofs.Lists.{at_set, at_snoc, set_else}
-use Rattle.band_claims.specs.declared.sheet.Sheet.{Sheet}
+use Rattle.band_claims.specs.declared.table_key.TableKey.{TableKey}
 use Rattle.band_claims.specs.declared.view.View.{View}
 use Rattle.band_board.specs.Shapes.{Shape, IsShape}
 use Rattle.band_board.specs.Boards.{state_free, state_done}
@@ -21,12 +21,9 @@ use Rattle.band_claims.proofs.Totals.{total_set, total_snoc, one_of, two_of, tim
 use Rattle.band_claims.proofs.ShareLemmas.{length-halved, whole_kept, whole_split, whole_joined}
 use Rattle.band_claims.proofs.Boards.{same_one, other_zero, sound_claim, sound_finish, sound_put, free_cell, done_cell, some_cell, states_piece, states_cell, word_state, sits_piece, sits_cell, known_piece, piece_here, piece_else, piece_stays, cell_stays, cell_here, cell_else}
 
-module _ (k : Shape) (ok : IsShape k) (defined : ℕ → ℕ) (some_value : (j : ℕ) → j < k.cells → 1 ≤ defined j) (key : Sheet) where
+module _ (k : Shape) (ok : IsShape k) (defined : ℕ → ℕ) (some_value : (j : ℕ) → j < k.cells → 1 ≤ defined j) (key : TableKey) where
   abbrev St : Type 0
   St = State (Unit {0}) View
-
-  abbrev M : Type 0
-  M = Me (Unit {0}) View
 
   abbrev Rule : St → Type 0
   Rule = Kept k defined key
@@ -84,8 +81,8 @@ module _ (k : Shape) (ok : IsShape k) (defined : ℕ → ℕ) (some_value : (j :
       → Rule record { words = s.words; homes = s.homes; views = set s.views id (claimed i n v) }
   after_loss s r id i n v at ne =
       let t = r.seats id v at in
-      let won : View = record { sheet = v.sheet; held = Some i; filled = 0; published = v.published; seen = v.seen; looked = []; told = v.told ++ look i 1 ∷ []; share = v.share } in
-      let lost : View = record { sheet = v.sheet; held = v.held; filled = v.filled; published = v.published; seen = v.seen; looked = v.looked ++ look i n ∷ []; told = v.told ++ look i n ∷ []; share = v.share } in
+      let won : View = record { table_key = v.table_key; held = Some i; filled = 0; published = v.published; seen = v.seen; looked = []; told = v.told ++ look i 1 ∷ []; share = v.share } in
+      let lost : View = record { table_key = v.table_key; held = v.held; filled = v.filled; published = v.published; seen = v.seen; looked = v.looked ++ look i n ∷ []; told = v.told ++ look i n ∷ []; share = v.share } in
       let Q : Bool → Type 0 = λ b. Rule record { words = s.words; homes = s.homes; views = set s.views id (if b then won else lost) } in
       subst Q (sym (ne_eqb n 0 ne)) (calm s r id v lost at record { page = t.page; hand = t.hand; known = t.known; unshared = t.unshared } (λ j. refl) (λ j. refl) refl)
 
@@ -102,7 +99,7 @@ module _ (k : Shape) (ok : IsShape k) (defined : ℕ → ℕ) (some_value : (j :
   other_hand v i j is ne = ap (is_hand j) is ∙ other_zero j i ne
 
   abbrev taking : View → ℕ → View
-  taking v i = record { sheet = v.sheet; held = Some i; filled = 0; published = v.published; seen = v.seen; looked = []; told = v.told ++ look i 1 ∷ []; share = v.share }
+  taking v i = record { table_key = v.table_key; held = Some i; filled = 0; published = v.published; seen = v.seen; looked = []; told = v.told ++ look i 1 ∷ []; share = v.share }
 
   -- the winning exchange
   pub wins : (s : St) (r : Rule s) (id i : ℕ) (v : View) → get_elem? s.views id ≡ some v → i < k.pieces → v.held ≡ None → 1 ≤ length v.share → piece_word s.words i ≡ 0 → ((n : ℕ) → k.needs i n ≡ true → Knows v n)

@@ -7,7 +7,7 @@ use Rattle.atomic_table.specs.Table.{State}
 use Rattle.band_board.specs.Shapes.{Shape}
 use Rattle.band_board.specs.TableWords.{board_of}
 use Rattle.band_board.specs.Runs.{Sound}
-use Rattle.band_claims.specs.declared.sheet.Sheet.{Sheet}
+use Rattle.band_claims.specs.declared.table_key.TableKey.{TableKey}
 use Rattle.band_claims.specs.declared.view.View.{View}
 use Rattle.band_claims.specs.Rule.{piece_word, cell_word, AreOneWhole}
 use Rattle.band_claims.specs.Views.{one_if, total, holds, publishes, Knows}
@@ -21,13 +21,13 @@ pub record Holding (k : Shape) (words : List ℕ) (filled i : ℕ) : Type 0 wher
   pub back : (o : ℕ) → filled ≤ o → o < k.size i → cell_word k words (k.start i + o) ≡ 0
 
 -- what the words say of one view
-pub record Sits (k : Shape) (key : Sheet) (words : List ℕ) (v : View) : Type 0 where
-  pub page : MatchOption v.sheet (Unit {0}) (λ x. x ≡ key)
+pub record Sits (k : Shape) (key : TableKey) (words : List ℕ) (v : View) : Type 0 where
+  pub page : MatchOption v.table_key (Unit {0}) (λ x. x ≡ key)
   pub hand : MatchOption v.held (Unit {0}) (Holding k words v.filled)
   pub known : (i : ℕ) → Knows v i → (i < k.pieces) × (piece_word words i ≡ 2)
   pub unshared : length v.share ≡ 0 → (v.held ≡ None) × (v.published ≡ [])
 
-pub record Kept (k : Shape) (defined : ℕ → ℕ) (key : Sheet) (s : State (Unit {0}) View) : Type 0 where
+pub record Kept (k : Shape) (defined : ℕ → ℕ) (key : TableKey) (s : State (Unit {0}) View) : Type 0 where
   pub wide : length s.words ≡ k.pieces + k.cells
   pub states : (i : ℕ) → i < k.pieces → piece_word s.words i ≤ 2
   pub sound : Sound k defined (board_of k s.words)

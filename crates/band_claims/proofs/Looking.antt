@@ -1,5 +1,5 @@
 -- What a pass knows after some loads.
-use Rattle.std.proofs.Common.{◌+◌, ◌≡◌, ◌≢◌, ℕ, true, subst, ◌≤◌, ◌<◌, ◌==◌, List, [], ◌∷◌, ◌++◌, refl, sym, ap, ◌∙◌, inl, inr, arith, append_assoc, append-nil, eq-eqb, ne_eqb}
+use Rattle.std.proofs.Common.{◌+◌, ◌≡◌, ◌≢◌, ℕ, true, subst, ◌≤◌, ◌<◌, ◌==◌, List, [], ◌∷◌, ◌++◌, refl, ap, ◌∙◌, inl, inr, arith, append_assoc, eq-eqb, ne_eqb}
 use Rattle.std.specs.Prelude.{if◌then◌else◌}
 use Rattle.std.proofs.lemmas.Bool.{cases_eq}
 use Rattle.page_model.specs.declared.bands.Bands.{Bands}
@@ -10,21 +10,9 @@ use Rattle.band_graph.proofs.CountLemmas.{count-less, count-same}
 use Rattle.band_graph.proofs.NeedLemmas.{need_less}
 use Rattle.band_claims.specs.declared.view.View.{View}
 use Rattle.band_claims.specs.declared.view.Look.{Look}
-use Rattle.band_claims.specs.Views.{Knows, look, looked_at, claimed, Looks, Won, Lost, Cause}
+use Rattle.band_claims.specs.Views.{Knows, look, looked_at, claimed, Looks, Won, Lost}
 use Rattle.band_claims.proofs.Totals.{times_append}
 use Rattle.band_claims.proofs.Boards.{same_one}
-
-pub looks_same : (v : View) → Looks v v
-looks_same v = record {
-  same_sheet = refl;
-  same_held = refl;
-  same_filled = refl;
-  same_published = refl;
-  more_seen = ([], sym (append-nil v.seen));
-  more_looked = ([], sym (append-nil v.looked));
-  more_told = ([], sym (append-nil v.told));
-  same_share = refl;
-}
 
 seen_after : (v w : View) (i n : ℕ) → Looks v w → (more : List ℕ) × ((if n == 2 then w.seen ++ i ∷ [] else w.seen) ≡ v.seen ++ more)
 seen_after v w i n h = elim (cases_eq n 2) [
@@ -37,7 +25,7 @@ told_more v w x h = (h.more_told.0 ++ x ∷ [], ap (λ (z : List Look). z ++ x �
 
 pub looks_more : (v w : View) (i n : ℕ) → Looks v w → Looks v (looked_at i n w)
 looks_more v w i n h = record {
-  same_sheet = h.same_sheet;
+  same_table_key = h.same_table_key;
   same_held = h.same_held;
   same_filled = h.same_filled;
   same_published = h.same_published;
@@ -56,18 +44,9 @@ knows_more w i n j h = elim (cases_eq n 2) [
 pub knows_here : (w : View) (i n : ℕ) → n ≡ 2 → Knows (looked_at i n w) i
 knows_here w i n e = rw (eq-eqb n 2 e) (omega (arith, times_append i w.seen (i ∷ []), same_one i i refl))
 
--- one look more, which shows why the claim fails
-pub lost_by : (bands : Bands) (piece : ℕ) (v w : View) (i n : ℕ) → Looks v w → Cause bands piece (look i n) → Lost bands piece v (looked_at i n w)
-lost_by bands piece v w i n h cause = record {
-  looks = looks_more v w i n h;
-  last = look i n;
-  found = (h.more_looked.0, ap (λ (z : List Look). z ++ look i n ∷ []) h.more_looked.1 ∙ append_assoc v.looked h.more_looked.0 (look i n ∷ []));
-  cause = cause;
-}
-
 pub won_by : (bands : Bands) (piece : ℕ) (v w : View) (n : ℕ) → Looks v w → ((j : ℕ) → is_need bands piece j ≡ true → Knows w j) → n ≡ 0 → Won bands piece v (claimed piece n w)
 won_by bands piece v w n h known e = rw (eq-eqb n 0 e) record {
-  same_sheet = h.same_sheet;
+  same_table_key = h.same_table_key;
   holding = refl;
   none_filled = refl;
   same_published = h.same_published;
@@ -82,7 +61,7 @@ won_by bands piece v w n h known e = rw (eq-eqb n 0 e) record {
 pub lost_exchange : (bands : Bands) (piece : ℕ) (v w : View) (n : ℕ) → Looks v w → n ≢ 0 → Lost bands piece v (claimed piece n w)
 lost_exchange bands piece v w n h ne = rw (ne_eqb n 0 ne) record {
   looks = record {
-    same_sheet = h.same_sheet;
+    same_table_key = h.same_table_key;
     same_held = h.same_held;
     same_filled = h.same_filled;
     same_published = h.same_published;

@@ -8,13 +8,13 @@ use Rattle.atomic_table.specs.Table.{State}
 use Rattle.atomic_table.proofs.Lists.{at_set, at_snoc}
 use Rattle.band_board.specs.Shapes.{Shape, IsShape}
 use Rattle.band_board.proofs.TableWords.{zero_at}
-use Rattle.band_claims.specs.declared.sheet.Sheet.{Sheet}
+use Rattle.band_claims.specs.declared.table_key.TableKey.{TableKey}
 use Rattle.band_claims.specs.declared.view.View.{View}
 use Rattle.band_claims.specs.declared.view.Look.{Look}
 use Rattle.band_claims.specs.Kinds.{Kind, looks, wins, loses, reads, puts, finishes, splits, joins, Happens, Leads, first_state}
 use Rattle.band_claims.specs.Laws.{DoneStaysDone, LooksArePast, LooksAreTold, LooksRise}
 use Rattle.band_claims.specs.Rule.{piece_word}
-use Rattle.band_claims.specs.Sheets.{shape_of, cell, IsFit}
+use Rattle.band_claims.specs.TableKeys.{shape_of, cell, IsFit}
 use Rattle.band_claims.specs.Views.{look, newcomer, spent, looked_at, claimed, put, finished, parted, branched, joined}
 use Rattle.band_claims.proofs.Boards.{piece_here, piece_else, piece_stays}
 use Rattle.band_claims.proofs.Events.{keeps_rule}
@@ -73,7 +73,7 @@ told_one v l t = (t.0, ap (λ (z : List Look). z ++ l ∷ []) t.1 ∙ append_ass
 told_none : (told : List Look) → (earlier : List Look) × (told ≡ earlier ++ [])
 told_none told = (told, sym (append-nil told))
 
-module _ (k : Shape) (ok : IsShape k) (defined : ℕ → ℕ) (some_value : (j : ℕ) → j < k.cells → 1 ≤ defined j) (key : Sheet) where
+module _ (k : Shape) (ok : IsShape k) (defined : ℕ → ℕ) (some_value : (j : ℕ) → j < k.cells → 1 ≤ defined j) (key : TableKey) where
   abbrev St : Type 0
   St = State (Unit {0}) View
 
@@ -137,27 +137,27 @@ module _ (k : Shape) (ok : IsShape k) (defined : ℕ → ℕ) (some_value : (j :
   first_past words zero d e = subst (Of words) (some-injective (newcomer key) d e) (tt, tt, told_none [])
   first_past words (suc j) d e = absurd (some-ne-none d (sym e))
 
-pub looks_are_past : (key : Sheet) → IsFit key → LooksArePast key
+pub looks_are_past : (key : TableKey) → IsFit key → LooksArePast key
 looks_are_past key fit kinds t steps id v at before after shown stands =
     let k = shape_of key in let ok = fit_shape key fit in let words : List ℕ = replicate (k.pieces + k.cells) 0 in
     let first = opens k ok (cell key) (cell_some key fit) key words (length-replicate (k.pieces + k.cells) 0) (zero_at (k.pieces + k.cells)) in
     let all = all_steps k ok (cell key) (cell_some key fit) key (first_state k key) t kinds first (first_past k ok (cell key) (cell_some key fit) key words) steps in
     past_at k t.words before after shown (subst (Past k t.words) stands (all id v at).0)
 
-pub looks_are_told : (key : Sheet) → IsFit key → LooksAreTold key
+pub looks_are_told : (key : TableKey) → IsFit key → LooksAreTold key
 looks_are_told key fit kinds t steps id v at =
     let k = shape_of key in let ok = fit_shape key fit in let words : List ℕ = replicate (k.pieces + k.cells) 0 in
     let first = opens k ok (cell key) (cell_some key fit) key words (length-replicate (k.pieces + k.cells) 0) (zero_at (k.pieces + k.cells)) in
     (all_steps k ok (cell key) (cell_some key fit) key (first_state k key) t kinds first (first_past k ok (cell key) (cell_some key fit) key words) steps id v at).2
 
-pub looks_rise : (key : Sheet) → IsFit key → LooksRise key
+pub looks_rise : (key : TableKey) → IsFit key → LooksRise key
 looks_rise key fit kinds t steps id v at before mid after shown later stands =
     let k = shape_of key in let ok = fit_shape key fit in let words : List ℕ = replicate (k.pieces + k.cells) 0 in
     let first = opens k ok (cell key) (cell_some key fit) key words (length-replicate (k.pieces + k.cells) 0) (zero_at (k.pieces + k.cells)) in
     let all = all_steps k ok (cell key) (cell_some key fit) key (first_state k key) t kinds first (first_past k ok (cell key) (cell_some key fit) key words) steps in
     past_rise k t.words before mid after shown later (subst (Past k t.words) stands (all id v at).1)
 
-past_all : (key : Sheet) → IsFit key → (kinds : List Kind) (t : State (Unit {0}) View) → Leads (shape_of key) (cell key) (first_state (shape_of key) key) kinds t → (id : ℕ) (v : View) → get_elem? t.views id ≡ some v
+past_all : (key : TableKey) → IsFit key → (kinds : List Kind) (t : State (Unit {0}) View) → Leads (shape_of key) (cell key) (first_state (shape_of key) key) kinds t → (id : ℕ) (v : View) → get_elem? t.views id ≡ some v
     → Past (shape_of key) t.words v.told × ((i : ℕ) → i < (shape_of key).pieces → piece_word t.words i ≤ 2)
 past_all key fit kinds t steps id v at =
     let k = shape_of key in let ok = fit_shape key fit in let words : List ℕ = replicate (k.pieces + k.cells) 0 in
@@ -173,7 +173,7 @@ past_tail : (k : Shape) (words : List ℕ) (before after : List Look) → Past k
 past_tail k words [] after h = h
 past_tail k words (x ∷ xs) after h = past_tail k words xs after h.2
 
-pub done_stays_done : (key : Sheet) → IsFit key → DoneStaysDone key
+pub done_stays_done : (key : TableKey) → IsFit key → DoneStaysDone key
 done_stays_done key fit words v e before mid after i n stands =
     let k = shape_of key in
     let p = past_all key fit e.kinds e.last e.steps e.seat v e.sees in

@@ -9,7 +9,7 @@ use Rattle.band_board.specs.Shapes.{Shape, IsShape}
 use Rattle.band_board.specs.Boards.{state_claimed, state_done, is_claimed, is_done}
 use Rattle.band_board.specs.TableWords.{state_of, board_of}
 use Rattle.band_board.proofs.TableWords.{state_is, cell_is}
-use Rattle.band_claims.specs.declared.sheet.Sheet.{Sheet}
+use Rattle.band_claims.specs.declared.table_key.TableKey.{TableKey}
 use Rattle.band_claims.specs.declared.view.View.{View}
 use Rattle.band_claims.specs.Views.{one_if, total, is_hand, holds, publishes}
 use Rattle.band_claims.specs.Rule.{piece_word, Ruled, FirstFilled}
@@ -57,7 +57,7 @@ hand_from : (k : Shape) (words : List ℕ) (n : ℕ) (h : Option ℕ) → ((i : 
 hand_from k words n None each = tt
 hand_from k words n (Some i) each = each i refl
 
-module _ (k : Shape) (ok : IsShape k) (defined : ℕ → ℕ) (key : Sheet) (s : State (Unit {0}) View) where
+module _ (k : Shape) (ok : IsShape k) (defined : ℕ → ℕ) (key : TableKey) (s : State (Unit {0}) View) where
   claimed_at : (i : ℕ) → i < k.pieces → is_claimed (board_of k s.words) i ≡ (piece_word s.words i == 1)
   claimed_at i l = ap state_claimed (state_is k s.words i l) ∙ claimed_is (piece_word s.words i)
 
@@ -118,7 +118,7 @@ module _ (k : Shape) (ok : IsShape k) (defined : ℕ → ℕ) (key : Sheet) (s :
     unshared = λ id v at. (r.seats id v at).unshared;
   }
 
-pub most_once : (k : Shape) (defined : ℕ → ℕ) (key : Sheet) (s : State (Unit {0}) View) → Ruled k defined key s → (i : ℕ) → total (publishes i) s.views ≤ 1
+pub most_once : (k : Shape) (defined : ℕ → ℕ) (key : TableKey) (s : State (Unit {0}) View) → Ruled k defined key s → (i : ℕ) → total (publishes i) s.views ≤ 1
 most_once k defined key s r i = elim (cases_eq (total (publishes i) s.views) 0) [
   | inl z ↦ omega (arith, z)
   | inr there ↦ (let t = some_part (publishes i) s.views (omega (arith, there)) in let d = r.known_done t.0 i t.1 t.2 (omega (arith, t.3)) in omega (arith, r.once i d.0, at_most_one (is_done (board_of k s.words) i)))

@@ -5,17 +5,17 @@ use Rattle.atomic_table.specs.Table.{State, Me}
 use Rattle.band_board.specs.Shapes.{Shape}
 use Rattle.band_board.proofs.TableWords.{zero_at}
 use Rattle.band_graph.proofs.NeedLemmas.{need_less}
-use Rattle.band_claims.specs.declared.sheet.Sheet.{Sheet}
+use Rattle.band_claims.specs.declared.table_key.TableKey.{TableKey}
 use Rattle.band_claims.specs.declared.view.View.{View}
 use Rattle.band_claims.specs.Kinds.{Kind, looks, wins, splits, Happens, MayClaim, moved, first_state}
 use Rattle.band_claims.specs.Remembered.{Remembered}
-use Rattle.band_claims.specs.Sheets.{shape_of, cell, IsFit}
+use Rattle.band_claims.specs.TableKeys.{shape_of, cell, IsFit}
 use Rattle.band_claims.specs.Views.{look, newcomer, looked_at, claimed, branched}
 use Rattle.band_claims.specs.Refuted.{MayForge}
 use Rattle.band_claims.proofs.Steps.{each_keeps, one_more, opens}
 use Rattle.band_claims.proofs.Past.{looks_are_past, looks_rise}
 
-module _ (key : Sheet) (fit : IsFit key) where
+module _ (key : TableKey) (fit : IsFit key) where
   abbrev St : Type 0
   St = State (Unit {0}) View
 
@@ -69,8 +69,8 @@ module _ (key : Sheet) (fit : IsFit key) where
       let rise = looks_rise key fit t.3.kinds _ t.3.steps 1 t.0 refl [] [] [] (look 0 n) (look 0 0) told refl in
       omega (arith, rise, one)
 
-pub no_false_claims : (key : Sheet) → IsFit key → MayForge key 1 → ⊥
+pub no_false_claims : (key : TableKey) → IsFit key → MayForge key 1 → ⊥
 no_false_claims key fit = no_false_claim key fit
 
-pub no_false_looks : (key : Sheet) → IsFit key → MayForge key 0 → ⊥
+pub no_false_looks : (key : TableKey) → IsFit key → MayForge key 0 → ⊥
 no_false_looks key fit = no_false_look key fit

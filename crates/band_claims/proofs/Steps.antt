@@ -26,9 +26,9 @@ use Rattle.band_claims.proofs.Events.{keeps_rule, steps_run}
 use Rattle.band_board.proofs.TableWords.{zero_at}
 use Rattle.std.proofs.lemmas.List.{length-replicate}
 use Rattle.band_core.proofs.Bridges.{cell_word}
-use Rattle.band_claims.specs.declared.sheet.Sheet.{Sheet}
+use Rattle.band_claims.specs.declared.table_key.TableKey.{TableKey}
 use Rattle.band_claims.specs.declared.view.View.{View}
-use Rattle.band_claims.specs.Sheets.{shape_of, cell, IsFit}
+use Rattle.band_claims.specs.TableKeys.{shape_of, cell, IsFit}
 use Rattle.band_claims.specs.Rule.{RuleOf, piece_word}
 use Rattle.band_claims.specs.Shares.{IsWhole}
 use Rattle.band_claims.proofs.ShareLemmas.{one_alone, others_none}
@@ -38,33 +38,33 @@ use Rattle.band_claims.proofs.Kept.{Kept, Sits}
 use Rattle.band_claims.proofs.Readable.{ruled, kept}
 use Rattle.band_claims.proofs.Keeps.{fair, value_read, opens as keeps_opens}
 
-pub cell_some : (key : Sheet) → IsFit key → (j : ℕ) → j < (shape_of key).cells → 1 ≤ cell key j
+pub cell_some : (key : TableKey) → IsFit key → (j : ℕ) → j < (shape_of key).cells → 1 ≤ cell key j
 unfolding cell
 cell_some key fit j l = (cell_word key.page.value key.layout j fit l).0
 
-pub fit_shape : (key : Sheet) → IsFit key → IsShape (shape_of key)
+pub fit_shape : (key : TableKey) → IsFit key → IsShape (shape_of key)
 fit_shape key fit = is_shape key.layout fit.made
 
--- the recipe gives the values that the sheet asks for
-halo_of : (key : Sheet) (fit : IsFit key) → Halo (shape_of key) (cell key) (recipe key.page.value key.layout)
+-- the recipe gives the values that the key asks for
+halo_of : (key : TableKey) (fit : IsFit key) → Halo (shape_of key) (cell key) (recipe key.page.value key.layout)
 unfolding cell
 halo_of key fit = halo key.page.value key.layout fit
 
 -- the number of a cell's word is small
-pub small_word : (key : Sheet) → IsFit key → (p j : ℕ) → Has (shape_of key) p j → (j < (shape_of key).cells) × (pieces_of key.layout.bands + j + 1 < 2 ^ 32)
+pub small_word : (key : TableKey) → IsFit key → (p j : ℕ) → Has (shape_of key) p j → (j < (shape_of key).cells) × (pieces_of key.layout.bands + j + 1 < 2 ^ 32)
 small_word key fit p j here =
     let inside = (fit_shape key fit).inside p here.piece in
     let below : j < (shape_of key).cells = omega (arith, inside, here.below) in
     (below, omega (arith, below, cells_fit key.layout fit.made, fit.made.bands.few_bands))
 
-told : (key : Sheet) (sheet : Option Sheet) (word j n : ℕ) → sheet ≡ Some key → word ≡ pieces_of key.layout.bands + j → n ≡ cell key j → Cell sheet word n
-told key sheet word j n page is e = rw page (e ∙ ap (cell key) (omega (arith, is)))
+told : (key : TableKey) (table_key : Option TableKey) (word j n : ℕ) → table_key ≡ Some key → word ≡ pieces_of key.layout.bands + j → n ≡ cell key j → Cell table_key word n
+told key table_key word j n page is e = rw page (e ∙ ap (cell key) (omega (arith, is)))
 
-as_fair : (key : Sheet) (w : View) → w.sheet ≡ Some key → IsFair (pieces_of key.layout.bands) w → Fair w
-as_fair key w e h = subst (λ (o : Option Sheet). MatchOption o (Unit {0}) (λ k. IsFair (pieces_of k.layout.bands) w)) (sym e) h
+as_fair : (key : TableKey) (w : View) → w.table_key ≡ Some key → IsFair (pieces_of key.layout.bands) w → Fair w
+as_fair key w e h = subst (λ (o : Option TableKey). MatchOption o (Unit {0}) (λ k. IsFair (pieces_of k.layout.bands) w)) (sym e) h
 
 -- one step of any kind
-pub each_keeps : (key : Sheet) → IsFit key → KeepsRule key
+pub each_keeps : (key : TableKey) → IsFit key → KeepsRule key
 each_keeps key fit s t kind rule happens =
     let k = shape_of key in let ok = fit_shape key fit in
     ruled k ok (cell key) key t (keeps_rule k ok (cell key) (cell_some key fit) key s t kind (kept k ok (cell key) key s rule) happens)
@@ -74,7 +74,7 @@ pub one_more : (k : Shape) (defined : ℕ → ℕ) (s m t : State (Unit {0}) Vie
 one_more k defined s m t [] kind same h = (t, subst (λ (z : State (Unit {0}) View). Happens k defined z kind t) same h, refl)
 one_more k defined s m t (x ∷ xs) kind leads h = (leads.0, leads.1, one_more k defined leads.0 m t xs kind leads.2 h)
 
-module _ (key : Sheet) (fit : IsFit key) where
+module _ (key : TableKey) (fit : IsFit key) where
   abbrev St : Type 0
   St = State (Unit {0}) View
 
@@ -132,8 +132,8 @@ module _ (key : Sheet) (fit : IsFit key) where
       let may : MayPut k (cell key) s id j x v = record { sees = at; piece = p; holding = is; room = room; next = refl; right = value } in
       (put v, keeps, tt, on s (moved s id (set s.words (k.pieces + j) x) (put v)) (kind_puts id j x) r (v, may, refl), refl)
 
-  pub reads_word : (slots id : ℕ) (me : M) (word j p : ℕ) → me.0.sheet ≡ Some key → word ≡ pieces_of key.layout.bands + j → Has k p j → Knows me.0 p
-      → Allows (Remembered key) slots id me word (λ n. n) (λ n m. (m ≡ me) × Cell me.0.sheet word n)
+  pub reads_word : (slots id : ℕ) (me : M) (word j p : ℕ) → me.0.table_key ≡ Some key → word ≡ pieces_of key.layout.bands + j → Has k p j → Knows me.0 p
+      → Allows (Remembered key) slots id me word (λ n. n) (λ n m. (m ≡ me) × Cell me.0.table_key word n)
   reads_word slots id me word j p page is here knows s r same_slots at small =
       let v = me.0 in
       let o : ℕ = j - k.start p in
@@ -141,12 +141,12 @@ module _ (key : Sheet) (fit : IsFit key) where
       let word_at : k.pieces + (k.start p + o) ≡ word = omega (arith, spot, is) in
       let room : o < k.size p = omega (arith, here.from, here.below) in
       let may : MayRead k s id j v = record { sees = at; piece = p; has = here; known = knows } in
-      let found : Cell v.sheet word (get_or s.words word 0) =
-      subst (λ (w : ℕ). Cell v.sheet w (get_or s.words w 0)) word_at (told key v.sheet (k.pieces + (k.start p + o)) (k.start p + o) (get_or s.words (k.pieces + (k.start p + o)) 0) page refl
+      let found : Cell v.table_key word (get_or s.words word 0) =
+      subst (λ (w : ℕ). Cell v.table_key w (get_or s.words w 0)) word_at (told key v.table_key (k.pieces + (k.start p + o)) (k.start p + o) (get_or s.words (k.pieces + (k.start p + o)) 0) page refl
       (value_read k ok (cell key) values key p o here.piece room v s (there s r.rule) id at knows)) in
       (v, keeps, tt, on s (moved s id (set s.words word (get_or s.words word 0)) v) (kind_reads id j) r (v, may, left s id word v), (refl, found))
 
-  pub finishes_word : (slots id : ℕ) (me : M) (p : ℕ) → me.0.sheet ≡ Some key → me.0.held ≡ Some p → me.0.filled ≡ k.size p
+  pub finishes_word : (slots id : ℕ) (me : M) (p : ℕ) → me.0.table_key ≡ Some key → me.0.held ≡ Some p → me.0.filled ≡ k.size p
       → Allows (Remembered key) slots id me p (λ _. 2) (λ _ m. (m ≡ (finished p me.0, me.1)) × Fair m.0)
   finishes_word slots id me p page is full s r _ at _ =
       let v = me.0 in let w : View = finished p v in let t : St = moved s id (set s.words p 2) w in
@@ -197,7 +197,7 @@ module _ (key : Sheet) (fit : IsFit key) where
       )
 
 -- whatever steps are made from the opening on
-pub steps_are_run : (key : Sheet) → IsFit key → StepsAreRun key
+pub steps_are_run : (key : TableKey) → IsFit key → StepsAreRun key
 steps_are_run key fit kinds t leads =
     let k = shape_of key in let ok = fit_shape key fit in let words : List ℕ = replicate (k.pieces + k.cells) 0 in
     let first = keeps_opens k ok (cell key) (cell_some key fit) key words (length-replicate (k.pieces + k.cells) 0) (zero_at (k.pieces + k.cells)) in
@@ -208,7 +208,7 @@ steps_are_run key fit kinds t leads =
       all.1.1 ∙ ap (λ (b : Board). played b (events_of kinds)) board,
     )
 
-pub ends_are_runs : (key : Sheet) → IsFit key → EndsAreRuns key
+pub ends_are_runs : (key : TableKey) → IsFit key → EndsAreRuns key
 ends_are_runs key fit words v e =
     let all = steps_are_run key fit e.kinds e.last e.steps in
     (events_of e.kinds, all.1, ap (board_of (shape_of key)) (sym e.same_words) ∙ all.2)

@@ -1,17 +1,17 @@
 -- What filling the cells of a held piece changes in a view, and what the values of a piece are.
 use Rattle.std.specs.Prelude.{◌≡◌, ℕ, ◌-◌, ◌*◌, ◌<◌, ◌≤◌, List, length, slice_index, min}
-use Rattle.band_claims.specs.declared.sheet.Sheet.{Sheet}
+use Rattle.band_claims.specs.declared.table_key.TableKey.{TableKey}
 use Rattle.band_claims.specs.declared.view.View.{View}
 use Rattle.band_core.specs.Values.{value}
 use Rattle.page_model.specs.Bands.{phase_of}
 use Rattle.row_cells.specs.Layouts.{Layout}
 use Rattle.row_cells.specs.Places.{lanes_of, value_total}
 
--- the view with so many cells of its piece filled
+-- the view with n cells of its piece filled
 abbrev pub filled_to : ℕ → View → View
 filled_to n v =
     record {
-      sheet = v.sheet;
+      table_key = v.table_key;
       held = v.held;
       filled = n;
       published = v.published;
@@ -22,12 +22,12 @@ filled_to n v =
     }
 
 -- all values of the piece over the undivided page, in their order
-pub record AreValues (sheet : Sheet) (piece : ℕ) (values : List ℕ) : Type 0 where
-  pub long : length values ≡ value_total sheet.layout piece
+pub record AreValues (table_key : TableKey) (piece : ℕ) (values : List ℕ) : Type 0 where
+  pub long : length values ≡ value_total table_key.layout piece
   pub each : (k : ℕ) → k < length values
-      → slice_index values k ≡ value sheet.page.value sheet.layout piece k
+      → slice_index values k ≡ value table_key.page.value table_key.layout piece k
 
--- cell o of a piece is made of so many of its values, from number first on
+-- cell o of a piece is made of `count` of its values, from number first on
 pub record IsCut (layout : Layout) (piece o phase first count : ℕ) : Type 0 where
   pub same_phase : phase ≡ phase_of layout.bands piece
   pub begins : first ≡ o * lanes_of phase

@@ -6,7 +6,7 @@ use Rattle.atomic_table.specs.Table.{State, opening}
 use Rattle.band_board.specs.declared.event.Event.{Event}
 use Rattle.band_board.specs.declared.event.Event.TheVariants.{Claim, Put, Done}
 use Rattle.band_board.specs.Shapes.{Shape, Has}
-use Rattle.band_claims.specs.declared.sheet.Sheet.{Sheet}
+use Rattle.band_claims.specs.declared.table_key.TableKey.{TableKey}
 use Rattle.band_claims.specs.declared.view.View.{View}
 use Rattle.band_claims.specs.Rule.{Sees, piece_word}
 use Rattle.band_claims.specs.Views.{Knows, newcomer, looked_at, claimed, put, finished, parted}
@@ -127,5 +127,5 @@ events_of [] = []
 events_of (kind ∷ kinds) = and_then (event_of kind) (events_of kinds)
 
 -- the table when it is made
-abbrev pub first_state : Shape → Sheet → State (Unit {0}) View
+abbrev pub first_state : Shape → TableKey → State (Unit {0}) View
 first_state k key = opening (replicate (k.pieces + k.cells) 0) [] (newcomer key)

@@ -1,4 +1,4 @@
-pub mod Sheets
+pub mod TableKeys
 pub mod Shares
 pub mod Views
 pub mod Rule

@@ -1,12 +1,12 @@
 -- What contracts see of a closed table.
 use Rattle.std.specs.Prelude.{◌≡◌, ℕ, ◌+◌, ◌≤◌, ◌==◌, List, [], ◌∷◌, length, slice_index}
 use Rattle.std.specs.Prelude.{if◌then◌else◌}
-use Rattle.band_claims.specs.declared.sheet.Sheet.{Sheet}
+use Rattle.band_claims.specs.declared.table_key.TableKey.{TableKey}
 use Rattle.band_claims.specs.declared.view.Look.{Look}
-use Rattle.band_claims.specs.Sheets.{shape_of, IsFit}
+use Rattle.band_claims.specs.TableKeys.{shape_of, IsFit}
 
 pub record Receipt : Type 0 where
-  pub sheet : Sheet
+  pub table_key : TableKey
   pub words : List ℕ
   pub published : List ℕ
   pub seen : List ℕ
@@ -27,7 +27,7 @@ marked n [] = []
 marked n (m ∷ ms) = if m == 1 then n ∷ marked (n + 1) ms else marked (n + 1) ms
 
 -- the parts of a closed table fit one another, and a piece that is marked is done
-pub record IsReceipt (key : Sheet) (words : List ℕ) (slots : ℕ) (marks : List ℕ) : Type 0 where
+pub record IsReceipt (key : TableKey) (words : List ℕ) (slots : ℕ) (marks : List ℕ) : Type 0 where
   pub fit : IsFit key
   pub wide : length words ≡ (shape_of key).pieces + (shape_of key).cells
   pub no_slots : slots ≡ 0

@@ -9,9 +9,9 @@ use Rattle.band_board.specs.Shapes.{Shape}
 use Rattle.band_board.specs.Boards.{Board, cell_at, is_claimed, is_done}
 use Rattle.band_board.specs.TableWords.{AreWords, board_of}
 use Rattle.band_board.specs.Runs.{Sound}
-use Rattle.band_claims.specs.declared.sheet.Sheet.{Sheet}
+use Rattle.band_claims.specs.declared.table_key.TableKey.{TableKey}
 use Rattle.band_claims.specs.declared.view.View.{View}
-use Rattle.band_claims.specs.Sheets.{shape_of, cell}
+use Rattle.band_claims.specs.TableKeys.{shape_of, cell}
 use Rattle.band_claims.specs.Shares.{power, parts_of, IsCutBy}
 use Rattle.band_claims.specs.Views.{one_if, total, holds, publishes, Knows}
 
@@ -41,14 +41,15 @@ pub record AreOneWhole (views : List View) : Type 0 where
   pub cut : (id : ℕ) (v : View) → get_elem? views id ≡ some v → IsCutBy halvings v.share
   pub all : total (parts halvings) views ≡ power halvings
 
--- The rule, over any shape and any value of each cell. A view that is spent has no sheet; the
+-- The rule, over any shape and any value of each cell. A view that is spent has no key; the
 -- other clauses hold of it too.
-pub record Ruled (k : Shape) (defined : ℕ → ℕ) (key : Sheet)
+pub record Ruled (k : Shape) (defined : ℕ → ℕ) (key : TableKey)
     (s : State (Unit {0}) View) : Type 0 where
   -- there is a word for each piece and cell, and a piece's word is 0, 1 or 2: free, claimed or done
   pub words : AreWords k s.words
   -- all views have one page and the same bands, and the board is sound for that page
-  pub one_page : (id : ℕ) (v : View) → Sees s id v → MatchOption v.sheet (Unit {0}) (λ x. x ≡ key)
+  pub one_page : (id : ℕ) (v : View) → Sees s id v
+      → MatchOption v.table_key (Unit {0}) (λ x. x ≡ key)
   pub sound : Sound k defined (board_of k s.words)
   -- of all views one holds a piece that is claimed, and none holds one that is not
   pub one_holder : (i : ℕ) → i < k.pieces
@@ -70,5 +71,5 @@ pub record Ruled (k : Shape) (defined : ℕ → ℕ) (key : Sheet)
       → (v.held ≡ None) × (v.published ≡ [])
 
 -- the rule of the table of a page
-abbrev pub RuleOf : Sheet → State (Unit {0}) View → Type 0
+abbrev pub RuleOf : TableKey → State (Unit {0}) View → Type 0
 RuleOf key = Ruled (shape_of key) (cell key) key

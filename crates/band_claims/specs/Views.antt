@@ -3,7 +3,7 @@ use Rattle.std.specs.Prelude.{◌≡◌, ◌≢◌, ◌⊎◌, ℕ, ◌+◌, ◌
 use Rattle.std.specs.Prelude.{◌∷◌, ◌++◌, Option, Some, None, if◌then◌else◌}
 use Rattle.page_model.specs.declared.bands.Bands.{Bands}
 use Rattle.band_graph.specs.Needs.{is_need}
-use Rattle.band_claims.specs.declared.sheet.Sheet.{Sheet}
+use Rattle.band_claims.specs.declared.table_key.TableKey.{TableKey}
 use Rattle.band_claims.specs.declared.view.View.{View}
 use Rattle.band_claims.specs.declared.view.Look.{Look}
 use Rattle.band_claims.specs.Shares.{halved}
@@ -45,10 +45,10 @@ pub record IsFair (pieces : ℕ) (v : View) : Type 0 where
 abbrev pub look : ℕ → ℕ → Look
 look i n = record { piece = i; word = n }
 
-abbrev pub newcomer : Sheet → View
+abbrev pub newcomer : TableKey → View
 newcomer key =
     record {
-      sheet = Some key;
+      table_key = Some key;
       held = None;
       filled = 0;
       published = [];
@@ -61,7 +61,7 @@ newcomer key =
 abbrev pub spent : View
 spent =
     record {
-      sheet = None;
+      table_key = None;
       held = None;
       filled = 0;
       published = [];
@@ -75,7 +75,7 @@ spent =
 abbrev pub looked_at : ℕ → ℕ → View → View
 looked_at i n v =
     record {
-      sheet = v.sheet;
+      table_key = v.table_key;
       held = v.held;
       filled = v.filled;
       published = v.published;
@@ -89,7 +89,7 @@ looked_at i n v =
 abbrev pub claimed : ℕ → ℕ → View → View
 claimed i n v =
     if n == 0 then record {
-      sheet = v.sheet;
+      table_key = v.table_key;
       held = Some i;
       filled = 0;
       published = v.published;
@@ -99,7 +99,7 @@ claimed i n v =
       share = v.share;
     }
     else record {
-      sheet = v.sheet;
+      table_key = v.table_key;
       held = v.held;
       filled = v.filled;
       published = v.published;
@@ -113,7 +113,7 @@ claimed i n v =
 abbrev pub put : View → View
 put v =
     record {
-      sheet = v.sheet;
+      table_key = v.table_key;
       held = v.held;
       filled = v.filled + 1;
       published = v.published;
@@ -127,7 +127,7 @@ put v =
 abbrev pub finished : ℕ → View → View
 finished i v =
     record {
-      sheet = v.sheet;
+      table_key = v.table_key;
       held = None;
       filled = 0;
       published = v.published ++ i ∷ [];
@@ -142,7 +142,7 @@ finished i v =
 abbrev pub parted : Bool → View → View
 parted works v =
     record {
-      sheet = v.sheet;
+      table_key = v.table_key;
       held = v.held;
       filled = v.filled;
       published = v.published;
@@ -156,7 +156,7 @@ parted works v =
 abbrev pub branched : Bool → View → View
 branched works v =
     record {
-      sheet = v.sheet;
+      table_key = v.table_key;
       held = None;
       filled = 0;
       published = [];
@@ -169,7 +169,7 @@ branched works v =
 abbrev pub joined : View → View → View
 joined v w =
     record {
-      sheet = v.sheet;
+      table_key = v.table_key;
       held = v.held;
       filled = v.filled;
       published = v.published ++ w.published;
@@ -181,7 +181,7 @@ joined v w =
 
 -- w is v after some loads of pieces' words
 pub record Looks (v w : View) : Type 0 where
-  pub same_sheet : w.sheet ≡ v.sheet
+  pub same_table_key : w.table_key ≡ v.table_key
   pub same_held : w.held ≡ v.held
   pub same_filled : w.filled ≡ v.filled
   pub same_published : w.published ≡ v.published
@@ -192,7 +192,7 @@ pub record Looks (v w : View) : Type 0 where
 
 -- the exchange won: w holds the piece, and knows each of its needs
 pub record Won (bands : Bands) (piece : ℕ) (v w : View) : Type 0 where
-  pub same_sheet : w.sheet ≡ v.sheet
+  pub same_table_key : w.table_key ≡ v.table_key
   pub holding : w.held ≡ Some piece
   pub none_filled : w.filled ≡ 0
   pub same_published : w.published ≡ v.published

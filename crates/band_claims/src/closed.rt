@@ -2,12 +2,12 @@
 ghost use Rattle.std.specs.Prelude.{◌≡◌, ◌≢◌, ℕ, ◌+◌, ◌==◌, ◌<◌, length, slice_index, slice_set};
 ghost use Rattle.band_claims.specs.Receipt.{Ascends};
 ghost use Rattle.page_model.specs.Bands.{pieces_of};
-ghost use Rattle.band_claims.specs.Sheets.{shape_of, IsFit};
+ghost use Rattle.band_claims.specs.TableKeys.{shape_of, IsFit};
 ghost use Rattle.band_claims.specs.Views.{one_if, times};
 ghost use Rattle.band_claims.specs.Rule.{cell_word};
 
 use crate::pass::Pass;
-use crate::sheet::Sheet;
+use crate::table_key::TableKey;
 use band_graph::needs::pieces;
 use page_model::bands::Bands;
 use row_cells::layout::Layout;
@@ -15,10 +15,10 @@ use std::alloc::Global;
 use std::marker::Model;
 use std::snapshot::Snapshot;
 
-/// A closed table. It keeps the pass as it was given, for contracts alone.
+/// A table that no thread steps on any more. For contracts alone it keeps the last pass as it was given.
 pub struct Closed {
     pub(crate) table: atomic_table::Closed<(), Global>,
-    pub(crate) sheet: Sheet,
+    pub(crate) table_key: TableKey,
     pub(crate) marks: Vec<u8>,
     pub(crate) last: Snapshot<Pass>,
 }
@@ -26,13 +26,13 @@ pub struct Closed {
 impl Model for Closed {
     ghost use Rattle.std.specs.Prelude.{◌≡◌, ◌+◌, length, vec_len};
     ghost use Rattle.std.specs.Mem.Slots.{slots_items, slots_len, IsFull};
-    ghost use Rattle.band_claims.specs.Sheets.{shape_of, IsFit};
+    ghost use Rattle.band_claims.specs.TableKeys.{shape_of, IsFit};
     ghost use Rattle.band_claims.specs.Receipt.{Receipt, IsReceipt, marked};
 
     ghost Value = { Receipt };
 
     ghost view = { λ c. record {
-      sheet = c.sheet;
+      table_key = c.table_key;
       words = slots_items c.table.words;
       published = c.last.value.view.published;
       seen = c.last.value.view.seen;
@@ -43,73 +43,73 @@ impl Model for Closed {
     } };
 
     ghost invariant = { λ c. IsFull c.table.words
-        × IsReceipt c.sheet (slots_items c.table.words) (slots_len c.table.slots) c.marks.items };
+        × IsReceipt c.table_key (slots_items c.table.words) (slots_len c.table.slots)
+        c.marks.items };
 }
 
 impl Closed {
     /// The bands that the table was made with.
     pub fn bands(&self) -> &Bands
-        ensures { result.now ≡ self.now.sheet.layout.bands }
+        ensures { result.now ≡ self.now.table_key.layout.bands }
     {
-        self.sheet.layout.bands()
+        self.table_key.layout.bands()
     }
 
     /// The layout that the table was made with.
     pub fn layout(&self) -> &Layout
-        ensures same { result.now ≡ self.now.sheet.layout }
-        ensures fits { IsFit self.now.sheet }
+        ensures same { result.now ≡ self.now.table_key.layout }
+        ensures fits { IsFit self.now.table_key }
     {
-        &self.sheet.layout
+        &self.table_key.layout
     }
 
     /// The page and the layout that the table was made with.
-    pub fn sheet(&self) -> &Sheet
-        ensures same { result.now ≡ self.now.sheet }
-        ensures fits { IsFit self.now.sheet }
+    pub fn table_key(&self) -> &TableKey
+        ensures same { result.now ≡ self.now.table_key }
+        ensures fits { IsFit self.now.table_key }
         ensures wide { length self.now.words
-            ≡ (shape_of self.now.sheet).pieces + (shape_of self.now.sheet).cells }
+            ≡ (shape_of self.now.table_key).pieces + (shape_of self.now.table_key).cells }
     {
-        &self.sheet
+        &self.table_key
     }
 
-    /// The word of a piece: 0 where it is free, 1 where it is claimed, 2 where it is done.
+    /// The word of a piece: 0 if it is free, 1 if it is claimed, 2 if it is done.
     pub fn state(&self, piece: u32) -> u64
-        requires { piece < pieces_of self.now.sheet.layout.bands }
+        requires { piece < pieces_of self.now.table_key.layout.bands }
         ensures { result ≡ slice_index self.now.words piece }
     {
         self.table.word(piece as usize)
     }
 
-    /// The word of a cell: 0 where it is empty.
+    /// The word of a cell: 0 if it is empty.
     pub fn cell(&self, cell: u32) -> u64
-        requires { cell < (shape_of self.now.sheet).cells }
-        ensures { result ≡ cell_word (shape_of self.now.sheet) self.now.words cell }
+        requires { cell < (shape_of self.now.table_key).cells }
+        ensures { result ≡ cell_word (shape_of self.now.table_key) self.now.words cell }
     {
-        self.table
-            .word(pieces(self.sheet.layout.bands()) as usize + cell as usize)
+        self.table.word(pieces(self.table_key.layout.bands()) as usize + cell as usize)
     }
 
-    /// Puts a value in a cell. All else stays.
+    /// Writes a value to a cell. All else stays unchanged.
     pub fn set_cell(&mut self, cell: u32, value: u64)
-        requires { cell < (shape_of self.old.sheet).cells }
+        requires { cell < (shape_of self.old.table_key).cells }
         ensures { self.new ≡ record self.old {
-          words = slice_set self.old.words (pieces_of self.old.sheet.layout.bands + cell) value;
+          words = slice_set self.old.words (pieces_of self.old.table_key.layout.bands + cell) value;
         } }
     {
-        let word = pieces(self.sheet.layout.bands()) as usize + cell as usize;
+        let word = pieces(self.table_key.layout.bands()) as usize + cell as usize;
         self.table.words.put(word, value);
     }
 
-    /// Makes a piece done that was not, and adds it to the list of the pieces that were made alone, which ascends.
-    /// All else stays, the memory of the marks too.
+    /// Marks a piece as done that was not, and appends it to the ascending list of the pieces that were made by one
+    /// thread alone. All else stays unchanged, and nothing is allocated.
     pub fn set_done(&mut self, piece: u32)
-        requires piece { piece < pieces_of self.old.sheet.layout.bands }
+        requires piece { piece < pieces_of self.old.table_key.layout.bands }
         requires not_done { slice_index self.old.words piece ≢ 2 }
         ensures words { self.new.words ≡ slice_set self.old.words piece 2 }
         ensures alone { (i : ℕ)
             → times i self.new.alone ≡ times i self.old.alone + one_if (i == piece) }
         ensures order { Ascends 0 self.new.alone }
-        ensures sheet { self.new.sheet ≡ self.old.sheet }
+        ensures table_key { self.new.table_key ≡ self.old.table_key }
         ensures published { self.new.published ≡ self.old.published }
         ensures seen { self.new.seen ≡ self.old.seen }
         ensures looked { self.new.looked ≡ self.old.looked }
@@ -125,7 +125,7 @@ impl Drop for Closed {
     fn drop(self) {
         let Closed {
             table,
-            sheet,
+            table_key,
             marks,
             last,
         } = self;

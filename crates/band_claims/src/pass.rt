@@ -3,8 +3,8 @@ use crate::view::View;
 use atomic_table::Seat;
 use std::marker::Model;
 
-/// A seat at the shared table that shares in its work. It carries the number of the piece that it holds and of the word
-/// that it fills next.
+/// A seat at the shared table that takes part in its work. It has the number of the piece that it holds, and of the
+/// word that it fills next.
 #[derive(Drop)]
 pub struct Pass {
     pub(crate) seat: Seat<(), View>,
@@ -24,7 +24,7 @@ impl Model for Pass {
         × (1 ≤ length p.seat.me.0.share) };
 }
 
-/// A seat at the shared table that reads alone: it claims nothing.
+/// A seat at the shared table that only reads: it claims nothing.
 #[derive(Drop)]
 pub struct Reader {
     pub(crate) seat: Seat<(), View>,

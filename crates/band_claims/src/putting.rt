@@ -1,30 +1,31 @@
 ghost use Rattle.std.specs.Prelude.{◌≡◌, ℕ, ◌<◌, ◌≤◌, ◌+◌, ◌^◌, Some, length, slice_index, true};
 ghost use Rattle.band_claims.specs.Seating.{Seats};
-ghost use Rattle.band_claims.specs.Sheets.{IsFit, cell, shape_of};
+ghost use Rattle.band_claims.specs.TableKeys.{IsFit, cell, shape_of};
 ghost use Rattle.page_model.specs.Bands.{phase_of, pieces_of};
 ghost use Rattle.row_cells.specs.Places.{cell_total, first_cell_of, value_total};
 ghost use Rattle.band_claims.specs.Filled.{AreValues, IsCut, filled_to};
 
 use crate::pass::Pass;
 use crate::shared::Shared;
-use crate::sheet::Sheet;
+use crate::table_key::TableKey;
 use row_cells::layout::{bits, lanes};
 use row_cells::packing::pack;
 use row_cells::values::CellValue;
 
-/// How many words are made before they are stored, at most: a store waits for all that is before it, and so would the packing.
+/// The number of words that are made before they are stored, at most: a store waits for all that is before it, and
+/// packing between two stores would wait too.
 const SPAN: usize = 16;
 
 /// Packs the values of the piece that the pass holds into its cells, and stores these.
 pub fn put_values<V: CellValue>(shared: &Shared, pass: &mut Pass, piece: u32, values: &[V])
     requires pass { Seats shared.now pass.old }
-    requires piece { piece < pieces_of shared.now.sheet.layout.bands }
+    requires piece { piece < pieces_of shared.now.table_key.layout.bands }
     requires held { pass.old.view.held ≡ Some piece }
     requires none_filled { pass.old.view.filled ≡ 0 }
-    requires values { AreValues shared.now.sheet piece (V.numbers values.now) }
+    requires values { AreValues shared.now.table_key piece (V.numbers values.now) }
     ensures pass { Seats shared.now pass.new }
     ensures filled { pass.new.view
-        ≡ filled_to ((shape_of shared.now.sheet).size piece) pass.old.view }
+        ≡ filled_to ((shape_of shared.now.table_key).size piece) pass.old.view }
 {
     match piece / shared.bands().count {
         0 => put_cells::<V, 0>(shared, pass, piece, values),
@@ -34,7 +35,7 @@ pub fn put_values<V: CellValue>(shared: &Shared, pass: &mut Pass, piece: u32, va
     }
 }
 
-/// The same of a piece of that phase, of which the program knows when it is built how its values are packed.
+/// Does the same for a piece of that phase, a constant that is known when the program is built.
 fn put_cells<V: CellValue, const PHASE: u32>(
     shared: &Shared,
     pass: &mut Pass,
@@ -42,14 +43,14 @@ fn put_cells<V: CellValue, const PHASE: u32>(
     values: &[V],
 )
     requires pass { Seats shared.now pass.old }
-    requires piece { piece < pieces_of shared.now.sheet.layout.bands }
-    requires phase { PHASE ≡ phase_of shared.now.sheet.layout.bands piece }
+    requires piece { piece < pieces_of shared.now.table_key.layout.bands }
+    requires phase { PHASE ≡ phase_of shared.now.table_key.layout.bands piece }
     requires held { pass.old.view.held ≡ Some piece }
     requires none_filled { pass.old.view.filled ≡ 0 }
-    requires values { AreValues shared.now.sheet piece (V.numbers values.now) }
+    requires values { AreValues shared.now.table_key piece (V.numbers values.now) }
     ensures pass { Seats shared.now pass.new }
     ensures filled { pass.new.view
-        ≡ filled_to ((shape_of shared.now.sheet).size piece) pass.old.view }
+        ≡ filled_to ((shape_of shared.now.table_key).size piece) pass.old.view }
 {
     let cells = shared.layout().cell_count(piece);
     let mut words = [0u64; SPAN];
@@ -57,20 +58,20 @@ fn put_cells<V: CellValue, const PHASE: u32>(
     while done < cells {
         let count = (cells - done).min(SPAN as u32);
         let some = &mut words[..count as usize];
-        make_words::<V, PHASE>(shared.sheet(), piece, done, values, some);
+        make_words::<V, PHASE>(shared.table_key(), piece, done, values, some);
         put_words(shared, pass, piece, some);
         done += count;
     }
 }
 
-/// Stores these words in the next cells of the piece that the pass holds, whose defined values they are.
+/// Stores these words, which are the defined values, in the next cells of the piece that the pass holds.
 fn put_words(shared: &Shared, pass: &mut Pass, piece: u32, words: &[u64])
     requires pass { Seats shared.now pass.old }
     requires held { pass.old.view.held ≡ Some piece }
     requires inside { pass.old.view.filled + length words.now
-        ≤ (shape_of shared.now.sheet).size piece }
+        ≤ (shape_of shared.now.table_key).size piece }
     requires words { (k : ℕ) → k < length words.now → slice_index words.now k
-        ≡ cell shared.now.sheet ((shape_of shared.now.sheet).start piece
+        ≡ cell shared.now.table_key ((shape_of shared.now.table_key).start piece
         + (pass.old.view.filled + k)) }
     ensures pass { Seats shared.now pass.new }
     ensures filled { pass.new.view
@@ -81,7 +82,7 @@ fn put_words(shared: &Shared, pass: &mut Pass, piece: u32, words: &[u64])
     }
 }
 
-/// Whether all values are 0. It goes over all of them, without a branch, so that many go at once.
+/// Whether all values are 0. All of them are read, without a branch, so that the loop is vectorized.
 fn are_zero<V: CellValue>(values: &[V]) -> bool
     ensures { result ≡ true → (k : ℕ) → k < length values.now
         → slice_index (V.numbers values.now) k ≡ 0 }
@@ -93,7 +94,7 @@ fn are_zero<V: CellValue>(values: &[V]) -> bool
     all
 }
 
-/// Makes each word 1, that of a cell whose values are all 0.
+/// Sets each word to 1, the word of a cell whose values are all 0.
 fn put_ones(words: &mut [u64])
     ensures len { length words.new ≡ length words.old }
     ensures each { (k : ℕ) → k < length words.old → slice_index words.new k ≡ 1 }
@@ -101,27 +102,27 @@ fn put_ones(words: &mut [u64])
     words.fill(1);
 }
 
-/// The words of so many cells of a piece of that phase, from cell `first` on. Where all their values are 0 none is packed.
+/// The words of cells of a piece of that phase, from cell `first` on. If all their values are 0, none is packed.
 fn make_words<V: CellValue, const PHASE: u32>(
-    sheet: &Sheet,
+    table_key: &TableKey,
     piece: u32,
     first: u32,
     values: &[V],
     words: &mut [u64],
 )
-    requires fit { IsFit sheet.now }
-    requires phase { PHASE ≡ phase_of sheet.now.layout.bands piece }
-    requires piece { piece < pieces_of sheet.now.layout.bands }
-    requires cells { first + length words.old ≤ cell_total sheet.now.layout piece }
+    requires fit { IsFit table_key.now }
+    requires phase { PHASE ≡ phase_of table_key.now.layout.bands piece }
+    requires piece { piece < pieces_of table_key.now.layout.bands }
+    requires cells { first + length words.old ≤ cell_total table_key.now.layout piece }
     requires some { 1 ≤ length words.old }
     requires few { length words.old ≤ 16 }
     requires bound { first + length words.old < 2 ^ 32 }
-    requires values { AreValues sheet.now piece (V.numbers values.now) }
+    requires values { AreValues table_key.now piece (V.numbers values.now) }
     ensures words { (k : ℕ) → k < length words.new → slice_index words.new k
-        ≡ cell sheet.now (first_cell_of sheet.now.layout piece + (first + k)) }
+        ≡ cell table_key.now (first_cell_of table_key.now.layout piece + (first + k)) }
     ensures len { length words.new ≡ length words.old }
 {
-    let _layout = &sheet.layout;
+    let _layout = &table_key.layout;
     let per_cell = lanes(PHASE);
     let from = (first * per_cell) as usize;
     let to = (from + SPAN * per_cell as usize).min(values.len());
@@ -129,49 +130,49 @@ fn make_words<V: CellValue, const PHASE: u32>(
         put_ones(words);
         return;
     }
-    pack_words::<V, PHASE>(sheet, piece, first, values, words);
+    pack_words::<V, PHASE>(table_key, piece, first, values, words);
 }
 
-/// The same, each cell packed from its values.
+/// Does the same with each cell packed from its values.
 fn pack_words<V: CellValue, const PHASE: u32>(
-    sheet: &Sheet,
+    table_key: &TableKey,
     piece: u32,
     first: u32,
     values: &[V],
     words: &mut [u64],
 )
-    requires fit { IsFit sheet.now }
-    requires phase { PHASE ≡ phase_of sheet.now.layout.bands piece }
-    requires piece { piece < pieces_of sheet.now.layout.bands }
-    requires cells { first + length words.old ≤ cell_total sheet.now.layout piece }
+    requires fit { IsFit table_key.now }
+    requires phase { PHASE ≡ phase_of table_key.now.layout.bands piece }
+    requires piece { piece < pieces_of table_key.now.layout.bands }
+    requires cells { first + length words.old ≤ cell_total table_key.now.layout piece }
     requires few { length words.old ≤ 16 }
     requires bound { first + length words.old < 2 ^ 32 }
-    requires values { AreValues sheet.now piece (V.numbers values.now) }
+    requires values { AreValues table_key.now piece (V.numbers values.now) }
     ensures words { (k : ℕ) → k < length words.new → slice_index words.new k
-        ≡ cell sheet.now (first_cell_of sheet.now.layout piece + (first + k)) }
+        ≡ cell table_key.now (first_cell_of table_key.now.layout piece + (first + k)) }
     ensures len { length words.new ≡ length words.old }
 {
     for k in 0..words.len() {
-        words[k] = values_word(sheet, PHASE, piece, first + k as u32, values);
+        words[k] = values_word(table_key, PHASE, piece, first + k as u32, values);
     }
 }
 
-// Which values of a piece make one of its cells: so many from number `first` on.
+// The values of a piece that make one of its cells.
 #[derive(Clone, Copy, Drop)]
 struct Cut {
     first: usize,
     count: usize,
 }
 
-fn cut_of(sheet: &Sheet, phase: u32, piece: u32, o: u32, total: usize) -> Cut
-    requires fit { IsFit sheet.now }
-    requires phase { phase ≡ phase_of sheet.now.layout.bands piece }
-    requires piece { piece < pieces_of sheet.now.layout.bands }
-    requires cell { o < cell_total sheet.now.layout piece }
-    requires total { total ≡ value_total sheet.now.layout piece }
-    ensures { IsCut sheet.now.layout piece o phase result.first result.count }
+fn cut_of(table_key: &TableKey, phase: u32, piece: u32, o: u32, total: usize) -> Cut
+    requires fit { IsFit table_key.now }
+    requires phase { phase ≡ phase_of table_key.now.layout.bands piece }
+    requires piece { piece < pieces_of table_key.now.layout.bands }
+    requires cell { o < cell_total table_key.now.layout piece }
+    requires total { total ≡ value_total table_key.now.layout piece }
+    ensures { IsCut table_key.now.layout piece o phase result.first result.count }
 {
-    let _layout = &sheet.layout;
+    let _layout = &table_key.layout;
     let per_cell = lanes(phase);
     let first = (o * per_cell) as usize;
     Cut {
@@ -180,29 +181,35 @@ fn cut_of(sheet: &Sheet, phase: u32, piece: u32, o: u32, total: usize) -> Cut
     }
 }
 
-/// The word of cell o of a piece, which has these values.
-pub fn word_of_values<V: CellValue>(sheet: &Sheet, piece: u32, o: u32, values: &[V]) -> u64
-    requires fit { IsFit sheet.now }
-    requires piece { piece < pieces_of sheet.now.layout.bands }
-    requires cell { o < cell_total sheet.now.layout piece }
-    requires values { AreValues sheet.now piece (V.numbers values.now) }
-    ensures { result ≡ cell sheet.now (first_cell_of sheet.now.layout piece + o) }
+/// The word of cell number `o` of a piece with these values.
+pub fn word_of_values<V: CellValue>(table_key: &TableKey, piece: u32, o: u32, values: &[V]) -> u64
+    requires fit { IsFit table_key.now }
+    requires piece { piece < pieces_of table_key.now.layout.bands }
+    requires cell { o < cell_total table_key.now.layout piece }
+    requires values { AreValues table_key.now piece (V.numbers values.now) }
+    ensures { result ≡ cell table_key.now (first_cell_of table_key.now.layout piece + o) }
 {
-    let phase = piece / sheet.layout.bands().count;
-    values_word(sheet, phase, piece, o, values)
+    let phase = piece / table_key.layout.bands().count;
+    values_word(table_key, phase, piece, o, values)
 }
 
-// The same where the piece's phase is known: it is asked once a piece, and not once a cell.
+// Does the same where the phase of the piece is known: it is worked out once for a piece, not for each cell.
 #[inline(always)]
-fn values_word<V: CellValue>(sheet: &Sheet, phase: u32, piece: u32, o: u32, values: &[V]) -> u64
-    requires fit { IsFit sheet.now }
-    requires phase { phase ≡ phase_of sheet.now.layout.bands piece }
-    requires piece { piece < pieces_of sheet.now.layout.bands }
-    requires cell { o < cell_total sheet.now.layout piece }
-    requires values { AreValues sheet.now piece (V.numbers values.now) }
-    ensures { result ≡ cell sheet.now (first_cell_of sheet.now.layout piece + o) }
+fn values_word<V: CellValue>(
+    table_key: &TableKey,
+    phase: u32,
+    piece: u32,
+    o: u32,
+    values: &[V],
+) -> u64
+    requires fit { IsFit table_key.now }
+    requires phase { phase ≡ phase_of table_key.now.layout.bands piece }
+    requires piece { piece < pieces_of table_key.now.layout.bands }
+    requires cell { o < cell_total table_key.now.layout piece }
+    requires values { AreValues table_key.now piece (V.numbers values.now) }
+    ensures { result ≡ cell table_key.now (first_cell_of table_key.now.layout piece + o) }
 {
-    let cut = cut_of(sheet, phase, piece, o, values.len());
+    let cut = cut_of(table_key, phase, piece, o, values.len());
     pack(bits(phase), part_of(values, cut.first, cut.count))
 }
 

@@ -7,7 +7,7 @@ ghost use Rattle.band_board.specs.Boards.{is_done as is_done_on};
 ghost use Rattle.band_board.specs.Runs.{Sound};
 ghost use Rattle.band_board.specs.Shapes.{Has};
 ghost use Rattle.band_core.specs.Values.{IsFor};
-ghost use Rattle.band_claims.specs.Sheets.{cell, shape_of, IsFit};
+ghost use Rattle.band_claims.specs.TableKeys.{cell, shape_of, IsFit};
 ghost use Rattle.band_claims.specs.Views.{IsFair, times, Knows, looked_at, claimed, put, finished, parted, branched, joined, Won, Lost};
 ghost use Rattle.band_claims.specs.Seating.{Seats};
 ghost use Rattle.band_claims.specs.Rule.{piece_word};
@@ -18,7 +18,7 @@ ghost use Rattle.band_claims.specs.Views.{newcomer, one_if};
 use crate::closed::Closed;
 use crate::pass::{Pass, Reader};
 use crate::plays::{Claims, Finishes, Looks, Passes, Puts, Readers, Reads};
-use crate::sheet::Sheet;
+use crate::table_key::TableKey;
 use crate::view::View;
 use atomic_table::{Seat, Table, TableRule};
 use band_graph::needs::{need_at, need_count, pieces};
@@ -30,23 +30,22 @@ use std::alloc::Global;
 use std::marker::Model;
 use std::snapshot::Snapshot;
 
-/// The rule of the shared table: `specs/Rule.antt` has its clauses, and it remembers the steps that were made, each of
-/// one of the eight kinds of `specs/Kinds.antt`.
+/// The rule of the shared table: `specs/Rule.antt` has its clauses. Each step that was made is of one of the eight
+/// kinds of `specs/Kinds.antt`.
 pub struct Claiming;
 
-impl TableRule<(), View, Sheet> for Claiming {
+impl TableRule<(), View, TableKey> for Claiming {
     ghost holds = { Remembered };
 
     ghost first = { newcomer };
 }
 
-/// The shared table of a page: a word for each piece, 0 while it is free, 1 while it is claimed and 2 when it is
-/// done, and then a word for each cell, 0 while it is empty. Threads share it by reference, each with a pass of its
-/// own.
+/// The shared table of a page: a word for each piece, 0 if it is free, 1 if it is claimed and 2 if it is done, and then
+/// a word for each cell, 0 if it is empty. Threads share it by reference, each with a pass of its own.
 #[derive(Drop)]
 pub struct Shared {
-    table: Table<(), View, Sheet, Claiming, Global>,
-    sheet: Sheet,
+    table: Table<(), View, TableKey, Claiming, Global>,
+    table_key: TableKey,
     marks: Vec<u8>,
 }
 
@@ -57,35 +56,35 @@ impl Model for Shared {
 
     ghost view = { λ s. record {
       table = s.table.shared.table_id;
-      sheet = s.table.shared.key;
+      table_key = s.table.shared.key;
       room = s.marks.cap;
     } };
 
     ghost invariant = { λ s. IsOpenTable s.table.shared.table_id.words
-        s.table.shared.table_id.slots s.table.shared.key s.sheet s.marks.items };
+        s.table.shared.table_id.slots s.table.shared.key s.table_key s.marks.items };
 }
 
-type Words = Table<(), View, Sheet, Claiming, Global>;
+type Words = Table<(), View, TableKey, Claiming, Global>;
 
-// A table whose words are all 0. The zeros that it is copied from are let go here.
-fn opened(alloc: Global, sheet: &Sheet) -> Result<(Words, Seat<(), View>), OutOfMemory>
-    requires fit { IsFit sheet.now }
+// A table whose words are all 0. The list of zeros that it is copied from is dropped here.
+fn open_table(alloc: Global, table_key: &TableKey) -> Result<(Words, Seat<(), View>), OutOfMemory>
+    requires fit { IsFit table_key.now }
     ensures words { IfOk result (λ t. t.0.shared.table_id.words
-        ≡ (shape_of sheet.now).pieces + (shape_of sheet.now).cells) }
+        ≡ (shape_of table_key.now).pieces + (shape_of table_key.now).cells) }
     ensures slots { IfOk result (λ t. t.0.shared.table_id.slots ≡ 0) }
-    ensures told { IfOk result (λ t. t.0.shared.key ≡ sheet.now) }
+    ensures told { IfOk result (λ t. t.0.shared.key ≡ table_key.now) }
     ensures seat { IfOk result (λ t.
-        (t.1.table_id ≡ t.0.shared.table_id) × (t.1.me ≡ (newcomer sheet.now, []))) }
+        (t.1.table_id ≡ t.0.shared.table_id) × (t.1.me ≡ (newcomer table_key.now, []))) }
 {
-    let count = pieces(sheet.layout.bands()) + sheet.layout.cells();
+    let count = pieces(table_key.layout.bands()) + table_key.layout.cells();
     let Ok(zeros) = vec![in alloc; 0u64; count as usize] else {
         return Err(OutOfMemory);
     };
-    Table::of_words(alloc, zeros.as_slice(), sheet).or(Err(OutOfMemory))
+    Table::of_words(alloc, zeros.as_slice(), table_key).or(Err(OutOfMemory))
 }
 
 impl Shared {
-    /// A table with all words 0 for a page, and its first pass, which knows nothing.
+    /// Allocates a table for a page, with all words 0, and its first pass, which knows nothing.
     pub fn new(
         alloc: Global,
         page: &Page,
@@ -95,11 +94,11 @@ impl Shared {
         requires layout { IsFor page.now layout.now }
         requires bands { layout.now.bands ≡ bands.now }
         ensures pass { IfOk result (λ t. Seats t.0 t.1) }
-        ensures new { IfOk result (λ t. t.1.view ≡ newcomer t.0.sheet) }
-        ensures page { IfOk result (λ t. t.0.sheet.page.value ≡ page.now) }
-        ensures layout { IfOk result (λ t. t.0.sheet.layout ≡ layout.now) }
+        ensures new { IfOk result (λ t. t.1.view ≡ newcomer t.0.table_key) }
+        ensures page { IfOk result (λ t. t.0.table_key.page.value ≡ page.now) }
+        ensures layout { IfOk result (λ t. t.0.table_key.layout ≡ layout.now) }
     {
-        let sheet = Sheet {
+        let table_key = TableKey {
             page: Snapshot::of(page),
             layout: *layout,
         };
@@ -107,10 +106,10 @@ impl Shared {
         let Ok(marks) = vec![in alloc; 0u8; pieces as usize] else {
             return Err(OutOfMemory);
         };
-        let (table, seat) = opened(alloc, &sheet)?;
+        let (table, seat) = open_table(alloc, &table_key)?;
         let shared = Shared {
             table,
-            sheet,
+            table_key,
             marks,
         };
         let pass = Pass {
@@ -123,31 +122,31 @@ impl Shared {
 
     /// The bands that the table was made with.
     pub fn bands(&self) -> &Bands
-        ensures same { result.now ≡ self.now.sheet.layout.bands }
-        ensures fits { IsFit self.now.sheet }
+        ensures same { result.now ≡ self.now.table_key.layout.bands }
+        ensures fits { IsFit self.now.table_key }
     {
-        self.sheet.layout.bands()
+        self.table_key.layout.bands()
     }
 
     /// The layout that the table was made with.
     pub fn layout(&self) -> &Layout
-        ensures { result.now ≡ self.now.sheet.layout }
+        ensures { result.now ≡ self.now.table_key.layout }
     {
-        &self.sheet.layout
+        &self.table_key.layout
     }
 
     /// The page and the layout that the table was made with.
-    pub fn sheet(&self) -> &Sheet
-        ensures same { result.now ≡ self.now.sheet }
-        ensures fits { IsFit self.now.sheet }
+    pub fn table_key(&self) -> &TableKey
+        ensures same { result.now ≡ self.now.table_key }
+        ensures fits { IsFit self.now.table_key }
     {
-        &self.sheet
+        &self.table_key
     }
 
-    /// Whether a piece is done: false exactly where the word that was loaded was not 2.
+    /// Loads the word of a piece, and returns whether it is 2, that of a done piece.
     pub fn is_done(&self, pass: &mut Pass, piece: u32) -> bool
         requires pass { Seats self.now pass.old }
-        requires piece { piece < pieces_of self.now.sheet.layout.bands }
+        requires piece { piece < pieces_of self.now.table_key.layout.bands }
         ensures pass { Seats self.now pass.new }
         ensures answer { (found : ℕ) × (pass.new.view ≡ looked_at piece found pass.old.view)
             × (IsTrue result ↔ (found ≡ 2)) }
@@ -159,19 +158,19 @@ impl Shared {
         found == 2
     }
 
-    /// Claims a piece. It answers false exactly where it found a need of the piece that is not done, or the piece
+    /// Tries to claim a piece. Returns false exactly if it found a need of the piece that is not done, or the piece
     /// itself not free; the pass then holds nothing, and `looked` ends with what was found.
     pub fn claim(&self, pass: &mut Pass, piece: u32) -> bool
         requires pass { Seats self.now pass.old }
-        requires piece { piece < pieces_of self.now.sheet.layout.bands }
+        requires piece { piece < pieces_of self.now.table_key.layout.bands }
         requires idle { pass.old.view.held ≡ None }
         ensures pass { Seats self.now pass.new }
         ensures won { IsTrue result
-            → Won self.now.sheet.layout.bands piece pass.old.view pass.new.view }
+            → Won self.now.table_key.layout.bands piece pass.old.view pass.new.view }
         ensures lost { result ≡ false
-            → Lost self.now.sheet.layout.bands piece pass.old.view pass.new.view }
+            → Lost self.now.table_key.layout.bands piece pass.old.view pass.new.view }
     {
-        let bands = self.sheet.layout.bands();
+        let bands = self.table_key.layout.bands();
         let count = need_count(bands, piece);
         for k in 0..count {
             let need = need_at(bands, piece, k);
@@ -182,12 +181,12 @@ impl Shared {
         self.take(pass, piece)
     }
 
-    // The exchange of a claim.
+    // Claims a piece whose needs are done, by a compare-exchange of its word from 0 to 1.
     fn take(&self, pass: &mut Pass, piece: u32) -> bool
         requires pass { Seats self.now pass.old }
-        requires piece { piece < pieces_of self.now.sheet.layout.bands }
+        requires piece { piece < pieces_of self.now.table_key.layout.bands }
         requires idle { pass.old.view.held ≡ None }
-        requires known { (n : ℕ) → is_need self.now.sheet.layout.bands piece n ≡ true
+        requires known { (n : ℕ) → is_need self.now.table_key.layout.bands piece n ≡ true
             → Knows pass.old.view n }
         ensures pass { Seats self.now pass.new }
         ensures answer { (found : ℕ) × (pass.new.view ≡ claimed piece found pass.old.view)
@@ -199,18 +198,19 @@ impl Shared {
             .compare_exchange::<Claims>(&mut pass.seat, piece as usize, 0, 1);
         if found == 0 {
             pass.piece = piece;
-            pass.next = pieces(self.sheet.layout.bands()) + self.sheet.layout.first_cell(piece);
+            pass.next = pieces(self.table_key.layout.bands())
+                + self.table_key.layout.first_cell(piece);
         }
         found == 0
     }
 
-    /// Fills the next cell of the held piece with its defined value.
+    /// Stores the defined value of the next cell of the held piece.
     pub fn put_cell(&self, pass: &mut Pass, value: u64)
         requires pass { Seats self.now pass.old }
         requires next { (piece : ℕ) × (pass.old.view.held ≡ Some piece)
-            × (pass.old.view.filled < (shape_of self.now.sheet).size piece)
-            × (value ≡ cell self.now.sheet
-            ((shape_of self.now.sheet).start piece + pass.old.view.filled)) }
+            × (pass.old.view.filled < (shape_of self.now.table_key).size piece)
+            × (value ≡ cell self.now.table_key
+            ((shape_of self.now.table_key).start piece + pass.old.view.filled)) }
         ensures pass { Seats self.now pass.new }
         ensures put { pass.new.view ≡ put pass.old.view }
     {
@@ -220,52 +220,53 @@ impl Shared {
         pass.next += 1;
     }
 
-    /// Publishes the held piece, whose cells are all filled.
+    /// Publishes the held piece, all of whose cells are filled: stores 2 in its word.
     pub fn finish(&self, pass: &mut Pass)
         requires pass { Seats self.now pass.old }
         requires full { (piece : ℕ) × (pass.old.view.held ≡ Some piece)
-            × (pass.old.view.filled ≡ (shape_of self.now.sheet).size piece) }
+            × (pass.old.view.filled ≡ (shape_of self.now.table_key).size piece) }
         ensures pass { Seats self.now pass.new }
         ensures finished { (piece : ℕ) × (pass.old.view.held ≡ Some piece)
             × (pass.new.view ≡ finished piece pass.old.view) }
-        ensures fair { IsFair (pieces_of self.now.sheet.layout.bands) pass.new.view }
+        ensures fair { IsFair (pieces_of self.now.table_key.layout.bands) pass.new.view }
     {
         self.table
             .shared
             .store::<Finishes>(&mut pass.seat, pass.piece as usize, 2);
     }
 
-    /// The words of cells, from number `first` on, of pieces that the pass saw done or published: their defined values.
+    /// Loads the words of cells, from cell `first` on, of pieces that the pass saw done or published. They are the
+    /// defined values.
     pub fn read_cells(&self, pass: &mut Pass, first: u32, out: &mut [u64])
         requires pass { Seats self.now pass.old }
         requires known { (o : ℕ) → o < length out.old → (piece : ℕ)
-            × Has (shape_of self.now.sheet) piece (first + o) × Knows pass.old.view piece }
+            × Has (shape_of self.now.table_key) piece (first + o) × Knows pass.old.view piece }
         ensures pass { pass.new ≡ pass.old }
         ensures cells { (o : ℕ) → o < length out.new
-            → slice_index out.new o ≡ cell self.now.sheet (first + o) }
+            → slice_index out.new o ≡ cell self.now.table_key (first + o) }
     {
-        let _ = &self.sheet.layout;
+        let _ = &self.table_key.layout;
         for o in 0..out.len() {
             out[o] = self.read_cell(pass, first + o as u32);
         }
     }
 
-    /// The word of one cell of a piece that the pass saw done or published: its defined value.
+    /// Loads the word of one cell of a piece that the pass saw done or published. It is the defined value.
     pub fn read_cell(&self, pass: &mut Pass, j: u32) -> u64
         requires pass { Seats self.now pass.old }
-        requires known { (piece : ℕ) × Has (shape_of self.now.sheet) piece j
+        requires known { (piece : ℕ) × Has (shape_of self.now.table_key) piece j
             × Knows pass.old.view piece }
         ensures pass { pass.new ≡ pass.old }
-        ensures cell { result ≡ cell self.now.sheet j }
+        ensures cell { result ≡ cell self.now.table_key j }
     {
-        let word = pieces(self.sheet.layout.bands()) + j;
+        let word = pieces(self.table_key.layout.bands()) + j;
         self.table
             .shared
             .load::<Reads>(&mut pass.seat, word as usize)
     }
 
-    /// A second pass, which holds nothing, has published nothing, and has seen what this one knows. Each has half of the
-    /// share that this one had.
+    /// Splits a pass in two. The second one holds nothing, has published nothing, and knows what the first one knows.
+    /// Each has half of the share.
     pub fn split(&self, pass: Pass) -> (Pass, Pass)
         requires pass { Seats self.now pass }
         requires idle { pass.view.held ≡ None }
@@ -284,7 +285,7 @@ impl Shared {
         (pass, other)
     }
 
-    /// A seat that reads alone, and has seen what the pass knows. The pass stays as it is.
+    /// A seat that only reads, and knows what the pass knows. The pass stays unchanged.
     pub fn reader(&self, pass: &mut Pass) -> Reader
         requires pass { Seats self.now pass.old }
         requires idle { pass.old.view.held ≡ None }
@@ -297,10 +298,10 @@ impl Shared {
         }
     }
 
-    /// The same as `is_done`, by a seat that reads alone.
+    /// Does what `is_done` does, by a seat that only reads.
     pub fn sees_done(&self, reader: &mut Reader, piece: u32) -> bool
         requires reader { Seats self.now reader.old }
-        requires piece { piece < pieces_of self.now.sheet.layout.bands }
+        requires piece { piece < pieces_of self.now.table_key.layout.bands }
         ensures reader { Seats self.now reader.new }
         ensures answer { (found : ℕ) × (reader.new.view ≡ looked_at piece found reader.old.view)
             × (IsTrue result ↔ (found ≡ 2)) }
@@ -312,21 +313,21 @@ impl Shared {
         found == 2
     }
 
-    /// The same as `read_cell`, by a seat that reads alone.
+    /// Does what `read_cell` does, by a seat that only reads.
     pub fn read_alone(&self, reader: &mut Reader, j: u32) -> u64
         requires reader { Seats self.now reader.old }
-        requires known { (piece : ℕ) × Has (shape_of self.now.sheet) piece j
+        requires known { (piece : ℕ) × Has (shape_of self.now.table_key) piece j
             × Knows reader.old.view piece }
         ensures reader { reader.new ≡ reader.old }
-        ensures cell { result ≡ cell self.now.sheet j }
+        ensures cell { result ≡ cell self.now.table_key j }
     {
-        let word = pieces(self.sheet.layout.bands()) + j;
+        let word = pieces(self.table_key.layout.bands()) + j;
         self.table
             .shared
             .load::<Reads>(&mut reader.seat, word as usize)
     }
 
-    /// One pass of two, which has published and seen what both had, and has the shares of both.
+    /// Joins two passes into one, which has published and seen what both had, and has the shares of both.
     pub fn join(&self, one: Pass, two: Pass) -> Pass
         requires one { Seats self.now one }
         requires two { Seats self.now two }
@@ -345,22 +346,22 @@ impl Shared {
         one
     }
 
-    /// The table that no pass steps on any more, with what the last pass knew. Its words are those of a sound board, and
-    /// steps of the eight kinds led to them from the opening. Where the pass has all shares, it alone has published.
+    /// Closes the table, with what the last pass knew. Its words are those of a sound board, and steps of the eight
+    /// kinds led to them from the opening. If the pass has all shares, it alone has published.
     pub fn close_all(self, pass: Pass) -> Closed
         requires pass { Seats self pass }
-        ensures sheet { result.sheet ≡ self.sheet }
-        ensures sound { Sound (shape_of result.sheet) (cell result.sheet)
-            (board_of (shape_of result.sheet) result.words) }
-        ensures words { AreWords (shape_of result.sheet) result.words }
-        ensures run { Ends result.sheet result.words pass.view }
+        ensures table_key { result.table_key ≡ self.table_key }
+        ensures sound { Sound (shape_of result.table_key) (cell result.table_key)
+            (board_of (shape_of result.table_key) result.words) }
+        ensures words { AreWords (shape_of result.table_key) result.words }
+        ensures run { Ends result.table_key result.words pass.view }
         ensures published { result.published ≡ pass.view.published }
         ensures seen { result.seen ≡ pass.view.seen }
         ensures looked { result.looked ≡ pass.view.looked }
         ensures told { result.told ≡ pass.view.told }
         ensures done { (i : ℕ) → Knows pass.view i → piece_word result.words i ≡ 2 }
         ensures whole { IsWhole pass.view.share → (i : ℕ) → times i result.published
-            ≡ one_if (nat_lt i (pieces_of result.sheet.layout.bands)
+            ≡ one_if (nat_lt i (pieces_of result.table_key.layout.bands)
             && (piece_word result.words i == 2)) }
         ensures once { (i : ℕ) → times i result.published ≤ 1 }
         ensures alone { result.alone ≡ [] }
@@ -369,7 +370,7 @@ impl Shared {
         let last = Snapshot::of(&pass);
         let Shared {
             table,
-            sheet,
+            table_key,
             marks,
         } = self;
         let Pass {
@@ -379,7 +380,7 @@ impl Shared {
         } = pass;
         Closed {
             table: table.close_with(seat),
-            sheet,
+            table_key,
             marks,
             last,
         }

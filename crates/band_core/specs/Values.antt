@@ -47,7 +47,7 @@ abbrev pub value : PageParts → Layout → ℕ → ℕ → ℕ
 value page layout i k =
     row_value page (phase_of layout.bands i) (row_of layout i k) (place_of layout i k)
 
--- the values of cell o of a piece: so many as there are lanes, or what is left
+-- the values of cell o of a piece: as many as it has lanes, or the rest of the piece's
 abbrev pub cut : (ℕ → ℕ) → ℕ → ℕ → ℕ → List ℕ
 cut values lanes total o = list_below (λ l. values (o * lanes + l)) (min lanes (total - o * lanes))
 

@@ -16,7 +16,7 @@ use row_cells::layout::Layout;
 use std::alloc::Global;
 use std::marker::Model;
 
-/// How far each piece of a page is, and the word of each cell. Contracts see the layout beside them.
+/// The states of a page's pieces, and the words of all cells. Contracts see the layout beside them.
 #[derive(Drop)]
 pub struct Board {
     layout: Layout,
@@ -61,10 +61,10 @@ impl Board {
         })
     }
 
-    /// Makes the event happen, and answers false exactly where it may not happen; nothing then changes.
+    /// Makes an event happen. Returns false, and changes nothing, exactly where it may not happen.
     ///
-    /// A piece is claimed where it is free and each of its needs is done, a cell is filled where it is empty and its
-    /// piece is claimed, and a piece is done where it was claimed and none of its cells is empty. Where a cell is
+    /// A piece may be claimed if it is free and each of its needs is done, a cell may be filled if it is empty and its
+    /// piece is claimed, and a piece may be done if it is claimed and none of its cells is empty. If each cell is
     /// filled with what the recipe gives over the board, a board that is sound for a page stays so.
     pub fn step(&mut self, event: Event) -> bool
         requires range { InRange (shape_of self.old.layout) event }

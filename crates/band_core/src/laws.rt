@@ -1,5 +1,5 @@
 // Laws over the definitions: each function does nothing, and its contract is the law. Those of runs, of words and of
-// boards that are not stuck stand over any shape in `band_board`; here they are told of the pieces of a page.
+// boards that are not stuck are proved for any shape in `band_board`; here they are stated for the pieces of a page.
 
 ghost use Rattle.std.specs.Prelude.{◌≡◌, ◌<◌, ◌≤◌, ◌^◌, ℕ};
 ghost use Rattle.page_model.specs.declared.parts.PageParts.{PageParts};
@@ -39,8 +39,8 @@ pub fn traps_law()
     ensures { PhaseLaw 3 }
 {}
 
-/// On a board that is sound for a page the recipe gives the defined cell, for each cell of a piece whose needs are
-/// all done.
+/// On a board that is sound for a page the recipe gives the defined value of each cell of a piece whose needs are all
+/// done.
 pub fn halo_law()
     ensures { (page : PageParts) (layout : Layout) → IsFor page layout
         → Halo (shape_of layout) (cell page layout) (recipe page layout) }
@@ -53,12 +53,13 @@ pub fn run_law()
         → RunLaw (shape_of layout) (cell page layout) (recipe page layout) }
 {}
 
-/// Where no piece is claimed and some piece is not done, some free piece has all its needs done.
+/// If no piece is claimed and some piece is not done, then some free piece has all its needs done: work can always go
+/// on.
 pub fn never_stuck_law()
     ensures { (layout : Layout) → IsLayout layout → NeverStuck (shape_of layout) }
 {}
 
-/// The pieces of a layout have cells that stand in order, and needs that stand before them.
+/// The cells of a layout's pieces are in order, and the needs of a piece have lesser numbers than the piece.
 pub fn shape_law()
     ensures { (layout : Layout) → IsLayout layout → IsShape (shape_of layout) }
 {}
@@ -69,23 +70,23 @@ pub fn reads_needs_alone_law()
         → ReadsNeedsAlone page layout }
 {}
 
-/// A list of the values of a cell of a piece, packed, is that cell.
+/// The values of a cell of a piece, packed, are that cell.
 pub fn cell_packs_law()
     ensures { (page : PageParts) (layout : Layout) → IsFor page layout → CellPacks page layout }
 {}
 
-/// From a cell each of its values is unpacked.
+/// Unpacking a cell gives each of its values.
 pub fn cell_unpacks_law()
     ensures { (page : PageParts) (layout : Layout) → IsFor page layout → CellUnpacks page layout }
 {}
 
-/// A cell is no 0, and fits a word.
+/// No cell is 0, and each fits a word.
 pub fn cell_word_law()
     ensures { (page : PageParts) (layout : Layout) → IsFor page layout → (j : ℕ)
         → j < cells_of layout → (1 ≤ cell page layout j) × (cell page layout j < 2 ^ 63) }
 {}
 
-/// What stands at a place of a row in each phase, and of which piece that is which value.
+/// What is at a place of a row in each phase, and which value of which piece it is.
 pub fn rows_law()
     ensures values { (page : PageParts) (y o : ℕ) → RowValues page y o }
     ensures pieces { (page : PageParts) (layout : Layout) → IsFor page layout

@@ -1,5 +1,5 @@
-//! The values of each piece over the undivided page, how a piece is made from its needs alone, the board of a page,
-//! and the laws of what any order of events makes of it.
+//! The values of each piece over the undivided page, how a piece is made from its needs alone, the board of a page, and
+//! the laws that hold for events in any order.
 #![tactic(auto)]
 
 pub mod board;

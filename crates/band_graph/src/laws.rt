@@ -6,7 +6,8 @@ ghost use Rattle.band_graph.specs.Needs.{is_need};
 
 use page_model::bands::Bands;
 
-/// Each need has a lesser number.
+/// The needs of a piece have lesser numbers than the piece: the graph has no cycle, and the order of the numbers is a
+/// topological order.
 pub fn need_is_less_law()
     ensures { (bands : Bands) → AreBands bands → (i n : ℕ) → is_need bands i n ≡ true → n < i }
 {}

@@ -1,4 +1,4 @@
-//! The pieces of work of a page in bands, and what each piece needs before it can be made.
+//! The pieces of work of a page in bands, and which pieces each needs: a dependency graph of tasks, without cycles.
 #![tactic(auto)]
 
 pub mod laws;

@@ -6,7 +6,7 @@ ghost use Rattle.band_graph.specs.Needs.{halo_bands, is_need};
 
 use page_model::bands::Bands;
 
-/// How many pieces of work there are: four phases of each band.
+/// The number of pieces of work: four phases of each band.
 pub fn pieces(bands: &Bands) -> u32
     requires bands { AreBands bands.now }
     ensures value { result ≡ pieces_of bands.now }
@@ -27,7 +27,7 @@ pub fn piece(bands: &Bands, phase: u32, band: u32) -> u32
     phase * bands.count + band
 }
 
-/// How many pieces a piece needs.
+/// The number of pieces that a piece needs.
 pub fn need_count(bands: &Bands, piece: u32) -> u32
     requires bands { AreBands bands.now }
     requires piece { piece < pieces_of bands.now }
@@ -36,8 +36,7 @@ pub fn need_count(bands: &Bands, piece: u32) -> u32
     count_of_needs(bands, piece)
 }
 
-/// The need of a piece before which `k` of its needs stand: its needs stand in ascending order, from 0. It has a lesser
-/// number than the piece.
+/// Need number `k` of a piece, counted from 0, in ascending order. It is a piece with a lesser number.
 pub fn need_at(bands: &Bands, piece: u32, k: u32) -> u32
     requires bands { AreBands bands.now }
     requires piece { piece < pieces_of bands.now }

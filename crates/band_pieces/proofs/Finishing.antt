@@ -13,10 +13,10 @@ use Rattle.band_board.specs.Boards.{is_done, state_done}
 use Rattle.band_board.specs.Runs.{Sound}
 use Rattle.band_board.specs.TableWords.{AreWords, board_of, state_of}
 use Rattle.band_board.proofs.TableWords.{cell_is, state_is}
-use Rattle.band_claims.specs.declared.sheet.Sheet.{Sheet}
+use Rattle.band_claims.specs.declared.table_key.TableKey.{TableKey}
 use Rattle.band_claims.specs.Receipt.{Receipt}
 use Rattle.band_claims.specs.Rule.{cell_word, piece_word}
-use Rattle.band_claims.specs.Sheets.{IsFit, cell, shape_of}
+use Rattle.band_claims.specs.TableKeys.{IsFit, cell, shape_of}
 use Rattle.band_claims.specs.Views.{one_if, times}
 use Rattle.band_claims.proofs.Steps.{fit_shape}
 use Rattle.band_pieces.specs.Fills.{DoneHaveCells, FillsPiece, FinishesPiece, FinishesTo, HasCells, KeepsLists}
@@ -32,9 +32,9 @@ then_lists : (a b c : Receipt) → KeepsLists a b → KeepsLists b c → KeepsLi
 then_lists a b c f s = record { published = s.published ∙ f.published; seen = s.seen ∙ f.seen; looked = s.looked ∙ f.looked; told = s.told ∙ f.told; room = s.room ∙ f.room }
 
 -- the needs of a piece are done where all pieces before it are
-pub needs_known : (closed : Receipt) (layout : Layout) (piece n : ℕ) → IsFit closed.sheet → layout ≡ closed.sheet.layout → piece < pieces_of closed.sheet.layout.bands → ((i : ℕ) → i < piece → piece_word closed.words i ≡ 2) → DoneHaveCells closed → is_need layout.bands piece n ≡ true → HasCells closed n
+pub needs_known : (closed : Receipt) (layout : Layout) (piece n : ℕ) → IsFit closed.table_key → layout ≡ closed.table_key.layout → piece < pieces_of closed.table_key.layout.bands → ((i : ℕ) → i < piece → piece_word closed.words i ≡ 2) → DoneHaveCells closed → is_need layout.bands piece n ≡ true → HasCells closed n
 needs_known closed layout piece n fit same inside earlier cells need =
-    let less = need_less closed.sheet.layout.bands piece n fit.made.bands (subst (λ (z : Layout). is_need z.bands piece n ≡ true) same need) in
+    let less = need_less closed.table_key.layout.bands piece n fit.made.bands (subst (λ (z : Layout). is_need z.bands piece n ≡ true) same need) in
     cells n (omega (arith, less, inside)) (earlier n less)
 
 none_more : (b : Bool) (n : ℕ) → n ≡ n + one_if (b && not true)
@@ -44,7 +44,7 @@ none_more false n = omega arith
 -- a piece that is done stays as it is
 pub finished_same : (closed : Receipt) (piece : ℕ) → piece_word closed.words piece ≡ 2 → DoneHaveCells closed → FinishesPiece closed closed piece
 finished_same closed piece done cells = record {
-  sheet = refl;
+  table_key = refl;
   lists = same_lists closed;
   done = done;
   others = λ i l ne. refl;
@@ -54,7 +54,7 @@ finished_same closed piece done cells = record {
 
 -- what making a piece done changes
 pub record SetsDone (before after : Receipt) (piece : ℕ) : Type 0 where
-  pub sheet : after.sheet ≡ before.sheet
+  pub table_key : after.table_key ≡ before.table_key
   pub lists : KeepsLists before after
   pub words : after.words ≡ slice_set before.words piece 2
   pub alone : (i : ℕ) → times i after.alone ≡ times i before.alone + one_if (i == piece)
@@ -63,15 +63,15 @@ and_true : (b : Bool) → b ≡ (b && true)
 and_true true = refl
 and_true false = refl
 
-pub finished_now : (closed filled after : Receipt) (piece : ℕ) → IsFit closed.sheet → length closed.words ≡ (shape_of closed.sheet).pieces + (shape_of closed.sheet).cells → piece < pieces_of closed.sheet.layout.bands → piece_word closed.words piece ≢ 2 → DoneHaveCells closed → FillsPiece closed filled piece → SetsDone filled after piece → FinishesPiece closed after piece
+pub finished_now : (closed filled after : Receipt) (piece : ℕ) → IsFit closed.table_key → length closed.words ≡ (shape_of closed.table_key).pieces + (shape_of closed.table_key).cells → piece < pieces_of closed.table_key.layout.bands → piece_word closed.words piece ≢ 2 → DoneHaveCells closed → FillsPiece closed filled piece → SetsDone filled after piece → FinishesPiece closed after piece
 finished_now closed filled after piece fit wide inside left cells f s = record {
-  sheet = s.sheet ∙ f.sheet;
+  table_key = s.table_key ∙ f.table_key;
   lists = then_lists closed filled after f.lists s.lists;
   done = ap (λ (ws : List ℕ). slice_index ws piece) s.words ∙ get_or-set_same filled.words piece 2 0 (omega (arith, f.long, wide, inside));
   others = λ i l ne. other i ne ∙ f.states i l;
   cells = λ i l e. elim (cases_eq i piece) [
     | inl q ↦ subst (HasCells after) (sym q) (kept piece f.filled)
-    | inr ne ↦ (let here : i < (shape_of closed.sheet).pieces = subst (λ (z : Sheet). i < (shape_of z).pieces) (s.sheet ∙ f.sheet) l in kept i (f.others i here (cells i here (sym (other i ne ∙ f.states i here) ∙ e))))
+    | inr ne ↦ (let here : i < (shape_of closed.table_key).pieces = subst (λ (z : TableKey). i < (shape_of z).pieces) (s.table_key ∙ f.table_key) l in kept i (f.others i here (cells i here (sym (other i ne ∙ f.states i here) ∙ e))))
   ];
   alone = λ i. s.alone i ∙ (λ z. times i (f.alone z) + one_if (second i z));
 } where
@@ -82,28 +82,28 @@ finished_now closed filled after piece fit wide inside left cells f s = record {
   second i = rw (ne_eqb (piece_word closed.words piece) 2 left) (and_true (i == piece))
 
   kept : (i : ℕ) → HasCells filled i → HasCells after i
-  kept i h = subst (λ (key : Sheet). HasCellsOf key after.words i) (sym s.sheet) (λ j hj. word j ∙ h j hj) where
-    word : (j : ℕ) → cell_word (shape_of filled.sheet) after.words j ≡ cell_word (shape_of filled.sheet) filled.words j
-    word j = other ((shape_of filled.sheet).pieces + j) (λ e. let t : piece < (shape_of filled.sheet).pieces = subst (λ (z : Sheet). piece < (shape_of z).pieces) (sym f.sheet) inside in omega (arith, e, t))
+  kept i h = subst (λ (key : TableKey). HasCellsOf key after.words i) (sym s.table_key) (λ j hj. word j ∙ h j hj) where
+    word : (j : ℕ) → cell_word (shape_of filled.table_key) after.words j ≡ cell_word (shape_of filled.table_key) filled.words j
+    word j = other ((shape_of filled.table_key).pieces + j) (λ e. let t : piece < (shape_of filled.table_key).pieces = subst (λ (z : TableKey). piece < (shape_of z).pieces) (sym f.table_key) inside in omega (arith, e, t))
 
 -- at the beginning: what the closed table's soundness says
-pub sound_cells : (closed : Receipt) → IsFit closed.sheet → Sound (shape_of closed.sheet) (cell closed.sheet) (board_of (shape_of closed.sheet) closed.words) → DoneHaveCells closed
+pub sound_cells : (closed : Receipt) → IsFit closed.table_key → Sound (shape_of closed.table_key) (cell closed.table_key) (board_of (shape_of closed.table_key) closed.words) → DoneHaveCells closed
 sound_cells closed fit sound i l done j h = elim (sound.cells j inside) [
   | inl empty ↦ absurd (sound.full i j h is empty)
-  | inr there ↦ sym (cell_is (shape_of closed.sheet) closed.words j inside) ∙ there
+  | inr there ↦ sym (cell_is (shape_of closed.table_key) closed.words j inside) ∙ there
 ] where
-  inside : j < (shape_of closed.sheet).cells
-  inside = let t = (fit_shape closed.sheet fit).inside i h.piece in let b = h.below in omega (arith, t, b)
+  inside : j < (shape_of closed.table_key).cells
+  inside = let t = (fit_shape closed.table_key fit).inside i h.piece in let b = h.below in omega (arith, t, b)
 
-  is : is_done (board_of (shape_of closed.sheet) closed.words) i ≡ true
-  is = ap state_done (state_is (shape_of closed.sheet) closed.words i l ∙ ap state_of done)
+  is : is_done (board_of (shape_of closed.table_key) closed.words) i ≡ true
+  is = ap state_done (state_is (shape_of closed.table_key) closed.words i l ∙ ap state_of done)
 
 none_before : (i : ℕ) (b : Bool) → one_if (nat_lt i 0 && b) ≡ 0
 none_before i b = rw (le-ltb i 0 (omega arith)) refl
 
-pub finished_none : (closed : Receipt) → IsFit closed.sheet → AreWords (shape_of closed.sheet) closed.words → Sound (shape_of closed.sheet) (cell closed.sheet) (board_of (shape_of closed.sheet) closed.words) → closed.alone ≡ [] → FinishesTo closed closed 0
+pub finished_none : (closed : Receipt) → IsFit closed.table_key → AreWords (shape_of closed.table_key) closed.words → Sound (shape_of closed.table_key) (cell closed.table_key) (board_of (shape_of closed.table_key) closed.words) → closed.alone ≡ [] → FinishesTo closed closed 0
 finished_none closed fit words sound alone = record {
-  sheet = refl;
+  table_key = refl;
   lists = same_lists closed;
   done = λ i l. absurd (omega (arith, l));
   others = λ i m l. refl;
@@ -125,9 +125,9 @@ count_more i n b = elim (cases_order i n) [
   plain_less true = refl
   plain_less false = refl
 
-pub finished_more : (before now after : Receipt) (n : ℕ) → n < (shape_of before.sheet).pieces → FinishesTo before now n → FinishesPiece now after n → FinishesTo before after (n + 1)
+pub finished_more : (before now after : Receipt) (n : ℕ) → n < (shape_of before.table_key).pieces → FinishesTo before now n → FinishesPiece now after n → FinishesTo before after (n + 1)
 finished_more before now after n inside f s = record {
-  sheet = s.sheet ∙ f.sheet;
+  table_key = s.table_key ∙ f.table_key;
   lists = then_lists before now after f.lists s.lists;
   done = λ i l. elim (cases_eq i n) [
     | inl e ↦ rw e s.done
@@ -137,8 +137,8 @@ finished_more before now after n inside f s = record {
   cells = s.cells;
   alone = λ i. s.alone i ∙ (sum i ∙ count_more i n (not (piece_word before.words i == 2)));
 } where
-  here : (i : ℕ) → i < (shape_of before.sheet).pieces → i < (shape_of now.sheet).pieces
-  here i l = subst (λ (z : Sheet). i < (shape_of z).pieces) (sym f.sheet) l
+  here : (i : ℕ) → i < (shape_of before.table_key).pieces → i < (shape_of now.table_key).pieces
+  here i l = subst (λ (z : TableKey). i < (shape_of z).pieces) (sym f.table_key) l
 
   at_n : (i : ℕ) → one_if ((i == n) && not (piece_word now.words n == 2)) ≡ one_if ((i == n) && not (piece_word before.words i == 2))
   at_n i = elim (cases_eq i n) [
@@ -150,10 +150,10 @@ finished_more before now after n inside f s = record {
   sum i = let a = f.alone i in let b = at_n i in λ z. a z + b z
 
 -- at the end: every cell is the defined one
-pub cells_all : (before after : Receipt) (n : ℕ) → IsFit before.sheet → (shape_of before.sheet).pieces ≤ n → FinishesTo before after n → (j : ℕ) → j < (shape_of after.sheet).cells → cell_word (shape_of after.sheet) after.words j ≡ cell after.sheet j
+pub cells_all : (before after : Receipt) (n : ℕ) → IsFit before.table_key → (shape_of before.table_key).pieces ≤ n → FinishesTo before after n → (j : ℕ) → j < (shape_of after.table_key).cells → cell_word (shape_of after.table_key) after.words j ≡ cell after.table_key j
 cells_all before after n fit all f j l =
-    let own = owner after.sheet.layout j l in let i : ℕ = piece_of_cell after.sheet.layout j in
-    let few : (shape_of after.sheet).pieces ≤ n = subst (λ (z : Sheet). (shape_of z).pieces ≤ n) (sym f.sheet) all in
+    let own = owner after.table_key.layout j l in let i : ℕ = piece_of_cell after.table_key.layout j in
+    let few : (shape_of after.table_key).pieces ≤ n = subst (λ (z : TableKey). (shape_of z).pieces ≤ n) (sym f.table_key) all in
     let a = own.0 in
     f.cells i own.0 (f.done i (omega (arith, a, few))) j (record { piece = own.0; from = own.1.from; below = own.1.below })
 
@@ -179,28 +179,28 @@ both_ways false true = refl
 both_ways false false = refl
 
 -- where the last pass has published all that was done when the table was closed, each piece was made once
-pub each_once : (before after : Receipt) (i : ℕ) → after.sheet ≡ before.sheet → after.published ≡ before.published → times i before.published ≡ one_if (nat_lt i (pieces_of before.sheet.layout.bands) && (piece_word before.words i == 2))
-    → times i after.alone ≡ one_if (nat_lt i (pieces_of before.sheet.layout.bands) && not (piece_word before.words i == 2)) → times i after.published + times i after.alone ≡ one_if (nat_lt i (shape_of after.sheet).pieces)
+pub each_once : (before after : Receipt) (i : ℕ) → after.table_key ≡ before.table_key → after.published ≡ before.published → times i before.published ≡ one_if (nat_lt i (pieces_of before.table_key.layout.bands) && (piece_word before.words i == 2))
+    → times i after.alone ≡ one_if (nat_lt i (pieces_of before.table_key.layout.bands) && not (piece_word before.words i == 2)) → times i after.published + times i after.alone ≡ one_if (nat_lt i (shape_of after.table_key).pieces)
 each_once before after i same published one alone =
-    let two = both_ways (nat_lt i (pieces_of before.sheet.layout.bands)) (piece_word before.words i == 2) in
+    let two = both_ways (nat_lt i (pieces_of before.table_key.layout.bands)) (piece_word before.words i == 2) in
     let list = ap (times i) published in
-    let n : one_if (nat_lt i (pieces_of before.sheet.layout.bands)) ≡ one_if (nat_lt i (shape_of after.sheet).pieces) = ap (λ (z : Sheet). one_if (nat_lt i (shape_of z).pieces)) (sym same) in
+    let n : one_if (nat_lt i (pieces_of before.table_key.layout.bands)) ≡ one_if (nat_lt i (shape_of after.table_key).pieces) = ap (λ (z : TableKey). one_if (nat_lt i (shape_of z).pieces)) (sym same) in
     omega (arith, list, one, alone, two, n)
 
 -- the cells of a finished table can be read
-pub has_cells : (receipt : Receipt) → IsFit receipt.sheet → ((j : ℕ) → j < (shape_of receipt.sheet).cells → cell_word (shape_of receipt.sheet) receipt.words j ≡ cell receipt.sheet j) → (i : ℕ) → HasCells receipt i
-has_cells receipt fit all i j h = let t = (fit_shape receipt.sheet fit).inside i h.piece in let b = h.below in all j (omega (arith, t, b))
+pub has_cells : (receipt : Receipt) → IsFit receipt.table_key → ((j : ℕ) → j < (shape_of receipt.table_key).cells → cell_word (shape_of receipt.table_key) receipt.words j ≡ cell receipt.table_key j) → (i : ℕ) → HasCells receipt i
+has_cells receipt fit all i j h = let t = (fit_shape receipt.table_key fit).inside i h.piece in let b = h.below in all j (omega (arith, t, b))
 
 pub finished_has_cells : (page : PageParts) (receipt : Receipt) → IsFinished page receipt → (i : ℕ) → HasCells receipt i
 finished_has_cells page receipt f i = has_cells receipt f.fit f.cells i
 
 -- what making the rest alone leaves of the run
-abbrev pub was_left : (before after : Receipt) (v : View) → Ends before.sheet before.words v → after.sheet ≡ before.sheet → after.published ≡ v.published → after.seen ≡ v.seen → after.looked ≡ v.looked → after.told ≡ v.told
-    → ((i : ℕ) → times i after.alone ≡ one_if (nat_lt i (pieces_of before.sheet.layout.bands) && not (piece_word before.words i == 2))) → WasLeft after
+abbrev pub was_left : (before after : Receipt) (v : View) → Ends before.table_key before.words v → after.table_key ≡ before.table_key → after.published ≡ v.published → after.seen ≡ v.seen → after.looked ≡ v.looked → after.told ≡ v.told
+    → ((i : ℕ) → times i after.alone ≡ one_if (nat_lt i (pieces_of before.table_key.layout.bands) && not (piece_word before.words i == 2))) → WasLeft after
 was_left before after v e same published seen looked told alone = record {
   kinds = e.kinds;
   left = e.last;
-  steps = subst (λ (z : Sheet). Steps z e.kinds e.last) (sym same) e.steps;
+  steps = subst (λ (z : TableKey). Steps z e.kinds e.last) (sym same) e.steps;
   seat = e.seat;
   view = v;
   sees = e.sees;
@@ -208,5 +208,5 @@ was_left before after v e same published seen looked told alone = record {
   seen = sym seen;
   looked = sym looked;
   told = sym told;
-  alone = λ i. alone i ∙ (ap (λ (z : Sheet). one_if (nat_lt i (shape_of z).pieces && not (piece_word before.words i == 2))) (sym same) ∙ ap (λ (ws : List ℕ). one_if (nat_lt i (shape_of after.sheet).pieces && not (piece_word ws i == 2))) (sym e.same_words));
+  alone = λ i. alone i ∙ (ap (λ (z : TableKey). one_if (nat_lt i (shape_of z).pieces && not (piece_word before.words i == 2))) (sym same) ∙ ap (λ (ws : List ℕ). one_if (nat_lt i (shape_of after.table_key).pieces && not (piece_word ws i == 2))) (sym e.same_words));
 }

@@ -1,7 +1,7 @@
 -- The values of a band's rows, as readers and makers hold them, and as a piece's.
-use Rattle.std.proofs.Common.{◌≡◌, ℕ, ◌+◌, ◌-◌, ◌*◌, ◌/◌, ◌%◌, ◌<◌, ◌≤◌, List, length, take, sym, ap, ◌∙◌, subst, inl, inr, arith, div-add-mod', length-take}
+use Rattle.std.proofs.Common.{◌≡◌, ℕ, ◌+◌, ◌-◌, ◌*◌, ◌/◌, ◌%◌, ◌<◌, List, length, sym, ap, ◌∙◌, subst, inl, inr, arith, div-add-mod'}
 use Rattle.std.specs.Prelude.{slice_index}
-use Rattle.std.proofs.Math.Nat.{mod-lt, mul-le-mul_right}
+use Rattle.std.proofs.Math.Nat.{mod-lt}
 use Rattle.std.proofs.lemmas.Bool.{cases_eq}
 use Rattle.std.proofs.lemmas.Nat.{div-mul-add, div_below, mod-mul-add}
 use Rattle.page_model.specs.declared.parts.PageParts.{PageParts}
@@ -12,22 +12,15 @@ use Rattle.page_model.specs.Tints.{new}
 use Rattle.row_cells.specs.Layouts.{Layout}
 use Rattle.row_cells.specs.Places.{per_row, value_total}
 use Rattle.band_core.specs.Values.{IsFor, row_value, value}
-use Rattle.band_claims.specs.declared.sheet.Sheet.{Sheet}
-use Rattle.band_claims.specs.Sheets.{IsFit}
+use Rattle.band_claims.specs.declared.table_key.TableKey.{TableKey}
+use Rattle.band_claims.specs.TableKeys.{IsFit}
 use Rattle.row_values.specs.declared.rows.Rows.{Rows}
 use Rattle.row_values.specs.Rows.{HoldsAnswers, HoldsMarks, HoldsRows, HoldsTints, HoldsZones, answer_value, tint_value, zone_value}
 use Rattle.band_claims.specs.Filled.{AreValues}
 use Rattle.band_pieces.specs.Spans.{rows_of_piece}
 
--- a prefix of a list that is long enough
-pub take_whole : (n : ℕ) (xs : List ℕ) → n ≤ length xs → n ≡ length (take n xs)
-take_whole n xs l = let t = length-take n xs in omega (arith, t, l)
-
-pub rows_room : (rows most per n : ℕ) → rows ≤ most → most * per ≤ n → rows * per ≤ n
-rows_room rows most per n l m = let t : rows * per ≤ most * per = mul-le-mul_right per l in omega (arith, t, m)
-
 -- the values of a band's rows are those of its piece
-pub are_values : (key : Sheet) (layout : Layout) (i : ℕ) (items : List ℕ) → layout ≡ key.layout → HoldsRows (per_row layout (phase_of layout.bands i)) (row_value key.page.value (phase_of layout.bands i)) (rows_of_piece layout.bands i) items → AreValues key i items
+pub are_values : (key : TableKey) (layout : Layout) (i : ℕ) (items : List ℕ) → layout ≡ key.layout → HoldsRows (per_row layout (phase_of layout.bands i)) (row_value key.page.value (phase_of layout.bands i)) (rows_of_piece layout.bands i) items → AreValues key i items
 are_values key layout i items same h = record {
   long = subst (λ (z : Layout). length items ≡ value_total z i) same h.long;
   each = λ k l. subst (λ (z : Layout). slice_index items k ≡ value key.page.value z i k) same (one k (let t = h.long in omega (arith, l, t)));
@@ -74,12 +67,12 @@ unfolding row_value
 tints_to page layout phase rows items e d p h = subst (λ (q : ℕ). HoldsRows (per_row layout q) (row_value page q) rows items) (sym p) (subst (λ (w : ℕ). HoldsRows (layout.plates * w) (tint_value page) rows items) (sym e) (subst (λ (c : ℕ). HoldsRows (c * width page) (tint_value page) rows items) (sym d) h))
 
 -- of a band's rows that were made
-pub made_values : (key : Sheet) (page : PageParts) (layout : Layout) (i : ℕ) (rows : Rows) (items : List ℕ) → layout ≡ key.layout → page ≡ key.page.value → rows ≡ rows_of_piece layout.bands i → HoldsRows (per_row layout (phase_of layout.bands i)) (row_value page (phase_of layout.bands i)) rows items → AreValues key i items
+pub made_values : (key : TableKey) (page : PageParts) (layout : Layout) (i : ℕ) (rows : Rows) (items : List ℕ) → layout ≡ key.layout → page ≡ key.page.value → rows ≡ rows_of_piece layout.bands i → HoldsRows (per_row layout (phase_of layout.bands i)) (row_value page (phase_of layout.bands i)) rows items → AreValues key i items
 made_values key page layout i rows items same e r h =
     are_values key layout i items same (subst (λ (p : PageParts). HoldsRows (per_row layout (phase_of layout.bands i)) (row_value p (phase_of layout.bands i)) (rows_of_piece layout.bands i) items) e (subst (λ (z : Rows). HoldsRows (per_row layout (phase_of layout.bands i)) (row_value page (phase_of layout.bands i)) z items) r h))
 
 -- the layout fits the page
-pub lies_for : (key : Sheet) (page : PageParts) (layout : Layout) → page ≡ key.page.value → layout ≡ key.layout → IsFit key → IsFor page layout
+pub lies_for : (key : TableKey) (page : PageParts) (layout : Layout) → page ≡ key.page.value → layout ≡ key.layout → IsFit key → IsFor page layout
 lies_for key page layout e same fit = subst (λ (p : PageParts). IsFor p layout) (sym e) (subst (λ (z : Layout). IsFor key.page.value z) (sym same) fit)
 
 -- a value of a row's tints is that of its plate and sample

@@ -1,7 +1,7 @@
 -- What the passes left was left for a need.
 use Rattle.std.proofs.Common.{◌++◌, ap, sym, ◌∙◌, ⊎_elim, inl, inr, arith}
 use Rattle.band_claims.specs.Rule.{piece_word}
-use Rattle.band_claims.specs.Sheets.{cell, shape_of}
+use Rattle.band_claims.specs.TableKeys.{cell, shape_of}
 use Rattle.band_claims.specs.Views.{Knows}
 use Rattle.band_claims.proofs.Steps.{fit_shape, steps_are_run}
 use Rattle.band_claims.proofs.Readable.{kept}
@@ -11,7 +11,7 @@ use Rattle.band_pieces.specs.Left.{LeftForNeeds, FirstAreClaimed, LooksAreTold}
 
 pub left_for_needs : LeftForNeeds
 left_for_needs page receipt f i l free =
-    let key = receipt.sheet in let k = shape_of key in let run = f.run in
+    let key = receipt.table_key in let k = shape_of key in let run = f.run in
     ⊎_elim (λ (h : Knows f.run.view i).
     let rule = (steps_are_run key f.fit run.kinds run.left run.steps).0 in
     let done = (((kept k (fit_shape key f.fit) (cell key) key run.left rule).seats run.seat run.view run.sees).known i h).1 in
@@ -30,8 +30,8 @@ first_are_claimed page receipt f i l none free = let t = left_for_needs page rec
 pub looks_are_told : LooksAreTold
 looks_are_told page receipt f =
     let run = f.run in
-    let ends = run_looks_are_told receipt.sheet f.fit run.kinds run.left run.steps run.seat run.view run.sees in record {
+    let ends = run_looks_are_told receipt.table_key f.fit run.kinds run.left run.steps run.seat run.view run.sees in record {
       earlier = ends.0;
       looks = sym run.told ∙ (ends.1 ∙ ap (λ z. ends.0 ++ z) run.looked);
-      rise = λ before mid after shown later stands. looks_rise receipt.sheet f.fit run.kinds run.left run.steps run.seat run.view run.sees before mid after shown later (run.told ∙ stands);
+      rise = λ before mid after shown later stands. looks_rise receipt.table_key f.fit run.kinds run.left run.steps run.seat run.view run.sees before mid after shown later (run.told ∙ stands);
     }

@@ -7,7 +7,7 @@ use Rattle.band_claims.specs.Kinds.{Kind}
 use Rattle.band_claims.specs.Receipt.{Receipt}
 use Rattle.band_claims.specs.Remembered.{Steps}
 use Rattle.band_claims.specs.Rule.{Sees, cell_word, piece_word}
-use Rattle.band_claims.specs.Sheets.{cell, shape_of, IsFit}
+use Rattle.band_claims.specs.TableKeys.{cell, shape_of, IsFit}
 use Rattle.band_claims.specs.Views.{one_if, times}
 use Rattle.band_workers.specs.Accounts.{IsAccounted}
 
@@ -17,7 +17,7 @@ use Rattle.band_workers.specs.Accounts.{IsAccounted}
 pub record WasLeft (receipt : Receipt) : Type 0 where
   pub kinds : List Kind
   pub left : State (Unit {0}) View
-  pub steps : Steps receipt.sheet kinds left
+  pub steps : Steps receipt.table_key kinds left
   pub seat : ℕ
   pub view : View
   pub sees : Sees left seat view
@@ -26,19 +26,19 @@ pub record WasLeft (receipt : Receipt) : Type 0 where
   pub looked : view.looked ≡ receipt.looked
   pub told : view.told ≡ receipt.told
   pub alone : (i : ℕ) → times i receipt.alone
-      ≡ one_if (nat_lt i (shape_of receipt.sheet).pieces && not (piece_word left.words i == 2))
+      ≡ one_if (nat_lt i (shape_of receipt.table_key).pieces && not (piece_word left.words i == 2))
 
 -- Every piece is done and every cell is the defined one, of that page; each piece was made once,
 -- by a pass that published it or alone; each piece is accounted for; and the passes' part was a
 -- run.
 pub record IsFinished (page : PageParts) (receipt : Receipt) : Type 0 where
-  pub fit : IsFit receipt.sheet
-  pub same_page : receipt.sheet.page.value ≡ page
-  pub done : (i : ℕ) → i < (shape_of receipt.sheet).pieces → piece_word receipt.words i ≡ 2
-  pub cells : (j : ℕ) → j < (shape_of receipt.sheet).cells
-      → cell_word (shape_of receipt.sheet) receipt.words j ≡ cell receipt.sheet j
+  pub fit : IsFit receipt.table_key
+  pub same_page : receipt.table_key.page.value ≡ page
+  pub done : (i : ℕ) → i < (shape_of receipt.table_key).pieces → piece_word receipt.words i ≡ 2
+  pub cells : (j : ℕ) → j < (shape_of receipt.table_key).cells
+      → cell_word (shape_of receipt.table_key) receipt.words j ≡ cell receipt.table_key j
   pub once : (i : ℕ) → times i receipt.published + times i receipt.alone
-      ≡ one_if (nat_lt i (shape_of receipt.sheet).pieces)
+      ≡ one_if (nat_lt i (shape_of receipt.table_key).pieces)
   pub run : WasLeft receipt
-  pub accounted : (i : ℕ) → i < (shape_of receipt.sheet).pieces
-      → IsAccounted receipt.sheet.layout.bands run.view i
+  pub accounted : (i : ℕ) → i < (shape_of receipt.table_key).pieces
+      → IsAccounted receipt.table_key.layout.bands run.view i

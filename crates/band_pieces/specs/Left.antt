@@ -5,7 +5,7 @@ use Rattle.band_graph.specs.Needs.{is_need}
 use Rattle.band_claims.specs.declared.view.Look.{Look}
 use Rattle.band_claims.specs.Receipt.{Receipt}
 use Rattle.band_claims.specs.Rule.{piece_word}
-use Rattle.band_claims.specs.Sheets.{shape_of}
+use Rattle.band_claims.specs.TableKeys.{shape_of}
 use Rattle.band_pieces.specs.Finished.{IsFinished}
 
 -- the last pass tells of a look that found a need of the piece not done
@@ -14,20 +14,21 @@ pub record FoundUndone (receipt : Receipt) (piece : ℕ) : Type 0 where
   pub shown : Look
   pub after : List Look
   pub stands : receipt.looked ≡ before ++ shown ∷ after
-  pub need : is_need receipt.sheet.layout.bands piece shown.piece ≡ true
+  pub need : is_need receipt.table_key.layout.bands piece shown.piece ≡ true
   pub not_done : shown.word ≢ 2
 
 -- of a piece that no pass had claimed when the table was closed, a need was found not done
 abbrev pub LeftForNeeds : Type 0
 LeftForNeeds = (page : PageParts) (receipt : Receipt) → (f : IsFinished page receipt) → (i : ℕ)
-    → i < (shape_of receipt.sheet).pieces → piece_word f.run.left.words i ≡ 0
+    → i < (shape_of receipt.table_key).pieces → piece_word f.run.left.words i ≡ 0
     → FoundUndone receipt i
 
 -- so each piece that needs no other was claimed by a pass
 abbrev pub FirstAreClaimed : Type 0
 FirstAreClaimed = (page : PageParts) (receipt : Receipt) → (f : IsFinished page receipt) → (i : ℕ)
-    → i < (shape_of receipt.sheet).pieces
-    → ((n : ℕ) → is_need receipt.sheet.layout.bands i n ≢ true) → piece_word f.run.left.words i ≢ 0
+    → i < (shape_of receipt.table_key).pieces
+    → ((n : ℕ) → is_need receipt.table_key.layout.bands i n ≢ true)
+    → piece_word f.run.left.words i ≢ 0
 
 -- the looks that a receipt tells of end what its last pass was told, in which of two words of
 -- one piece the later one is no less

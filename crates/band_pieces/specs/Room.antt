@@ -15,13 +15,13 @@ pub record Memory : Type 0 where
   pub tints : ℕ
   pub room : Room
 
--- at least so many rows of a page as are within so many rows of a band of it
+-- the most rows of a page that are within `near` rows of a band of it
 abbrev pub most_rows : Layout → ℕ → ℕ
 most_rows layout near = min (layout.bands.height + near) layout.bands.rows
 
--- the room of the makers is for the layout's pages; and so many values of each phase there is
--- memory for: the zones of a band and the row below it, the marks of a band and of the rows
--- within its halo, the answers and the tints of a band
+-- the buffers are for the layout's pages, and there is memory for these numbers of values of each
+-- phase: the zones of a band and the row below it, the marks of a band and of the rows within its
+-- halo, the answers and the tints of a band
 pub record IsRoom (layout : Layout) (room : Room) (zones marks answers tints : ℕ) : Type 0 where
   pub made : IsLayout layout
   pub wide : room.wide ≡ layout.width

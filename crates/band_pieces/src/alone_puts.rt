@@ -1,6 +1,6 @@
 // The cells of a closed table, filled by one thread.
 ghost use Rattle.std.specs.Prelude.{◌≡◌, ℕ, ◌+◌, ◌<◌};
-ghost use Rattle.band_claims.specs.Sheets.{cell, shape_of};
+ghost use Rattle.band_claims.specs.TableKeys.{cell, shape_of};
 ghost use Rattle.band_pieces.specs.Fills.{FillsPiece, FillsTo};
 ghost use Rattle.band_claims.specs.Filled.{AreValues};
 ghost use Rattle.page_model.specs.Bands.{pieces_of};
@@ -9,11 +9,12 @@ ghost use Rattle.row_cells.specs.Places.{cell_total, first_cell_of};
 use band_claims::{Closed, word_of_values};
 use row_cells::values::CellValue;
 
-/// Puts its defined word in cell o of a piece, whose first cells, o of them, have theirs.
+/// Writes the defined word of cell number `o` of a piece, whose first `o` cells are filled.
 fn put_word(closed: &mut Closed, piece: u32, o: u32, word: u64)
-    requires piece { piece < pieces_of closed.old.sheet.layout.bands }
-    requires cell { o < cell_total closed.old.sheet.layout piece }
-    requires word { word ≡ cell closed.old.sheet (first_cell_of closed.old.sheet.layout piece + o) }
+    requires piece { piece < pieces_of closed.old.table_key.layout.bands }
+    requires cell { o < cell_total closed.old.table_key.layout piece }
+    requires word { word
+        ≡ cell closed.old.table_key (first_cell_of closed.old.table_key.layout piece + o) }
     ensures { FillsTo closed.old closed.new piece o }
 {
     let first = closed.layout().first_cell(piece);
@@ -22,13 +23,13 @@ fn put_word(closed: &mut Closed, piece: u32, o: u32, word: u64)
 
 /// Packs the values of a piece into its cells.
 pub(crate) fn put_values_alone<V: CellValue>(closed: &mut Closed, piece: u32, values: &[V])
-    requires piece { piece < pieces_of closed.old.sheet.layout.bands }
-    requires values { AreValues closed.old.sheet piece (V.numbers values.now) }
+    requires piece { piece < pieces_of closed.old.table_key.layout.bands }
+    requires values { AreValues closed.old.table_key piece (V.numbers values.now) }
     ensures { FillsPiece closed.old closed.new piece }
 {
-    let _whole = closed.sheet();
+    let _whole = closed.table_key();
     for o in 0..closed.layout().cell_count(piece) {
-        let word = word_of_values(closed.sheet(), piece, o, values);
+        let word = word_of_values(closed.table_key(), piece, o, values);
         put_word(closed, piece, o, word);
     }
 }

@@ -1,7 +1,7 @@
-// The pieces of each phase, made from the cells of their needs and filled into their own cells. The buffers have room for
-// the rows that are read and made.
+// The pieces of each phase, made from the cells of their needs and packed into their own cells. The buffers are large
+// enough for the rows that are read and made.
 ghost use Rattle.std.specs.Prelude.{◌≡◌, ℕ, ◌*◌, ◌<◌, ◌≤◌, true, length};
-ghost use Rattle.band_claims.specs.Sheets.{IsFit};
+ghost use Rattle.band_claims.specs.TableKeys.{IsFit};
 ghost use Rattle.band_core.specs.Values.{IsFor};
 ghost use Rattle.band_graph.specs.Needs.{is_need};
 ghost use Rattle.band_pieces.specs.Room.{IsRoom, most_rows};
@@ -27,9 +27,9 @@ pub(crate) fn fill_zones<S, C: CellSink<S>>(
     zones: &mut [u8],
     room: &mut Workspace,
 )
-    requires page { page.now ≡ (C.sheet table.now seat.old).page.value }
-    requires layout { layout.now ≡ (C.sheet table.now seat.old).layout }
-    requires fit { IsFit (C.sheet table.now seat.old) }
+    requires page { page.now ≡ (C.table_key table.now seat.old).page.value }
+    requires layout { layout.now ≡ (C.table_key table.now seat.old).layout }
+    requires fit { IsFit (C.table_key table.now seat.old) }
     requires lies { IsFor page.now layout.now }
     requires piece { piece < pieces_of layout.now.bands }
     requires phase { phase_of layout.now.bands piece ≡ 0 }
@@ -57,9 +57,9 @@ pub(crate) fn fill_marks<S, C: CellSink<S>>(
     zones: &mut [u8],
     marks: &mut [u8],
 )
-    requires page { page.now ≡ (C.sheet table.now seat.old).page.value }
-    requires layout { layout.now ≡ (C.sheet table.now seat.old).layout }
-    requires fit { IsFit (C.sheet table.now seat.old) }
+    requires page { page.now ≡ (C.table_key table.now seat.old).page.value }
+    requires layout { layout.now ≡ (C.table_key table.now seat.old).layout }
+    requires fit { IsFit (C.table_key table.now seat.old) }
     requires lies { IsFor page.now layout.now }
     requires piece { piece < pieces_of layout.now.bands }
     requires phase { phase_of layout.now.bands piece ≡ 1 }
@@ -82,7 +82,7 @@ pub(crate) fn fill_marks<S, C: CellSink<S>>(
     table.put_values(seat, piece, marks);
 }
 
-/// The column answers of a band, from the marks of its rows and of those that the reach touches.
+/// The column answers of a band, from the marks of its rows and of the rows within reach.
 pub(crate) fn fill_answers<S, C: CellSink<S>>(
     table: &C,
     seat: &mut S,
@@ -92,9 +92,9 @@ pub(crate) fn fill_answers<S, C: CellSink<S>>(
     marks: &mut [u8],
     answers: &mut [u16],
 )
-    requires page { page.now ≡ (C.sheet table.now seat.old).page.value }
-    requires layout { layout.now ≡ (C.sheet table.now seat.old).layout }
-    requires fit { IsFit (C.sheet table.now seat.old) }
+    requires page { page.now ≡ (C.table_key table.now seat.old).page.value }
+    requires layout { layout.now ≡ (C.table_key table.now seat.old).layout }
+    requires fit { IsFit (C.table_key table.now seat.old) }
     requires lies { IsFor page.now layout.now }
     requires piece { piece < pieces_of layout.now.bands }
     requires phase { phase_of layout.now.bands piece ≡ 2 }
@@ -129,9 +129,9 @@ pub(crate) fn fill_tints<S, C: CellSink<S>>(
     tints: &mut [u16],
     room: &mut Workspace,
 )
-    requires page { page.now ≡ (C.sheet table.now seat.old).page.value }
-    requires layout { layout.now ≡ (C.sheet table.now seat.old).layout }
-    requires fit { IsFit (C.sheet table.now seat.old) }
+    requires page { page.now ≡ (C.table_key table.now seat.old).page.value }
+    requires layout { layout.now ≡ (C.table_key table.now seat.old).layout }
+    requires fit { IsFit (C.table_key table.now seat.old) }
     requires lies { IsFor page.now layout.now }
     requires piece { piece < pieces_of layout.now.bands }
     requires phase { phase_of layout.now.bands piece ≡ 3 }
@@ -159,7 +159,7 @@ pub(crate) fn fill_tints<S, C: CellSink<S>>(
     table.put_values(seat, piece, tints);
 }
 
-/// A piece of any phase. The buffers have room for any piece of the layout.
+/// A piece of any phase. The buffers are large enough for any piece of the layout.
 pub(crate) fn fill<S, C: CellSink<S>>(
     table: &C,
     seat: &mut S,
@@ -172,9 +172,9 @@ pub(crate) fn fill<S, C: CellSink<S>>(
     tints: &mut [u16],
     room: &mut Workspace,
 )
-    requires page { page.now ≡ (C.sheet table.now seat.old).page.value }
-    requires layout { layout.now ≡ (C.sheet table.now seat.old).layout }
-    requires fit { IsFit (C.sheet table.now seat.old) }
+    requires page { page.now ≡ (C.table_key table.now seat.old).page.value }
+    requires layout { layout.now ≡ (C.table_key table.now seat.old).layout }
+    requires fit { IsFit (C.table_key table.now seat.old) }
     requires piece { piece < pieces_of layout.now.bands }
     requires may { C.may_fill table.now seat.old piece }
     requires known { (n : ℕ) → is_need layout.now.bands piece n ≡ true

@@ -1,8 +1,8 @@
-// What a receipt says of the work that the passes left: each function does nothing, and its contract is the law.
+// What a receipt says of the work that the passes left undone: each function does nothing, and its contract is the law.
 
 ghost use Rattle.band_pieces.specs.Left.{FirstAreClaimed, LeftForNeeds, LooksAreTold};
 
-/// Of a piece that nobody had claimed when the table was closed, the last pass tells of a need that it found not done.
+/// If nobody had claimed a piece when the table was closed, the last pass tells of a need of it that was not done.
 pub fn left_for_needs_law()
     ensures { LeftForNeeds }
 {}
@@ -12,7 +12,7 @@ pub fn first_are_claimed_law()
     ensures { FirstAreClaimed }
 {}
 
-/// What a receipt tells of looks, its last pass was told last, and no word that it was told of a piece is less than an
+/// The looks of a receipt are the last that its pass was told, and no word that it was told of a piece is less than an
 /// earlier one.
 pub fn looks_are_told_law()
     ensures { LooksAreTold }

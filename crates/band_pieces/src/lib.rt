@@ -1,5 +1,5 @@
-//! The pieces of a page's work: each is made from the cells of its needs and filled into its own cells, by workers at the
-//! shared table and, where they leave some, by one thread at the closed table.
+//! The pieces of a page's work: each is made from the cells of its needs and packed into its own cells, by workers at
+//! the shared table, and those that they leave by one thread at the closed table.
 #![tactic(auto)]
 
 mod alone;
@@ -17,6 +17,6 @@ mod spans;
 
 pub use alone::finish_alone;
 pub use looks::{read_marks, read_plate, read_tints, read_zones};
-pub use pages::{all_done, finish_table};
+pub use pages::{are_all_done, finish_table};
 pub use scratch::Scratch;
 pub use sources::CellSource;

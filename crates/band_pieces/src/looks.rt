@@ -1,6 +1,6 @@
 // The values of a page's rows, read from the cells of a table whose pieces are done.
 ghost use Rattle.std.specs.Prelude.{◌≡◌, ℕ, ◌+◌, ◌*◌, ◌<◌, ◌≤◌, length, slice_index};
-ghost use Rattle.band_claims.specs.Sheets.{IsFit};
+ghost use Rattle.band_claims.specs.TableKeys.{IsFit};
 ghost use Rattle.row_values.specs.Rows.{HoldsMarks, HoldsTints, HoldsZones};
 ghost use Rattle.page_model.specs.Bands.{pieces_of};
 ghost use Rattle.page_model.specs.Page.{height, plates, width};
@@ -12,7 +12,7 @@ use page_model::page::Page;
 use row_cells::layout::Layout;
 use row_values::Rows;
 
-/// The zones of these rows, from the cells of their bands.
+/// Reads the zones of these rows from the cells of their bands.
 pub fn read_zones<S, C: CellSource<S>>(
     source: &C,
     seat: &mut S,
@@ -21,9 +21,9 @@ pub fn read_zones<S, C: CellSource<S>>(
     rows: Rows,
     out: &mut [u8],
 )
-    requires page { page.now ≡ (C.sheet source.now seat.old).page.value }
-    requires layout { layout.now ≡ (C.sheet source.now seat.old).layout }
-    requires fit { IsFit (C.sheet source.now seat.old) }
+    requires page { page.now ≡ (C.table_key source.now seat.old).page.value }
+    requires layout { layout.now ≡ (C.table_key source.now seat.old).layout }
+    requires fit { IsFit (C.table_key source.now seat.old) }
     requires known { (i : ℕ) → i < pieces_of layout.now.bands → C.knows source.now seat.old i }
     requires inside { rows.first + rows.count ≤ height page.now }
     requires out { length out.old ≡ rows.count * width page.now }
@@ -34,7 +34,7 @@ pub fn read_zones<S, C: CellSource<S>>(
     read_rows(source, seat, layout, 0, rows, out);
 }
 
-/// The marks of these rows, from the cells of their bands.
+/// Reads the marks of these rows from the cells of their bands.
 pub fn read_marks<S, C: CellSource<S>>(
     source: &C,
     seat: &mut S,
@@ -43,9 +43,9 @@ pub fn read_marks<S, C: CellSource<S>>(
     rows: Rows,
     out: &mut [u8],
 )
-    requires page { page.now ≡ (C.sheet source.now seat.old).page.value }
-    requires layout { layout.now ≡ (C.sheet source.now seat.old).layout }
-    requires fit { IsFit (C.sheet source.now seat.old) }
+    requires page { page.now ≡ (C.table_key source.now seat.old).page.value }
+    requires layout { layout.now ≡ (C.table_key source.now seat.old).layout }
+    requires fit { IsFit (C.table_key source.now seat.old) }
     requires known { (i : ℕ) → i < pieces_of layout.now.bands → C.knows source.now seat.old i }
     requires inside { rows.first + rows.count ≤ height page.now }
     requires out { length out.old ≡ rows.count * width page.now }
@@ -56,7 +56,7 @@ pub fn read_marks<S, C: CellSource<S>>(
     read_rows(source, seat, layout, 1, rows, out);
 }
 
-/// The new tints of these rows, in each row plate after plate, from the cells of their bands.
+/// Reads the new tints of these rows, in each row plate after plate, from the cells of their bands.
 pub fn read_tints<S, C: CellSource<S>>(
     source: &C,
     seat: &mut S,
@@ -65,9 +65,9 @@ pub fn read_tints<S, C: CellSource<S>>(
     rows: Rows,
     out: &mut [u16],
 )
-    requires page { page.now ≡ (C.sheet source.now seat.old).page.value }
-    requires layout { layout.now ≡ (C.sheet source.now seat.old).layout }
-    requires fit { IsFit (C.sheet source.now seat.old) }
+    requires page { page.now ≡ (C.table_key source.now seat.old).page.value }
+    requires layout { layout.now ≡ (C.table_key source.now seat.old).layout }
+    requires fit { IsFit (C.table_key source.now seat.old) }
     requires known { (i : ℕ) → i < pieces_of layout.now.bands → C.knows source.now seat.old i }
     requires inside { rows.first + rows.count ≤ height page.now }
     requires out { length out.old ≡ rows.count * (plates page.now * width page.now) }
@@ -78,7 +78,7 @@ pub fn read_tints<S, C: CellSource<S>>(
     read_rows(source, seat, layout, 3, rows, out);
 }
 
-/// The new tints of one plate in row y, from the cells of its band.
+/// Reads the new tints of one plate in row y from the cells of its band.
 pub fn read_plate<S, C: CellSource<S>>(
     source: &C,
     seat: &mut S,
@@ -88,9 +88,9 @@ pub fn read_plate<S, C: CellSource<S>>(
     plate: u32,
     out: &mut [u16],
 )
-    requires page { page.now ≡ (C.sheet source.now seat.old).page.value }
-    requires layout { layout.now ≡ (C.sheet source.now seat.old).layout }
-    requires fit { IsFit (C.sheet source.now seat.old) }
+    requires page { page.now ≡ (C.table_key source.now seat.old).page.value }
+    requires layout { layout.now ≡ (C.table_key source.now seat.old).layout }
+    requires fit { IsFit (C.table_key source.now seat.old) }
     requires known { (i : ℕ) → i < pieces_of layout.now.bands → C.knows source.now seat.old i }
     requires row { y < height page.now }
     requires plate { plate < plates page.now }

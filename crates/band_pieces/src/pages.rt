@@ -1,4 +1,4 @@
-// The whole of a page's work at a table.
+// All of a page's work at a table.
 ghost use Rattle.std.specs.Prelude.{◌≡◌, ℕ, ◌<◌, IsTrue, false};
 ghost use Rattle.band_claims.specs.Seating.{Seats};
 ghost use Rattle.band_claims.specs.Shares.{IsWhole};
@@ -14,16 +14,17 @@ use band_claims::{Closed, Pass, Reader, Shared};
 use band_graph::needs::pieces;
 use page_model::page::Page;
 
-/// Whether all pieces are done. If so the reader knows each of them afterwards; if not, `looked` ends with one that was
-/// found not done.
-pub fn all_done(shared: &Shared, reader: &mut Reader) -> bool
+/// Whether all pieces are done. If so the reader knows each of them afterwards; if not, `looked` ends with a piece that
+/// was not done.
+pub fn are_all_done(shared: &Shared, reader: &mut Reader) -> bool
     requires reader { Seats shared.now reader.old }
     ensures reader { Seats shared.now reader.new }
     ensures looks { Looks reader.old.view reader.new.view }
-    ensures known { IsTrue result → (i : ℕ) → i < pieces_of shared.now.sheet.layout.bands
+    ensures known { IsTrue result → (i : ℕ) → i < pieces_of shared.now.table_key.layout.bands
         → Knows reader.new.view i }
     ensures undone { result ≡ false
-        → FindsUndone (pieces_of shared.now.sheet.layout.bands) reader.old.view reader.new.view }
+        → FindsUndone (pieces_of shared.now.table_key.layout.bands)
+        reader.old.view reader.new.view }
 {
     for piece in 0..pieces(shared.bands()) {
         if !shared.sees_done(reader, piece) {
@@ -33,17 +34,17 @@ pub fn all_done(shared: &Shared, reader: &mut Reader) -> bool
     true
 }
 
-/// Closes the table, whose passes have all been joined into this one, so that it has all shares, and makes alone what the
-/// workers left. It takes no memory and waits for nobody.
+/// Closes the table, whose passes have all been joined into this one, so that it has all shares, and makes what the
+/// workers left undone. It allocates nothing and waits for no thread.
 pub fn finish_table(shared: Shared, pass: Pass, page: &Page, scratch: &mut Scratch) -> Closed
-    requires page { page.now ≡ shared.sheet.page.value }
-    requires scratch { scratch.old.layout ≡ shared.sheet.layout }
+    requires page { page.now ≡ shared.table_key.page.value }
+    requires scratch { scratch.old.layout ≡ shared.table_key.layout }
     requires pass { Seats shared pass }
     requires whole { IsWhole pass.view.share }
-    requires accounted { (i : ℕ) → i < pieces_of shared.sheet.layout.bands
-        → IsAccounted shared.sheet.layout.bands pass.view i }
+    requires accounted { (i : ℕ) → i < pieces_of shared.table_key.layout.bands
+        → IsAccounted shared.table_key.layout.bands pass.view i }
     ensures scratch { scratch.new ≡ scratch.old }
-    ensures sheet { result.sheet ≡ shared.sheet }
+    ensures table_key { result.table_key ≡ shared.table_key }
     ensures room { result.room ≡ shared.room }
     ensures finished { IsFinished page.now result }
 {

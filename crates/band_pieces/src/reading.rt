@@ -1,6 +1,6 @@
 // The values of a piece, unpacked from its cells.
 ghost use Rattle.std.specs.Prelude.{◌≡◌, ℕ, ◌+◌, ◌-◌, ◌*◌, ◌<◌, ◌≤◌, length, slice_index};
-ghost use Rattle.band_claims.specs.Sheets.{IsFit};
+ghost use Rattle.band_claims.specs.TableKeys.{IsFit};
 ghost use Rattle.band_core.specs.Values.{value};
 ghost use Rattle.page_model.specs.Bands.{phase_of, pieces_of};
 ghost use Rattle.row_cells.specs.Packing.{IsBits, lane, lanes as lanes_for};
@@ -11,7 +11,7 @@ use row_cells::layout::{Layout, bits, lanes};
 use row_cells::packing::{unpack, without_lanes};
 use row_cells::values::CellValue;
 
-/// So many values of a piece, from a number on. They are written from that place on.
+/// Some values of a piece, from a number on, and the place that they are written to.
 #[derive(Clone, Copy, Drop)]
 pub(crate) struct Run {
     pub piece: u32,
@@ -20,7 +20,7 @@ pub(crate) struct Run {
     pub count: usize,
 }
 
-/// So many whole cells of a piece, its cells counted from 0, from a cell on. Their values are written from that place on.
+/// Some full cells of a piece, from a cell on, and the place that their values are written to.
 #[derive(Clone, Copy, Drop)]
 struct Cells {
     piece: u32,
@@ -29,8 +29,8 @@ struct Cells {
     place: usize,
 }
 
-/// So many values of a cell of a piece, its cells counted from 0, from a lane on. What is the same for all cells of the piece,
-/// the number of its first cell and the bits of its values, is worked out once.
+/// Some values of a cell of a piece, from a lane on. The number of the piece's first cell and the bits of its values
+/// are worked out once for all its cells.
 #[derive(Clone, Copy, Drop)]
 struct Part {
     piece: u32,
@@ -68,8 +68,8 @@ fn read_part<S, C: CellSource<S>, V: CellValue>(
     part: Part,
     out: &mut [V],
 )
-    requires layout { layout.now ≡ (C.sheet source.now seat.old).layout }
-    requires fit { IsFit (C.sheet source.now seat.old) }
+    requires layout { layout.now ≡ (C.table_key source.now seat.old).layout }
+    requires fit { IsFit (C.table_key source.now seat.old) }
     requires piece { part.piece < pieces_of layout.now.bands }
     requires first { part.first ≡ first_cell_of layout.now part.piece }
     requires bits { part.bits ≡ bits_of (phase_of layout.now.bands part.piece) }
@@ -82,7 +82,7 @@ fn read_part<S, C: CellSource<S>, V: CellValue>(
     requires out { part.place + part.count ≤ length out.old }
     ensures seat { seat.new ≡ seat.old }
     ensures here { (j : ℕ) → j < part.count → slice_index (V.numbers out.new) (part.place + j)
-        ≡ value (C.sheet source.now seat.old).page.value layout.now part.piece
+        ≡ value (C.table_key source.now seat.old).page.value layout.now part.piece
         (part.cell * lanes_of (phase_of layout.now.bands part.piece) + part.lane + j) }
     ensures kept { (k : ℕ) → k < part.place
         → slice_index (V.numbers out.new) k ≡ slice_index (V.numbers out.old) k }
@@ -93,7 +93,7 @@ fn read_part<S, C: CellSource<S>, V: CellValue>(
     unpack_at(part.bits, rest, part.place, part.count, out);
 }
 
-/// Unpacks all values of whole cells. The program knows when it is built how many bits and lanes they have.
+/// Unpacks all values of full cells. Their bits and lanes are constants, known when the program is built.
 fn read_cells<S, C: CellSource<S>, V: CellValue, const BITS: u32, const LANES: u32>(
     source: &C,
     seat: &mut S,
@@ -101,8 +101,8 @@ fn read_cells<S, C: CellSource<S>, V: CellValue, const BITS: u32, const LANES: u
     cells: Cells,
     out: &mut [V],
 )
-    requires layout { layout.now ≡ (C.sheet source.now seat.old).layout }
-    requires fit { IsFit (C.sheet source.now seat.old) }
+    requires layout { layout.now ≡ (C.table_key source.now seat.old).layout }
+    requires fit { IsFit (C.table_key source.now seat.old) }
     requires piece { cells.piece < pieces_of layout.now.bands }
     requires bits { BITS ≡ bits_of (phase_of layout.now.bands cells.piece) }
     requires lanes { LANES ≡ lanes_of (phase_of layout.now.bands cells.piece) }
@@ -114,7 +114,7 @@ fn read_cells<S, C: CellSource<S>, V: CellValue, const BITS: u32, const LANES: u
     ensures seat { seat.new ≡ seat.old }
     ensures here { (j : ℕ) → j < cells.count * LANES
         → slice_index (V.numbers out.new) (cells.place + j)
-        ≡ value (C.sheet source.now seat.old).page.value layout.now cells.piece
+        ≡ value (C.table_key source.now seat.old).page.value layout.now cells.piece
         (cells.cell * LANES + j) }
     ensures kept { (k : ℕ) → k < cells.place
         → slice_index (V.numbers out.new) k ≡ slice_index (V.numbers out.old) k }
@@ -135,7 +135,7 @@ fn read_cells<S, C: CellSource<S>, V: CellValue, const BITS: u32, const LANES: u
     }
 }
 
-/// The same of whichever phase.
+/// Does the same for any phase.
 fn read_whole<S, C: CellSource<S>, V: CellValue>(
     source: &C,
     seat: &mut S,
@@ -144,8 +144,8 @@ fn read_whole<S, C: CellSource<S>, V: CellValue>(
     cells: Cells,
     out: &mut [V],
 )
-    requires layout { layout.now ≡ (C.sheet source.now seat.old).layout }
-    requires fit { IsFit (C.sheet source.now seat.old) }
+    requires layout { layout.now ≡ (C.table_key source.now seat.old).layout }
+    requires fit { IsFit (C.table_key source.now seat.old) }
     requires piece { cells.piece < pieces_of layout.now.bands }
     requires phase { phase ≡ phase_of layout.now.bands cells.piece }
     requires fits { bits_of phase ≤ V.width }
@@ -156,7 +156,7 @@ fn read_whole<S, C: CellSource<S>, V: CellValue>(
     ensures seat { seat.new ≡ seat.old }
     ensures here { (j : ℕ) → j < cells.count * lanes_of phase
         → slice_index (V.numbers out.new) (cells.place + j)
-        ≡ value (C.sheet source.now seat.old).page.value layout.now cells.piece
+        ≡ value (C.table_key source.now seat.old).page.value layout.now cells.piece
         (cells.cell * lanes_of phase + j) }
     ensures kept { (k : ℕ) → k < cells.place
         → slice_index (V.numbers out.new) k ≡ slice_index (V.numbers out.old) k }
@@ -170,8 +170,8 @@ fn read_whole<S, C: CellSource<S>, V: CellValue>(
     }
 }
 
-/// Unpacks the first values of a run, of which there are some, and gives how many: those of all its whole cells where it begins
-/// with a cell, else those that its first cell has.
+/// Unpacks the first values of a run, of at least one, and returns how many: those of all its full cells if it begins
+/// with a cell, else those of its first cell.
 fn read_next<S, C: CellSource<S>, V: CellValue>(
     source: &C,
     seat: &mut S,
@@ -179,8 +179,8 @@ fn read_next<S, C: CellSource<S>, V: CellValue>(
     run: Run,
     out: &mut [V],
 ) -> usize
-    requires layout { layout.now ≡ (C.sheet source.now seat.old).layout }
-    requires fit { IsFit (C.sheet source.now seat.old) }
+    requires layout { layout.now ≡ (C.table_key source.now seat.old).layout }
+    requires fit { IsFit (C.table_key source.now seat.old) }
     requires piece { run.piece < pieces_of layout.now.bands }
     requires fits { bits_of (phase_of layout.now.bands run.piece) ≤ V.width }
     requires known { C.knows source.now seat.old run.piece }
@@ -191,7 +191,7 @@ fn read_next<S, C: CellSource<S>, V: CellValue>(
     ensures few { result ≤ run.count }
     ensures seat { seat.new ≡ seat.old }
     ensures here { (j : ℕ) → j < result → slice_index (V.numbers out.new) (run.place + j)
-        ≡ value (C.sheet source.now seat.old).page.value layout.now run.piece (run.from + j) }
+        ≡ value (C.table_key source.now seat.old).page.value layout.now run.piece (run.from + j) }
     ensures kept { (k : ℕ) → k < run.place
         → slice_index (V.numbers out.new) k ≡ slice_index (V.numbers out.old) k }
     ensures len { length out.new ≡ length out.old }
@@ -233,8 +233,8 @@ pub(crate) fn read_values<S, C: CellSource<S>, V: CellValue>(
     run: Run,
     out: &mut [V],
 )
-    requires layout { layout.now ≡ (C.sheet source.now seat.old).layout }
-    requires fit { IsFit (C.sheet source.now seat.old) }
+    requires layout { layout.now ≡ (C.table_key source.now seat.old).layout }
+    requires fit { IsFit (C.table_key source.now seat.old) }
     requires piece { run.piece < pieces_of layout.now.bands }
     requires fits { bits_of (phase_of layout.now.bands run.piece) ≤ V.width }
     requires known { C.knows source.now seat.old run.piece }
@@ -242,7 +242,7 @@ pub(crate) fn read_values<S, C: CellSource<S>, V: CellValue>(
     requires out { run.place + run.count ≤ length out.old }
     ensures seat { seat.new ≡ seat.old }
     ensures here { (j : ℕ) → j < run.count → slice_index (V.numbers out.new) (run.place + j)
-        ≡ value (C.sheet source.now seat.old).page.value layout.now run.piece (run.from + j) }
+        ≡ value (C.table_key source.now seat.old).page.value layout.now run.piece (run.from + j) }
     ensures kept { (k : ℕ) → k < run.place
         → slice_index (V.numbers out.new) k ≡ slice_index (V.numbers out.old) k }
     ensures len { length out.new ≡ length out.old }

@@ -1,6 +1,6 @@
 // Rows of a phase, read from the pieces of their bands.
 ghost use Rattle.std.specs.Prelude.{◌≡◌, ℕ, ◌+◌, ◌*◌, ◌<◌, ◌≤◌, length, slice_index};
-ghost use Rattle.band_claims.specs.Sheets.{IsFit};
+ghost use Rattle.band_claims.specs.TableKeys.{IsFit};
 ghost use Rattle.band_core.specs.Values.{row_value};
 ghost use Rattle.row_values.specs.Rows.{HoldsRows};
 ghost use Rattle.page_model.specs.Bands.{band_of_row, piece_of};
@@ -13,7 +13,7 @@ use row_cells::layout::Layout;
 use row_cells::values::CellValue;
 use row_values::Rows;
 
-/// The values of a phase of row k of these rows.
+/// Reads the values of a phase of row k of these rows.
 fn read_row<S, C: CellSource<S>, V: CellValue>(
     source: &C,
     seat: &mut S,
@@ -23,8 +23,8 @@ fn read_row<S, C: CellSource<S>, V: CellValue>(
     k: u32,
     out: &mut [V],
 )
-    requires layout { layout.now ≡ (C.sheet source.now seat.old).layout }
-    requires fit { IsFit (C.sheet source.now seat.old) }
+    requires layout { layout.now ≡ (C.table_key source.now seat.old).layout }
+    requires fit { IsFit (C.table_key source.now seat.old) }
     requires phase { phase < 4 }
     requires fits { bits_of phase ≤ V.width }
     requires row { k < rows.count }
@@ -35,7 +35,7 @@ fn read_row<S, C: CellSource<S>, V: CellValue>(
     ensures seat { seat.new ≡ seat.old }
     ensures here { (o : ℕ) → o < per_row layout.now phase
         → slice_index (V.numbers out.new) (k * per_row layout.now phase + o)
-        ≡ row_value (C.sheet source.now seat.old).page.value phase (rows.first + k) o }
+        ≡ row_value (C.table_key source.now seat.old).page.value phase (rows.first + k) o }
     ensures kept { (i : ℕ) → i < k * per_row layout.now phase
         → slice_index (V.numbers out.new) i ≡ slice_index (V.numbers out.old) i }
     ensures len { length out.new ≡ length out.old }
@@ -53,7 +53,7 @@ fn read_row<S, C: CellSource<S>, V: CellValue>(
     read_values(source, seat, layout, run, out);
 }
 
-/// The values of a phase of these rows, row by row, where the pieces of their bands are known.
+/// Reads the values of a phase of these rows, row by row. The pieces of their bands are known.
 pub(crate) fn read_rows<S, C: CellSource<S>, V: CellValue>(
     source: &C,
     seat: &mut S,
@@ -62,8 +62,8 @@ pub(crate) fn read_rows<S, C: CellSource<S>, V: CellValue>(
     rows: Rows,
     out: &mut [V],
 )
-    requires layout { layout.now ≡ (C.sheet source.now seat.old).layout }
-    requires fit { IsFit (C.sheet source.now seat.old) }
+    requires layout { layout.now ≡ (C.table_key source.now seat.old).layout }
+    requires fit { IsFit (C.table_key source.now seat.old) }
     requires phase { phase < 4 }
     requires fits { bits_of phase ≤ V.width }
     requires inside { rows.first + rows.count ≤ layout.now.bands.rows }
@@ -73,7 +73,7 @@ pub(crate) fn read_rows<S, C: CellSource<S>, V: CellValue>(
     requires out { length out.old ≡ rows.count * per_row layout.now phase }
     ensures seat { seat.new ≡ seat.old }
     ensures rows { HoldsRows (per_row layout.now phase)
-        (row_value (C.sheet source.now seat.old).page.value phase) rows (V.numbers out.new) }
+        (row_value (C.table_key source.now seat.old).page.value phase) rows (V.numbers out.new) }
     ensures len { length out.new ≡ length out.old }
 {
     for k in 0..rows.count {
@@ -81,7 +81,7 @@ pub(crate) fn read_rows<S, C: CellSource<S>, V: CellValue>(
     }
 }
 
-/// The new tints of one plate in row y, where the piece of its band is known.
+/// Reads the new tints of one plate in row y. The piece of its band is known.
 pub(crate) fn read_plate_row<S, C: CellSource<S>>(
     source: &C,
     seat: &mut S,
@@ -90,8 +90,8 @@ pub(crate) fn read_plate_row<S, C: CellSource<S>>(
     plate: u32,
     out: &mut [u16],
 )
-    requires layout { layout.now ≡ (C.sheet source.now seat.old).layout }
-    requires fit { IsFit (C.sheet source.now seat.old) }
+    requires layout { layout.now ≡ (C.table_key source.now seat.old).layout }
+    requires fit { IsFit (C.table_key source.now seat.old) }
     requires row { y < layout.now.bands.rows }
     requires plate { plate < layout.now.plates }
     requires known { C.knows source.now seat.old
@@ -99,7 +99,8 @@ pub(crate) fn read_plate_row<S, C: CellSource<S>>(
     requires out { length out.old ≡ layout.now.width }
     ensures seat { seat.new ≡ seat.old }
     ensures here { (x : ℕ) → x < layout.now.width → slice_index out.new x
-        ≡ row_value (C.sheet source.now seat.old).page.value 3 y (plate * layout.now.width + x) }
+        ≡ row_value (C.table_key source.now seat.old).page.value 3 y
+        (plate * layout.now.width + x) }
     ensures len { length out.new ≡ length out.old }
 {
     let bands = layout.bands();

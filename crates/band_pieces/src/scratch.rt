@@ -1,6 +1,6 @@
 ghost use Rattle.std.specs.Prelude.{◌≡◌, ℕ, ◌<◌, true, IfOk, Some, vec_len};
 ghost use Rattle.band_claims.specs.Seating.{Seats};
-ghost use Rattle.band_claims.specs.Sheets.{shape_of, IsFit};
+ghost use Rattle.band_claims.specs.TableKeys.{shape_of, IsFit};
 ghost use Rattle.band_claims.specs.Views.{Knows};
 ghost use Rattle.band_graph.specs.Needs.{is_need};
 ghost use Rattle.band_claims.specs.Filled.{filled_to};
@@ -12,7 +12,7 @@ use crate::fills::fill;
 use crate::sinks::CellSink;
 use band_claims::{Pass, Shared};
 use band_workers::Maker;
-use lists::memory::filled;
+use lists::memory::vec_of;
 use page_model::bands::Bands;
 use page_model::page::Page;
 use page_model::parts::OutOfMemory;
@@ -21,8 +21,9 @@ use row_values::Workspace;
 use std::alloc::Global;
 use std::marker::Model;
 
-/// All the memory of one worker: the values that it reads and makes of a piece of each phase, and the room of the makers.
-/// It is taken once, and a piece takes none: contracts see beside the layout how much each list has, and it stays.
+/// All the memory of one worker: the values of a piece of each phase that it reads and makes, and the buffers of
+/// `row_values`. It is allocated once, and a piece allocates nothing: contracts see the capacity of each list, and that
+/// it stays.
 #[derive(Drop)]
 pub struct Scratch {
     layout: Layout,
@@ -53,7 +54,7 @@ impl Model for Scratch {
 }
 
 impl Scratch {
-    /// The memory for the pieces of pages like this one, in these bands.
+    /// Allocates the memory for pieces of pages like this one, in these bands.
     pub fn new(alloc: Global, page: &Page, bands: &Bands) -> Result<Scratch, OutOfMemory>
         requires bands { AreBands bands.now }
         requires rows { bands.now.rows ≡ height page.now }
@@ -67,10 +68,10 @@ impl Scratch {
         let near = (bands.height + bands.reach2 + 1).min(bands.rows);
         Ok(Scratch {
             layout,
-            zones: filled(alloc, 0u8, (below * layout.row_values(0)) as usize)?,
-            marks: filled(alloc, 0u8, (near * layout.row_values(1)) as usize)?,
-            answers: filled(alloc, 0u16, (band * layout.row_values(2)) as usize)?,
-            tints: filled(alloc, 0u16, (band * layout.row_values(3)) as usize)?,
+            zones: vec_of(alloc, 0u8, (below * layout.row_values(0)) as usize)?,
+            marks: vec_of(alloc, 0u8, (near * layout.row_values(1)) as usize)?,
+            answers: vec_of(alloc, 0u16, (band * layout.row_values(2)) as usize)?,
+            tints: vec_of(alloc, 0u16, (band * layout.row_values(3)) as usize)?,
             room: Workspace::new(alloc, page)?,
         })
     }
@@ -83,9 +84,9 @@ impl Scratch {
         page: &Page,
         piece: u32,
     )
-        requires layout { self.old.layout ≡ (C.sheet table.now seat.old).layout }
-        requires page { page.now ≡ (C.sheet table.now seat.old).page.value }
-        requires fit { IsFit (C.sheet table.now seat.old) }
+        requires layout { self.old.layout ≡ (C.table_key table.now seat.old).layout }
+        requires page { page.now ≡ (C.table_key table.now seat.old).page.value }
+        requires fit { IsFit (C.table_key table.now seat.old) }
         requires piece { piece < pieces_of self.old.layout.bands }
         requires may { C.may_fill table.now seat.old piece }
         requires known { (n : ℕ) → is_need self.old.layout.bands piece n ≡ true
@@ -109,21 +110,21 @@ impl Scratch {
 }
 
 impl Maker for Scratch {
-    ghost serves = { λ scratch sheet. scratch.layout ≡ sheet.layout };
+    ghost serves = { λ scratch table_key. scratch.layout ≡ table_key.layout };
 
     fn fill(&mut self, page: &Page, shared: &Shared, pass: &mut Pass, piece: u32)
-        requires page { page.now ≡ shared.now.sheet.page.value }
-        requires serves { self.old.layout ≡ shared.now.sheet.layout }
+        requires page { page.now ≡ shared.now.table_key.page.value }
+        requires serves { self.old.layout ≡ shared.now.table_key.layout }
         requires pass { Seats shared.now pass.old }
-        requires piece { piece < pieces_of shared.now.sheet.layout.bands }
+        requires piece { piece < pieces_of shared.now.table_key.layout.bands }
         requires held { pass.old.view.held ≡ Some piece }
         requires none_filled { pass.old.view.filled ≡ 0 }
-        requires known { (n : ℕ) → is_need shared.now.sheet.layout.bands piece n ≡ true
+        requires known { (n : ℕ) → is_need shared.now.table_key.layout.bands piece n ≡ true
             → Knows pass.old.view n }
-        ensures serves { self.new.layout ≡ shared.now.sheet.layout }
+        ensures serves { self.new.layout ≡ shared.now.table_key.layout }
         ensures pass { Seats shared.now pass.new }
         ensures filled { pass.new.view
-            ≡ filled_to ((shape_of shared.now.sheet).size piece) pass.old.view }
+            ≡ filled_to ((shape_of shared.now.table_key).size piece) pass.old.view }
         ensures memory { self.new ≡ self.old }
     {
         let _fits = shared.bands();

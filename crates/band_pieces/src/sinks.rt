@@ -1,7 +1,7 @@
-// Tables whose cells are filled.
+// Tables whose cells can be filled.
 ghost use Rattle.std.specs.Prelude.{◌≡◌, ℕ, ◌<◌, Some};
 ghost use Rattle.band_claims.specs.Seating.{Seats};
-ghost use Rattle.band_claims.specs.Sheets.{shape_of, IsFit};
+ghost use Rattle.band_claims.specs.TableKeys.{shape_of, IsFit};
 ghost use Rattle.band_claims.specs.Filled.{AreValues, filled_to};
 ghost use Rattle.page_model.specs.Bands.{pieces_of};
 ghost use Rattle.band_pieces.specs.Fills.{FillsPiece, HasCells};
@@ -11,20 +11,21 @@ use crate::sources::CellSource;
 use band_claims::{Closed, Pass, Shared, put_values};
 use row_cells::values::CellValue;
 
-/// A table whose pieces are filled, by a seat at it.
+/// A table whose pieces can be filled, by a seat at it.
 pub(crate) trait CellSink<S>: CellSource<S> {
     /// Whether the seat may fill the piece.
     ghost may_fill: { Self → S → ℕ → Type 0 };
 
-    /// What the seat is after it has filled the piece.
+    /// How the seat changes when it has filled the piece.
     ghost filled: { Self → S → S → ℕ → Type 0 };
 
     /// Packs the values of a piece into its cells.
     fn put_values<V: CellValue>(&self, seat: &mut S, piece: u32, values: &[V])
-        requires fit { IsFit (Self.sheet self.now seat.old) }
-        requires piece { piece < pieces_of (Self.sheet self.now seat.old).layout.bands }
+        requires fit { IsFit (Self.table_key self.now seat.old) }
+        requires piece { piece < pieces_of (Self.table_key self.now seat.old).layout.bands }
         requires may { may_fill self.now seat.old piece }
-        requires values { AreValues (Self.sheet self.now seat.old) piece (V.numbers values.now) }
+        requires values { AreValues (Self.table_key self.now seat.old) piece
+            (V.numbers values.now) }
         ensures { filled self.now seat.old seat.new piece };
 }
 
@@ -33,18 +34,18 @@ impl CellSink<Pass> for Shared {
         × (pass.view.held ≡ Some piece) × (pass.view.filled ≡ 0) };
 
     ghost filled = { λ shared before after piece. Seats shared after
-        × (after.view ≡ filled_to ((shape_of shared.sheet).size piece) before.view) };
+        × (after.view ≡ filled_to ((shape_of shared.table_key).size piece) before.view) };
 
     fn put_values<V: CellValue>(&self, seat: &mut Pass, piece: u32, values: &[V]) {
         put_values(self, seat, piece, values);
     }
 }
 
-/// Who fills the pieces of a closed table that are left: the table itself is the seat.
+/// The seat at a closed table, for filling the pieces that were left undone: there is no other.
 pub(crate) struct Alone;
 
 impl CellSource<Closed> for Alone {
-    ghost sheet = { λ alone closed. closed.sheet };
+    ghost table_key = { λ alone closed. closed.table_key };
 
     ghost knows = { λ alone closed piece. HasCells closed piece };
 

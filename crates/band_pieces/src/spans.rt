@@ -1,4 +1,4 @@
-// The rows of a piece's band, and those about it that it needs.
+// The rows of a piece's band, and the rows near them that it needs.
 ghost use Rattle.std.specs.Prelude.{◌≡◌, ℕ, ◌+◌, ◌<◌, ◌≤◌};
 ghost use Rattle.page_model.specs.Bands.{AreBands, pieces_of};
 ghost use Rattle.page_model.specs.Columns.{halo};
@@ -39,7 +39,7 @@ pub(crate) fn rows_below(bands: &Bands, rows: Rows) -> Rows
     }
 }
 
-/// These rows, and those of the page that its reach touches above and below them.
+/// These rows, and those of the page within its reach above and below them.
 pub(crate) fn rows_near(bands: &Bands, rows: Rows) -> Rows
     requires bands { AreBands bands.now }
     requires inside { rows.first + rows.count ≤ bands.now.rows }

@@ -14,16 +14,16 @@ use Rattle.row_cells.proofs.Sums.{sum_at_most}
 use Rattle.band_board.specs.Shapes.{Has}
 use Rattle.band_core.specs.Values.{value, row_value}
 use Rattle.band_core.proofs.Bridges.{cell_packs, row_values}
-use Rattle.band_claims.specs.declared.sheet.Sheet.{Sheet}
-use Rattle.band_claims.specs.Sheets.{cell, shape_of}
+use Rattle.band_claims.specs.declared.table_key.TableKey.{TableKey}
+use Rattle.band_claims.specs.TableKeys.{cell, shape_of}
 use Rattle.band_tests.specs.OneColumn.{OneColumn}
 
 zone_0 : (page : PageParts) (p : At) → IsPage page → length page.zones ≡ 1 → zone_of page p ≡ 0
 zone_0 page p valid one = let t = (zone_of-is page p valid).known in omega (arith, t, one)
 
-module _ (sheet : Sheet) (is : OneColumn sheet) where
+module _ (table_key : TableKey) (is : OneColumn table_key) where
   abbrev layout : Layout
-  layout = sheet.layout
+  layout = table_key.layout
 
   -- the zones of a band
   phase_0 : (i : ℕ) → i < 2 → phase_of layout.bands i ≡ 0
@@ -48,16 +48,16 @@ module _ (sheet : Sheet) (is : OneColumn sheet) where
   one_cell i l =
       ap (λ (n : ℕ). ceiling n (lanes_of (phase_of layout.bands i))) (one_value i l) ∙ ap (λ (q : ℕ). ceiling 1 (lanes_of q)) (phase_0 i l)
 
-  value_0 : (i k : ℕ) → i < 2 → value sheet.page.value layout i k ≡ 0
+  value_0 : (i k : ℕ) → i < 2 → value table_key.page.value layout i k ≡ 0
   value_0 i k l =
       let y : ℕ = band_of layout.bands i * layout.bands.height + k / per_row layout (phase_of layout.bands i) in let o : ℕ = k % per_row layout (phase_of layout.bands i) in
-      ap (λ (q : ℕ). row_value sheet.page.value q y o) (phase_0 i l) ∙ ((row_values sheet.page.value y o).zone ∙ zone_0 sheet.page.value (record { x = o; y = y }) is.fit.valid is.one_zone)
+      ap (λ (q : ℕ). row_value table_key.page.value q y o) (phase_0 i l) ∙ ((row_values table_key.page.value y o).zone ∙ zone_0 table_key.page.value (record { x = o; y = y }) is.fit.valid is.one_zone)
 
-  pub cell_is_1 : (i : ℕ) → i < 2 → cell sheet (first_cell_of layout i + 0) ≡ 1
+  pub cell_is_1 : (i : ℕ) → i < 2 → cell table_key (first_cell_of layout i + 0) ≡ 1
   unfolding cell
   cell_is_1 i l =
       let phase = phase_0 i l in let bands = is.two_bands in
-      let packs = cell_packs sheet.page.value layout i 0 (0 ∷ []) (omega (arith, l, bands)) (let t = one_cell i l in omega (arith, t))
+      let packs = cell_packs table_key.page.value layout i 0 (0 ∷ []) (omega (arith, l, bands)) (let t = one_cell i l in omega (arith, t))
       (let e : 1 ≡ min 7 (1 - 0 * 7) = refl in e ∙ (sym (ap (λ (q : ℕ). min (lanes_of q) (1 - 0 * lanes_of q)) phase) ∙ sym (ap (λ (n : ℕ). min (lanes_of (phase_of layout.bands i)) (n - 0 * lanes_of (phase_of layout.bands i))) (one_value i l))))
       (λ m q. let e : m ≡ 0 = omega (arith, q) in ap (slice_index (0 ∷ [])) e ∙ sym (value_0 i (0 * lanes_of (phase_of layout.bands i) + m) l)) in
       sym packs ∙ ap (λ (b : ℕ). 1 + (0 + 2 ^ b * 0)) (ap bits_of phase)
@@ -67,7 +67,7 @@ module _ (sheet : Sheet) (is : OneColumn sheet) where
   first_is (suc zero) l = let t = one_cell 0 (omega arith) in omega (arith, t)
   first_is (suc (suc i)) l = absurd (omega (arith, l))
 
-  pub cell_has : (i : ℕ) → i < 2 → Has (shape_of sheet) i i
+  pub cell_has : (i : ℕ) → i < 2 → Has (shape_of table_key) i i
   cell_has i l =
       let one = one_cell i l in let first = first_is i l in let n = is.two_bands in
       record { piece = omega (arith, l, n); from = omega (arith, first); below = omega (arith, first, one) }

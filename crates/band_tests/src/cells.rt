@@ -3,7 +3,8 @@ use row_cells::layout::Layout;
 use row_cells::packing::{pack, unpack};
 use std::test::Fail;
 
-/// Whether the cells of the pieces stand there, of a page in bands for a reach of 0, and so many cells there are.
+/// Whether the pieces' first cells have these numbers, and there are `cells` cells, for a page in bands with a reach of
+/// 0.
 fn stands(page: (u32, u32, u32), height: u32, firsts: &[u32], cells: u32) -> bool {
     let (width, rows, plates) = page;
     if width < 1 || width > 16384 || rows < 1 || rows > 16384 || plates < 1 || plates > 16 {

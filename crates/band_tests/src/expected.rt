@@ -1,7 +1,7 @@
 // What the page of two tiles is after trapping: the edge between column 7 and column 8 decides in each row, and cyan
 // spreads under black as far as sample 13.
 ghost use Rattle.std.specs.Prelude.{◌≡◌, ℕ, ◌<◌};
-ghost use Rattle.band_claims.specs.Sheets.{IsFit};
+ghost use Rattle.band_claims.specs.TableKeys.{IsFit};
 ghost use Rattle.band_pieces.specs.Fills.{HasCells};
 ghost use Rattle.page_model.specs.Page.{height, plates, width};
 
@@ -41,8 +41,8 @@ fn are_marks(marks: &[u8], zones: &[u8]) -> bool {
 
 /// Whether row y is, in the cells, what it is after trapping.
 fn is_row(closed: &Closed, page: &Page, y: u32) -> bool
-    requires fit { IsFit closed.now.sheet }
-    requires page { page.now ≡ closed.now.sheet.page.value }
+    requires fit { IsFit closed.now.table_key }
+    requires page { page.now ≡ closed.now.table_key.page.value }
     requires cells { (i : ℕ) → HasCells closed.now i }
     requires row { y < height page.now }
     requires wide { width page.now ≡ 16 }
@@ -60,8 +60,8 @@ fn is_row(closed: &Closed, page: &Page, y: u32) -> bool
 
 /// Whether the cells are those of the page of two tiles, and every piece is done.
 pub fn is_whole(closed: &Closed, page: &Page) -> bool
-    requires fit { IsFit closed.now.sheet }
-    requires page { page.now ≡ closed.now.sheet.page.value }
+    requires fit { IsFit closed.now.table_key }
+    requires page { page.now ≡ closed.now.table_key.page.value }
     requires cells { (i : ℕ) → HasCells closed.now i }
 {
     let _valid = page.plates();

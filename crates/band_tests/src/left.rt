@@ -5,7 +5,7 @@ ghost use Rattle.page_model.specs.Bands.{pieces_of};
 use crate::expected::is_whole;
 use crate::tables::{bands_of, table, two_tiles};
 use band_claims::{Pass, Shared};
-use band_pieces::{Scratch, all_done, finish_alone};
+use band_pieces::{Scratch, are_all_done, finish_alone};
 use band_workers::Maker;
 use page_model::page::Page;
 use page_model::parts::OutOfMemory;
@@ -20,10 +20,10 @@ fn make_piece(
     scratch: &mut Scratch,
     piece: u32,
 ) -> bool
-    requires page { page.now ≡ shared.now.sheet.page.value }
-    requires scratch { scratch.old.layout ≡ shared.now.sheet.layout }
+    requires page { page.now ≡ shared.now.table_key.page.value }
+    requires scratch { scratch.old.layout ≡ shared.now.table_key.layout }
     requires pass { Seats shared.now pass.old }
-    requires piece { piece < pieces_of shared.now.sheet.layout.bands }
+    requires piece { piece < pieces_of shared.now.table_key.layout.bands }
     requires idle { pass.old.view.held ≡ None }
     ensures scratch { scratch.new ≡ scratch.old }
     ensures pass { Seats shared.now pass.new }
@@ -37,7 +37,7 @@ fn make_piece(
     true
 }
 
-/// Makes the first pieces, so many of them, and claims the next one.
+/// Makes the first `count` pieces, and claims the next one.
 fn make_first(
     shared: &Shared,
     pass: &mut Pass,
@@ -45,10 +45,10 @@ fn make_first(
     scratch: &mut Scratch,
     count: u32,
 ) -> bool
-    requires page { page.now ≡ shared.now.sheet.page.value }
-    requires scratch { scratch.old.layout ≡ shared.now.sheet.layout }
+    requires page { page.now ≡ shared.now.table_key.page.value }
+    requires scratch { scratch.old.layout ≡ shared.now.table_key.layout }
     requires pass { Seats shared.now pass.old }
-    requires count { count < pieces_of shared.now.sheet.layout.bands }
+    requires count { count < pieces_of shared.now.table_key.layout.bands }
     requires idle { pass.old.view.held ≡ None }
     ensures scratch { scratch.new ≡ scratch.old }
     ensures pass { Seats shared.now pass.new }
@@ -60,26 +60,26 @@ fn make_first(
     shared.claim(pass, count) && all
 }
 
-/// What a table is that was left with so many pieces done and the next one claimed, and then finished alone: whether it
-/// was left so, and whether it is the whole page.
-fn left_at(
+/// What becomes of a table that was left with `done` pieces done and the next one claimed, and then finished alone:
+/// whether it was left so, and whether it is the whole page.
+fn leave_at(
     shared: Shared,
     pass: Pass,
     page: &Page,
     scratch: &mut Scratch,
     done: u32,
 ) -> (bool, bool)
-    requires page { page.now ≡ shared.sheet.page.value }
-    requires scratch { scratch.old.layout ≡ shared.sheet.layout }
+    requires page { page.now ≡ shared.table_key.page.value }
+    requires scratch { scratch.old.layout ≡ shared.table_key.layout }
     requires pass { Seats shared pass }
     requires idle { pass.view.held ≡ None }
-    requires done { done < pieces_of shared.sheet.layout.bands }
+    requires done { done < pieces_of shared.table_key.layout.bands }
 {
     let mut pass = pass;
     let mut reader = shared.reader(&mut pass);
     let made = make_first(&shared, &mut pass, page, scratch, done);
     let _fits = shared.bands();
-    let all = all_done(&shared, &mut reader);
+    let all = are_all_done(&shared, &mut reader);
     let mut closed = shared.close_all(pass);
     let was_left = made && !all && closed.state(done) == 1;
     finish_alone(&mut closed, page, scratch);
@@ -98,7 +98,7 @@ fn is_finished_from(alloc: Global, height: u32, done: u32) -> Result<(bool, bool
     }
     let mut scratch = Scratch::new(alloc, &page, &bands)?;
     let (shared, pass) = table(alloc, &page, &bands)?;
-    Ok(left_at(shared, pass, &page, &mut scratch, done))
+    Ok(leave_at(shared, pass, &page, &mut scratch, done))
 }
 
 #[test]

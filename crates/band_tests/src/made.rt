@@ -18,7 +18,7 @@ use std::alloc::Global;
 use std::test::Fail;
 use std::thread::Threads;
 
-/// The memory of so many workers.
+/// The memory of `count` workers.
 fn scratches(
     alloc: Global,
     page: &Page,
@@ -40,8 +40,8 @@ fn scratches(
     Ok(all.into_vec())
 }
 
-/// The page made by so many workers.
-fn made_by<R: Threads + Sync>(
+/// The page made by `workers` workers.
+fn make_by<R: Threads + Sync>(
     rt: &R,
     alloc: Global,
     page: &Page,
@@ -55,10 +55,10 @@ fn made_by<R: Threads + Sync>(
 {
     let bands = bands_of(page, height);
     let mut all = scratches(alloc, page, &bands, workers)?;
-    let mut spare = Scratch::new(alloc, page, &bands)?;
+    let mut alone_scratch = Scratch::new(alloc, page, &bands)?;
     let (shared, pass) = table(alloc, page, &bands)?;
     let pass = work_many(rt, &shared, pass, page, all.as_mut_slice(), &OpenGate);
-    Ok(finish_table(shared, pass, page, &mut spare))
+    Ok(finish_table(shared, pass, page, &mut alone_scratch))
 }
 
 /// Whether a closed table of a finished page is that of the two tiles.
@@ -78,7 +78,7 @@ fn is_made_by<R: Threads + Sync>(
         return Ok(false);
     }
     let page = two_tiles(alloc)?;
-    let closed = made_by(rt, alloc, &page, workers, height)?;
+    let closed = make_by(rt, alloc, &page, workers, height)?;
     Ok(is_finished(&closed, &page))
 }
 

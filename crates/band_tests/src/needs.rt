@@ -2,7 +2,7 @@ use band_graph::needs::{need_at, need_count, piece, pieces};
 use page_model::bands::Bands;
 use std::test::Fail;
 
-/// Whether these are the needs of a piece of a page of so many rows, in bands of a height.
+/// Whether these are the needs of a piece of a page of `rows` rows, in bands of `height` rows.
 fn needs_are(rows: u32, height: u32, reach2: u32, piece: u32, want: &[u32]) -> bool {
     if rows < 1 || rows > 16384 || height < 1 || height > 4096 || reach2 > 256 {
         return false;
@@ -19,7 +19,7 @@ fn needs_are(rows: u32, height: u32, reach2: u32, piece: u32, want: &[u32]) -> b
     true
 }
 
-/// Whether the middle band's columns need the edges of so many bands above and below it.
+/// Whether the middle band's columns need the edges of `halo` bands above and below it.
 fn reaches(height: u32, reach2: u32, halo: u32) -> bool {
     if height < 1 || height > 4096 || reach2 > 256 {
         return false;

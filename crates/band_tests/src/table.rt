@@ -70,9 +70,9 @@ fn parts(alloc: Global) -> Result<PageParts, OutOfMemory>
 }
 
 fn table(alloc: Global) -> Result<(Shared, Pass), OutOfMemory>
-    ensures sheet { IfOk result (λ t. OneColumn t.0.sheet) }
+    ensures table_key { IfOk result (λ t. OneColumn t.0.table_key) }
     ensures seats { IfOk result (λ t. Seats t.0 t.1) }
-    ensures new { IfOk result (λ t. t.1.view ≡ newcomer t.0.sheet) }
+    ensures new { IfOk result (λ t. t.1.view ≡ newcomer t.0.table_key) }
 {
     let Ok(page) = Page::new(parts(alloc)?) else {
         return Err(OutOfMemory);
@@ -84,7 +84,7 @@ fn table(alloc: Global) -> Result<(Shared, Pass), OutOfMemory>
 
 /// Makes the zones of the band that the pass holds: one sample in zone 0.
 fn make_zone(shared: &Shared, pass: &mut Pass, piece: u32)
-    requires sheet { OneColumn shared.now.sheet }
+    requires table_key { OneColumn shared.now.table_key }
     requires seats { Seats shared.now pass.old }
     requires piece { piece < 2 }
     requires held { pass.old.view.held ≡ Some piece }
@@ -98,7 +98,7 @@ fn make_zone(shared: &Shared, pass: &mut Pass, piece: u32)
 
 /// Claims the zones of a band and makes them; false where the claim was lost.
 fn claim_and_make(shared: &Shared, pass: &mut Pass, piece: u32) -> bool
-    requires sheet { OneColumn shared.now.sheet }
+    requires table_key { OneColumn shared.now.table_key }
     requires seats { Seats shared.now pass.old }
     requires piece { piece < 2 }
     requires idle { pass.old.view.held ≡ None }
@@ -115,7 +115,7 @@ fn claim_and_make(shared: &Shared, pass: &mut Pass, piece: u32) -> bool
 
 /// The words of both bands' zones, where the pass finds them done.
 fn both_zones(shared: &Shared, pass: &mut Pass) -> Option<[u64; 2]>
-    requires sheet { OneColumn shared.now.sheet }
+    requires table_key { OneColumn shared.now.table_key }
     requires seats { Seats shared.now pass.old }
     ensures seats { Seats shared.now pass.new }
     ensures held { pass.new.view.held ≡ pass.old.view.held }
@@ -129,8 +129,8 @@ fn both_zones(shared: &Shared, pass: &mut Pass) -> Option<[u64; 2]>
 }
 
 /// The word of the first band's zones, where a seat that reads alone finds them done.
-fn zone_read(shared: &Shared, reader: &mut Reader) -> Option<u64>
-    requires sheet { OneColumn shared.now.sheet }
+fn read_zone_word(shared: &Shared, reader: &mut Reader) -> Option<u64>
+    requires table_key { OneColumn shared.now.table_key }
     requires seats { Seats shared.now reader.old }
     ensures seats { Seats shared.now reader.new }
 {
@@ -142,14 +142,14 @@ fn zone_read(shared: &Shared, reader: &mut Reader) -> Option<u64>
 
 /// The first thing that is not as it should be, or nothing.
 fn two_passes(shared: &Shared, pass: Pass) -> &'static str
-    requires sheet { OneColumn shared.now.sheet }
+    requires table_key { OneColumn shared.now.table_key }
     requires seats { Seats shared.now pass }
     requires idle { pass.view.held ≡ None }
 {
     let mut pass = pass;
     let mut reader = shared.reader(&mut pass);
     let (mut one, mut two) = shared.split(pass);
-    if zone_read(shared, &mut reader).is_some() {
+    if read_zone_word(shared, &mut reader).is_some() {
         return "a free piece is not done";
     }
     if !shared.claim(&mut one, 0) {
@@ -177,7 +177,7 @@ fn two_passes(shared: &Shared, pass: Pass) -> &'static str
     if both_zones(shared, &mut one) != Some([1, 1]) {
         return "both cells are read";
     }
-    if zone_read(shared, &mut reader) != Some(1) {
+    if read_zone_word(shared, &mut reader) != Some(1) {
         return "a reader reads what is done";
     }
     ""
@@ -186,7 +186,7 @@ fn two_passes(shared: &Shared, pass: Pass) -> &'static str
 /// The words of the two ZONES pieces and their cells of a table that was left half done, before and after it is
 /// finished alone.
 fn closed_words(shared: Shared, pass: Pass) -> Option<[[u64; 4]; 2]>
-    requires sheet { OneColumn shared.sheet }
+    requires table_key { OneColumn shared.table_key }
     requires seats { Seats shared pass }
     requires idle { pass.view.held ≡ None }
 {

@@ -39,9 +39,9 @@ pub fn table(alloc: Global, page: &Page, bands: &Bands) -> Result<(Shared, Pass)
     requires reach { bands.now.reach2 ≡ page_reach page.now }
     ensures pass { IfOk result (λ t. Seats t.0 t.1) }
     ensures idle { IfOk result (λ t. t.1.view.held ≡ None) }
-    ensures new { IfOk result (λ t. t.1.view ≡ newcomer t.0.sheet) }
-    ensures page { IfOk result (λ t. t.0.sheet.page.value ≡ page.now) }
-    ensures layout { IfOk result (λ t. t.0.sheet.layout
+    ensures new { IfOk result (λ t. t.1.view ≡ newcomer t.0.table_key) }
+    ensures page { IfOk result (λ t. t.0.table_key.page.value ≡ page.now) }
+    ensures layout { IfOk result (λ t. t.0.table_key.layout
         ≡ record { bands = bands.now; width = width page.now; plates = plates page.now }) }
 {
     let layout = Layout::new(page.width(), page.plates(), bands);

@@ -1,5 +1,5 @@
 -- What a visit does to the account.
-use Rattle.std.proofs.Common.{◌≡◌, ℕ, ◌+◌, ◌≤◌, List, [], ◌∷◌, ◌++◌, length, sym, ap, ◌∙◌, inl, inr, arith, append_assoc, append-nil, length-append, Some, None}
+use Rattle.std.proofs.Common.{◌≡◌, ℕ, ◌+◌, ◌≤◌, List, [], ◌∷◌, ◌++◌, length, sym, ap, ◌∙◌, inl, inr, arith, append_assoc, length-append, Some, None}
 use Rattle.page_model.specs.declared.bands.Bands.{Bands}
 use Rattle.band_claims.specs.declared.view.View.{View}
 use Rattle.band_claims.specs.declared.view.Look.{Look}
@@ -51,9 +51,6 @@ made_by bands piece n p u v w x won filled held done =
       share = ap (λ (z : View). z.share) done ∙ (ap (λ (z : View). z.share) filled ∙ won.same_share);
     }
 
-pub recalls_same : (v : View) → Recalls v v
-recalls_same v = ([], sym (append-nil v.told))
-
 pub recalls_more : (u v w : View) → Recalls u v → Recalls v w → Recalls u w
 recalls_more u v w a b = (a.0 ++ b.0, b.1 ∙ (ap (λ (z : List Look). z ++ b.0) a.1 ∙ append_assoc u.told a.0 b.0))
 
@@ -63,9 +60,6 @@ publishes_made piece u v w p m = (p.0 ++ piece ∷ [], m.published ∙ (ap (λ (
 pub longer_made : (piece : ℕ) (u v w : View) → Publishes u v → Made piece v w → length u.published + 1 ≤ length w.published
 longer_made piece u v w p m =
     omega (arith, ap length p.1, length-append u.published p.0, ap length m.published, length-append v.published (piece ∷ []))
-
-pub publishes_same : (v : View) → Publishes v v
-publishes_same v = ([], sym (append-nil v.published))
 
 -- what one pass accounts for, the joined pass does
 pub accounted_joined : (bands : Bands) (v w : View) (i : ℕ) → IsAccounted bands v i → IsAccounted bands (joined v w) i

@@ -2,9 +2,9 @@ ghost use Rattle.std.specs.Prelude.{◌≡◌, Some};
 
 use band_claims::Pass;
 
-/// What is told of each claim that was won. It has no meaning for the work, and must return.
+/// A hook that is called at each claim that was won. It has no effect on the work, and must return.
 pub trait Gate {
-    /// The pass has claimed the piece, and holds it.
+    /// Called when the pass has claimed the piece and holds it.
     fn claimed(&self, pass: &Pass, piece: u32)
         requires { pass.now.view.held ≡ Some piece };
 }

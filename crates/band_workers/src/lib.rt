@@ -1,5 +1,5 @@
-//! Workers at the shared table: each walks over the pieces in order, claims those that it can, makes them and
-//! publishes them, until a walk wins nothing.
+//! Workers at the shared table: each goes through the pieces in order, claims those that it can, makes them and
+//! publishes them, until it can claim none in a whole round.
 #![tactic(auto)]
 
 mod gate;

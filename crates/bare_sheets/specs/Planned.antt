@@ -32,7 +32,7 @@ room ruler = 2 * max 1 ruler.halo + ruler.step
 abbrev pub even_room : Ruler → ℕ
 even_room ruler = 2 * max 1 ruler.halo + 2 * ruler.step - 1
 
--- Rulers that a sheet can be cut by, within a budget. Its windows have so many rows at least, and
+-- Rulers that a sheet can be cut by, within a budget. Its windows have at least `least` rows, and
 -- no more where the budget has fewer.
 pub record FitRulers (bare : PageParts) (budget : Budget) (least : ℕ) (rulers : Rulers)
     : Type 0 where
@@ -67,7 +67,7 @@ pub record IsLeast (bare : PageParts) (least : Least) : Type 0 where
   pub columns_are : least.columns ≡ 2 * max 1 least.halo + least.step
   pub rows_are : least.rows ≡ 2 * max 1 least.halo + 2 * least.step - 1
 
--- rulers by that halo and step, for windows of so many rows at least
+-- rulers by that halo and step, for windows of at least `rows` rows
 pub record IsCutBy (bare : PageParts) (budget : Budget) (least : Least) (rows : ℕ)
     (rulers : Rulers) : Type 0 where
   pub fits : FitRulers bare budget rows rulers

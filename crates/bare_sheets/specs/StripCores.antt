@@ -25,7 +25,7 @@ inner_ruler down row = record {
   from_end = down.from_end;
 }
 
--- the new tints of so many samples of plate c of a sheet, from one on
+-- the new tints of `count` samples of plate c of a sheet, from sample `first` on
 abbrev pub new_from : PageParts → ℕ → ℕ → ℕ → List ℕ
 new_from sheet c first count = list_below (λ i. new sheet (sample_at sheet (first + i)) c) count
 

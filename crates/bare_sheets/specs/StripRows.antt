@@ -6,7 +6,7 @@ use Rattle.page_model.specs.Page.{maxval, plates, width}
 use Rattle.page_model.specs.Planes.{plane_at, tints_of}
 use Rattle.sheet_windows.specs.declared.spans.Span.{Span}
 
--- so many rows of some tints, from one on
+-- the rows `from` to `from + rows` of some tints
 abbrev pub rows_of : ℕ → List ℕ → ℕ → ℕ → List ℕ
 rows_of wide tints from rows = take (rows * wide) (drop (from * wide) tints)
 

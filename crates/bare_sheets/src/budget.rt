@@ -5,15 +5,15 @@ ghost use Rattle.page_model.specs.Limits.{most_plates, most_samples, most_side};
 
 use page_model::bounds::{MOST_SAMPLES, MOST_SIDE};
 
-/// How large a window may be: its rows, and its samples in all plates together. Where that leaves
-/// no room for a halo on each side and a step beside, a window has just that room.
+/// How large a window may be: its rows, and its samples in all plates together. A window has at least a halo on each
+/// side and a step between them, even where that is more.
 #[derive(Clone, Copy, Debug, Drop, PartialEq, Eq)]
 pub struct Budget {
     pub rows: u32,
     pub samples: u64,
 }
 
-/// How many rows a window has at most, with so many columns and rows at least.
+/// The most rows of a window within the budget, where it has at least `columns` columns and `rows` rows.
 pub fn most_rows(columns: u32, rows: u32, plates: u32, budget: &Budget) -> u32
     requires some_columns { 1 ≤ columns }
     requires few_columns { columns ≤ 2304 }
@@ -32,7 +32,7 @@ pub fn most_rows(columns: u32, rows: u32, plates: u32, budget: &Budget) -> u32
         .max(u64::from(rows)) as u32
 }
 
-/// How many columns a window of so many rows has at most.
+/// The most columns of a window with `rows` rows.
 pub fn most_columns(room: u32, rows: u32, plates: u32, budget: &Budget) -> u32
     requires some_room { 1 ≤ room }
     requires small_room { room ≤ 2304 }

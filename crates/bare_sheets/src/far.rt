@@ -10,12 +10,11 @@ ghost use Rattle.bare_sheets.specs.Bare.{IsBareSheet};
 ghost use Rattle.sheet_windows.specs.Windows.{points_of};
 
 use crate::refusal::SheetRefusal;
+use page_model::bounds::MOST_COORDINATE;
 use page_model::parts::{PageParts, Vertex};
 use window_pages::sheet::points;
 
-const MOST_COORDINATE: u64 = 10_000_000_000;
-
-/// The first of two refusals.
+/// Returns `found`, or `later` where that is `None`.
 pub fn earlier(found: Option<SheetRefusal>, later: Option<SheetRefusal>) -> Option<SheetRefusal>
     ensures { result ≡ or_else found later }
 {
@@ -25,8 +24,7 @@ pub fn earlier(found: Option<SheetRefusal>, later: Option<SheetRefusal>) -> Opti
     }
 }
 
-/// Whether a vertex is too far from a corner of a sheet of these sides, in ten-thousandths of a
-/// point.
+/// Whether a vertex is too far from a corner of a sheet with these sides, in ten-thousandths of a point.
 fn is_far_vertex(vertex: &Vertex, wide: u64, tall: u64) -> bool
     requires wide { wide < 2 ^ 50 }
     requires tall { tall < 2 ^ 50 }
@@ -82,7 +80,7 @@ fn far_at(sheet: &PageParts, z: u32, wide: u64, tall: u64) -> Option<SheetRefusa
     }
 }
 
-/// The first zone that has such a vertex.
+/// The refusal of the first zone with a vertex too far from a corner of the sheet.
 pub fn first_far(sheet: &PageParts) -> Option<SheetRefusal>
     requires sheet { IsBareSheet sheet.now }
     requires narrow { width sheet.now < 2 ^ 30 }

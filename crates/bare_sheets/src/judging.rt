@@ -1,4 +1,4 @@
-// What is judged of a sheet before its tints are read.
+// The checks of a sheet before its tints are read.
 
 ghost use Rattle.std.specs.Prelude.{◌≡◌, ◌<◌, ◌≤◌, ◌^◌, length};
 ghost use Rattle.lists.specs.Words.{first_some, greatest_below, or_else};
@@ -33,7 +33,7 @@ pub fn is_large_sheet(sheet: &PageParts) -> bool
         || u64::from(width) * u64::from(height) * plates > MOST_SAMPLES
 }
 
-/// Why a sheet cannot be cut.
+/// Why a sheet can't be cut: the first zone with a vertex too far from a corner, or else the step; `None` where it can.
 pub fn cut_fault_of(sheet: &PageParts) -> Option<SheetRefusal>
     requires sheet { IsBareSheet sheet.now }
     requires narrow { width sheet.now < 2 ^ 30 }
@@ -92,7 +92,7 @@ fn first_wide(sheet: &PageParts) -> Option<PageFault>
     found
 }
 
-/// What a page is refused for, but that of its samples.
+/// The fault that the sheet would have as a page, apart from the number of samples.
 pub fn parts_fault_of(sheet: &PageParts) -> Option<PageFault>
     requires { IsBareParts sheet.now }
     ensures { result ≡ parts_fault sheet.now }
@@ -100,7 +100,7 @@ pub fn parts_fault_of(sheet: &PageParts) -> Option<PageFault>
     earlier_fault(first_difference(sheet), first_wide(sheet))
 }
 
-/// The reach of a sheet in half-samples: the greatest of its enabled zones.
+/// The reach of a sheet in half-samples: the greatest reach of its enabled zones.
 #[tactic(auto, unfolding(page_model::specs::Reach::page_reach))]
 fn reach_of_sheet(sheet: &PageParts) -> u32
     requires { IsBareSheet sheet.now }
@@ -114,7 +114,7 @@ fn reach_of_sheet(sheet: &PageParts) -> u32
     reach
 }
 
-/// How far a window goes on beyond its core: half the reach, rounded up to whole samples.
+/// The halo of a sheet, in samples, by which a window goes on beyond its core: half the reach, rounded up.
 pub fn halo_of(sheet: &PageParts) -> u32
     requires { IsBareSheet sheet.now }
     ensures value { result ≡ halo (page_reach sheet.now) }

@@ -18,7 +18,7 @@ ghost use Rattle.sheet_windows.specs.Spans.{IsSpan};
 ghost use Rattle.sheet_windows.specs.Strips.{strip_parts};
 ghost use Rattle.window_pages.specs.Sheets.{IsCuttable};
 
-/// What is judged of a sheet rests on all of it but its tints.
+/// The checks of a sheet before its tints are read depend on all of it but its tints.
 pub fn bare_law()
     ensures { (sheet : PageParts) → BareLaw sheet }
 {}
@@ -29,7 +29,7 @@ pub fn full_law()
         → IsSheet sheet }
 {}
 
-/// A sheet that no fault keeps from being cut may be cut.
+/// A sheet without a fault that keeps it from being cut may be cut.
 pub fn cuttable_law()
     ensures { (sheet : PageParts) → IsSheet sheet → cut_fault sheet ≡ None → width sheet < 2 ^ 30
         → height sheet < 2 ^ 30 → IsCuttable sheet }
@@ -41,12 +41,12 @@ pub fn some_sheet_law()
         → MayBegin bare tints → (sheet : PageParts) × BeginsWith bare tints sheet }
 {}
 
-/// A sheet that begins with some tints begins with the first of them.
+/// A sheet that begins with some tints begins with each prefix of them.
 pub fn begins_earlier_law()
     ensures { BeginsEarlier }
 {}
 
-/// Planes that hold the rows of a strip are those of the strip as a sheet.
+/// Planes that have the rows of a strip are those of the strip as a sheet.
 pub fn strip_rows_law()
     ensures { (sheet : PageParts) (row : Span) (planes : List Plane) → IsSheet sheet
         → row.from + row.wide ≤ height sheet → HoldRows sheet row planes

@@ -1,5 +1,5 @@
-//! Bare sheets: all of a sheet but its tints. Whether a sheet is refused, and by which rulers it is cut within a budget for each
-//! window, rests on that alone, so it is judged before any tint is read.
+//! Bare sheets: all of a sheet but its tints. Whether a sheet is refused, and by which rulers it is cut within a budget
+//! for each window, depends on that alone, so it is decided before any tint is read.
 #![tactic(auto)]
 
 pub mod budget;

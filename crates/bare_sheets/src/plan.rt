@@ -1,4 +1,4 @@
-// How a sheet is to be trapped, before its tints are read.
+// How a sheet is going to be trapped, decided before its tints are read.
 
 ghost use Rattle.std.specs.Prelude.{◌≡◌, ◌⊎◌, ◌+◌, ◌-◌, ◌*◌, ◌<◌, ◌≤◌, ◌^◌, max, length, IfErr, IfOk, OnOk, None, Some};
 ghost use Rattle.page_model.specs.Columns.{halo};
@@ -18,7 +18,7 @@ use page_model::bounds::MOST_SAMPLES;
 use page_model::parts::PageParts;
 use sheet_windows::spans::Ruler;
 
-// Fewer columns than these are not worth a window of their own.
+// A window of fewer columns is not worth its cost.
 const NARROW: u32 = 128;
 
 /// Rulers for the columns and the rows of a sheet.
@@ -31,17 +31,17 @@ pub struct Rulers {
 /// How a sheet is trapped.
 #[derive(Clone, Copy, Drop)]
 pub enum Plan {
-    /// Strip by strip, each of as many rows: no more of them are held at a time.
+    /// Strip by strip, all of the same number of rows: only one strip is in memory at a time.
     Strips(Rulers),
-    /// Window by window, all rows at once, since no strips of one height are small enough.
+    /// Window by window, with the whole sheet in memory, since no strips of one height are small enough.
     Windows(Rulers),
-    /// As one page, since it is one, and cannot be cut.
+    /// As one page, since it is one and can't be cut.
     Page,
 }
 
-/// How a sheet is trapped within a budget for each window, or the first of its faults: of the first plate that differs
-/// from plate 0, then of the first zone that reaches too far, and then, above the limits of a page, of the first zone with
-/// a vertex too far from a corner of the sheet, and of the step. No tint is looked at.
+/// Decides how a sheet is trapped within a budget for each window, or returns the first of its faults: of the first
+/// plate that differs from plate 0, then of the first zone that reaches too far, and then, above the limits of a page,
+/// of the first zone with a vertex too far from a corner of the sheet, and of the step. No tint is read.
 #[tactic(auto, using(crate::proofs::BareLemmas::bare_from))]
 pub fn plan_sheet(sheet: &PageParts, budget: &Budget) -> Result<Plan, SheetRefusal>
     requires parts { IsBareParts sheet.now }
@@ -54,12 +54,12 @@ pub fn plan_sheet(sheet: &PageParts, budget: &Budget) -> Result<Plan, SheetRefus
 {
     match parts_fault_of(sheet) {
         Some(fault) => Err(SheetRefusal::Fault(fault)),
-        None => plan_agreed(sheet, budget),
+        None => plan_without_fault(sheet, budget),
     }
 }
 
-// How a sheet without a fault of a page is trapped, or why it cannot be.
-fn plan_agreed(sheet: &PageParts, budget: &Budget) -> Result<Plan, SheetRefusal>
+// How a sheet without a fault of a page is trapped, or why it can't be.
+fn plan_without_fault(sheet: &PageParts, budget: &Budget) -> Result<Plan, SheetRefusal>
     requires sheet { IsBareSheet sheet.now }
     requires narrow { width sheet.now < 2 ^ 30 }
     requires low { height sheet.now < 2 ^ 30 }
@@ -79,8 +79,8 @@ fn plan_agreed(sheet: &PageParts, budget: &Budget) -> Result<Plan, SheetRefusal>
     }
 }
 
-// The least window of a sheet: a halo on each side, and a step beside. Rows that are as many in each strip want a step more,
-// less a row.
+// The least window of a sheet: a halo on each side, and a step between them. Where all strips have the same number of
+// rows, it is a step more, less a row.
 #[derive(Clone, Copy, Drop)]
 struct Least {
     halo: u32,
@@ -141,7 +141,7 @@ fn plan_by(sheet: &PageParts, least: Least, budget: &Budget) -> Plan
     }
 }
 
-// The rulers within a budget for windows of so many rows at least.
+// The rulers within a budget for windows of at least `rows` rows.
 fn rulers_of(sheet: &PageParts, least: Least, rows: u32, budget: &Budget) -> Rulers
     requires sheet { IsBareSheet sheet.now }
     requires narrow { width sheet.now < 2 ^ 30 }
@@ -174,7 +174,7 @@ fn rulers_of(sheet: &PageParts, least: Least, rows: u32, budget: &Budget) -> Rul
     }
 }
 
-// How many columns the windows get, of so many rows: about as many as one another.
+// The number of columns of the windows, of `rows` rows each: about the same for all.
 fn columns_for(side: u32, least: Least, rows: u32, plates: u32, budget: &Budget) -> u32
     requires side { side < 2 ^ 30 }
     requires some_step { 1 ≤ least.step }
@@ -194,9 +194,9 @@ fn columns_for(side: u32, least: Least, rows: u32, plates: u32, budget: &Budget)
     even_columns(side, least.columns, most)
 }
 
-// How many columns windows of at most so many get, and of as many at least as the least one has, so that their number is a
-// multiple of four and they have about as many: four workers, or two, then have as much to do as one another. Where they
-// would be narrow, it is as many as may be.
+// The number of columns of a window, from `least` to `most`, for which the number of windows is a multiple of four and
+// all have about as many columns: four workers, or two, then have equal work. Where the windows would be narrow, it is
+// as many as may be.
 fn even_columns(side: u32, least: u32, most: u32) -> u32
     requires side { side < 2 ^ 30 }
     requires some { 1 ≤ least }

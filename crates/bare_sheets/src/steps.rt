@@ -21,7 +21,7 @@ fn is_short(resolution: u32) -> bool
     step_of(resolution) <= MOST_STEP
 }
 
-/// Whether there are paths, and no step that is short enough.
+/// The refusal `Uncut` of a sheet with paths for which no step is short enough.
 pub fn uncut_of(sheet: &PageParts) -> Option<SheetRefusal>
     requires { IsBareSheet sheet.now }
     ensures { result ≡ uncut sheet.now }
@@ -33,7 +33,7 @@ pub fn uncut_of(sheet: &PageParts) -> Option<SheetRefusal>
     }
 }
 
-/// The step of a sheet in samples, the least one: 1 where it has no paths, since then no vertex is moved.
+/// The least step of a sheet in samples: 1 where it has no paths, since then no vertex is moved.
 #[tactic(auto, using(crate::proofs::StepLemmas::step_short))]
 pub fn sheet_step(sheet: &PageParts) -> u32
     requires sheet { IsBareSheet sheet.now }

@@ -5,7 +5,7 @@ use Rattle.ps_tokens.specs.declared.faults.FaultKind.{FaultKind}
 use Rattle.ps_tokens.specs.declared.faults.FaultKind.TheVariants.{NotDictionary, MissingKey}
 use Rattle.ps_tokens.specs.declared.faults.FaultKind.TheVariants.{WrongType}
 use Rattle.ps_tokens.specs.declared.faults.JobFault.{JobFault}
-use Rattle.ps_tokens.specs.declared.misfits.Misfit.{Misfit}
+use Rattle.ps_tokens.specs.declared.entry_errors.EntryError.{EntryError}
 use Rattle.ps_tokens.specs.declared.object.Body.{Body}
 use Rattle.ps_tokens.specs.declared.object.Body.TheVariants.{Number, Truth, Null, Text, Literal}
 use Rattle.ps_tokens.specs.declared.object.Body.TheVariants.{Operator, Array, Dict}
@@ -33,17 +33,17 @@ type_in Array = Err WrongType
 type_in Dict = Err WrongType
 
 -- whether a dictionary has that type; false where it has none
-unfoldable pub type_of : List Object → ℕ → Result Bool Misfit
+unfoldable pub type_of : List Object → ℕ → Result Bool EntryError
 type_of objects dict =
     value_at (by_body type_in) objects false (last_of objects dict (codes "Type"))
 
 -- the inks: of two faults the one that stands first, and a missing type after both
-abbrev pub details_from : ℕ → Result Bool Misfit → Result (List Ink) Misfit
+abbrev pub details_from : ℕ → Result Bool EntryError → Result (List Ink) EntryError
     → Result (List Ink) JobFault
 details_from at (Ok true) (Ok inks) = Ok inks
 details_from at (Ok false) (Ok inks) = Err (record { kind = MissingKey; at = at })
-details_from at (Ok typed) (Err misfit) = Err misfit.fault
-details_from at (Err misfit) (Ok inks) = Err misfit.fault
+details_from at (Ok typed) (Err error) = Err error.fault
+details_from at (Err error) (Ok inks) = Err error.fault
 details_from at (Err first) (Err second) =
     Err (if nat_lt second.place first.place then second.fault else first.fault)
 

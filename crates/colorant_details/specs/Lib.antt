@@ -1,3 +1,3 @@
 pub mod Colorants
 pub mod Details
-pub mod Shades
+pub mod InkDetails

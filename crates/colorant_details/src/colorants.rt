@@ -1,23 +1,24 @@
 ghost use Rattle.std.specs.Prelude.{◌≡◌, ◌++◌, IfOk, OnOk};
 ghost use Rattle.ps_tokens.specs.Dictionaries.{AreObjects, last_keys_of};
-ghost use Rattle.colorant_details.specs.Colorants.{ink_if_given, inks_of, first_misfit, inks_unless, colorants_at};
+ghost use Rattle.colorant_details.specs.Colorants.{ink_if_given, inks_of, first_error, inks_unless, colorants_at};
 
-use crate::shades::{Shade, shade_of};
+use crate::ink_details::{InkDetails, ink_details_of};
 use lists::list::List;
-use lists::names::copied;
+use lists::names::copy_name;
 use page_model::parts::{DetailList, Ink, OutOfMemory};
+use ps_tokens::entry_errors::{EntryError, at_place, earlier};
 use ps_tokens::faults::FaultKind;
-use ps_tokens::misfits::{Misfit, earlier, judged_at};
 use ps_tokens::names::{last_keys, name_at};
 use ps_tokens::object::ObjectList;
 use std::alloc::Global;
 
-/// The inks of the value of ColorantDetails at a place, none where no entry has the key.
+/// The inks of the ColorantDetails dictionary at the place `value`, in ascending byte order of their names (PLRM3,
+/// section 6.3, in this project's profile). No inks where `value` is `None`: no entry has the key.
 pub fn colorants_at(
     alloc: Global,
     objects: &ObjectList,
     value: Option<u32>,
-) -> Result<Result<DetailList, Misfit>, OutOfMemory>
+) -> Result<Result<DetailList, EntryError>, OutOfMemory>
     requires { AreObjects objects.now }
     ensures { IfOk result (λ inks. inks ≡ colorants_at objects.now value) }
 {
@@ -30,7 +31,7 @@ pub fn colorants_at(
     if object.body.is_dict() {
         colorants_in(alloc, objects, place)
     } else {
-        Ok(judged_at(place, object.at, Err(FaultKind::NotDictionary)))
+        Ok(at_place(place, object.at, Err(FaultKind::NotDictionary)))
     }
 }
 
@@ -39,20 +40,20 @@ fn colorants_in(
     alloc: Global,
     objects: &ObjectList,
     place: u32,
-) -> Result<Result<DetailList, Misfit>, OutOfMemory>
+) -> Result<Result<DetailList, EntryError>, OutOfMemory>
     requires { AreObjects objects.now }
     ensures { let keys = last_keys_of objects.now place in
-        let misfit = first_misfit objects.now keys in
-        IfOk result (λ inks. inks ≡ inks_unless place misfit (inks_of objects.now keys)) }
+        let error = first_error objects.now keys in
+        IfOk result (λ inks. inks ≡ inks_unless place error (inks_of objects.now keys)) }
 {
     let keys = match last_keys(alloc, objects, place) {
         Ok(keys) => keys,
         Err(OutOfMemory) => return Err(OutOfMemory),
     };
-    match first_misfit(objects, &keys) {
-        Some(misfit) => Ok(Err(Misfit {
+    match first_error(objects, &keys) {
+        Some(error) => Ok(Err(EntryError {
             place,
-            fault: misfit.fault,
+            fault: error.fault,
         })),
         None => match inks_of(alloc, objects, &keys) {
             Ok(inks) => Ok(Ok(List::from_vec(inks))),
@@ -62,13 +63,13 @@ fn colorants_in(
 }
 
 // Of the faults of these keys the one that stands first.
-fn first_misfit(objects: &ObjectList, keys: &[u32]) -> Option<Misfit>
+fn first_error(objects: &ObjectList, keys: &[u32]) -> Option<EntryError>
     requires { AreObjects objects.now }
-    ensures { result ≡ first_misfit objects.now keys.now }
+    ensures { result ≡ first_error objects.now keys.now }
 {
     let mut first = None;
     for key in keys {
-        first = earlier(first, shade_of(objects, *key).err());
+        first = earlier(first, ink_details_of(objects, *key).err());
     }
     first
 }
@@ -81,7 +82,7 @@ fn inks_of(alloc: Global, objects: &ObjectList, keys: &[u32]) -> Result<Vec<Ink>
     let mut inks = Vec::new(alloc);
     for key in keys {
         let name = name_at(objects.as_slice(), *key as usize);
-        match put_ink(alloc, &mut inks, name, shade_of(objects, *key)) {
+        match put_ink(alloc, &mut inks, name, ink_details_of(objects, *key)) {
             Ok(()) => {}
             Err(OutOfMemory) => return Err(OutOfMemory),
         }
@@ -94,23 +95,23 @@ fn put_ink(
     alloc: Global,
     inks: &mut Vec<Ink>,
     name: &[u8],
-    shade: Result<Option<Shade>, Misfit>,
+    details: Result<Option<InkDetails>, EntryError>,
 ) -> Result<(), OutOfMemory>
-    ensures { OnOk result (inks.new.items ≡ inks.old.items ++ ink_if_given name.now shade) }
+    ensures { OnOk result (inks.new.items ≡ inks.old.items ++ ink_if_given name.now details) }
 {
-    let shade = match shade {
-        Ok(Some(shade)) => shade,
+    let details = match details {
+        Ok(Some(details)) => details,
         Ok(None) => return Ok(()),
         Err(_) => return Ok(()),
     };
-    let name = match copied(alloc, name) {
+    let name = match copy_name(alloc, name) {
         Ok(name) => name,
         Err(OutOfMemory) => return Err(OutOfMemory),
     };
     let ink = Ink {
         name,
-        density: shade.density,
-        kind: shade.kind,
+        density: details.density,
+        kind: details.kind,
     };
     match inks.push(ink) {
         Ok(()) => Ok(()),

@@ -7,14 +7,14 @@ ghost use Rattle.colorant_details.specs.Details.{type_in, type_of, details_from,
 use crate::colorants::colorants_at;
 use lists::list::List;
 use page_model::parts::{DetailList, OutOfMemory};
+use ps_tokens::entry_errors::{EntryError, at_place};
 use ps_tokens::faults::{FaultKind, JobFault, JobRefusal};
-use ps_tokens::misfits::{Misfit, judged_at};
 use ps_tokens::object::{Body, ObjectList};
 use ps_tokens::{last, last_value};
 use std::alloc::Global;
 
-/// The inks that the value of TrappingDetails at a place names, in ascending byte order of their names (PLRM3's trapping
-/// section, in this project's profile).
+/// The inks that the value of TrappingDetails at the place `details` names, in ascending byte order of their names
+/// (PLRM3, section 6.3, in this project's profile).
 ///
 /// `NotDictionary` where the value, that of ColorantDetails or a colorant's is no dictionary; `WrongType` where Type is
 /// not 1001; `BadDensity` where NeutralDensity is no number from 0.001 to 10; `BadKind` where ColorantType is none of the
@@ -64,12 +64,12 @@ fn type_in(value: &Body) -> Result<bool, FaultKind>
 
 // Whether a dictionary has that type, false where it has none.
 #[tactic(auto, unfolding(crate::specs::Details::type_of))]
-fn type_of(objects: &ObjectList, dict: u32) -> Result<bool, Misfit>
+fn type_of(objects: &ObjectList, dict: u32) -> Result<bool, EntryError>
     requires { AreObjects objects.now }
     ensures { result ≡ type_of objects.now dict }
 {
     match last_value(objects, dict, b"Type") {
-        Some((place, object)) => judged_at(place, object.at, type_in(&object.body)),
+        Some((place, object)) => at_place(place, object.at, type_in(&object.body)),
         None => Ok(false),
     }
 }
@@ -77,8 +77,8 @@ fn type_of(objects: &ObjectList, dict: u32) -> Result<bool, Misfit>
 // The inks, or the fault that stands first.
 fn details_from(
     at: u32,
-    typed: Result<bool, Misfit>,
-    colorants: Result<DetailList, Misfit>,
+    typed: Result<bool, EntryError>,
+    colorants: Result<DetailList, EntryError>,
 ) -> Result<DetailList, JobFault>
     ensures { result ≡ details_from at typed colorants }
 {
@@ -94,7 +94,7 @@ fn details_from(
                     })
                 }
             }
-            Err(misfit) => Err(misfit.fault),
+            Err(error) => Err(error.fault),
         },
         Err(first) => match colorants {
             Ok(_) => Err(first.fault),

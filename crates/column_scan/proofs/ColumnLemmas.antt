@@ -178,11 +178,3 @@ column-meets page m x2 r first rows reach k marks cover few inside lk row held =
     let next = row_below-is m x2 r held in
     let best = picked (in_reach (edge_decides page x2) (2 * (m.top + r)) reach) (2 * (m.top + r)) (2 * height page - 1) (up_of x2 m.top r reach (row_above m x2 r)) (down_of x2 m.top r reach (row_below m x2 r)) (omega (arith, marks.inside, held)) (up-is _ _ _ _ _ _ _ _ _ h last) (down-is _ _ _ _ _ _ _ _ _ h next) in
     rw (← row) (code-is x2 m.top r reach (row_above m x2 r) (row_below m x2 r) few (above_before x2 r (passes m x2) _ last) (below_after x2 r _ (passes m x2) _ next) ∙ ap (offset_code (m.top + r)) (sym best))
-
-pub first_held : (page : PageParts) (m : Marked) (first rows reach : ℕ) → CoverRows page m first rows reach → m.top ≤ first
-first_held page m first rows reach cover = (cover.near first (omega (arith, cover.some, cover.asked)) (omega arith) (omega (arith, cover.some))).from
-
-pub last_held : (page : PageParts) (m : Marked) (first rows reach : ℕ) → CoverRows page m first rows reach → first + rows ≤ m.top + held_rows m
-last_held page m first rows reach cover =
-    let last = cover.near (first + rows - 1) (omega (arith, cover.some, cover.asked)) (omega (arith, cover.some)) (omega (arith, cover.some)) in
-    omega (arith, last.to, cover.some)

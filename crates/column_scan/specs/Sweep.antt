@@ -3,6 +3,7 @@
 use Rattle.std.specs.Prelude.{◌≡◌, ℕ, zero, suc, ◌+◌, ◌-◌, ◌*◌, ◌%◌, ◌<◌, ◌≤◌, Bool, nat_le, List}
 use Rattle.std.specs.Prelude.{length, slice_index, Option, Some, None, if◌then◌else◌}
 use Rattle.page_model.specs.Marks.{Marked, held_rows, marked}
+use Rattle.page_model.specs.Limits.{level_code}
 
 -- the Y of doubled column x2 in a row: on it where x2 is odd, below it where x2 is even
 abbrev pub row_edge : ℕ → ℕ → ℕ
@@ -25,9 +26,9 @@ abbrev pub first_before : (ℕ → Bool) → ℕ → ℕ → Option ℕ
 first_before test n zero = None
 first_before test n (suc k) = or_keep (test (n - suc k)) (n - suc k) (first_before test n k)
 
--- the offset of row j's edge from row r plus 257
+-- the offset of row j's edge from row r plus the code of a level answer
 abbrev pub code_at : ℕ → ℕ → ℕ → ℕ
-code_at x2 r j = row_edge x2 j + 257 - 2 * r
+code_at x2 r j = row_edge x2 j + level_code - 2 * r
 
 -- the code of an edge that is not below row r, 0 where there is none within reach
 abbrev pub above_code : ℕ → ℕ → ℕ → Option ℕ → ℕ
@@ -41,7 +42,7 @@ nearer_code x2 r reach above None = above
 nearer_code x2 r reach above (Some j) =
     if nat_le (row_edge x2 j) (2 * r + reach)
     then (if nat_le 1 above
-    then (if nat_le 514 (code_at x2 r j + above) then above else code_at x2 r j)
+    then (if nat_le (2 * level_code) (code_at x2 r j + above) then above else code_at x2 r j)
     else code_at x2 r j) else above
 
 -- the last row whose edge is not below row r, and the first one whose edge is
@@ -67,17 +68,19 @@ slot out columns row x2 = slice_index out (row * columns + x2)
 -- the code of the row above seen one row further down, where the edge in between does not
 -- decide; else the code of that edge
 abbrev pub lowered : ℕ → ℕ → ℕ
-lowered reach code = if nat_le 259 (code + reach) then code - 2 else 0
+lowered reach code = if nat_le (level_code + 2) (code + reach) then code - 2 else 0
 
 abbrev pub above_step : ℕ → ℕ → Bool → ℕ → ℕ
 above_step x2 reach seen code =
-    if seen then (if nat_le 1 (x2 % 2 + reach) then 256 + x2 % 2 else 0) else lowered reach code
+    if seen then (if nat_le 1 (x2 % 2 + reach) then level_code - 1 + x2 % 2 else 0)
+    else lowered reach code
 
 -- the code of the nearer one of an edge with a code and of the edge of the row below
 abbrev pub raised : ℕ → ℕ → ℕ → ℕ
 raised reach above below =
-    if nat_le 1 below then (if nat_le (below + 2) (257 + reach)
-    then (if nat_le 1 above then (if nat_le 514 (above + below + 2) then above else below + 2)
+    if nat_le 1 below then (if nat_le (below + 2) (level_code + reach)
+    then (if nat_le 1 above
+    then (if nat_le (2 * level_code) (above + below + 2) then above else below + 2)
     else below + 2) else above) else above
 
 -- of one row the first n columns hold the values, and all else is as it was

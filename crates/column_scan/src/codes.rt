@@ -1,9 +1,11 @@
-// The answer of one doubled column in one row, as a code: 0 for none, else the offset in half-samples plus 257.
+// The answer of one doubled column in one row, as a code: 0 for none, else the offset in half-samples plus `LEVEL_CODE`.
 
 ghost use Rattle.std.specs.Prelude.{◌≡◌, ◌≤◌, ◌<◌, ◌*◌, ◌+◌};
 ghost use Rattle.std.specs.Option.{MatchOption};
 ghost use Rattle.column_scan.specs.Sweep.{row_edge, above_code, nearer_code, above_step, raised};
 ghost use Rattle.page_model.specs.Limits.{most_reach, most_side};
+
+use page_model::bounds::LEVEL_CODE;
 
 fn edge_of(x2: u32, row: u32) -> u32
     requires { row ≤ most_side }
@@ -12,7 +14,7 @@ fn edge_of(x2: u32, row: u32) -> u32
     2 * row + 1 - x2 % 2
 }
 
-/// The code of the edge at or above row r that was seen last.
+/// The code of the last edge at or above row r.
 pub(crate) fn above(x2: u32, r: u32, reach2: u32, last: Option<u32>) -> u16
     requires row { r ≤ most_side }
     requires reach { reach2 ≤ most_reach }
@@ -24,7 +26,7 @@ pub(crate) fn above(x2: u32, r: u32, reach2: u32, last: Option<u32>) -> u16
         Some(j) => {
             let edge = edge_of(x2, j);
             if 2 * r <= edge + reach2 {
-                (edge + 257 - 2 * r) as u16
+                (edge + LEVEL_CODE - 2 * r) as u16
             } else {
                 0
             }
@@ -33,7 +35,7 @@ pub(crate) fn above(x2: u32, r: u32, reach2: u32, last: Option<u32>) -> u16
     }
 }
 
-/// The code of the nearer one of an edge with a code and of an edge below row r.
+/// The code of the nearer of two edges: one with a code, and one below row r.
 pub(crate) fn nearer(x2: u32, r: u32, reach2: u32, above: u16, next: Option<u32>) -> u16
     requires row { r ≤ most_side }
     requires reach { reach2 ≤ most_reach }
@@ -47,8 +49,8 @@ pub(crate) fn nearer(x2: u32, r: u32, reach2: u32, above: u16, next: Option<u32>
             if edge > 2 * r + reach2 {
                 return above;
             }
-            let below = (edge + 257 - 2 * r) as u16;
-            if above > 0 && below + above >= 514 {
+            let below = (edge + LEVEL_CODE - 2 * r) as u16;
+            if above > 0 && below + above >= 2 * LEVEL_CODE as u16 {
                 above
             } else {
                 below
@@ -58,32 +60,32 @@ pub(crate) fn nearer(x2: u32, r: u32, reach2: u32, above: u16, next: Option<u32>
     }
 }
 
-/// The code of a row from that of the row above it and the edge in between.
-pub(crate) fn stepped(x2: u32, reach2: u32, seen: bool, code: u16) -> u16
+/// The code of a row, from that of the row above it and whether the edge in between decides.
+pub(crate) fn step_code(x2: u32, reach2: u32, seen: bool, code: u16) -> u16
     requires reach { reach2 ≤ most_reach }
     ensures { result ≡ above_step x2 reach2 seen code }
 {
     // both codes are worked out first, so that no column takes a branch
     let fresh = if x2 % 2 + reach2 >= 1 {
-        256 + (x2 % 2) as u16
+        (LEVEL_CODE - 1 + x2 % 2) as u16
     } else {
         0
     };
-    let least = (259 - reach2) as u16;
+    let least = (LEVEL_CODE + 2 - reach2) as u16;
     let carried = if code >= least { code - 2 } else { 0 };
     if seen { fresh } else { carried }
 }
 
-/// The code of a row from its own and that of the row below it.
-pub(crate) fn lifted(reach2: u32, above: u16, below: u16) -> u16
+/// The code of a row, from its own and that of the row below it.
+pub(crate) fn lift_code(reach2: u32, above: u16, below: u16) -> u16
     requires reach { reach2 ≤ most_reach }
     ensures { result ≡ raised reach2 above below }
 {
     let (near, far) = (u32::from(above), u32::from(below));
-    if far < 1 || far + 2 > 257 + reach2 {
+    if far < 1 || far + 2 > LEVEL_CODE + reach2 {
         return above;
     }
-    if near >= 1 && near + far + 2 >= 514 {
+    if near >= 1 && near + far + 2 >= 2 * LEVEL_CODE {
         above
     } else {
         below + 2

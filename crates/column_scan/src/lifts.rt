@@ -1,17 +1,16 @@
-// Columns of one row raised by the row below it, many at once.
+// The upward sweep: the columns of one row updated by the row below it, many at once.
 
 ghost use Rattle.std.specs.Prelude.{◌≡◌, ◌≤◌, ◌<◌, ◌+◌, ◌*◌, true, ℕ, length, slice_index};
 ghost use Rattle.page_model.specs.Limits.{most_column, most_reach, most_side};
 ghost use Rattle.column_scan.specs.Sweep.{raised};
 
-use crate::codes::lifted;
+use crate::codes::lift_code;
 use crate::rows::{get, put};
 
-/// How many columns are raised at once at most.
+/// The number of columns that are updated together, at most.
 pub(crate) const LIFTED: u32 = 64;
 
-/// Whether all from one place on and before another are 0. It goes over all of them, without a branch, so that many go at
-/// once.
+/// Whether `codes[from..to]` are all 0. All of them are read, without a branch, so that the loop is vectorized.
 pub fn are_zero(codes: &[u16], from: usize, to: usize) -> bool
     requires order { from ≤ to }
     requires inside { to ≤ length codes.now }
@@ -25,7 +24,7 @@ pub fn are_zero(codes: &[u16], from: usize, to: usize) -> bool
     all
 }
 
-/// Raises so many columns of row k of the asked rows, from one on, by those of row k + 1.
+/// Updates `count` columns of row k of `out`, from column `from` on, by those of row k + 1.
 fn lift_span(columns: u32, rows: u32, k: u32, from: u32, count: u32, reach2: u32, out: &mut [u16])
     requires columns { columns ≤ most_column + 1 }
     requires reach { reach2 ≤ most_reach }
@@ -44,7 +43,7 @@ fn lift_span(columns: u32, rows: u32, k: u32, from: u32, count: u32, reach2: u32
 {
     for j in 0..count {
         let x2 = from + j;
-        let code = lifted(
+        let code = lift_code(
             reach2,
             get(out, columns, k, x2),
             get(out, columns, k + 1, x2),
@@ -53,7 +52,7 @@ fn lift_span(columns: u32, rows: u32, k: u32, from: u32, count: u32, reach2: u32
     }
 }
 
-/// The same. Where no column of row k + 1 has an answer there, none is gone over.
+/// Does the same as `lift_span`. Where no column of row k + 1 has an answer there, nothing is done.
 pub(crate) fn span_up(
     columns: u32,
     rows: u32,

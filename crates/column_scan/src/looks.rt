@@ -21,9 +21,9 @@ pub(crate) fn decides<L: Ledger>(marks: &Marks, x2: u32, r: u32, steps: &mut Ste
     marks.deciding(x2, 2 * row + 1 - x2 % 2, steps)
 }
 
-/// Row r of the marks where its edge in the column decides, else the row that was kept.
+/// Row r of the marks if its edge in the column decides, else `kept`.
 #[tactic(auto, unfolding(crate::specs::Sweep::passes))]
-fn seen<L: Ledger>(
+fn row_or_keep<L: Ledger>(
     marks: &Marks,
     x2: u32,
     r: u32,
@@ -58,7 +58,7 @@ pub(crate) fn last_before<L: Ledger>(
 {
     let mut last = None;
     for r in 0..first {
-        last = seen(marks, x2, r, last, steps);
+        last = row_or_keep(marks, x2, r, last, steps);
     }
     last
 }
@@ -79,19 +79,19 @@ pub(crate) fn first_after<L: Ledger>(
     let mut next = None;
     let held = marks.rows();
     for k in 0..held - end {
-        next = seen(marks, x2, held - (k + 1), next, steps);
+        next = row_or_keep(marks, x2, held - (k + 1), next, steps);
     }
     next
 }
 
-/// What a row shows of its column, and what the next row starts from.
+/// What a row shows of a column, and the state that the next row starts from.
 #[derive(Clone, Copy, Drop)]
 pub(crate) struct Passed {
     pub(crate) shown: Option<u32>,
     pub(crate) kept: Option<u32>,
 }
 
-/// Goes down past row r.
+/// Moves down past row r.
 pub(crate) fn pass_down<L: Ledger>(
     marks: &Marks,
     x2: u32,
@@ -106,7 +106,7 @@ pub(crate) fn pass_down<L: Ledger>(
     ensures kept { result.kept ≡ last_below (passes marks.now x2) (r + 1) }
     ensures step { steps.new ≡ steps.old + 1 }
 {
-    let kept = seen(marks, x2, r, last, steps);
+    let kept = row_or_keep(marks, x2, r, last, steps);
     if x2 % 2 == 1 {
         Passed { shown: kept, kept }
     } else {
@@ -114,7 +114,7 @@ pub(crate) fn pass_down<L: Ledger>(
     }
 }
 
-/// Goes up past row r.
+/// Moves up past row r.
 pub(crate) fn pass_up<L: Ledger>(
     marks: &Marks,
     x2: u32,
@@ -129,7 +129,7 @@ pub(crate) fn pass_up<L: Ledger>(
     ensures kept { result.kept ≡ first_from marks.now x2 r }
     ensures step { steps.new ≡ steps.old + 1 }
 {
-    let kept = seen(marks, x2, r, next, steps);
+    let kept = row_or_keep(marks, x2, r, next, steps);
     if x2 % 2 == 1 {
         Passed { shown: next, kept }
     } else {

@@ -33,7 +33,7 @@ pub(crate) fn get(out: &[u16], columns: u32, row: u32, x2: u32) -> u16
     out[row as usize * columns as usize + x2 as usize]
 }
 
-/// The first asked row: the edges at or above it.
+/// The first asked row, by the edges at or above it.
 pub(crate) fn first_row_of<L: Ledger>(
     marks: &Marks,
     columns: u32,
@@ -58,7 +58,7 @@ pub(crate) fn first_row_of<L: Ledger>(
     }
 }
 
-/// Row k + 1 of the asked rows from row k, by one look at the marks for each column.
+/// Row k + 1 of the asked rows, from row k, with one look at the marks for each column.
 pub(crate) fn row_down<L: Ledger>(
     marks: &Marks,
     columns: u32,
@@ -94,7 +94,7 @@ pub(crate) fn row_down<L: Ledger>(
     put(out, columns, k + 1, x2, last);
 }
 
-/// The last asked row: the nearer one of the edges above and below it.
+/// The last asked row: for each column the nearer of the edges above and below it.
 pub(crate) fn last_row_of<L: Ledger>(
     marks: &Marks,
     columns: u32,
@@ -126,7 +126,7 @@ pub(crate) fn last_row_of<L: Ledger>(
     }
 }
 
-/// Row k of the asked rows with the edges below it, from row k + 1.
+/// Updates row k of the asked rows by the edges below it, from row k + 1.
 pub(crate) fn row_up(columns: u32, rows: u32, k: u32, reach2: u32, out: &mut [u16])
     requires columns { columns ≤ most_column + 1 }
     requires reach { reach2 ≤ most_reach }

@@ -1,17 +1,17 @@
-// Columns of one row taken down to the next, many at once.
+// The downward sweep: columns of one row carried to the next, many at once.
 
 ghost use Rattle.std.specs.Prelude.{◌≡◌, ◌≤◌, ◌<◌, ◌+◌, ◌*◌, ℕ, length, slice_index};
 ghost use Rattle.page_model.specs.Marks.{held_rows};
 ghost use Rattle.page_model.specs.Limits.{most_column, most_reach, most_side};
 ghost use Rattle.column_scan.specs.Sweep.{above_of, slot};
 
-use crate::codes::stepped;
+use crate::codes::step_code;
 use crate::looks::decides;
 use page_model::marks::Marks;
 use page_model::steps::Steps;
 use std::sync::ledger::Ledger;
 
-/// How many samples' columns go down at once at most, two for each sample.
+/// The number of samples whose columns, two for each, are carried together, at most.
 pub(crate) const SPAN: u32 = 256;
 
 /// Row r + 1 of the marks, from row r.
@@ -32,10 +32,10 @@ pub(crate) fn enter<L: Ledger>(
 {
     let _valid = marks.rows();
     let seen = decides(marks, x2, r + x2 % 2, steps);
-    stepped(x2, reach2, seen, code)
+    step_code(x2, reach2, seen, code)
 }
 
-/// So many codes of a row, from one on.
+/// The codes of `count` columns of a row, from column `x2` on.
 fn codes_of(out: &[u16], columns: u32, row: u32, x2: u32, count: usize) -> &[u16]
     requires columns { columns ≤ most_column + 1 }
     requires row { row ≤ most_side }
@@ -49,7 +49,7 @@ fn codes_of(out: &[u16], columns: u32, row: u32, x2: u32, count: usize) -> &[u16
     &out[start..start + count]
 }
 
-/// Puts codes into a row, from one column on.
+/// Writes codes to a row, from column `x2` on.
 fn put_codes(out: &mut [u16], columns: u32, row: u32, x2: u32, codes: &[u16])
     requires columns { columns ≤ most_column + 1 }
     requires row { row ≤ most_side }
@@ -67,7 +67,7 @@ fn put_codes(out: &mut [u16], columns: u32, row: u32, x2: u32, codes: &[u16])
     out[start..start + codes.len()].copy_from_slice(codes);
 }
 
-/// Takes the codes of so many samples' columns, from sample x on, from row r to the next.
+/// Carries the codes of some samples' columns, from sample x on, from row r to the next.
 fn pairs_down<L: Ledger>(
     marks: &Marks,
     x: u32,
@@ -99,8 +99,9 @@ fn pairs_down<L: Ledger>(
     }
 }
 
-/// Writes the columns of so many samples, from sample x on, in row k + 1 of the asked rows, from row k. They go down in a list
-/// of their own: the rows stand in one list, and while one of them is written the other can not be read many codes at once.
+/// Writes the columns of some samples, from sample x on, in row k + 1 of the asked rows, from row k. They are worked
+/// out in a list of their own: both rows are parts of one list, and while one of them is written the other can't be
+/// read by slices.
 pub(crate) fn span_down<L: Ledger>(
     marks: &Marks,
     columns: u32,

@@ -10,7 +10,7 @@ use page_model::marks::Marks;
 use page_model::steps::Steps;
 use std::sync::ledger::Ledger;
 
-/// Goes down over the asked rows.
+/// The downward sweep over the asked rows.
 fn rows_down<L: Ledger>(
     marks: &Marks,
     columns: u32,
@@ -37,7 +37,7 @@ fn rows_down<L: Ledger>(
     }
 }
 
-/// Goes up over the asked rows.
+/// The upward sweep over the asked rows.
 fn rows_up(marks: &Marks, columns: u32, first: u32, rows: u32, reach2: u32, out: &mut [u16])
     requires columns { columns + 1 ≡ 2 * marks.now.wide }
     requires some { 1 ≤ rows }
@@ -58,9 +58,9 @@ fn rows_up(marks: &Marks, columns: u32, first: u32, rows: u32, reach2: u32, out:
     }
 }
 
-/// Writes, row by row from `first_row` on, for each of the `2 * width - 1` doubled columns 0 where no deciding edge is
-/// within `reach2` half-samples above or below the row's middle, else the offset `Y - 2y` of the nearest one, the upper
-/// one where two are as near, plus 257. It looks at each mark at most twice.
+/// Writes the column answers of `rows` rows, from `first_row` on, row by row, `2 * width - 1` doubled columns each: 0
+/// where no deciding edge is within `reach2` half-samples above or below the row's middle, else 257 plus the offset `Y
+/// - 2y` of the nearest one, the upper one where two are as near. It reads each mark at most twice.
 pub fn columns<L: Ledger>(
     marks: &Marks,
     width: u32,

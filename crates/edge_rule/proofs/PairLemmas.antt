@@ -3,7 +3,6 @@
 use Rattle.std.proofs.Common.{◌≡◌, ℕ, zero, suc, ◌+◌, ◌-◌, ◌*◌, ◌<◌, ◌≤◌, Bool, true, false, ◌&&◌, ◌||◌, not, nat_le, nat_lt, refl, sym, ◌∙◌, ap, arith, inl, inr, List, [], length, slice_index, Option, Some, None}
 use Rattle.std.proofs.lemmas.Bool.{cases_eq}
 use Rattle.std.proofs.lemmas.Bool.Decides.{nat_tests}
-use Rattle.std.proofs.Math.Nat.{mul-le-mul}
 use Rattle.page_model.specs.declared.parts.At.{At}
 use Rattle.page_model.specs.declared.parts.EdgeAt.{EdgeAt}
 use Rattle.page_model.specs.declared.parts.PageParts.{PageParts}
@@ -113,13 +112,6 @@ all_open page p q v none = both_open v (shut page p) (shut page q) (never-shut p
 
 pub long_plane : (page : PageParts) (c : ℕ) → IsPage page → c < plates page → length (plane_at page.planes c).tints ≡ width page * height page
 long_plane page c valid lc = (plane_of page c valid lc).full ∙ ap (λ (w : ℕ). w * (plane_at page.planes c).height) (valid.agree c lc).wide ∙ ap (λ (h : ℕ). width page * h) (valid.agree c lc).tall
-
--- so many samples of a row have their places
-pub row_fits : (w h y x n : ℕ) → y < h → x + n ≤ w → y * w + x + n ≤ w * h
-row_fits w h y x n down across =
-    let rows : (y + 1) * w ≤ h * w = mul-le-mul (omega (arith, down)) (omega arith) in
-    let more : (y + 1) * w ≡ y * w + w = omega arith in
-    omega (arith, rows, more, across)
 
 pub falls-step : (step here there : ℕ) (o : Option ℕ) (f : Bool) → o ≡ Some step → f ≡ falls_by o here there → nat_le step (here - there) ≡ f
 falls-step step here there o f e h = sym (h ∙ ap (λ (t : Option ℕ). falls_by t here there) e)

@@ -21,7 +21,7 @@ fn zone_in(page: &Page, zones: &[u8], p: At) -> u32
     u32::from(zones[p.x as usize])
 }
 
-/// Whether the edge decides, its samples lying in these zones.
+/// Whether the edge decides, with its samples in zones a and b.
 #[tactic(auto, unfolding(page_model::specs::Deciding::decides_in))]
 fn decides_between(page: &Page, a: u32, b: u32, e: EdgeAt) -> bool
     requires edge { IsEdge page.now e }
@@ -40,7 +40,7 @@ fn decides_between(page: &Page, a: u32, b: u32, e: EdgeAt) -> bool
         && steps_apart(page, b, one, two)
 }
 
-/// Whether the edge between samples p and q decides, by the zones of their rows.
+/// Whether the edge between samples p and q decides. The zones are those of p's row and of q's row.
 #[tactic(auto, unfolding(page_model::specs::Deciding::decides))]
 pub fn decides_at(page: &Page, p: At, p_zones: &[u8], q: At, q_zones: &[u8], e: EdgeAt) -> bool
     requires edge { IsEdge page.now e }

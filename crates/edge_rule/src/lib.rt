@@ -1,4 +1,4 @@
-//! The deciding edges of a row of samples.
+//! The deciding edges of a row of samples: those to their right, and those below them.
 #![tactic(auto)]
 
 mod deciding;

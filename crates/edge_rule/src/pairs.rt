@@ -1,5 +1,5 @@
-// Pairs of neighbouring samples that lie in one zone, many at a time: those of a row and their right neighbours, or those
-// of a row and the samples below them. The planes are gone over one by one, each by slices of its rows.
+// Pairs of neighbouring samples in one zone, many at a time: those of a row and their right neighbours, or those of a
+// row and the samples below them. The planes are read one after the other, each by slices of its rows.
 
 ghost use Rattle.std.specs.Prelude.{◌≡◌, ◌<◌, ◌≤◌, ◌+◌, ◌*◌, ◌-◌, ◌&&◌, ◌||◌, not, nat_le, true, false, ℕ, IfSome, length, slice_index, slice_index_or};
 ghost use Rattle.edge_rule.specs.Pairs.{along, falls_by, pair_decides};
@@ -11,14 +11,14 @@ ghost use Rattle.page_model.specs.Planes.{tints_of};
 ghost use Rattle.lists.specs.Words.{any_below};
 
 use neutral_density::is_shut;
-use page_model::bounds::SCALE;
+use page_model::bounds::{MOST_MAXVAL, SCALE};
 use page_model::page::Page;
 use page_model::parts::At;
 
-/// Pairs of a block.
+/// The number of pairs of a block.
 const BLOCK: usize = 32;
 
-/// The least fall of plate c, in tints, that is a step in the zone, or `None` where no fall is.
+/// The least difference of plate c, in tints, that is a step in the zone; `None` where no difference is.
 fn least_step(page: &Page, zone: u32, c: u32) -> Option<u16>
     requires zone { zone < length page.now.zones }
     requires plate { c < plates page.now }
@@ -29,7 +29,7 @@ fn least_step(page: &Page, zone: u32, c: u32) -> Option<u16>
     let _valid = page.plates();
     let limit = u64::from(page.step_limit(zone, c)) * u64::from(page.maxval());
     let least = limit.div_ceil(u64::from(SCALE)).max(1);
-    if page.ink(c).kind.counts() && least <= 65_535 {
+    if page.ink(c).kind.counts() && least <= u64::from(MOST_MAXVAL) {
         Some(least as u16)
     } else {
         None
@@ -47,7 +47,7 @@ fn plane_tints<'a>(page: &'a Page, c: u32) -> &'a [u16]
     planes[c as usize].tints.as_slice()
 }
 
-/// So many items from a place on.
+/// Returns `items[start..start + count]`.
 fn part_of<'a>(items: &'a [u16], start: usize, count: usize) -> &'a [u16]
     requires inside { start + count ≤ length items.now }
     ensures len { length result.now ≡ count }
@@ -57,7 +57,7 @@ fn part_of<'a>(items: &'a [u16], start: usize, count: usize) -> &'a [u16]
     &items[start..start + count]
 }
 
-/// The tints of plate c at so many samples of a row, from p on.
+/// The tints of plate c at `count` samples of a row, from p on.
 fn tints_from<'a>(page: &'a Page, c: u32, p: At, count: usize) -> &'a [u16]
     requires plate { c < plates page.now }
     requires row { p.y < height page.now }
@@ -69,7 +69,7 @@ fn tints_from<'a>(page: &'a Page, c: u32, p: At, count: usize) -> &'a [u16]
     part_of(plane_tints(page, c), start, count)
 }
 
-/// Notes where the tint falls by at least the step, and where it rises by as much.
+/// Marks in `fallen` where the tint falls by at least the step, and in `risen` where it rises by as much.
 fn note_each(here: &[u16], there: &[u16], step: u16, fallen: &mut [bool], risen: &mut [bool])
     requires there { length there.now ≡ length here.now }
     requires fallen { length fallen.old ≡ length here.now }
@@ -96,8 +96,8 @@ fn note_each(here: &[u16], there: &[u16], step: u16, fallen: &mut [bool], risen:
     }
 }
 
-/// Whether the tint falls or rises somewhere by at least the step. It goes over all of them, without a branch, so that many
-/// go at once.
+/// Whether the tint falls or rises by at least the step at some pair. All pairs are read, without a branch, so that the
+/// loop is vectorized.
 fn has_step(here: &[u16], there: &[u16], step: u16) -> bool
     requires there { length there.now ≡ length here.now }
     ensures falls { result ≡ false → (k : ℕ) → k < length here.now
@@ -112,8 +112,8 @@ fn has_step(here: &[u16], there: &[u16], step: u16) -> bool
     step <= most
 }
 
-/// Notes the falls and the rises of a block. One without a step is not noted; of a last one, which is shorter, that is not
-/// asked.
+/// Marks the falls and rises of a block. A whole block without a step is skipped; the last block, which may be shorter,
+/// is not tested for that.
 fn note_block(here: &[u16], there: &[u16], step: u16, fallen: &mut [bool], risen: &mut [bool])
     requires step { 1 ≤ step }
     requires there { length there.now ≡ length here.now }
@@ -140,7 +140,7 @@ fn note_block(here: &[u16], there: &[u16], step: u16, fallen: &mut [bool], risen
     }
 }
 
-/// Notes the falls and the rises block by block. Most tints that differ from their neighbours do by less than a step.
+/// Marks the falls and rises block by block. Most tints that differ from their neighbours differ by less than a step.
 fn note_blocks(here: &[u16], there: &[u16], step: u16, fallen: &mut [bool], risen: &mut [bool])
     requires step { 1 ≤ step }
     requires there { length there.now ≡ length here.now }
@@ -178,8 +178,8 @@ fn are_same(one: &[u16], other: &[u16]) -> bool
     one == other
 }
 
-/// Notes where the tint falls by at least the step, and where it rises by as much. Most rows of a page are the same as
-/// their neighbours, and are not gone over.
+/// Marks where the tint falls by at least the step, and where it rises by as much. Most rows of a page equal their
+/// neighbours, and are skipped.
 fn note_both(here: &[u16], there: &[u16], step: u16, fallen: &mut [bool], risen: &mut [bool])
     requires step { 1 ≤ step }
     requires there { length there.now ≡ length here.now }
@@ -201,7 +201,7 @@ fn note_both(here: &[u16], there: &[u16], step: u16, fallen: &mut [bool], risen:
     }
 }
 
-/// Notes at which pairs plate c falls by a step, and at which it rises by one.
+/// Marks at which pairs plate c falls by a step, and at which it rises by one.
 fn note_steps(page: &Page, zone: u32, c: u32, p: At, q: At, fallen: &mut [bool], risen: &mut [bool])
     requires zone { zone < length page.now.zones }
     requires plate { c < plates page.now }
@@ -272,7 +272,7 @@ fn some_ink_shuts(page: &Page) -> bool
     any
 }
 
-/// Keeps of the pairs at which some plate falls those at which some plate rises.
+/// Keeps those pairs at which some plate falls and some plate rises.
 fn keep_risen(fallen: &mut [bool], risen: &[bool])
     requires { length risen.now ≡ length fallen.old }
     ensures len { length fallen.new ≡ length fallen.old }
@@ -287,7 +287,7 @@ fn keep_risen(fallen: &mut [bool], risen: &[bool])
     }
 }
 
-/// Keeps the pairs of which neither sample is shut.
+/// Keeps the pairs with both samples open.
 fn keep_open(page: &Page, p: At, q: At, kept: &mut [bool])
     requires p_row { p.y < height page.now }
     requires q_row { q.y < height page.now }
@@ -313,7 +313,7 @@ fn keep_open(page: &Page, p: At, q: At, kept: &mut [bool])
     }
 }
 
-/// Keeps the pairs of which neither sample is shut, without a look at them where no ink of the page shuts any.
+/// Keeps the pairs with both samples open. Where no ink of the page shuts samples, none is read.
 fn keep_unshut(page: &Page, p: At, q: At, kept: &mut [bool])
     requires p_row { p.y < height page.now }
     requires q_row { q.y < height page.now }
@@ -330,8 +330,8 @@ fn keep_unshut(page: &Page, p: At, q: At, kept: &mut [bool])
     }
 }
 
-/// Finds at which pairs a trap may be made, both samples of each lying in the zone: the first ones from p on, and the
-/// second ones from q on. What `risen` holds afterwards means nothing.
+/// Writes to `decided`, for each k, whether a trap may be made between samples p + k and q + k of their rows, which all
+/// lie in the zone. `risen` is a buffer of the same length; its contents afterwards mean nothing.
 pub fn decide_pairs(page: &Page, zone: u32, p: At, q: At, decided: &mut [bool], risen: &mut [bool])
     requires zone { zone < length page.now.zones }
     requires p_row { p.y < height page.now }

@@ -1,4 +1,4 @@
-// The samples of a row that lie in one zone with their right and lower neighbours, many at a time.
+// The samples of a row that are in one zone with their right and lower neighbours, many at a time.
 
 ghost use Rattle.std.specs.Prelude.{◌≡◌, ◌<◌, ◌≤◌, ◌+◌, ◌-◌, true, false, ℕ, if◌then◌else◌, length, slice_index, slice_index_or};
 ghost use Rattle.edge_rule.specs.Pairs.{LieIn, most_together};
@@ -8,10 +8,10 @@ use crate::pairs::decide_pairs;
 use page_model::page::Page;
 use page_model::parts::At;
 
-/// How many samples are marked at once at most.
+/// The number of samples that are marked together, at most.
 const SPAN: usize = 1024;
 
-/// Whether all these samples lie in the zone. It goes over all of them, without a branch, so that many go at once.
+/// Whether all these samples are in the zone. All of them are read, without a branch, so that the loop is vectorized.
 fn all_in(zones: &[u8], zone: u8) -> bool
     ensures { result ≡ true → (k : ℕ) → k < length zones.now → slice_index zones.now k ≡ zone }
 {
@@ -22,7 +22,7 @@ fn all_in(zones: &[u8], zone: u8) -> bool
     all
 }
 
-/// Whether so many samples from x on, and at least one, lie in the zone of x, with those to their right and below them.
+/// Whether `count` samples from x on, at least one, are in the zone of x, with those to their right and below them.
 fn all_plain(here: &[u8], below: &[u8], x: usize, count: usize) -> bool
     requires inside { x + count < length here.now }
     requires low { count ≤ length below.now - x }
@@ -38,7 +38,8 @@ fn all_plain(here: &[u8], below: &[u8], x: usize, count: usize) -> bool
     all_in(&here[x..x + count + 1], zone) && all_in(&below[x..x + count], zone)
 }
 
-/// How many samples from x on, at most so many, lie in the zone of x, with those to their right and below them.
+/// The number of samples from x on, at most `most`, that are in the zone of x, with those to their right and below
+/// them.
 fn plain_until(here: &[u8], below: &[u8], x: usize, most: usize) -> usize
     requires inside { x + most < length here.now }
     requires low { most ≤ length below.now - x }
@@ -54,8 +55,8 @@ fn plain_until(here: &[u8], below: &[u8], x: usize, most: usize) -> usize
     count
 }
 
-/// How many samples from x on lie in the zone of x, with the samples to their right and below them: at most as many as
-/// are marked at once, and none where there is no row below.
+/// The number of samples from x on that are in the zone of x, with those to their right and below them: at most `SPAN`,
+/// and 0 where there is no row below. `here` are the zones of the row, `below` those of the row below.
 pub fn plain_from(here: &[u8], below: &[u8], x: usize) -> usize
     requires { x < length here.now }
     ensures fits { result ≤ most_together }
@@ -74,7 +75,7 @@ pub fn plain_from(here: &[u8], below: &[u8], x: usize) -> usize
     }
 }
 
-/// Writes the marks of which these are the two halves.
+/// Writes marks from their two parts: right edges and lower edges.
 fn write_marks(right: &[bool], lower: &[bool], out: &mut [u8])
     requires right { length right.now ≡ length out.old }
     requires lower { length lower.now ≡ length out.old }
@@ -91,7 +92,7 @@ fn write_marks(right: &[bool], lower: &[bool], out: &mut [u8])
     }
 }
 
-/// Finds which of so many samples of row y, from x on, have a deciding edge to their right.
+/// Finds which samples of row y, from x on, have a deciding edge to their right.
 fn find_right(page: &Page, y: u32, zone: u32, x: u32, right: &mut [bool], risen: &mut [bool])
     requires lie { LieIn page.now y x (length right.old) zone }
     requires risen { length risen.old ≡ length right.old }
@@ -104,7 +105,7 @@ fn find_right(page: &Page, y: u32, zone: u32, x: u32, right: &mut [bool], risen:
     decide_pairs(page, zone, At { x, y }, At { x: x + 1, y }, right, risen);
 }
 
-/// Finds which of so many samples of row y, from x on, have a deciding edge below them.
+/// Finds which samples of row y, from x on, have a deciding edge below them.
 fn find_lower(page: &Page, y: u32, zone: u32, x: u32, lower: &mut [bool], risen: &mut [bool])
     requires lie { LieIn page.now y x (length lower.old) zone }
     requires risen { length risen.old ≡ length lower.old }
@@ -117,7 +118,8 @@ fn find_lower(page: &Page, y: u32, zone: u32, x: u32, lower: &mut [bool], risen:
     decide_pairs(page, zone, At { x, y }, At { x, y: y + 1 }, lower, risen);
 }
 
-/// Writes the marks of so many samples of row y, from x on.
+/// Writes the marks of samples of row y from x on, one for each place of `out`. All of them are in the zone, with those
+/// to their right and below them.
 pub fn mark_plain(page: &Page, y: u32, zone: u32, x: u32, out: &mut [u8])
     requires lie { LieIn page.now y x (length out.old) zone }
     requires few { length out.old ≤ most_together }

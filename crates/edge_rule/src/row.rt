@@ -49,7 +49,7 @@ fn lower_decides(page: &Page, y: u32, here: &[u8], below: &[u8], x: u32) -> bool
     }
 }
 
-/// The marks of sample x of row y, judged by itself.
+/// The mark of sample x of row y, worked out by itself.
 fn mark_at(page: &Page, y: u32, here: &[u8], below: &[u8], x: u32) -> u8
     requires row { y < height page.now }
     requires column { x < width page.now }
@@ -70,7 +70,7 @@ fn mark_at(page: &Page, y: u32, here: &[u8], below: &[u8], x: u32) -> u8
     right + lower
 }
 
-/// Writes the marks of some samples of row y, from x on, and answers where the next one stands.
+/// Writes the marks of some samples of row y, from x on, and returns the number of the next sample.
 fn mark_some(page: &Page, y: u32, here: &[u8], below: &[u8], x: u32, out: &mut [u8]) -> u32
     requires row { y < height page.now }
     requires column { x < width page.now }
@@ -97,8 +97,8 @@ fn mark_some(page: &Page, y: u32, here: &[u8], below: &[u8], x: u32, out: &mut [
     }
 }
 
-/// Writes the marks of each sample of row y, from the left: the sum of 1 where the edge to its right decides and 2 where
-/// the edge below it does. The zones are those of row y and of the row below; in the last row there are none below.
+/// Writes the mark of each sample of row y, from the left: 1 if the edge to its right decides, plus 2 if the edge below
+/// it does. The zones are those of row y and of the row below; `zones_below` is empty in the last row.
 pub fn edge_row(page: &Page, y: u32, zones_here: &[u8], zones_below: &[u8], out: &mut [u8])
     requires row { y < height page.now }
     requires here { AreZones page.now y zones_here.now }

@@ -1,5 +1,5 @@
-//! The tests of the engine: pages by chance on one thread against a search of the whole page, and by any workers against one
-//! thread. They stand apart so that strip_engine and trap_engine are not proved a second time for them.
+//! The tests of the engine: random pages on one thread against a search of the whole page, and by any workers against
+//! one thread. They stand apart so that strip_engine and trap_engine are not proved a second time for them.
 #![tactic(auto)]
 
 #[cfg(test)]

@@ -2,7 +2,7 @@ ghost use Rattle.std.specs.Prelude.{◌≡◌, ◌≤◌, ◌∷◌, [], All, le
 ghost use Rattle.page_model.specs.Conditions.{IsInk, IsParts, IsPlane, IsZone};
 ghost use Rattle.strip_engine.specs.Whole.{sample_zones};
 
-use crate::memory::{both, made, put};
+use crate::memory::{both, put, value_of};
 use crate::random_pages::{Shape, page_of, some_page, some_shape};
 use crate::slow_marks::slow_marks;
 use crate::slow_traps::{same_traps, slow_traps};
@@ -142,7 +142,7 @@ fn looks_at(trapped: &Trapped) -> (bool, bool) {
 
 /// Whether the planes and the counts of the trapped page are right.
 fn looks_at_traps(rt: &impl Abort, alloc: Global, page: &Page) -> (bool, bool) {
-    let trapped = made(rt, trap_alone(alloc, page));
+    let trapped = value_of(rt, trap_alone(alloc, page));
     looks_at(&trapped)
 }
 
@@ -172,7 +172,7 @@ fn first_zones(page: &Page, spans: &mut SpanBuf) -> Option<[u8; 6]>
 
 fn pair_zones(rt: &impl Abort, alloc: Global) -> Option<[u8; 6]> {
     let page = pair_page(rt, alloc);
-    let mut spans = made(rt, SpanBuf::new(alloc, 6));
+    let mut spans = value_of(rt, SpanBuf::new(alloc, 6));
     first_zones(&page, &mut spans)
 }
 
@@ -223,14 +223,14 @@ fn edges_on(rt: &impl Abort, alloc: Global, page: &Page) -> Option<u64> {
     marked_edges(rt, alloc, page, zones.as_slice())
 }
 
-/// How many edges of a page by chance decide, or `None` where its marks are not those that its samples have one by one.
+/// How many edges of a random page decide, or `None` where its marks are not those that its samples have one by one.
 fn edges_alike(rt: &impl Abort, alloc: Global, dice: &mut u64, shape: Shape) -> Option<u64> {
     let page = some_page(rt, alloc, dice, shape);
     edges_on(rt, alloc, &page)
 }
 
 /// The number that was counted on the page of that turn, whose marks or traps are the same.
-fn counted(rt: &impl Abort, count: Option<u64>, turn: u32) -> u64 {
+fn count_of(rt: &impl Abort, count: Option<u64>, turn: u32) -> u64 {
     match count {
         Some(count) => count,
         None => panic!(rt; "page {turn} is marked or trapped otherwise"),
@@ -251,7 +251,7 @@ fn marks_rows_as_their_samples(rt: HostRuntime) {
             run: 1,
         };
         let more = edges_alike(&rt, rt.alloc(), &mut dice, shape);
-        edges = edges.wrapping_add(counted(&rt, more, turn));
+        edges = edges.wrapping_add(count_of(&rt, more, turn));
     }
     assert!(rt; edges > 500);
 }
@@ -279,11 +279,11 @@ fn changes_if_same(trapped: &Trapped, slow: &Trapped) -> Option<u64> {
 }
 
 fn changes_on(rt: &impl Abort, alloc: Global, page: &Page) -> Option<u64> {
-    let trapped = made(rt, trap_alone(alloc, page));
+    let trapped = value_of(rt, trap_alone(alloc, page));
     changes_among(rt, alloc, page, &trapped)
 }
 
-/// How many tints of a page by chance change, or `None` where its traps are not those of the slow search.
+/// How many tints of a random page change, or `None` where its traps are not those of the slow search.
 fn traps_alike(rt: &impl Abort, alloc: Global, dice: &mut u64, shape: Shape) -> Option<u64> {
     let page = some_page(rt, alloc, dice, shape);
     changes_on(rt, alloc, &page)
@@ -302,7 +302,7 @@ fn changes_alike(rt: &impl Abort, alloc: Global, dice: &mut u64, reach2: u32) ->
         };
         let shape = some_shape(dice, width, height, reach2);
         let more = traps_alike(rt, alloc, dice, shape);
-        changed = changed.wrapping_add(counted(rt, more, turn));
+        changed = changed.wrapping_add(count_of(rt, more, turn));
     }
     changed
 }

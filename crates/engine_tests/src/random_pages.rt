@@ -1,8 +1,9 @@
-// Small pages by chance, for tests: some plates of runs of few tints, inks of every kind, and two zones.
+// Small random pages for tests: some plates of runs of few tints, inks of every kind, and two zones.
 
 ghost use Rattle.std.specs.Prelude.{◌≡◌, ◌≤◌, ◌<◌, [], All, length, vec_len};
 ghost use Rattle.page_model.specs.Parameters.{InRange};
 ghost use Rattle.page_model.specs.Conditions.{AreLimits, IsInk, IsParts, IsPath, IsPlane, IsVertex, IsZone};
+ghost use Rattle.page_model.specs.Limits.{most_plates};
 
 use crate::memory::{both, put};
 use lists::list::List;
@@ -14,7 +15,7 @@ use page_model::parts::{
 use std::alloc::Global;
 use std::process::Abort;
 
-/// What a page by chance is like.
+/// The shape of a random page.
 #[derive(Clone, Copy, Drop)]
 pub struct Shape {
     pub width: u32,
@@ -38,7 +39,7 @@ pub struct Shape {
     ghost some_run: { 1 ≤ run },
 }
 
-/// A number by chance, below the number of sides.
+/// A random number below the number of sides.
 fn roll(dice: &mut u64, sides: u64) -> u64
     requires { 1 ≤ sides }
     ensures { result < sides }
@@ -57,7 +58,7 @@ fn some_run(dice: &mut u64) -> u32
     1 + roll(dice, most) as u32
 }
 
-/// A shape of these sides and this reach, else by chance.
+/// A random shape with these sides and this reach.
 pub fn some_shape(dice: &mut u64, width: u32, height: u32, reach2: u32) -> Shape
     requires some_width { 1 ≤ width }
     requires narrow { width ≤ 2000 }
@@ -84,7 +85,7 @@ fn some_tint(dice: &mut u64) -> u8 {
     }
 }
 
-/// The last tint again, or one by chance where the tint may change.
+/// The last tint again, or a random one where the tint may change.
 fn next_tint(dice: &mut u64, last: u8, may_change: bool) -> u8 {
     if may_change && roll(dice, 2) == 0 {
         some_tint(dice)
@@ -168,7 +169,7 @@ fn some_ink(rt: &impl Abort, alloc: Global, dice: &mut u64, letter: u8) -> Ink
 }
 
 fn some_inks(rt: &impl Abort, alloc: Global, dice: &mut u64, count: u32) -> InkList
-    requires few { count ≤ 16 }
+    requires few { count ≤ most_plates }
     ensures count { length result ≡ count }
     ensures inks { All IsInk result }
 {
@@ -208,7 +209,7 @@ fn some_black_width(dice: &mut u64) -> u32
     }
 }
 
-/// A trap width by chance with which parameters of that black width reach so many half-samples and not one more.
+/// A random trap width with which parameters of that black width reach exactly `reach2` half-samples.
 fn some_trap_width(dice: &mut u64, black_width: u32, resolution: u32, reach2: u32) -> u32
     requires resolved { 1 ≤ resolution }
     requires near { reach2 ≤ 256 }
@@ -249,7 +250,7 @@ fn some_limits(rt: &impl Abort, alloc: Global, dice: &mut u64) -> LimitList
     limits
 }
 
-/// So many sides of a sample, in ten-thousandths of a point.
+/// The length of `count` samples, in ten-thousandths of a point.
 fn sides(count: u32, resolution: u32) -> u32
     requires few { count ≤ 2001 }
     requires resolved { 1 ≤ resolution }
@@ -289,7 +290,7 @@ fn some_path(rt: &impl Abort, alloc: Global, dice: &mut u64, shape: Shape) -> Ve
     path
 }
 
-/// A zone over a path, with a step limit and parameters by chance, that reaches so many half-samples where it is enabled.
+/// A zone over a path, with a step limit and random parameters, that reaches `reach2` half-samples if it is enabled.
 fn zone_over(
     rt: &impl Abort,
     alloc: Global,
@@ -317,7 +318,7 @@ struct Inked {
     planes: PlaneList,
     inks: InkList,
     ghost some: { 1 ≤ length planes },
-    ghost few: { length planes ≤ 16 },
+    ghost few: { length planes ≤ most_plates },
     ghost each: { length inks ≡ length planes },
     ghost planes_in_range: { All IsPlane planes },
     ghost inks_in_range: { All IsInk inks },
@@ -348,7 +349,7 @@ fn path_zone(rt: &impl Abort, alloc: Global, dice: &mut u64, shape: Shape) -> Zo
     zone_over(rt, alloc, dice, path, shape.resolution, shape.reach2)
 }
 
-/// The zone of the path reaches the farthest, and the rest less by chance.
+/// The zone of the path reaches the farthest, and the other one at random less.
 fn some_zoned(rt: &impl Abort, alloc: Global, dice: &mut u64, shape: Shape) -> Zoned {
     let less = roll(dice, u64::from(shape.reach2) + 1) as u32;
     let rest = zone_over(rt, alloc, dice, List::new(alloc), shape.resolution, less);
@@ -376,7 +377,7 @@ fn parts_of(
     }
 }
 
-/// What a page by chance is made of.
+/// The parts of a random page.
 fn some_parts(rt: &impl Abort, alloc: Global, dice: &mut u64, shape: Shape) -> PageParts
     ensures { IsParts result }
 {
@@ -395,7 +396,7 @@ pub fn page_of(rt: &impl Abort, parts: PageParts) -> Page
     }
 }
 
-/// A page by chance.
+/// A random page.
 pub fn some_page(rt: &impl Abort, alloc: Global, dice: &mut u64, shape: Shape) -> Page {
     page_of(rt, some_parts(rt, alloc, dice, shape))
 }

@@ -47,7 +47,7 @@ fn more_of(page: &Page, c: u32, one: At, other: At) -> u64
     }
 }
 
-/// Whether so many tints more of ink c are a step in the zone.
+/// Whether a difference of `more` tints of ink c is a step in the zone.
 fn is_step(page: &Page, zone: u32, c: u32, more: u64) -> bool
     requires zone { zone < length page.now.zones }
     requires plate { c < plates page.now }

@@ -7,11 +7,11 @@ ghost use Rattle.page_model.specs.Page.{InPage, plates, samples};
 ghost use Rattle.strip_engine.specs.Whole.{sample_zones};
 
 use crate::grid::{sample_of, samples_of};
-use crate::memory::{made, put};
+use crate::memory::{put, value_of};
 use crate::slow_edges::{deciding_edges, zone_among};
 use crate::zones::zones_of;
 use lists::list::List;
-use lists::memory::filled;
+use lists::memory::vec_of;
 use page_model::edges::squared_distance;
 use page_model::page::Page;
 use page_model::parts::{At, CountList, Counts, EdgeAt, Plane, PlaneList};
@@ -108,7 +108,7 @@ fn slow_plane(
     requires edges { All (λ decider. ForSome decider (IsEdge page.now)) deciders.now }
     requires plate { c < plates page.now }
 {
-    let mut out = made(rt, filled(alloc, 0u16, page.plates() as usize));
+    let mut out = value_of(rt, vec_of(alloc, 0u16, page.plates() as usize));
     let mut tints = List::new(alloc);
     for k in 0..samples_of(page) {
         trap_at(page, zones, deciders, k, &mut out);
@@ -169,7 +169,7 @@ fn slow_changes(
     requires count { length deciders.now ≡ samples page.now }
     requires edges { All (λ decider. ForSome decider (IsEdge page.now)) deciders.now }
 {
-    let mut out = made(rt, filled(alloc, 0u16, page.plates() as usize));
+    let mut out = value_of(rt, vec_of(alloc, 0u16, page.plates() as usize));
     let mut changes = List::new(alloc);
     for k in 0..samples_of(page) {
         trap_at(page, zones, deciders, k, &mut out);
@@ -201,12 +201,12 @@ fn slow_changed(
 ) -> CountList {
     let mut counts = List::new(alloc);
     for z in 0..page.zones() {
-        put(rt, &mut counts, changed_in(zones, changes, z));
+        put(rt, &mut counts, count_changes(zones, changes, z));
     }
     counts
 }
 
-fn changed_in(zones: &[u8], changes: &[bool], z: u32) -> u64 {
+fn count_changes(zones: &[u8], changes: &[bool], z: u32) -> u64 {
     let both = zones.iter().zip(changes);
     both.filter(|(zone, changed)| **changed && u32::from(**zone) == z)
         .count() as u64
@@ -269,7 +269,7 @@ fn traps_by_edges(
     )
 }
 
-/// The same, where so many edges decide.
+/// Does the same with the number of deciding edges given.
 fn traps_by_deciders(
     rt: &impl Abort,
     alloc: Global,

@@ -1,7 +1,7 @@
 // The page by workers at the shared table, against the page on one thread.
 ghost use Rattle.std.specs.Prelude.{◌≤◌};
 
-use crate::memory::made;
+use crate::memory::value_of;
 use crate::random_pages::{some_page, some_shape};
 use crate::slow_traps::same_traps;
 use band_workers::OpenGate;
@@ -81,15 +81,15 @@ fn is_alike_by_workers<R: Threads + Abort + Sync>(
     alloc: Global,
     page: &Page,
 ) -> (bool, bool) {
-    let alone = made(rt, trap_alone(alloc, page));
+    let alone = value_of(rt, trap_alone(alloc, page));
     (
         is_alike_by_each(rt, alloc, page, &alone),
         changes_each(&alone),
     )
 }
 
-/// The same of a page by chance of these sides.
-fn is_alike_by_chance<R: Threads + Abort + Sync>(
+/// Does the same for a random page of these sides.
+fn is_alike_at_random<R: Threads + Abort + Sync>(
     rt: &R,
     alloc: Global,
     seed: u64,
@@ -118,7 +118,7 @@ fn traps_by_any_workers_as_alone(rt: HostRuntime) {
         (2, 30, 130, 256, true),
         (2026, 1, 40, 0, false),
     ] {
-        let alike = is_alike_by_chance(&rt, rt.alloc(), seed, width, height, reach2);
+        let alike = is_alike_at_random(&rt, rt.alloc(), seed, width, height, reach2);
         assert!(rt; alike == (true, changes), "{seed}");
     }
 }

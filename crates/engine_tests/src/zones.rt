@@ -6,8 +6,8 @@ ghost use Rattle.page_model.specs.Page.{samples};
 ghost use Rattle.strip_engine.specs.Whole.{sample_zones};
 
 use crate::grid::samples_of;
-use crate::memory::made;
-use lists::memory::filled;
+use crate::memory::value_of;
+use lists::memory::vec_of;
 use page_model::page::Page;
 use row_values::{Rows, Workspace, make_marks, make_zones};
 use std::alloc::Global;
@@ -27,8 +27,8 @@ fn fill_zones(page: &Page, out: &mut [u8], room: &mut Workspace)
 pub fn zones_of(rt: &impl Abort, alloc: Global, page: &Page) -> Vec<u8>
     ensures { result.items ≡ sample_zones page.now }
 {
-    let mut room = made(rt, Workspace::new(alloc, page));
-    let mut zones = made(rt, filled(alloc, 0u8, samples_of(page)));
+    let mut room = value_of(rt, Workspace::new(alloc, page));
+    let mut zones = value_of(rt, vec_of(alloc, 0u8, samples_of(page)));
     fill_zones(page, &mut zones, &mut room);
     zones
 }
@@ -49,7 +49,7 @@ fn fill_marks(page: &Page, zones: &[u8], out: &mut [u8])
 pub fn marks_of(rt: &impl Abort, alloc: Global, page: &Page, zones: &[u8]) -> Vec<u8>
     requires { zones.now ≡ sample_zones page.now }
 {
-    let mut marks = made(rt, filled(alloc, 0u8, samples_of(page)));
+    let mut marks = value_of(rt, vec_of(alloc, 0u8, samples_of(page)));
     fill_marks(page, zones, &mut marks);
     marks
 }

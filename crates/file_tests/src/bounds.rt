@@ -69,7 +69,7 @@ const HEADERS: &[(&str, Option<PlateFault>, Option<PlateFault>)] = &[
     ),
 ];
 
-fn begun_by(tray: &mut MemTray, bounds: Bounds) -> Option<PlateRefusal> {
+fn begin_refusal(tray: &mut MemTray, bounds: Bounds) -> Option<PlateRefusal> {
     match begin_plate(tray, "one", bounds) {
         Ok(_) => None,
         Err(refusal) => Some(refusal),
@@ -78,7 +78,7 @@ fn begun_by(tray: &mut MemTray, bounds: Bounds) -> Option<PlateRefusal> {
 
 fn refusal_of(rt: &impl Abort, alloc: Global, text: &str, bounds: Bounds) -> Option<PlateRefusal> {
     let mut tray = tray_of(rt, alloc, text.as_bytes(), by(4096));
-    begun_by(&mut tray, bounds)
+    begin_refusal(&mut tray, bounds)
 }
 
 // Whether it is that fault, or none.
@@ -100,7 +100,7 @@ fn a_sheet_has_larger_sides_than_a_page(rt: HostRuntime) {
     }
 }
 
-// A header and so many bytes of 1 after it.
+// A header and a number of bytes 1 after it.
 fn level(rt: &impl Abort, alloc: Global, header: &str, count: usize) -> Vec<u8> {
     let mut bytes = header.as_bytes().to_vec(alloc).expect(rt, "no memory");
     for _ in 0..count {
@@ -110,7 +110,7 @@ fn level(rt: &impl Abort, alloc: Global, header: &str, count: usize) -> Vec<u8> 
 }
 
 // The samples of the plate of a sheet, or why it is refused.
-fn read_by(alloc: Global, tray: &mut MemTray) -> Result<usize, PlateRefusal> {
+fn sample_count(alloc: Global, tray: &mut MemTray) -> Result<usize, PlateRefusal> {
     match read_plate_within(alloc, tray, "one", Bounds::Sheet) {
         Ok(plate) => Ok(plate.samples.len()),
         Err(refusal) => Err(refusal),
@@ -119,7 +119,7 @@ fn read_by(alloc: Global, tray: &mut MemTray) -> Result<usize, PlateRefusal> {
 
 fn read_bytes(rt: &impl Abort, alloc: Global, bytes: &[u8]) -> Result<usize, PlateRefusal> {
     let mut tray = tray_of(rt, alloc, bytes, by(5000));
-    read_by(alloc, &mut tray)
+    sample_count(alloc, &mut tray)
 }
 
 fn read_level(

@@ -1,6 +1,6 @@
 use lists::list::List;
 use lists::memory::push;
-use lists::names::{CallList, Name, copied};
+use lists::names::{CallList, Name, copy_name};
 use outside::distinct_names::have_distinct_names;
 use outside::mem_file::{FileList, MemFile};
 use outside::mem_tray::MemTray;
@@ -12,8 +12,9 @@ pub fn judge(rt: &impl Abort, is_right: bool, row: &str, number: u64) {
     assert!(rt; is_right, "{row}, {number}");
 }
 
+/// A list of the bytes of a text.
 pub fn bytes_of(rt: &impl Abort, alloc: Global, text: &[u8]) -> Name {
-    copied(alloc, text).expect(rt, "no memory")
+    copy_name(alloc, text).expect(rt, "no memory")
 }
 
 /// Adds the byte at the end.

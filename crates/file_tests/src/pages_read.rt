@@ -67,7 +67,7 @@ const FILES: &[((&str, u32), Result<Option<u32>, PlateFault>)] = &[
     ),
 ];
 
-fn refused(want: Result<Option<u32>, PlateFault>) -> Result<Option<u32>, PlateRefusal> {
+fn refusal_of(want: Result<Option<u32>, PlateFault>) -> Result<Option<u32>, PlateRefusal> {
     match want {
         Ok(width) => Ok(width),
         Err(fault) => Err(PlateRefusal::Fault(fault)),
@@ -79,7 +79,7 @@ fn judge_files(rt: &impl Abort, alloc: Global, grain: usize) {
         let width = width_of(rt, alloc, *file, by(grain));
         judge(
             rt,
-            is_same(width, refused(*want)),
+            is_same(width, refusal_of(*want)),
             file.0,
             u64::from(file.1),
         );

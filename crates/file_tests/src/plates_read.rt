@@ -366,7 +366,7 @@ fn a_sample_that_was_read_before_a_failure_is_judged(rt: HostRuntime) {
     }
 }
 
-// The header of a plate of 90,000 samples, so many of them, and one above the maxval.
+// A plate of 90,000 samples: its header, a number of samples, and one above the maxval.
 fn with_sample_above(rt: &impl Abort, alloc: Global, count: usize) -> Vec<u8> {
     let mut bytes = b"P5 300 300 9\n".to_vec(alloc).expect(rt, "no memory");
     for _ in 0..count {

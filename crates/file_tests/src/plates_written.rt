@@ -74,7 +74,7 @@ fn write_on(
 }
 
 // The same of a plate that is read and written again.
-fn written(
+fn write_again(
     rt: &impl Abort,
     alloc: Global,
     bytes: &[u8],
@@ -99,7 +99,7 @@ const SPELLINGS: &[(&str, &str)] = &[
 
 fn judge_spellings(rt: &impl Abort, alloc: Global, grain: usize) {
     for (text, want) in SPELLINGS {
-        let is = written(rt, alloc, text.as_bytes(), (grain, 1000), want.as_bytes());
+        let is = write_again(rt, alloc, text.as_bytes(), (grain, 1000), want.as_bytes());
         judge(rt, is == (true, true), text, grain as u64);
     }
 }
@@ -117,7 +117,7 @@ const SIX: &[u8] = b"P5\n6 1\n255\n\x00\x00\x00\xff\xff\xff";
 fn a_rack_without_room_holds_a_prefix_of_the_spelling(rt: HostRuntime) {
     for room in 0..18u64 {
         let prefix = SIX.get(..room as usize).unwrap_or(SIX);
-        let is = written(&rt, rt.alloc(), SIX, (3, room), prefix);
+        let is = write_again(&rt, rt.alloc(), SIX, (3, room), prefix);
         judge(&rt, is == (room == 17, true), "room", room);
     }
 }
@@ -137,7 +137,7 @@ fn wide_plate(rt: &impl Abort, alloc: Global) -> Vec<u8> {
 #[test]
 fn a_raster_of_many_pieces_is_written_as_it_was_read(rt: HostRuntime) {
     let bytes = wide_plate(&rt, rt.alloc());
-    let is = written(&rt, rt.alloc(), &bytes, (5000, 1_000_000), &bytes);
+    let is = write_again(&rt, rt.alloc(), &bytes, (5000, 1_000_000), &bytes);
     assert!(rt; is == (true, true));
 }
 

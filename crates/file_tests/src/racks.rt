@@ -35,7 +35,7 @@ fn writes(rack: &mut MemRack, prefix: Option<&[u8]>) -> (bool, bool) {
 }
 
 // The same by such a rack.
-fn written(
+fn write_on_rack(
     rt: &impl Abort,
     alloc: Global,
     (grain, room): (usize, u64),
@@ -55,7 +55,7 @@ fn prefix_of(count: Option<usize>) -> Option<&'static [u8]> {
 
 fn judge_rooms(rt: &impl Abort, alloc: Global, grain: usize) {
     for room in 0..12u64 {
-        let is = written(rt, alloc, (grain, room), None, Some(room as usize));
+        let is = write_on_rack(rt, alloc, (grain, room), None, Some(room as usize));
         judge(rt, is == (room >= 10, true), "room", room);
     }
 }
@@ -81,7 +81,7 @@ const FAILING: &[(u64, Option<usize>, bool)] = &[
 #[test]
 fn each_write_fails_in_turn(rt: HostRuntime) {
     for (call, prefix, is_written) in FAILING {
-        let is = written(&rt, rt.alloc(), (4, 100), Some(*call), *prefix);
+        let is = write_on_rack(&rt, rt.alloc(), (4, 100), Some(*call), *prefix);
         judge(&rt, is == (*is_written, true), "call", *call);
     }
 }
@@ -119,14 +119,14 @@ fn writes_and_holds_twice(rack: &mut MemRack) -> (bool, bool) {
     (is_done, is_written_twice(rack))
 }
 
-fn written_twice(rt: &impl Abort, alloc: Global) -> (bool, bool) {
+fn write_twice(rt: &impl Abort, alloc: Global) -> (bool, bool) {
     let mut rack = rack_of(rt, alloc, 2, 100, Some(8));
     writes_and_holds_twice(&mut rack)
 }
 
 #[test]
 fn a_later_file_stands_in_place_of_an_earlier_one(rt: HostRuntime) {
-    let (is_done, is_held) = written_twice(&rt, rt.alloc());
+    let (is_done, is_held) = write_twice(&rt, rt.alloc());
     assert!(rt; is_done);
     assert!(rt; is_held);
 }
@@ -137,7 +137,7 @@ fn tells_both(rack: &mut MemRack) -> (bool, bool) {
 }
 
 // Tells an empty text and then a text, of which the call of that number fails.
-fn told_by(rt: &impl Abort, alloc: Global, call: u64) -> (bool, bool) {
+fn tell_both(rt: &impl Abort, alloc: Global, call: u64) -> (bool, bool) {
     let mut rack = rack_of(rt, alloc, 1, 0, Some(call));
     tells_both(&mut rack)
 }
@@ -145,6 +145,11 @@ fn told_by(rt: &impl Abort, alloc: Global, call: u64) -> (bool, bool) {
 #[test]
 fn a_text_needs_no_room_and_fails_by_its_number(rt: HostRuntime) {
     for (call, want) in &[(0, (false, true)), (1, (true, false)), (2, (true, true))] {
-        judge(&rt, told_by(&rt, rt.alloc(), *call) == *want, "call", *call);
+        judge(
+            &rt,
+            tell_both(&rt, rt.alloc(), *call) == *want,
+            "call",
+            *call,
+        );
     }
 }

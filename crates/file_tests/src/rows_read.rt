@@ -8,7 +8,7 @@ use pgm_plates::rows::{begin_plate, end_plate, judge_rows, read_rows};
 use std::alloc::Global;
 use std::process::Abort;
 
-// Reads a plate in two parts, by pieces of so many bytes.
+// Reads a plate in two parts, with a buffer of some bytes.
 fn read_parts(
     tray: &mut MemTray,
     first: &mut [u16],
@@ -33,7 +33,7 @@ fn read_parts(
     }
 }
 
-// Judges the six samples of a plate, so many at first, and then the rest.
+// Judges the six samples of a plate, some of them at first, and then the rest.
 fn judge_six(tray: &mut MemTray, first: u64, piece: &mut [u8]) -> Result<(), PlateRefusal>
     requires room { 2 ≤ length piece.old }
     requires first { first ≤ 6 }
@@ -52,7 +52,7 @@ fn judge_six(tray: &mut MemTray, first: u64, piece: &mut [u8]) -> Result<(), Pla
     }
 }
 
-// The six samples of a plate, read so many at first, and then the rest.
+// The six samples of a plate, some of them read at first, and then the rest.
 fn read_six(tray: &mut MemTray, first: usize, piece: usize) -> Result<[u16; 6], PlateRefusal>
     requires first { first ≤ 6 }
     requires some { 2 ≤ piece }
@@ -151,7 +151,7 @@ fn is_judged(one: Result<(), PlateRefusal>, other: Result<[u16; 6], PlateFault>)
 }
 
 // The answer to a file that is judged in two parts.
-fn judged_of(
+fn judge_in_parts(
     rt: &impl Abort,
     alloc: Global,
     text: &str,
@@ -167,7 +167,7 @@ fn judged_of(
     judge_six(&mut tray, first as u64, &mut bytes[..piece])
 }
 
-// Judges all files, with so many samples at first, by pieces of so many bytes.
+// Judges all files, with some samples at first, with a buffer of some bytes.
 fn judge_sixes(rt: &impl Abort, alloc: Global, first: usize, piece: usize)
     requires first { first ≤ 6 }
     requires some { 2 ≤ piece }
@@ -176,7 +176,7 @@ fn judge_sixes(rt: &impl Abort, alloc: Global, first: usize, piece: usize)
     for (text, want) in SIXES {
         let is = is_same(six_of(rt, alloc, text, first, piece), *want);
         assert!(rt; is, "{text} by {first} and {piece}");
-        let judged = judged_of(rt, alloc, text, first, piece);
+        let judged = judge_in_parts(rt, alloc, text, first, piece);
         judge(rt, is_judged(judged, *want), text, piece as u64);
     }
 }

@@ -43,7 +43,7 @@ fn are_within(tints: &[u16], maxval: u32) -> bool
     tints.iter().all(|tint| *tint as u32 <= maxval)
 }
 
-// Writes six tints, so many of them at first, and says whether that was done.
+// Writes six tints, some of them at first, and returns whether that was done.
 fn is_written(rack: &mut MemRack, maxval: u32, tints: &[u16; 6], first: usize) -> bool
     requires maxval { maxval ≤ most_maxval }
     requires first { first ≤ 6 }
@@ -104,7 +104,7 @@ const WRITTEN: &[([u16; 6], u32, &str)] = &[
     ),
 ];
 
-// The same by a rack that has room for so many bytes.
+// Does the same with a rack that takes a limited number of bytes.
 fn writes_on(
     rt: &impl Abort,
     alloc: Global,
@@ -117,7 +117,7 @@ fn writes_on(
     writes_six(&mut rack, maxval, tints, first, want)
 }
 
-// Whether six tints are written as that file, where there is room for so many bytes.
+// Whether six tints are written as that file by a rack that takes a limited number of bytes.
 fn writes(
     rt: &impl Abort,
     alloc: Global,

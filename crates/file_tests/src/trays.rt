@@ -39,7 +39,7 @@ const FRONTS: &[(u32, &str)] = &[
     (9, "showpage"),
 ];
 
-fn judge_fronts(rt: &impl Abort, alloc: Global, grain: usize) {
+fn judge_prefixes(rt: &impl Abort, alloc: Global, grain: usize) {
     for (most, want) in FRONTS {
         let is_read = reads(rt, alloc, "one", *most, by(grain), Some(want));
         judge(rt, is_read, want, grain as u64);
@@ -48,10 +48,10 @@ fn judge_fronts(rt: &impl Abort, alloc: Global, grain: usize) {
 
 #[test]
 fn a_file_is_read_by_any_grain(rt: HostRuntime) {
-    judge_fronts(&rt, rt.alloc(), 1);
-    judge_fronts(&rt, rt.alloc(), 2);
-    judge_fronts(&rt, rt.alloc(), 3);
-    judge_fronts(&rt, rt.alloc(), 4096);
+    judge_prefixes(&rt, rt.alloc(), 1);
+    judge_prefixes(&rt, rt.alloc(), 2);
+    judge_prefixes(&rt, rt.alloc(), 3);
+    judge_prefixes(&rt, rt.alloc(), 4096);
 }
 
 fn job(is_read: bool) -> Option<&'static str> {
@@ -137,7 +137,7 @@ fn is_head_and_spaces(bytes: &[u8], most: u32) -> bool {
     bytes.len() == most as usize && bytes.starts_with(b"P5") && spaces + 2 == bytes.len()
 }
 
-// Whether the first bytes of an endless file, so many, are `P5` and spaces.
+// Whether the first bytes of an endless file are `P5` and spaces.
 fn is_read_on(alloc: Global, tray: &mut EndlessTray, most: u32) -> bool {
     match read_file(alloc, tray, "any", most) {
         Ok(bytes) => is_head_and_spaces(bytes.as_slice(), most),

@@ -21,11 +21,12 @@ use Rattle.job_reader.specs.InForce.{NoneShows, after_one, going_on, after_all, 
 use Rattle.job_reader.specs.Jobs.{then_job, statement_then}
 use Rattle.job_reader.specs.Operands.{is_one_dict, two_numbers}
 use Rattle.job_reader.specs.Starts.{nothing_read}
-use Rattle.job_reader.specs.Statements.{most_zones, most_vertices, fault, params_set, path_drawn, with_numbers, zone_of, zone_made, state_after, shown_fault, job_at, job_unless, job_shown}
+use Rattle.job_reader.specs.Statements.{fault, params_set, path_drawn, with_numbers, zone_of, zone_made, state_after, shown_fault, job_at, job_unless, job_shown}
 use Rattle.job_reader.proofs.InForce.{resolution-in_force, trapping-in_force, details-in_force, params-in_force, limits-in_force}
 use Rattle.job_reader.proofs.StateRanges.{IsState, state_after-leaves, nothing_read-state}
 use Rattle.job_laws.specs.Faults.{state_in_force, fault_of, at_operator, unless_wrong, drawing_fault, stroke_fault, fault_by, fault_after, AreFaultless}
 use Rattle.job_laws.proofs.Following.{going, after-push, path-in_force, zones-in_force}
+use Rattle.page_model.specs.Limits.{most_job_zones, most_vertices_in_all}
 
 -- What a statement is refused with.
 
@@ -66,7 +67,7 @@ fault-in_force objects earlier s (Some RelativeLineTo) = let now : State = state
 fault-in_force objects earlier s (Some SetTrapZone) =
     let now : State = state_in_force objects earlier in
     let made : State = record now { zones = now.zones ++ zone_of now ∷ []; path = nothing_drawn; vertices = now.vertices + length now.path.vertices } in
-    ap (unless_wrong s (s.from == s.place)) (of-zone s (nat_le most_zones (length now.zones)) (nat_lt most_vertices (now.vertices + length now.path.vertices)) made)
+    ap (unless_wrong s (s.from == s.place)) (of-zone s (nat_le most_job_zones (length now.zones)) (nat_lt most_vertices_in_all (now.vertices + length now.path.vertices)) made)
     ∙ of-guarded (s.from == s.place) s (zone_made s.call.at now)
 fault-in_force objects earlier s (Some ShowPage) = refl
 

@@ -9,7 +9,7 @@ use Rattle.ps_tokens.specs.declared.faults.FaultKind.TheVariants.{TooManyVertice
 use Rattle.ps_tokens.specs.declared.faults.JobFault.{JobFault}
 use Rattle.ps_tokens.specs.declared.parameters.Key.TheVariants.{Trapping}
 use Rattle.ps_tokens.specs.declared.object.Object.{Object}
-use Rattle.ps_tokens.specs.Misfits.{misfit_of, earlier}
+use Rattle.ps_tokens.specs.EntryErrors.{error_of, earlier}
 use Rattle.trap_params.specs.Applied.{params_after}
 use Rattle.trap_params.specs.Limits.{limits_after}
 use Rattle.trap_params.specs.Settings.{boolean_after}
@@ -21,11 +21,12 @@ use Rattle.job_reader.specs.Calls.{Statement}
 use Rattle.job_reader.specs.Device.{details_in, details_or, device_set, resolution_after}
 use Rattle.job_reader.specs.InForce.{after_one, is_by}
 use Rattle.job_reader.specs.Operands.{is_one_dict, two_numbers}
-use Rattle.job_reader.specs.Statements.{most_vertices, most_zones, both_set, path_drawn, fault, params_set, state_after, with_numbers, zone_made, zone_of}
+use Rattle.job_reader.specs.Statements.{both_set, path_drawn, fault, params_set, state_after, with_numbers, zone_made, zone_of}
 use Rattle.job_reader.proofs.ParamRanges.{unless-is}
 use Rattle.job_reader.proofs.Setting.{guarded}
 use Rattle.job_laws.specs.Paths.{empties_path, extended_by, drawn_by}
 use Rattle.job_laws.specs.Zones.{is_settrapzone}
+use Rattle.page_model.specs.Limits.{most_job_zones, most_vertices_in_all}
 
 -- what a statement leaves of the path and the zones
 pub record Steps (objects : List Object) (s : Statement) (o : Option Operator) (now next : State) : Type 0 where
@@ -55,7 +56,7 @@ device-stays objects dict now next is =
     let trapping = boolean_after objects dict Trapping now.trapping in
     let details = details_in objects dict in
     let set : State = record now { resolution = result_unwrap_or resolution now.resolution; trapping = result_unwrap_or trapping now.trapping; details = details_or details now.details } in
-    let same : set ≡ next = unless-is (earlier (misfit_of resolution) (earlier (misfit_of trapping) (misfit_of details))) set next is in
+    let same : set ≡ next = unless-is (earlier (error_of resolution) (earlier (error_of trapping) (error_of details))) set next is in
     subst (Stays now) same (record { path = refl; zones = refl })
 
 both-stay : (params : Result TrapParams JobFault) (limits : Result (List Limit) JobFault) (now : State) → Left (Stays now) (both_set params limits now)
@@ -91,8 +92,8 @@ room_if P false at r gives = gives
 made-left : (P : State → Type 0) (at : ℕ) (now : State) → P (record now { zones = now.zones ++ zone_of now ∷ []; path = nothing_drawn; vertices = now.vertices + length now.path.vertices }) → Left P (zone_made at now)
 made-left P at now is =
     let made : State = record now { zones = now.zones ++ zone_of now ∷ []; path = nothing_drawn; vertices = now.vertices + length now.path.vertices } in
-    room_if P (nat_le most_zones (length now.zones)) at (cond (nat_lt most_vertices (now.vertices + length now.path.vertices)) (fault TooManyVertices at) (Ok made))
-    (fits_if P (nat_lt most_vertices (now.vertices + length now.path.vertices)) at made is)
+    room_if P (nat_le most_job_zones (length now.zones)) at (cond (nat_lt most_vertices_in_all (now.vertices + length now.path.vertices)) (fault TooManyVertices at) (Ok made))
+    (fits_if P (nat_lt most_vertices_in_all (now.vertices + length now.path.vertices)) at made is)
 
 -- Each statement.
 

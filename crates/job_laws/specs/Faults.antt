@@ -23,9 +23,10 @@ use Rattle.job_reader.specs.Device.{device_set}
 use Rattle.job_reader.specs.InForce.{is_by, resolution_in_force, trapping_in_force}
 use Rattle.job_reader.specs.InForce.{details_in_force, params_in_force, limits_in_force}
 use Rattle.job_reader.specs.Operands.{is_one_dict, two_numbers}
-use Rattle.job_reader.specs.Statements.{most_zones, most_vertices, after_fault, params_set}
+use Rattle.job_reader.specs.Statements.{after_fault, params_set}
 use Rattle.job_laws.specs.Paths.{path_in_force}
 use Rattle.job_laws.specs.Zones.{zones_in_force}
+use Rattle.page_model.specs.Limits.{most_job_zones, most_vertices_in_all}
 
 -- how many vertices the zones in force have together
 abbrev pub vertices_in_force : List Object → List Statement → ℕ
@@ -77,8 +78,9 @@ abbrev pub zone_fault : List Object → List Statement → Statement → Option 
 zone_fault objects earlier s =
     let vertices = vertices_in_force objects earlier
     + length (path_in_force objects earlier).vertices in
-    if nat_le most_zones (length (zones_in_force objects earlier)) then at_operator s TooManyZones
-    else (if nat_lt most_vertices vertices then at_operator s TooManyVertices else None)
+    if nat_le most_job_zones (length (zones_in_force objects earlier))
+    then at_operator s TooManyZones
+    else (if nat_lt most_vertices_in_all vertices then at_operator s TooManyVertices else None)
 
 -- whether a page wants a resolution that ends after statements: a zone is in force, or zone 0
 -- is enabled
@@ -146,7 +148,7 @@ pub record StandsFirst (objects : List Object) (statements : List Statement)
   pub none_before : AreFaultless objects earlier
   pub has : fault_after objects earlier s ≡ Some fault
 
--- no statement has a fault and none ends the job, of so many bytes
+-- no statement has a fault and none ends the job, which has `len` bytes
 pub record RunsOut (objects : List Object) (len : ℕ) (statements : List Statement)
     (fault : JobFault) : Type 0 where
   pub none_at_all : AreFaultless objects statements

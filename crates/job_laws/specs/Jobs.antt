@@ -1,4 +1,4 @@
--- The job that ends after statements, told by what is in force there.
+-- The job that ends after statements, stated by what is in force there.
 use Rattle.std.specs.Prelude.{◌≡◌, ◌⊎◌, ◌<◌, ◌≤◌, ℕ, List, [], ◌∷◌, ◌++◌, length, map, ◌==◌, ◌&&◌}
 use Rattle.std.specs.Prelude.{Some, None, Ok, Err}
 use Rattle.page_model.specs.declared.parts.Zone.{Zone}

@@ -1,4 +1,4 @@
--- The path in force at a statement, told by the statements that stand before it.
+-- The path in force at a statement, stated by the statements that stand before it.
 use Rattle.std.specs.Prelude.{ℤ, Bool, true, false, List, [], ◌∷◌, Option, Some, None, Result, fold}
 use Rattle.std.specs.Prelude.{unwrap_or, if◌then◌else◌}
 use Rattle.std.specs.Option.{option_or}

@@ -42,9 +42,6 @@ module _ (seen : ℕ) (lines : List LineParts) (rest text suffix : List ℕ) (cu
 before : (bytes : List ℕ) (lines : List LineParts) (rest : List ℕ) (stands : Stands bytes lines rest) → length bytes - length rest ≡ length (text_of stands.texts)
 before bytes lines rest stands = let whole : length bytes ≡ length (text_of stands.texts) + length rest = ap length stands.whole ∙ length-append (text_of stands.texts) rest in omega arith
 
-pub fits : (bytes : List ℕ) (lines : List LineParts) (rest : List ℕ) → Stands bytes lines rest → length rest ≤ length bytes
-fits bytes lines rest stands = let whole : length bytes ≡ length (text_of stands.texts) + length rest = ap length stands.whole ∙ length-append (text_of stands.texts) rest in omega arith
-
 pub at_start : (bytes : List ℕ) → Stands bytes [] bytes
 at_start bytes = record { texts = []; whole = refl; good = record { read = refl; few = omega arith; short = omega arith; apart = refl } }
 

@@ -6,7 +6,7 @@ use Rattle.std.specs.List.{list_all, list_any}
 use Rattle.std.specs.Str.{bytes_eq}
 use Rattle.plain_words.specs.Distinct.{are_distinct}
 use Rattle.job_list.specs.Lines.{LineParts, is_lf, line_of}
-use Rattle.job_list.specs.Lists.{Begins, most_lines, most_of_list, text_of, written_by}
+use Rattle.job_list.specs.Lists.{Begins, most_lines, longest_list, text_of, written_by}
 
 -- none of the first texts is one of the second
 abbrev pub are_apart : List (List ℕ) → List (List ℕ) → Bool
@@ -18,12 +18,12 @@ is_new line lines =
     are_distinct (written_by line)
     && list_all (λ e. are_apart (written_by e) (written_by line)) lines
 
--- A text follows these jobs, after so many bytes.
+-- A text follows these jobs, which have `seen` bytes.
 pub record Follows (seen : ℕ) (lines : List LineParts) (text : List ℕ)
     (line : LineParts) : Type 0 where
   pub read : line_of text ≡ Some line
   pub few : length lines < most_lines
-  pub short : seen + length text + 1 ≤ most_of_list
+  pub short : seen + length text + 1 ≤ longest_list
   pub new : is_new line lines ≡ true
 
 -- The bytes are cut at their first LF.

@@ -6,6 +6,7 @@ use Rattle.std.specs.Str.{is_utf8}
 use Rattle.plain_words.specs.Distinct.{are_distinct}
 use Rattle.plain_words.specs.Parts.{PlateNames, is_plate, is_some_text, parts_of}
 use Rattle.plain_words.specs.Plates.{inputs_of, names_of, outputs_of}
+use Rattle.page_model.specs.Limits.{most_plates}
 
 -- a job: its file, the file of its report, and for each plate the colorant's name, the file that is
 -- read and the one that is written
@@ -23,7 +24,7 @@ line_parts job report names inputs outs =
 -- one to sixteen plates, of each a name and two files
 pub record HasPlates (line : LineParts) : Type 0 where
   pub some : 1 ≤ length line.names
-  pub few : length line.names ≤ 16
+  pub few : length line.names ≤ most_plates
   pub inputs : length line.inputs ≡ length line.names
   pub outs : length line.outs ≡ length line.names
 
@@ -36,7 +37,7 @@ is_space b = eqb b 32
 -- one to sixteen words NAME:IN:OUT, and no name twice
 abbrev pub are_plates : List (List ℕ) → Bool
 are_plates words =
-    nat_le 1 (length words) && nat_le (length words) 16
+    nat_le 1 (length words) && nat_le (length words) most_plates
     && list_all (λ w. is_plate (parts_of w)) words && are_distinct (names_of (map parts_of words))
 
 -- the job of these words

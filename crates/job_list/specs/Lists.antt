@@ -7,8 +7,8 @@ use Rattle.job_list.specs.declared.reading.ListRefusal.{ListRefusal}
 use Rattle.job_list.specs.declared.reading.ListRefusal.TheVariants.{BadLine, OutOfMemory}
 
 -- how many bytes and how many lines a list has at most
-abbrev pub most_of_list : ℕ
-most_of_list = 1048576
+abbrev pub longest_list : ℕ
+longest_list = 1048576
 
 abbrev pub most_lines : ℕ
 most_lines = 256
@@ -41,7 +41,7 @@ written (line ∷ lines) = written_by line ++ written lines
 pub record Begins (texts : List (List ℕ)) (lines : List LineParts) : Type 0 where
   pub read : lines_of texts ≡ Some lines
   pub few : length texts ≤ most_lines
-  pub short : length (text_of texts) ≤ most_of_list
+  pub short : length (text_of texts) ≤ longest_list
   pub apart : are_distinct (written lines) ≡ true
 
 -- The bytes are a list of these jobs, of which there is at least one.

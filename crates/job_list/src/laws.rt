@@ -8,7 +8,7 @@ pub fn some_reading()
     ensures { (bytes : List ℕ) → HasReading bytes }
 {}
 
-/// Bytes that are a list have no bad line. They have one first bad line at most, and are a list of no other jobs.
+/// Bytes that are a list have no bad line, and are a list of no other jobs. Bytes have at most one first bad line.
 pub fn one_reading()
     ensures { OneReading }
 {}

@@ -5,8 +5,8 @@ use lists::list::List;
 use lists::names::NameList;
 use std::marker::Model;
 
-/// A job of a list: the job's file, the file of its report, and of one to sixteen plates the colorants' names, the files that
-/// are read and those that are written. Contracts see their bytes.
+/// A line of a list: the job's file, the file of its report, and for one to sixteen plates the colorants' names, the
+/// files that are read and those that are written. Contracts see their bytes.
 #[derive(Drop)]
 pub struct ListLine {
     pub(crate) job: String,
@@ -62,14 +62,14 @@ impl ListLine {
         self.inputs.as_slice()
     }
 
-    /// The files that the plates are written into.
+    /// The files that the plates are written to.
     pub fn outs(&self) -> &[String]
         ensures { map string_bytes result.now ≡ self.now.outs }
     {
         self.outs.as_slice()
     }
 
-    /// The file that a plate is written into, counted from 0.
+    /// The file that plate k is written to, counted from 0.
     pub fn out(&self, k: u32) -> &str
         requires { k < length self.now.outs }
         ensures { slice_get self.now.outs k ≡ Some result.now }

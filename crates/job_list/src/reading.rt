@@ -12,24 +12,24 @@ use lists::list::List;
 use lists::names::OutOfMemory;
 use std::alloc::Global;
 
-/// Why bytes are not read as a list.
+/// Why bytes could not be read as a list.
 #[derive(Clone, Copy, Debug, Drop, PartialEq, Eq)]
 pub enum ListRefusal {
-    /// This line, counted from 0, is the first that breaks the form.
+    /// The first line that breaks the form, counted from 0.
     BadLine(u32),
     OutOfMemory,
 }
 
-const MOST_BYTES: usize = 1_048_576;
+pub const MOST_BYTES: usize = 1_048_576;
 
 const MOST_LINES: usize = 256;
 
-/// The jobs of a list: 1 to 256 lines, of 1,048,576 bytes in all at most, each ended by LF. A line is UTF-8 and has the words
-/// `JOB REPORT NAME:IN:OUT ...` with single spaces between them, none of them empty, for one to sixteen plates of different
-/// names. No file that is written stands in the list twice. The form is this project's own.
+/// Reads a list: 1 to 256 lines, of 1,048,576 bytes in all at most, each ended by LF. A line is UTF-8 and has the words
+/// `JOB REPORT NAME:IN:OUT ...` with single spaces between them, none of them empty, for one to sixteen plates with
+/// different names. All files that are written are different, in the whole list. The form is this project's own.
 ///
-/// Else the first line that breaks the form is refused: a text without its LF is one, and so are the 257th line, the line that
-/// holds byte 1,048,576, counted from 0, and line 0 where there is no byte. Out of memory may come at any place.
+/// Otherwise the first line that breaks the form is refused: a text without its LF is one, and so are the 257th line,
+/// the line with byte 1,048,576, counted from 0, and line 0 of an empty list. Out of memory can come at any place.
 pub fn read_list(alloc: Global, bytes: &[u8]) -> Result<LineList, ListRefusal>
     ensures { ReadsList bytes.now result }
 {
@@ -51,14 +51,14 @@ pub fn read_list(alloc: Global, bytes: &[u8]) -> Result<LineList, ListRefusal>
     unreachable!()
 }
 
-// Whether the list ends here: a line stands before it, and nothing after.
+// Whether the list ends here: after at least one line, with nothing left.
 fn is_end(number: u32, rest: &[u8]) -> bool
     ensures { MatchBool result ((0 < number) × (rest.now ≡ [])) (0 < number → rest.now ≢ []) }
 {
     number > 0 && rest.is_empty()
 }
 
-// The line that comes next after so many bytes and these lines, and what is after it; `None` where it is a bad one.
+// The next line and the rest after it; `None` where it is a bad line.
 fn next_line<'a>(
     alloc: Global,
     lines: &LineList,
@@ -94,7 +94,7 @@ fn if_new<'a>(lines: &LineList, line: ListLine, suffix: &'a [u8]) -> Option<(Lis
     }
 }
 
-// What stands before the first LF, and what stands after it; `None` where there is none.
+// The bytes before the first LF, and those after it; `None` where there is no LF.
 fn cut(bytes: &[u8]) -> Option<(&[u8], &[u8])>
     ensures { MatchOption result (list_any is_lf bytes.now ≡ false)
         (λ parts. IsCut bytes.now parts.0.now parts.1.now) }

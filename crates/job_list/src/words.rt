@@ -1,19 +1,18 @@
-// What the words of a line mean.
+// The words of a line.
 
 ghost use Rattle.std.specs.Prelude.{◌≡◌, ◌≤◌, false, IfOk, IsTrue, length, map, string_bytes};
 ghost use Rattle.std.specs.List.{list_any, slice_split};
 ghost use Rattle.plain_words.specs.Parts.{parts_of};
-ghost use Rattle.plain_words.specs.Plates.{names_of as names_meant};
-ghost use Rattle.job_list.specs.Lines.{are_plates as plates_test, is_lf, is_space, line_of, line_of_words as words_meant, line_with};
+ghost use Rattle.job_list.specs.Lines.{are_plates as plates_spec, is_lf, is_space, line_of, line_of_words as words_spec, line_with};
+ghost use Rattle.page_model.specs.Limits.{most_plates};
 
 use crate::line::ListLine;
-use lists::list::List;
-use lists::names::{NameList, OutOfMemory, copied};
-use plain_words::parts::plate_parts;
+use lists::names::OutOfMemory;
+use plain_words::files::{plate_inputs, plate_names, plate_outputs};
 use plain_words::plates::{are_plates, have_distinct_names};
 use std::alloc::{AllocError, Global};
 
-// The job that a line's bytes mean; `None` where they are no line.
+// Reads a line's bytes as a job; `None` where they are no line.
 pub(crate) fn read_line(alloc: Global, text: &[u8]) -> Result<Option<ListLine>, OutOfMemory>
     requires { list_any is_lf text.now ≡ false }
     ensures { IfOk result (λ line. line ≡ line_of text.now) }
@@ -43,7 +42,7 @@ fn split<'a>(alloc: Global, text: &'a str) -> Result<Vec<&'a str>, AllocError>
 }
 
 fn read_words(alloc: Global, words: &[&str]) -> Result<Option<ListLine>, OutOfMemory>
-    ensures { IfOk result (λ line. line ≡ words_meant (map (λ w. w.now) words.now)) }
+    ensures { IfOk result (λ line. line ≡ words_spec (map (λ w. w.now) words.now)) }
 {
     match words {
         [job, report, plates @ ..] => {
@@ -64,19 +63,19 @@ fn line_of_parts(
     plates: &[&str],
 ) -> Result<ListLine, OutOfMemory>
     requires some { 1 ≤ length plates.now }
-    requires few { length plates.now ≤ 16 }
+    requires few { length plates.now ≤ most_plates }
     ensures { IfOk result (λ line. line
         ≡ line_with job.now report.now (map parts_of (map (λ w. w.now) plates.now))) }
 {
-    let names = names_of(alloc, plates)?;
-    let inputs = inputs_of(alloc, plates)?;
-    let outs = outs_of(alloc, plates)?;
+    let names = plate_names(alloc, plates)?;
+    let inputs = plate_inputs(alloc, plates)?;
+    let outs = plate_outputs(alloc, plates)?;
     Ok(ListLine {
         job: text_of(alloc, job)?,
         report: text_of(alloc, report)?,
         names,
-        inputs,
-        outs,
+        inputs: copies_of(alloc, inputs.as_slice())?,
+        outs: copies_of(alloc, outs.as_slice())?,
     })
 }
 
@@ -89,52 +88,24 @@ fn text_of(alloc: Global, text: &str) -> Result<String, OutOfMemory>
     }
 }
 
-fn names_of(alloc: Global, words: &[&str]) -> Result<NameList, OutOfMemory>
-    ensures { IfOk result (λ names.
-        names ≡ names_meant (map parts_of (map (λ w. w.now) words.now))) }
+// Copies of these texts.
+fn copies_of(alloc: Global, texts: &[&str]) -> Result<Vec<String>, OutOfMemory>
+    ensures { IfOk result (λ copies. map string_bytes copies.items
+        ≡ map (λ t. t.now) texts.now) }
 {
-    let mut names = List::new(alloc);
-    for word in words {
-        let name = copied(alloc, plate_parts(*word).name.as_bytes())?;
-        if names.push(name).is_err() {
+    let mut copies = Vec::new(alloc);
+    for text in texts {
+        if copies.push(text_of(alloc, *text)?).is_err() {
             return Err(OutOfMemory);
         }
     }
-    Ok(names)
+    Ok(copies)
 }
 
-fn inputs_of(alloc: Global, words: &[&str]) -> Result<Vec<String>, OutOfMemory>
-    ensures { IfOk result (λ files. map string_bytes files.items
-        ≡ map (λ p. p.input) (map parts_of (map (λ w. w.now) words.now))) }
-{
-    let mut files = Vec::new(alloc);
-    for word in words {
-        let file = text_of(alloc, plate_parts(*word).input)?;
-        if files.push(file).is_err() {
-            return Err(OutOfMemory);
-        }
-    }
-    Ok(files)
-}
-
-fn outs_of(alloc: Global, words: &[&str]) -> Result<Vec<String>, OutOfMemory>
-    ensures { IfOk result (λ files. map string_bytes files.items
-        ≡ map (λ p. p.output) (map parts_of (map (λ w. w.now) words.now))) }
-{
-    let mut files = Vec::new(alloc);
-    for word in words {
-        let file = text_of(alloc, plate_parts(*word).output)?;
-        if files.push(file).is_err() {
-            return Err(OutOfMemory);
-        }
-    }
-    Ok(files)
-}
-
-// One to sixteen words NAME:IN:OUT, and no name twice.
+// Whether these are one to sixteen words NAME:IN:OUT with different names.
 fn are_named_plates(words: &[&str]) -> bool
-    ensures value { result ≡ plates_test (map (λ w. w.now) words.now) }
-    ensures count { IsTrue result → (1 ≤ length words.now) × (length words.now ≤ 16) }
+    ensures value { result ≡ plates_spec (map (λ w. w.now) words.now) }
+    ensures count { IsTrue result → (1 ≤ length words.now) × (length words.now ≤ most_plates) }
 {
     are_plates(words) && have_distinct_names(words)
 }

@@ -5,12 +5,12 @@ use Rattle.std.proofs.lemmas.List.{append_assoc, at_drop_all}
 use Rattle.ps_tokens.specs.declared.object.Object.{Object}
 use Rattle.job_reader.specs.declared.calls.Call.{Call}
 use Rattle.job_reader.specs.Calls.{Statement, call_of, cut_at, statements_from}
-use Rattle.job_pages.specs.declared.passages.Passage.{Passage}
-use Rattle.job_pages.specs.Passages.{passage_at, passage_of}
+use Rattle.job_pages.specs.declared.statement_spans.StatementSpan.{StatementSpan}
+use Rattle.job_pages.specs.StatementSpans.{span_at, span_of}
 
 -- the statements from a place on, of which the first has its operands from another
-abbrev pub passages_from : List Object → ℕ → ℕ → List Passage
-passages_from objects from place = map (passage_of objects) (statements_from from place (drop place objects))
+abbrev pub spans_from : List Object → ℕ → ℕ → List StatementSpan
+spans_from objects from place = map (span_of objects) (statements_from from place (drop place objects))
 
 statements_drop : (from place k : ℕ) (objects : List Object) → k < length objects
     → statements_from from place (drop k objects) ≡ cut_at from place (call_of (slice_get objects k)) (λ first. statements_from first (place + 1) (drop (suc k) objects))
@@ -21,35 +21,35 @@ statements_drop from place (suc k) (o ∷ os) lt = statements_drop from place k 
 
 -- no operator stands at a place
 pub from_none : (objects : List Object) (from place : ℕ) → place < length objects → call_of (slice_get objects place) ≡ None
-    → passages_from objects from place ≡ passages_from objects from (place + 1)
+    → spans_from objects from place ≡ spans_from objects from (place + 1)
 from_none objects from place lt none =
     let k : suc place ≡ place + 1 = omega arith in
-    ap (λ (ss : List Statement). map (passage_of objects) ss)
+    ap (λ (ss : List Statement). map (span_of objects) ss)
     (statements_drop from place place objects lt
     ∙ ap (λ (c : Option Call). cut_at from place c (λ first. statements_from first (place + 1) (drop (suc place) objects))) none
     ∙ ap (λ (n : ℕ). statements_from from (place + 1) (drop n objects)) k)
 
 -- an operator stands there
 pub from_call : (objects : List Object) (from place : ℕ) (call : Call) → place < length objects → call_of (slice_get objects place) ≡ Some call
-    → passages_from objects from place ≡ passage_at objects from place call ∷ passages_from objects (place + 1) (place + 1)
+    → spans_from objects from place ≡ span_at objects from place call ∷ spans_from objects (place + 1) (place + 1)
 from_call objects from place call lt is =
     let k : suc place ≡ place + 1 = omega arith in
-    ap (λ (ss : List Statement). map (passage_of objects) ss)
+    ap (λ (ss : List Statement). map (span_of objects) ss)
     (statements_drop from place place objects lt
     ∙ ap (λ (c : Option Call). cut_at from place c (λ first. statements_from first (place + 1) (drop (suc place) objects))) is
     ∙ ap (λ (n : ℕ). cut_at from place (Some call) (λ first. statements_from first (place + 1) (drop n objects))) k)
 
 -- no object is left
-pub from_end : (objects : List Object) (from place : ℕ) → length objects ≤ place → passages_from objects from place ≡ []
+pub from_end : (objects : List Object) (from place : ℕ) → length objects ≤ place → spans_from objects from place ≡ []
 unfolding statements_from
-from_end objects from place end = at_drop_all (λ (os : List Object). map (passage_of objects) (statements_from from place os)) objects place end
+from_end objects from place end = at_drop_all (λ (os : List Object). map (span_of objects) (statements_from from place os)) objects place end
 
 -- what was found so far, and what is left to be found
-pub so_far_call : (objects : List Object) (found : List Passage) (from place : ℕ) (call : Call) → place < length objects → call_of (slice_get objects place) ≡ Some call
-    → found ++ passages_from objects from place ≡ (found ++ passage_at objects from place call ∷ []) ++ passages_from objects (place + 1) (place + 1)
+pub so_far_call : (objects : List Object) (found : List StatementSpan) (from place : ℕ) (call : Call) → place < length objects → call_of (slice_get objects place) ≡ Some call
+    → found ++ spans_from objects from place ≡ (found ++ span_at objects from place call ∷ []) ++ spans_from objects (place + 1) (place + 1)
 so_far_call objects found from place call lt is =
-    ap (λ (ps : List Passage). found ++ ps) (from_call objects from place call lt is) ∙ sym (append_assoc found (passage_at objects from place call ∷ []) (passages_from objects (place + 1) (place + 1)))
+    ap (λ (ps : List StatementSpan). found ++ ps) (from_call objects from place call lt is) ∙ sym (append_assoc found (span_at objects from place call ∷ []) (spans_from objects (place + 1) (place + 1)))
 
-pub so_far_none : (objects : List Object) (found : List Passage) (from place : ℕ) → place < length objects → call_of (slice_get objects place) ≡ None
-    → found ++ passages_from objects from place ≡ found ++ passages_from objects from (place + 1)
-so_far_none objects found from place lt none = ap (λ (ps : List Passage). found ++ ps) (from_none objects from place lt none)
+pub so_far_none : (objects : List Object) (found : List StatementSpan) (from place : ℕ) → place < length objects → call_of (slice_get objects place) ≡ None
+    → found ++ spans_from objects from place ≡ found ++ spans_from objects from (place + 1)
+so_far_none objects found from place lt none = ap (λ (ps : List StatementSpan). found ++ ps) (from_none objects from place lt none)

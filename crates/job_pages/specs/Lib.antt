@@ -1,3 +1,3 @@
-pub mod Passages
+pub mod StatementSpans
 pub mod PageText
 pub mod Runs

@@ -1,19 +1,19 @@
 -- The text of one page of a job of many.
 use Rattle.std.specs.Prelude.{ℕ, Bool, not, ◌&&◌, ◌-◌, nat_le, max, List, ◌∷◌, ◌++◌, take, drop}
 use Rattle.std.specs.Prelude.{length, map, filter, fold, replicate, slice_index, ◌+◌}
-use Rattle.job_pages.specs.declared.passages.Passage.{Passage}
-use Rattle.job_pages.specs.Passages.{shows, stays}
+use Rattle.job_pages.specs.declared.statement_spans.StatementSpan.{StatementSpan}
+use Rattle.job_pages.specs.StatementSpans.{shows, stays}
 
 -- where the pages of a job end, in their order: each after its `showpage`
-abbrev pub page_ends : List Passage → List ℕ
-page_ends passages = map (λ (p : Passage). p.end) (filter shows passages)
+abbrev pub page_ends : List StatementSpan → List ℕ
+page_ends spans = map (λ (p : StatementSpan). p.end) (filter shows spans)
 
 -- page k stands between the bounds k and k + 1
-abbrev pub bound : List Passage → ℕ → ℕ
-bound passages k = slice_index (0 ∷ page_ends passages) k
+abbrev pub bound : List StatementSpan → ℕ → ℕ
+bound spans k = slice_index (0 ∷ page_ends spans) k
 
 -- whether a statement of a page before this place sets nothing that stays in force
-abbrev pub is_left_after : ℕ → Passage → Bool
+abbrev pub is_left_after : ℕ → StatementSpan → Bool
 is_left_after start p = not (stays p) && nat_le p.end start
 
 -- as many spaces as there are bytes
@@ -21,7 +21,7 @@ abbrev pub spaces_for : List ℕ → List ℕ
 spaces_for bytes = replicate (length bytes) 32
 
 -- a text with spaces in a statement's place
-abbrev pub blanked : List ℕ → Passage → List ℕ
+abbrev pub blanked : List ℕ → StatementSpan → List ℕ
 blanked text p =
     take p.from text ++ spaces_for (take (p.end - p.from) (drop p.from text)) ++
     drop (max p.from p.end) text
@@ -30,7 +30,7 @@ blanked text p =
 -- page stand spaces, unless it is `setpagedevice` or `settrapparams`: so parameters, limits,
 -- resolution, Trapping and details go on from page to page, paths and zones do not, and all offsets
 -- are those of the whole job.
-abbrev pub text_in : List Passage → List ℕ → ℕ → List ℕ
-text_in passages bytes k =
-    fold blanked (take (bound passages (k + 1)) bytes)
-    (filter (is_left_after (bound passages k)) passages)
+abbrev pub text_in : List StatementSpan → List ℕ → ℕ → List ℕ
+text_in spans bytes k =
+    fold blanked (take (bound spans (k + 1)) bytes)
+    (filter (is_left_after (bound spans k)) spans)

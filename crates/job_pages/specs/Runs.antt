@@ -11,12 +11,12 @@ use Rattle.ps_tokens.specs.Tokens.{tokens_of}
 use Rattle.job_reader.specs.declared.job.Job.{Job}
 use Rattle.job_reader.specs.Jobs.{job_of}
 use Rattle.job_reader.specs.Statements.{after_fault}
-use Rattle.job_pages.specs.declared.passages.Passage.{Passage}
+use Rattle.job_pages.specs.declared.statement_spans.StatementSpan.{StatementSpan}
 use Rattle.job_pages.specs.declared.run.Run.{Run}
 use Rattle.job_pages.specs.declared.run.RunRefusal.{RunRefusal}
 use Rattle.job_pages.specs.declared.run.RunRefusal.TheVariants.{Fault, TooManyPages, OutOfMemory}
 use Rattle.job_pages.specs.PageText.{text_in}
-use Rattle.job_pages.specs.Passages.{passages_of, shows}
+use Rattle.job_pages.specs.StatementSpans.{spans_of, shows}
 
 -- how many pages a job may have
 abbrev pub most_pages : ℕ
@@ -31,50 +31,51 @@ objects_by bytes (Err fault) = Err fault
 abbrev pub objects_in : List ℕ → Result (List Object) JobFault
 objects_in bytes = objects_by bytes (tokens_of bytes)
 
--- the fault at the end of a job of so many bytes: it has no page, or an object stands after the
--- last `showpage`
-abbrev pub end_fault : ℕ → List Object → Option Passage → Option JobFault
+-- the fault at the end of a job of `len` bytes: it has no page, or an object stands after the last
+-- `showpage`
+abbrev pub end_fault : ℕ → List Object → Option StatementSpan → Option JobFault
 end_fault len objects None = Some (record { kind = NoShowpage; at = len })
 end_fault len objects (Some p) = after_fault (slice_get objects (p.place + 1))
 
 -- the last of these statements, if there is one
-abbrev pub last_of : List Passage → Option Passage
+abbrev pub last_of : List StatementSpan → Option StatementSpan
 last_of shown = slice_get shown (length shown - 1)
 
 -- the 257th `showpage`, if there is one
-abbrev pub excess : Option Passage → Option RunRefusal
+abbrev pub excess : Option StatementSpan → Option RunRefusal
 excess None = None
 excess (Some p) = Some (TooManyPages p.at)
 
--- the first refusal of a job of so many bytes, where its objects have no fault, and its pages are
--- shown by these statements
-abbrev pub run_refusal : ℕ → List Object → List Passage → Option RunRefusal
+-- the first refusal of a job of `len` bytes, where its objects have no fault, and these statements
+-- end its pages
+abbrev pub run_refusal : ℕ → List Object → List StatementSpan → Option RunRefusal
 run_refusal len objects shown =
     or_else (option_map Fault (end_fault len objects (last_of shown)))
     (excess (slice_get shown most_pages))
 
 -- statements, unless there is a refusal
-abbrev pub run_unless : Option RunRefusal → List Passage → Result (List Passage) RunRefusal
-run_unless None passages = Ok passages
-run_unless (Some refusal) passages = Err refusal
+abbrev pub run_unless : Option RunRefusal → List StatementSpan
+    → Result (List StatementSpan) RunRefusal
+run_unless None spans = Ok spans
+run_unless (Some refusal) spans = Err refusal
 
-abbrev pub run_from : ℕ → Result (List Object) JobFault → Result (List Passage) RunRefusal
+abbrev pub run_from : ℕ → Result (List Object) JobFault → Result (List StatementSpan) RunRefusal
 run_from len (Err fault) = Err (Fault fault)
 run_from len (Ok objects) =
-    run_unless (run_refusal len objects (filter shows (passages_of objects))) (passages_of objects)
+    run_unless (run_refusal len objects (filter shows (spans_of objects))) (spans_of objects)
 
 -- The statements of a job of many pages. First of all the whole job's tokens and then its objects
 -- are judged; then it has to have a `showpage`, no object may stand after the last one, and there
 -- may be 256.
-unfoldable pub run_of : List ℕ → Result (List Passage) RunRefusal
+unfoldable pub run_of : List ℕ → Result (List StatementSpan) RunRefusal
 run_of bytes = run_from (length bytes) (objects_in bytes)
 
 -- how many pages statements show
-abbrev pub pages_in : List Passage → ℕ
-pages_in passages = length (filter shows passages)
+abbrev pub pages_in : List StatementSpan → ℕ
+pages_in spans = length (filter shows spans)
 
-abbrev pub count_from : Result (List Passage) RunRefusal → Result ℕ RunRefusal
-count_from (Ok passages) = Ok (pages_in passages)
+abbrev pub count_from : Result (List StatementSpan) RunRefusal → Result ℕ RunRefusal
+count_from (Ok spans) = Ok (pages_in spans)
 count_from (Err refusal) = Err refusal
 
 -- how many pages a job has
@@ -82,8 +83,8 @@ abbrev pub count_of : List ℕ → Result ℕ RunRefusal
 count_of bytes = count_from (run_of bytes)
 
 -- the statements of a run, none where it is refused
-abbrev pub statements_in : Result (List Passage) RunRefusal → List Passage
-statements_in (Ok passages) = passages
+abbrev pub statements_in : Result (List StatementSpan) RunRefusal → List StatementSpan
+statements_in (Ok spans) = spans
 statements_in (Err refusal) = []
 
 -- the text of page k
@@ -102,8 +103,8 @@ GivesRun (Err (Fault fault)) meant = meant ≡ Err (Fault fault)
 GivesRun (Err (TooManyPages at)) meant = meant ≡ Err (TooManyPages at)
 
 -- A run is read, with the statements that end its pages beside the others.
-abbrev pub IsRun : Result Run RunRefusal → Result (List Passage) RunRefusal → Type 0
-IsRun (Ok run) meant = (meant ≡ Ok run.passages) × (run.shown ≡ filter shows run.passages)
+abbrev pub IsRun : Result Run RunRefusal → Result (List StatementSpan) RunRefusal → Type 0
+IsRun (Ok run) meant = (meant ≡ Ok run.spans) × (run.shown ≡ filter shows run.spans)
 IsRun (Err OutOfMemory) meant = Unit {0}
 IsRun (Err (Fault fault)) meant = meant ≡ Err (Fault fault)
 IsRun (Err (TooManyPages at)) meant = meant ≡ Err (TooManyPages at)

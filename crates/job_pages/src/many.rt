@@ -12,8 +12,8 @@ use ps_tokens::faults::JobRefusal;
 use std::alloc::Global;
 use std::marker::Model;
 
-/// A job of many pages that was read: its bytes and its statements, so that the pages' jobs are read without finding these
-/// again. Contracts see it as its bytes.
+/// A job of many pages that was read: its bytes and its statements, so that the jobs of its pages can be read without
+/// searching for the statements again. Contracts see it as its bytes.
 #[derive(Drop)]
 pub struct ManyPages {
     bytes: Name,
@@ -22,15 +22,15 @@ pub struct ManyPages {
 
 impl Model for ManyPages {
     ghost use Rattle.std.specs.Prelude.{List, ℕ, Ok, filter, ◌≡◌};
-    ghost use Rattle.job_pages.specs.Passages.{shows};
+    ghost use Rattle.job_pages.specs.StatementSpans.{shows};
     ghost use Rattle.job_pages.specs.Runs.{run_of};
 
     ghost Value = { List ℕ };
 
     ghost view = { λ m. m.bytes };
 
-    ghost invariant = { λ m. (run_of m.bytes ≡ Ok m.run.passages)
-        × (m.run.shown ≡ filter shows m.run.passages) };
+    ghost invariant = { λ m. (run_of m.bytes ≡ Ok m.run.spans)
+        × (m.run.shown ≡ filter shows m.run.spans) };
 }
 
 impl ManyPages {

@@ -3,10 +3,10 @@ ghost use Rattle.ps_tokens.specs.Dictionaries.{AreObjects};
 ghost use Rattle.ps_tokens.specs.Limits.{longest_job};
 ghost use Rattle.ps_tokens.specs.Objects.{objects_of};
 ghost use Rattle.ps_tokens.specs.Tokens.{tokens_of};
-ghost use Rattle.job_pages.specs.Passages.{shows};
+ghost use Rattle.job_pages.specs.StatementSpans.{shows};
 ghost use Rattle.job_pages.specs.Runs.{GivesRun, IsRun, count_of, end_fault, run_from, run_of, run_refusal};
 
-use crate::passages::{Passage, PassageList, passages};
+use crate::statement_spans::{StatementSpan, StatementSpanList, statement_spans};
 use lists::list::List;
 use lists::names::OutOfMemory;
 use ps_tokens::faults::{FaultKind, JobFault, JobRefusal};
@@ -15,7 +15,7 @@ use ps_tokens::token::TokenList;
 use ps_tokens::{objects, tokens};
 use std::alloc::Global;
 
-/// How many pages a job may have.
+/// The greatest number of pages of a job.
 pub const MOST_PAGES: usize = 256;
 
 /// Why a job of many pages was not read.
@@ -31,11 +31,12 @@ pub enum RunRefusal {
 /// A job of many pages: its statements, and those of them that end its pages.
 #[derive(Drop)]
 pub struct Run {
-    pub passages: PassageList,
-    pub shown: PassageList,
+    pub spans: StatementSpanList,
+    pub shown: StatementSpanList,
 }
 
-/// How many pages a job has: one for each `showpage`, at most `MOST_PAGES`. It has at most `ps_tokens::LONGEST_JOB` bytes.
+/// The number of pages of a job: one for each `showpage`, at most `MOST_PAGES`. The job has at most
+/// `ps_tokens::LONGEST_JOB` bytes.
 ///
 /// The faults of the whole job's tokens come first, then those of its objects; then `NoShowpage` where there is no page,
 /// `AfterShowpage` at the first object after the last page, and `TooManyPages`.
@@ -49,7 +50,7 @@ pub fn page_count(alloc: Global, bytes: &[u8]) -> Result<u32, RunRefusal>
     }
 }
 
-/// The statements of a job of many pages, with the refusals of `page_count`.
+/// Reads the statements of a job of many pages, with the refusals of `page_count`.
 #[tactic(auto, unfolding(crate::specs::Runs::run_of))]
 pub fn read_run(alloc: Global, bytes: &[u8]) -> Result<Run, RunRefusal>
     requires { length bytes.now ≤ longest_job }
@@ -78,45 +79,45 @@ fn run_of_objects(alloc: Global, len: u32, objects: &ObjectList) -> Result<Run, 
     requires { AreObjects objects.now }
     ensures { IsRun result (run_from len (Ok objects.now)) }
 {
-    let Ok(passages) = passages(alloc, objects) else {
+    let Ok(spans) = statement_spans(alloc, objects) else {
         return Err(RunRefusal::OutOfMemory);
     };
-    let Ok(shown) = shown_among(alloc, passages.as_slice()) else {
+    let Ok(shown) = showpages_among(alloc, spans.as_slice()) else {
         return Err(RunRefusal::OutOfMemory);
     };
     match run_refusal(len, objects, shown.as_slice()) {
         Some(refusal) => Err(refusal),
-        None => Ok(Run { passages, shown }),
+        None => Ok(Run { spans, shown }),
     }
 }
 
 // The statements that end pages.
-fn shown_among(alloc: Global, passages: &[Passage]) -> Result<PassageList, OutOfMemory>
-    ensures { IfOk result (λ found. found ≡ filter shows passages.now) }
+fn showpages_among(alloc: Global, spans: &[StatementSpan]) -> Result<StatementSpanList, OutOfMemory>
+    ensures { IfOk result (λ found. found ≡ filter shows spans.now) }
 {
     let mut found = List::new(alloc);
-    for passage in passages {
-        if passage.shows() && found.push(*passage).is_err() {
+    for span in spans {
+        if span.shows() && found.push(*span).is_err() {
             return Err(OutOfMemory);
         }
     }
     Ok(found)
 }
 
-fn run_refusal(len: u32, objects: &ObjectList, shown: &[Passage]) -> Option<RunRefusal>
+fn run_refusal(len: u32, objects: &ObjectList, shown: &[StatementSpan]) -> Option<RunRefusal>
     ensures { result ≡ run_refusal len objects.now shown.now }
 {
     match end_fault(len, objects, shown.last()) {
         Some(fault) => Some(RunRefusal::Fault(fault)),
         None => match shown.get(MOST_PAGES) {
-            Some(passage) => Some(RunRefusal::TooManyPages(passage.at)),
+            Some(span) => Some(RunRefusal::TooManyPages(span.at)),
             None => None,
         },
     }
 }
 
 // What is wrong at the job's end, after its last page.
-fn end_fault(len: u32, objects: &ObjectList, last: Option<&Passage>) -> Option<JobFault>
+fn end_fault(len: u32, objects: &ObjectList, last: Option<&StatementSpan>) -> Option<JobFault>
     ensures { result ≡ end_fault len objects.now (option_copied last.entry) }
 {
     match last {
@@ -124,7 +125,7 @@ fn end_fault(len: u32, objects: &ObjectList, last: Option<&Passage>) -> Option<J
             kind: FaultKind::NoShowpage,
             at: len,
         }),
-        Some(passage) => match objects.get(passage.place as usize + 1) {
+        Some(span) => match objects.get(span.place as usize + 1) {
             Some(object) => Some(JobFault {
                 kind: FaultKind::AfterShowpage,
                 at: object.at,

@@ -8,15 +8,15 @@ use Rattle.page_model.specs.declared.parts.Ink.{Ink}
 use Rattle.page_model.specs.declared.parts.InkKind.{InkKind}
 use Rattle.page_model.specs.Conditions.{IsInk}
 use Rattle.ps_tokens.specs.declared.faults.FaultKind.TheVariants.{BadDensity}
-use Rattle.ps_tokens.specs.declared.misfits.Misfit.{Misfit}
+use Rattle.ps_tokens.specs.declared.entry_errors.EntryError.{EntryError}
 use Rattle.ps_tokens.specs.declared.object.Body.{Body}
 use Rattle.ps_tokens.specs.declared.object.Body.TheVariants.{Number, Truth, Null, Text, Literal, Operator, Array, Dict}
 use Rattle.ps_tokens.specs.declared.object.Object.{Object}
 use Rattle.ps_tokens.specs.Dictionaries.{last_of, last_keys_of, name_of}
 use Rattle.ps_tokens.specs.Values.{by_body}
 use Rattle.ps_tokens.proofs.Judged.{Reads, value_at-reads, entry_at-reads}
-use Rattle.colorant_details.specs.declared.shades.Shade.{Shade}
-use Rattle.colorant_details.specs.Shades.{density_in_range, density_in, density_of, kind_of, shade_from, shade_in, shade_of}
+use Rattle.colorant_details.specs.declared.ink_details.InkDetails.{InkDetails}
+use Rattle.colorant_details.specs.InkDetails.{density_in_range, density_in, density_of, kind_of, ink_details_from, ink_details_in, ink_details_of}
 use Rattle.colorant_details.specs.Colorants.{ink_if_given, inks_of}
 use Rattle.colorant_details.specs.Details.{details_of}
 use Rattle.colorant_details.proofs.Reaching.{details_of-inks}
@@ -62,38 +62,38 @@ density_of-density : (objects : List Object) (dict : ℕ) → Reads DensityIn (d
 unfolding density_of
 density_of-density objects dict = value_at-reads DensityIn (by_body density_in) objects None (last_of objects dict (codes "NeutralDensity")) (λ place object. density-in object.body) tt
 
--- a shade of such a density, where there is one
-abbrev ShadeIn : Option Shade → Type 0
-ShadeIn None = Unit {0}
-ShadeIn (Some shade) = IsDensity shade.density
+-- details with such a density, where there is one
+abbrev DetailsIn : Option InkDetails → Type 0
+DetailsIn None = Unit {0}
+DetailsIn (Some details) = IsDensity details.density
 
-shade_from-density : (dict at : ℕ) (density : Result (Option ℕ) Misfit) (kind : Result InkKind Misfit) → Reads DensityIn density → Reads ShadeIn (shade_from dict at density kind)
-shade_from-density dict at (Ok (Some n)) (Ok kind) dense o is =
-    let shade : Option Shade = Some (record { density = n; kind = kind }) in
-    let same : shade ≡ o = cc in
-    subst ShadeIn same (dense (Some n) refl)
-shade_from-density dict at (Ok None) (Ok kind) dense o is = absurd (cc)
-shade_from-density dict at (Ok (Some n)) (Err misfit) dense o is = absurd (cc)
-shade_from-density dict at (Ok None) (Err misfit) dense o is = absurd (cc)
-shade_from-density dict at (Err misfit) (Ok kind) dense o is = absurd (cc)
-shade_from-density dict at (Err first) (Err second) dense o is = absurd (cc)
+ink_details_from-density : (dict at : ℕ) (density : Result (Option ℕ) EntryError) (kind : Result InkKind EntryError) → Reads DensityIn density → Reads DetailsIn (ink_details_from dict at density kind)
+ink_details_from-density dict at (Ok (Some n)) (Ok kind) dense o is =
+    let details : Option InkDetails = Some (record { density = n; kind = kind }) in
+    let same : details ≡ o = cc in
+    subst DetailsIn same (dense (Some n) refl)
+ink_details_from-density dict at (Ok None) (Ok kind) dense o is = absurd (cc)
+ink_details_from-density dict at (Ok (Some n)) (Err error) dense o is = absurd (cc)
+ink_details_from-density dict at (Ok None) (Err error) dense o is = absurd (cc)
+ink_details_from-density dict at (Err error) (Ok kind) dense o is = absurd (cc)
+ink_details_from-density dict at (Err first) (Err second) dense o is = absurd (cc)
 
-shade_of-density : (objects : List Object) (key : ℕ) → Reads ShadeIn (shade_of objects key)
-unfolding shade_of
-shade_of-density objects key =
-    entry_at-reads ShadeIn (shade_in objects) objects None key (λ dict at. shade_from-density dict at (density_of objects dict) (kind_of objects dict) (density_of-density objects dict)) tt
+ink_details_of-density : (objects : List Object) (key : ℕ) → Reads DetailsIn (ink_details_of objects key)
+unfolding ink_details_of
+ink_details_of-density objects key =
+    entry_at-reads DetailsIn (ink_details_in objects) objects None key (λ dict at. ink_details_from-density dict at (density_of objects dict) (kind_of objects dict) (density_of-density objects dict)) tt
 
-ink_if_given-inks : (name : List ℕ) (r : Result (Option Shade) Misfit) (rest : List Ink) → ((shade : Shade) → r ≡ Ok (Some shade) → IsDensity shade.density) → All IsInk rest → All IsInk (ink_if_given name r ++ rest)
-ink_if_given-inks name (Err misfit) rest dense others = others
+ink_if_given-inks : (name : List ℕ) (r : Result (Option InkDetails) EntryError) (rest : List Ink) → ((details : InkDetails) → r ≡ Ok (Some details) → IsDensity details.density) → All IsInk rest → All IsInk (ink_if_given name r ++ rest)
+ink_if_given-inks name (Err error) rest dense others = others
 ink_if_given-inks name (Ok None) rest dense others = others
-ink_if_given-inks name (Ok (Some shade)) rest dense others =
-    let is = dense shade refl in
-    All-cons IsInk (record { name = name; density = shade.density; kind = shade.kind }) rest (record { some_density = is.least; most_density = is.most }) others
+ink_if_given-inks name (Ok (Some details)) rest dense others =
+    let is = dense details refl in
+    All-cons IsInk (record { name = name; density = details.density; kind = details.kind }) rest (record { some_density = is.least; most_density = is.most }) others
 
 inks_of-inks : (objects : List Object) (keys : List ℕ) → All IsInk (inks_of objects keys)
 inks_of-inks objects [] = All-nil IsInk
 inks_of-inks objects (key ∷ keys) =
-    ink_if_given-inks (name_of (slice_get objects key)) (shade_of objects key) (inks_of objects keys) (λ shade is. shade_of-density objects key (Some shade) is) (inks_of-inks objects keys)
+    ink_if_given-inks (name_of (slice_get objects key)) (ink_details_of objects key) (inks_of objects keys) (λ details is. ink_details_of-density objects key (Some details) is) (inks_of-inks objects keys)
 
 -- the inks of a value
 pub details_of-ranges : (objects : List Object) (place : ℕ) (inks : List Ink) → details_of objects place ≡ Ok inks → All IsInk inks

@@ -12,7 +12,7 @@ use Rattle.ps_tokens.specs.declared.parameters.Key.{Key}
 use Rattle.ps_tokens.specs.declared.parameters.Key.TheVariants.{Enabled, Trapping}
 use Rattle.ps_tokens.specs.declared.object.Object.{Object}
 use Rattle.ps_tokens.specs.Dictionaries.{last_of}
-use Rattle.ps_tokens.specs.Misfits.{misfit_of}
+use Rattle.ps_tokens.specs.EntryErrors.{error_of}
 use Rattle.ps_tokens.specs.Values.{by_body, value_by, value_at, place_if_some, place_of_value}
 use Rattle.trap_params.specs.Limits.{limits_at}
 use Rattle.ps_tokens.specs.Parameters.{name_of}
@@ -132,15 +132,15 @@ resolution-after : (objects : List Object) (dict now next : ℕ) → resolution_
 unfolding resolution_after
 resolution-after objects dict now next is = value-goes (resolution_in objects) objects 0 now next (last_of objects dict (codes "HWResolution")) is
 
-details-named : (place : ℕ) (r : Result (List Ink) JobFault) (now next : List Ink) → misfit_of (named_details place r) ≡ None → details_or (named_details place r) now ≡ next → next ≡ details_or (named_details place r) []
+details-named : (place : ℕ) (r : Result (List Ink) JobFault) (now next : List Ink) → error_of (named_details place r) ≡ None → details_or (named_details place r) now ≡ next → next ≡ details_or (named_details place r) []
 details-named place (Ok inks) now next fine is = sym is
 details-named place (Err fault) now next fine is = absurd (cc)
 
-details-goes : (objects : List Object) (now next : List Ink) (o : Option ℕ) → misfit_of (details_at objects o) ≡ None → details_or (details_at objects o) now ≡ next → Goes (λ p. details_or (details_at objects p) []) now next o
+details-goes : (objects : List Object) (now next : List Ink) (o : Option ℕ) → error_of (details_at objects o) ≡ None → details_or (details_at objects o) now ≡ next → Goes (λ p. details_or (details_at objects p) []) now next o
 details-goes objects now next None fine is = sym is
 details-goes objects now next (Some place) fine is = details-named place (details_of objects place) now next fine is
 
-details-after : (objects : List Object) (dict : ℕ) (now next : List Ink) → misfit_of (details_in objects dict) ≡ None → details_or (details_in objects dict) now ≡ next → Goes (λ p. details_or (details_at objects p) []) now next (last_of objects dict (codes "TrappingDetails"))
+details-after : (objects : List Object) (dict : ℕ) (now next : List Ink) → error_of (details_in objects dict) ≡ None → details_or (details_in objects dict) now ≡ next → Goes (λ p. details_or (details_at objects p) []) now next (last_of objects dict (codes "TrappingDetails"))
 unfolding details_in
 details-after objects dict now next fine is = details-goes objects now next (last_of objects dict (codes "TrappingDetails")) fine is
 

@@ -11,18 +11,19 @@ use Rattle.page_model.specs.Conditions.{AreLimits}
 use Rattle.ps_tokens.specs.declared.faults.FaultKind.{FaultKind}
 use Rattle.ps_tokens.specs.declared.faults.FaultKind.TheVariants.{NotDictionary}
 use Rattle.ps_tokens.specs.declared.parameters.Key.TheVariants.{StepLimit}
-use Rattle.ps_tokens.specs.declared.misfits.Misfit.{Misfit}
+use Rattle.ps_tokens.specs.declared.entry_errors.EntryError.{EntryError}
 use Rattle.ps_tokens.specs.declared.object.Body.{Body}
 use Rattle.ps_tokens.specs.declared.object.Object.{Object}
 use Rattle.ps_tokens.specs.Dictionaries.{IsBefore, last_of, last_keys_of, name_of}
-use Rattle.ps_tokens.specs.Misfits.{unless}
+use Rattle.ps_tokens.specs.EntryErrors.{unless}
 use Rattle.ps_tokens.specs.Objects.{is_dict}
 use Rattle.ps_tokens.specs.Values.{by_body}
 use Rattle.ps_tokens.proofs.Judged.{Reads, value_at-reads, entry_at-reads}
 use Rattle.trap_params.specs.Settings.{number_of}
-use Rattle.trap_params.specs.Limits.{AscendByName, longest_name, step_given, step_by, step_in, step_of, limit_if_short, limits_of, first_misfit, limits_in, limits_at, limits_after}
+use Rattle.trap_params.specs.Limits.{AscendByName, step_given, step_by, step_in, step_of, limit_if_short, limits_of, first_error, limits_in, limits_at, limits_after}
 use Rattle.trap_params.proofs.Ascending.{limits-ascend}
 use Rattle.job_reader.proofs.ParamRanges.{unless-is, number_of-within}
+use Rattle.page_model.specs.Limits.{longest_name}
 
 -- Steps.
 
@@ -46,8 +47,8 @@ step_of-small objects key =
 
 -- One limit more.
 
-all_kept : (P : Limit → Type 0) (name : List ℕ) (r : Result (Option ℕ) Misfit) (rest : List Limit) → ((n : ℕ) → r ≡ Ok (Some n) → P (record { name = name; step = n })) → All P rest → All P (limit_if_short name r ++ rest)
-all_kept P name (Err misfit) rest first others = others
+all_kept : (P : Limit → Type 0) (name : List ℕ) (r : Result (Option ℕ) EntryError) (rest : List Limit) → ((n : ℕ) → r ≡ Ok (Some n) → P (record { name = name; step = n })) → All P rest → All P (limit_if_short name r ++ rest)
+all_kept P name (Err error) rest first others = others
 all_kept P name (Ok None) rest first others = others
 all_kept P name (Ok (Some n)) rest first others =
     elim (nat_le (length name) longest_name) as (λ b. All P (cond b (record { name = name; step = n } ∷ []) [] ++ rest)) [
@@ -86,10 +87,10 @@ no_limits : AreLimits []
 no_limits = record { once = λ i j d lt within. absurd (omega arith); steps = All-nil (λ (l : Limit). l.step ≤ 10000) }
 
 limits_if : (b : Bool) (objects : List Object) (place at : ℕ) (after : List Limit)
-    → cond b (unless (first_misfit objects (last_keys_of objects place)) (limits_of objects (last_keys_of objects place))) (Err (record { kind = NotDictionary; at = at })) ≡ Ok after → AreLimits after
+    → cond b (unless (first_error objects (last_keys_of objects place)) (limits_of objects (last_keys_of objects place))) (Err (record { kind = NotDictionary; at = at })) ≡ Ok after → AreLimits after
 limits_if true objects place at after is =
     let P : List Limit → Type 0 = λ ls. AreLimits ls in
-    subst P (unless-is (first_misfit objects (last_keys_of objects place)) (limits_of objects (last_keys_of objects place)) after is) (last_keys-limits objects place)
+    subst P (unless-is (first_error objects (last_keys_of objects place)) (limits_of objects (last_keys_of objects place)) after is) (last_keys-limits objects place)
 limits_if false objects place at after is = absurd (cc)
 
 limits_in-limits : (objects : List Object) (place : ℕ) (o : Option Object) (after : List Limit) → limits_in objects place o ≡ Ok after → AreLimits after

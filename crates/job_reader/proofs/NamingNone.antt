@@ -7,13 +7,13 @@ use Rattle.ps_tokens.specs.declared.faults.JobFault.{JobFault}
 use Rattle.ps_tokens.specs.declared.parameters.Key.{Key}
 use Rattle.ps_tokens.specs.declared.parameters.Key.TheVariants.{Enabled, Trapping}
 use Rattle.ps_tokens.specs.declared.faults.FaultKind.TheVariants.{WrongOperands}
-use Rattle.ps_tokens.specs.declared.misfits.Misfit.{Misfit}
+use Rattle.ps_tokens.specs.declared.entry_errors.EntryError.{EntryError}
 use Rattle.ps_tokens.specs.declared.object.Object.{Object}
-use Rattle.ps_tokens.specs.Misfits.{unless}
+use Rattle.ps_tokens.specs.EntryErrors.{unless}
 use Rattle.ps_tokens.specs.Dictionaries.{inside_of, keys_of, keys_from, last_of, last_among}
 use Rattle.ps_tokens.specs.Values.{by_body, value_at}
 use Rattle.std.specs.Result.{result_unwrap_or}
-use Rattle.ps_tokens.specs.Misfits.{misfit_of, earlier}
+use Rattle.ps_tokens.specs.EntryErrors.{error_of, earlier}
 use Rattle.trap_params.specs.Applied.{number_set, enabled_set, params_after, params_set as params_given}
 use Rattle.trap_params.specs.Fields.{number_keys, number_at}
 use Rattle.trap_params.proofs.FieldLemmas.{Agree, each_number, params_by-same, params_by-own}
@@ -66,13 +66,13 @@ All-parts P (x ∷ xs) ys all =
     let rest = All-parts P xs ys (All-tail P x (xs ++ ys) all) in
     (All-cons P x xs (All-head P x (xs ++ ys) all) rest.0, rest.1)
 
--- settings that all are what is now give no misfit
-unset : (set : Key → Result ℕ Misfit) (now : Key → ℕ) (keys : List Key) → All (λ key. set key ≡ Ok (now key)) keys → fold (λ first key. earlier first (misfit_of (set key))) None keys ≡ None
+-- settings that all are what is now give no error
+unset : (set : Key → Result ℕ EntryError) (now : Key → ℕ) (keys : List Key) → All (λ key. set key ≡ Ok (now key)) keys → fold (λ first key. earlier first (error_of (set key))) None keys ≡ None
 unset set now [] all = refl
 unset set now (key ∷ keys) all =
     let Same : Key → Type 0 = λ key. set key ≡ Ok (now key) in
-    let none : misfit_of (set key) ≡ None = ap misfit_of (All-head Same key keys all) in
-    ap (λ first. fold (λ first key. earlier first (misfit_of (set key))) first keys) none ∙ unset set now keys (All-tail Same key keys all)
+    let none : error_of (set key) ≡ None = ap error_of (All-head Same key keys all) in
+    ap (λ first. fold (λ first key. earlier first (error_of (set key))) first keys) none ∙ unset set now keys (All-tail Same key keys all)
 
 params_after-none : (objects : List Object) (dict : ℕ) (now : TrapParams) → NamesNone objects dict (map name_of number_keys) → last_of objects dict (name_of Enabled) ≡ None → params_after now objects dict ≡ Ok now
 params_after-none objects dict now none enabled =
@@ -82,8 +82,8 @@ params_after-none objects dict now none enabled =
     let alike : Agree given (λ key. number_at key now) = λ key is. ap (λ r. result_unwrap_or r (number_at key now)) (each_number Same same key is) in
     let stays : enabled_set now objects dict ≡ Ok now.enabled = boolean-none objects dict Enabled now.enabled enabled in
     let kept : params_given now objects dict ≡ now = params_by-same given (λ key. number_at key now) (result_unwrap_or (enabled_set now objects dict) now.enabled) now.enabled alike (ap (λ r. result_unwrap_or r now.enabled) stays) ∙ params_by-own now in
-    ap (λ m. unless (earlier m (misfit_of (enabled_set now objects dict))) (params_given now objects dict)) (unset (number_set now objects dict) (λ key. number_at key now) number_keys same)
-    ∙ ap (λ r. unless (misfit_of r) (params_given now objects dict)) stays
+    ap (λ m. unless (earlier m (error_of (enabled_set now objects dict))) (params_given now objects dict)) (unset (number_set now objects dict) (λ key. number_at key now) number_keys same)
+    ∙ ap (λ r. unless (error_of r) (params_given now objects dict)) stays
     ∙ ap Ok kept
 
 params-none : (objects : List Object) (dict : ℕ) (now : State) → NamesNone objects dict params_keys → params_set objects dict now ≡ Ok now

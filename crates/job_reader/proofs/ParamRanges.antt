@@ -8,24 +8,24 @@ use Rattle.page_model.specs.declared.parts.TrapParams.{TrapParams}
 use Rattle.page_model.specs.Parameters.{InRange}
 use Rattle.ps_tokens.specs.declared.faults.FaultKind.TheVariants.{OutOfRange}
 use Rattle.ps_tokens.specs.declared.parameters.Key.{Key}
-use Rattle.ps_tokens.specs.declared.misfits.Misfit.{Misfit}
+use Rattle.ps_tokens.specs.declared.entry_errors.EntryError.{EntryError}
 use Rattle.ps_tokens.specs.declared.object.Body.{Body}
 use Rattle.ps_tokens.specs.declared.object.Body.TheVariants.{Number, Truth, Null, Text, Literal, Operator, Array, Dict}
 use Rattle.ps_tokens.specs.declared.object.Object.{Object}
 use Rattle.ps_tokens.specs.Dictionaries.{last_of}
-use Rattle.ps_tokens.specs.Misfits.{unless}
+use Rattle.ps_tokens.specs.EntryErrors.{unless}
 use Rattle.ps_tokens.specs.Parameters.{name_of, least_of, most_of}
 use Rattle.ps_tokens.specs.Values.{by_body, value_at}
 use Rattle.ps_tokens.proofs.Judged.{value_at-reads, unwrap-reads}
 use Rattle.trap_params.specs.Settings.{in_range, number_of, number_after}
-use Rattle.trap_params.specs.Applied.{number_set, enabled_set, params_after, first_misfit_of, params_set}
+use Rattle.trap_params.specs.Applied.{number_set, enabled_set, params_after, first_error_of, params_set}
 use Rattle.trap_params.specs.Fields.{number_at, params_by}
 use Rattle.trap_params.proofs.FieldLemmas.{IsWithin, number_at-by, number_at-within, in_range-from}
 
 -- what is read unless there is a fault is that
-pub unless-is : {X : Type 0} (m : Option Misfit) (x y : X) → unless m x ≡ Ok y → x ≡ y
+pub unless-is : {X : Type 0} (m : Option EntryError) (x y : X) → unless m x ≡ Ok y → x ≡ y
 unless-is None x y is = cc
-unless-is (Some misfit) x y is = absurd (cc)
+unless-is (Some error) x y is = absurd (cc)
 
 passed : (b : Bool) (key : Key) (m n : ℕ) → (nat_le (least_of key) m && nat_le m (most_of key)) ≡ b → cond b (Ok m) (Err (OutOfRange key)) ≡ Ok n → IsWithin key n
 passed true key m n tests is =
@@ -70,4 +70,4 @@ params_set-in_range now objects dict here =
 pub params_after-in_range : (now after : TrapParams) (objects : List Object) (dict : ℕ) → InRange now → params_after now objects dict ≡ Ok after → InRange after
 params_after-in_range now after objects dict here is =
     let P : TrapParams → Type 0 = λ p. InRange p in
-    subst P (unless-is (first_misfit_of now objects dict) (params_set now objects dict) after is) (params_set-in_range now objects dict here)
+    subst P (unless-is (first_error_of now objects dict) (params_set now objects dict) after is) (params_set-in_range now objects dict here)

@@ -11,10 +11,10 @@ use Rattle.ps_tokens.specs.declared.faults.FaultKind.TheVariants.{TooManyVertice
 use Rattle.ps_tokens.specs.declared.faults.JobFault.{JobFault}
 use Rattle.ps_tokens.specs.declared.parameters.Key.{Key}
 use Rattle.ps_tokens.specs.declared.parameters.Key.TheVariants.{Trapping}
-use Rattle.ps_tokens.specs.declared.misfits.Misfit.{Misfit}
+use Rattle.ps_tokens.specs.declared.entry_errors.EntryError.{EntryError}
 use Rattle.ps_tokens.specs.declared.object.Object.{Object}
-use Rattle.ps_tokens.specs.Misfits.{misfit_of, earlier, unless}
-use Rattle.trap_params.specs.Applied.{number_set, enabled_set, first_misfit, first_misfit_of, params_after, params_set as params_given}
+use Rattle.ps_tokens.specs.EntryErrors.{error_of, earlier, unless}
+use Rattle.trap_params.specs.Applied.{number_set, enabled_set, first_error, first_error_of, params_after, params_set as params_given}
 use Rattle.trap_params.specs.Fields.{number_keys, number_at, is_number}
 use Rattle.trap_params.proofs.FieldLemmas.{each_number, number_at-by}
 use Rattle.trap_params.specs.Limits.{limits_after}
@@ -26,33 +26,34 @@ use Rattle.job_reader.specs.declared.state.State.{State}
 use Rattle.job_reader.specs.Device.{details_in, details_or, device_set, resolution_after}
 use Rattle.job_reader.specs.InForce.{is_setpagedevice, is_settrapparams}
 use Rattle.job_reader.specs.Operands.{is_one_dict, two_numbers}
-use Rattle.job_reader.specs.Statements.{most_vertices, most_zones, both_set, path_drawn, fault, params_set, state_after, with_numbers, zone_made, zone_of}
+use Rattle.job_reader.specs.Statements.{both_set, path_drawn, fault, params_set, state_after, with_numbers, zone_made, zone_of}
 use Rattle.job_reader.proofs.ParamRanges.{unless-is}
+use Rattle.page_model.specs.Limits.{most_job_zones, most_vertices_in_all}
 
 -- No fault among several.
 
-unless-none : {X : Type 0} (m : Option Misfit) (x y : X) → unless m x ≡ Ok y → m ≡ None
+unless-none : {X : Type 0} (m : Option EntryError) (x y : X) → unless m x ≡ Ok y → m ≡ None
 unless-none None x y is = refl
-unless-none (Some misfit) x y is = absurd (cc)
+unless-none (Some error) x y is = absurd (cc)
 
-chosen : (b : Bool) (first second : Misfit) → cond b (Some second) (Some first) ≡ None → (Some first ≡ None) × (Some second ≡ None)
+chosen : (b : Bool) (first second : EntryError) → cond b (Some second) (Some first) ≡ None → (Some first ≡ None) × (Some second ≡ None)
 chosen true first second is = absurd (cc)
 chosen false first second is = absurd (cc)
 
-earlier-none : (a b : Option Misfit) → earlier a b ≡ None → (a ≡ None) × (b ≡ None)
+earlier-none : (a b : Option EntryError) → earlier a b ≡ None → (a ≡ None) × (b ≡ None)
 earlier-none None b is = (refl, is)
 earlier-none (Some first) None is = absurd (cc)
 earlier-none (Some first) (Some second) is = chosen (nat_lt second.place first.place) first second is
 
-read : {X : Type 0} (r : Result X Misfit) (d : X) → misfit_of r ≡ None → r ≡ Ok (result_unwrap_or r d)
+read : {X : Type 0} (r : Result X EntryError) (d : X) → error_of r ≡ None → r ≡ Ok (result_unwrap_or r d)
 read (Ok x) d is = refl
-read (Err misfit) d is = absurd (cc)
+read (Err error) d is = absurd (cc)
 
 -- what a `setpagedevice` dictionary sets
 pub record SetsDevice (objects : List Object) (dict : ℕ) (now next : State) : Type 0 where
   pub resolution : resolution_after objects dict now.resolution ≡ Ok next.resolution
   pub trapping : boolean_after objects dict Trapping now.trapping ≡ Ok next.trapping
-  pub fine : misfit_of (details_in objects dict) ≡ None
+  pub fine : error_of (details_in objects dict) ≡ None
   pub details : details_or (details_in objects dict) now.details ≡ next.details
   pub params : next.params ≡ now.params
   pub limits : next.limits ≡ now.limits
@@ -63,10 +64,10 @@ device_set-sets objects dict now next is =
     let trapping = boolean_after objects dict Trapping now.trapping in
     let details = details_in objects dict in
     let set : State = record now { resolution = result_unwrap_or resolution now.resolution; trapping = result_unwrap_or trapping now.trapping; details = details_or details now.details } in
-    let first = earlier (misfit_of resolution) (earlier (misfit_of trapping) (misfit_of details)) in
+    let first = earlier (error_of resolution) (earlier (error_of trapping) (error_of details)) in
     let same : set ≡ next = unless-is first set next is in
-    let none = earlier-none (misfit_of resolution) (earlier (misfit_of trapping) (misfit_of details)) (unless-none first set next is) in
-    let rest = earlier-none (misfit_of trapping) (misfit_of details) none.1 in
+    let none = earlier-none (error_of resolution) (earlier (error_of trapping) (error_of details)) (unless-none first set next is) in
+    let rest = earlier-none (error_of trapping) (error_of details) none.1 in
     subst (λ (s : State). SetsDevice objects dict now s) same (record {
       resolution = read resolution now.resolution none.0;
       trapping = read trapping now.trapping rest.0;
@@ -81,24 +82,24 @@ pub record SetsParams (objects : List Object) (dict : ℕ) (now next : TrapParam
   pub numbers : (key : Key) → is_number key ≡ true → number_set now objects dict key ≡ Ok (number_at key next)
   pub enabled : enabled_set now objects dict ≡ Ok next.enabled
 
--- where none of some keys is the first misfit, none of them has one, nor had what came before
-none_missed : (set : Key → Result ℕ Misfit) (keys : List Key) (before : Option Misfit) → fold (λ first key. earlier first (misfit_of (set key))) before keys ≡ None → (before ≡ None) × All (λ key. misfit_of (set key) ≡ None) keys
-none_missed set [] before none = (none, All-nil (λ key. misfit_of (set key) ≡ None))
+-- where none of some keys is the first error, none of them has one, nor had what came before
+none_missed : (set : Key → Result ℕ EntryError) (keys : List Key) (before : Option EntryError) → fold (λ first key. earlier first (error_of (set key))) before keys ≡ None → (before ≡ None) × All (λ key. error_of (set key) ≡ None) keys
+none_missed set [] before none = (none, All-nil (λ key. error_of (set key) ≡ None))
 none_missed set (key ∷ keys) before none =
-    let rest = none_missed set keys (earlier before (misfit_of (set key))) none in
-    let both = earlier-none before (misfit_of (set key)) rest.0 in
-    (both.0, All-cons (λ key. misfit_of (set key) ≡ None) key keys both.1 rest.1)
+    let rest = none_missed set keys (earlier before (error_of (set key))) none in
+    let both = earlier-none before (error_of (set key)) rest.0 in
+    (both.0, All-cons (λ key. error_of (set key) ≡ None) key keys both.1 rest.1)
 
 params_after-sets : (objects : List Object) (dict : ℕ) (now next : TrapParams) → params_after now objects dict ≡ Ok next → SetsParams objects dict now next
 params_after-sets objects dict now next is =
-    let set : Key → Result ℕ Misfit = number_set now objects dict in
+    let set : Key → Result ℕ EntryError = number_set now objects dict in
     let given : Key → ℕ = λ key. result_unwrap_or (set key) (number_at key now) in
     let enabled = enabled_set now objects dict in
-    let none : first_misfit_of now objects dict ≡ None = unless-none (first_misfit_of now objects dict) (params_given now objects dict) next is in
-    let parts = earlier-none (first_misfit set number_keys) (misfit_of enabled) none in
+    let none : first_error_of now objects dict ≡ None = unless-none (first_error_of now objects dict) (params_given now objects dict) next is in
+    let parts = earlier-none (first_error set number_keys) (error_of enabled) none in
     let each = (none_missed set number_keys None parts.0).1 in
-    subst (λ (p : TrapParams). SetsParams objects dict now p) (unless-is (first_misfit_of now objects dict) (params_given now objects dict) next is) (record {
-      numbers = λ key is. read (set key) (number_at key now) (each_number (λ k. misfit_of (set k) ≡ None) each key is) ∙ ap Ok (sym (number_at-by given (result_unwrap_or enabled now.enabled) key is));
+    subst (λ (p : TrapParams). SetsParams objects dict now p) (unless-is (first_error_of now objects dict) (params_given now objects dict) next is) (record {
+      numbers = λ key is. read (set key) (number_at key now) (each_number (λ k. error_of (set k) ≡ None) each key is) ∙ ap Ok (sym (number_at-by given (result_unwrap_or enabled now.enabled) key is));
       enabled = read enabled now.enabled parts.1;
     })
 
@@ -161,8 +162,8 @@ room_if P false at r gives = gives
 made-left : (P : State → Type 0) (at : ℕ) (now : State) → Whatever P now → Left P (zone_made at now)
 made-left P at now all =
     let made : State = record now { zones = now.zones ++ zone_of now ∷ []; path = nothing_drawn; vertices = now.vertices + length now.path.vertices } in
-    room_if P (nat_le most_zones (length now.zones)) at (cond (nat_lt most_vertices (now.vertices + length now.path.vertices)) (fault TooManyVertices at) (Ok made))
-    (fits_if P (nat_lt most_vertices (now.vertices + length now.path.vertices)) at now made (all nothing_drawn (now.zones ++ zone_of now ∷ []) (now.vertices + length now.path.vertices)))
+    room_if P (nat_le most_job_zones (length now.zones)) at (cond (nat_lt most_vertices_in_all (now.vertices + length now.path.vertices)) (fault TooManyVertices at) (Ok made))
+    (fits_if P (nat_lt most_vertices_in_all (now.vertices + length now.path.vertices)) at now made (all nothing_drawn (now.zones ++ zone_of now ∷ []) (now.vertices + length now.path.vertices)))
 
 pub others-left : (P : State → Type 0) (objects : List Object) (from place at : ℕ) (now : State) → Whatever P now → (o : Operator) → is_setpagedevice o ≡ false → is_settrapparams o ≡ false → Left P (state_after objects from place at o now)
 unfolding state_after

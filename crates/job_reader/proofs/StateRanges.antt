@@ -20,7 +20,7 @@ use Rattle.ps_tokens.specs.declared.faults.JobFault.{JobFault}
 use Rattle.ps_tokens.specs.declared.parameters.Key.TheVariants.{Trapping}
 use Rattle.ps_tokens.specs.declared.object.Object.{Object}
 use Rattle.ps_tokens.specs.Dictionaries.{last_of}
-use Rattle.ps_tokens.specs.Misfits.{misfit_of, earlier}
+use Rattle.ps_tokens.specs.EntryErrors.{error_of, earlier}
 use Rattle.ps_tokens.specs.Values.{value_at}
 use Rattle.ps_tokens.proofs.Judged.{value_at-reads, unwrap-reads}
 use Rattle.trap_params.specs.Applied.{params_after}
@@ -36,10 +36,11 @@ use Rattle.job_reader.specs.declared.state.State.{State}
 use Rattle.job_reader.specs.Device.{is_array, pixels_in, pixels_of, equal_pixels, resolution_in, resolution_after, named_details, details_at, details_in, details_or, device_set}
 use Rattle.job_reader.specs.Operands.{is_one_dict, number_at, two_numbers}
 use Rattle.job_reader.specs.Starts.{nothing_read}
-use Rattle.job_reader.specs.Statements.{most_vertices, most_zones, both_set, path_drawn, fault, state_after, params_set, with_numbers, zone_made, zone_of}
+use Rattle.job_reader.specs.Statements.{both_set, path_drawn, fault, state_after, params_set, with_numbers, zone_made, zone_of}
 use Rattle.job_reader.proofs.ParamRanges.{unless-is, params_after-in_range}
 use Rattle.job_reader.proofs.LimitRanges.{limits_after-limits}
 use Rattle.job_reader.proofs.DetailRanges.{details_of-ranges}
+use Rattle.page_model.specs.Limits.{most_job_zones, most_vertices_in_all}
 
 -- what is in force, each in its range, and the zones so far
 pub record IsState (now : State) : Type 0 where
@@ -128,7 +129,7 @@ device_set-leaves objects dict now here next is =
     let trapping = boolean_after objects dict Trapping now.trapping in
     let details = details_in objects dict in
     let set : State = record now { resolution = result_unwrap_or resolution now.resolution; trapping = result_unwrap_or trapping now.trapping; details = details_or details now.details } in
-    let same : set ≡ next = unless-is (earlier (misfit_of resolution) (earlier (misfit_of trapping) (misfit_of details))) set next is in
+    let same : set ≡ next = unless-is (earlier (error_of resolution) (earlier (error_of trapping) (error_of details))) set next is in
     subst (λ (s : State). IsState s) same (record { params = here.params; limits = here.limits; fine = resolution_after-fine objects dict now.resolution here.fine; details = details_in-inks objects dict now.details here.details; path = here.path; zones = here.zones; few_zones = here.few_zones; counted = here.counted; few_vertices = here.few_vertices })
 
 -- `settrapparams`
@@ -192,7 +193,7 @@ rlineto-draws x y d is = from_pen-draws d.vertices d.pen (λ pen. lined_to d.ver
 zone_of-zone : (now : State) → IsState now → IsZone (zone_of now)
 zone_of-zone now here = record { params = here.params; path = here.path.path; limits = here.limits }
 
-one_more : (now : State) → IsState now → nat_le most_zones (length now.zones) ≡ false → nat_lt most_vertices (now.vertices + length now.path.vertices) ≡ false
+one_more : (now : State) → IsState now → nat_le most_job_zones (length now.zones) ≡ false → nat_lt most_vertices_in_all (now.vertices + length now.path.vertices) ≡ false
     → IsState (record now { zones = now.zones ++ zone_of now ∷ []; path = nothing_drawn; vertices = now.vertices + length now.path.vertices })
 one_more now here room vertices =
     let few : length now.zones < 250 = grind (arith, nat_tests) in
@@ -212,18 +213,18 @@ one_more now here room vertices =
       few_vertices = fit;
     }
 
-fits_if : (b : Bool) (at : ℕ) (now : State) → IsState now → nat_le most_zones (length now.zones) ≡ false → nat_lt most_vertices (now.vertices + length now.path.vertices) ≡ b
+fits_if : (b : Bool) (at : ℕ) (now : State) → IsState now → nat_le most_job_zones (length now.zones) ≡ false → nat_lt most_vertices_in_all (now.vertices + length now.path.vertices) ≡ b
     → Leaves (cond b (fault TooManyVertices at) (Ok (record now { zones = now.zones ++ zone_of now ∷ []; path = nothing_drawn; vertices = now.vertices + length now.path.vertices })))
 fits_if true at now here room vertices = faulty TooManyVertices at
 fits_if false at now here room vertices = leaves _ (one_more now here room vertices)
 
-room_if : (b : Bool) (at : ℕ) (now : State) → IsState now → nat_le most_zones (length now.zones) ≡ b
-    → Leaves (cond b (fault TooManyZones at) (cond (nat_lt most_vertices (now.vertices + length now.path.vertices)) (fault TooManyVertices at) (Ok (record now { zones = now.zones ++ zone_of now ∷ []; path = nothing_drawn; vertices = now.vertices + length now.path.vertices }))))
+room_if : (b : Bool) (at : ℕ) (now : State) → IsState now → nat_le most_job_zones (length now.zones) ≡ b
+    → Leaves (cond b (fault TooManyZones at) (cond (nat_lt most_vertices_in_all (now.vertices + length now.path.vertices)) (fault TooManyVertices at) (Ok (record now { zones = now.zones ++ zone_of now ∷ []; path = nothing_drawn; vertices = now.vertices + length now.path.vertices }))))
 room_if true at now here room = faulty TooManyZones at
-room_if false at now here room = fits_if (nat_lt most_vertices (now.vertices + length now.path.vertices)) at now here room refl
+room_if false at now here room = fits_if (nat_lt most_vertices_in_all (now.vertices + length now.path.vertices)) at now here room refl
 
 zone_made-leaves : (at : ℕ) (now : State) → IsState now → Leaves (zone_made at now)
-zone_made-leaves at now here = room_if (nat_le most_zones (length now.zones)) at now here refl
+zone_made-leaves at now here = room_if (nat_le most_job_zones (length now.zones)) at now here refl
 
 -- each statement
 pub state_after-leaves : (objects : List Object) (from place at : ℕ) (operator : Operator) (now : State) → IsState now → Leaves (state_after objects from place at operator now)

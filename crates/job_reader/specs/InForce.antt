@@ -1,4 +1,4 @@
--- What is in force at a statement, told by the statements that stand before it.
+-- What is in force at a statement, stated by the statements that stand before it.
 use Rattle.std.specs.Prelude.{◌≡◌, ◌++◌, All, map, ℕ, Bool, true, false, List, [], ◌∷◌, Option}
 use Rattle.std.specs.Prelude.{Some, None, Result, Ok, Err, codes, if◌then◌else◌}
 use Rattle.std.specs.List.{filter_map, last_or}

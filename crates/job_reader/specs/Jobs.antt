@@ -29,7 +29,7 @@ statement_then objects s (Some operator) now rest =
     if is_showpage operator then job_shown objects s.from s.place s.call.at now
     else then_job (state_after objects s.from s.place s.call.at operator now) rest
 
--- statements, one after the other; a job of so many bytes has to end with `showpage`
+-- statements, one after the other; the job, of `len` bytes, has to end with `showpage`
 unfoldable pub read_from : List Object → ℕ → State → List Statement → Result Job JobFault
 read_from objects len now [] = fault NoShowpage len
 read_from objects len now (s ∷ ss) =

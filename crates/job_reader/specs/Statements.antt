@@ -27,6 +27,7 @@ use Rattle.job_reader.specs.declared.operators.Operator.TheVariants.{ShowPage}
 use Rattle.job_reader.specs.declared.state.State.{State}
 use Rattle.job_reader.specs.Device.{device_set}
 use Rattle.job_reader.specs.Operands.{is_one_dict, two_numbers}
+use Rattle.page_model.specs.Limits.{most_job_zones, most_vertices_in_all}
 
 -- a fault of that kind at an offset
 abbrev pub fault : {X : Type 0} → FaultKind → ℕ → Result X JobFault
@@ -63,14 +64,6 @@ abbrev pub with_numbers : ℕ → Option (ℤ × ℤ) → (ℤ → ℤ → Resul
 with_numbers at None draw = fault WrongOperands at
 with_numbers at (Some p) draw = draw p.0 p.1
 
--- how many zones a job may make
-abbrev pub most_zones : ℕ
-most_zones = 250
-
--- how many vertices all zones of a job may have together
-abbrev pub most_vertices : ℕ
-most_vertices = 16384
-
 -- the zone that `settrapzone` makes
 abbrev pub zone_of : State → Zone
 zone_of now = record { params = now.params; path = now.path.vertices; limits = now.limits }
@@ -79,8 +72,8 @@ zone_of now = record { params = now.params; path = now.path.vertices; limits = n
 -- is then empty
 abbrev pub zone_made : ℕ → State → Result State JobFault
 zone_made at now =
-    if nat_le most_zones (length now.zones) then fault TooManyZones at
-    else (if nat_lt most_vertices (now.vertices + length now.path.vertices)
+    if nat_le most_job_zones (length now.zones) then fault TooManyZones at
+    else (if nat_lt most_vertices_in_all (now.vertices + length now.path.vertices)
     then fault TooManyVertices at
     else Ok (record now {
       zones = now.zones ++ zone_of now ∷ [];

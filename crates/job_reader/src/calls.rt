@@ -4,14 +4,15 @@ ghost use Rattle.job_reader.specs.Calls.{call_of, is_showpage};
 use crate::operators::{Operator, operator_named};
 use ps_tokens::object::{Body, Object};
 
-/// A word at the top of a job, with its offset: an operator, or none that is known.
+/// A word at the top level of a job, with its offset: `operator` is `None` where the word is no operator of the
+/// language.
 #[derive(Clone, Copy, Debug, Drop, PartialEq, Eq)]
 pub struct Call {
     pub at: u32,
     pub operator: Option<Operator>,
 }
 
-/// The call of an operator at a place, none where another object or none stands there.
+/// The call of the word at a place; `None` where another object stands there, or none.
 pub fn call_at(objects: &[Object], place: usize) -> Option<Call>
     ensures { result ≡ call_of (slice_get objects.now place) }
 {
@@ -27,7 +28,7 @@ pub fn call_at(objects: &[Object], place: usize) -> Option<Call>
     }
 }
 
-/// Whether an operator ends the job.
+/// Whether an operator is `showpage`, which ends the job.
 pub fn is_showpage(operator: Operator) -> bool
     ensures { result ≡ is_showpage operator }
 {

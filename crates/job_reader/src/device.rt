@@ -7,19 +7,24 @@ ghost use Rattle.job_reader.specs.Performing.{Performs};
 use crate::operands::number_at;
 use crate::state::State;
 use colorant_details::inks;
+use page_model::bounds::{MOST_RESOLUTION, SCALE};
 use page_model::parts::{DetailList, OutOfMemory};
+use ps_tokens::entry_errors::{EntryError, at_place, earlier};
 use ps_tokens::faults::{FaultKind, JobFault, JobRefusal};
-use ps_tokens::misfits::{Misfit, earlier, judged_at};
 use ps_tokens::object::{Body, Object, ObjectList};
 use ps_tokens::parameters::Key;
 use ps_tokens::{last, last_value};
 use std::alloc::Global;
 use trap_params::settings::boolean_after;
 
-/// The finest resolution, in pixels per inch.
-const FINEST_RESOLUTION: u64 = 10_000;
+// 1 in ten-thousandths, and the finest resolution in them.
+const ONE: u64 = SCALE as u64;
 
-/// What a `setpagedevice` dictionary at a place sets: those of HWResolution, Trapping and TrappingDetails that it names.
+const FINEST: u64 = MOST_RESOLUTION as u64 * ONE;
+
+/// Applies the dictionary of `setpagedevice` that stands at `dict`: sets those of HWResolution, Trapping and
+/// TrappingDetails that it names (after PLRM3, sections 6.2 and 6.3 for the entries and 8.2 for the operator, in this
+/// project's profile).
 ///
 /// `BadResolution`, `WrongKind` of Trapping and the faults of `inks`, in the order of their keys.
 pub fn set_page_device(
@@ -41,20 +46,20 @@ pub fn set_page_device(
 
 // What is named, set; or the fault that stands first.
 fn set_from(
-    resolution: Result<u32, Misfit>,
-    trapping: Result<bool, Misfit>,
-    details: Result<Option<DetailList>, Misfit>,
+    resolution: Result<u32, EntryError>,
+    trapping: Result<bool, EntryError>,
+    details: Result<Option<DetailList>, EntryError>,
     state: &mut State,
 ) -> Result<(), JobRefusal>
     ensures { Performs result state.new (device_from resolution trapping details state.old) }
 {
-    let (details, misfit) = match details {
+    let (details, error) = match details {
         Ok(details) => (details, None),
-        Err(misfit) => (None, Some(misfit)),
+        Err(error) => (None, Some(error)),
     };
-    let first = earlier(resolution.err(), earlier(trapping.err(), misfit));
-    if let Some(misfit) = first {
-        return Err(JobRefusal::Fault(misfit.fault));
+    let first = earlier(resolution.err(), earlier(trapping.err(), error));
+    if let Some(error) = first {
+        return Err(JobRefusal::Fault(error.fault));
     }
     if let Ok(resolution) = resolution {
         state.resolution = resolution;
@@ -70,14 +75,14 @@ fn set_from(
 
 // The resolution of the last HWResolution entry, or the one now.
 #[tactic(auto, unfolding(crate::specs::Device::resolution_after))]
-fn resolution_after(objects: &ObjectList, dict: u32, now: u32) -> Result<u32, Misfit>
+fn resolution_after(objects: &ObjectList, dict: u32, now: u32) -> Result<u32, EntryError>
     requires { AreObjects objects.now }
     ensures { result ≡ resolution_after objects.now dict now }
 {
     match last_value(objects, dict, b"HWResolution") {
         Some((place, object)) => {
             let resolution = resolution_in(objects.as_slice(), place, object);
-            judged_at(place, object.at, resolution)
+            at_place(place, object.at, resolution)
         }
         None => Ok(now),
     }
@@ -121,8 +126,8 @@ fn pixels_of(number: Option<i64>) -> Option<u32>
                 return None;
             }
             let size = number.unsigned_abs();
-            if size % 10_000 == 0 && size >= 10_000 && size <= 10_000 * FINEST_RESOLUTION {
-                Some((size / 10_000) as u32)
+            if size % ONE == 0 && size >= ONE && size <= FINEST {
+                Some((size / ONE) as u32)
             } else {
                 None
             }
@@ -137,7 +142,7 @@ fn details_in(
     alloc: Global,
     objects: &ObjectList,
     dict: u32,
-) -> Result<Result<Option<DetailList>, Misfit>, OutOfMemory>
+) -> Result<Result<Option<DetailList>, EntryError>, OutOfMemory>
     requires { AreObjects objects.now }
     ensures { IfOk result (λ details. details ≡ details_in objects.now dict) }
 {
@@ -154,12 +159,12 @@ fn details_in(
 fn named_details(
     place: u32,
     found: Result<DetailList, JobFault>,
-) -> Result<Option<DetailList>, Misfit>
+) -> Result<Option<DetailList>, EntryError>
     ensures { result ≡ named_details place found }
 {
     match found {
         Ok(inks) => Ok(Some(inks)),
-        Err(fault) => Err(Misfit { place, fault }),
+        Err(fault) => Err(EntryError { place, fault }),
     }
 }
 

@@ -11,7 +11,7 @@ use ps_tokens::faults::{JobFault, JobRefusal};
 use ps_tokens::object::Object;
 use zone_paths::path::{Path, PathRefusal};
 
-/// A path statement with two numbers.
+/// A path statement with two numbers (PLRM3, section 4.4).
 #[derive(Clone, Copy, Debug, Drop, PartialEq, Eq)]
 pub enum Stroke {
     MoveTo,
@@ -20,7 +20,7 @@ pub enum Stroke {
     RelativeLineTo,
 }
 
-/// `newpath`: the path is empty. It takes no operand.
+/// `newpath`: empties the path. It takes no operand (PLRM3, sections 4.4 and 8.2).
 #[tactic(auto, unfolding(crate::specs::Statements::state_after))]
 pub fn new_path(
     objects: &[Object],
@@ -38,7 +38,8 @@ pub fn new_path(
     Ok(())
 }
 
-/// `closepath`: the subpath is closed, and its first point is the current one. It takes no operand.
+/// `closepath`: closes the subpath; the current point is then its first point. It takes no operand (PLRM3, sections 4.4
+/// and 8.2).
 #[tactic(auto, unfolding(crate::specs::Statements::state_after))]
 pub fn close_path(
     objects: &[Object],
@@ -57,7 +58,10 @@ pub fn close_path(
     Ok(())
 }
 
-/// A stroke with the two numbers that are its operands: to a point, or so far from the current point.
+/// `moveto`, `rmoveto`, `lineto` or `rlineto`, with the two numbers at `from` as its operands (PLRM3, sections 4.4 and
+/// 8.2).
+///
+/// `WrongOperands` where there are not exactly two numbers; then the faults of the path, at the operator's offset `at`.
 pub fn draw(
     objects: &[Object],
     from: u32,
@@ -81,7 +85,7 @@ pub fn draw(
     }
 }
 
-// What a stroke draws on a path.
+// Draws a stroke on a path.
 fn stroke_on(stroke: Stroke, x: i64, y: i64, path: &mut Path) -> Result<(), PathRefusal>
     ensures { Draws result path.old path.new (stroke_on stroke x y path.old) }
 {

@@ -14,13 +14,13 @@ ghost use Rattle.job_reader.specs.Operands.{is_one_dict};
 ghost use Rattle.job_reader.specs.Starts.{nothing_read};
 ghost use Rattle.job_reader.specs.Statements.{state_after};
 
-/// Each job that bytes spell is in range.
+/// Every job that is read from bytes is in range.
 pub fn read_jobs_are_in_range()
     ensures { (bytes : List ℕ) (job : Job) → job_of bytes ≡ Ok job → IsJob job }
 {}
 
-/// However a job's statements are cut in two before its first `showpage`, the later ones go on with what the earlier ones
-/// left in force.
+/// A job's statements before its first `showpage` may be read in two parts: the second part starts with what the first
+/// one left in force, and the answer is the same.
 pub fn statements_go_on()
     ensures { (objects : List Object) (len : ℕ) (earlier later : List Statement) (now next : State)
         → NoneShows earlier → after_all objects now earlier ≡ Ok next
@@ -51,7 +51,7 @@ pub fn trap_params_are_of_the_last_that_names_them()
         → now.limits ≡ limits_in_force objects earlier }
 {}
 
-/// A dictionary that names none of the keys that its operator knows leaves all in force as it was, and an empty one names
+/// A dictionary without any of the keys that its operator knows changes nothing in force; and an empty dictionary has
 /// no key at all.
 pub fn what_names_nothing_changes_nothing()
     ensures page_device { (objects : List Object) (from place at : ℕ) (now : State)

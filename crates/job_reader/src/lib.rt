@@ -1,4 +1,6 @@
-//! The whole job: its statements, what is in force at each of them, its zones, and its first fault.
+//! The whole job: its statements, what is in force at each of them, its zones, and its first fault. Operators and
+//! entries are named after the PostScript Language Reference, third edition (PLRM3 in these comments), in this
+//! project's profile: docs/JOBS.md says which there are.
 #![tactic(auto)]
 
 pub mod calls;

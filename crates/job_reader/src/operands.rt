@@ -5,7 +5,7 @@ ghost use Rattle.job_reader.specs.Performing.{wrong_operands};
 use ps_tokens::faults::{FaultKind, JobFault, JobRefusal};
 use ps_tokens::object::{Body, Object};
 
-/// Whether the operands between two places are one dictionary.
+/// Whether the operands, the objects from `from` up to `place`, are exactly one dictionary.
 pub fn is_one_dict(objects: &[Object], from: u32, place: u32) -> bool
     ensures { result ≡ is_one_dict objects.now from place }
 {
@@ -23,7 +23,8 @@ fn is_dict_between(from: u32, place: u32, object: &Object) -> bool
     object.body.is_dict() && from as u64 + 1 + inside as u64 == place as u64
 }
 
-/// The two numbers that are the operands between two places, none where these are not two numbers.
+/// The two numbers that are the operands, the objects from `from` up to `place`; `None` where these are not exactly two
+/// numbers.
 pub fn two_numbers(objects: &[Object], from: u32, place: u32) -> Option<(i64, i64)>
     requires { from < 2 ^ 31 }
     ensures { result ≡ two_numbers objects.now from place }
@@ -40,7 +41,7 @@ pub fn two_numbers(objects: &[Object], from: u32, place: u32) -> Option<(i64, i6
     }
 }
 
-/// The number at a place, none where another object or none stands there.
+/// The number at a place, in ten-thousandths; `None` where another object stands there, or none.
 pub fn number_at(objects: &[Object], place: usize) -> Option<i64>
     ensures { result ≡ number_at objects.now place }
 {
@@ -53,7 +54,7 @@ pub fn number_at(objects: &[Object], place: usize) -> Option<i64>
     }
 }
 
-/// The refusal of operands that are not exactly the operator's own, at the operator's offset.
+/// The refusal `WrongOperands`, at the offset `at` of the operator.
 pub fn wrong_operands(at: u32) -> JobRefusal
     ensures { result ≡ wrong_operands at }
 {

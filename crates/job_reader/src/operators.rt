@@ -1,7 +1,7 @@
 ghost use Rattle.std.specs.Prelude.{◌≡◌};
 ghost use Rattle.job_reader.specs.Operators.{operator_named};
 
-/// An operator of the job language.
+/// An operator of the job language, named as in PLRM3, section 8.2.
 #[derive(Clone, Copy, Debug, Drop, PartialEq, Eq)]
 pub enum Operator {
     SetPageDevice,
@@ -16,7 +16,7 @@ pub enum Operator {
     ShowPage,
 }
 
-/// The operator of that name, `None` exactly where there is none.
+/// The operator of that name, `None` exactly where there is none of it.
 #[tactic(auto, unfolding(crate::specs::Operators::operator_named))]
 pub fn operator_named(name: &[u8]) -> Option<Operator>
     ensures { result ≡ operator_named name.now }

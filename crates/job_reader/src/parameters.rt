@@ -12,8 +12,8 @@ use ps_tokens::object::ObjectList;
 use std::alloc::Global;
 use trap_params::{apply, zone_limits};
 
-/// What a `settrapparams` dictionary at a place sets: the parameters that it names, and the limits where it names
-/// ColorantZoneDetails.
+/// Applies the dictionary of `settrapparams` that stands at `dict`: sets the trapping parameters that it names, and the
+/// step limits where it names ColorantZoneDetails (after PLRM3, sections 6.3 and 8.2, in this project's profile).
 ///
 /// The faults of `apply` and of `zone_limits`, the one with the lesser offset.
 pub fn set_trap_params(

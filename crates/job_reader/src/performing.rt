@@ -14,7 +14,8 @@ use ps_tokens::faults::JobRefusal;
 use ps_tokens::object::ObjectList;
 use std::alloc::Global;
 
-/// Performs a statement other than `showpage`: its operands stand from one place to another, and its operator at an offset.
+/// Performs a statement other than `showpage`: its operands are the objects from `from` up to `place`, where its
+/// operator stands, and `at` is the operator's offset.
 ///
 /// `WrongOperands` where the operands are not exactly the operator's own; then the operator's own faults.
 #[tactic(auto, unfolding(crate::specs::Statements::state_after))]

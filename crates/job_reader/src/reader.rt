@@ -18,9 +18,9 @@ use ps_tokens::token::TokenList;
 use ps_tokens::{LONGEST_JOB, objects, tokens};
 use std::alloc::Global;
 
-/// The job that bytes spell, in this project's job language.
+/// Reads a whole job, in this project's job language (docs/JOBS.md), which is a profile of PLRM3.
 ///
-/// A fault is the first of the bytes' tokens, then of the objects, then of the statements. A job of more than
+/// The fault is the first of the bytes' tokens, then of the objects, then of the statements. A job of more than
 /// `LONGEST_JOB` bytes is `JobTooLong`, before all of these.
 #[tactic(auto, unfolding(crate::specs::Jobs::job_of))]
 pub fn read_job(alloc: Global, bytes: &[u8]) -> Result<Job, JobRefusal>

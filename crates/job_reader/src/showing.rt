@@ -10,7 +10,8 @@ use ps_tokens::faults::{FaultKind, JobFault, JobRefusal};
 use ps_tokens::object::Object;
 use std::alloc::Global;
 
-/// `showpage` at a place and an offset, with operands from a place on: the job with what is in force.
+/// Ends the job at `showpage`, the object at `place` with the offset `at`: returns the job with what is in force
+/// (PLRM3, section 8.2, in this project's profile). Its operands are the objects from `from` up to `place`.
 ///
 /// `WrongOperands`; then `NoPageDevice` where no resolution was set and a zone was made or zone 0 is enabled; then
 /// `AfterShowpage` where another object follows.

@@ -6,7 +6,7 @@ use page_model::parts::{DetailList, LimitList, TrapParams, ZoneList};
 use std::alloc::Global;
 use zone_paths::path::Path;
 
-/// What is in force at a statement, the zones that were made so far, and how many vertices these have.
+/// What is in force at a statement, the zones that were made so far, and how many vertices these have in all.
 #[derive(Drop)]
 pub struct State {
     pub params: TrapParams,
@@ -19,7 +19,7 @@ pub struct State {
     pub vertices: u32,
 }
 
-/// What is in force before the first statement.
+/// The state before the first statement: the defaults, no zone and an empty path.
 pub fn nothing_read(alloc: Global) -> State
     ensures { result ≡ nothing_read }
 {

@@ -27,7 +27,7 @@ fn inks_text(alloc: Global, inks: &DetailList) -> Result<String, AllocError> {
     Ok(text)
 }
 
-fn told(alloc: Global, bytes: &[u8]) -> Result<String, AllocError>
+fn details_text(alloc: Global, bytes: &[u8]) -> Result<String, AllocError>
     requires { length bytes.now ≤ longest_job }
 {
     let all = match read(alloc, bytes) {
@@ -44,7 +44,7 @@ fn told(alloc: Global, bytes: &[u8]) -> Result<String, AllocError>
 fn expect_all(rt: &impl Abort, alloc: Global, table: &[(&[u8], &str)]) -> Result<(), AllocError> {
     for (bytes, want) in table {
         assert!(rt; bytes.len() <= LONGEST_JOB);
-        let text = told(alloc, bytes)?;
+        let text = details_text(alloc, bytes)?;
         assert_eq!(rt; text.as_str(), *want, "{bytes:?}");
     }
     Ok(())

@@ -33,7 +33,7 @@ fn job_text(alloc: Global, job: &Job) -> Result<String, AllocError> {
     Ok(text)
 }
 
-fn told(alloc: Global, bytes: &[u8]) -> Result<String, AllocError> {
+fn text_of_job(alloc: Global, bytes: &[u8]) -> Result<String, AllocError> {
     match read_job(alloc, bytes) {
         Ok(job) => job_text(alloc, &job),
         Err(JobRefusal::Fault(JobFault { kind, at })) => format!(in alloc; "{kind:?} at {at}"),
@@ -201,14 +201,14 @@ static JOBS: [(&[u8], &str); 60] = [
 
 fn expect_jobs(rt: &impl Abort, alloc: Global, table: &[(&[u8], &str)]) -> Result<(), AllocError> {
     for (bytes, want) in table {
-        let text = told(alloc, bytes)?;
+        let text = text_of_job(alloc, bytes)?;
         assert_eq!(rt; text.as_str(), *want, "{bytes:?}");
     }
     Ok(())
 }
 
-// A text, another one so many times, and a last one.
-fn repeated(
+// A text, another one several times, and a last one.
+fn repeat_text(
     alloc: Global,
     first: &[u8],
     middle: &[u8],
@@ -251,7 +251,7 @@ static LIMITS: [(&[u8], &[u8], u32, &[u8], &str); 6] = [
     ),
 ];
 
-// So many zones, each of a first vertex and so many lines, and what follows them; and their fault.
+// A number of zones, each of a first vertex and a number of lines, and what follows them; and their fault.
 static ZONES: [(u32, u32, &[u8], &str); 5] = [
     (127, 128, b"", "NoShowpage at 181760"),
     (127, 128, b"settrapzone", "NoShowpage at 181771"),
@@ -303,8 +303,8 @@ fn with_one_more(alloc: Global, extra: usize) -> Result<Vec<u8>, AllocError> {
 fn reads_jobs(rt: HostRuntime) -> Result<(), Fail> {
     expect_jobs(&rt, rt.alloc(), &JOBS)?;
     for (first, middle, count, last, want) in &LIMITS {
-        let bytes = repeated(rt.alloc(), first, middle, *count, last)?;
-        let text = told(rt.alloc(), &bytes)?;
+        let bytes = repeat_text(rt.alloc(), first, middle, *count, last)?;
+        let text = text_of_job(rt.alloc(), &bytes)?;
         assert_eq!(rt; text.as_str(), *want);
     }
     Ok(())
@@ -313,15 +313,15 @@ fn reads_jobs(rt: HostRuntime) -> Result<(), Fail> {
 #[test]
 fn counts_the_vertices_of_all_zones(rt: HostRuntime) -> Result<(), Fail> {
     for (lines, zones, last, want) in &ZONES {
-        let zone = repeated(
+        let zone = repeat_text(
             rt.alloc(),
             b"0 0 moveto",
             b" 1 1 lineto",
             *lines,
             b" settrapzone ",
         )?;
-        let bytes = repeated(rt.alloc(), b"", &zone, *zones, last)?;
-        let text = told(rt.alloc(), &bytes)?;
+        let bytes = repeat_text(rt.alloc(), b"", &zone, *zones, last)?;
+        let text = text_of_job(rt.alloc(), &bytes)?;
         assert_eq!(rt; text.as_str(), *want);
     }
     Ok(())
@@ -331,11 +331,11 @@ fn counts_the_vertices_of_all_zones(rt: HostRuntime) -> Result<(), Fail> {
 fn each_statement_has_its_own_fault(rt: HostRuntime) -> Result<(), Fail> {
     for (place, (_, want)) in STATEMENTS.iter().enumerate() {
         let bytes = with_one_more(rt.alloc(), place)?;
-        let text = told(rt.alloc(), &bytes)?;
+        let text = text_of_job(rt.alloc(), &bytes)?;
         assert_eq!(rt; text.as_str(), *want);
     }
     let bytes = with_one_more(rt.alloc(), STATEMENTS.len())?;
-    let text = told(rt.alloc(), &bytes)?;
+    let text = text_of_job(rt.alloc(), &bytes)?;
     assert_eq!(rt;
         text.as_str(),
         "72 0: 10000 false 0; 10000 true 0 10000,20000! 30000,40000 40000,50000! 50000,60000;"

@@ -289,7 +289,7 @@ fn expect_settings(rt: &impl Abort, alloc: Global, table: &[(&[u8], TrapParams)]
     }
 }
 
-fn expect_misfits(rt: &impl Abort, alloc: Global, table: &[(&[u8], FaultKind, u32)]) {
+fn expect_errors(rt: &impl Abort, alloc: Global, table: &[(&[u8], FaultKind, u32)]) {
     for (bytes, kind, at) in table {
         assert!(rt; bytes.len() <= LONGEST_JOB);
         let fault = JobFault {
@@ -306,7 +306,7 @@ fn expect_misfits(rt: &impl Abort, alloc: Global, table: &[(&[u8], FaultKind, u3
 #[test]
 fn applies_parameters(rt: HostRuntime) {
     expect_settings(&rt, rt.alloc(), &SETTINGS);
-    expect_misfits(&rt, rt.alloc(), &MISFITS);
+    expect_errors(&rt, rt.alloc(), &MISFITS);
 }
 
 fn limits_text(alloc: Global, limits: &LimitList) -> Result<String, AllocError> {
@@ -321,7 +321,7 @@ fn limits_text(alloc: Global, limits: &LimitList) -> Result<String, AllocError> 
     Ok(text)
 }
 
-fn limited(alloc: Global, now: &LimitList, bytes: &[u8]) -> Result<String, Fail>
+fn apply_limits(alloc: Global, now: &LimitList, bytes: &[u8]) -> Result<String, Fail>
     requires { length bytes.now ≤ longest_job }
 {
     let all = match read(alloc, bytes) {
@@ -433,7 +433,7 @@ fn expect_limits(
 ) -> Result<(), Fail> {
     for (bytes, want) in table {
         assert!(rt; bytes.len() <= LONGEST_JOB);
-        let text = limited(alloc, before, bytes)?;
+        let text = apply_limits(alloc, before, bytes)?;
         assert_eq!(rt; text.as_str(), *want, "{bytes:?}");
     }
     Ok(())

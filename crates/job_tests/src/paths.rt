@@ -169,7 +169,7 @@ fn refusal_text(alloc: Global, refusal: PathRefusal) -> Result<String, AllocErro
     }
 }
 
-fn drawn(
+fn draw_script(
     rt: &impl Abort,
     alloc: Global,
     script: &[(Step, i64, i64)],
@@ -197,14 +197,14 @@ fn expect_scripts(
     table: &[(&[(Step, i64, i64)], &str)],
 ) -> Result<(), AllocError> {
     for (script, want) in table {
-        let text = drawn(rt, alloc, script)?;
+        let text = draw_script(rt, alloc, script)?;
         assert_eq!(rt; text.as_str(), *want);
     }
     Ok(())
 }
 
 // How many vertices a path has when a line is first refused, and why.
-fn filled(rt: &impl Abort, alloc: Global, first: Step) -> (usize, Result<(), PathRefusal>) {
+fn fill_path(rt: &impl Abort, alloc: Global, first: Step) -> (usize, Result<(), PathRefusal>) {
     let mut path = Path::new(alloc);
     assert_eq!(rt; path.moveto(0, 0), Ok(()));
     for _ in 0..5000u32 {
@@ -221,7 +221,7 @@ fn filled(rt: &impl Abort, alloc: Global, first: Step) -> (usize, Result<(), Pat
 fn draws_paths(rt: HostRuntime) -> Result<(), Fail> {
     expect_scripts(&rt, rt.alloc(), &SCRIPTS)?;
     let full = Err(PathRefusal::Fault(ps_tokens::faults::FaultKind::TooManyVertices));
-    assert_eq!(rt; filled(&rt, rt.alloc(), Step::Move), (4096, full));
-    assert_eq!(rt; filled(&rt, rt.alloc(), Step::Line), (4095, full));
+    assert_eq!(rt; fill_path(&rt, rt.alloc(), Step::Move), (4096, full));
+    assert_eq!(rt; fill_path(&rt, rt.alloc(), Step::Line), (4095, full));
     Ok(())
 }

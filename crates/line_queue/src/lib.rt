@@ -1,4 +1,5 @@
-//! A queue of line numbers that threads share under a rule, and workers that drain it.
+//! A bounded lock-free queue of line numbers that threads share under a rule, with one producer and several consumers,
+//! and workers that drain it.
 #![tactic(auto)]
 
 mod pushing;

@@ -6,8 +6,8 @@ ghost use Rattle.line_queue.specs.Rule.{pass_view, whole, Ascends, Known};
 use crate::rule::{LinePass, LineQueue, push_line};
 use std::sync::Wait;
 
-/// Pushes lines in order, up to the first that finds the queue full, and says how many it pushed. Where these are not all,
-/// the queue was full at one moment of the call.
+/// Pushes lines in order, up to the first that finds the queue full, and returns how many it pushed. If these are not
+/// all, the queue was full at one moment of the call.
 pub fn push_lines<R: Wait>(rt: &R, queue: &LineQueue, pass: &mut LinePass, lines: &[u32]) -> usize
     requires queue { IsPassOf queue.now pass.old }
     requires opening { view pass.old ≡ pass_view whole true [] [] }

@@ -10,8 +10,8 @@ use std::alloc::{AllocError, Global};
 use std::collections::LinkedList;
 use std::sync::Wait;
 
-/// What is known of a pass: how many of the parts it has that all passes share, whether it bears the reader's mark, and the
-/// lines that it pushed and took. No value of it is made; it stands in proofs alone.
+/// What is known of a pass: how many of the parts that all passes share it has, whether it has the reader's mark, and
+/// the lines that it pushed and took. It exists in proofs alone.
 pub struct PassView {
     pub parts: u64,
     pub mark: bool,
@@ -19,8 +19,8 @@ pub struct PassView {
     pub taken: LinkedList<u32>,
 }
 
-/// The rule that holds between any two steps of any passes: the lines in the queue ascend; they and all lines that were taken
-/// are the lines that were pushed, each once; one pass at most bears the mark, and the others have pushed nothing.
+/// The rule that holds between any two steps of any passes: the lines in the queue ascend; they and all lines that were
+/// taken are the lines that were pushed, each once; at most one pass has the mark, and the others have pushed nothing.
 pub struct QueueRule;
 
 impl Protocol<u32, PassView> for QueueRule {
@@ -54,7 +54,7 @@ impl Lesson<u32, PassView> for Taken {
     ghost fact = { Known };
 }
 
-/// That a pop found the queue empty at one moment. Only `pop_line` gives one.
+/// A token that a pop found the queue empty at one moment. Only `pop_line` makes one.
 #[derive(Drop)]
 pub struct FoundNone {
     _looked: (),
@@ -85,10 +85,10 @@ impl Join<PassView> for Cut {
 /// A queue of line numbers under the rule.
 pub type LineQueue = RuledArrayQueue<u32, PassView, QueueRule>;
 
-/// What a thread needs to step on the queue. A thread without one cannot touch it.
+/// What a thread needs to step on the queue. A thread without one can't touch it.
 pub type LinePass = Pass<u32, PassView>;
 
-/// An empty queue with so many places, and its opening pass.
+/// Allocates an empty queue with `places` places, and its first pass.
 pub fn open_queue(alloc: Global, places: usize) -> Result<(LineQueue, LinePass), AllocError>
     requires { 0 < places }
     ensures { IfOk result (λ q. (ruled_capacity q.0 ≡ places) × IsPassOf q.0 q.1
@@ -97,8 +97,8 @@ pub fn open_queue(alloc: Global, places: usize) -> Result<(LineQueue, LinePass),
     LineQueue::ruled(alloc, places)
 }
 
-/// Pushes a line, or finds the queue full and hands the line back. It needs the mark, and the line is above all that were
-/// pushed before.
+/// Pushes a line, or gives it back if the queue is full. The pass has to have the mark, and the line to be above all
+/// that were pushed before.
 pub fn push_line<R: Wait>(
     rt: &R,
     queue: &LineQueue,
@@ -117,7 +117,7 @@ pub fn push_line<R: Wait>(
     queue.push_as::<Pushed, R>(rt, pass, line)
 }
 
-/// Takes a line, or finds none.
+/// Takes the first line out of the queue. The error is a token that the queue was found empty.
 pub fn pop_line<R: Wait>(rt: &R, queue: &LineQueue, pass: &mut LinePass) -> Result<u32, FoundNone>
     requires queue { IsPassOf queue.now pass.old }
     requires part { 0 < (view pass.old).parts }
@@ -133,7 +133,7 @@ pub fn pop_line<R: Wait>(rt: &R, queue: &LineQueue, pass: &mut LinePass) -> Resu
     }
 }
 
-/// A new pass with one part, which has pushed and taken nothing. The mark stays with the old one.
+/// Splits off a pass with one part, which has pushed and taken nothing. The mark stays with the old one.
 pub fn split_pass(queue: &LineQueue, pass: &mut LinePass) -> LinePass
     requires queue { IsPassOf queue.now pass.old }
     requires parts { 1 < (view pass.old).parts }
@@ -157,7 +157,7 @@ pub fn join_passes(queue: &LineQueue, pass: &mut LinePass, other: LinePass)
     queue.absorb::<Cut>(pass, other);
 }
 
-/// What the pass knows of the lines in the queue at one moment of the call.
+/// For proofs: what the pass knows of the lines in the queue at one moment of the call.
 pub fn look(queue: &LineQueue, pass: &mut LinePass)
     requires queue { IsPassOf queue.now pass.old }
     ensures queue { IsPassOf queue.now pass.new × (view pass.new ≡ view pass.old) }

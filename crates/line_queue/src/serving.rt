@@ -18,17 +18,18 @@ pub struct Kept<K: Drop> {
     pub made: K,
 }
 
-/// A worker's room: what it made of the lines that it took, and, where it stopped since the queue had none, that it found so.
+/// A worker's results: what it made of the lines that it took, and, if it stopped because the queue was empty, the
+/// token of that.
 #[derive(Drop)]
 pub struct Room<K: Drop> {
     pub kept: Vec<Kept<K>>,
     pub end: Option<FoundNone>,
 }
 
-/// A room for each worker.
+/// The results of each worker.
 pub type Rooms<K> = Vec<Room<K>>;
 
-/// So many rooms, each with so many places. No worker has been in one.
+/// Allocates the lists of results for `count` workers, each with a capacity of `places` lines. All are empty.
 pub fn rooms_of<K: Drop>(alloc: Global, count: usize, places: usize) -> Result<Rooms<K>, AllocError>
     ensures { IfOk result (λ rooms. (vec_len rooms ≡ count)
         × All (λ room. (places ≤ vec_capacity room.kept) × IsUnused room) rooms.items) }
@@ -41,7 +42,7 @@ pub fn rooms_of<K: Drop>(alloc: Global, count: usize, places: usize) -> Result<R
     Ok(rooms)
 }
 
-// Takes lines until it finds none, or its room is full, and keeps what it makes of each.
+// Takes lines until the queue is empty, or its list is full, and keeps what it makes of each.
 fn serve<R: Wait, K: Drop, W: LineWork<K>>(
     rt: &R,
     queue: &LineQueue,
@@ -78,7 +79,7 @@ fn serve<R: Wait, K: Drop, W: LineWork<K>>(
     (pass, Room { kept, end })
 }
 
-// A worker for each room, on a thread of its own, serves the lines of the queue.
+// A worker for each list, on a thread of its own, takes lines out of the queue.
 fn serve_rooms<R: Threads + Wait + Sync, K: Drop + Send, W: LineWork<K> + Sync>(
     rt: &R,
     queue: &LineQueue,
@@ -129,10 +130,11 @@ fn serve_rooms<R: Threads + Wait + Sync, K: Drop + Send, W: LineWork<K> + Sync>(
     (pass, rooms)
 }
 
-/// Serves the lines that the reader pushed: a worker for each room takes line after line out of the queue, until it finds none
-/// or its room is full. Each room that comes back is full, or has the token of a pop that found the queue empty. What the
-/// workers took and what is left in the queue then is what was pushed, and each result is one that may be made of its line. As
-/// many rooms come back as were given. Where a thread can't be started the caller does its work.
+/// Drains the queue of the lines that the reader pushed: a worker for each list of results takes line after line, until
+/// the queue is empty or its list is full. Each list that comes back is full, or has the token of a pop that found the
+/// queue empty. The lines that the workers took and those that are left in the queue are the ones that were pushed, and
+/// each result is one that may be made of its line. As many lists come back as were given. Where a thread can't be
+/// started the caller does its work.
 pub fn serve_all<R: Threads + Wait + Sync, K: Drop + Send, W: LineWork<K> + Sync>(
     rt: &R,
     queue: &LineQueue,

@@ -1,4 +1,4 @@
-//! The lists that every crate keeps its items in, names among them, and the words on lists that definitions are written in.
+//! The list type that every crate uses, names among the lists, and the words on lists that definitions are written in.
 #![tactic(auto)]
 
 pub mod list;

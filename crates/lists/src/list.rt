@@ -9,7 +9,7 @@ use std::marker::Model;
 
 /// A list of items that keeps its allocator. Contracts see it as the list itself.
 ///
-/// Only `push` takes memory. A `Vec` becomes a list and comes back out of one without a copy.
+/// Only `push` allocates. A `Vec` becomes a list, and a list a `Vec`, without a copy.
 #[derive(Drop)]
 pub struct List<T> {
     pub(crate) items: Vec<T>,
@@ -33,21 +33,21 @@ impl<T> List<T> {
         }
     }
 
-    /// The list of the items of a `Vec`.
+    /// Makes a list of a `Vec`, without a copy.
     pub fn from_vec(items: Vec<T>) -> List<T>
         ensures { result ≡ items.items }
     {
         List { items }
     }
 
-    /// The `Vec` of the list's items.
+    /// Makes a `Vec` of the list, without a copy.
     pub fn into_vec(self) -> Vec<T>
         ensures { result.items ≡ self }
     {
         self.items
     }
 
-    /// How many items there are.
+    /// The number of items.
     pub fn len(&self) -> usize
         ensures { result ≡ length self.now }
     {
@@ -75,7 +75,7 @@ impl<T> List<T> {
         self.items.as_slice().get(place)
     }
 
-    /// Adds the item at the end. Where memory runs out it hands the item back and changes nothing.
+    /// Adds the item at the end. Where memory runs out it gives the item back and changes nothing.
     pub fn push(&mut self, item: T) -> Result<(), T>
         ensures pushed { MatchResult result (λ _. self.new ≡ self.old ++ item ∷ [])
             (λ back. (back ≡ item) × (self.new ≡ self.old)) }
@@ -86,7 +86,7 @@ impl<T> List<T> {
         }
     }
 
-    /// Takes the last item out, or answers `None` exactly where there is none.
+    /// Removes the last item and returns it, or `None` exactly where there is none.
     pub fn pop(&mut self) -> Option<T>
         ensures popped { MatchOption result ((self.old ≡ []) × (self.new ≡ []))
             (λ last. self.old ≡ self.new ++ last ∷ []) }
@@ -94,7 +94,7 @@ impl<T> List<T> {
         self.items.pop()
     }
 
-    /// Puts an item in a place, and hands out the one that stood there.
+    /// Replaces the item at a place, and returns the old one.
     pub fn set(&mut self, place: usize, item: T) -> T
         requires { place < length self.old }
         ensures old { slice_get self.old place ≡ Some result }
@@ -103,7 +103,7 @@ impl<T> List<T> {
         std::mem::replace(&mut self.items[place], item)
     }
 
-    /// The item at a place, to be changed where it stands.
+    /// The item at a place, to be changed in place.
     pub fn item_mut(&mut self, place: usize) -> &mut T
         requires { place < length self.old }
         ensures* changes { sem 𝓛
@@ -124,7 +124,7 @@ impl<T> List<T> {
 }
 
 impl<T: Drop> List<T> {
-    /// Keeps the items that pass the test, in their order. It takes no memory.
+    /// Keeps the items that pass the test, in their order, and drops the others. It allocates nothing.
     pub fn retain<F: FnMut(&T) -> bool>(&mut self, test: F)
         requires { F.IsAlwaysCallable test }
         ensures { IsFiltered (CalledAt F.FnMut) test self.old self.new }

@@ -1,4 +1,4 @@
-//! Memory taken: an item more in a list, and lists of one item over and over.
+//! Allocation: one item more in a list, and vectors of one item repeated.
 
 ghost use Rattle.std.specs.Prelude.{◌≡◌, ◌∷◌, ◌++◌, [], IfOk, OnOk, replicate, vec_len};
 
@@ -16,8 +16,8 @@ pub fn push<T: Drop>(list: &mut List<T>, item: T) -> Result<(), OutOfMemory>
     }
 }
 
-/// So many copies of an item.
-pub fn filled<T: Copy + Drop>(alloc: Global, item: T, count: usize) -> Result<Vec<T>, OutOfMemory>
+/// Allocates a vector of `count` copies of an item.
+pub fn vec_of<T: Copy + Drop>(alloc: Global, item: T, count: usize) -> Result<Vec<T>, OutOfMemory>
     ensures { IfOk result (λ items. vec_len items ≡ count) }
 {
     match vec![in alloc; item; count] {
@@ -26,7 +26,7 @@ pub fn filled<T: Copy + Drop>(alloc: Global, item: T, count: usize) -> Result<Ve
     }
 }
 
-/// So many counts, all 0.
+/// Allocates a vector of `count` counters, all 0.
 pub fn no_counts(alloc: Global, count: usize) -> Result<Vec<u64>, OutOfMemory>
     ensures { IfOk result (λ counts. counts.items ≡ replicate count 0) }
 {

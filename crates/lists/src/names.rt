@@ -4,7 +4,7 @@ ghost use Rattle.std.specs.Str.{bytes_eq};
 use crate::list::List;
 use std::alloc::Global;
 
-/// Out of memory, where that is the only refusal.
+/// The error of a function that can only run out of memory.
 #[derive(Clone, Copy, Debug, Drop, PartialEq, Eq)]
 pub struct OutOfMemory;
 
@@ -14,11 +14,11 @@ pub type Name = List<u8>;
 /// Names, each a list of bytes.
 pub type NameList = List<Name>;
 
-/// Numbers of calls, from 0.
+/// Numbers of calls of a device, counted from 0.
 pub type CallList = List<u64>;
 
-/// A copy of a name or of a text.
-pub fn copied(alloc: Global, bytes: &[u8]) -> Result<Name, OutOfMemory>
+/// Copies a name or a text.
+pub fn copy_name(alloc: Global, bytes: &[u8]) -> Result<Name, OutOfMemory>
     ensures { IfOk result (λ name. name ≡ bytes.now) }
 {
     match Vec::from_slice(alloc, bytes) {

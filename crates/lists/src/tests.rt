@@ -1,5 +1,5 @@
 use crate::list::List;
-use crate::names::{copied, same_name};
+use crate::names::{copy_name, same_name};
 use std::test::Fail;
 
 #[test]
@@ -19,7 +19,7 @@ fn lists_take_memory_by_push_alone(rt: HostRuntime) -> Result<(), Fail> {
 
 #[test]
 fn a_copy_has_the_bytes_of_its_name(rt: HostRuntime) -> Result<(), Fail> {
-    let name = copied(rt.alloc(), b"Cyan").or(Err("memory"))?;
+    let name = copy_name(rt.alloc(), b"Cyan").or(Err("memory"))?;
     assert!(rt; same_name(name.as_slice(), b"Cyan"));
     assert!(rt; !same_name(name.as_slice(), b"Cya"));
     Ok(())

@@ -1,5 +1,5 @@
 -- The samples at risk are those whose least shade is 1.
-use Rattle.std.proofs.Common.{◌≡◌, ℕ, zero, suc, ◌+◌, ◌*◌, ◌/◌, ◌%◌, ◌<◌, ◌≤◌, Bool, true, false, ◌&&◌, ◌||◌, not, nat_eq, min, List, length, slice_index, take, count_by, refl, sym, ap, ◌∙◌, inl, inr, arith, add-one, add-zero, if◌then◌else◌}
+use Rattle.std.proofs.Common.{◌≡◌, ℕ, zero, suc, ◌+◌, ◌*◌, ◌/◌, ◌%◌, ◌<◌, ◌≤◌, Bool, true, false, ◌&&◌, ◌||◌, not, nat_eq, min, List, length, slice_index, take, count_by, refl, sym, ap, ◌∙◌, inl, inr, arith, add-zero, if◌then◌else◌}
 use Rattle.std.proofs.Math.Nat.{div-lt_iff_lt-mul, mod-lt}
 use Rattle.std.proofs.lemmas.Nat.{div-add-mod'}
 use Rattle.std.proofs.lemmas.Bool.{cases_Bool}
@@ -10,9 +10,6 @@ use Rattle.lists.specs.Words.{any_below, count_below}
 use Rattle.plane_shapes.specs.Shapes.{wide, tall}
 use Rattle.misregister.specs.Risk.{all_below, is_bare, can_bare, is_at_risk, risk}
 use Rattle.misregister.specs.Sweep.{at, bit, shade, least_shade}
-
-pub least_next : (planes : List Plane) (r x y n : ℕ) → least_shade planes r x y (n + 1) ≡ min (least_shade planes r x y n) (shade planes r n x y)
-least_next planes r x y n = simp add-one
 
 abbrev grade : Bool → Bool → ℕ
 grade can inked = if can then (if inked then 1 else 2) else 0

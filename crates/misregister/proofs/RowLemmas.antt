@@ -4,10 +4,7 @@ use Rattle.std.proofs.lemmas.Bool.{cases_eq}
 use Rattle.std.proofs.lemmas.List.{get_or-set_same, get_or-set_other}
 use Rattle.std.proofs.lemmas.Nat.{same_from_place}
 use Rattle.lists.specs.Words.{any_below}
-use Rattle.misregister.specs.Sweep.{bared_until, bit, IsRowSoFar, IsRowPut}
-
-pub row_begun : (old : List ℕ) (columns row : ℕ) (value : ℕ → ℕ) → IsRowSoFar old old columns row value 0
-row_begun old columns row value = record { put = λ x l. absurd (omega arith); later = λ x l m. refl; kept = λ x y l ne. refl }
+use Rattle.misregister.specs.Sweep.{bared_until, bit, IsRowSoFar}
 
 pub row_next : (old new next : List ℕ) (columns row : ℕ) (value : ℕ → ℕ) (x v : ℕ) → x < columns → row * columns + x < length new → next ≡ slice_set new (row * columns + x) v → v ≡ value x → IsRowSoFar old new columns row value x → IsRowSoFar old next columns row value (x + 1)
 row_next old new next columns row value x v in_row in_list is same so = rw is (record {
@@ -18,9 +15,6 @@ row_next old new next columns row value x v in_row in_list is same so = rw is (r
   later = λ k l m. get_or-set_other new (row * columns + x) (row * columns + k) v 0 (λ e. absurd (omega (arith, e))) ∙ so.later k (omega arith) m;
   kept = λ k y l ne. get_or-set_other new (row * columns + x) (y * columns + k) v 0 (λ e. ne (same_from_place y k row x columns l in_row e).0) ∙ so.kept k y l ne;
 })
-
-pub row_done : (old new : List ℕ) (columns row : ℕ) (value : ℕ → ℕ) (n : ℕ) → n ≡ columns → IsRowSoFar old new columns row value n → IsRowPut old new columns row value
-row_done old new columns row value n all so = record { put = λ x l. so.put x (omega arith); kept = so.kept }
 
 pub bared_until-next : (test : ℕ → Bool) (r n : ℕ) → bared_until test r (n + 1) ≡ (if test n then n + r + 1 else bared_until test r n)
 bared_until-next test r n = simp add-one

@@ -1,3 +1,4 @@
+pub mod Limits
 pub mod Risk
 pub mod Sides
 pub mod Sweep

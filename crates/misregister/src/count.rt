@@ -1,6 +1,7 @@
 ghost use Rattle.std.specs.Prelude.{◌≡◌, ◌+◌, ◌<◌, ◌≤◌, ◌*◌, ◌==◌, ℕ, count_by, length, slice_index};
 ghost use Rattle.plane_shapes.specs.Shapes.{wide, tall};
 ghost use Rattle.misregister.specs.Risk.{risk};
+ghost use Rattle.misregister.specs.Limits.{most_radius};
 
 use crate::plate::shade_plate;
 use crate::room::RiskBuf;
@@ -8,7 +9,10 @@ use crate::sheet::Sheet;
 use page_model::steps::Steps;
 use std::sync::ledger::Ledger;
 
-/// No plate has ink yet.
+/// Samples that a plate may shift by to each side.
+pub const MOST_RADIUS: u32 = 16;
+
+/// Sets all samples to: no plate has ink.
 fn whiten(shades: &mut [u8])
     ensures { (k : ℕ) → k < length shades.old → slice_index shades.new k ≡ 2 }
 {
@@ -17,15 +21,15 @@ fn whiten(shades: &mut [u8])
     }
 }
 
-/// How many samples some plate has ink on, and all plates can leave bare.
+/// The number of samples that some plate has ink on, and that all plates can leave bare.
 fn at_risk(shades: &[u8]) -> u64
     ensures { result ≡ count_by (λ shade. shade == 1) shades.now }
 {
     shades.iter().filter(|shade| **shade == 1).count() as u64
 }
 
-/// How many samples of the sheet are at risk where each plate shifts by at most `radius` samples to each side. It asks for
-/// each sample of a plate once, whatever the radius is.
+/// The number of samples of the sheet that are at risk if each plate shifts by at most `radius` samples to each side.
+/// It reads each sample of a plate once, whatever the radius is.
 pub fn risk_count<L: Ledger>(
     sheet: &Sheet,
     width: u32,
@@ -38,7 +42,7 @@ pub fn risk_count<L: Ledger>(
     requires width { width ≡ wide sheet.now }
     requires height { height ≡ tall sheet.now }
     requires plates { plates ≡ length sheet.now }
-    requires radius { radius ≤ 16 }
+    requires radius { radius ≤ most_radius }
     requires buffer_width { buf.old.wide ≡ width }
     requires buffer_height { buf.old.tall ≡ height }
     ensures risk { result ≡ risk sheet.now radius }

@@ -5,7 +5,7 @@ ghost use Rattle.misregister.specs.Risk.{risk};
 
 use crate::sheet::Sheet;
 
-/// A press that shifts further puts no fewer samples at risk, and one that does not shift puts none.
+/// The number of samples at risk does not fall as the radius of the shift grows, and is 0 at radius 0.
 pub fn radius_law(sheet: &Sheet)
     ensures grows { (radius : ℕ) → risk sheet.now radius ≤ risk sheet.now (radius + 1) }
     ensures at_rest { risk sheet.now 0 ≡ 0 }

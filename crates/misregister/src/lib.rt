@@ -1,4 +1,4 @@
-//! How many samples of a page misregister could leave bare: plates that shift, each by itself, up to a radius.
+//! How many samples of a page misregister could leave bare: each plate shifts by itself, up to a radius.
 #![tactic(auto)]
 
 mod count;
@@ -8,5 +8,5 @@ mod room;
 mod row;
 pub mod sheet;
 
-pub use count::risk_count;
+pub use count::{MOST_RADIUS, risk_count};
 pub use room::RiskBuf;

@@ -3,6 +3,7 @@
 ghost use Rattle.std.specs.Prelude.{◌≡◌, ◌+◌, ◌-◌, ◌<◌, ◌≤◌, ◌*◌, ℕ, List, min, nat_lt, length, slice_index, if◌then◌else◌};
 ghost use Rattle.plane_shapes.specs.Shapes.{wide, tall};
 ghost use Rattle.misregister.specs.Sweep.{HasRoom, IsRowPut, IsUnderWay, at, shade};
+ghost use Rattle.misregister.specs.Limits.{most_radius};
 
 use crate::room::Room;
 use crate::row::put_near;
@@ -10,7 +11,7 @@ use crate::sheet::Sheet;
 use page_model::steps::Steps;
 use std::sync::ledger::Ledger;
 
-/// No sample of row y is lighter than the plate's row.
+/// Lowers the shades of row y to those of the plate's row, where these are lower.
 fn darken_row(shades: &mut [u8], y: usize, row: &[u8])
     requires place { (y + 1) * length row.now ≤ length shades.old }
     ensures { IsRowPut shades.old shades.new (length row.now) y
@@ -22,7 +23,7 @@ fn darken_row(shades: &mut [u8], y: usize, row: &[u8])
     }
 }
 
-/// The samples of row y that no row bares are not at risk.
+/// Sets those samples of row y to "not at risk" that no row bares.
 fn close_row(shades: &mut [u8], y: u32, until: &[u32])
     requires place { (y + 1) * length until.now ≤ length shades.old }
     ensures { IsRowPut shades.old shades.new (length until.now) y
@@ -35,7 +36,7 @@ fn close_row(shades: &mut [u8], y: u32, until: &[u32])
     }
 }
 
-/// Asks plate c for row y, and notes where it has no ink and which columns the row bares.
+/// Reads row y of plate c, and notes where it has no ink and which columns the row bares.
 fn enter_row<L: Ledger>(
     sheet: &Sheet,
     c: u32,
@@ -46,7 +47,7 @@ fn enter_row<L: Ledger>(
 )
     requires plate { c < length sheet.now }
     requires row { y < tall sheet.now }
-    requires radius { radius ≤ 16 }
+    requires radius { radius ≤ most_radius }
     requires room { HasRoom sheet.now room.old }
     ensures room { HasRoom sheet.now room.new }
     ensures entered { (older : List ℕ) (left : ℕ) → left ≤ y
@@ -66,7 +67,7 @@ fn enter_row<L: Ledger>(
     );
 }
 
-/// Closes row y, all rows near it having been asked.
+/// Finishes row y, after all rows near it were read.
 fn leave_row(sheet: &Sheet, y: u32, room: &mut Room)
     requires row { y < tall sheet.now }
     requires room { HasRoom sheet.now room.old }
@@ -80,7 +81,7 @@ fn leave_row(sheet: &Sheet, y: u32, room: &mut Room)
     close_row(room.shades.as_mut_slice(), y, until);
 }
 
-/// Asks plate c for the first rows.
+/// Reads the first rows of plate c.
 fn enter_rows<L: Ledger>(
     sheet: &Sheet,
     c: u32,
@@ -91,7 +92,7 @@ fn enter_rows<L: Ledger>(
 )
     requires plate { c < length sheet.now }
     requires rows { rows ≤ tall sheet.now }
-    requires radius { radius ≤ 16 }
+    requires radius { radius ≤ most_radius }
     requires room { HasRoom sheet.now room.old }
     ensures room { HasRoom sheet.now room.new }
     ensures entered { (older : List ℕ) → IsUnderWay sheet.now radius c older room.old 0 0
@@ -103,7 +104,7 @@ fn enter_rows<L: Ledger>(
     }
 }
 
-/// Asks plate c for each row that is left, and closes the row that lies `radius` above it.
+/// Reads each other row of plate c, and finishes the row that is `radius` above it.
 fn pass_rows<L: Ledger>(
     sheet: &Sheet,
     c: u32,
@@ -114,7 +115,7 @@ fn pass_rows<L: Ledger>(
 )
     requires plate { c < length sheet.now }
     requires rows { rows ≡ tall sheet.now - radius }
-    requires radius { radius ≤ 16 }
+    requires radius { radius ≤ most_radius }
     requires room { HasRoom sheet.now room.old }
     ensures room { HasRoom sheet.now room.new }
     ensures passed { (older : List ℕ)
@@ -129,7 +130,7 @@ fn pass_rows<L: Ledger>(
     }
 }
 
-/// Closes the last rows, all rows having been asked.
+/// Finishes the last rows, after all rows were read.
 fn leave_rows(sheet: &Sheet, first: u32, height: u32, room: &mut Room)
     requires height { height ≡ tall sheet.now }
     requires room { HasRoom sheet.now room.old }
@@ -144,7 +145,7 @@ fn leave_rows(sheet: &Sheet, first: u32, height: u32, room: &mut Room)
     }
 }
 
-/// No column is bared yet.
+/// Sets all columns to: not bared yet.
 fn begin(until: &mut [u32])
     ensures { (x : ℕ) → x < length until.old → slice_index until.new x ≡ 0 }
 {
@@ -153,7 +154,7 @@ fn begin(until: &mut [u32])
     }
 }
 
-/// Darkens the samples by plate c, each of which is asked for once.
+/// Lowers the shades by plate c, each of whose samples is read once.
 pub(crate) fn shade_plate<L: Ledger>(
     sheet: &Sheet,
     c: u32,
@@ -164,7 +165,7 @@ pub(crate) fn shade_plate<L: Ledger>(
 )
     requires plate { c < length sheet.now }
     requires height { height ≡ tall sheet.now }
-    requires radius { radius ≤ 16 }
+    requires radius { radius ≤ most_radius }
     requires room { HasRoom sheet.now room.old }
     ensures room { HasRoom sheet.now room.new }
     ensures shades { (x y : ℕ) → x < wide sheet.now → y < tall sheet.now

@@ -1,12 +1,12 @@
 ghost use Rattle.std.specs.Prelude.{◌≡◌, ◌*◌, IfOk, vec_len};
 ghost use Rattle.misregister.specs.Sides.{Sides};
 
-use lists::memory::filled;
+use lists::memory::vec_of;
 use page_model::parts::OutOfMemory;
 use std::alloc::Global;
 use std::marker::Model;
 
-/// What the count is worked out in: one row of a plate, how far down each column is bared, and the page's samples.
+/// The buffers of the count: one row of a plate, how far down each column is bared, and the page's samples.
 #[derive(Drop)]
 pub(crate) struct Room {
     /// For each sample of a row 2 where the plate has no ink, else 1.
@@ -17,7 +17,7 @@ pub(crate) struct Room {
     pub(crate) shades: Vec<u8>,
 }
 
-/// The room in which the risk of pages of some size is counted.
+/// The buffers in which the risk of pages of one size is counted.
 #[derive(Drop)]
 pub struct RiskBuf {
     width: u32,
@@ -38,13 +38,14 @@ impl Model for RiskBuf {
 }
 
 impl RiskBuf {
-    /// Room for pages of that many columns and rows: a byte for each sample, and five more for each column.
+    /// Allocates the buffers for pages of `width` columns and `height` rows: a byte for each sample, and five more for
+    /// each column.
     pub fn new(alloc: Global, width: u32, height: u32) -> Result<RiskBuf, OutOfMemory>
         ensures { IfOk result (λ buf. buf ≡ record { wide = width; tall = height }) }
     {
-        let row = filled(alloc, 0u8, width as usize)?;
-        let until = filled(alloc, 0u32, width as usize)?;
-        let shades = filled(alloc, 0u8, width as usize * height as usize)?;
+        let row = vec_of(alloc, 0u8, width as usize)?;
+        let until = vec_of(alloc, 0u32, width as usize)?;
+        let shades = vec_of(alloc, 0u8, width as usize * height as usize)?;
         Ok(RiskBuf {
             width,
             height,

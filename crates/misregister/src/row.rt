@@ -4,11 +4,12 @@ ghost use Rattle.std.specs.Prelude.{◌≡◌, ◌+◌, ◌<◌, ◌≤◌, ◌*
 ghost use Rattle.lists.specs.Words.{any_below};
 ghost use Rattle.misregister.specs.Risk.{is_near};
 ghost use Rattle.misregister.specs.Sweep.{bared_until, is_clear};
+ghost use Rattle.misregister.specs.Limits.{most_radius};
 
-/// The first place that none of the first samples of a row bares.
+/// The first place that none of the first `lead` samples of a row bares.
 fn first_reach(row: &[u8], lead: usize, radius: usize) -> usize
     requires lead { lead ≤ length row.now }
-    requires radius { radius ≤ 16 }
+    requires radius { radius ≤ most_radius }
     ensures { result ≡ bared_until (is_clear row.now) radius lead }
 {
     let mut reach = 0;
@@ -20,7 +21,7 @@ fn first_reach(row: &[u8], lead: usize, radius: usize) -> usize
     reach
 }
 
-/// Puts the value where a sample up to `lead` places ahead bares the place, as far as that sample lies in the row.
+/// Writes the value to each place that a sample up to `lead` places ahead bares, as far as that sample is in the row.
 fn put_ahead(
     row: &[u8],
     radius: usize,
@@ -31,7 +32,7 @@ fn put_ahead(
 ) -> usize
     requires long { length until.old ≡ length row.now }
     requires lead { lead ≤ length row.now }
-    requires radius { radius ≤ 16 }
+    requires radius { radius ≤ most_radius }
     requires first { first ≡ bared_until (is_clear row.now) radius lead }
     ensures reach { result ≡ bared_until (is_clear row.now) radius (length row.now) }
     ensures put { (x : ℕ) → x + lead < length row.now → slice_index until.new x
@@ -50,7 +51,7 @@ fn put_ahead(
     reach
 }
 
-/// Puts the value in the places from `from` on that are before `reach`.
+/// Writes the value to the places `from..reach`.
 fn put_last(reach: usize, from: usize, value: u32, until: &mut [u32])
     ensures put { (x : ℕ) → from ≤ x → x < length until.old → slice_index until.new x
         ≡ (if nat_lt x reach then value else slice_index until.old x) }
@@ -61,10 +62,10 @@ fn put_last(reach: usize, from: usize, value: u32, until: &mut [u32])
     }
 }
 
-/// Puts the value in each place of a row that some sample without ink is near.
+/// Writes the value to each place of a row that has a sample without ink within the radius.
 pub(crate) fn put_near(row: &[u8], radius: usize, value: u32, until: &mut [u32])
     requires long { length until.old ≡ length row.now }
-    requires radius { radius ≤ 16 }
+    requires radius { radius ≤ most_radius }
     ensures { (x : ℕ) → x < length row.now → slice_index until.new x
         ≡ (if any_below
         (λ j. is_near radius x j && is_clear row.now j) (length row.now)

@@ -1,5 +1,5 @@
 ghost use Rattle.std.specs.Prelude.{◌≡◌, ◌+◌, ◌<◌, ◌≤◌, ◌*◌, ℕ, length, slice_range, slice_index};
-ghost use Rattle.page_model.specs.Limits.{most_side};
+ghost use Rattle.page_model.specs.Limits.{most_plates, most_side};
 ghost use Rattle.page_model.specs.Planes.{tints_of};
 ghost use Rattle.plane_shapes.specs.Shapes.{AreOneShape, wide, tall};
 ghost use Rattle.misregister.specs.Risk.{is_bare};
@@ -10,7 +10,7 @@ use page_model::steps::Steps;
 use std::marker::Model;
 use std::sync::ledger::Ledger;
 
-/// Planes of one shape, of which it is asked sample by sample where a plate is bare.
+/// Planes of one shape, which can be asked for each sample whether a plate is bare there.
 #[derive(Drop)]
 pub struct Sheet<'a> {
     planes: &'a PlaneList,
@@ -50,7 +50,7 @@ impl<'a> Sheet<'a> {
         plane.tints.as_slice()[y as usize * plane.width as usize + x as usize] == 0
     }
 
-    /// Notes for each sample of a row of plate c 2 where it has no ink, else 1. It takes a step for each of them.
+    /// Writes for each sample of a row of plate c 2 where it has no ink, else 1. It takes a step for each of them.
     pub(crate) fn bare_row<L: Ledger>(&self, c: u32, y: u32, row: &mut [u8], steps: &mut Steps<L>)
         requires plate { c < length self.now }
         requires row { y < tall self.now }
@@ -65,18 +65,18 @@ impl<'a> Sheet<'a> {
         }
     }
 
-    /// How many rows there are.
+    /// The number of rows.
     pub(crate) fn height(&self) -> u32
         ensures height { result ≡ tall self.now }
         ensures low { result ≤ most_side }
         ensures wide { 1 ≤ wide self.now }
         ensures narrow { wide self.now ≤ most_side }
-        ensures few { length self.now ≤ 16 }
+        ensures few { length self.now ≤ most_plates }
     {
         self.planes.as_slice()[0].height
     }
 
-    /// The tints of plate c in a row, with a step for each of them: no other call of the crate hands tints out.
+    /// The tints of plate c in a row, with a step for each of them: no other call of the crate returns tints.
     fn row<L: Ledger>(&self, c: u32, y: u32, steps: &mut Steps<L>) -> &[u16]
         requires plate { c < length self.now }
         requires row { y < tall self.now }

@@ -20,8 +20,8 @@ fn black_at(page: &Page, params: &TrapParams, p: At, c: u32) -> bool
             <= u64::from(tint) * u64::from(SCALE)
 }
 
-/// Whether the sample has an ink that counts as black by these parameters: one as dense as BlackDensityLimit, with a tint
-/// above 0 of at least BlackColorLimit.
+/// Whether the sample has an ink that counts as black by these parameters: its density is at least BlackDensityLimit,
+/// and its tint is above 0 and at least BlackColorLimit.
 pub fn is_black(page: &Page, params: &TrapParams, p: At) -> bool
     requires { InPage page.now p }
     ensures { result ≡ black_sample page.now params.now p }

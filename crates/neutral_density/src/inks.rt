@@ -6,7 +6,8 @@ ghost use Rattle.page_model.specs.Limits.{most_ink_density};
 use page_model::page::Page;
 use page_model::parts::At;
 
-/// What a unit of tint of plate c adds to the density: its ink's density in ten-thousandths where it counts, else 0.
+/// The density that a unit of tint of plate c adds: its ink's neutral density in ten-thousandths, or 0 where the ink
+/// does not count.
 pub fn weight_of(page: &Page, c: u32) -> u32
     requires { c < plates page.now }
     ensures value { result ≡ weight page.now c }
@@ -16,7 +17,7 @@ pub fn weight_of(page: &Page, c: u32) -> u32
     if ink.kind.counts() { ink.density } else { 0 }
 }
 
-/// The place of a sample in the list of each plane.
+/// The index of a sample in the list of each plane.
 fn place_of(page: &Page, p: At) -> usize
     requires { InPage page.now p }
     ensures { result ≡ place page.now p }
@@ -24,7 +25,7 @@ fn place_of(page: &Page, p: At) -> usize
     p.y as usize * page.width() as usize + p.x as usize
 }
 
-/// The tint of plate c at p, whose place is known.
+/// The tint of plate c at p; `spot` is the index of p.
 #[tactic(auto, using(page_model::proofs::PageLemmas::place_held, page_model::proofs::PageLemmas::tint_at_most))]
 fn tint_at(page: &Page, c: u32, p: At, spot: usize) -> u16
     requires plate { c < plates page.now }
@@ -37,7 +38,8 @@ fn tint_at(page: &Page, c: u32, p: At, spot: usize) -> u16
     tints[spot]
 }
 
-/// The neutral density of a sample: its tints, each by its ink's density in ten-thousandths, over the inks that count.
+/// The neutral density of a sample: the sum over the inks that count of tint times density, the density in
+/// ten-thousandths.
 pub fn density(page: &Page, p: At) -> u64
     requires { InPage page.now p }
     ensures value { result ≡ density page.now p }
@@ -51,7 +53,7 @@ pub fn density(page: &Page, p: At) -> u64
     total
 }
 
-/// The neutral densities of two samples, summed together.
+/// The neutral densities of two samples, as `density` gives them, in one pass over the plates.
 pub fn densities(page: &Page, p: At, q: At) -> (u64, u64)
     requires p { InPage page.now p }
     requires q { InPage page.now q }

@@ -1,4 +1,4 @@
-//! The neutral density of samples, and the tests of the trapping rule that rest on tints and densities alone.
+//! The neutral density of samples, and the tests of the trapping rule that depend on tints and densities alone.
 #![tactic(auto)]
 
 mod black;

@@ -4,7 +4,8 @@ ghost use Rattle.page_model.specs.Within.{slid};
 use page_model::bounds::SCALE;
 use page_model::parts::TrapParams;
 
-/// Whether an edge between these densities is slid: the lesser one is at least SlidingTrapLimit of the greater one.
+/// Whether a trap between sides of these densities lies on both sides of the edge: the lesser density is at least
+/// SlidingTrapLimit of the greater one.
 pub fn slid(params: &TrapParams, low: u64, high: u64) -> bool
     ensures { result ≡ slid params.now low high }
 {

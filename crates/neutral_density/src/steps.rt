@@ -7,7 +7,7 @@ use page_model::bounds::SCALE;
 use page_model::page::Page;
 use page_model::parts::At;
 
-/// Whether plate c counts, and falls from p to q by at least its limit in the zone.
+/// Whether plate c's ink counts, and its tint falls from p to q by at least its limit in the zone.
 fn falls_at(page: &Page, zone: u32, p: At, q: At, c: u32) -> bool
     requires zone { zone < length page.now.zones }
     requires plate { c < plates page.now }
@@ -37,8 +37,8 @@ fn some_falls(page: &Page, zone: u32, p: At, q: At) -> bool
     any
 }
 
-/// Whether two samples are apart by the step limits of the zone: an ink that counts falls from p to q, and one falls from
-/// q to p, each by at least its limit.
+/// Whether a gap would show between two samples by the step limits of the zone: the tint of one ink that counts falls
+/// from p to q, and that of another falls from q to p, each by at least its limit.
 pub fn steps_apart(page: &Page, zone: u32, p: At, q: At) -> bool
     requires zone { zone < length page.now.zones }
     requires p { InPage page.now p }

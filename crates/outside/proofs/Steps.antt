@@ -1,5 +1,5 @@
 -- One call of a rack or a tray after another.
-use Rattle.std.proofs.Common.{◌≡◌, ℕ, ◌≤◌, ◌+◌, min, List, [], ◌++◌, ◌∷◌, take, length, Result, Ok, Err, IsTrue, arith, inl, inr, refl, sym, ap, ◌∙◌, subst}
+use Rattle.std.proofs.Common.{◌≡◌, ℕ, ◌≤◌, ◌+◌, min, List, [], ◌++◌, ◌∷◌, take, length, Result, Ok, Err, IsTrue, arith, inl, inr, sym, ap, ◌∙◌, subst}
 use Rattle.std.proofs.Math.Seq.{take-length, take-append-add}
 use Rattle.std.proofs.lemmas.Bool.{cases_lt}
 use Rattle.std.proofs.lemmas.List.{take-append-le, take_min, length-take-le}
@@ -11,7 +11,7 @@ use Rattle.std.proofs.Common.{append_assoc}
 use Rattle.outside.specs.Tray.{TrayState, KeepsTray, Reads}
 use Rattle.outside.specs.Reading.{Takes}
 use Rattle.outside.specs.Writing.{Grows, WritesOn, FillsFile, WritesFile}
-use Rattle.outside.proofs.Files.{grows_kept, grows_put, grows_then, grows_none}
+use Rattle.outside.proofs.Files.{grows_kept, grows_put, grows_then}
 
 pub kept_then : (a b c : RackState) → KeepsRack a b → KeepsRack b c → KeepsRack a c
 kept_then a b c one two = record { tells = two.tells ∙ one.tells; faults = omega arith }
@@ -44,10 +44,6 @@ told_on a b keeps tells = keeps.tells ∙ tells
 -- A file that is finished after calls that finish none.
 pub finished_after : (name : List ℕ) (a b c : RackState) → KeepsRack a b → b.finished ≡ a.finished → FinishesFile name b c → FinishesFile name a c
 finished_after name a b c keeps same finished tells = subst (λ o. Asks o c.finished (name ∷ [])) same (finished (told_on a b keeps tells))
-
--- .. and before calls that finish none
-pub finished_before : (name : List ℕ) (a b c : RackState) → c.finished ≡ b.finished → FinishesFile name a b → FinishesFile name a c
-finished_before name a b c same finished tells = subst (λ o. Asks a.finished o (name ∷ [])) (sym same) (finished tells)
 
 -- The file that was created last is the one that is finished.
 finished_named : (name : List ℕ) (a b c : RackState) → (IsTrue a.tells → b.current ≡ name) → FinishesFile b.current a c → FinishesFile name a c
@@ -174,21 +170,6 @@ writes_stopped p q a b e d one = record {
   well = tt;
   cause = one.cause;
   once = one.once;
-}
-
-pub writes_none : {E : Type 0} (a : RackState) → WritesOn {T = Unit {0}} {E = E} [] a a (Ok tt)
-writes_none a = record {
-  keeps = record { tells = refl; faults = omega arith };
-  asked = refl;
-  finished = refl;
-  told = λ tells. refl;
-  is_open = refl;
-  current = λ tells. refl;
-  files = λ tells. grows_none [] a;
-  part = tt;
-  well = refl;
-  cause = tt;
-  once = tt;
 }
 
 pub writes_as : {T E : Type 0} (p q : List ℕ) → p ≡ q → (a b : RackState) (r : Result T E) → WritesOn p a b r → WritesOn q a b r

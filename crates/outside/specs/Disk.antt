@@ -1,4 +1,4 @@
--- What the devices of a real disk mean: nothing is told of what they hold.
+-- What the devices of a real disk mean: nothing is known of what they hold.
 use Rattle.std.specs.Prelude.{ℕ, Bool, false, [], None}
 use Rattle.outside.specs.Tray.{TrayState}
 use Rattle.outside.specs.Rack.{RackState}

@@ -22,6 +22,6 @@ endless_tray_of e =
       faults = 0;
     }
 
--- the next bytes, so many
+-- the next `count` bytes
 abbrev pub next_bytes : EndlessState → ℕ → List ℕ
 next_bytes e count = take count (drop e.taken e.head ++ replicate count e.tail)

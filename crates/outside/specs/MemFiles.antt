@@ -24,7 +24,7 @@ abbrev pub bytes_at : List MemFile → Option ℕ → Option (List ℕ)
 bytes_at files None = None
 bytes_at files (Some place) = Some (file_at files place).bytes
 
--- what is left of the file at that place, of which so many bytes were taken
+-- what is left of the file at that place, of which `taken` bytes were read
 abbrev pub left_at : List MemFile → Option ℕ → ℕ → List ℕ
 left_at files None taken = []
 left_at files (Some place) taken = drop taken (file_at files place).bytes
@@ -34,12 +34,12 @@ abbrev pub is_at : Option ℕ → ℕ → Bool
 is_at None taken = false
 is_at (Some fails_at) taken = fails_at == taken
 
--- whether a read of the file at that place, of which so many bytes were taken, has to fail
+-- whether a read of the file at that place, of which `taken` bytes were read, has to fail
 abbrev pub fails_at : List MemFile → Option ℕ → ℕ → Bool
 fails_at files None taken = false
 fails_at files (Some place) taken = is_at (file_at files place).fails_at taken
 
--- where a read has to end, in a file of that length of which so many bytes were taken
+-- where a read has to end, in a file of length `len` of which `taken` bytes were read
 abbrev pub end_before : Option ℕ → ℕ → ℕ → ℕ
 end_before None len taken = len
 end_before (Some stop) len taken = if nat_lt taken stop && nat_lt stop len then stop else len

@@ -2,7 +2,7 @@
 use Rattle.std.specs.Prelude.{◌≡◌, ℕ, ◌≤◌, IsTrue, List, ◌++◌, length, take, drop, Some}
 use Rattle.outside.specs.Tray.{TrayState, KeepsTray}
 
--- The first bytes of the file of that name were taken: all of them, or so many where it has more.
+-- The first bytes of the file of that name were taken: all of them, or `most` where it has more.
 pub record TakesPrefix (name : List ℕ) (most : ℕ) (before after : TrayState)
     (bytes : List ℕ) : Type 0 where
   pub all : List ℕ
@@ -10,13 +10,13 @@ pub record TakesPrefix (name : List ℕ) (most : ℕ) (before after : TrayState)
   pub taken : bytes ≡ take most all
   pub left : after.left ≡ drop most all
 
--- A prefix of these bytes was taken, of at most so many, and the rest is left.
+-- A prefix of these bytes was taken, of at most `most` bytes, and the rest is left.
 pub record TakesAtMost (most : ℕ) (bytes : List ℕ) (after : TrayState) : Type 0 where
   pub prefix : List ℕ
   pub taken : bytes ≡ prefix ++ after.left
   pub few : length prefix ≤ most
 
--- A prefix of the file of that name was taken, of at most so many bytes.
+-- A prefix of the file of that name was taken, of at most `most` bytes.
 abbrev pub TakesFew : List ℕ → ℕ → TrayState → TrayState → Type 0
 TakesFew name most before after =
     (all : List ℕ) × (before.file name ≡ Some all) × TakesAtMost most all after

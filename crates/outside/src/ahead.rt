@@ -3,13 +3,13 @@ ghost use Rattle.std.specs.Prelude.{◌≡◌, ◌<◌, ◌≤◌, IfOk, length}
 use std::io;
 use std::io::{ErrorKind, Read};
 
-// How often a read that is interrupted is made again.
+// How often an interrupted read is tried again.
 const TRIES: u32 = 1_000_000;
 
-// So many bytes are read at once where fewer are asked for.
+// The number of bytes that are read at once where fewer are asked for.
 const PIECE: usize = 4096;
 
-// What was read of a file and not given yet: the bytes from `start` to `end`.
+// A read-ahead buffer: the bytes from `start` to `end` were read of a file and not given yet.
 #[derive(Drop)]
 pub(crate) struct Ahead {
     bytes: [u8; PIECE],
@@ -27,7 +27,7 @@ impl Ahead {
         }
     }
 
-    // Lets go what was not given.
+    // Drops the bytes that were not given.
     pub(crate) fn forget(&mut self)
         ensures start { self.new.start ≡ 0 }
         ensures end { self.new.end ≡ 0 }
@@ -54,7 +54,7 @@ impl Ahead {
     }
 }
 
-// Reads, and goes on where that is interrupted.
+// Reads, and tries again where the read is interrupted.
 pub(crate) fn read_once<F: Read>(file: &mut F, buf: &mut [u8]) -> io::Result<usize>
     ensures within { IfOk result (λ n. n ≤ length buf.new) }
     ensures same { length buf.new ≡ length buf.old }

@@ -9,7 +9,7 @@ use std::path::Path;
 use std::rt::Files;
 use std::{fs, io};
 
-// How often a call that is interrupted is made again, how many links are followed, and how many names are tried.
+// How often an interrupted call is tried again, how many links are followed, and how many names are tried.
 const TRIES: u32 = 1_000_000;
 
 const MOST_LINKS: u32 = 40;
@@ -19,25 +19,25 @@ const MOST_NAMES: u32 = 10_000;
 // The longest path that the system takes.
 const LONGEST: usize = 4096;
 
-// A longer name is not repeated in the name beside it, so that that one is none that a disk refuses.
+// A longer name is not repeated in the name beside it: that one might be too long for the file system.
 const LONG_NAME: usize = 200;
 
-// The rights to read, to write and to run: all but those by which a program takes its owner's or its group's.
+// The rights to read, to write and to run, without set-user-ID, set-group-ID and the sticky bit.
 const PLAIN_RIGHTS: u32 = 0o777;
 
-// A path, for which no memory is wanted.
+// A path in a buffer of fixed size, so that it allocates nothing.
 type PathText = ArrayString<LONGEST>;
 
-// What a name means, where its links are followed.
+// Where a name leads, after its links are followed.
 enum Place {
     Disk(PathText),
-    // What this process has open: standard output, or another file, as /dev/fd/3.
+    // A file that this process has open: standard output, or another one, as /dev/fd/3.
     StandardOutput,
     Open,
 }
 
-// A file that is written. Until it is whole it stands beside its place, under a name of its own; where it is let go
-// before it is finished it is removed. What is no regular file is written in place, and standard output where it stands.
+// A file that is written. Until it is whole it stands beside its place, under a name of its own, and is removed if it
+// is dropped before it is finished. What is no regular file is written in place, as standard output is.
 pub(crate) struct DiskFile<'a, R: Files + Alloc + Print> {
     files: &'a R,
     file: R::File,
@@ -46,7 +46,7 @@ pub(crate) struct DiskFile<'a, R: Files + Alloc + Print> {
     is_broken: bool,
 }
 
-// Where a file is written, and the name that it takes when it is whole.
+// The temporary file that is written, and the name that it takes when it is whole.
 #[derive(Clone, Copy)]
 struct Beside {
     written: PathText,
@@ -69,17 +69,17 @@ impl<R: Files + Alloc + Print> Drop for DiskFile<'_, R> {
 }
 
 impl<'a, R: Files + Alloc + Print> DiskFile<'a, R> {
-    // Begins an empty file for that name. What stands there is left as it is, and has to be such that it may be
-    // written; a link is followed.
+    // Begins an empty file for that name. A file that stands there is left as it is, and has to be writable; a link is
+    // followed.
     pub(crate) fn create(files: &'a R, name: &str) -> io::Result<DiskFile<'a, R>> {
         match place_of(files, name)? {
             Place::Disk(place) => create_at(files, place),
-            Place::StandardOutput => Ok(in_place(files, opened_at_end(files, name)?, true)),
-            Place::Open => Ok(in_place(files, opened_at_end(files, name)?, false)),
+            Place::StandardOutput => Ok(in_place(files, open_at_end(files, name)?, true)),
+            Place::Open => Ok(in_place(files, open_at_end(files, name)?, false)),
         }
     }
 
-    // Writes a prefix of the piece, and gives its length, which is 0 for an empty piece alone.
+    // Writes a prefix of the piece, and returns its length, which is 0 only for an empty piece.
     pub(crate) fn write(&mut self, piece: &[u8]) -> io::Result<usize>
         ensures within { IfOk result (λ n. n ≤ length piece.now) }
         ensures some { IfOk result (λ n. 0 < length piece.now → 0 < n) }
@@ -100,7 +100,7 @@ impl<'a, R: Files + Alloc + Print> DiskFile<'a, R> {
         Err(io::Error::from(ErrorKind::WriteZero))
     }
 
-    // Writes the file through to the disk, and gives it its name. A file of which a call failed is never whole.
+    // Writes the file through to the disk, and renames it to its place. It fails if any call of this file failed.
     pub(crate) fn finish(&mut self) -> io::Result<()> {
         if self.is_broken {
             return Err(io::Error::from(ErrorKind::WriteZero));
@@ -115,7 +115,7 @@ impl<'a, R: Files + Alloc + Print> DiskFile<'a, R> {
     }
 }
 
-// A file that is written where it stands.
+// A file that is written in place.
 fn in_place<R: Files + Alloc + Print>(
     files: &R,
     file: R::File,
@@ -130,12 +130,12 @@ fn in_place<R: Files + Alloc + Print>(
     }
 }
 
-// What another has open may be a file with something in it, which stays.
-fn opened_at_end<R: Files>(files: &R, name: &str) -> io::Result<R::File> {
+// A file that is open already may have something in it, which stays: bytes are appended.
+fn open_at_end<R: Files>(files: &R, name: &str) -> io::Result<R::File> {
     OpenOptions::new().append(true).open(files, name)
 }
 
-// Begins a file at its place, which what stands there has to allow.
+// Begins a file at its place, if what stands there may be written.
 fn create_at<R: Files + Alloc + Print>(files: &R, place: PathText) -> io::Result<DiskFile<'_, R>> {
     match OpenOptions::new().write(true).open(files, place.as_str()) {
         Ok(old) => {
@@ -151,7 +151,7 @@ fn create_at<R: Files + Alloc + Print>(files: &R, place: PathText) -> io::Result
     }
 }
 
-// What the name means. Memory is wanted for a link alone.
+// Finds where the name leads. It allocates only for a link.
 fn place_of<R: Files + Alloc>(files: &R, name: &str) -> io::Result<Place> {
     let mut place = path_text(name)?;
     for _ in 0..MOST_LINKS {
@@ -190,7 +190,7 @@ fn path_text(text: &str) -> io::Result<PathText> {
     }
 }
 
-// Begins a file beside its place, under the first name that nothing has.
+// Begins a file beside its place, under the first name that is free.
 fn begin_beside<R: Files + Alloc + Print>(
     files: &R,
     name: PathText,
@@ -223,8 +223,8 @@ fn begin_beside<R: Files + Alloc + Print>(
     Err(io::Error::from(ErrorKind::AlreadyExists))
 }
 
-// Gives the file beside its place the owner, the group and the rights of the one that it replaces. Where the owner may not be
-// given, at least the group is, if that may be, and no more than plain rights are.
+// Gives the temporary file the owner, the group and the rights of the file that it replaces. Where the owner may not be
+// set, the group is, if that may be, and only plain rights.
 fn keep_rights<R: Files>(
     files: &R,
     file: &R::File,
@@ -241,7 +241,7 @@ fn keep_rights<R: Files>(
     file.set_permissions(Permissions::from_mode(mode))
 }
 
-// The name of that number beside a file, in its folder.
+// The name of the temporary file of that number, in the same folder.
 fn name_beside(name: &str, number: u32) -> io::Result<PathText> {
     let path = Path::new(name);
     let Some(last) = path.file_name() else {
@@ -271,7 +271,7 @@ fn name_beside(name: &str, number: u32) -> io::Result<PathText> {
     Ok(text)
 }
 
-// What cannot be written through, as a pipe, is passed over.
+// A file that cannot be synced, as a pipe, is no error.
 fn write_through<F: OpenFile>(file: &F) -> io::Result<()> {
     for _ in 0..TRIES {
         match file.sync_data() {

@@ -10,10 +10,11 @@ use std::io::Write;
 use std::marker::Model;
 use std::rt::Files;
 
-/// The files of a disk, and standard output. It tells nothing of what they hold.
+/// The files of a disk, and standard output. Contracts know nothing of their bytes.
 ///
-/// A file takes its name when it is finished, by which it is whole and written through to the disk: until then, and where
-/// a call fails, what stood there stands, and what was begun is removed when the rack goes on or is let go.
+/// A file takes its name when it is finished: then it is whole and written through to the disk. Until then, and where a
+/// call fails, the old file of that name stays. What was begun is removed when the rack begins another file or is
+/// dropped.
 #[derive(Drop)]
 pub struct DiskRack<'a, R: Files + Alloc + Print> {
     files: &'a R,
@@ -31,7 +32,7 @@ impl<'a, R: Files + Alloc + Print> Model for DiskRack<'a, R> {
 }
 
 impl<'a, R: Files + Alloc + Print> DiskRack<'a, R> {
-    /// A rack over the files of the system and its standard output, with no file in hand.
+    /// A rack over the files of the system and its standard output. No file is open.
     pub fn new(files: &'a R) -> DiskRack<'a, R>
         ensures { result ≡ fresh_disk }
     {

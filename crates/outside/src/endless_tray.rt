@@ -5,7 +5,8 @@ use crate::tray::{Failed, Tray};
 use lists::names::Name;
 use std::marker::Model;
 
-/// Files that give the bytes of the head, and then the tail byte without end. It tells no bytes and never fails.
+/// A tray for tests: each file is the bytes of `head`, and then the byte `tail` without end. No call fails, and
+/// contracts know nothing of the bytes.
 #[derive(Drop)]
 pub struct EndlessTray {
     head: Name,

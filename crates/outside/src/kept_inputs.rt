@@ -4,10 +4,10 @@ use std::io::{ErrorKind, Seek};
 use std::rt::Files;
 use std::{fs, io};
 
-// What the system answers where a process may open no more files.
+// The system's error code where a process may open no more files (EMFILE).
 const TOO_MANY_OPEN: i32 = 24;
 
-// A file that is read. Where it has a name it is kept by that one when another is begun.
+// A file that is read. Where it has a name it is kept under it when another file is begun.
 #[derive(Drop)]
 pub(crate) struct Input<F: Drop, A: Allocator> {
     name: Option<String<A>>,
@@ -15,7 +15,7 @@ pub(crate) struct Input<F: Drop, A: Allocator> {
     pub(crate) is_regular: bool,
 }
 
-// Files that were begun before, under the names that they were opened by.
+// Open files that were begun before, by the names that they were opened with.
 #[derive(Drop)]
 pub(crate) struct KeptInputs<F: Drop, A: Allocator> {
     inputs: Vec<Input<F, A>, A>,
@@ -23,7 +23,7 @@ pub(crate) struct KeptInputs<F: Drop, A: Allocator> {
 }
 
 impl<F: Drop, A: Allocator> KeptInputs<F, A> {
-    // Keeps none yet, and at most so many.
+    // Keeps no file yet, and later at most `most`.
     pub(crate) fn new(alloc: A, most: usize) -> KeptInputs<F, A> {
         KeptInputs {
             inputs: Vec::new(alloc),
@@ -31,14 +31,14 @@ impl<F: Drop, A: Allocator> KeptInputs<F, A> {
         }
     }
 
-    // Keeps a file that has a name. Where there is no room it is closed.
+    // Keeps a file that has a name. Where there are `most` already, or memory runs out, it is closed.
     pub(crate) fn keep(&mut self, input: Input<F, A>) {
         if input.name.is_some() && self.inputs.len() < self.most {
             let _closed = self.inputs.push(input);
         }
     }
 
-    // Gives back the file that was opened by that name.
+    // Takes out the file that was opened by that name.
     fn take(&mut self, name: &str) -> Option<Input<F, A>> {
         for place in 0..self.inputs.len() {
             if self.inputs[place].is_named(name) {
@@ -58,7 +58,7 @@ impl<F: Drop, A: Allocator> Input<F, A> {
     }
 }
 
-// Begins the file of that name: the one that is kept by it, from its first byte on, or else the one that stands there now.
+// Begins the file of that name: the one that is kept under it, from its first byte on, or else the one on the disk now.
 pub(crate) fn begin_input<R: Files + Alloc>(
     files: &R,
     kept: &mut KeptInputs<R::File, R::A>,
@@ -69,18 +69,18 @@ pub(crate) fn begin_input<R: Files + Alloc>(
         return Ok(input);
     }
     match fs::open(files, name) {
-        Ok(file) => Ok(opened(files, kept.most, name, file)),
+        Ok(file) => Ok(input_of(files, kept.most, name, file)),
         Err(error) if error.raw_os_error() == Some(TOO_MANY_OPEN) && !kept.inputs.is_empty() => {
             kept.inputs.clear();
-            Ok(opened(files, 0, name, fs::open(files, name)?))
+            Ok(input_of(files, 0, name, fs::open(files, name)?))
         }
         Err(error) => Err(error),
     }
 }
 
-// A file that was opened. It is to be kept but for lack of memory. One that cannot be begun again, as a pipe, is kept too, so that
-// beginning it again fails and does not wait for another writer.
-fn opened<R: Files + Alloc>(
+// A file that was just opened. It will be kept unless memory runs out. One that cannot be begun again, as a pipe, is
+// kept too, so that beginning it again fails and does not wait for another writer.
+fn input_of<R: Files + Alloc>(
     files: &R,
     most: usize,
     name: &str,

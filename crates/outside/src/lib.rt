@@ -1,4 +1,4 @@
-//! Files and text of the world outside, by two traits, and what stands for them in memory and on a disk.
+//! Files and standard output, by two traits, `Tray` and `Rack`, each of them for a disk and for tests in memory.
 #![tactic(auto)]
 
 mod ahead;

@@ -7,7 +7,8 @@ use lists::list::List;
 use lists::names::Name;
 use std::alloc::Global;
 
-// Adds a name to earlier ones, and says whether they are still told: for lack of memory they no longer are.
+// Adds a name to the list of names, and returns whether the list still tells of all calls: it does not once memory ran
+// out.
 pub(crate) fn note(alloc: Global, names: &mut List<Name>, is_told: bool, name: &[u8]) -> bool
     ensures { let before = cond is_told (Some names.old) None in
         let after = cond result (Some names.new) None in
@@ -20,7 +21,7 @@ pub(crate) fn note(alloc: Global, names: &mut List<Name>, is_told: bool, name: &
     }
 }
 
-// Counts a call, and says whether it is to fail.
+// Counts a call, and returns whether it is to fail.
 pub(crate) fn is_failing(calls: &mut u64, fails: &[u64]) -> bool
     ensures answer { result ≡ is_listed fails.now calls.old }
     ensures counted { calls.new ≡ one_more calls.old }
@@ -30,7 +31,7 @@ pub(crate) fn is_failing(calls: &mut u64, fails: &[u64]) -> bool
     fails.iter().any(|call| *call == number)
 }
 
-// Counts a fault.
+// Counts a failed call.
 pub(crate) fn fault(faults: &mut u64) -> Failed
     ensures counted { faults.new ≡ one_more faults.old }
     ensures rose { Rose faults.old faults.new }

@@ -1,8 +1,7 @@
 use lists::list::List;
 use lists::names::Name;
 
-/// A file of a tray in memory. Where it has a `fails_at`, no read passes that many bytes, and a read that would begin
-/// there fails.
+/// A file of a tray in memory. With `fails_at`, no read passes that offset, and a read that would begin there fails.
 #[derive(Drop)]
 pub struct MemFile {
     pub name: Name,

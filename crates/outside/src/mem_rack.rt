@@ -11,8 +11,8 @@ use lists::names::{CallList, Name};
 use std::alloc::Global;
 use std::marker::Model;
 
-/// Files and text in memory. Each write takes at most `grain` bytes, and all together at most `room`; calls fail as
-/// they are told to.
+/// A rack in memory, for tests. Each write takes at most `grain` bytes, all writes together at most `room` bytes, and
+/// chosen calls fail.
 #[derive(Drop)]
 pub struct MemRack {
     alloc: Global,
@@ -59,8 +59,8 @@ impl Model for MemRack {
 impl MemRack {
     ghost use Rattle.outside.specs.MemRacks.{fresh_rack, rack_of};
 
-    /// A rack with no file and no text. A call fails where its number, from 0 over `create`, `write`, `finish` and
-    /// `tell`, is in `fails`, where a piece that is not empty meets no room, or for lack of memory.
+    /// A rack with no file, and nothing printed. A call fails where its number, from 0 over `create`, `write`, `finish`
+    /// and `tell`, is in `fails`, where a piece that is not empty meets no room, or where memory runs out.
     pub fn new(alloc: Global, grain: usize, room: u64, fails: CallList) -> MemRack
         requires { 0 < grain }
         ensures { result ≡ fresh_rack grain room fails }
@@ -83,7 +83,7 @@ impl MemRack {
         }
     }
 
-    /// The text that was told.
+    /// The text that was printed.
     pub fn told(&self) -> &[u8]
         ensures { result.now ≡ self.now.told }
     {

@@ -11,7 +11,7 @@ use lists::names::{CallList, Name};
 use std::alloc::Global;
 use std::marker::Model;
 
-/// Files in memory, of which each read gives at most `grain` bytes, and of which calls fail as they are told to.
+/// A tray in memory, for tests. Each read gives at most `grain` bytes, and chosen calls fail.
 #[derive(Drop)]
 pub struct MemTray {
     alloc: Global,
@@ -85,7 +85,7 @@ fn is_named(file: &MemFile, name: &str) -> bool
     file.name.as_slice() == name.as_bytes()
 }
 
-// Gives bytes from that place on, at most so many.
+// Copies bytes from that place on into the buffer, at most `most`, and returns how many.
 fn give(bytes: &[u8], at: usize, most: usize, buf: &mut [u8]) -> usize
     ensures count { result ≡ min (min most (length buf.old)) (length bytes.now - at) }
     ensures given { take result buf.new ≡ take result (drop at bytes.now) }
@@ -106,7 +106,7 @@ fn is_stop(fails_at: Option<u64>, taken: usize) -> bool
     }
 }
 
-// Where a read has to end, in a file of that length of which so many bytes were taken.
+// The offset up to which a read may go, in a file of which `taken` bytes were read.
 fn end_of_read(fails_at: Option<u64>, len: usize, taken: usize) -> usize
     ensures { result ≡ end_before fails_at len taken }
 {
@@ -122,7 +122,7 @@ fn end_of_read(fails_at: Option<u64>, len: usize, taken: usize) -> usize
     }
 }
 
-// Reads on in a file of which so many bytes were taken.
+// Reads on in a file of which `taken` bytes were read.
 fn read_on(file: &MemFile, taken: usize, grain: usize, buf: &mut [u8]) -> usize
     requires { taken ≤ length file.now.bytes }
     ensures count { let end = end_before file.now.fails_at (length file.now.bytes) taken in

@@ -9,10 +9,10 @@ use lists::names::Name;
 use std::alloc::Global;
 use thiserror::Error;
 
-/// Why a file is not read whole.
+/// Why a file could not be read whole.
 #[derive(Clone, Copy, Debug, Drop, Error)]
 pub enum ReadRefusal {
-    /// The tray has a fault.
+    /// A call of the tray failed.
     #[error("the file could not be read")]
     ReadFault,
     #[error("out of memory")]
@@ -21,7 +21,7 @@ pub enum ReadRefusal {
 
 const PIECE: usize = 4096;
 
-/// Reads the file of that name to its end, or until `most` bytes are taken: at most so many are, whatever the answer.
+/// Reads the file of that name to its end. At most `most` bytes are read, whatever the answer.
 pub fn read_file<T: Tray>(
     alloc: Global,
     tray: &mut T,
@@ -51,7 +51,7 @@ pub fn read_file<T: Tray>(
     }
 }
 
-// Reads on in the file that is begun.
+// Reads the rest of the open file.
 fn read_on<T: Tray>(alloc: Global, tray: &mut T, most: usize) -> Result<Vec<u8>, ReadRefusal>
     requires { IsTrue (T.state tray.old).begun }
     ensures keeps { KeepsTray (T.state tray.old) (T.state tray.new) }

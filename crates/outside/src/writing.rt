@@ -4,7 +4,7 @@ ghost use Rattle.outside.specs.Writing.{WritesFile, WritesOn, FillsFile};
 use crate::rack::Rack;
 use crate::tray::Failed;
 
-/// Writes a whole file of that name.
+/// Writes a whole file of that name: creates it, writes all bytes and finishes it.
 pub fn write_file<R: Rack>(rack: &mut R, name: &str, bytes: &[u8]) -> Result<(), Failed>
     ensures { WritesFile name.now bytes.now (R.state rack.old) (R.state rack.new) result }
 {
@@ -25,7 +25,7 @@ fn fill<R: Rack>(rack: &mut R, bytes: &[u8]) -> Result<(), Failed>
     }
 }
 
-/// Writes a piece at the end of the open file.
+/// Writes a whole piece at the end of the open file.
 pub fn write_on<R: Rack>(rack: &mut R, piece: &[u8]) -> Result<(), Failed>
     requires { IsTrue (R.state rack.old).is_open }
     ensures { WritesOn piece.now (R.state rack.old) (R.state rack.new) result }

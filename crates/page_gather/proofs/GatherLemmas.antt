@@ -79,7 +79,7 @@ job_refused source a b refusal reads = record {
 take_two : (x : List ℕ) (n : ℕ) (names : List (List ℕ)) → take (n + 2) (x ∷ names) ≡ x ∷ take (n + 1) names
 take_two x n names = let same : n + 2 ≡ suc (n + 1) = omega arith in ap (λ (m : ℕ). take m (x ∷ names)) same
 
--- A refusal of making a page is want of details or a fault of the page.
+-- A refusal of making a page is a plate without details or a fault of the page.
 abbrev pub NoneOther : Result PageParts Refusal → Type 0
 NoneOther (Ok page) = Unit {0}
 NoneOther (Err (NoDetails plate)) = Unit {0}

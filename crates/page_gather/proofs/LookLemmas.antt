@@ -1,11 +1,11 @@
 -- Files that are looked into one after another.
-use Rattle.std.proofs.Common.{◌≡◌, ℕ, ◌<◌, ◌+◌, List, [], ◌∷◌, ◌++◌, length, take, map, get_or, All, Option, Ok, Err, IsTrue, inl, inr, refl, sym, ap, ◌∙◌, subst, arith, length-append, below_more}
-use Rattle.std.proofs.lemmas.List.{get_or_append_left, get_or-map, length-map, take_all, take_more}
+use Rattle.std.proofs.Common.{◌≡◌, ℕ, ◌<◌, ◌+◌, List, [], ◌∷◌, ◌++◌, length, take, map, get_or, All, Option, Ok, Err, IsTrue, inl, inr, sym, ap, ◌∙◌, subst, arith, length-append, below_more}
+use Rattle.std.proofs.lemmas.List.{get_or_append_left, get_or-map, length-map, take_more}
 use Rattle.std.proofs.lemmas.List.Elements.{All-append, All-cons}
 use Rattle.std.proofs.Math.Seq.{get_or-append_seam}
 use Rattle.outside.specs.Causes.{Asks, AsksPrefix}
 use Rattle.outside.specs.Tray.{TrayState, KeepsTray}
-use Rattle.outside.proofs.Names.{asks_none, asks_then, asks_prefix}
+use Rattle.outside.proofs.Names.{asks_then, asks_prefix}
 use Rattle.outside.proofs.Steps.{kept_tray, rose_before}
 use Rattle.page_gather.specs.Inputs.{Holds, AreFound, name_at}
 use Rattle.page_gather.specs.Looks.{AnswersLooks, FileInHand, HasTaken, HoldsOne, LooksAt, LooksThrough, Refuses, Sought, Takes}
@@ -71,26 +71,6 @@ module _ {V E : Type 0} (sought : Sought V E) where
       pub fine : All sought.fine values
       pub calm : b.faults ≡ a.faults
       pub found : IsTrue a.tells → AreFound sought.gives sought.none a.file names k values
-
-    pub none_so_far : (a : TrayState) → SoFar 0 a a []
-    none_so_far a = record {
-      keeps = record { tells = refl; file = refl; faults = omega arith };
-      in_hand = inl (refl, refl);
-      asked = asks_none a.asked;
-      count = refl;
-      fine = λ k d within. absurd (omega arith);
-      calm = refl;
-      found = λ tells. record { all = refl; each = λ k within. absurd (omega arith) };
-    }
-
-    pub all_found : (k : ℕ) (a b : TrayState) (values : List V) → k ≡ length names → SoFar k a b values → LooksThrough sought names a b (Ok values)
-    all_found k a b values every so_far =
-        let done : SoFar (length names) a b values = subst (λ (n : ℕ). SoFar n a b values) every so_far in
-        record {
-          keeps = done.keeps;
-          in_hand = done.in_hand;
-          answer = (subst (λ (l : List (List ℕ)). Asks a.asked b.asked l) (take_all (length names) names (omega arith)) done.asked, done.count, done.fine, done.calm, done.found);
-        }
 
   -- one more of these inputs is looked into
   module _ {X : Type 0} (text : X → List ℕ) (inputs : List X) (k : ℕ) (d : X) (a b c : TrayState) (values : List V) (here : k < length inputs) (so_far : SoFar (map text inputs) k a b values) where

@@ -18,6 +18,7 @@ use Rattle.pgm_plates.specs.Planes.{plane_of}
 use Rattle.pgm_plates.specs.Plates.{IsPlate}
 use Rattle.refusals.specs.declared.refusal.Refusal.{Refusal}
 use Rattle.refusals.specs.declared.refusal.Refusal.TheVariants.{NoDetails, Page}
+use Rattle.page_model.specs.Limits.{most_plates, scale}
 
 -- the details of a colorant's name, if the job has any
 abbrev pub detail_of : List Ink → List ℕ → Option Ink
@@ -25,7 +26,7 @@ detail_of details name = find (λ (ink : Ink). bytes_eq ink.name name) details
 
 -- a colorant without details: it is used only where no zone is enabled
 abbrev pub plain_ink : List ℕ → Ink
-plain_ink name = record { name = name; density = 10000; kind = Normal }
+plain_ink name = record { name = name; density = scale; kind = Normal }
 
 -- the details, or the plain ink where there are none
 abbrev pub ink_or : Option Ink → Ink → Ink
@@ -86,13 +87,13 @@ assembly job plates names = assembly_of_planes job (map plane_of plates) names
 -- as many names as planes, and each plane in range
 pub record CanAssemblePlanes (planes : List Plane) (names : List (List ℕ)) : Type 0 where
   pub some : 1 ≤ length planes
-  pub few : length planes ≤ 16
+  pub few : length planes ≤ most_plates
   pub named : length names ≡ length planes
   pub in_range : All IsPlane planes
 
 -- as many names as plates, and each plate in range
 pub record CanAssemble (plates : List Plate) (names : List (List ℕ)) : Type 0 where
   pub some : 1 ≤ length plates
-  pub few : length plates ≤ 16
+  pub few : length plates ≤ most_plates
   pub named : length names ≡ length plates
   pub in_range : All IsPlate plates

@@ -40,7 +40,7 @@ files_to source (Plate plate fault) = take (plate + 2) (read_files source)
 files_to source (Read (Some plate)) = take (plate + 2) (read_files source)
 files_to source other = read_files source
 
--- What the answer says of the files' bytes, where they are told, and of the names that were
+-- What the answer says of the files' bytes, where they are known, and of the names that were
 -- handed out.
 abbrev pub AnswersPage : Sources → TrayState → TrayState → Result PageParts Refusal → Type 0
 AnswersPage source before after (Ok page) = (plates page ≡ length source.inputs)

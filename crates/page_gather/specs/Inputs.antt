@@ -27,13 +27,13 @@ abbrev pub read_files : Sources → List (List ℕ)
 read_files source = source.job ∷ source.inputs
 
 -- what the bytes of a job give, and what those of a plate's file do
-pub record Spelling : Type 1 where
+pub record Decoder : Type 1 where
   pub job : List ℕ → Result Job JobFault
   pub plate : List ℕ → Plate → Type 0
   pub fault : List ℕ → PlateFault → Type 0
 
 -- a job of one page, and files of one image each
-abbrev pub one_page : Spelling
+abbrev pub one_page : Decoder
 one_page = record { job = job_of; plate = IsPlateFile; fault = IsFault }
 
 -- name k, and no byte where there is none
@@ -52,7 +52,7 @@ plate_at plates k = slice_index_or plates k no_plate
 abbrev pub Holds : (List ℕ → Option (List ℕ)) → List ℕ → (List ℕ → Type 0) → Type 0
 Holds files name Fact = (bytes : List ℕ) × (files name ≡ Some bytes) × Fact bytes
 
--- The first files of these names, so many, give these values.
+-- The first `count` files of these names give these values.
 pub record AreFound {V : Type 0} (Gives : List ℕ → V → Type 0) (none : V)
     (files : List ℕ → Option (List ℕ)) (names : List (List ℕ)) (count : ℕ)
     (values : List V) : Type 0 where
@@ -61,28 +61,28 @@ pub record AreFound {V : Type 0} (Gives : List ℕ → V → Type 0) (none : V)
       → Holds files (name_at names k) (λ bytes. Gives bytes (slice_index_or values k none))
 
 -- The same of what they spell: plates.
-abbrev pub AreRead : Spelling → (List ℕ → Option (List ℕ)) → List (List ℕ) → ℕ → List Plate
+abbrev pub AreRead : Decoder → (List ℕ → Option (List ℕ)) → List (List ℕ) → ℕ → List Plate
     → Type 0
-AreRead spelling = AreFound spelling.plate no_plate
+AreRead decoder = AreFound decoder.plate no_plate
 
 -- The job and all plates are read.
-pub record Inputs (spelling : Spelling) (files : List ℕ → Option (List ℕ)) (source : Sources)
+pub record Inputs (decoder : Decoder) (files : List ℕ → Option (List ℕ)) (source : Sources)
     (job : Job) (plates : List Plate) : Type 0 where
-  pub job_read : Holds files source.job (λ bytes. spelling.job bytes ≡ Ok job)
-  pub plates_read : AreRead spelling files source.inputs (length source.inputs) plates
+  pub job_read : Holds files source.job (λ bytes. decoder.job bytes ≡ Ok job)
+  pub plates_read : AreRead decoder files source.inputs (length source.inputs) plates
 
 -- The job is read, and the plates before this one; it has this fault.
-pub record PlateFails (spelling : Spelling) (files : List ℕ → Option (List ℕ)) (source : Sources)
+pub record PlateFails (decoder : Decoder) (files : List ℕ → Option (List ℕ)) (source : Sources)
     (plate : ℕ) (fault : PlateFault) : Type 0 where
   pub job : Job
   pub plates : List Plate
-  pub job_read : Holds files source.job (λ bytes. spelling.job bytes ≡ Ok job)
-  pub before : AreRead spelling files source.inputs plate plates
+  pub job_read : Holds files source.job (λ bytes. decoder.job bytes ≡ Ok job)
+  pub before : AreRead decoder files source.inputs plate plates
   pub known : plate < length source.inputs
-  pub broken : Holds files (name_at source.inputs plate) (λ bytes. spelling.fault bytes fault)
+  pub broken : Holds files (name_at source.inputs plate) (λ bytes. decoder.fault bytes fault)
 
 -- what the job and the plates make: a page, or its refusal
-abbrev pub Makes : Spelling → (List ℕ → Option (List ℕ)) → Sources → Result PageParts Refusal
+abbrev pub Makes : Decoder → (List ℕ → Option (List ℕ)) → Sources → Result PageParts Refusal
     → Type 0
-Makes spelling files source made = (job : Job) × (plates : List Plate)
-    × Inputs spelling files source job plates × (assembly job plates source.names ≡ made)
+Makes decoder files source made = (job : Job) × (plates : List Plate)
+    × Inputs decoder files source job plates × (assembly job plates source.names ≡ made)

@@ -9,20 +9,20 @@ use Rattle.page_gather.specs.Inputs.{Holds, AreFound, name_at}
 pub record Sought (V E : Type 0) : Type 1 where
   -- the file's bytes give this value
   pub gives : List ℕ → V → Type 0
-  -- what a value is, whether or not the bytes are told
+  -- what a value is, whether or not the bytes are known
   pub fine : V → Type 0
   -- stands where there is no value
   pub none : V
   -- why a file is refused: its bytes are such
   pub Reason : Type 0
   pub because : Reason → List ℕ → Type 0
-  -- whether a read may have failed behind the bytes that are refused
+  -- whether a read may have failed after the bytes that are refused
   pub may_hide : Reason → Bool
   -- what the bytes are that came before a failed read
   pub sound : List ℕ → Type 0
   -- no more bytes than these are owed
   pub few : List ℕ → Type 0
-  -- how the refusals of file k are told
+  -- how the refusals of file k are reported
   pub refused : ℕ → Reason → E
   pub unread : ℕ → E
   pub memory : E
@@ -44,12 +44,12 @@ abbrev pub FileInHand : (List ℕ → Type 0) → List (List ℕ) → TrayState 
 FileInHand Few names before after =
     (k : ℕ) × (k < length names) × Takes Few (name_at names k) before after
 
--- The same after so many files; before the first one nothing is begun.
+-- The same after `count` files; before the first one nothing is begun.
 abbrev pub HoldsOne : (List ℕ → Type 0) → List (List ℕ) → ℕ → TrayState → TrayState → Type 0
 HoldsOne Few names count before after =
     ((count ≡ 0) × (after ≡ before)) ⊎ FileInHand Few names before after
 
--- File k is refused: for its bytes, where these are told, for a read that failed, or for lack of
+-- File k is refused: for its bytes, where these are known, for a read that failed, or for lack of
 -- memory. But where it may hide one, no fault of the tray is passed over.
 pub data Refuses {V E : Type 0} (sought : Sought V E) (k : ℕ) (name : List ℕ)
     (before after : TrayState) (refusal : E) : Type 0 where
@@ -77,7 +77,7 @@ pub record LooksAt {V E : Type 0} (sought : Sought V E) (k : ℕ) (name : List �
   pub takes : Takes sought.few name before after
   pub answer : AnswersLook sought k name before after result
 
--- so many files gave their values, and the next one is in hand
+-- the first k files gave their values, and the next one is open
 pub record StopsAt {V E : Type 0} (sought : Sought V E) (names : List (List ℕ)) (k : ℕ)
     (before after : TrayState) : Type 0 where
   pub known : k < length names

@@ -1,6 +1,6 @@
 -- The steps in which a page is read.
-use Rattle.std.specs.Prelude.{◌≡◌, ℕ, ◌*◌, ◌≤◌, Bool, true, false, IsTrue, List, [], ◌∷◌, Some}
-use Rattle.std.specs.Prelude.{None, Result, Ok, Err}
+use Rattle.std.specs.Prelude.{◌≡◌, ℕ, ◌+◌, ◌*◌, ◌≤◌, Bool, true, false, IsTrue, List, [], ◌∷◌}
+use Rattle.std.specs.Prelude.{Some, None, Result, Ok, Err}
 use Rattle.outside.specs.Causes.{Rose, Asks}
 use Rattle.outside.specs.Reading.{TakesFew}
 use Rattle.outside.specs.Tray.{TrayState, KeepsTray}
@@ -24,10 +24,11 @@ use Rattle.refusals.specs.declared.refusal.Refusal.TheVariants.{Job as JobRefusa
 use Rattle.refusals.specs.declared.refusal.Refusal.TheVariants.{Memory}
 use Rattle.page_gather.specs.Inputs.{Holds}
 use Rattle.page_gather.specs.Looks.{FileInHand, HasTaken, LooksThrough, Sought, Takes}
+use Rattle.ps_tokens.specs.Limits.{longest_job}
 
 -- how many bytes are taken of a job at most: as many as it may have, and one
 abbrev pub most_of_job : ℕ
-most_of_job = 1048577
+most_of_job = longest_job + 1
 
 -- No more is taken of the job's file, where it is begun, than is owed.
 abbrev pub TakesJob : List ℕ → TrayState → TrayState → Type 0
@@ -73,7 +74,7 @@ HaveNoFault bytes = (fault : PlateFault) → IsFault bytes fault → IsTruncated
 abbrev pub IsFaultless : List ℕ → TrayState → TrayState → Type 0
 IsFaultless = HasTaken HaveNoFault
 
--- whether a failed read may stand behind that fault: it does behind a sample above the maxval
+-- whether a failed read may stand after that fault: it does after a sample above the maxval
 abbrev pub may_hide : PlateFault → Bool
 may_hide (SampleAboveMaxval at) = true
 may_hide other = false

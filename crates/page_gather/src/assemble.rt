@@ -4,11 +4,12 @@ ghost use Rattle.std.specs.Str.{bytes_eq};
 ghost use Rattle.pgm_plates.specs.Planes.{plane_of};
 ghost use Rattle.pgm_plates.specs.Plates.{IsPlate};
 ghost use Rattle.job_reader.specs.InRange.{IsJob};
-ghost use Rattle.page_gather.specs.Assembly.{CanAssemble, CanAssemblePlanes, assembly, assembly_of_planes, parts_of_planes, without_details as plate_without, detail_of as detail_meant, ink_of as ink_meant, zone_for};
+ghost use Rattle.page_gather.specs.Assembly.{CanAssemble, CanAssemblePlanes, assembly, assembly_of_planes, parts_of_planes, without_details as plate_without, detail_of as detail_spec, ink_of as ink_spec, zone_for};
+ghost use Rattle.page_model.specs.Limits.{most_plates};
 
 use job_reader::job::Job;
 use lists::list::List;
-use lists::names::copied;
+use lists::names::copy_name;
 use page_model::bounds::SCALE;
 use page_model::limits::keep;
 use page_model::page::Page;
@@ -22,12 +23,12 @@ use std::alloc::Global;
 /// Plates, in the order of the words.
 pub type PlateList = List<Plate>;
 
-/// The page that a job and plates make. Each plate has its colorant's name, and gets the ink that the job's details give
-/// that name; each zone keeps the limits of the plates' names alone.
+/// Makes a page of a job and plates. Each plate has its colorant's name, and gets the ink that the job's details give
+/// that name; each zone keeps only the limits of the plates' names.
 ///
-/// Where some zone is enabled, the first plate without details is refused. Where none is, such a plate gets a density of
-/// 10,000 ten-thousandths and the kind Normal. Then come the faults of `Page::new`, and out of memory. A refusal hands
-/// nothing back. The rule is this project's own.
+/// If some zone is enabled, the first plate without details is refused. If none is, such a plate gets a density of
+/// 10,000 ten-thousandths and the kind Normal. Then come the faults of `Page::new`, and out of memory. The rule is this
+/// project's own.
 pub fn assemble(
     alloc: Global,
     job: Job,
@@ -46,7 +47,7 @@ pub fn assemble(
     }
 }
 
-/// As `assemble`, of planes in place of plates.
+/// Does what `assemble` does, with planes in place of plates.
 pub fn assemble_planes(
     alloc: Global,
     job: Job,
@@ -71,9 +72,9 @@ pub fn assemble_planes(
     }
 }
 
-/// The first plate whose name has no details, where some zone is enabled.
+/// The number of the first plate whose colorant has no details in the job, if some zone is enabled; else `None`.
 pub fn without_details(job: &Job, names: &NameList) -> Option<u32>
-    requires { length names.now ≤ 16 }
+    requires { length names.now ≤ most_plates }
     ensures { result ≡ plate_without job.now names.now }
 {
     if !some_enabled(&job.zones) {
@@ -86,7 +87,7 @@ pub fn without_details(job: &Job, names: &NameList) -> Option<u32>
 }
 
 fn first_without(details: &DetailList, names: &NameList) -> Option<usize>
-    ensures { result ≡ position (λ name. is_none (detail_meant details.now name)) names.now }
+    ensures { result ≡ position (λ name. is_none (detail_spec details.now name)) names.now }
 {
     names
         .as_slice()
@@ -95,7 +96,7 @@ fn first_without(details: &DetailList, names: &NameList) -> Option<usize>
 }
 
 fn is_without(details: &DetailList, name: &Name) -> bool
-    ensures { result ≡ is_none (detail_meant details.now name.now) }
+    ensures { result ≡ is_none (detail_spec details.now name.now) }
 {
     detail_of(details, name.as_slice()).is_none()
 }
@@ -106,9 +107,9 @@ fn some_enabled(zones: &ZoneList) -> bool
     zones.as_slice().iter().any(|zone| zone.params.enabled)
 }
 
-// The details of that name.
+// The details of the colorant of that name.
 fn detail_of<'a>(details: &'a DetailList, name: &[u8]) -> Option<&'a Ink>
-    ensures { option_copied result ≡ detail_meant details.now name.now }
+    ensures { option_copied result ≡ detail_spec details.now name.now }
 {
     details.as_slice().iter().find(|ink| is_named(ink, name))
 }
@@ -119,7 +120,7 @@ fn is_named(ink: &Ink, name: &[u8]) -> bool
     ink.name.as_slice() == name
 }
 
-/// The parts that a job and planes make, in the order of the names.
+/// The parts of a page, made of a job and planes, in the order of the names.
 pub fn parts_of(
     alloc: Global,
     job: Job,
@@ -143,7 +144,7 @@ pub fn parts_of(
     })
 }
 
-// The planes of these plates, each with the tints that its samples stand for.
+// The planes of these plates.
 fn planes_of(alloc: Global, plates: PlateList) -> Result<PlaneList, OutOfMemory>
     requires { All IsPlate plates }
     ensures { IfOk result (λ planes. planes ≡ map plane_of plates) }
@@ -159,7 +160,7 @@ fn planes_of(alloc: Global, plates: PlateList) -> Result<PlaneList, OutOfMemory>
 }
 
 fn inks_of(alloc: Global, details: &DetailList, names: &NameList) -> Result<InkList, OutOfMemory>
-    ensures { IfOk result (λ inks. inks ≡ map (ink_meant details.now) names.now) }
+    ensures { IfOk result (λ inks. inks ≡ map (ink_spec details.now) names.now) }
 {
     let mut inks = List::new(alloc);
     for name in names.as_slice() {
@@ -172,7 +173,7 @@ fn inks_of(alloc: Global, details: &DetailList, names: &NameList) -> Result<InkL
 }
 
 fn ink_of(alloc: Global, details: &DetailList, name: &[u8]) -> Result<Ink, OutOfMemory>
-    ensures { IfOk result (λ ink. ink ≡ ink_meant details.now name.now) }
+    ensures { IfOk result (λ ink. ink ≡ ink_spec details.now name.now) }
 {
     match detail_of(details, name) {
         Some(ink) => make_ink(alloc, ink.name.as_slice(), ink.density, ink.kind),
@@ -184,7 +185,7 @@ fn make_ink(alloc: Global, name: &[u8], density: u32, kind: InkKind) -> Result<I
     ensures { IfOk result (λ ink.
         ink ≡ record { name = name.now; density = density; kind = kind }) }
 {
-    let name = copied(alloc, name)?;
+    let name = copy_name(alloc, name)?;
     Ok(Ink {
         name,
         density,

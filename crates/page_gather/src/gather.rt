@@ -2,6 +2,7 @@ ghost use Rattle.std.specs.Prelude.{◌≡◌, ◌≤◌, ℕ, List, length, map
 ghost use Rattle.job_reader.specs.InRange.{IsJob};
 ghost use Rattle.page_gather.specs.Gathering.{Gathers, GathersRest};
 ghost use Rattle.page_gather.specs.Inputs.{sources};
+ghost use Rattle.page_model.specs.Limits.{most_plates};
 
 use crate::assemble::assemble_planes;
 use crate::job::read_job_file;
@@ -15,11 +16,11 @@ use refusals::refusal::Refusal;
 use std::alloc::Global;
 use std::convert::AsStr;
 
-/// Reads the job of that name and then each plate in the order of its file, to their ends, and makes the page of them. The
-/// names are those of the plates' colorants.
+/// Reads the job of that name and then each plate in the order of its file, to their ends, and makes a page of them.
+/// The names are those of the plates' colorants.
 ///
-/// It stops at the first refusal: a read that fails, the job's fault, a plate's fault, a plate without details, a fault of
-/// the page, or out of memory. No file is begun after the one that is refused.
+/// It stops at the first refusal: a read that fails, the job's fault, a plate's fault, a plate without details, a fault
+/// of the page, or out of memory. No file is begun after the one that is refused.
 pub fn gather<T: Tray, S: AsStr>(
     alloc: Global,
     tray: &mut T,
@@ -28,7 +29,7 @@ pub fn gather<T: Tray, S: AsStr>(
     inputs: &[S],
 ) -> Result<Page, Refusal>
     requires some { 1 ≤ length inputs.now }
-    requires few { length inputs.now ≤ 16 }
+    requires few { length inputs.now ≤ most_plates }
     requires named { length names.now ≡ length inputs.now }
     ensures { Gathers (sources job.now names.now (map S.text inputs.now)) (T.state tray.old)
         (T.state tray.new) result }
@@ -39,7 +40,7 @@ pub fn gather<T: Tray, S: AsStr>(
     }
 }
 
-// Reads the plates after the job, and makes the page of both.
+// Reads the plates after the job, and makes a page of both.
 fn gather_plates<T: Tray, S: AsStr>(
     alloc: Global,
     tray: &mut T,
@@ -48,7 +49,7 @@ fn gather_plates<T: Tray, S: AsStr>(
     inputs: &[S],
 ) -> Result<Page, Refusal>
     requires some { 1 ≤ length inputs.now }
-    requires few { length inputs.now ≤ 16 }
+    requires few { length inputs.now ≤ most_plates }
     requires named { length names.now ≡ length inputs.now }
     requires job { IsJob job }
     ensures { (name : List ℕ) → GathersRest (sources name names.now (map S.text inputs.now)) job

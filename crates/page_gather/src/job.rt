@@ -4,15 +4,16 @@ use job_reader::job::Job;
 use job_reader::reader::read_job;
 use outside::reading::{ReadRefusal, read_file};
 use outside::tray::Tray;
+use ps_tokens::LONGEST_JOB;
 use ps_tokens::faults::JobRefusal;
 use refusals::refusal::Refusal;
 use std::alloc::Global;
 
-/// How many bytes of a job are read at most: one more than a job may have.
-pub const MOST_JOB: u32 = 1_048_577;
+/// The number of bytes of a job that are read at most: one more than a job may have.
+pub const MOST_JOB: u32 = LONGEST_JOB as u32 + 1;
 
-/// Reads the job of that name: all of its bytes, or one more than a job may have, and never more. Its refusals are a read
-/// that fails, the job's fault, and out of memory.
+/// Reads the job of that name: all its bytes, but at most one more than a job may have. Its refusals are a read that
+/// fails, the job's fault, and out of memory.
 pub fn read_job_file<T: Tray>(alloc: Global, tray: &mut T, name: &str) -> Result<Job, Refusal>
     ensures { ReadsJob name.now (T.state tray.old) (T.state tray.new) result }
 {

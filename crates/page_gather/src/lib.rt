@@ -1,4 +1,4 @@
-//! The job and the plates of a page, read from a tray, and the page that they make.
+//! The job and the plates of a page, read from a tray, and the page made of them.
 #![tactic(auto)]
 
 pub mod assemble;

@@ -1,14 +1,15 @@
 ghost use Rattle.std.specs.Prelude.{◌≡◌, ◌≤◌, length, map};
 ghost use Rattle.page_gather.specs.Looks.{LooksAt, LooksThrough, Sought};
+ghost use Rattle.page_model.specs.Limits.{most_plates};
 
 use lists::list::List;
 use outside::tray::Tray;
 use std::alloc::Global;
 use std::convert::AsStr;
 
-/// What is sought in a file, and the refusals where it is not there.
+/// What is sought in each of several files, and the refusals where it is not found.
 pub trait Look {
-    /// What a file gives.
+    /// What is found in a file.
     type Found: Drop;
 
     /// Why a file is refused.
@@ -16,7 +17,7 @@ pub trait Look {
 
     ghost sought: { Self → Sought Self.Found Self.Refusal };
 
-    /// Looks into the file of that name, which is the one of that number.
+    /// Looks into the file `name`, which is file number `number`, from 0.
     fn look<T: Tray>(
         &self,
         alloc: Global,
@@ -27,19 +28,20 @@ pub trait Look {
         ensures { LooksAt (sought self.now) number name.now (T.state tray.old)
             (T.state tray.new) result };
 
-    /// The refusal where there is no memory for what a file gave.
+    /// The refusal if there is no memory for what was found.
     fn no_memory(&self) -> Self::Refusal
         ensures { result ≡ (sought self.now).memory };
 }
 
-/// Looks into each of these files in order, up to the first that is refused. No file is begun after it.
+/// Looks into each of these files in order, up to the first that is refused; no file is begun after it. Returns what
+/// was found in each.
 pub fn look_through<T: Tray, S: AsStr, L: Look>(
     alloc: Global,
     tray: &mut T,
     inputs: &[S],
     look: &L,
 ) -> Result<List<L::Found>, L::Refusal>
-    requires { length inputs.now ≤ 16 }
+    requires { length inputs.now ≤ most_plates }
     ensures { LooksThrough (L.sought look.now) (map S.text inputs.now) (T.state tray.old)
         (T.state tray.new) result }
 {

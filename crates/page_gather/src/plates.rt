@@ -1,5 +1,6 @@
 ghost use Rattle.std.specs.Prelude.{◌<◌, ◌≤◌, length, map};
 ghost use Rattle.page_gather.specs.Steps.{ReadsPlates, plates_sought};
+ghost use Rattle.page_model.specs.Limits.{most_plates};
 
 use crate::looks::{Look, look_through};
 use outside::tray::Tray;
@@ -11,14 +12,14 @@ use refusals::refusal::Refusal;
 use std::alloc::Global;
 use std::convert::AsStr;
 
-/// Reads the plates of these files in order, each as its plane, up to the first that is refused: by a read that fails, by
-/// a fault of the plate's file, or for lack of memory. No file is begun after it.
+/// Reads the plates of these files in order, each as its plane, up to the first that is refused: by a read that fails,
+/// by a fault of the plate's file, or because memory runs out. No file is begun after it.
 pub fn read_plates<T: Tray, S: AsStr>(
     alloc: Global,
     tray: &mut T,
     inputs: &[S],
 ) -> Result<PlaneList, Refusal>
-    requires { length inputs.now ≤ 16 }
+    requires { length inputs.now ≤ most_plates }
     ensures { ReadsPlates (map S.text inputs.now) (T.state tray.old) (T.state tray.new) result }
 {
     look_through(alloc, tray, inputs, &Plates)

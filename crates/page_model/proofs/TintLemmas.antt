@@ -38,7 +38,8 @@ part_at_most here there part grows few =
     let cut : part * (there - here) ≤ 10000 * (there - here) = mul-le-mul few (omega arith) in
     omega (arith, cut, grows)
 
-scaled_at_most : (f here there part : ℕ) → here ≤ there → part ≤ 10000 → (f * (here * 10000 + part * (there - here))) / (there * 10000) ≤ f
+-- a scaled full tint is no darker than the full tint
+pub scaled_at_most : (f here there part : ℕ) → here ≤ there → part ≤ 10000 → (f * (here * 10000 + part * (there - here))) / (there * 10000) ≤ f
 scaled_at_most f here there part grows few =
     let light = here * 10000 + part * (there - here) in
     let most : f * light ≤ f * (there * 10000) = mul-le-mul (omega arith) (part_at_most here there part grows few) in

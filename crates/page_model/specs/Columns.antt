@@ -11,6 +11,7 @@ use Rattle.page_model.specs.Deciding.{decides}
 use Rattle.page_model.specs.Edges.{d2}
 use Rattle.page_model.specs.Marks.{Marked, HoldsEdge, held_rows, marked}
 use Rattle.lists.specs.Words.{gap, first_least}
+use Rattle.page_model.specs.Limits.{level_code}
 
 -- whether (x2, y2) is an edge of the page that decides
 unfoldable pub edge_decides : PageParts → ℕ → ℕ → Bool
@@ -24,10 +25,10 @@ unfoldable pub column_edge : PageParts → ℕ → ℕ → ℕ → Option ℕ
 column_edge page reach x2 y = first_least (λ y2. gap y2 (2 * y))
     (λ y2. edge_decides page x2 y2 && nat_le (gap y2 (2 * y)) reach) (grid_rows page)
 
--- 0 for none, else the offset Y - 2y plus 257
+-- 0 for none, else the offset Y - 2y plus the code of a level answer
 abbrev pub offset_code : ℕ → Option ℕ → ℕ
 offset_code y None = 0
-offset_code y (Some y2) = y2 + 257 - 2 * y
+offset_code y (Some y2) = y2 + level_code - 2 * y
 
 -- the answer of a doubled column at row y, as the code writes it
 unfoldable pub column_answer : PageParts → ℕ → ℕ → ℕ → ℕ

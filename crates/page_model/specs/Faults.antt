@@ -1,4 +1,4 @@
--- Why separations make no page, in the order in which it is told.
+-- Why separations make no page, in the order in which it is reported.
 use Rattle.std.specs.Prelude.{ℕ, ◌*◌, ◌==◌, ◌&&◌, nat_lt, length, Option, Some, None, if◌then◌else◌}
 use Rattle.page_model.specs.declared.page.PageFault.{PageFault}
 use Rattle.page_model.specs.declared.page.PageFault.TheVariants.{SizeDiffers, MaxvalDiffers}

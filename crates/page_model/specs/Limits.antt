@@ -15,6 +15,10 @@ half_sample = 3600000000
 abbrev pub most_side : ℕ
 most_side = 16384
 
+-- the samples of a side of a sheet
+abbrev pub most_sheet_side : ℕ
+most_sheet_side = 262144
+
 -- the samples of all plates of a page together
 abbrev pub most_samples : ℕ
 most_samples = 160000000
@@ -27,11 +31,19 @@ most_maxval = 65535
 abbrev pub most_plates : ℕ
 most_plates = 16
 
+-- the bytes of a colorant's name
+abbrev pub longest_name : ℕ
+longest_name = 64
+
 -- zone 0 and the zones that a job makes
 abbrev pub most_zones : ℕ
 most_zones = 251
 
--- the vertices of one path, and of the paths of all zones together
+-- the zones that a job makes
+abbrev pub most_job_zones : ℕ
+most_job_zones = 250
+
+-- the vertices of one path
 abbrev pub most_vertices : ℕ
 most_vertices = 4096
 
@@ -50,6 +62,11 @@ most_resolution = 10000
 -- how far a trap may reach, in half-samples
 abbrev pub most_reach : ℕ
 most_reach = 256
+
+-- the code of a column's answer that stands level with the row: codes are offsets in half-samples
+-- plus this, and 0 is the code of no answer
+abbrev pub level_code : ℕ
+level_code = 257
 
 -- the rows of a band
 abbrev pub most_band_height : ℕ

@@ -1,7 +1,7 @@
 -- The trapping parameters: of a job that sets none, and in which ranges they are.
 use Rattle.std.specs.Prelude.{◌≤◌, true}
 use Rattle.page_model.specs.declared.parts.TrapParams.{TrapParams}
-use Rattle.page_model.specs.Limits.{least_ink_density, most_black_width, most_ink_density}
+use Rattle.page_model.specs.Limits.{least_ink_density, most_black_width, most_ink_density, scale}
 use Rattle.page_model.specs.Limits.{most_trap_width, scale}
 
 -- in ten-thousandths: traps of a quarter of a point, and the shares and densities of PLRM3's
@@ -9,12 +9,12 @@ use Rattle.page_model.specs.Limits.{most_trap_width, scale}
 abbrev pub usual_params : TrapParams
 usual_params = record {
   trap_width = 2500;
-  black_width = 10000;
+  black_width = scale;
   black_color_limit = 9500;
   black_density_limit = 16000;
   step_limit = 2500;
   sliding_trap_limit = 7000;
-  trap_color_scaling = 10000;
+  trap_color_scaling = scale;
   enabled = true;
 }
 

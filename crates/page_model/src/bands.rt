@@ -2,8 +2,8 @@ ghost use Rattle.std.specs.Prelude.{◌≡◌, ◌<◌, ◌≤◌};
 ghost use Rattle.page_model.specs.Bands.{AreBands, first_row, rows_in};
 ghost use Rattle.page_model.specs.Limits.{most_band_height, most_reach, most_side};
 
-/// A page of so many rows, cut from the top into bands of a height; the last band has what is left. `reach2` is the reach
-/// of the page in half-samples. `Bands::new` makes it.
+/// A page of `rows` rows, cut from the top into `count` bands of `height` rows; the last band may have fewer. `reach2`
+/// is the reach of the page in half-samples. `Bands::new` makes it.
 #[derive(Clone, Copy, Debug, Drop, PartialEq, Eq)]
 pub struct Bands {
     pub rows: u32,
@@ -13,7 +13,7 @@ pub struct Bands {
 }
 
 impl Bands {
-    /// The bands of that height of a page of so many rows, whose reach is so many half-samples.
+    /// Cuts a page of `rows` rows into bands of `height` rows. `reach2` is the page's reach in half-samples.
     #[tactic(auto, using(crate::proofs::BandLemmas::some_bands, crate::proofs::BandLemmas::few_bands))]
     pub fn new(rows: u32, height: u32, reach2: u32) -> Bands
         requires some_rows { 1 ≤ rows }
@@ -34,7 +34,7 @@ impl Bands {
         }
     }
 
-    /// The first row of a band, from 0 at the top.
+    /// The page row, from 0 at the top, that is a band's first.
     #[tactic(auto, using(crate::proofs::BandLemmas::band_begins))]
     pub fn first(&self, band: u32) -> u32
         requires bands { AreBands self.now }
@@ -45,7 +45,7 @@ impl Bands {
         band * self.height
     }
 
-    /// How many rows a band has.
+    /// The number of rows of a band.
     #[tactic(auto, using(crate::proofs::BandLemmas::band_begins))]
     pub fn rows_of(&self, band: u32) -> u32
         requires bands { AreBands self.now }

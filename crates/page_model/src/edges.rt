@@ -5,7 +5,7 @@ ghost use Rattle.lists.specs.Words.{gap, square};
 
 use crate::parts::{At, EdgeAt};
 
-/// The edge's left or upper sample.
+/// The sample to the left of an edge, or above it.
 pub fn first_of(e: EdgeAt) -> At
     ensures { result ≡ first e }
 {
@@ -15,7 +15,7 @@ pub fn first_of(e: EdgeAt) -> At
     }
 }
 
-/// The edge's right or lower sample.
+/// The sample to the right of an edge, or below it.
 pub fn second_of(e: EdgeAt) -> At
     requires x { e.x2 < 2 * most_side }
     requires y { e.y2 < 2 * most_side }
@@ -39,7 +39,7 @@ fn is_on_first_side(p: At, e: EdgeAt) -> bool
     }
 }
 
-/// The edge's sample on p's side.
+/// Of an edge's two samples, the one on the side of `p`.
 pub fn own_of(p: At, e: EdgeAt) -> At
     requires px { p.x < most_side }
     requires py { p.y < most_side }
@@ -54,7 +54,7 @@ pub fn own_of(p: At, e: EdgeAt) -> At
     }
 }
 
-/// The edge's sample across from p.
+/// Of an edge's two samples, the one on the side across from `p`.
 pub fn across_of(p: At, e: EdgeAt) -> At
     requires px { p.x < most_side }
     requires py { p.y < most_side }
@@ -69,7 +69,7 @@ pub fn across_of(p: At, e: EdgeAt) -> At
     }
 }
 
-fn squared(a: u32, b: u32) -> u32
+fn square_of_gap(a: u32, b: u32) -> u32
     requires a { a < 2 * most_side }
     requires b { b < 2 * most_side }
     ensures value { result ≡ square (gap a b) }
@@ -79,7 +79,7 @@ fn squared(a: u32, b: u32) -> u32
     away * away
 }
 
-/// The squared distance of p's middle from the edge, in half-samples.
+/// The squared distance of the middle of sample `p` from the edge, in half-samples.
 pub fn squared_distance(p: At, e: EdgeAt) -> u32
     requires px { p.x < most_side }
     requires py { p.y < most_side }
@@ -87,5 +87,5 @@ pub fn squared_distance(p: At, e: EdgeAt) -> u32
     requires ey { e.y2 < 2 * most_side }
     ensures { result ≡ d2 p e }
 {
-    squared(e.x2, 2 * p.x) + squared(e.y2, 2 * p.y)
+    square_of_gap(e.x2, 2 * p.x) + square_of_gap(e.y2, 2 * p.y)
 }

@@ -19,7 +19,7 @@ ghost use Rattle.page_model.specs.Zones.{centre, zone_of};
 use crate::page::Page;
 use crate::parts::{At, EdgeAt};
 
-/// A page has none of the faults for which parts are refused.
+/// A page has no fault: parts with a fault are refused.
 pub fn faultless_law(page: &Page)
     ensures { page_fault page.now ≡ None }
 {
@@ -33,8 +33,8 @@ pub fn zone_law(page: &Page, p: At)
     let _valid = page.plates();
 }
 
-/// A closed subpath winds round a sample's middle by the sum of the turns of its segments, the one from its last vertex
-/// back to its start among them; and subpaths one after another wind as often as the sum of theirs.
+/// The winding number of a closed subpath round a sample's middle is the sum over its segments, the one from its last
+/// vertex back to its start among them; and that of several subpaths is the sum of theirs.
 pub fn winding_law(page: &Page, p: At)
     ensures subpath { (start : Vertex) → (vs : List Vertex)
         → SubpathLaw page.now.resolution (centre page.now p) start vs }
@@ -77,8 +77,8 @@ pub fn locality_law(page: &Page, p: At)
     let _valid = page.plates();
 }
 
-/// Where the decider's row offset is within the page's reach, the column answers of its sample's row give it. Else no
-/// deciding edge is within of the sample, if its zone is enabled.
+/// If the decider's row offset is within the page's reach, the column answers of the sample's row give the decider. If
+/// not, no deciding edge is within of the sample, provided that its zone is enabled.
 pub fn reach_law(page: &Page, p: At)
     ensures { ReachLaw page.now p }
 {
@@ -95,7 +95,7 @@ pub fn trapped_planes_law(page: &Page)
     let _valid = page.plates();
 }
 
-/// The edge that the column answers of a row give traps its samples as their deciders do.
+/// Trapping the samples of a row with the edges that the row's column answers give is the same as with their deciders.
 pub fn columns_trap_law(page: &Page, p: At)
     ensures { TrapsByColumns page.now p }
 {

@@ -32,12 +32,12 @@ impl Model for Page {
     ghost invariant = { λ a. IsPage a.parts };
 }
 
-/// Why parts are no page. Plates and zones are numbered from 0.
+/// Why parts do not make a page. Plates and zones are numbered from 0.
 #[derive(Clone, Copy, Debug, Drop, PartialEq, Eq)]
 pub enum PageFault {
-    /// A side of this plate is not that of plate 0.
+    /// This plate's width or height is not that of plate 0.
     SizeDiffers(u32),
-    /// The sides of this plate are those of plate 0, and its maxval is not.
+    /// This plate has the sides of plate 0, and another maxval.
     MaxvalDiffers(u32),
     /// All plates together have more than 160,000,000 samples.
     TooManySamples,
@@ -64,7 +64,7 @@ fn difference_at(parts: &PageParts, c: u32) -> Option<PageFault>
     }
 }
 
-/// The first plate that differs from plate 0.
+/// The fault of the first plate that differs from plate 0.
 pub fn first_difference(parts: &PageParts) -> Option<PageFault>
     requires some { 1 ≤ plates parts.now }
     requires few { plates parts.now ≤ most_plates }
@@ -134,8 +134,9 @@ fn fault_of(parts: &PageParts) -> Option<PageFault>
 }
 
 impl Page {
-    /// The page of these parts, or the first of their faults: of the first plate that differs from plate 0, then of the
-    /// number of samples, then of the first zone that reaches too far. A refusal hands the parts back as they were.
+    /// Makes a page of these parts, or returns their first fault: that of the first plate that differs from plate 0,
+    /// then that of the number of samples, then that of the first zone that reaches too far. A refusal gives the parts
+    /// back unchanged.
     pub fn new(parts: PageParts) -> Result<Page, (PageFault, PageParts)>
         requires { IsParts parts }
         ensures page { IfOk result (λ page. page ≡ parts) }
@@ -149,7 +150,7 @@ impl Page {
         }
     }
 
-    /// What it is made of, handed back; nothing is copied.
+    /// Takes the page apart again, without a copy.
     pub fn into_parts(self) -> PageParts
         ensures parts { result ≡ self }
         ensures valid { IsPage result }
@@ -157,7 +158,7 @@ impl Page {
         self.parts
     }
 
-    /// Samples in a row.
+    /// The number of samples in a row.
     pub fn width(&self) -> u32
         ensures value { result ≡ width self.now }
         ensures valid { IsPage self.now }
@@ -166,7 +167,7 @@ impl Page {
         planes[0].width
     }
 
-    /// Rows.
+    /// The number of rows.
     pub fn height(&self) -> u32
         ensures value { result ≡ height self.now }
         ensures valid { IsPage self.now }
@@ -184,7 +185,7 @@ impl Page {
         planes[0].maxval
     }
 
-    /// In pixels per inch.
+    /// The resolution in pixels per inch.
     pub fn resolution(&self) -> u32
         ensures value { result ≡ self.now.resolution }
         ensures valid { IsPage self.now }
@@ -192,7 +193,7 @@ impl Page {
         self.parts.resolution
     }
 
-    /// How many plates there are; they are numbered from 0.
+    /// The number of plates; they are numbered from 0.
     pub fn plates(&self) -> u32
         ensures value { result ≡ plates self.now }
         ensures valid { IsPage self.now }
@@ -208,7 +209,7 @@ impl Page {
         &self.parts.planes
     }
 
-    /// How many zones there are, zone 0 with them; they are numbered from 0.
+    /// The number of zones, zone 0 among them; they are numbered from 0.
     pub fn zones(&self) -> u32
         ensures value { result ≡ length self.now.zones }
         ensures valid { IsPage self.now }
@@ -216,7 +217,7 @@ impl Page {
         self.parts.zones.len() as u32
     }
 
-    /// The reach of the page in half-samples: the greatest of its enabled zones, at most 256.
+    /// The reach of the page in half-samples: the greatest reach of its enabled zones, at most 256.
     #[tactic(auto, unfolding(crate::specs::Reach::page_reach))]
     pub fn reach2(&self) -> u32
         ensures value { result ≡ page_reach self.now }
@@ -274,8 +275,8 @@ impl Page {
         &zones[z as usize].path
     }
 
-    /// The step limit of plate c in zone z, in ten-thousandths of the maxval: the one that the zone's limits name for
-    /// its colorant, else the one of the zone's parameters.
+    /// The step limit of plate c in zone z, in ten-thousandths of the maxval: the zone's limit for the plate's colorant
+    /// if it has one, else that of the zone's parameters.
     pub fn step_limit(&self, z: u32, c: u32) -> u32
         requires zone { z < length self.now.zones }
         requires plate { c < plates self.now }
@@ -284,20 +285,20 @@ impl Page {
         let zones = self.parts.zones.as_slice();
         let zone = &zones[z as usize];
         let name = self.ink(c).name.as_slice();
-        named(zone.limits.as_slice(), name, zone.params.step_limit)
+        named_step(zone.limits.as_slice(), name, zone.params.step_limit)
     }
 }
 
-fn found<'a>(limits: &'a [Limit], name: &[u8]) -> Option<&'a Limit>
+fn find_limit<'a>(limits: &'a [Limit], name: &[u8]) -> Option<&'a Limit>
     ensures { option_copied result ≡ find (λ l. bytes_eq l.name name.now) limits.now }
 {
     limits.iter().find(|l| same_name(l.name.as_slice(), name))
 }
 
-fn named(limits: &[Limit], name: &[u8], usual: u32) -> u32
+fn named_step(limits: &[Limit], name: &[u8], usual: u32) -> u32
     ensures { result ≡ named_step limits.now name.now usual }
 {
-    match found(limits, name) {
+    match find_limit(limits, name) {
         Some(limit) => limit.step,
         None => usual,
     }

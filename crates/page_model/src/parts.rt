@@ -1,3 +1,4 @@
+use crate::bounds::SCALE;
 use lists::list::List;
 pub use lists::names::{CallList, Name, NameList, OutOfMemory};
 
@@ -21,7 +22,7 @@ pub struct EdgeAt {
     pub y2: u32,
 }
 
-/// How an ink behaves in trapping.
+/// How an ink behaves in trapping (ColorantType, in docs/JOBS.md).
 #[derive(Clone, Copy, Debug, Drop, PartialEq, Eq)]
 pub enum InkKind {
     /// Counts towards the density, and spreads.
@@ -83,7 +84,8 @@ pub type InkList = List<Ink>;
 /// The inks that a job's TrappingDetails name.
 pub type DetailList = List<Ink>;
 
-/// How a zone is trapped. All numbers are ten-thousandths: of a point for the trap width, of 1 for the others.
+/// The trapping parameters of a zone (PLRM3, section 6.3, in this project's profile). All numbers are ten-thousandths:
+/// of a point for the trap width, of 1 for the others.
 #[derive(Clone, Copy, Debug, Drop, PartialEq, Eq)]
 pub struct TrapParams {
     pub trap_width: u32,
@@ -96,15 +98,15 @@ pub struct TrapParams {
     pub enabled: bool,
 }
 
-/// The parameters of a job that sets none: a quarter of a point, this project's defaults throughout.
+/// The parameters of a job that sets none. The defaults are this project's.
 pub const USUAL_PARAMS: TrapParams = TrapParams {
     trap_width: 2_500,
-    black_width: 10_000,
+    black_width: SCALE,
     black_color_limit: 9_500,
     black_density_limit: 16_000,
     step_limit: 2_500,
     sliding_trap_limit: 7_000,
-    trap_color_scaling: 10_000,
+    trap_color_scaling: SCALE,
     enabled: true,
 };
 
@@ -164,7 +166,7 @@ pub struct Plane {
 /// The planes of a page, in the order of its plates.
 pub type PlaneList = List<Plane>;
 
-/// All that a page is made of. The resolution is in pixels per inch.
+/// The parts of a page. The resolution is in pixels per inch.
 #[derive(Drop)]
 pub struct PageParts {
     pub resolution: u32,
@@ -173,8 +175,8 @@ pub struct PageParts {
     pub zones: ZoneList,
 }
 
-/// What trapping a page did: for each zone its samples and how many of these changed, the deciding edges of the page,
-/// and for each plate its changed samples.
+/// What trapping a page did: for each zone the number of its samples and of those that changed, the number of deciding
+/// edges of the page, and for each plate the number of its changed samples.
 #[derive(Drop)]
 pub struct Counts {
     pub zone_samples: CountList,

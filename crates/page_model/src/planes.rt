@@ -3,7 +3,7 @@ ghost use Rattle.page_model.specs.Planes.{PutTint, tints_of};
 
 use crate::parts::PlaneList;
 
-/// Puts a tint in a place of plane c's list. All else stays.
+/// Replaces the tint at a place of plane `c`. All other tints stay.
 pub fn set_tint(planes: &mut PlaneList, c: usize, place: usize, tint: u16)
     requires plane { c < length planes.old }
     requires place { place < length (tints_of planes.old c) }

@@ -7,7 +7,7 @@ ghost use Rattle.page_model.specs.Reach.{params_reach, zone_reach};
 use crate::bounds::{HALF_SAMPLE, SCALE};
 use crate::parts::{PageParts, TrapParams};
 
-/// The reach of an enabled zone in half-samples.
+/// The reach of an enabled zone in half-samples: how far its traps can be from an edge.
 pub fn reach_of(params: &TrapParams, resolution: u32) -> u32
     requires params { InRange params.now }
     requires resolution { resolution ≤ most_resolution }

@@ -27,7 +27,7 @@ AnswersPut band target page before after (Err (Write file)) =
 AnswersPut band target page before after (Err Memory) = after ≡ before
 AnswersPut band target page before after (Err other) = ⊥
 
--- A page is trapped in bands of so many rows, and its files are written.
+-- A page is trapped in bands of `band` rows, and its files are written.
 pub record PutsOut (band : ℕ) (target : Targets) (page : PageParts) (before after : RackState)
     (result : Result Receipt Refusal) : Type 0 where
   pub valid : IsPage page

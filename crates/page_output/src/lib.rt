@@ -1,4 +1,4 @@
-//! A page into its files: trapped by workers, reported, and written.
+//! From a page to its files: trapped by workers, reported, and written.
 #![tactic(auto)]
 
 pub mod outcome;

@@ -14,7 +14,7 @@ use std::thread::Threads;
 use trap_engine::{Trapped, trap_page};
 use trap_report::report::report;
 
-/// A page after trapping, the report of what changed, and the table at which it was trapped.
+/// A page after trapping, its report, and the table at which it was trapped.
 #[derive(Drop)]
 pub struct Outcome {
     pub planes: PlaneList,
@@ -22,7 +22,8 @@ pub struct Outcome {
     pub receipt: Closed,
 }
 
-/// Traps a page by so many workers, in bands of so many rows, and reports what changed. The one refusal is out of memory.
+/// Traps a page by `workers` workers, in bands of `band` rows, and makes its report. It fails only where memory runs
+/// out.
 pub fn outcome_of<H: Threads + Sync, G: Gate + Sync>(
     rt: &H,
     alloc: Global,
@@ -43,7 +44,7 @@ pub fn outcome_of<H: Threads + Sync, G: Gate + Sync>(
     report_trapped(alloc, page, trapped, receipt)
 }
 
-// What was trapped, with the report of what changed.
+// The trapped page with its report.
 fn report_trapped(
     alloc: Global,
     page: &Page,

@@ -15,25 +15,24 @@ use std::alloc::Global;
 use std::convert::AsStr;
 use std::thread::Threads;
 
-/// How a page is put out: by so many workers, from 1 to 64, in bands of so many rows, from 1 to 4,096; and the files that its
-/// plates, in their order, and its report are written into.
+/// How a page is trapped and written: by how many workers, from 1 to 64, in bands of how many rows, from 1 to 4,096;
+/// and the files that its plates, in their order, and its report are written to.
 #[derive(Drop)]
-pub struct PageOrder<'a, S> {
+pub struct OutputArgs<'a, S> {
     pub workers: u32,
     pub band: u32,
     pub outputs: &'a [S],
     pub report: &'a str,
 }
 
-/// Traps the page and writes its files, and gives the receipt. All memory that is wanted is taken before the first file is
-/// created.
+/// Traps the page, writes its files, and returns the receipt. All memory is allocated before the first file is created.
 ///
-/// A refusal is `Memory`, which leaves all files as they were, or `Write`, as `page_writing::write_page` gives it.
+/// The refusal is `Memory`, which leaves all files as they were, or `Write`, as `page_writing::write_page` gives it.
 pub fn put_out<H: Threads + Sync, S: AsStr, R: Rack, G: Gate + Sync>(
     rt: &H,
     alloc: Global,
     page: &Page,
-    order: &PageOrder<'_, S>,
+    order: &OutputArgs<'_, S>,
     rack: &mut R,
     gate: &G,
 ) -> Result<Closed, Refusal>

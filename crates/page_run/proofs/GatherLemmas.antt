@@ -26,7 +26,7 @@ use Rattle.page_gather.proofs.PlaneLemmas.{planes_back, plates_found}
 use Rattle.page_gather.proofs.PlateLemmas.{plate_count}
 use Rattle.traprun_verdicts.specs.declared.stop.TraprunError.{TraprunError}
 use Rattle.traprun_verdicts.specs.declared.stop.TraprunError.TheVariants.{Whole, AtPage}
-use Rattle.traprun_verdicts.specs.Images.{HasImage, page_spelling}
+use Rattle.traprun_verdicts.specs.Images.{HasImage, page_decoder}
 use Rattle.traprun_verdicts.specs.Stops.{stop_at}
 use Rattle.refusals.specs.declared.refusal.Refusal.{Refusal}
 use Rattle.refusals.specs.declared.refusal.Refusal.TheVariants.{Usage, Job, NoDetails, Plate, Page, Read, Write, Memory}
@@ -55,7 +55,7 @@ module _ (source : Sources) (bytes : List ℕ) (k : ℕ) (a b : TrayState) where
   job_stopped OutOfMemory is = no_job_memory
 
   module _ (job : JobRead) (given : page_job_of bytes k ≡ Ok job) where
-    job_read : IsJobOf source bytes a → IsTrue a.tells → Holds a.file source.job (λ all. (page_spelling k).job all ≡ Ok job)
+    job_read : IsJobOf source bytes a → IsTrue a.tells → Holds a.file source.job (λ all. (page_decoder k).job all ≡ Ok job)
     job_read known tells = (bytes, known tells, given)
 
     stopped_by : (stop : TraprunError) (plate : ℕ) → IsJobOf source bytes a → StopsAt (images_sought k) source.inputs plate a b → Refuses (images_sought k) plate (name_at source.inputs plate) a b stop → StopsPage source k a b stop
@@ -74,7 +74,7 @@ module _ (source : Sources) (bytes : List ℕ) (k : ℕ) (a b : TrayState) where
     pub images_refused : (stop : TraprunError) → ReadsImages k source.inputs a b (Err stop) → GathersPage source bytes k a b (Err stop)
     images_refused stop reads = record { keeps = reads.keeps; in_hand = may_hold k source.inputs (length source.inputs) a b reads.in_hand; count = tt; answer = λ known. stopped_by stop reads.answer.0 known reads.answer.1 reads.answer.2 }
 
-    makes : (read : List Plane) (made : Result PageParts Refusal) → IsJobOf source bytes a → ReadsImages k source.inputs a b (Ok read) → assembly_of_planes job read source.names ≡ made → IsTrue a.tells → Makes (page_spelling k) a.file source made
+    makes : (read : List Plane) (made : Result PageParts Refusal) → IsJobOf source bytes a → ReadsImages k source.inputs a b (Ok read) → assembly_of_planes job read source.names ≡ made → IsTrue a.tells → Makes (page_decoder k) a.file source made
     makes read made known reads is tells = (
       job,
       map plate_of read,

@@ -100,9 +100,6 @@ module _ (k plate : ℕ) (name : List ℕ) (a b : TrayState) where
   pub image_unread : ReadsPage name k a b (Err ReadFault) → LooksAt (images_sought k) plate name a b (Err (AtPage k (Read (Some plate))))
   image_unread reads = record { keeps = reads.keeps; asked = reads.asked; takes = takes_image name k a b _ reads; answer = Refuses.unread refl reads.answer.0 (unbroken name k a b reads) }
 
-  pub end_found : ReadsPage name k a b (Ok None) → LooksAt (ends_sought k) plate name a b (Ok tt)
-  end_found reads = record { keeps = reads.keeps; asked = reads.asked; takes = takes_image name k a b _ reads; answer = (tt, reads.count, has_none name k a b reads) }
-
   pub end_extra : (image : PlateRead) → ReadsPage name k a b (Ok (Some image)) → LooksAt (ends_sought k) plate name a b (Err (Extra plate))
   end_extra image reads = record {
     keeps = reads.keeps;

@@ -27,7 +27,7 @@ use Rattle.page_run.specs.Reading.{AreUnbroken}
 use Rattle.page_gather.proofs.LookLemmas.{held_before, taken_before}
 use Rattle.traprun_verdicts.specs.declared.stop.TraprunError.{TraprunError}
 use Rattle.traprun_verdicts.specs.declared.stop.TraprunError.TheVariants.{AtPage, Ends}
-use Rattle.traprun_verdicts.specs.Images.{page_spelling}
+use Rattle.traprun_verdicts.specs.Images.{page_decoder}
 use Rattle.traprun_verdicts.specs.Pages.{AreMade, pages_of, run_files, run_names, run_reads, target_at}
 use Rattle.traprun_verdicts.specs.RunVerdicts.{ComesTo, PlateEnds}
 use Rattle.refusals.specs.declared.refusal.Refusal.TheVariants.{Read, Write}
@@ -111,7 +111,7 @@ module _ (source : Sources) (target : Targets) (t b c : TrayState) (r r1 r2 : Ra
   made_more : (page : PageParts) → IsPageMade source (length pages) b c page → IsTrue t.tells → AreMade t.file source (page ∷ pages)
   made_more page made tells = (
     done.written.made tells,
-    from_first t b (λ files. Makes (page_spelling (length pages)) files source (Ok page)) done.tray_keeps made.makes tells,
+    from_first t b (λ files. Makes (page_decoder (length pages)) files source (Ok page)) done.tray_keeps made.makes tells,
   )
 
   valid_more : (page : PageParts) → IsPage page → All IsPage (page ∷ pages)
@@ -164,7 +164,7 @@ module _ (source : Sources) (target : Targets) (t b c : TrayState) (r r1 r2 : Ra
         refl
         (count_then (Unit {0}) (Unit {0}) t b c refusal done.written.calm passes)
         (asked_more _ asked)
-        (λ tells. (comes_to tells, from_first t b (λ files. IsVerdict (page_spelling (length pages)) files source (target_at target (length pages)) (Refused refusal)) done.tray_keeps (λ there. verdict there (target_at target (length pages))) tells)) in_hand)
+        (λ tells. (comes_to tells, from_first t b (λ files. IsVerdict (page_decoder (length pages)) files source (target_at target (length pages)) (Refused refusal)) done.tray_keeps (λ there. verdict there (target_at target (length pages))) tells)) in_hand)
     stopped_by stop same in_hand (StopsPage.ends plate is calm asked ends) =
         subst (λ (s : TraprunError). AnswersRun source target t c r r2 (Err s)) (sym is)
         (AnswersRun.refused pages b (Ends (length pages) plate) refl (inr refl) (subst (λ (x : RackState). Written source target t b r x pages) (sym same) done.written)
@@ -182,8 +182,8 @@ module _ (source : Sources) (target : Targets) (t b c : TrayState) (r r1 r2 : Ra
           record {
             job = breaks.job;
             plates = breaks.plates;
-            job_read = λ tells. held_before t b source.job (λ all. (page_spelling (length pages)).job all ≡ Ok breaks.job) done.tray_keeps breaks.job_read tells;
-            before_it = from_first t b (λ files. AreRead (page_spelling (length pages)) files source.inputs plate breaks.plates) done.tray_keeps breaks.before_it;
+            job_read = λ tells. held_before t b source.job (λ all. (page_decoder (length pages)).job all ≡ Ok breaks.job) done.tray_keeps breaks.job_read tells;
+            before_it = from_first t b (λ files. AreRead (page_decoder (length pages)) files source.inputs plate breaks.plates) done.tray_keeps breaks.before_it;
             in_hand = taken_before (AreUnbroken (length pages)) t b c (name_at source.inputs plate) done.tray_keeps breaks.in_hand;
           },
         ) in_hand)

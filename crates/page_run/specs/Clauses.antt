@@ -50,7 +50,7 @@ pub record Whole (order : RunWords) (tray tray' : TrayState) (rack rack' : RackS
 
 -- All pages of the job are whole, and no plate's file has another image after the last one. All
 -- inputs were read for each page and looked at after the last one, each in its order; and nothing
--- is told.
+-- is printed.
 pub record EveryPage (order : RunWords) (tray tray' : TrayState) (rack rack' : RackState)
     : Type 0 where
   pub pages : List PageParts
@@ -73,7 +73,7 @@ pub record Success (words : List (List ℕ)) (tray tray' : TrayState) (rack rack
       (Out files) ×
       (IsTrue rack.tells → rack'.file ≡ put_all files rack.file)
 
--- Status 2 comes exactly where the words mean no run. The usage line is then told, no name is
+-- Status 2 comes exactly where the words mean no run. The usage line is then printed, no name is
 -- handed out, and the files are as before.
 pub record Usage (words : List (List ℕ)) (tray tray' : TrayState) (rack rack' : RackState)
     (status : ℕ) : Type 0 where

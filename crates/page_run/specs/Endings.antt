@@ -36,8 +36,7 @@ pub record Written (source : Sources) (target : Targets) (tray tray' : TrayState
   pub finished : FinishesAll (run_names target (length pages)) rack rack'
   pub wrote : WritesAll (run_files target pages) rack rack'
 
--- the files that are begun where a run stops so after so many pages: none stands after the one
--- that is refused
+-- the files that are begun where a run stops so after k pages: none after the one that is refused
 abbrev pub stop_reads : Sources → ℕ → TraprunError → List (List ℕ)
 stop_reads source k (AtPage page refusal) = run_reads source k ++ page_reads source refusal
 stop_reads source k (Ends page plate) = run_reads source k ++ take (plate + 1) source.inputs
@@ -70,8 +69,8 @@ BreaksRun source k before after (Whole (Read (Some plate))) =
     × IsUnbroken k (name_at source.inputs plate) before after
 BreaksRun source k before after other = ⊥
 
--- A stop stands after so many pages: that of a page has the page's number, one of the whole job
--- comes before the first page, and one of a plate's last look after all pages of the job.
+-- A stop stands after k pages: that of a page has the page's number, one of the whole job comes
+-- before the first page, and one of a plate's last look after all pages of the job.
 abbrev pub StopsAfter : Sources → TrayState → ℕ → TraprunError → Type 0
 StopsAfter source before k (AtPage page refusal) = page ≡ k
 StopsAfter source before k (Ends page plate) = page ≡ k
@@ -80,8 +79,8 @@ StopsAfter source before k (Whole (Plate plate fault)) = IsTrue before.tells
     → HasPages before.file source k
 StopsAfter source before k other = k ≡ 0
 
--- How a run ends, before a line is told. The pages are those that were written whole before it, the
--- last of them first.
+-- How a run ends, before a line is printed. The pages are those that were written whole before it,
+-- the last of them first.
 pub data AnswersRun (source : Sources) (target : Targets) (tray tray' : TrayState)
     (rack rack' : RackState) (result : Result (Unit {0}) TraprunError) : Type 0 where
   not_begun : result ≡ Err (Whole Memory) → tray' ≡ tray → rack' ≡ rack
@@ -173,7 +172,7 @@ abbrev pub Closes : Result (Unit {0}) TraprunError → RackState → RackState �
 Closes (Ok x) before after status = (after ≡ before) × (status ≡ is_done)
 Closes (Err stop) before after status = RefusesRun stop before after status
 
--- A run is carried out, and its stop is told.
+-- A run is carried out, and its stop is printed.
 pub record EndsRun (order : RunWords) (tray tray' : TrayState) (rack rack' : RackState)
     (status : ℕ) : Type 0 where
   pub result : Result (Unit {0}) TraprunError
@@ -181,7 +180,7 @@ pub record EndsRun (order : RunWords) (tray tray' : TrayState) (rack rack' : Rac
   pub runs : Runs (sources_of order) (targets_of order) tray tray' rack between result
   pub closed : Closes result between rack' status
 
--- The usage line is told.
+-- The usage line is printed.
 pub record RefusesWords (before after : RackState) (status : ℕ) : Type 0 where
   pub files : KeepsFiles before after
   pub line : TellsText usage_line before after

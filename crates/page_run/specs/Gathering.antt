@@ -19,7 +19,7 @@ use Rattle.page_run.specs.declared.gather.OpenJob.{OpenJob}
 use Rattle.page_run.specs.declared.words.TraprunArgs.{TraprunArgs}
 use Rattle.traprun_verdicts.specs.declared.stop.TraprunError.{TraprunError}
 use Rattle.traprun_verdicts.specs.declared.stop.TraprunError.TheVariants.{Whole, AtPage, Ends}
-use Rattle.traprun_verdicts.specs.Images.{page_spelling}
+use Rattle.traprun_verdicts.specs.Images.{page_decoder}
 use Rattle.traprun_verdicts.specs.Pages.{pages_of, run_reads}
 use Rattle.traprun_verdicts.specs.RunVerdicts.{PlateEnds}
 use Rattle.refusals.specs.declared.refusal.Refusal.{Refusal}
@@ -51,9 +51,9 @@ pub record PageBreaks (source : Sources) (k plate : ℕ) (before after : TraySta
   pub job : JobRead
   pub plates : List PlateRead
   pub job_read : IsTrue before.tells
-      → Holds before.file source.job (λ bytes. (page_spelling k).job bytes ≡ Ok job)
+      → Holds before.file source.job (λ bytes. (page_decoder k).job bytes ≡ Ok job)
   pub before_it : IsTrue before.tells
-      → AreRead (page_spelling k) before.file source.inputs plate plates
+      → AreRead (page_decoder k) before.file source.inputs plate plates
   pub in_hand : IsUnbroken k (name_at source.inputs plate) before after
 
 -- Page k stops the run before a file of it is created.
@@ -63,7 +63,7 @@ pub data StopsPage (source : Sources) (k : ℕ) (before after : TrayState)
       ⊎ (status_of refusal ≡ page_refused) → PassesNoFault {T = Unit {0}} before after (Err refusal)
       → Asks before.asked after.asked (page_reads source refusal)
       → (IsTrue before.tells → (target : Targets)
-      → IsVerdict (page_spelling k) before.file source target (Refused refusal))
+      → IsVerdict (page_decoder k) before.file source target (Refused refusal))
       → StopsPage source k before after stop
   ends : (plate : ℕ) → stop ≡ Ends k plate → after.faults ≡ before.faults
       → Asks before.asked after.asked (take (plate + 1) source.inputs)
@@ -81,7 +81,7 @@ pub record IsPageMade (source : Sources) (k : ℕ) (before after : TrayState)
   pub count : plates page ≡ length source.inputs
   pub calm : after.faults ≡ before.faults
   pub asked : Asks before.asked after.asked source.inputs
-  pub makes : IsTrue before.tells → Makes (page_spelling k) before.file source (Ok page)
+  pub makes : IsTrue before.tells → Makes (page_decoder k) before.file source (Ok page)
 
 abbrev pub AnswersGather : Sources → ℕ → TrayState → TrayState → Result PageParts TraprunError
     → Type 0

@@ -5,6 +5,7 @@ use Rattle.plain_words.specs.Plates.{inputs_of, names_of}
 use Rattle.page_run.specs.Words.{RunWords}
 use Rattle.page_run.specs.declared.gather.OpenJob.{OpenJob}
 use Rattle.page_run.specs.declared.words.TraprunArgs.{TraprunArgs}
+use Rattle.page_model.specs.Limits.{most_band_height, most_plates, most_workers}
 
 -- the run of the words that are held
 abbrev pub order_in : TraprunArgs → RunWords
@@ -20,11 +21,11 @@ order_in order = record {
 -- the limits of what the words may ask for
 pub record IsWithin (order : TraprunArgs) : Type 0 where
   pub workers_from : 1 ≤ order.workers
-  pub workers_to : order.workers ≤ 64
+  pub workers_to : order.workers ≤ most_workers
   pub band_from : 1 ≤ order.band
-  pub band_to : order.band ≤ 4096
+  pub band_to : order.band ≤ most_band_height
   pub some : 1 ≤ length order.plates.now
-  pub few : length order.plates.now ≤ 16
+  pub few : length order.plates.now ≤ most_plates
 
 -- The lists in hand are those of the words.
 pub record IsOpenJob (held : OpenJob) : Type 0 where

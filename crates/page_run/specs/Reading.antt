@@ -61,7 +61,7 @@ pub record ReadsRunJob (name : List ℕ) (before after : TrayState)
   pub few : TakesJob name before after
   pub answer : AnswersRunJob name before after result
 
--- At most so many plate files, and bytes after them that have no fault but an early end.
+-- At most `number` plate files, and bytes after them that have no fault but an early end.
 abbrev pub AreUnbroken : ℕ → List ℕ → Type 0
 AreUnbroken number bytes = (image : List ℕ) × StandsAfter bytes number image × HaveNoFault image
 
@@ -69,7 +69,7 @@ AreUnbroken number bytes = (image : List ℕ) × StandsAfter bytes number image 
 abbrev pub IsUnbroken : ℕ → List ℕ → TrayState → TrayState → Type 0
 IsUnbroken number = HasTaken (AreUnbroken number)
 
--- whether a failed read may stand behind what a file is refused for: a fault, or none
+-- whether a failed read may stand after what a file is refused for: a fault, or none
 abbrev pub hides : Option PlateFault → Bool
 hides None = false
 hides (Some fault) = may_hide fault
@@ -104,7 +104,7 @@ abbrev pub ReadsImages : ℕ → List (List ℕ) → TrayState → TrayState
     → Result (List Plane) TraprunError → Type 0
 ReadsImages page = LooksThrough (images_sought page)
 
--- why a file does not end after so many pages: there is another image, or a fault
+-- why a file does not end after `pages` pages: there is another image, or a fault
 abbrev pub GoesOn : ℕ → Option PlateFault → List ℕ → Type 0
 GoesOn pages None bytes = (another : PlateRead) × HasImage pages bytes another
 GoesOn pages (Some fault) bytes = HasImageFault pages bytes fault
@@ -113,7 +113,7 @@ abbrev pub end_stop : ℕ → Option PlateFault → TraprunError
 end_stop plate None = Extra plate
 end_stop plate (Some fault) = Whole (Plate plate fault)
 
--- the end of each plate's file after so many pages
+-- the end of each plate's file after `pages` pages
 abbrev pub ends_sought : ℕ → Sought (Unit {0}) TraprunError
 ends_sought pages = record {
   gives = λ bytes nothing. HasNoImage pages bytes;

@@ -1,4 +1,4 @@
--- What is told of words that mean no run.
+-- What is printed for words that mean no run.
 use Rattle.std.specs.Prelude.{ℕ, List, codes}
 use Rattle.refusals.specs.Lines.{line}
 

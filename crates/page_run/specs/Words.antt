@@ -10,6 +10,7 @@ use Rattle.plain_words.specs.Parts.{PlateNames, parts_of}
 use Rattle.plain_words.specs.Plates.{are_plates, inputs_of, names_of, outputs_of, stand_together}
 use Rattle.plain_words.specs.Written.{reads_written}
 use Rattle.verdicts.specs.Verdicts.{Targets}
+use Rattle.page_model.specs.Limits.{most_band_height, most_workers}
 
 -- a run over many pages: its workers, the rows of its bands, the files that are read and written
 pub record RunWords : Type 0 where
@@ -67,6 +68,7 @@ order_with _ _ _ _ _ = None
 -- to 64 workers and bands of 1 to 4,096 rows
 abbrev pub order_of : List (List ℕ) → Option RunWords
 order_of (workers ∷ band ∷ job ∷ report ∷ plates) =
-    order_with (number_of 1 64 workers) (number_of 1 4096 band) job report
+    order_with (number_of 1 most_workers workers) (number_of 1 most_band_height band)
+    job report
     (plates_of job report plates)
 order_of _ = None

@@ -1,7 +1,7 @@
 ghost use Rattle.std.specs.Prelude.{◌≡◌, Ok};
 ghost use Rattle.job_reader.specs.InRange.{IsJob};
 ghost use Rattle.job_pages.specs.Runs.{HasPage, page_job_of};
-ghost use Rattle.page_run.specs.Gathering.{GathersPage, OpensJob, job_stop as job_stop_meant};
+ghost use Rattle.page_run.specs.Gathering.{GathersPage, OpensJob, job_stop as job_stop_spec};
 ghost use Rattle.page_run.specs.Opened.{IsOpenJob, IsWithin, order_in};
 ghost use Rattle.page_run.specs.Words.{sources_of};
 
@@ -20,7 +20,7 @@ use refusals::refusal::Refusal;
 use std::alloc::Global;
 use traprun_verdicts::stop::{TraprunError, stop_at};
 
-/// A run in hand: its order, the names of its plates' colorants and their files, and its job.
+/// A run whose job was read: its arguments, the names of its plates' colorants and their files, and its job.
 #[derive(Drop)]
 pub struct OpenJob<'a> {
     pub order: &'a TraprunArgs<'a>,
@@ -29,7 +29,7 @@ pub struct OpenJob<'a> {
     pub job: ManyPages,
 }
 
-/// Reads the job of a run. Memory for the names of its plates is taken first.
+/// Reads the job of a run. Memory for the names of its plates is allocated first.
 pub fn open_job<'a, T: Tray>(
     alloc: Global,
     order: &'a TraprunArgs<'a>,
@@ -56,10 +56,11 @@ pub fn open_job<'a, T: Tray>(
     }
 }
 
-/// Reads the page of that number, counted from 0: its job, and the image of each plate; and makes the page of them.
+/// Reads the page of that number, counted from 0: its job, and the image of each plate; and makes a page of them.
 ///
-/// It stops at the first refusal: the job's fault, a read that fails, a plate whose file has no image for the page or a fault, a
-/// plate without details, a fault of the page, or out of memory. No file is begun after the one that is refused.
+/// It stops at the first refusal: the job's fault, a read that fails, a plate whose file has no image for the page or a
+/// fault, a plate without details, a fault of the page, or out of memory. No file is begun after the one that is
+/// refused.
 pub fn gather_page<T: Tray>(
     alloc: Global,
     opened: &OpenJob<'_>,
@@ -78,9 +79,9 @@ pub fn gather_page<T: Tray>(
     }
 }
 
-// The stop that the refusal of a page's job is. Out of memory belongs to no page.
+// Adds the page number to a refusal of its job. Out of memory is reported without one.
 fn job_stop(page: u32, refusal: JobRefusal) -> TraprunError
-    ensures { result ≡ job_stop_meant page refusal }
+    ensures { result ≡ job_stop_spec page refusal }
 {
     match refusal {
         JobRefusal::Fault(fault) => TraprunError::AtPage(page, Refusal::Job(fault)),
@@ -88,7 +89,7 @@ fn job_stop(page: u32, refusal: JobRefusal) -> TraprunError
     }
 }
 
-// Reads the images of the page after its job, and makes the page of both.
+// Reads the images of the page after its job, and makes a page of both.
 fn gather_images<T: Tray>(
     alloc: Global,
     job: Job,

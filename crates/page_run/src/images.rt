@@ -1,5 +1,6 @@
 ghost use Rattle.std.specs.Prelude.{◌<◌, ◌≤◌, length, map};
 ghost use Rattle.page_run.specs.Reading.{ExpectsEnd, ReadsImages, ends_sought, images_sought};
+ghost use Rattle.page_model.specs.Limits.{most_plates};
 
 use outside::tray::Tray;
 use page_gather::looks::{Look, look_through};
@@ -18,21 +19,22 @@ pub(crate) fn read_images<T: Tray>(
     page: u32,
     inputs: &[&str],
 ) -> Result<PlaneList, TraprunError>
-    requires { length inputs.now ≤ 16 }
+    requires { length inputs.now ≤ most_plates }
     ensures { ReadsImages page (map (λ file. file.now) inputs.now) (T.state tray.old)
         (T.state tray.new) result }
 {
     look_through(alloc, tray, inputs, &Images { page })
 }
 
-/// Looks after the last of so many pages in each of these files in order, up to the first that does not end there.
+/// Checks that each of these files ends after as many images as the job has pages, in order, up to the first that does
+/// not.
 pub(crate) fn expect_end<T: Tray>(
     alloc: Global,
     tray: &mut T,
     pages: u32,
     inputs: &[&str],
 ) -> Result<(), TraprunError>
-    requires { length inputs.now ≤ 16 }
+    requires { length inputs.now ≤ most_plates }
     ensures { ExpectsEnd pages (map (λ file. file.now) inputs.now) (T.state tray.old)
         (T.state tray.new) result }
 {
@@ -42,7 +44,7 @@ pub(crate) fn expect_end<T: Tray>(
     }
 }
 
-// The plane of a page's image.
+// Reads the plane of a page's image in each file.
 #[derive(Drop)]
 struct Images {
     page: u32,
@@ -80,7 +82,7 @@ impl Look for Images {
     }
 }
 
-// The end of a file after so many pages.
+// Checks the end of each file after the images of all pages.
 #[derive(Drop)]
 struct Ends {
     pages: u32,

@@ -12,7 +12,7 @@ use refusals::refusal::Refusal;
 use std::alloc::Global;
 use traprun_verdicts::stop::TraprunError;
 
-/// Reads the job of that name: all of its bytes, or one more than a job may have, and never more; and finds its pages.
+/// Reads the job of that name: all its bytes, but at most one more than a job may have; and finds its pages.
 pub(crate) fn read_run_job<T: Tray>(
     alloc: Global,
     tray: &mut T,

@@ -12,7 +12,7 @@ use band_workers::Gate;
 use outside::rack::Rack;
 use outside::tray::Tray;
 use page_model::page::Page;
-use page_output::output::{PageOrder, put_out};
+use page_output::output::{OutputArgs, put_out};
 use refusals::refusal::Refusal;
 use std::alloc::Global;
 use std::thread::Threads;
@@ -40,7 +40,7 @@ pub(crate) fn trap_one<H: Threads + Sync, T: Tray, R: Rack, G: Gate + Sync>(
     }
 }
 
-// Traps a page and writes its files, each under its name and the page's number.
+// Traps a page and writes its files, each to its name followed by the page's number.
 fn put_page<H: Threads + Sync, R: Rack, G: Gate + Sync>(
     rt: &H,
     alloc: Global,
@@ -63,7 +63,7 @@ fn put_page<H: Threads + Sync, R: Rack, G: Gate + Sync>(
         (Ok(outputs), Ok(report)) => (outputs, report),
         _ => return Err(TraprunError::Whole(Refusal::Memory)),
     };
-    let files = PageOrder {
+    let files = OutputArgs {
         workers: order.workers,
         band: order.band,
         outputs: outputs.as_slice(),

@@ -16,7 +16,7 @@ use std::thread::Threads;
 use traprun_verdicts::stop::TraprunError;
 use traprun_verdicts::telling::refuse_run;
 
-// Carries out a run, and gives the status that it ends with.
+// Runs the command, and returns the status that it ends with.
 pub(crate) fn run_order<H: Threads + Sync, T: Tray, R: Rack, G: Gate + Sync>(
     rt: &H,
     alloc: Global,
@@ -35,7 +35,7 @@ pub(crate) fn run_order<H: Threads + Sync, T: Tray, R: Rack, G: Gate + Sync>(
     }
 }
 
-// Reads the job, and page after page reads, traps and writes; and looks after the last page.
+// Reads the job, then reads, traps and writes page after page; and checks the ends of the files after the last page.
 fn carry_out<H: Threads + Sync, T: Tray, R: Rack, G: Gate + Sync>(
     rt: &H,
     alloc: Global,
@@ -55,7 +55,7 @@ fn carry_out<H: Threads + Sync, T: Tray, R: Rack, G: Gate + Sync>(
     }
 }
 
-// Traps all pages of a job that was read, and looks after the last one.
+// Traps all pages of a job that was read, and checks the ends of the files after the last one.
 fn trap_job<H: Threads + Sync, T: Tray, R: Rack, G: Gate + Sync>(
     rt: &H,
     alloc: Global,

@@ -1,7 +1,7 @@
 ghost use Rattle.std.specs.Prelude.{◌≡◌, map, string_bytes};
 ghost use Rattle.page_run.specs.Clauses.{Success, Usage, RefusedInput, ReadFault, WriteFault, LeavesPages, FaultLine, Completeness};
 ghost use Rattle.page_run.specs.Endings.{EndsWords, RefusesWords};
-ghost use Rattle.page_run.specs.Text.{usage_line as usage_meant};
+ghost use Rattle.page_run.specs.Text.{usage_line as usage_spec};
 
 use crate::run::run_order;
 use crate::words::read_words;
@@ -14,18 +14,18 @@ use refusals::telling::tell_line;
 use std::alloc::Global;
 use std::thread::Threads;
 
-/// Traps each page of a job of many pages, and answers the status that the program ends with.
+/// Traps each page of a job of many pages, and returns the status that the program exits with.
 ///
-/// The words are `WORKERS BAND JOB REPORT NAME:IN:OUT ...`: the workers, from 1 to 64, the rows of a band, from 1 to 4,096, the
-/// job's file, the report's, and one to sixteen plates, each with the name of its colorant, the file that is read and the one
-/// that is written. The job has one `showpage` for each page, and each plate's file one image. Page k, counted from 0, is
-/// written into OUT and REPORT, each followed by `.` and k. It is read, trapped and written before the next one is read; after
-/// the last page each plate's file has to end.
+/// The words are `WORKERS BAND JOB REPORT NAME:IN:OUT ...`: the workers, from 1 to 64, the rows of a band, from 1 to
+/// 4,096, the job's file, the report's, and one to sixteen plates, each with the name of its colorant, the file that is
+/// read and the one that is written. The job has one `showpage` for each page, and each plate's file one image. Page k,
+/// counted from 0, is written to OUT and REPORT, each followed by `.` and k. It is read, trapped and written before the
+/// next one is read; after the last page each plate's file has to end.
 ///
-/// The status is 0 where all pages are written; 2 where the words mean no run; 3 where the job has a fault, or lacks the details
-/// of a plate's colorant; 4 where a plate's file has a fault, too few images or too many, or the plates are no page; 5 where a
-/// read failed; 6 where a write failed; and 7 where memory ran out. Each refusal tells one line that names the cause. What
-/// stops a run at one page leaves the files of the pages before it whole.
+/// The status is 0 if all pages are written; 2 if the words are no command; 3 if the job has a fault, or lacks the
+/// details of a plate's colorant; 4 if a plate's file has a fault, too few images or too many, or the plates do not
+/// make a page; 5 if a read failed; 6 if a write failed; and 7 if memory ran out. Each refusal prints one line that
+/// names the cause. If a run stops at one page, the files of the pages before it are whole.
 pub fn traprun_main<H: Threads + Sync, T: Tray, R: Rack, G: Gate + Sync>(
     rt: &H,
     alloc: Global,

@@ -1,12 +1,11 @@
 -- The parts of the sample page are those of a page.
-use Rattle.std.proofs.Common.{◌≡◌, ℕ, zero, suc, ◌*◌, ◌/◌, ◌%◌, ◌≤◌, List, [], ◌∷◌, length, get_or, None, true, false, refl, ◌∙◌, arith, All, length-append, leb, ltb, eqb, ◌&&◌, codes}
+use Rattle.std.proofs.Common.{◌≡◌, ℕ, zero, suc, ◌*◌, ◌/◌, ◌%◌, ◌≤◌, List, [], ◌∷◌, length, get_or, true, refl, ◌∙◌, arith, All, length-append, leb, codes}
 use Rattle.std.proofs.lemmas.List.Elements.{All-append, All-cons}
 use Rattle.std.proofs.lemmas.Bool.{and_parts}
 use Rattle.std.specs.List.{list_all}
 use Rattle.page_model.specs.declared.parts.Limit.{Limit}
 use Rattle.std.proofs.lemmas.Bool.Decides.{nat_tests}
 use Rattle.page_model.specs.Conditions.{IsParts, IsPlane, IsInk, IsZone, IsVertex}
-use Rattle.page_model.specs.Faults.{page_fault}
 use Rattle.lists.specs.Words.{list_below}
 use Rattle.page_source.specs.Sample.{colour, tint_at, sample_tints, sample_plane, sample_parts, sample_zone, normal_ink, cyan_tints, magenta_tints, yellow_tints, black_tints}
 
@@ -73,13 +72,3 @@ is_parts number w h w1 w2 h1 h2 = record {
   fine = omega arith;
   resolved = λ none. absurd (omega arith);
 }
-
--- the sides of all plates are the same
-same_sides : (w h : ℕ) → eqb w w && eqb h h ≡ true
-same_sides w h = grind (arith, nat_tests)
-
-few_samples : (w h : ℕ) → 4 * w * h ≤ 160000000 → ltb 160000000 (w * h * 4) ≡ false
-few_samples w h few = let same : w * h * 4 ≡ 4 * w * h = omega arith in grind (arith, nat_tests)
-
-pub faultless : (number w h : ℕ) → 4 * w * h ≤ 160000000 → page_fault (sample_parts number w h) ≡ None
-faultless number w h few = rw (same_sides w h, few_samples w h few) refl

@@ -1,4 +1,4 @@
-//! The page that the program makes by itself, for tries and tests.
+//! The sample page that the program makes itself, for trials and tests.
 #![tactic(auto)]
 
 pub mod sample;

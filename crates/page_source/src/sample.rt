@@ -1,7 +1,9 @@
 ghost use Rattle.std.specs.Prelude.{◌≡◌, ◌↔◌, ◌*◌, ◌/◌, ◌%◌, ◌+◌, ◌<◌, ◌≤◌, ◌++◌, ◌∷◌, [], IfOk, OnOk, Err, length};
 ghost use Rattle.page_source.specs.Sample.{colour as colour_of, sample_tints, sample_plane, sample_parts, sample_zone, normal_ink};
+ghost use Rattle.page_model.specs.Limits.{most_samples, most_side};
 
 use lists::list::List;
+use page_model::bounds::MOST_SAMPLES;
 use page_model::page::Page;
 use page_model::parts::{
     Ink, InkKind, InkList, OutOfMemory, PageParts, Plane, PlaneList, TrapParams, Zone, ZoneList,
@@ -9,7 +11,7 @@ use page_model::parts::{
 use std::alloc::Global;
 use thiserror::Error;
 
-/// Why a sample page is not made.
+/// Why a sample page could not be made.
 #[derive(Clone, Copy, Debug, Drop, Error, PartialEq, Eq)]
 pub enum SampleRefusal {
     /// Four times width times height is above 160,000,000.
@@ -27,10 +29,8 @@ const YELLOW: [u16; 8] = [0, 0, 255, 0, 0, 255, 255, 0];
 
 const BLACK: [u16; 8] = [0, 0, 0, 255, 0, 0, 0, 128];
 
-const MOST_SAMPLES: u64 = 160_000_000;
-
-/// The sample page of that number: four plates of `width * height` samples at 600 pixels per inch, in tiles of eight
-/// samples a side, and zone 0 alone. The page is this project's own.
+/// The sample page of a number: four plates of `width * height` samples at 600 pixels per inch, in square tiles of
+/// eight samples a side, and zone 0 alone. The page is this project's own.
 pub fn sample_page(
     alloc: Global,
     number: u32,
@@ -38,11 +38,11 @@ pub fn sample_page(
     height: u32,
 ) -> Result<Page, SampleRefusal>
     requires some_width { 1 ≤ width }
-    requires narrow { width ≤ 16384 }
+    requires narrow { width ≤ most_side }
     requires some_height { 1 ≤ height }
-    requires low { height ≤ 16384 }
+    requires low { height ≤ most_side }
     ensures too_many { (result ≡ Err SampleRefusal.TooManySamples)
-        ↔ (160000000 < 4 * width * height) }
+        ↔ (most_samples < 4 * width * height) }
     ensures page { IfOk result (λ page. page ≡ sample_parts number width height) }
 {
     if 4 * width as u64 * height as u64 > MOST_SAMPLES {
@@ -59,8 +59,8 @@ pub fn sample_page(
 
 fn parts(alloc: Global, number: u32, width: u32, height: u32) -> Result<PageParts, OutOfMemory>
     requires some_width { 1 ≤ width }
-    requires narrow { width ≤ 16384 }
-    requires low { height ≤ 16384 }
+    requires narrow { width ≤ most_side }
+    requires low { height ≤ most_side }
     ensures { IfOk result (λ parts. parts ≡ sample_parts number width height) }
 {
     let planes = planes(alloc, number, width, height)?;
@@ -76,8 +76,8 @@ fn parts(alloc: Global, number: u32, width: u32, height: u32) -> Result<PagePart
 
 fn planes(alloc: Global, number: u32, width: u32, height: u32) -> Result<PlaneList, OutOfMemory>
     requires some_width { 1 ≤ width }
-    requires narrow { width ≤ 16384 }
-    requires low { height ≤ 16384 }
+    requires narrow { width ≤ most_side }
+    requires low { height ≤ most_side }
     ensures { IfOk result (λ planes. planes ≡ (sample_parts number width height).planes) }
 {
     let mut planes = List::new(alloc);
@@ -98,8 +98,8 @@ fn add_plane(
 ) -> Result<(), OutOfMemory>
     requires eight { length tints.now ≡ 8 }
     requires some_width { 1 ≤ width }
-    requires narrow { width ≤ 16384 }
-    requires low { height ≤ 16384 }
+    requires narrow { width ≤ most_side }
+    requires low { height ≤ most_side }
     ensures { OnOk result
         (planes.new ≡ planes.old ++ sample_plane tints.now number width height ∷ []) }
 {
@@ -127,8 +127,8 @@ fn plane_tints(
 ) -> Result<Vec<u16>, OutOfMemory>
     requires eight { length tints.now ≡ 8 }
     requires some_width { 1 ≤ width }
-    requires narrow { width ≤ 16384 }
-    requires low { height ≤ 16384 }
+    requires narrow { width ≤ most_side }
+    requires low { height ≤ most_side }
     ensures { IfOk result (λ made. made.items ≡ sample_tints tints.now number width height) }
 {
     let count = width * height;
@@ -146,8 +146,8 @@ fn plane_tints(
 
 // The colour of a sample, from 0 to 7.
 fn colour(number: u32, x: u32, y: u32) -> u64
-    requires narrow { x < 16384 }
-    requires low { y < 16384 }
+    requires narrow { x < most_side }
+    requires low { y < most_side }
     ensures colour { result ≡ colour_of number x y }
     ensures few { result < 8 }
 {

@@ -136,12 +136,6 @@ pub record AreCounting (page : PageParts) (y c : ℕ) (counts : List ℕ) : Type
   pub done : (j : ℕ) → j < c → j < plates page → slice_index counts j ≡ count_below (λ k. plate_changes page j (sample_at page k)) ((y + 1) * width page)
   pub rest : (j : ℕ) → c ≤ j → j < plates page → slice_index counts j ≡ count_below (λ k. plate_changes page j (sample_at page k)) (y * width page)
 
-pub counting_none : (page : PageParts) (y : ℕ) (counts : List ℕ) → ArePlatesCounted page (y * width page) counts → AreCounting page y 0 counts
-counting_none page y counts h = record { long = h.long; done = λ j l _. absurd (omega (arith, l)); rest = λ j _ l. h.each j l }
-
-pub counting_all : (page : PageParts) (y c : ℕ) (counts : List ℕ) → c ≡ plates page → AreCounting page y c counts → ArePlatesCounted page ((y + 1) * width page) counts
-counting_all page y c counts e h = record { long = h.long; each = λ j l. h.done j (omega (arith, e, l)) l }
-
 pub counting_next : (page : PageParts) (y c v more : ℕ) (counts : List ℕ) → c < plates page → v ≡ slice_index counts c + more → more ≡ count_below (λ x. plate_changes page c (record { x = x; y = y })) (width page) → AreCounting page y c counts → AreCounting page y (c + 1) (slice_set counts c v)
 counting_next page y c v more counts lc ev em h = record {
   long = length-set counts c v ∙ h.long;

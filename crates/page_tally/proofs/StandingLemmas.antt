@@ -110,9 +110,6 @@ trapping_put page planes y c placed lc put h = record {
   rest = λ j a lj. rw (get_or-set_other planes c j placed no_plane (λ e. omega (arith, e, a))) (h.rest j (omega (arith, a)) lj);
 }
 
-pub trapping_none : (page : PageParts) (planes : List Plane) (n w : ℕ) → AreTrappedTo page planes n → AreTrapping page planes n w 0
-trapping_none page planes n w h = record { count = h.count; done = λ j l _. absurd (omega (arith, l)); rest = λ j a l. h.each j l }
-
 pub trapping_all : (page : PageParts) (planes : List Plane) (y c : ℕ) → c ≡ plates page → AreTrapping page planes (y * width page) (width page) c → AreTrappedTo page planes ((y + 1) * width page)
 trapping_all page planes y c e h = subst (λ (n : ℕ). AreTrappedTo page planes n) (next_row y (width page)) (record { count = h.count; each = λ j l. h.done j (omega (arith, e, l)) l })
 

@@ -1,12 +1,12 @@
-// Rows, compared block by block: most of them stay as they are in most places.
+// Rows, compared block by block: in most places most rows stay unchanged.
 
 ghost use Rattle.std.specs.Prelude.{◌≡◌, ◌≢◌, ◌<◌, ◌≤◌, ◌+◌, ◌==◌, ℕ, not, true, false, length, slice_index, slice_index_or};
 ghost use Rattle.lists.specs.Words.{any_below};
 
-/// How many samples of a row are looked at at once.
+/// The number of samples of a block.
 pub const BLOCK: usize = 64;
 
-/// So many tints of a row, from one on.
+/// Returns `row[from..from + count]`.
 pub fn part_of(row: &[u16], from: usize, count: usize) -> &[u16]
     requires { from + count ≤ length row.now }
     ensures len { length result.now ≡ count }
@@ -15,7 +15,7 @@ pub fn part_of(row: &[u16], from: usize, count: usize) -> &[u16]
     &row[from..from + count]
 }
 
-/// Whether two rows of tints are the same.
+/// Whether two rows of tints are equal.
 pub fn are_same(one: &[u16], other: &[u16]) -> bool
     ensures same { result ≡ true → one.now ≡ other.now }
     ensures other { result ≡ false → one.now ≢ other.now }
@@ -23,8 +23,8 @@ pub fn are_same(one: &[u16], other: &[u16]) -> bool
     one == other
 }
 
-/// Whether so many samples, from one on, lie in the zone of the first of them. It goes over all of them, without a branch, so
-/// that many go at once.
+/// Whether the samples `from..from + count` are all in the zone of the first of them. All of them are read, without a
+/// branch, so that the loop is vectorized.
 pub fn are_alike(zones: &[u8], from: usize, count: usize) -> bool
     requires some { 1 ≤ count }
     requires inside { from + count ≤ length zones.now }
@@ -42,7 +42,7 @@ pub fn are_alike(zones: &[u8], from: usize, count: usize) -> bool
     all
 }
 
-/// Whether none of so many samples, from one on, is noted.
+/// Whether `changes[from..from + count]` are all false.
 pub fn are_clear(changes: &[bool], from: usize, count: usize) -> bool
     requires { from + count ≤ length changes.now }
     ensures clear { result ≡ true → (k : ℕ) → k < count

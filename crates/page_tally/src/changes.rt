@@ -1,4 +1,5 @@
-// What trapping changes in a row: its new tints compared with the page's own, plate by plate, while it is at hand.
+// What trapping changes in a row: its new tints compared with the page's own, plate by plate, while the row is in the
+// cache.
 
 ghost use Rattle.std.specs.Prelude.{◌≡◌, ◌<◌, ◌≤◌, ◌+◌, ◌*◌, ◌==◌, ◌||◌, not, false, true, ℕ, if◌then◌else◌, length, slice_index, slice_index_or};
 ghost use Rattle.page_model.specs.Counts.{plate_changes, sample_changes};
@@ -12,7 +13,8 @@ use page_model::page::Page;
 use page_model::parts::Plane;
 use row_values::{row_of, tints_of_row};
 
-/// The new tints of plate c, out of those of a row.
+/// The new tints of plate c in row y, out of `row`, which has the row's tints of all plates, plate after plate. Returns
+/// `row[c * width..(c + 1) * width]`.
 pub fn plate_row<'a>(page: &Page, row: &'a [u16], y: u32, c: u32) -> &'a [u16]
     requires row { IsNewRow page.now y row.now }
     requires plate { c < plates page.now }
@@ -24,7 +26,7 @@ pub fn plate_row<'a>(page: &Page, row: &'a [u16], y: u32, c: u32) -> &'a [u16]
     row_of(row, page.width() as usize, c as usize)
 }
 
-/// 1 where the test holds, else 0.
+/// 1 where the test is true, else 0.
 fn short_if(test: bool) -> u16
     ensures value { result ≡ (if test then 1 else 0) }
     ensures one { result ≤ 1 }
@@ -32,7 +34,7 @@ fn short_if(test: bool) -> u16
     if test { 1 } else { 0 }
 }
 
-/// How many tints of a block differ. They are counted in short numbers, so that many go at once.
+/// The number of tints of a block that differ. They are counted in 16 bits, so that the loop is vectorized.
 fn differences_here(before: &[u16], after: &[u16]) -> u64
     requires long { length before.now ≡ length after.now }
     requires short { length after.now ≤ 64 }
@@ -48,7 +50,7 @@ fn differences_here(before: &[u16], after: &[u16]) -> u64
     u64::from(count)
 }
 
-/// How many tints differ, block by block.
+/// The number of tints that differ, counted block by block.
 pub fn differences_by_blocks(before: &[u16], after: &[u16]) -> u64
     requires { length before.now ≡ length after.now }
     ensures count { result
@@ -68,7 +70,7 @@ pub fn differences_by_blocks(before: &[u16], after: &[u16]) -> u64
     count
 }
 
-/// How many tints of two rows differ. Rows that are the same are not gone over.
+/// The number of tints of two rows that differ. Equal rows are found first, and not counted.
 pub fn differences(before: &[u16], after: &[u16]) -> u64
     requires { length before.now ≡ length after.now }
     ensures count { result
@@ -83,7 +85,7 @@ pub fn differences(before: &[u16], after: &[u16]) -> u64
     }
 }
 
-/// Notes where the tints differ.
+/// Sets `changes[k]` to true where the tints differ. The other places stay unchanged.
 pub fn note_differences(before: &[u16], after: &[u16], changes: &mut [bool])
     requires before { length before.now ≡ length after.now }
     requires changes { length changes.old ≡ length after.now }
@@ -100,7 +102,7 @@ pub fn note_differences(before: &[u16], after: &[u16], changes: &mut [bool])
     }
 }
 
-/// Notes the samples of row y at which plate c, whose plane has all its new tints, changes.
+/// Marks the samples of row y at which plate c changes. The plane has the new tints of the whole page.
 fn note_plane(page: &Page, plane: &Plane, y: u32, c: u32, changes: &mut [bool])
     requires plane { IsTrappedTo page.now c (height page.now * width page.now) plane.now }
     requires line { y < height page.now }
@@ -118,8 +120,9 @@ fn note_plane(page: &Page, plane: &Plane, y: u32, c: u32, changes: &mut [bool])
     }
 }
 
-/// Notes the samples of row y at which some plate changes. These planes have all their new tints.
-pub fn note_taken(page: &Page, planes: &[Plane], y: u32, changes: &mut [bool])
+/// Marks in `changes` the samples of row y at which some plate changes. The planes have the new tints of the whole
+/// page.
+pub fn note_changes(page: &Page, planes: &[Plane], y: u32, changes: &mut [bool])
     requires planes { AreTrappedTo page.now planes.now (height page.now * width page.now) }
     requires line { y < height page.now }
     requires changes { length changes.old ≡ width page.now }
@@ -133,7 +136,7 @@ pub fn note_taken(page: &Page, planes: &[Plane], y: u32, changes: &mut [bool])
     }
 }
 
-/// Counts sample x of row y in its zone, where it changes.
+/// Counts sample x of row y in its zone if it changes.
 #[tactic(auto, using(crate::proofs::CountLemmas::zone_known))]
 fn count_sample(
     page: &Page,
@@ -161,7 +164,7 @@ fn count_sample(
     counts[zone] += 1;
 }
 
-/// Counts for each zone the samples of row y that change, of some samples from one on.
+/// Adds to each zone's count the samples of a block of row y that change.
 fn count_block(
     page: &Page,
     zones: &[u8],
@@ -187,8 +190,8 @@ fn count_block(
     }
 }
 
-/// Counts for each zone the samples of row y that change. Blocks in which none does are not gone over. The counts are those
-/// of the rows from `first` on.
+/// Adds to each zone's count the samples of row y that change. Blocks without a change are skipped. `first` is the
+/// first of the rows that are counted.
 pub fn count_changed(
     page: &Page,
     zones: &[u8],

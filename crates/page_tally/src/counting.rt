@@ -1,23 +1,24 @@
-// What a row has of each zone, and of edges that decide.
+// What is counted in a row: the samples of each zone, and the deciding edges.
 
 ghost use Rattle.std.specs.Prelude.{◌≡◌, ℕ, ◌<◌, ◌≤◌, ◌+◌, ◌*◌, ◌/◌, ◌%◌, true, if◌then◌else◌, length, slice_index};
 ghost use Rattle.lists.specs.Words.{sum_below};
 ghost use Rattle.page_model.specs.Page.{height, width};
 ghost use Rattle.page_model.specs.Zones.{AreZones};
 ghost use Rattle.page_tally.specs.Standing.{AreSamplesCounted};
+ghost use Rattle.page_model.specs.Limits.{most_side};
 
 use crate::blocks::{BLOCK, are_alike};
 use page_model::page::Page;
 
-/// 1 where the test holds, else 0.
+/// 1 where the test is true, else 0.
 pub fn one_if(test: bool) -> u64
     ensures { result ≡ (if test then 1 else 0) }
 {
     if test { 1 } else { 0 }
 }
 
-/// Whether none of so many samples, from one on, has a mark. It goes over all of them, without a branch, so that many go at
-/// once.
+/// Whether `marks[from..from + count]` are all 0. All of them are read, without a branch, so that the loop is
+/// vectorized.
 fn are_unmarked(marks: &[u8], from: usize, count: usize) -> bool
     requires { from + count ≤ length marks.now }
     ensures { result ≡ true → (k : ℕ) → k < count → slice_index marks.now (from + k) ≡ 0 }
@@ -29,10 +30,10 @@ fn are_unmarked(marks: &[u8], from: usize, count: usize) -> bool
     none
 }
 
-/// How many edges the marks of a block tell of, sample by sample.
+/// The number of deciding edges by the marks of a block, sample by sample.
 fn count_edges(marks: &[u8], from: usize, count: usize) -> u64
     requires inside { from + count ≤ length marks.now }
-    requires few { length marks.now ≤ 16384 }
+    requires few { length marks.now ≤ most_side }
     ensures count { result
         ≡ sum_below (λ k. slice_index marks.now (from + k) % 2 + slice_index marks.now (from + k) / 2)
         count }
@@ -46,10 +47,10 @@ fn count_edges(marks: &[u8], from: usize, count: usize) -> u64
     edges
 }
 
-/// How many edges the marks of a block tell of. One without a mark is not gone over.
+/// The number of deciding edges by the marks of a block. A block without a mark is skipped.
 fn edges_here(marks: &[u8], from: usize, count: usize) -> u64
     requires inside { from + count ≤ length marks.now }
-    requires few { length marks.now ≤ 16384 }
+    requires few { length marks.now ≤ most_side }
     ensures count { result
         ≡ sum_below (λ k. slice_index marks.now (from + k) % 2 + slice_index marks.now (from + k) / 2)
         count }
@@ -62,9 +63,9 @@ fn edges_here(marks: &[u8], from: usize, count: usize) -> u64
     }
 }
 
-/// How many edges these marks tell of: a mark of 1 or 2 of one edge, and one of 3 of two.
+/// The number of deciding edges by these marks: one for a mark of 1 or 2, two for a mark of 3.
 pub fn edges_in(marks: &[u8]) -> u64
-    requires { length marks.now ≤ 16384 }
+    requires { length marks.now ≤ most_side }
     ensures count { result
         ≡ sum_below (λ x. slice_index marks.now x % 2 + slice_index marks.now x / 2)
         (length marks.now) }
@@ -80,7 +81,7 @@ pub fn edges_in(marks: &[u8]) -> u64
     count
 }
 
-/// Counts the samples of row y in their zones, block by block. The counts are those of the rows from `first` on.
+/// Adds to each zone's count the samples of row y, block by block. `first` is the first of the rows that are counted.
 pub fn count_zones(page: &Page, zones: &[u8], first: u32, y: u32, counts: &mut [u64])
     requires zones { AreZones page.now y zones.now }
     requires line { y < height page.now }
@@ -99,7 +100,7 @@ pub fn count_zones(page: &Page, zones: &[u8], first: u32, y: u32, counts: &mut [
     }
 }
 
-/// Counts so many samples of row y, from sample x on, in the zone that they all lie in.
+/// Counts `count` samples of row y, from sample x on, in the zone that they are all in.
 #[tactic(auto, using(crate::proofs::CountLemmas::zone_known))]
 fn count_run(
     page: &Page,
@@ -123,7 +124,7 @@ fn count_run(
     counts[zone] += count as u64;
 }
 
-/// Counts the samples of row y from one on and before another, each in its zone.
+/// Counts the samples `from..to` of row y, each in its zone.
 fn count_each(
     page: &Page,
     zones: &[u8],

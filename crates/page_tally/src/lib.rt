@@ -1,4 +1,5 @@
-//! What comes of a page: its planes after trapping, and what is counted of it, row by row, for whichever engine traps it.
+//! What a page becomes: its planes after trapping, and what is counted in it, row by row, for every engine that traps
+//! it.
 #![tactic(auto)]
 
 mod blocks;
@@ -10,7 +11,7 @@ mod sums;
 mod taking;
 
 pub use blocks::are_clear;
-pub use changes::{count_changed, differences, note_taken};
+pub use changes::{count_changed, differences, note_changes};
 pub use counting::{count_zones, edges_in};
 pub use outcome::{Outcome, Trapped};
 pub use sums::add_counts;

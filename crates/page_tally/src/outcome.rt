@@ -1,5 +1,5 @@
-// What comes of a page: its planes after trapping, and what is counted. It is taken in row by row from the top, counted or not; or
-// the planes are put in whole, and then what is counted is added, some rows after others.
+// The result of trapping a page: its planes after trapping, and the counts. An engine either adds one row after the
+// other from the top, counted or not, or sets whole planes and then adds the counts of some rows after others.
 
 ghost use Rattle.std.specs.Prelude.{◌≡◌, ◌<◌, ◌≤◌, ◌+◌, ◌*◌, IfOk, MatchOption, length, slice_set};
 ghost use Rattle.page_model.specs.Counts.{page_counts};
@@ -17,38 +17,39 @@ use crate::planes::{copies_of, copy_all_over, put_row};
 use crate::sums::add_counts;
 use crate::taking::take_plates;
 use lists::list::List;
-use lists::memory::{filled, no_counts};
+use lists::memory::{no_counts, vec_of};
 use page_model::page::Page;
 use page_model::parts::{Counts, OutOfMemory, Plane, PlaneList};
 use row_values::Rows;
 use std::alloc::Global;
 
-/// A page after trapping: its planes, and what changed.
+/// A page after trapping: its planes, and its counts.
 #[derive(Drop)]
 pub struct Trapped {
     pub planes: PlaneList,
     pub counts: Counts,
 }
 
-/// The planes of a page after trapping and what is counted in it, for the rows that were taken in so far. The other
-/// rows of the planes are as they were.
+/// The planes of a page after trapping and its counts, for the rows that were added so far. The other rows of the
+/// planes are still the page's own.
 #[derive(Drop)]
 pub struct Outcome {
     pub planes: PlaneList,
-    /// Of each zone, how many samples lie in it.
+    /// For each zone the number of its samples.
     pub zone_samples: Vec<u64>,
-    /// Of each zone, how many samples in it change.
+    /// For each zone the number of its samples that change.
     pub zone_changed: Vec<u64>,
-    /// Of each plate, how many samples change.
+    /// For each plate the number of its samples that change.
     pub plate_changed: Vec<u64>,
-    /// How many edges decide.
+    /// The number of deciding edges.
     pub edges: u64,
-    /// Room to note which samples of a row change. What stands in it between calls has no meaning.
+    /// A buffer that marks the samples of a row that change. Its contents between calls mean nothing.
     pub changes: Vec<bool>,
 }
 
 impl Outcome {
-    /// The outcome with no row of the page taken in. It takes all memory that it needs.
+    /// Allocates the result of a page: copies of its planes, and all counts 0, with no row added. Nothing more is
+    /// allocated later.
     pub fn new(alloc: Global, page: &Page) -> Result<Outcome, OutOfMemory>
         ensures { IfOk result (λ outcome. HasRows page.now 0 outcome) }
     {
@@ -59,11 +60,11 @@ impl Outcome {
             zone_changed: no_counts(alloc, zones)?,
             plate_changed: no_counts(alloc, page.plates() as usize)?,
             edges: 0,
-            changes: filled(alloc, false, page.width() as usize)?,
+            changes: vec_of(alloc, false, page.width() as usize)?,
         })
     }
 
-    /// The outcome with no row taken in of another page, of the shape that it was made for. It takes no memory.
+    /// Begins anew with another page of the same shape, with no row added. It allocates nothing.
     pub fn start(&mut self, page: &Page)
         requires shape { HasShape (shape_of page.now) self.old }
         ensures rows { HasRows page.now 0 self.new }
@@ -77,7 +78,8 @@ impl Outcome {
         self.edges = 0;
     }
 
-    /// The same for a page whose rows are not counted: its planes are copied, and the counts have no meaning. It takes no memory.
+    /// Begins anew with another page of the same shape, whose rows are not counted: the counts then mean nothing. It
+    /// allocates nothing.
     pub fn start_uncounted(&mut self, page: &Page)
         requires shape { HasShape (shape_of page.now) self.old }
         ensures tints { HasTints page.now 0 self.new }
@@ -88,8 +90,7 @@ impl Outcome {
         copy_all_over(alloc, page, &mut self.planes);
     }
 
-    /// Puts in the new tints of row y, the next one, and counts nothing. `None` stands for the tints of a row that keeps
-    /// those of the page; it is left as it was copied.
+    /// Adds the new tints of row y, the next one, and counts nothing. `None` means that the row's tints are unchanged.
     pub fn take_uncounted(&mut self, page: &Page, y: u32, tints: Option<&[u16]>)
         requires rows { HasTints page.now y self.old }
         requires line { y < height page.now }
@@ -103,8 +104,8 @@ impl Outcome {
         }
     }
 
-    /// Takes in row y, the next one: its zones, its marks and its new tints, plate after plate. `None` stands for the
-    /// tints of a row that keeps those of the page; it is left as it was copied.
+    /// Adds row y, the next one: its zones, its marks and its new tints, plate after plate. `None` means that the row's
+    /// tints are unchanged.
     pub fn take_in(
         &mut self,
         page: &Page,
@@ -130,7 +131,7 @@ impl Outcome {
         }
     }
 
-    // Takes in the new tints of row y alone.
+    // Adds the new tints of row y.
     fn take_tints(&mut self, page: &Page, y: u32, zones: &[u8], row: &[u16])
         requires line { y < height page.now }
         requires zones { AreZones page.now y zones.now }
@@ -162,7 +163,7 @@ impl Outcome {
         count_changed(page, zones, 0, y, &self.changes, &mut self.zone_changed);
     }
 
-    /// Puts in plate c, and how many of its samples change. All else stays.
+    /// Sets the plane of plate c, and the number of its samples that change. All else stays unchanged.
     pub fn put_in(&mut self, c: usize, plane: Plane, changed: u64)
         requires plane { c < length self.old.planes }
         requires count { c < length self.old.plate_changed.items }
@@ -179,7 +180,7 @@ impl Outcome {
         let _empty = self.planes.set(c, plane);
     }
 
-    /// Adds what is counted in the next rows: the samples of each zone, those that change, and the edges that decide.
+    /// Adds the counts of the next rows: the samples of each zone, those that change, and the deciding edges.
     pub fn add(
         &mut self,
         page: &Page,
@@ -201,7 +202,7 @@ impl Outcome {
         add_counts(&mut self.zone_changed, zone_changed);
     }
 
-    /// The page after trapping, when all its rows are taken in.
+    /// The page after trapping, once all its rows were added.
     #[tactic(auto, unfolding(page_model::specs::Counts::page_counts))]
     pub fn into_trapped(self, page: &Page) -> Trapped
         requires { HasRows page.now (height page.now) self }

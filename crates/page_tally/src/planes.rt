@@ -1,4 +1,4 @@
-// The planes of the page: copies of them, into which the new tints of its rows are put.
+// The planes of the page: copies of them, into which the new tints of rows are written.
 
 ghost use Rattle.std.specs.Prelude.{◌≡◌, ◌<◌, ◌≤◌, ◌+◌, ◌*◌, ℕ, IfOk, length};
 ghost use Rattle.lists.specs.Words.{count_below};
@@ -44,7 +44,7 @@ pub fn copies_of(alloc: Global, page: &Page) -> Result<PlaneList, OutOfMemory>
     Ok(planes)
 }
 
-/// Copies plate c over a plane that has as many tints.
+/// Copies plate c to a plane with as many tints.
 fn copy_over(alloc: Global, page: &Page, c: u32, plane: &mut Plane)
     requires plate { c < plates page.now }
     requires long { length plane.old.tints ≡ samples page.now }
@@ -60,7 +60,8 @@ fn copy_over(alloc: Global, page: &Page, c: u32, plane: &mut Plane)
     plane.tints = List::from_vec(items);
 }
 
-/// Copies all plates over planes that have as many tints. It takes no memory: the allocator is that of lists that stay empty.
+/// Copies all plates to planes with as many tints. It allocates nothing: the allocator is that of lists that stay
+/// empty.
 pub fn copy_all_over(alloc: Global, page: &Page, planes: &mut PlaneList)
     requires count { length planes.old ≡ plates page.now }
     requires long { (c : ℕ) → c < plates page.now
@@ -72,7 +73,7 @@ pub fn copy_all_over(alloc: Global, page: &Page, planes: &mut PlaneList)
     }
 }
 
-/// Puts the new tints of plate c into row y of its plane, sample by sample from one on and before another.
+/// Writes the new tints of plate c to samples of row y of its plane, one after the other.
 fn put_samples(
     page: &Page,
     y: u32,
@@ -96,8 +97,8 @@ fn put_samples(
     }
 }
 
-/// Puts the new tints of some samples of plate c into row y of its plane, from sample x on, where they are not those of the
-/// page. It gives the sample that comes next.
+/// Writes the new tints of plate c to a block of row y of its plane, from sample x on, if they differ from the page's.
+/// Returns the number of the next sample.
 fn put_block(
     page: &Page,
     y: u32,
@@ -123,7 +124,7 @@ fn put_block(
     x + count
 }
 
-/// Puts the new tints of plate c into row y of its plane, block by block.
+/// Writes the new tints of plate c to row y of its plane, block by block.
 fn put_each(page: &Page, y: u32, c: u32, before: &[u16], after: &[u16], plane: &mut Plane)
     requires line { y < height page.now }
     requires before { IsTintRow page.now y c before.now }
@@ -137,7 +138,8 @@ fn put_each(page: &Page, y: u32, c: u32, before: &[u16], after: &[u16], plane: &
     }
 }
 
-/// Puts the new tints of plate c into row y of its plane, where they are not those of the page, and tells how many are not.
+/// Writes the new tints of plate c to row y of its plane, where they differ from the page's, and returns how many
+/// differ.
 pub fn put_plate_row(page: &Page, y: u32, c: u32, after: &[u16], plane: &mut Plane) -> u64
     requires line { y < height page.now }
     requires plate { c < plates page.now }
@@ -156,7 +158,7 @@ pub fn put_plate_row(page: &Page, y: u32, c: u32, after: &[u16], plane: &mut Pla
     differences_by_blocks(before, after)
 }
 
-/// Puts the new tints of plate c into its row y, where they are not those of the page.
+/// Writes the new tints of plate c to its row y, where they differ from the page's.
 fn put_plate(page: &Page, row: &[u16], y: u32, c: u32, planes: &mut PlaneList)
     requires row { IsNewRow page.now y row.now }
     requires line { y < height page.now }
@@ -172,7 +174,7 @@ fn put_plate(page: &Page, row: &[u16], y: u32, c: u32, planes: &mut PlaneList)
     put_each(page, y, c, before, after, planes.item_mut(c as usize));
 }
 
-/// Puts the new tints of row y into the planes.
+/// Writes the new tints of row y, plate after plate in `row`, to the planes.
 pub fn put_row(page: &Page, row: &[u16], y: u32, planes: &mut PlaneList)
     requires row { IsNewRow page.now y row.now }
     requires line { y < height page.now }

@@ -1,6 +1,6 @@
 ghost use Rattle.std.specs.Prelude.{◌≡◌, ℕ, ◌+◌, ◌^◌, ◌<◌, length, slice_index};
 
-/// Adds to each count the other of its place.
+/// Adds `more[k]` to each `counts[k]`.
 pub fn add_counts(counts: &mut [u64], more: &[u64])
     requires len { length more.now ≡ length counts.old }
     requires few { (z : ℕ) → z < length counts.old

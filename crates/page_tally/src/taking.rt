@@ -1,4 +1,4 @@
-// The new tints of a row, plate by plate: put into the planes, counted and noted, while they are at hand.
+// The new tints of a row, plate by plate: written to the planes and counted, while they are in the cache.
 
 ghost use Rattle.std.specs.Prelude.{◌≡◌, ◌<◌, ◌≤◌, ◌+◌, ◌*◌, ◌||◌, false, ℕ, length, slice_index_or};
 ghost use Rattle.lists.specs.Words.{count_below};
@@ -12,8 +12,8 @@ use page_model::page::Page;
 use page_model::parts::{Plane, PlaneList};
 use row_values::tints_of_row;
 
-/// Puts the new tints of plate c into row y of its plane, notes the samples that change, and tells how many do. The rows are
-/// compared once: where they are the same, nothing else is done.
+/// Writes the new tints of plate c to row y of its plane, marks the samples that change, and returns how many do. The
+/// rows are compared once: if they are equal, nothing else is done.
 fn take_plate(
     page: &Page,
     row: &[u16],
@@ -44,8 +44,8 @@ fn take_plate(
     count
 }
 
-/// Takes in the new tints of row y: puts them into the planes, counts for each plate the samples that change, and notes those
-/// at which some plate changes.
+/// Adds the new tints of row y: writes them to the planes, counts for each plate the samples that change, and marks
+/// those at which some plate changes.
 pub fn take_plates(
     page: &Page,
     row: &[u16],

@@ -40,12 +40,12 @@ pub record BreaksAt (files : List Written) (k : ℕ) (before after : RackState) 
       → BreaksFile file.name file.bytes (put_all earlier before.file) after
   pub cause : Rose before.faults after.faults
 
--- The plate of that number breaks, of so many; or, without a number, the report after them.
+-- Plate k of `plates` plates breaks; or, without a number, the report after them.
 abbrev pub Breaks : ℕ → List Written → Option ℕ → RackState → RackState → Type 0
 Breaks plates files (Some k) before after = (k < plates) × BreaksAt files k before after
 Breaks plates files None before after = BreaksAt files plates before after
 
--- by the answer, where so many of the files are plates and the last is the report
+-- by the answer, where that number of the files are plates and the last is the report
 abbrev pub AnswersWriting : {T : Type 0} → ℕ → List Written → RackState → RackState
     → Result T Refusal → Type 0
 AnswersWriting plates files before after (Ok x) = WritesAll files before after
@@ -57,7 +57,7 @@ abbrev pub FailsOnce : {T : Type 0} → RackState → RackState → Result T Ref
 FailsOnce before after (Err (Write file)) = RoseOnce before.faults after.faults
 FailsOnce before after other = Unit {0}
 
--- The plates and then the report are written. No text is told.
+-- The plates and then the report are written. No text is printed.
 pub record WritesPage {T : Type 0} (outputs : List (List ℕ)) (planes : List Plane)
     (report text : List ℕ) (before after : RackState) (result : Result T Refusal) : Type 0 where
   pub keeps : KeepsRack before after
@@ -67,7 +67,7 @@ pub record WritesPage {T : Type 0} (outputs : List (List ℕ)) (planes : List Pl
       (page_files outputs planes report text) before after result
   pub once : FailsOnce before after result
 
--- by the answer, where so many files are all plates
+-- by the answer, where all files are plates, in that number
 abbrev pub AnswersPlates : {T : Type 0} → ℕ → List Written → RackState → RackState
     → Result T Refusal → Type 0
 AnswersPlates plates files before after (Ok x) = WritesAll files before after
@@ -75,7 +75,7 @@ AnswersPlates plates files before after (Err (Write (Some k))) =
     (k < plates) × BreaksAt files k before after
 AnswersPlates plates files before after (Err other) = ⊥
 
--- The plates are written. No text is told.
+-- The plates are written. No text is printed.
 pub record WritesPlates {T : Type 0} (outputs : List (List ℕ)) (planes : List Plane)
     (before after : RackState) (result : Result T Refusal) : Type 0 where
   pub keeps : KeepsRack before after

@@ -1,4 +1,4 @@
-//! The format of a plate's file. All else that is written of a page knows it by `write_encoded` and by specs/Format.antt alone, so
+//! The format of a plate's file. All other code that writes a page uses `write_encoded` and specs/Format.antt alone, so
 //! another format is another such pair.
 
 ghost use Rattle.std.specs.Prelude.{◌≤◌};
@@ -12,8 +12,8 @@ use outside::tray::Failed;
 use page_model::parts::Plane;
 use pgm_plates::writing::write_plane;
 
-/// Writes a plane of any sides as the file of a plate, of that name. It takes no memory. Where a call of the rack fails, a prefix of
-/// the bytes stands under the name, or, where the file could not be created, everything is as it was.
+/// Writes a plane of any sides to the file `name`, as a plate. It allocates nothing. Where a call of the rack fails, a
+/// prefix of the bytes stands under the name, or, where the file could not be created, everything is as it was.
 pub fn write_encoded<R: Rack>(rack: &mut R, name: &str, plane: &Plane) -> Result<(), Failed>
     requires maxval { plane.now.maxval ≤ most_maxval }
     requires fits { All (λ t. t ≤ plane.now.maxval) plane.now.tints }

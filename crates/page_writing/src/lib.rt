@@ -1,4 +1,4 @@
-//! A trapped page into its files: a plate for each plane, and the report.
+//! The files of a trapped page: a plate for each plane, and the report.
 #![tactic(auto)]
 
 pub mod format;

@@ -12,12 +12,12 @@ use page_model::parts::PlaneList;
 use refusals::refusal::Refusal;
 use std::convert::AsStr;
 
-/// Writes each plane as a plate into the file of its name, and then the text into the report, as this project
-/// orders them. It takes no memory.
+/// Writes each plane as a plate to the file of its name, in order, and then the text to the report. It allocates
+/// nothing.
 ///
-/// It stops at the first file at which a call of the rack fails, and answers `Write` with the plate's number from 0, or
-/// with none for the report. The files before it then stand whole; of it a prefix of its bytes stands under its name, or,
-/// where it could not be created, nothing; no later file is begun.
+/// It stops at the first file at which a call of the rack fails, and returns `Write` with the plate's number from 0, or
+/// with `None` for the report. The files before it are whole; of that file a prefix of its bytes stands under its name,
+/// or, where it could not be created, nothing; no later file is begun.
 pub fn write_page<R: Rack, S: AsStr>(
     rack: &mut R,
     names: &[S],
@@ -41,8 +41,8 @@ pub fn write_page<R: Rack, S: AsStr>(
     }
 }
 
-/// Writes each plane as a plate into the file of its name, in order, as far as `write_page` goes before the
-/// report. It takes no memory, and its one refusal is `Write` with the plate's number.
+/// Writes each plane as a plate to the file of its name, in order, as `write_page` does before the report. It allocates
+/// nothing, and its only refusal is `Write` with the plate's number.
 pub fn write_plates<R: Rack, S: AsStr>(
     rack: &mut R,
     names: &[S],

@@ -117,9 +117,6 @@ too_long n k all size t u few short long within =
     let k_size : k ≤ k * size = le-mul_of_pos_right k (let h : 0 < size = omega arith in h) in
     omega arith
 
-nothing_more : (header x : List ℕ) (m : ℕ) → m ≤ length header → take m (header ++ x) ≡ take m header
-nothing_more header x m le = take-append-le m header x le
-
 module _ (bounds : Bounds) where
   -- no byte of the raster decides a fault
   quiet_at : (bytes header : List ℕ) (w h m : ℕ) (xs half : List ℕ) → Rastered bytes header w h m xs half → (t u : List ℕ) → 0 < length t → t ++ u ≡ raster m xs ++ half → (fault : PlateFault) → DecidesWithin bounds (header ++ t) fault → ⊥

@@ -9,8 +9,8 @@ use Rattle.outside.specs.Reading.{Takes}
 use Rattle.outside.proofs.Steps.{takes_then, takes_as, takes_read, rose_before}
 use Rattle.pgm_plates.specs.declared.bounds.Bounds.{Bounds}
 use Rattle.pgm_plates.specs.declared.bounds.Bounds.TheVariants.{Page}
-use Rattle.pgm_plates.specs.declared.stand.Stand.{Stand}
-use Rattle.pgm_plates.specs.declared.stand.Stand.TheVariants.{Start, Ended}
+use Rattle.pgm_plates.specs.declared.header_state.HeaderState.{HeaderState}
+use Rattle.pgm_plates.specs.declared.header_state.HeaderState.TheVariants.{Start, Ended}
 use Rattle.pgm_plates.specs.declared.header.Sides.TheVariants.{Neither, Both}
 use Rattle.pgm_plates.specs.declared.header.Sides.{Sides}
 use Rattle.pgm_plates.specs.declared.header.Scan.{Scan}
@@ -76,7 +76,7 @@ no_header bytes b none not_all k shape =
       | inr le ↦ none k (subst IsShape (take-append-le k bytes (b ∷ []) le) shape)
     ]
 
-few_run : (bytes : List ℕ) (b : ℕ) (stand : Stand) (ns : List ℕ) → HoldsNoHeader bytes → length bytes < 65536 → run Start [] (bytes ++ b ∷ []) ≡ Some (reached stand ns) → AreFew (bytes ++ b ∷ [])
+few_run : (bytes : List ℕ) (b : ℕ) (stand : HeaderState) (ns : List ℕ) → HoldsNoHeader bytes → length bytes < 65536 → run Start [] (bytes ++ b ∷ []) ≡ Some (reached stand ns) → AreFew (bytes ++ b ∷ [])
 few_run bytes b Ended ns none short is =
     let all = bytes ++ b ∷ [] in
     let header = ended_header ns all is in
@@ -122,7 +122,7 @@ header_as bytes w h m w' h' m' same header =
     let c : m ≡ m' = cc in
     subst (λ (x : ℕ). IsHeader bytes x h' m') a (subst (λ (x : ℕ). IsHeader bytes w x m') b (subst (λ (x : ℕ). IsHeader bytes w h x) c header))
 
-header_sides : (stand : Stand) (sides : Sides) (maxval : ℕ) (header : Header) → header_of stand sides maxval ≡ Some header → (stand ≡ Ended) × (sides ≡ Both header.width header.height) × (maxval ≡ header.maxval)
+header_sides : (stand : HeaderState) (sides : Sides) (maxval : ℕ) (header : Header) → header_of stand sides maxval ≡ Some header → (stand ≡ Ended) × (sides ≡ Both header.width header.height) × (maxval ≡ header.maxval)
 header_sides Ended (Both w h) maxval header e =
     let is : record { width = w; height = h; maxval = maxval } ≡ header = some_header _ header e in
     (refl, ap (λ (x : Header). Both x.width x.height) is, ap (λ (x : Header). x.maxval) is)
@@ -195,11 +195,11 @@ module _ (bounds : Bounds) where
   pub whole_header_within : (bytes : List ℕ) (next : Scan) (header : Header) → ScannedWithin bounds bytes next → header_of next.stand next.sides next.number ≡ Some header → WholeHeaderWithin bytes header
   whole_header_within bytes next header scanned e =
       let is = header_sides next.stand next.sides next.number header e in
-      let fits : Fits Ended next scanned.ns bytes = subst (λ (s : Stand). Fits s next scanned.ns bytes) is.0 scanned.fits in
+      let fits : Fits Ended next scanned.ns bytes = subst (λ (s : HeaderState). Fits s next scanned.ns bytes) is.0 scanned.fits in
       let ranges : InRange bounds (Both header.width header.height) = subst (InRange bounds) is.1 scanned.ranges in
       let numbers : scanned.ns ≡ header.maxval ∷ header.height ∷ header.width ∷ [] = fits.3 ∙ both_numbers next.number header.maxval fits.0 fits.1 header.width header.height is.2 (sym fits.2 ∙ is.1) in
       let standing = ended_header (header.maxval ∷ header.height ∷ header.width ∷ []) bytes
-      (scanned.ran ∙ ap (λ (s : Stand). Some (reached s scanned.ns)) is.0 ∙ ap (λ (x : List ℕ). Some (reached Ended x)) numbers) in
+      (scanned.ran ∙ ap (λ (s : HeaderState). Some (reached s scanned.ns)) is.0 ∙ ap (λ (x : List ℕ). Some (reached Ended x)) numbers) in
       let same : header.maxval ∷ header.height ∷ header.width ∷ [] ≡ standing.2 ∷ standing.1 ∷ standing.0 ∷ [] = standing.3 in
       record {
         is_header = header_as bytes standing.0 standing.1 standing.2 header.width header.height header.maxval same standing.4;
@@ -231,9 +231,9 @@ module _ (bounds : Bounds) where
 
   pub header_going_within : (bytes : List ℕ) (next : Scan) → ScannedWithin bounds bytes next → header_of next.stand next.sides next.number ≡ None → next.stand ≡ Ended → ⊥
   header_going_within bytes next scanned none ended =
-      let fits : Fits Ended next scanned.ns bytes = subst (λ (s : Stand). Fits s next scanned.ns bytes) ended scanned.fits in
+      let fits : Fits Ended next scanned.ns bytes = subst (λ (s : HeaderState). Fits s next scanned.ns bytes) ended scanned.fits in
       none_header (record { width = fits.0; height = fits.1; maxval = next.number })
-      (sym none ∙ ap (λ (s : Stand). header_of s next.sides next.number) ended ∙ ap (λ (s : Sides). header_of Ended s next.number) fits.2)
+      (sym none ∙ ap (λ (s : HeaderState). header_of s next.sides next.number) ended ∙ ap (λ (s : Sides). header_of Ended s next.number) fits.2)
 
   pub came_on : (a b c : TrayState) (scan next : Scan) (count byte : ℕ) → Came a b scan count → Takes (byte ∷ []) b c → count < 65536 → scan_step_within bounds scan byte count ≡ Ok next → header_of next.stand next.sides next.number ≡ None → Came a c next (count + 1)
   came_on a b c scan next count byte came took short step none =

@@ -5,7 +5,7 @@ use Rattle.std.proofs.lemmas.List.{same_from_push}
 use Rattle.lists.proofs.FirstSome.{some_is_none}
 use Rattle.pgm_plates.specs.declared.bounds.Bounds.{Bounds}
 use Rattle.pgm_plates.specs.declared.bounds.Bounds.TheVariants.{Page, Sheet}
-use Rattle.pgm_plates.specs.declared.stand.Stand.TheVariants.{Start, Digits}
+use Rattle.pgm_plates.specs.declared.header_state.HeaderState.TheVariants.{Start, Digits}
 use Rattle.pgm_plates.specs.declared.header.Sides.{Sides}
 use Rattle.pgm_plates.specs.declared.header.Sides.TheVariants.{Neither, Width, Both}
 use Rattle.pgm_plates.specs.declared.plate.PlateFault.{PlateFault}

@@ -1,7 +1,6 @@
 -- A piece of a raster: its bytes, its samples, and what they say of the file.
-use Rattle.std.proofs.Common.{◌≡◌, ◌⊎◌, ℕ, ◌<◌, ◌≤◌, ◌+◌, ◌*◌, ◌/◌, ◌%◌, max, true, false, cond, ltb, leb, List, [], ◌∷◌, ◌++◌, length, take, drop, get_or, IsTrue, refl, sym, ap, ◌∙◌, subst, inl, inr, arith}
+use Rattle.std.proofs.Common.{◌≡◌, ◌⊎◌, ℕ, ◌<◌, ◌≤◌, ◌+◌, ◌*◌, ◌/◌, ◌%◌, max, true, false, cond, ltb, List, [], ◌∷◌, ◌++◌, length, take, drop, get_or, refl, sym, ap, ◌∙◌, subst, inl, inr, arith}
 use Rattle.std.proofs.lemmas.Bool.{le-ltb, cond-false}
-use Rattle.std.proofs.lemmas.Bool.Decides.{nat_tests}
 use Rattle.std.proofs.lemmas.List.{append_assoc, append-nil, take-append-drop, take_all, length-append, length-take-le, drop_more}
 use Rattle.std.proofs.lemmas.List.Elements.{All-weaker, All-more, All-same, All-append}
 use Rattle.std.proofs.Math.Nat.{add-mul, mul-le-mul_right}
@@ -15,7 +14,7 @@ use Rattle.pgm_plates.specs.declared.plate.PlateRefusal.TheVariants.{Fault, Read
 use Rattle.pgm_plates.specs.Plates.{sample_bytes, sample_size, raster}
 use Rattle.pgm_plates.specs.Readers.{Fit, IsPart, IsAbove, RasterRefused, RasterTaken, IsDecoded, FirstAbove}
 use Rattle.pgm_plates.proofs.Rasters.{narrow_raster}
-use Rattle.pgm_plates.proofs.Headers.{takes_none, told_on}
+use Rattle.pgm_plates.proofs.Headers.{told_on}
 use Rattle.pgm_plates.proofs.Decisions.{some_size, raster_size, raster_both}
 
 pub most_more : (xs : List ℕ) (i most r : ℕ) → i < length xs → r ≡ max most (get_or xs i 0) → All (λ (s : ℕ). s ≤ most) (take i xs) → All (λ (s : ℕ). s ≤ r) (take (i + 1) xs)
@@ -23,12 +22,6 @@ most_more xs i most r here is all =
     All-more (λ (s : ℕ). s ≤ r) xs i 0 here
     (All-weaker (λ (s : ℕ). s ≤ most) (λ (s : ℕ). s ≤ r) (λ (s : ℕ) (le : s ≤ most). omega (arith, is)) (take i xs) all)
     (omega (arith, is))
-
-pub fit_all : (maxval most n : ℕ) (xs : List ℕ) → length xs ≤ n → All (λ (s : ℕ). s ≤ most) (take n xs) → leb most maxval ≡ true → Fit maxval xs
-fit_all maxval most n xs whole all under =
-    let le : most ≤ maxval = grind (arith, nat_tests) in
-    All-weaker (λ (s : ℕ). s ≤ most) (λ (s : ℕ). s ≤ maxval) (λ (s : ℕ) (h : s ≤ most). omega arith) xs
-    (All-same (λ (s : ℕ). s ≤ most) xs (take n xs) (sym (take_all n xs whole)) all)
 
 pub fit_more : (maxval : ℕ) (xs : List ℕ) (i : ℕ) → i < length xs → Fit maxval (take i xs) → get_or xs i 0 ≤ maxval → Fit maxval (take (i + 1) xs)
 fit_more maxval xs i here fit le = All-more (λ (s : ℕ). s ≤ maxval) xs i 0 here fit le
@@ -136,9 +129,6 @@ pub piece_whole : (maxval count : ℕ) (bytes samples : List ℕ) → IsDecoded 
 piece_whole maxval count bytes samples decoded all =
     let is = whole_count (length samples) (length decoded.half) count (sample_size maxval) (sym (sized maxval bytes samples decoded) ∙ all) decoded.short (one_or_two maxval) in
     (decoded.whole ∙ ap (λ (x : List ℕ). raster maxval samples ++ x) (empty decoded.half is.1) ∙ append-nil (raster maxval samples), is.0)
-
-pub raster_none : (maxval count start : ℕ) (a : TrayState) → IsTrue a.begun → RasterRefused maxval count start a a OutOfMemory
-raster_none maxval count start a begun = ([], takes_none a begun, omega arith)
 
 more_times : (n k count size : ℕ) → n + k ≤ count → n * size + k * size ≤ count * size
 more_times n k count size few = subst (λ (z : ℕ). z ≤ count * size) (add-mul n k size) (mul-le-mul_right size few)

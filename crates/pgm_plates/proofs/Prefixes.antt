@@ -3,8 +3,8 @@ use Rattle.std.proofs.Common.{◌≡◌, ◌⊎◌, ℕ, ◌<◌, ◌≤◌, ◌
 use Rattle.std.proofs.lemmas.List.{append_assoc, append-nil, take-append-drop, length-append}
 use Rattle.std.specs.Option.{option_and_then}
 use Rattle.pgm_plates.specs.declared.bounds.Bounds.{Bounds}
-use Rattle.pgm_plates.specs.declared.stand.Stand.{Stand}
-use Rattle.pgm_plates.specs.declared.stand.Stand.TheVariants.{Start, Letter, Magic, Gap, Comment, Digits, Ended}
+use Rattle.pgm_plates.specs.declared.header_state.HeaderState.{HeaderState}
+use Rattle.pgm_plates.specs.declared.header_state.HeaderState.TheVariants.{Start, Letter, Magic, Gap, Comment, Digits, Ended}
 use Rattle.pgm_plates.specs.declared.plate.PlateFault.{PlateFault}
 use Rattle.pgm_plates.specs.declared.plate.PlateFault.TheVariants.{BadMagic, BadHeader, SideRange, TooManySamples, MaxvalRange, SampleAboveMaxval, Truncated, TrailingBytes}
 use Rattle.pgm_plates.specs.Header.{is_digit, IsHeader}
@@ -22,7 +22,7 @@ use Rattle.pgm_plates.proofs.Numbers.{Ends, ends_run, fault_ends}
 use Rattle.pgm_plates.proofs.Scans.{some_bytes, Lands, lands}
 
 -- the numbers that no later byte changes
-abbrev settled : Stand → List ℕ → List ℕ
+abbrev settled : HeaderState → List ℕ → List ℕ
 settled Digits [] = []
 settled Digits (n ∷ earlier) = earlier
 settled other ns = ns
@@ -34,11 +34,11 @@ Before all back = (prefix : List ℕ) × (all ≡ prefix ++ back)
 before_digits : (n : ℕ) (all ns : List ℕ) → Before all (n ∷ ns) → Before all ns
 before_digits n all ns is = (is.0 ++ n ∷ [], is.1 ∙ sym (append_assoc is.0 (n ∷ []) ns))
 
-abbrev Other : Stand → Type 0
+abbrev Other : HeaderState → Type 0
 Other Digits = ⊥
 Other stand = Unit {0}
 
-other_then : (stand next : Stand) (ns all : List ℕ) (b : ℕ) → Other stand → Before all (settled next (numbers_then stand next ns b)) → Before all ns
+other_then : (stand next : HeaderState) (ns all : List ℕ) (b : ℕ) → Other stand → Before all (settled next (numbers_then stand next ns b)) → Before all ns
 other_then Digits next ns all b other is = absurd other
 other_then Start Digits ns all b other is = is
 other_then Letter Digits ns all b other is = is
@@ -48,7 +48,7 @@ other_then Comment Digits ns all b other is = is
 other_then Ended Digits ns all b other is = is
 other_then stand next ns all b other is = is
 
-settled_then : (stand next : Stand) (ns all : List ℕ) (b : ℕ) → Before all (settled next (numbers_then stand next ns b)) → Before all (settled stand ns)
+settled_then : (stand next : HeaderState) (ns all : List ℕ) (b : ℕ) → Before all (settled next (numbers_then stand next ns b)) → Before all (settled stand ns)
 settled_then Digits Digits [] all b is = is
 settled_then Digits Digits (n ∷ earlier) all b is = is
 settled_then Digits Start [] all b is = is
@@ -70,7 +70,7 @@ settled_then Gap next ns all b is = other_then Gap next ns all b tt is
 settled_then Comment next ns all b is = other_then Comment next ns all b tt is
 settled_then Ended next ns all b is = other_then Ended next ns all b tt is
 
-settled_end : (stand : Stand) (ns : List ℕ) → Before ns (settled stand ns)
+settled_end : (stand : HeaderState) (ns : List ℕ) → Before ns (settled stand ns)
 settled_end Digits [] = ([], refl)
 settled_end Digits (n ∷ earlier) = (n ∷ [], refl)
 settled_end Start ns = ([], refl)
@@ -81,19 +81,19 @@ settled_end Comment ns = ([], refl)
 settled_end Ended ns = ([], refl)
 
 -- A run keeps the numbers that are settled.
-keeps_settled : (stand : Stand) (ns bs : List ℕ) (r : Reached) → run stand ns bs ≡ Some r → Before r.numbers (settled stand ns)
+keeps_settled : (stand : HeaderState) (ns bs : List ℕ) (r : Reached) → run stand ns bs ≡ Some r → Before r.numbers (settled stand ns)
 keeps_settled stand ns [] r e =
     let same : reached stand ns ≡ r = cc in
     subst (λ (q : Reached). Before q.numbers (settled stand ns)) same (settled_end stand ns)
 keeps_settled stand ns (b ∷ bs) r e =
-    let by_step : (o : Option Stand) → option_and_then (λ (s : Stand). run s (numbers_then stand s ns b) bs) o ≡ Some r → Before r.numbers (settled stand ns) =
-    λ o. elim o as (λ o. option_and_then (λ (s : Stand). run s (numbers_then stand s ns b) bs) o ≡ Some r → Before r.numbers (settled stand ns)) [
+    let by_step : (o : Option HeaderState) → option_and_then (λ (s : HeaderState). run s (numbers_then stand s ns b) bs) o ≡ Some r → Before r.numbers (settled stand ns) =
+    λ o. elim o as (λ o. option_and_then (λ (s : HeaderState). run s (numbers_then stand s ns b) bs) o ≡ Some r → Before r.numbers (settled stand ns)) [
       | None ↦ λ h. absurd (no_step r h)
       | Some next ↦ λ h. settled_then stand next ns r.numbers b (keeps_settled next (numbers_then stand next ns b) bs r h)
     ] in
     by_step (step stand (length ns) b) e
 
-after_digits : (next : Stand) (n : ℕ) (earlier all : List ℕ) (b : ℕ) → Lands Digits next (length (n ∷ earlier)) b → is_digit b ≡ false → Before all (settled next (numbers_then Digits next (n ∷ earlier) b)) → Before all (n ∷ earlier)
+after_digits : (next : HeaderState) (n : ℕ) (earlier all : List ℕ) (b : ℕ) → Lands Digits next (length (n ∷ earlier)) b → is_digit b ≡ false → Before all (settled next (numbers_then Digits next (n ∷ earlier) b)) → Before all (n ∷ earlier)
 after_digits Digits n earlier all b on other is = absurd (let e : true ≡ false = sym on ∙ other in cc)
 after_digits Gap n earlier all b on other is = is
 after_digits Comment n earlier all b on other is = is
@@ -121,8 +121,8 @@ which_prefix m h w n earlier (x ∷ y ∷ z ∷ prefix) e = absurd (omega (arith
 ended_settled : (prefix rest ns : List ℕ) (b n : ℕ) (earlier : List ℕ) (r : Reached) → run Start [] prefix ≡ Some (reached Digits (n ∷ earlier)) → is_digit b ≡ false → run Start [] (prefix ++ b ∷ rest) ≡ Some r → Before r.numbers (n ∷ earlier)
 ended_settled prefix rest ns b n earlier r ran other whole =
     let on : run Digits (n ∷ earlier) (b ∷ rest) ≡ Some r = sym (run_then Start Digits [] (n ∷ earlier) prefix (b ∷ rest) ran) ∙ whole in
-    let by_step : (o : Option Stand) → step Digits (length (n ∷ earlier)) b ≡ o → option_and_then (λ (s : Stand). run s (numbers_then Digits s (n ∷ earlier) b) rest) o ≡ Some r → Before r.numbers (n ∷ earlier) =
-    λ o. elim o as (λ o. step Digits (length (n ∷ earlier)) b ≡ o → option_and_then (λ (s : Stand). run s (numbers_then Digits s (n ∷ earlier) b) rest) o ≡ Some r → Before r.numbers (n ∷ earlier)) [
+    let by_step : (o : Option HeaderState) → step Digits (length (n ∷ earlier)) b ≡ o → option_and_then (λ (s : HeaderState). run s (numbers_then Digits s (n ∷ earlier) b) rest) o ≡ Some r → Before r.numbers (n ∷ earlier) =
+    λ o. elim o as (λ o. step Digits (length (n ∷ earlier)) b ≡ o → option_and_then (λ (s : HeaderState). run s (numbers_then Digits s (n ∷ earlier) b) rest) o ≡ Some r → Before r.numbers (n ∷ earlier)) [
       | None ↦ λ is h. absurd (no_step r h)
       | Some next ↦ λ is h. after_digits next n earlier r.numbers b (lands Digits next (length (n ∷ earlier)) b is) other (keeps_settled next (numbers_then Digits next (n ∷ earlier) b) rest r h)
     ] in
@@ -141,9 +141,6 @@ header_ends header prefix back w h m is whole e =
     let ran = ends_run start ends.next e.at e.number e.earlier (subst (λ (x : List ℕ). EndsNumber x e.at e.number e.earlier) ends.whole ends) e.few in
     let all : start ++ ends.next ∷ back ≡ header = sym (append_assoc start (ends.next ∷ []) back) ∙ ap (λ (x : List ℕ). x ++ back) same ∙ whole in
     ended_settled start back [] ends.next e.number e.earlier (reached Ended (m ∷ h ∷ w ∷ [])) ran.0 ran.1 (ap (run Start []) all ∙ header_run header w h m is)
-
-some_prefix : (prefix x y : List ℕ) → prefix ++ x ++ y ≡ prefix → 0 < length x → ⊥
-some_prefix prefix x y e some = omega (arith, ap length e, length-append (prefix ++ x) y, length-append prefix x)
 
 empty_list : (xs : List ℕ) → length xs ≡ 0 → xs ≡ []
 empty_list [] none = refl

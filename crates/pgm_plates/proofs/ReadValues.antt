@@ -1,6 +1,6 @@
 -- What is read as samples or as tints: the samples that it is, piece after piece, and the plate.
-use Rattle.std.proofs.Common.{◌≡◌, ℕ, ◌≤◌, ◌+◌, ◌*◌, ◌-◌, List, ◌++◌, length, map, Some, Ok, refl, sym, ap, ◌∙◌, subst, arith}
-use Rattle.std.proofs.lemmas.List.{length-map, map-append}
+use Rattle.std.proofs.Common.{◌≡◌, ℕ, ◌≤◌, ◌+◌, ◌*◌, ◌-◌, List, length, map, Some, Ok, refl, sym, ap, ◌∙◌, subst, arith}
+use Rattle.std.proofs.lemmas.List.{length-map}
 use Rattle.outside.specs.Tray.{TrayState}
 use Rattle.outside.specs.Reading.{Takes}
 use Rattle.page_model.specs.Conditions.{IsPlane}
@@ -16,16 +16,12 @@ use Rattle.pgm_plates.specs.Readers.{Fit, RasterRefused, RasterTaken, samples_fr
 use Rattle.pgm_plates.specs.Reading.{ReadsPlate}
 use Rattle.pgm_plates.specs.Sequences.{ReadsPage}
 use Rattle.pgm_plates.proofs.Facts.{turned_back}
-use Rattle.pgm_plates.proofs.Pieces.{refused_on, room_refused, taken_on}
+use Rattle.pgm_plates.proofs.Pieces.{refused_on, room_refused}
 use Rattle.pgm_plates.proofs.Turned.{turned_fit}
 
 pub from_size : (t : Form) (m : ℕ) (xs : List ℕ) → length (samples_from t m xs) ≡ length xs
 from_size Tints m xs = length-map xs (λ (v : ℕ). m - v)
 from_size Samples m xs = refl
-
-from_both : (t : Form) (m : ℕ) (xs ys : List ℕ) → samples_from t m (xs ++ ys) ≡ samples_from t m xs ++ samples_from t m ys
-from_both Tints m xs ys = map-append (λ (v : ℕ). m - v) xs ys
-from_both Samples m xs ys = refl
 
 pub from_fit : (t : Form) (m : ℕ) (xs : List ℕ) → Fit m xs → Fit m (samples_from t m xs)
 from_fit Tints m xs fit = turned_fit m xs
@@ -36,11 +32,6 @@ pub taken_from : (t : Form) (m : ℕ) (a b : TrayState) (xs ys : List ℕ) → s
 taken_from t m a b xs ys is taken =
     let same = subst (λ (l : List ℕ). RasterTaken m (length xs) a b l) (sym is) taken in
     record { takes = same.takes; fit = same.fit; all = from_size t m ys }
-
--- one piece more
-pub values_on : (t : Form) (m want : ℕ) (a b c : TrayState) (xs ys : List ℕ) → Takes (raster m (samples_from t m xs)) a b → RasterTaken m want b c (samples_from t m ys) → Takes (raster m (samples_from t m (xs ++ ys))) a c
-values_on t m want a b c xs ys took taken =
-    subst (λ (l : List ℕ). Takes (raster m l) a c) (sym (from_both t m xs ys)) (taken_on m want a b c (samples_from t m xs) (samples_from t m ys) took taken)
 
 -- all pieces
 pub values_all : (t : Form) (m count : ℕ) (a b : TrayState) (xs : List ℕ) → Takes (raster m (samples_from t m xs)) a b → Fit m xs → length xs ≡ count → RasterTaken m count a b (samples_from t m xs)

@@ -51,13 +51,7 @@ pub filled_fit : (maxval want : ℕ) (buf part : List ℕ) (done k : ℕ) → do
 filled_fit maxval want buf part done k le all fit more =
     subst (Fit maxval) (filled_on buf part done k want le all) (All-append (λ (s : ℕ). s ≤ maxval) (take done buf) part fit more)
 
--- a buffer that is filled
-pub filled_whole : (maxval done : ℕ) (a b : TrayState) (buf : List ℕ) → length buf ≤ done → Takes (raster maxval (take done buf)) a b → Fit maxval (take done buf) → RasterTaken maxval (length buf) a b buf
-filled_whole maxval done a b buf whole took fit =
-    let all : take done buf ≡ buf = take_all done buf whole in
-    record { takes = takes_as (raster maxval (take done buf)) (raster maxval buf) a b (ap (raster maxval) all) took; fit = subst (Fit maxval) all fit; all = refl }
-
--- a buffer that is not
+-- a buffer that is not filled
 pub filled_refused : (maxval count start place done want : ℕ) (a b c : TrayState) (buf : List ℕ) (refusal : PlateRefusal) → done ≤ length buf → done + want ≤ count → place ≡ start + done * sample_size maxval → Takes (raster maxval (take done buf)) a b → Fit maxval (take done buf) → RasterRefused maxval want place b c refusal → RasterRefused maxval count start a c refusal
 filled_refused maxval count start place done want a b c buf refusal le few is took fit r =
     let size : length (take done buf) ≡ done = length-take-le done buf le in

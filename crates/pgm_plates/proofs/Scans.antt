@@ -4,8 +4,8 @@ use Rattle.std.proofs.lemmas.Bool.Decides.{nat_tests}
 use Rattle.std.proofs.lemmas.List.{append_assoc, append-nil, length-append}
 use Rattle.pgm_plates.specs.declared.bounds.Bounds.{Bounds}
 use Rattle.pgm_plates.specs.declared.bounds.Bounds.TheVariants.{Page}
-use Rattle.pgm_plates.specs.declared.stand.Stand.{Stand}
-use Rattle.pgm_plates.specs.declared.stand.Stand.TheVariants.{Start, Letter, Magic, Gap, Comment, Digits, Ended}
+use Rattle.pgm_plates.specs.declared.header_state.HeaderState.{HeaderState}
+use Rattle.pgm_plates.specs.declared.header_state.HeaderState.TheVariants.{Start, Letter, Magic, Gap, Comment, Digits, Ended}
 use Rattle.pgm_plates.specs.declared.header.Sides.{Sides}
 use Rattle.pgm_plates.specs.declared.header.Sides.TheVariants.{Neither, Width, Both}
 use Rattle.pgm_plates.specs.declared.header.Scan.{Scan}
@@ -25,7 +25,7 @@ use Rattle.pgm_plates.proofs.Moments.{clean_all, clean_push}
 use Rattle.pgm_plates.proofs.Numbers.{Ends, ends_run, fault_ends, kept_number, accepted, accepted_maxval, no_fault, faulty}
 
 -- which steps there are, and what they tell of the byte
-abbrev pub Lands : Stand → Stand → ℕ → ℕ → Type 0
+abbrev pub Lands : HeaderState → HeaderState → ℕ → ℕ → Type 0
 Lands Start Letter k b = Unit {0}
 Lands Letter Magic k b = Unit {0}
 Lands Magic Gap k b = Unit {0}
@@ -41,7 +41,7 @@ Lands Digits Comment k b = (is_digit b ≡ false) × (k < 3)
 Lands Digits Ended k b = (is_digit b ≡ false) × (3 ≤ k)
 Lands from to k b = ⊥
 
-gap_lands : (b : ℕ) (to : Stand) (P : Stand → Type 0) → P Gap → P Comment → gap_step b ≡ Some to → P to
+gap_lands : (b : ℕ) (to : HeaderState) (P : HeaderState → Type 0) → P Gap → P Comment → gap_step b ≡ Some to → P to
 gap_lands b to P gap comment e =
     elim (chosen (is_space b) (Some Gap) (cond (eqb b 35) (Some Comment) None) (Some to) e) [
       | inl h ↦ subst P (let is : Gap ≡ to = cc (h.1) in is) gap
@@ -51,35 +51,35 @@ gap_lands b to P gap comment e =
       ]
     ]
 
-pub lands : (from to : Stand) (k b : ℕ) → step from k b ≡ Some to → Lands from to k b
+pub lands : (from to : HeaderState) (k b : ℕ) → step from k b ≡ Some to → Lands from to k b
 lands Start to k b e =
     elim (chosen (eqb b 80) (Some Letter) None (Some to) e) [
-      | inl h ↦ subst (λ (s : Stand). Lands Start s k b) (let is : Letter ≡ to = cc (h.1) in is) tt
+      | inl h ↦ subst (λ (s : HeaderState). Lands Start s k b) (let is : Letter ≡ to = cc (h.1) in is) tt
       | inr h ↦ absurd (no_step to h.1)
     ]
 lands Letter to k b e =
     elim (chosen (eqb b 53) (Some Magic) None (Some to) e) [
-      | inl h ↦ subst (λ (s : Stand). Lands Letter s k b) (let is : Magic ≡ to = cc (h.1) in is) tt
+      | inl h ↦ subst (λ (s : HeaderState). Lands Letter s k b) (let is : Magic ≡ to = cc (h.1) in is) tt
       | inr h ↦ absurd (no_step to h.1)
     ]
-lands Magic to k b e = gap_lands b to (λ (s : Stand). Lands Magic s k b) tt tt e
+lands Magic to k b e = gap_lands b to (λ (s : HeaderState). Lands Magic s k b) tt tt e
 lands Gap to k b e =
     elim (chosen (is_digit b) (Some Digits) (gap_step b) (Some to) e) [
-      | inl h ↦ subst (λ (s : Stand). Lands Gap s k b) (let is : Digits ≡ to = cc (h.1) in is) h.0
-      | inr h ↦ gap_lands b to (λ (s : Stand). Lands Gap s k b) tt tt h.1
+      | inl h ↦ subst (λ (s : HeaderState). Lands Gap s k b) (let is : Digits ≡ to = cc (h.1) in is) h.0
+      | inr h ↦ gap_lands b to (λ (s : HeaderState). Lands Gap s k b) tt tt h.1
     ]
 lands Comment to k b e =
     elim (chosen (is_line_end b) (Some Gap) (Some Comment) (Some to) e) [
-      | inl h ↦ subst (λ (s : Stand). Lands Comment s k b) (let is : Gap ≡ to = cc (h.1) in is) tt
-      | inr h ↦ subst (λ (s : Stand). Lands Comment s k b) (let is : Comment ≡ to = cc (h.1) in is) tt
+      | inl h ↦ subst (λ (s : HeaderState). Lands Comment s k b) (let is : Gap ≡ to = cc (h.1) in is) tt
+      | inr h ↦ subst (λ (s : HeaderState). Lands Comment s k b) (let is : Comment ≡ to = cc (h.1) in is) tt
     ]
 lands Digits to k b e =
     elim (chosen (is_digit b) (Some Digits) (cond (ltb k 3) (gap_step b) (cond (is_space b) (Some Ended) None)) (Some to) e) [
-      | inl h ↦ subst (λ (s : Stand). Lands Digits s k b) (let is : Digits ≡ to = cc (h.1) in is) h.0
+      | inl h ↦ subst (λ (s : HeaderState). Lands Digits s k b) (let is : Digits ≡ to = cc (h.1) in is) h.0
       | inr h ↦ elim (chosen (ltb k 3) (gap_step b) (cond (is_space b) (Some Ended) None) (Some to) h.1) [
-        | inl j ↦ let few : k < 3 = grind (arith, nat_tests, j.0) in gap_lands b to (λ (s : Stand). Lands Digits s k b) (h.0, few) (h.0, few) j.1
+        | inl j ↦ let few : k < 3 = grind (arith, nat_tests, j.0) in gap_lands b to (λ (s : HeaderState). Lands Digits s k b) (h.0, few) (h.0, few) j.1
         | inr j ↦ elim (chosen (is_space b) (Some Ended) None (Some to) j.1) [
-          | inl i ↦ subst (λ (s : Stand). Lands Digits s k b) (let is : Ended ≡ to = cc (i.1) in is) (h.0, grind (arith, nat_tests, j.0))
+          | inl i ↦ subst (λ (s : HeaderState). Lands Digits s k b) (let is : Ended ≡ to = cc (i.1) in is) (h.0, grind (arith, nat_tests, j.0))
           | inr i ↦ absurd (no_step to i.1)
         ]
       ]
@@ -87,7 +87,7 @@ lands Digits to k b e =
 lands Ended to k b e = absurd (no_step to e)
 
 -- the number of numbers matters after digits alone
-same_step : (stand : Stand) (scan : Scan) (ns bytes : List ℕ) (b : ℕ) → Fits stand scan ns bytes → step stand (length ns) b ≡ step stand (length (past scan.sides) + 1) b
+same_step : (stand : HeaderState) (scan : Scan) (ns bytes : List ℕ) (b : ℕ) → Fits stand scan ns bytes → step stand (length ns) b ≡ step stand (length (past scan.sides) + 1) b
 same_step Digits scan ns bytes b fits = ap (λ (n : ℕ). step Digits n b) (let e : length ns ≡ length (past scan.sides) + 1 = omega (arith, ap length fits.1) in e)
 same_step Start scan ns bytes b fits = refl
 same_step Letter scan ns bytes b fits = refl
@@ -116,7 +116,7 @@ judged_err : (o : Option PlateFault) (made : Scan) (f : PlateFault) → judged o
 judged_err None made f e = absurd (ok_not_err made f e)
 judged_err (Some g) made f e = ap (λ (x : PlateFault). Some x) (err_same g f e)
 
-abbrev plain : Stand → Scan → Scan
+abbrev plain : HeaderState → Scan → Scan
 plain to scan = record { stand = to; sides = scan.sides; number = scan.number; first = scan.first }
 
 cut_more : (n b : ℕ) → digit_more (min n 1000000) b ≡ min (n * 10 + (b - 48)) 1000000
@@ -133,11 +133,11 @@ both_sides Neither many = absurd (omega arith)
 both_sides (Width w) many = absurd (omega arith)
 both_sides (Both w h) many = (w, h, refl)
 
-abbrev closed : Stand → Scan → Scan
+abbrev closed : HeaderState → Scan → Scan
 closed to scan = record { stand = to; sides = sides_then scan.sides scan.number; number = scan.number; first = scan.first }
 
 -- What the run says of a number that ends with this byte.
-same_number : (from : Stand) (ns bytes : List ℕ) (b : ℕ) → run Start [] bytes ≡ Some (reached from ns) → (e : Ends (bytes ++ b ∷ [])) → (from ≡ Digits) × (ns ≡ e.number ∷ e.earlier) × (is_digit b ≡ false)
+same_number : (from : HeaderState) (ns bytes : List ℕ) (b : ℕ) → run Start [] bytes ≡ Some (reached from ns) → (e : Ends (bytes ++ b ∷ [])) → (from ≡ Digits) × (ns ≡ e.number ∷ e.earlier) × (is_digit b ≡ false)
 same_number from ns bytes b ran e =
     let is = ends_run bytes b e.at e.number e.earlier e.ends e.few in
     let some : Some (reached from ns) ≡ Some (reached Digits (e.number ∷ e.earlier)) = sym ran ∙ is.0 in
@@ -156,12 +156,12 @@ no_err f x e = cc
 
 module _ (bounds : Bounds) where
   -- what holds after a step
-  pub record Moved (to : Stand) (next : Scan) (ns bytes : List ℕ) : Type 0 where
+  pub record Moved (to : HeaderState) (next : Scan) (ns bytes : List ℕ) : Type 0 where
     pub stand : next.stand ≡ to
     pub fits : Fits to next ns bytes
     pub ranges : InRange bounds next.sides
 
-  moved_as : (to : Stand) (made next : Scan) (ns bytes : List ℕ) → made ≡ next → Moved to made ns bytes → Moved to next ns bytes
+  moved_as : (to : HeaderState) (made next : Scan) (ns bytes : List ℕ) → made ≡ next → Moved to made ns bytes → Moved to next ns bytes
   moved_as to made next ns bytes same moved = subst (λ (s : Scan). Moved to s ns bytes) same moved
 
   goes_on : (scan : Scan) (ns bytes : List ℕ) (b at : ℕ) → Fits Digits scan ns bytes → InRange bounds scan.sides → is_digit b ≡ true → Moved Digits (record { stand = Digits; sides = scan.sides; number = digit_more scan.number b; first = scan.first }) (numbers_then Digits Digits ns b) (bytes ++ b ∷ [])
@@ -213,7 +213,7 @@ module _ (bounds : Bounds) where
   kept scan ns bytes fits none =
       fits.2 ∙ kept_number bounds scan.sides fits.0 scan.first (ap (λ (n : ℕ). number_fault bounds scan.sides n scan.first) (sym fits.2) ∙ none)
 
-  closes : (to : Stand) (scan : Scan) (ns bytes : List ℕ) → Fits Digits scan ns bytes → InRange bounds scan.sides → length (past scan.sides) + 1 < 3 → number_fault bounds scan.sides scan.number scan.first ≡ None → ns ≡ past (sides_then scan.sides scan.number)
+  closes : (to : HeaderState) (scan : Scan) (ns bytes : List ℕ) → Fits Digits scan ns bytes → InRange bounds scan.sides → length (past scan.sides) + 1 < 3 → number_fault bounds scan.sides scan.number scan.first ≡ None → ns ≡ past (sides_then scan.sides scan.number)
   closes to scan ns bytes fits range few none =
       fits.1 ∙ ap (λ (n : ℕ). n ∷ past scan.sides) (sym (kept scan ns bytes fits none)) ∙ past_then scan.sides scan.number few
 
@@ -236,7 +236,7 @@ module _ (bounds : Bounds) where
         ranges = accepted bounds scan.sides scan.number scan.first none range;
       }
 
-  moves : (from to : Stand) (scan next : Scan) (ns bytes : List ℕ) (b : ℕ) → Standing from ns bytes → Fits from scan ns bytes → InRange bounds scan.sides → Lands from to (length (past scan.sides) + 1) b → entered bounds from to scan b (length bytes) ≡ Ok next → Moved to next (numbers_then from to ns b) (bytes ++ b ∷ [])
+  moves : (from to : HeaderState) (scan next : Scan) (ns bytes : List ℕ) (b : ℕ) → Standing from ns bytes → Fits from scan ns bytes → InRange bounds scan.sides → Lands from to (length (past scan.sides) + 1) b → entered bounds from to scan b (length bytes) ≡ Ok next → Moved to next (numbers_then from to ns b) (bytes ++ b ∷ [])
   moves Digits Digits scan next ns bytes b standing fits range on e = moved_as Digits _ next (numbers_then Digits Digits ns b) (bytes ++ b ∷ []) (ok_same _ next e) (goes_on scan ns bytes b (length bytes) fits range on)
   moves Gap Digits scan next ns bytes b standing fits range on e = moved_as Digits _ next ((b - 48) ∷ ns) (bytes ++ b ∷ []) (ok_same _ next e) (begins scan ns bytes b standing fits range on)
   moves Digits Gap scan next ns bytes b standing fits range on e =
@@ -271,7 +271,7 @@ module _ (bounds : Bounds) where
       let rest : e.earlier ≡ past scan.sides = cc in
       (head ∙ sym (kept scan ns bytes fits none), rest))
 
-  stays_numbered : (from to : Stand) (scan next : Scan) (ns bytes : List ℕ) (b : ℕ) → run Start [] bytes ≡ Some (reached from ns) → Fits from scan ns bytes → InRange bounds scan.sides → Lands from to (length (past scan.sides) + 1) b → entered bounds from to scan b (length bytes) ≡ Ok next → (fault : PlateFault) → NumberFault bounds (bytes ++ b ∷ []) fault → ⊥
+  stays_numbered : (from to : HeaderState) (scan next : Scan) (ns bytes : List ℕ) (b : ℕ) → run Start [] bytes ≡ Some (reached from ns) → Fits from scan ns bytes → InRange bounds scan.sides → Lands from to (length (past scan.sides) + 1) b → entered bounds from to scan b (length bytes) ≡ Ok next → (fault : PlateFault) → NumberFault bounds (bytes ++ b ∷ []) fault → ⊥
   stays_numbered Digits Digits scan next ns bytes b ran fits range on e = not_numbered (bytes ++ b ∷ []) (λ (n : Ends (bytes ++ b ∷ [])). digit_not b on ((same_number Digits ns bytes b ran n).2))
   stays_numbered Digits Gap scan next ns bytes b ran fits range on e = judged_number scan ns bytes b ran fits range ((judged_ok (number_fault bounds scan.sides scan.number scan.first) (closed Gap scan) next e).0)
   stays_numbered Digits Comment scan next ns bytes b ran fits range on e = judged_number scan ns bytes b ran fits range ((judged_ok (number_fault bounds scan.sides scan.number scan.first) (closed Comment scan) next e).0)
@@ -294,7 +294,7 @@ module _ (bounds : Bounds) where
         | inl broken ↦ broken.1.broken (runs_begun scan.stand scanned.ns bytes scanned.ran)
         | inr long ↦ elim fine [
           | inl ended ↦
-              let header = ended_header scanned.ns bytes (scanned.ran ∙ ap (λ (s : Stand). Some (reached s scanned.ns)) ended) in
+              let header = ended_header scanned.ns bytes (scanned.ran ∙ ap (λ (s : HeaderState). Some (reached s scanned.ns)) ended) in
               holds_header bytes [] header.0 header.1 header.2 header.4 (subst HoldsNoHeader (sym (append-nil bytes)) long.1.unended)
           | inr short ↦ omega (arith, long.1.long)
         ]
@@ -322,7 +322,7 @@ module _ (bounds : Bounds) where
   pub scan_more_within : (bytes : List ℕ) (b : ℕ) (scan next : Scan) → ScannedWithin bounds bytes scan → length bytes < 65536 → scan_step_within bounds scan b (length bytes) ≡ Ok next → ScannedWithin bounds (bytes ++ b ∷ []) next
   scan_more_within bytes b scan next scanned short e =
       let k = length (past scan.sides) + 1 in
-      let by_step : (o : Option Stand) → step scan.stand k b ≡ o → stepped bounds o scan b (length bytes) ≡ Ok next → ScannedWithin bounds (bytes ++ b ∷ []) next =
+      let by_step : (o : Option HeaderState) → step scan.stand k b ≡ o → stepped bounds o scan b (length bytes) ≡ Ok next → ScannedWithin bounds (bytes ++ b ∷ []) next =
       λ o. elim o as (λ o. step scan.stand k b ≡ o → stepped bounds o scan b (length bytes) ≡ Ok next → ScannedWithin bounds (bytes ++ b ∷ []) next) [
         | None ↦ λ is h. absurd (no_err (header_fault (length bytes)) next h)
         | Some to ↦ λ is h.
@@ -332,8 +332,8 @@ module _ (bounds : Bounds) where
             let here : step scan.stand (length scanned.ns) b ≡ Some to = same_step scan.stand scan scanned.ns bytes b scanned.fits ∙ is in
             record {
               ns = numbers_then scan.stand to scanned.ns b;
-              ran = run_more scan.stand to scanned.ns bytes b scanned.ran here ∙ ap (λ (s : Stand). Some (reached s (numbers_then scan.stand to scanned.ns b))) (sym moved.stand);
-              fits = subst (λ (s : Stand). Fits s next (numbers_then scan.stand to scanned.ns b) (bytes ++ b ∷ [])) (sym moved.stand) moved.fits;
+              ran = run_more scan.stand to scanned.ns bytes b scanned.ran here ∙ ap (λ (s : HeaderState). Some (reached s (numbers_then scan.stand to scanned.ns b))) (sym moved.stand);
+              fits = subst (λ (s : HeaderState). Fits s next (numbers_then scan.stand to scanned.ns b) (bytes ++ b ∷ [])) (sym moved.stand) moved.fits;
               ranges = moved.ranges;
               early = clean_push bounds bytes b (still_clean bytes scan scanned (inr short));
               numbered = stays_numbered scan.stand to scan next scanned.ns bytes b scanned.ran scanned.fits scanned.ranges on h;
@@ -358,7 +358,7 @@ module _ (bounds : Bounds) where
   number_decides bytes (Truncated at) h = absurd h
   number_decides bytes (TrailingBytes at) h = absurd h
 
-  judged_fault : (to : Stand) (scan : Scan) (ns bytes : List ℕ) (b : ℕ) (fault : PlateFault) → Fits Digits scan ns bytes → InRange bounds scan.sides → is_digit b ≡ false → IsBegun (bytes ++ b ∷ []) → judged (number_fault bounds scan.sides scan.number scan.first) (closed to scan) ≡ Err fault → DecidesWithin bounds (bytes ++ b ∷ []) fault
+  judged_fault : (to : HeaderState) (scan : Scan) (ns bytes : List ℕ) (b : ℕ) (fault : PlateFault) → Fits Digits scan ns bytes → InRange bounds scan.sides → is_digit b ≡ false → IsBegun (bytes ++ b ∷ []) → judged (number_fault bounds scan.sides scan.number scan.first) (closed to scan) ≡ Err fault → DecidesWithin bounds (bytes ++ b ∷ []) fault
   judged_fault to scan ns bytes b fault fits range other begun e =
       let here = fits.3 in
       let is = judged_err (number_fault bounds scan.sides scan.number scan.first) (closed to scan) fault e in
@@ -378,7 +378,7 @@ module _ (bounds : Bounds) where
         begun = begun;
       }))
 
-  faults : (from to : Stand) (scan : Scan) (ns bytes : List ℕ) (b : ℕ) (fault : PlateFault) → Fits from scan ns bytes → InRange bounds scan.sides → Lands from to (length (past scan.sides) + 1) b → IsBegun (bytes ++ b ∷ []) → entered bounds from to scan b (length bytes) ≡ Err fault → DecidesWithin bounds (bytes ++ b ∷ []) fault
+  faults : (from to : HeaderState) (scan : Scan) (ns bytes : List ℕ) (b : ℕ) (fault : PlateFault) → Fits from scan ns bytes → InRange bounds scan.sides → Lands from to (length (past scan.sides) + 1) b → IsBegun (bytes ++ b ∷ []) → entered bounds from to scan b (length bytes) ≡ Err fault → DecidesWithin bounds (bytes ++ b ∷ []) fault
   faults Digits Gap scan ns bytes b fault fits range on begun e = judged_fault Gap scan ns bytes b fault fits range on.0 begun e
   faults Digits Comment scan ns bytes b fault fits range on begun e = judged_fault Comment scan ns bytes b fault fits range on.0 begun e
   faults Digits Ended scan ns bytes b fault fits range on begun e = judged_fault Ended scan ns bytes b fault fits range on.0 begun e
@@ -398,7 +398,7 @@ module _ (bounds : Bounds) where
   pub scan_faults_within : (bytes : List ℕ) (b : ℕ) (scan : Scan) (fault : PlateFault) → ScannedWithin bounds bytes scan → (scan.stand ≡ Ended → ⊥) → scan_step_within bounds scan b (length bytes) ≡ Err fault → DecidesWithin bounds (bytes ++ b ∷ []) fault
   scan_faults_within bytes b scan fault scanned open_yet e =
       let k = length (past scan.sides) + 1 in
-      let by_step : (o : Option Stand) → step scan.stand k b ≡ o → stepped bounds o scan b (length bytes) ≡ Err fault → DecidesWithin bounds (bytes ++ b ∷ []) fault =
+      let by_step : (o : Option HeaderState) → step scan.stand k b ≡ o → stepped bounds o scan b (length bytes) ≡ Err fault → DecidesWithin bounds (bytes ++ b ∷ []) fault =
       λ o. elim o as (λ o. step scan.stand k b ≡ o → stepped bounds o scan b (length bytes) ≡ Err fault → DecidesWithin bounds (bytes ++ b ∷ []) fault) [
         | None ↦ λ is h.
             let here : step scan.stand (length scanned.ns) b ≡ None = same_step scan.stand scan scanned.ns bytes b scanned.fits ∙ is in

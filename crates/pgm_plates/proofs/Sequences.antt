@@ -4,8 +4,7 @@ use Rattle.std.proofs.lemmas.List.{append_assoc, append-nil, length-append, leng
 use Rattle.outside.specs.declared.tray.Failed.{Failed}
 use Rattle.outside.specs.Causes.{Asks}
 use Rattle.outside.specs.Tray.{TrayState, KeepsTray, Begins}
-use Rattle.outside.specs.Reading.{Takes}
-use Rattle.outside.proofs.Steps.{kept_tray, takes_then, takes_as, rose_before}
+use Rattle.outside.proofs.Steps.{kept_tray, takes_then, rose_before}
 use Rattle.pgm_plates.specs.declared.bounds.Bounds.TheVariants.{Page}
 use Rattle.pgm_plates.specs.declared.header.Header.{Header}
 use Rattle.pgm_plates.specs.declared.plate.Plate.{Plate}
@@ -19,7 +18,7 @@ use Rattle.pgm_plates.specs.Images.{IsNear, IsNearRefusal, ReadsImage, Passed, P
 use Rattle.pgm_plates.specs.Reading.{AreFew, KeepsCount}
 use Rattle.pgm_plates.specs.Readers.{Answers, HeaderRead, RasterTaken}
 use Rattle.pgm_plates.specs.Sequences.{IsSequence, StandsAfter, IsOfImage, AnswersPage, ReadsPage, further}
-use Rattle.pgm_plates.proofs.Headers.{takes_none, takes_nil, told_on, scanned_none, fresh}
+use Rattle.pgm_plates.proofs.Headers.{takes_none, told_on, scanned_none, fresh}
 use Rattle.pgm_plates.proofs.Moments.{clean_none, clean_all, only_truncated}
 use Rattle.pgm_plates.proofs.Scans.{quiet}
 use Rattle.pgm_plates.proofs.Wholes.{few_after, file_of, no_shape, raster_within, kept_count}
@@ -71,25 +70,6 @@ page_found a b c page count start size plate same passed image = record {
 -- no bytes are few
 few_none : AreFew []
 few_none = inl (omega arith, no_shape)
-
-nothing_of : (bytes : List ℕ) → length bytes ≡ 0 → bytes ≡ []
-nothing_of [] none = refl
-nothing_of (b ∷ bytes) none = absurd (omega arith)
-
-pub page_none : (a b c : TrayState) (page count start : ℕ) → count ≤ page → Passed a b count start → ReadsImage b c (Ok None) → PageAnswers page a c (Ok None)
-page_none a b c page count start le passed none =
-    let takes : Takes passed.bytes a c = takes_nil passed.bytes a b c passed.takes (takes_as none.0 [] b c (nothing_of none.0 none.2) none.1) in
-    let none_left : StandsAfter passed.bytes page [] = subst (λ (x : List ℕ). StandsAfter x page []) (append-nil passed.bytes) (suffix a b page count start passed [] le) in
-    record {
-      bytes = passed.bytes;
-      takes = takes;
-      few = ([], none_left, few_none);
-      answer = (
-        takes.begun,
-        none_left,
-        λ tells. none.3 (told_on passed.bytes a b passed.takes tells),
-      );
-    }
 
 abbrev refusing : PlateRefusal → Result (Option (Values × ℕ)) PlateRefusal
 refusing refusal = Err refusal

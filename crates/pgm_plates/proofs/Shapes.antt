@@ -1,16 +1,13 @@
 -- No header is a proper prefix of another.
-use Rattle.std.proofs.Common.{◌≡◌, ℕ, ◌<◌, ◌≤◌, List, [], ◌∷◌, ◌++◌, length, take, drop, Some, refl, sym, ap, ◌∙◌, subst, inl, inr, arith}
+use Rattle.std.proofs.Common.{◌≡◌, ℕ, ◌≤◌, List, [], ◌∷◌, ◌++◌, length, take, drop, Some, refl, sym, ap, ◌∙◌, subst, inl, inr, arith}
 use Rattle.std.proofs.lemmas.List.{append_assoc, append-nil, take-append-drop, take-append-le, append_cancel_left}
 use Rattle.std.proofs.lemmas.Bool.{cases_lt}
 use Rattle.std.proofs.Math.Seq.{take-append_seam}
-use Rattle.pgm_plates.specs.declared.stand.Stand.TheVariants.{Start, Ended}
+use Rattle.pgm_plates.specs.declared.header_state.HeaderState.TheVariants.{Start, Ended}
 use Rattle.pgm_plates.specs.Header.{IsHeader, IsBegun}
 use Rattle.pgm_plates.specs.Runs.{Reached, run}
 use Rattle.pgm_plates.specs.Faults.{HoldsNoHeader}
 use Rattle.pgm_plates.proofs.HeaderRun.{reached, run_then, header_run, nothing_after}
-
-pub no_less : (n : ℕ) → n < length {A = ℕ} [] → ⊥
-no_less n h = omega arith
 
 -- A run that is through has nothing after it.
 pub through : (prefix back ns : List ℕ) (r : Reached) → run Start [] prefix ≡ Some (reached Ended ns) → run Start [] (prefix ++ back) ≡ Some r → back ≡ []

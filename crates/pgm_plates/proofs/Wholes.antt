@@ -9,7 +9,7 @@ use Rattle.outside.specs.Tray.{TrayState, KeepsTray, Begins}
 use Rattle.outside.specs.Reading.{Takes}
 use Rattle.outside.proofs.Steps.{kept_tray, takes_then, rose_before}
 use Rattle.pgm_plates.specs.declared.bounds.Bounds.{Bounds}
-use Rattle.pgm_plates.specs.declared.stand.Stand.TheVariants.{Start, Ended}
+use Rattle.pgm_plates.specs.declared.header_state.HeaderState.TheVariants.{Start, Ended}
 use Rattle.pgm_plates.specs.declared.plate.Plate.{Plate}
 use Rattle.pgm_plates.specs.declared.plate.PlateFault.TheVariants.{BadMagic, BadHeader, SideRange, TooManySamples, MaxvalRange, SampleAboveMaxval, Truncated, TrailingBytes}
 use Rattle.pgm_plates.specs.declared.plate.PlateRefusal.{PlateRefusal}

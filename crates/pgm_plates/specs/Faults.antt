@@ -1,5 +1,5 @@
 -- The faults of bytes that are no plate file. Each has a moment, the number of bytes that decide
--- it, and the fault of the least moment is told.
+-- it, and the fault of the least moment is reported.
 use Rattle.std.specs.Prelude.{◌≡◌, ◌⊎◌, ℕ, ◌+◌, ◌*◌, ◌<◌, ◌≤◌, IsFalse, List, [], ◌∷◌, ◌++◌, length}
 use Rattle.std.specs.Prelude.{take}
 use Rattle.pgm_plates.specs.declared.bounds.Bounds.{Bounds}
@@ -29,9 +29,9 @@ pub record Breaks (bytes : List ℕ) (at : ℕ) : Type 0 where
   pub unended : HoldsNoHeader prefix
   pub broken : IsBegun bytes → ⊥
 
--- The bytes end with a number of the header, whose first digit is at that place, and with one
--- byte more, which ends the number and may stand there. The earlier numbers are told from the
--- last to the first.
+-- The bytes end with a number of the header, whose first digit is at that place, and with one byte
+-- more, which ends the number and may stand there. The earlier numbers are listed from the last to
+-- the first.
 pub record EndsNumber (bytes : List ℕ) (at number : ℕ) (earlier : List ℕ) : Type 0 where
   pub prefix : List ℕ
   pub gap : List ℕ

@@ -33,7 +33,7 @@ IsNearRefusal (Fault fault) = IsNear fault
 IsNearRefusal ReadFault = Unit {0}
 IsNearRefusal OutOfMemory = Unit {0}
 
--- One image is taken, of so many bytes, or there is none.
+-- One image is taken, and its length is answered, or there is none.
 abbrev pub ReadsImage : TrayState → TrayState → Result (Option (Plate × ℕ)) PlateRefusal → Type 0
 ReadsImage before after (Ok (Some read)) = (image : List ℕ) × Takes image before after
     × IsPlateFile image read.0 × (length image ≡ read.1) × AreFew image
@@ -41,7 +41,7 @@ ReadsImage before after (Ok None) =
     (nothing : List ℕ) × Takes nothing before after × (length nothing ≡ 0) × AtEnd before after
 ReadsImage before after (Err refusal) = Answers Page before after (Err refusal)
 
--- So many images were taken, of so many bytes together.
+-- `count` images were taken, of `size` bytes together.
 pub record Passed (before now : TrayState) (count size : ℕ) : Type 0 where
   pub bytes : List ℕ
   pub plates : List Plate

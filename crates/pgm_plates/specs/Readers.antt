@@ -32,7 +32,7 @@ pub record Answers (bounds : Bounds) (before after : TrayState)
   pub few : AreFew bytes
   pub answer : AnswersPlate bounds bytes before after result
 
--- A whole header without a fault is taken, of so many bytes.
+-- A whole header without a fault is taken, of `count` bytes.
 pub record HeaderRead (bounds : Bounds) (before after : TrayState) (header : Header)
     (count : ℕ) : Type 0 where
   pub bytes : List ℕ
@@ -88,7 +88,7 @@ pub record IsAbove (maxval count : ℕ) (bytes : List ℕ) (place : ℕ) : Type 
   pub few : length samples < count
   pub within : length bytes ≤ count * sample_size maxval
 
--- What a refusal in a raster of so many samples says, which begins at that place of the file.
+-- What a refusal in a raster of `count` samples says, which begins at `start` in the file.
 abbrev pub RasterRefused : ℕ → ℕ → ℕ → TrayState → TrayState → PlateRefusal → Type 0
 RasterRefused maxval count start before after (Fault (SampleAboveMaxval at)) = (bytes : List ℕ)
     × (place : ℕ) × Takes bytes before after × IsAbove maxval count bytes place
@@ -156,7 +156,7 @@ JudgesPiece maxval bytes start before after result =
     (count : ℕ) → length bytes ≡ count * sample_size maxval
     → ReadsPiece maxval count start before after result (samples_spelled maxval bytes)
 
--- So many samples are read, whatever they are, or they are refused.
+-- A number of samples is read, whatever they are, or they are refused.
 abbrev pub ReadsUnkept : ℕ → ℕ → ℕ → TrayState → TrayState → Result (Unit {0}) PlateRefusal
     → Type 0
 ReadsUnkept maxval count start before after result =

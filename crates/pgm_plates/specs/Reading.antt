@@ -20,7 +20,7 @@ abbrev pub IsTruncated : PlateFault → Type 0
 IsTruncated (Truncated at) = Unit {0}
 IsTruncated other = ⊥
 
--- a header that is not too long, and at most so many bytes after it as its samples take, and one
+-- a header that is not too long, at most the bytes of its samples after it, and one byte more
 pub record IsWithinPlate (bytes : List ℕ) : Type 0 where
   pub count : ℕ
   pub short : count ≤ most_header

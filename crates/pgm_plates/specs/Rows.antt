@@ -77,7 +77,7 @@ HasReadOr bounds name before now plate samples (Ok done) =
 HasReadOr bounds name before now plate samples (Err refusal) =
     ReadsPlateWithin bounds name before now (Err refusal)
 
--- After so many samples that were read, these rows are read, wherever the reading began.
+-- After `done` samples that were read, these rows are read, wherever the reading began.
 abbrev pub ReadsRows : OpenPlate → ℕ → List ℕ → TrayState → TrayState
     → Result (Unit {0}) PlateRefusal → Type 0
 ReadsRows plate done rows before after result =
@@ -86,7 +86,7 @@ ReadsRows plate done rows before after result =
     → done + length rows ≤ samples_of plate.header
     → HasReadOr bounds name start after plate (samples ++ rows) result
 
--- After so many samples that were read, so many more are read, whatever they are.
+-- After `done` samples that were read, `count` more are read, whatever they are.
 abbrev pub ReadsSome : OpenPlate → ℕ → ℕ → TrayState → TrayState → Result (Unit {0}) PlateRefusal
     → Type 0
 ReadsSome plate done count before after result =

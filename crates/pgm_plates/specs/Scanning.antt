@@ -4,8 +4,8 @@ use Rattle.std.specs.Prelude.{if◌then◌else◌, List, [], ◌∷◌, ◌++◌
 use Rattle.std.specs.Prelude.{Result, Ok, Err}
 use Rattle.pgm_plates.specs.declared.bounds.Bounds.{Bounds}
 use Rattle.pgm_plates.specs.declared.bounds.Bounds.TheVariants.{Page}
-use Rattle.pgm_plates.specs.declared.stand.Stand.{Stand}
-use Rattle.pgm_plates.specs.declared.stand.Stand.TheVariants.{Start, Digits, Ended}
+use Rattle.pgm_plates.specs.declared.header_state.HeaderState.{HeaderState}
+use Rattle.pgm_plates.specs.declared.header_state.HeaderState.TheVariants.{Start, Digits, Ended}
 use Rattle.pgm_plates.specs.declared.header.Sides.{Sides}
 use Rattle.pgm_plates.specs.declared.header.Sides.TheVariants.{Neither, Width, Both}
 use Rattle.pgm_plates.specs.declared.header.Scan.{Scan}
@@ -57,7 +57,7 @@ judged None scan = Ok scan
 judged (Some fault) scan = Err fault
 
 -- from one stand to another, by the byte b at that place
-abbrev pub entered : Bounds → Stand → Stand → Scan → ℕ → ℕ → Result Scan PlateFault
+abbrev pub entered : Bounds → HeaderState → HeaderState → Scan → ℕ → ℕ → Result Scan PlateFault
 entered bounds Digits Digits scan b at = Ok
     (record {
       stand = Digits;
@@ -77,7 +77,7 @@ entered bounds Digits to scan b at = judged (number_fault bounds scan.sides scan
 entered bounds from to scan b at =
     Ok (record { stand = to; sides = scan.sides; number = scan.number; first = scan.first })
 
-abbrev pub stepped : Bounds → Option Stand → Scan → ℕ → ℕ → Result Scan PlateFault
+abbrev pub stepped : Bounds → Option HeaderState → Scan → ℕ → ℕ → Result Scan PlateFault
 stepped bounds None scan b at = Err (header_fault at)
 stepped bounds (Some to) scan b at = entered bounds scan.stand to scan b at
 
@@ -88,7 +88,7 @@ scan_step_within bounds scan b at =
 abbrev pub scan_step : Scan → ℕ → ℕ → Result Scan PlateFault
 scan_step = scan_step_within Page
 
-abbrev pub header_of : Stand → Sides → ℕ → Option Header
+abbrev pub header_of : HeaderState → Sides → ℕ → Option Header
 header_of Ended (Both w h) maxval = Some (record { width = w; height = h; maxval = maxval })
 header_of stand sides maxval = None
 
@@ -104,7 +104,7 @@ pub record AtNumber (bytes : List ℕ) (at number : ℕ) (earlier : List ℕ) : 
   pub whole : bytes ≡ prefix ++ gap ++ digits
 
 -- what the fields of a scan stand for
-abbrev pub Fits : Stand → Scan → List ℕ → List ℕ → Type 0
+abbrev pub Fits : HeaderState → Scan → List ℕ → List ℕ → Type 0
 Fits Digits scan ns bytes = (n : ℕ) × (ns ≡ n ∷ past scan.sides) × (scan.number ≡ min n 1000000)
     × AtNumber bytes scan.first n (past scan.sides)
 Fits Ended scan ns bytes = (w h : ℕ) × (scan.sides ≡ Both w h) × (ns ≡ scan.number ∷ h ∷ w ∷ [])

@@ -21,7 +21,7 @@ IsSequence bytes [] = bytes ≡ []
 IsSequence bytes (plate ∷ plates) = (image later : List ℕ) × (bytes ≡ image ++ later)
     × IsPlateFile image plate × IsSequence later plates
 
--- At most so many plate files stand at the beginning of the bytes, and these others after them.
+-- At most `most` plate files stand at the beginning of the bytes, and these others after them.
 pub record StandsAfter (bytes : List ℕ) (most : ℕ) (image : List ℕ) : Type 0 where
   pub prefix : List ℕ
   pub plates : List Plate
@@ -29,13 +29,12 @@ pub record StandsAfter (bytes : List ℕ) (most : ℕ) (image : List ℕ) : Type
   pub few : length plates ≤ most
   pub whole : bytes ≡ prefix ++ image
 
--- No more bytes than these are owed where the plate of that number is asked for: at most so many
--- plate files, and of the
--- one in hand no more than of a file of one plate.
+-- No more bytes than these are read where the plate of that number is asked for: at most that many
+-- plate files, and of the next one no more than of a file of one plate.
 abbrev pub AreFewOfPage : ℕ → List ℕ → Type 0
 AreFewOfPage page bytes = (image : List ℕ) × StandsAfter bytes page image × AreFew image
 
--- the same fault, so many bytes further on
+-- the same fault, n bytes further on
 abbrev pub further : ℕ → PlateFault → PlateFault
 further n (BadMagic at) = BadMagic (n + at)
 further n (BadHeader at) = BadHeader (n + at)

@@ -1,9 +1,9 @@
 ghost use Rattle.std.specs.Prelude.{◌≡◌};
 ghost use Rattle.pgm_plates.specs.Limits.{samples_within, side_within};
 
-use page_model::bounds::{MOST_SAMPLES, MOST_SIDE};
+use page_model::bounds::{MOST_SAMPLES, MOST_SHEET_SIDE, MOST_SIDE};
 
-/// By whose limits a plate is read: the grammar is one, and its limits are two.
+/// The limits on the sides and samples of a plate that is read. The grammar is the same for both.
 #[derive(Clone, Copy, Debug, Drop, PartialEq, Eq)]
 pub enum Bounds {
     /// A page's: sides of at most 16,384 samples, and at most 160,000,000 samples.
@@ -13,17 +13,17 @@ pub enum Bounds {
 }
 
 impl Bounds {
-    /// The most samples that a side has.
+    /// The greatest width or height.
     pub fn side(self) -> u32
         ensures { result ≡ side_within self }
     {
         match self {
             Bounds::Page => MOST_SIDE,
-            Bounds::Sheet => 262_144,
+            Bounds::Sheet => MOST_SHEET_SIDE,
         }
     }
 
-    /// The most samples that a plate has.
+    /// The greatest number of samples of a plate.
     pub fn samples(self) -> u64
         ensures { result ≡ samples_within self }
     {

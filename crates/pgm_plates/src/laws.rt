@@ -24,27 +24,27 @@ pub fn no_prefix()
     ensures { NoPrefix }
 {}
 
-/// Bytes are plate files of one list of plates at most, one directly after the other.
+/// Bytes are at most one list of plate files, one directly after the other.
 pub fn one_sequence()
     ensures { OneSequence }
 {}
 
-/// A fault stays, whatever comes after the bytes that have it, but for an early end.
+/// A fault other than an early end stays, whatever bytes are appended.
 pub fn fault_stays()
     ensures { FaultStays }
 {}
 
-/// A plate that is turned into a plane and back is as before.
+/// Turning a plate into a plane and back gives the plate.
 pub fn turns_back()
     ensures { TurnsBack }
 {}
 
-/// A plane that is turned into a plate and back is as before.
+/// Turning a plane into a plate and back gives the plane.
 pub fn plane_turns_back()
     ensures { PlaneTurnsBack }
 {}
 
-/// The canonical spelling of a plate is a plate file of it.
+/// The canonical encoding of a plate is a plate file of it.
 pub fn spelled_reads()
     ensures { SpelledReads }
 {}
@@ -54,12 +54,12 @@ pub fn plate_or_fault()
     ensures { PlateOrFault }
 {}
 
-/// A plate that is read is the one that the whole file spells, where the tray tells its bytes.
+/// A plate that was read is the one of the whole file, where the tray tells its bytes.
 pub fn file_plate()
     ensures { FilePlate }
 {}
 
-/// A fault that is answered is the one of the whole file, where the tray tells its bytes.
+/// A fault that was answered is the one of the whole file, where the tray tells its bytes.
 pub fn file_fault()
     ensures { FileFault }
 {}
@@ -84,17 +84,17 @@ pub fn no_prefix_within(bounds: Bounds)
     ensures { NoPrefixWithin bounds }
 {}
 
-/// Within any bounds: a fault stays, whatever comes after the bytes that have it, but for an early end.
+/// Within any bounds: a fault other than an early end stays, whatever bytes are appended.
 pub fn fault_stays_within(bounds: Bounds)
     ensures { FaultStaysWithin bounds }
 {}
 
-/// Within any bounds: a plate that is turned into a plane and back is as before.
+/// Within any bounds: turning a plate into a plane and back gives the plate.
 pub fn turns_back_within(bounds: Bounds)
     ensures { TurnsBackWithin bounds }
 {}
 
-/// Within any bounds: the canonical spelling of a plate is a plate file of it.
+/// Within any bounds: the canonical encoding of a plate is a plate file of it.
 pub fn spelled_reads_within(bounds: Bounds)
     ensures { SpelledReadsWithin bounds }
 {}
@@ -104,22 +104,22 @@ pub fn plate_or_fault_within(bounds: Bounds)
     ensures { PlateOrFaultWithin bounds }
 {}
 
-/// Within any bounds: a plate that is read is the one that the whole file spells, where the tray tells its bytes.
+/// Within any bounds: a plate that was read is the one of the whole file, where the tray tells its bytes.
 pub fn file_plate_within(bounds: Bounds)
     ensures { FilePlateWithin bounds }
 {}
 
-/// Within any bounds: a fault that is answered is the one of the whole file, where the tray tells its bytes.
+/// Within any bounds: a fault that was answered is the one of the whole file, where the tray tells its bytes.
 pub fn file_fault_within(bounds: Bounds)
     ensures { FileFaultWithin bounds }
 {}
 
-/// Each plate file of a page is one of a sheet.
+/// Each plate file within the bounds of a page is one within those of a sheet.
 pub fn page_in_sheet()
     ensures { PageInSheet }
 {}
 
-/// What was read row by row so far is the top of the plate that the whole file spells, where the tray tells its bytes.
+/// The rows read so far are the top rows of the plate of the whole file, where the tray tells its bytes.
 pub fn top_of_file_within(bounds: Bounds)
     ensures { TopOfFileWithin bounds }
 {}

@@ -17,11 +17,11 @@ use outside::tray::{Failed, Tray};
 use page_model::parts::Plane;
 use std::alloc::Global;
 
-/// Reads the plate of that number, counted from 0, of the file of that name, in which plate files stand one directly
-/// after the other; or none, where there are at most so many.
+/// Reads plate number `page`, counted from 0, of the file `name`, in which plate files stand one directly after the
+/// other (pgm(5), section THE FORMAT). `None` where the file ends before it.
 ///
-/// A refusal is the first fault of the first of them that is none, at its place in the file, a read that failed before
-/// there was one, or out of memory.
+/// The refusal is the first fault of an image that is no plate file, at its place in the file, a read that failed
+/// before there was one, or out of memory.
 pub fn read_page<T: Tray>(
     alloc: Global,
     tray: &mut T,
@@ -37,8 +37,8 @@ pub fn read_page<T: Tray>(
     }
 }
 
-/// Reads the plate of that number as its plane: each sample is turned into its tint, `maxval - sample`, as soon as it is
-/// read.
+/// Reads plate number `page` of the file `name` as a plane: each sample is turned into its tint, `maxval - sample`, as
+/// soon as it is read.
 ///
 /// It answers what `read_page` does, with `Plate::into_plane` after it.
 pub fn read_page_plane<T: Tray>(
@@ -97,13 +97,13 @@ fn read_images<T: Tray>(
         match read_image(alloc, tray, form) {
             Ok(Some((_, size))) => start += size,
             Ok(None) => return Ok(None),
-            Err(refusal) => return Err(further_refused(refusal, start)),
+            Err(refusal) => return Err(further_refusal(refusal, start)),
         }
     }
     match read_image(alloc, tray, form) {
         Ok(Some((read, _))) => Ok(Some(read)),
         Ok(None) => Ok(None),
-        Err(refusal) => Err(further_refused(refusal, start)),
+        Err(refusal) => Err(further_refusal(refusal, start)),
     }
 }
 
@@ -138,7 +138,7 @@ fn read_image<T: Tray>(
 }
 
 // The refusal of an image that begins at that place of the file.
-fn further_refused(refusal: PlateRefusal, start: u64) -> PlateRefusal
+fn further_refusal(refusal: PlateRefusal, start: u64) -> PlateRefusal
     requires near { IsNearRefusal refusal }
     requires start { start ≤ 2 ^ 62 }
     ensures { result ≡ further_refusal start refusal }

@@ -3,7 +3,8 @@ use page_model::parts::Tints;
 /// A plate as its file has it: `width * height` samples, row by row from the top, 0 for black and `maxval` for white.
 ///
 /// A plate that was read has sides from 1 and a number of samples within the bounds that it was read by (`Bounds`), and
-/// a maxval from 1 to 65,535 which no sample is above. Netpbm's PGM manual gives the raw format; docs/PLATES.md says what of it is taken.
+/// a maxval from 1 to 65,535 which no sample is above. The raw format is that of pgm(5), section THE FORMAT;
+/// docs/PLATES.md says what of it is taken.
 #[derive(Drop)]
 pub struct Plate {
     pub width: u32,

@@ -21,7 +21,8 @@ use std::alloc::{AllocError, Global};
 // How many samples are read in one go at most.
 const PIECE: usize = 65_536;
 
-/// Reads that many samples, whose first byte is at that place of the file, and keeps them in that form.
+/// Reads `count` samples of a raster (pgm(5), section THE FORMAT), whose first byte is at `start` in the file, and
+/// keeps them as samples or as tints.
 pub fn read_raster<T: Tray>(
     alloc: Global,
     tray: &mut T,
@@ -68,7 +69,7 @@ pub fn read_raster<T: Tray>(
     }
 }
 
-// The lengths of the two buffers are parameters, so that no proof unfolds lists of so many.
+// The lengths of the two buffers are parameters, so that no proof unfolds lists of that length.
 fn no_samples(alloc: Global, len: usize) -> Result<Vec<u16>, AllocError>
     ensures { IfOk result (λ samples. length samples.items ≡ len) }
 {
@@ -175,7 +176,8 @@ fn turn_to(form: Form, values: &mut [u16], maxval: u32)
     }
 }
 
-/// Reads as many samples as there is room for.
+/// Reads the next samples into `samples` and fills it. `bytes` is the buffer that they are read into first, of
+/// `sample_size(maxval)` bytes a sample; `start` is the place of the first byte in the file.
 pub fn read_piece<T: Tray>(
     tray: &mut T,
     samples: &mut [u16],
@@ -204,7 +206,8 @@ pub fn read_piece<T: Tray>(
     }
 }
 
-/// Reads as many bytes as there is room for, and judges the samples that they spell.
+/// Reads the next bytes of a raster into `bytes`, fills it, and checks that no sample is above the maxval. `start` is
+/// the place of the first byte in the file.
 pub fn judge_piece<T: Tray>(
     tray: &mut T,
     bytes: &mut [u8],
@@ -236,7 +239,7 @@ pub fn judge_piece<T: Tray>(
     }
 }
 
-/// Why no more was read into a buffer.
+/// Why reading into a buffer ended.
 #[derive(Clone, Copy, Drop)]
 pub enum Filled {
     Whole,

@@ -12,14 +12,14 @@ use crate::reading::{end_of_file, read_header};
 use crate::samples::sample_size;
 use outside::tray::{Failed, Tray};
 
-/// A plate file that is begun: its header, and how many bytes that has.
+/// A plate file that is being read: its header, and the header's length in bytes.
 #[derive(Clone, Copy, Debug, Drop, PartialEq, Eq)]
 pub struct OpenPlate {
     pub header: Header,
     pub size: u64,
 }
 
-/// Begins the file of that name and reads the header of the plate within these bounds that it spells.
+/// Begins the file `name` and reads its header, within these bounds.
 ///
 /// With `read_rows` and `end_plate` after it, it reads what `read_plate_within` reads, and takes no memory. A refusal
 /// of any of them is the one of the whole plate.
@@ -50,11 +50,11 @@ fn open_plate<T: Tray>(tray: &mut T, bounds: Bounds) -> Result<OpenPlate, PlateR
     }
 }
 
-/// Reads the next samples of a plate, of which so many were read before, row by row from the top: as many as there is
-/// room for in `samples`, by pieces of as many bytes as there is room for in `bytes`.
+/// Reads the next samples of a plate, row by row from the top, and fills `samples`; `done` samples were read before.
+/// `bytes` is the buffer that they are read through, piece by piece.
 ///
-/// It refuses by a fault `SampleAboveMaxval` at the first sample that does not fit, a fault `Truncated` where the file
-/// ends before the last of them, and by `ReadFault` where a read fails.
+/// The refusals are the fault `SampleAboveMaxval` at the first sample above the maxval, the fault `Truncated` where the
+/// file ends before the last of them, and `ReadFault` where a read fails.
 pub fn read_rows<T: Tray>(
     tray: &mut T,
     plate: OpenPlate,
@@ -75,11 +75,10 @@ pub fn read_rows<T: Tray>(
     fill_samples(tray, samples, bytes, maxval, start)
 }
 
-/// Reads the next `count` samples of a plate, of which so many were read before, and keeps none of them: it judges their
-/// bytes, as many at once as there is room for in `bytes`.
+/// Reads the next `count` samples of a plate, of which `done` were read before, and keeps none of them: it only checks
+/// that none is above the maxval. `bytes` is the buffer that they are read through, piece by piece.
 ///
-/// The refusals are those of `read_rows`: a fault `SampleAboveMaxval` at the first sample that does not fit, a fault
-/// `Truncated` where the file ends before the last of them, and `ReadFault` where a read fails.
+/// The refusals are those of `read_rows`.
 pub fn judge_rows<T: Tray>(
     tray: &mut T,
     plate: OpenPlate,
@@ -100,7 +99,7 @@ pub fn judge_rows<T: Tray>(
     judge_samples(tray, count, bytes, maxval, start)
 }
 
-/// Looks for what stands after the last sample of a plate: nothing, if it is a whole plate file.
+/// Checks that nothing stands after the last sample of a plate.
 pub fn end_plate<T: Tray>(tray: &mut T, plate: OpenPlate) -> Result<(), PlateRefusal>
     requires begun { IsTrue (T.state tray.old).begun }
     requires header { plate.size ≤ most_header }
@@ -154,7 +153,7 @@ fn fill_samples<T: Tray>(
     Ok(())
 }
 
-// Judges so many samples.
+// Judges the next `count` samples.
 fn judge_samples<T: Tray>(
     tray: &mut T,
     count: u64,

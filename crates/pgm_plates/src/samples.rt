@@ -3,14 +3,16 @@ ghost use Rattle.std.specs.List.{All};
 ghost use Rattle.pgm_plates.specs.Plates.{sample_size as bytes_of_sample};
 ghost use Rattle.pgm_plates.specs.Readers.{Fit, FirstAbove, IsDecoded, samples_spelled, wide_samples};
 
-/// How many bytes a sample has.
+use page_model::bounds::MOST_MAXVAL;
+
+/// The number of bytes of a sample: 1 where the maxval is below 256, else 2 (pgm(5), section THE FORMAT).
 pub fn sample_size(maxval: u32) -> usize
     ensures { result ≡ bytes_of_sample maxval }
 {
     if maxval < 256 { 1 } else { 2 }
 }
 
-/// The place of the first sample above the maxval among the whole samples that these bytes spell.
+/// The index of the first sample above the maxval among the whole samples that these bytes encode.
 pub fn first_above(bytes: &[u8], maxval: u32) -> Option<usize>
     ensures decoded { IsDecoded maxval bytes.now (samples_spelled maxval bytes.now) }
     ensures fit { IfNone result (Fit maxval (samples_spelled maxval bytes.now)) }
@@ -73,7 +75,7 @@ fn are_wide_fit(bytes: &[u8], maxval: u32) -> bool
     ensures { IsTrue result → Fit maxval (wide_samples bytes.now) }
 {
     are_bytes(bytes);
-    if maxval == 65_535 {
+    if maxval == MOST_MAXVAL {
         true
     } else {
         most_wide(bytes) as u32 <= maxval
@@ -106,7 +108,7 @@ fn are_bytes(bytes: &[u8])
     ensures { All (λ b. b < 256) bytes.now }
 {}
 
-/// The samples that these bytes spell.
+/// Decodes bytes into samples, one or two bytes each, the more significant first (pgm(5), section THE FORMAT).
 pub fn decode(bytes: &[u8], maxval: u32, samples: &mut [u16])
     requires { length bytes.now ≡ length samples.old * bytes_of_sample maxval }
     ensures { samples.new ≡ samples_spelled maxval bytes.now }

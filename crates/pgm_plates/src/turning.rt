@@ -39,7 +39,7 @@ impl Plate {
             width: self.width,
             height: self.height,
             maxval: self.maxval,
-            tints: turned(self.samples, self.maxval),
+            tints: turn_values(self.samples, self.maxval),
         }
     }
 
@@ -52,12 +52,12 @@ impl Plate {
             width: plane.width,
             height: plane.height,
             maxval: plane.maxval,
-            samples: turned(plane.tints, plane.maxval),
+            samples: turn_values(plane.tints, plane.maxval),
         }
     }
 }
 
-fn turned(values: Tints, most: u32) -> Tints
+fn turn_values(values: Tints, most: u32) -> Tints
     requires fits { most ≤ most_maxval }
     requires below { All (λ v. v ≤ most) values }
     ensures { result ≡ map (λ v. most - v) values }
@@ -67,7 +67,7 @@ fn turned(values: Tints, most: u32) -> Tints
     List::from_vec(values)
 }
 
-/// Turns samples into tints, or tints into samples, where they stand: each value becomes `maxval` less the value.
+/// Turns samples into tints, or tints into samples, in place: each value becomes `maxval` less the value.
 pub fn turn(values: &mut [u16], maxval: u32)
     requires fits { maxval ≤ most_maxval }
     requires below { All (λ v. v ≤ maxval) values.old }

@@ -6,14 +6,14 @@ use crate::header::Header;
 use crate::plate::Plate;
 use page_model::parts::{Plane, Tints};
 
-/// In which form the samples of a plate are kept: as they are, or turned into tints.
+/// Whether the samples of a plate are kept as they are, or turned into tints.
 #[derive(Clone, Copy, Drop)]
 pub enum Form {
     Samples,
     Tints,
 }
 
-/// What was read of a plate: its header, and its samples in one of the two forms.
+/// A plate that was read: its header, and its samples in one of the two forms.
 #[derive(Drop)]
 pub struct Values {
     pub header: Header,

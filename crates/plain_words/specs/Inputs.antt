@@ -4,11 +4,12 @@ use Rattle.std.specs.Prelude.{Some, None}
 use Rattle.std.specs.List.{list_all}
 use Rattle.plain_words.specs.Distinct.{are_distinct}
 use Rattle.plain_words.specs.Parts.{InputNames, input_of, is_input}
+use Rattle.page_model.specs.Limits.{most_plates}
 
 -- as many as a page may have plates
 pub record AreFew (count : ℕ) : Type 0 where
   pub some : 1 ≤ count
-  pub few : count ≤ 16
+  pub few : count ≤ most_plates
 
 -- the names of the plates' colorants
 abbrev pub names_of : List InputNames → List (List ℕ)
@@ -20,7 +21,7 @@ inputs_of = map (λ p. p.input)
 
 -- as many words as there may be plates
 abbrev pub are_few : List (List ℕ) → Bool
-are_few words = nat_le 1 (length words) && nat_le (length words) 16
+are_few words = nat_le 1 (length words) && nat_le (length words) most_plates
 
 -- one to sixteen words, each of them NAME:IN
 abbrev pub are_inputs : List (List ℕ) → Bool

@@ -6,4 +6,4 @@ pub mod Distinct
 pub mod Inputs
 pub mod Plates
 pub mod Written
-pub mod Files
+pub mod Places

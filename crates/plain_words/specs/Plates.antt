@@ -3,6 +3,7 @@ use Rattle.std.specs.Prelude.{ℕ, Bool, ◌&&◌, nat_le, List, ◌∷◌, leng
 use Rattle.std.specs.List.{list_all}
 use Rattle.plain_words.specs.Distinct.{are_distinct}
 use Rattle.plain_words.specs.Parts.{PlateNames, is_plate, parts_of}
+use Rattle.page_model.specs.Limits.{most_plates}
 
 -- the names of the plates' colorants
 abbrev pub names_of : List PlateNames → List (List ℕ)
@@ -24,5 +25,5 @@ stand_together report plates =
 
 -- one to sixteen words, each of them a plate's
 abbrev pub are_plates : List (List ℕ) → Bool
-are_plates words = nat_le 1 (length words) && nat_le (length words) 16
+are_plates words = nat_le 1 (length words) && nat_le (length words) most_plates
     && list_all (λ w. is_plate (parts_of w)) words

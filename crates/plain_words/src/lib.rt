@@ -1,4 +1,5 @@
-//! Words that are read by hand: numbers, names of colorants, and words of two or three parts.
+//! Words of a command that are read without a parser's help: numbers, names of colorants, and words of two or three
+//! parts.
 #![tactic(auto)]
 
 pub mod distinct;
@@ -7,7 +8,6 @@ pub mod inputs;
 pub mod names;
 pub mod numbers;
 pub mod parts;
+pub mod places;
 pub mod plates;
-#[cfg(test)]
-mod tests;
 pub mod written;

@@ -1,10 +1,10 @@
 ghost use Rattle.std.specs.Prelude.{◌≡◌, ◌≤◌, IfSome};
-ghost use Rattle.plain_words.specs.Numbers.{in_range as in_range_meant, is_number as number_test, number_of};
+ghost use Rattle.plain_words.specs.Numbers.{in_range as in_range_spec, is_number as number_spec, number_of};
 ghost use Rattle.std.specs.Char.{is_ascii_digit};
 ghost use Rattle.std.specs.List.{list_all};
 
-/// The number that the word writes: one to ten digits with no sign, from `least` to `most`. `None` stands for every other
-/// word. The form is this project's own.
+/// The number that a word writes: one to ten decimal digits without a sign, from `least` to `most`. `None` for every
+/// other word. The form is this project's own.
 pub fn read_number(word: &str, least: u32, most: u32) -> Option<u32>
     ensures value { result ≡ number_of least most word.now }
     ensures range { IfSome result (λ n. (least ≤ n) × (n ≤ most)) }
@@ -19,7 +19,7 @@ pub fn read_number(word: &str, least: u32, most: u32) -> Option<u32>
 }
 
 fn in_range(number: u32, least: u32, most: u32) -> Option<u32>
-    ensures value { result ≡ in_range_meant least most number }
+    ensures value { result ≡ in_range_spec least most number }
     ensures range { IfSome result (λ n. (least ≤ n) × (n ≤ most)) }
 {
     if least <= number && number <= most {
@@ -30,12 +30,13 @@ fn in_range(number: u32, least: u32, most: u32) -> Option<u32>
 }
 
 fn is_number(word: &[u8]) -> bool
-    ensures { result ≡ number_test word.now }
+    ensures { result ≡ number_spec word.now }
 {
     1 <= word.len() && word.len() <= 10 && are_digits(word)
 }
 
-fn are_digits(word: &[u8]) -> bool
+/// Whether there are digits alone.
+pub fn are_digits(word: &[u8]) -> bool
     ensures { result ≡ list_all is_ascii_digit word.now }
 {
     word.iter().all(|byte| byte.is_ascii_digit())

@@ -1,7 +1,7 @@
 ghost use Rattle.std.specs.Prelude.{◌≡◌};
 ghost use Rattle.std.specs.List.{list_any};
 ghost use Rattle.plain_words.specs.Held.{copy_in, input_in, names_in};
-ghost use Rattle.plain_words.specs.Parts.{before_colon, after_colon, copy_of, input_of, is_colon, is_copy, is_input, is_last_part as last_part_test, is_plate as plate_test, parts_of as parts_meant};
+ghost use Rattle.plain_words.specs.Parts.{before_colon, after_colon, copy_of, input_of, is_colon, is_copy, is_input, is_last_part as last_part_spec, is_plate as plate_spec, parts_of as parts_spec};
 
 use crate::names::is_name;
 
@@ -27,9 +27,9 @@ pub struct CopyWord<'a> {
     pub output: &'a str,
 }
 
-/// The parts of a word before its first colon, between its first two and after them.
+/// Splits a word at its first two colons. What is missing is empty.
 pub fn plate_parts(word: &str) -> PlateWord<'_>
-    ensures { names_in result ≡ parts_meant word.now }
+    ensures { names_in result ≡ parts_spec word.now }
 {
     let (name, rest) = cut(word);
     let (input, output) = cut(rest);
@@ -40,9 +40,9 @@ pub fn plate_parts(word: &str) -> PlateWord<'_>
     }
 }
 
-/// Whether the parts are a name, a file to read and one to write, none of them empty, without a third colon.
+/// Whether the parts are a colorant's name, a file to read and one to write, none of them empty, without a third colon.
 pub fn is_plate(plate: PlateWord<'_>) -> bool
-    ensures { result ≡ plate_test (names_in plate.entry) }
+    ensures { result ≡ plate_spec (names_in plate.entry) }
 {
     is_name(plate.name.as_bytes())
         && !plate.input.is_empty()
@@ -50,7 +50,7 @@ pub fn is_plate(plate: PlateWord<'_>) -> bool
         && !has_colon(plate.output.as_bytes())
 }
 
-/// The parts of a word before its first colon and after it.
+/// Splits a word at its first colon. What is missing is empty.
 pub fn input_parts(word: &str) -> InputWord<'_>
     ensures { input_in result ≡ input_of word.now }
 {
@@ -58,14 +58,14 @@ pub fn input_parts(word: &str) -> InputWord<'_>
     InputWord { name, input }
 }
 
-/// Whether the parts are a name and a file to read, without a second colon.
+/// Whether the parts are a colorant's name and a file to read, without a second colon.
 pub fn is_input_word(plate: InputWord<'_>) -> bool
     ensures { result ≡ is_input (input_in plate.entry) }
 {
     is_name(plate.name.as_bytes()) && is_last_part(plate.input)
 }
 
-/// The parts of a word before its first colon and after it.
+/// Splits a word at its first colon. What is missing is empty.
 pub fn copy_parts(word: &str) -> CopyWord<'_>
     ensures { copy_in result ≡ copy_of word.now }
 {
@@ -81,12 +81,12 @@ pub fn is_copy_word(plate: CopyWord<'_>) -> bool
 }
 
 fn is_last_part(text: &str) -> bool
-    ensures { result ≡ last_part_test text.now }
+    ensures { result ≡ last_part_spec text.now }
 {
     !text.is_empty() && !has_colon(text.as_bytes())
 }
 
-// What stands before the first colon, and what stands after it.
+// The text before the first colon, and the text after it, empty where there is no colon.
 fn cut(word: &str) -> (&str, &str)
     ensures before { result.0.now ≡ before_colon word.now }
     ensures suffix { result.1.now ≡ after_colon word.now }

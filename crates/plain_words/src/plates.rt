@@ -1,25 +1,28 @@
-// The words NAME:IN:OUT of plates, and whether they may stand together.
+// The words NAME:IN:OUT of plates, and whether they go together.
 
 ghost use Rattle.std.specs.Prelude.{◌≡◌, ◌≤◌, IsTrue, length, map};
 ghost use Rattle.std.specs.List.{list_all, list_any};
 ghost use Rattle.std.specs.Str.{bytes_eq};
 ghost use Rattle.plain_words.specs.Distinct.{are_distinct};
-ghost use Rattle.plain_words.specs.Parts.{is_plate as plate_test, parts_of};
-ghost use Rattle.plain_words.specs.Plates.{are_plates as plates_test, names_of, outputs_of, stand_together as together_test};
+ghost use Rattle.plain_words.specs.Parts.{is_plate as plate_spec, parts_of};
+ghost use Rattle.plain_words.specs.Plates.{are_plates as plates_spec, names_of, outputs_of, stand_together as together_spec};
+ghost use Rattle.page_model.specs.Limits.{most_plates};
 
 use crate::parts::{is_plate, plate_parts};
+use crate::places::{Place, has_part, have_distinct_parts};
+use page_model::bounds::MOST_PLATES;
 use std::convert::AsStr;
 
 /// Whether there are one to sixteen words, each of them NAME:IN:OUT.
 pub fn are_plates<S: AsStr>(words: &[S]) -> bool
-    ensures value { result ≡ plates_test (map S.text words.now) }
-    ensures count { IsTrue result → (1 ≤ length words.now) × (length words.now ≤ 16) }
+    ensures value { result ≡ plates_spec (map S.text words.now) }
+    ensures count { IsTrue result → (1 ≤ length words.now) × (length words.now ≤ most_plates) }
 {
-    1 <= words.len() && words.len() <= 16 && are_all_plates(words)
+    1 <= words.len() && words.len() <= MOST_PLATES && are_all_plates(words)
 }
 
 fn are_all_plates<S: AsStr>(words: &[S]) -> bool
-    ensures { result ≡ list_all (λ w. plate_test (parts_of w)) (map S.text words.now) }
+    ensures { result ≡ list_all (λ w. plate_spec (parts_of w)) (map S.text words.now) }
 {
     match words {
         [first, rest @ ..] => is_plate(plate_parts(first.as_str())) && are_all_plates(rest),
@@ -27,44 +30,24 @@ fn are_all_plates<S: AsStr>(words: &[S]) -> bool
     }
 }
 
-/// Whether no colorant's name stands there twice, and no file that is written, the report among them.
+/// Whether all colorants' names are different, and all files that are written, the report among them.
 pub fn stand_together<S: AsStr>(report: &str, words: &[S]) -> bool
-    ensures { result ≡ together_test report.now (map parts_of (map S.text words.now)) }
+    ensures { result ≡ together_spec report.now (map parts_of (map S.text words.now)) }
 {
     have_distinct_names(words) && !has_output(words, report) && have_distinct_outputs(words)
 }
 
-/// Whether no colorant's name stands there twice.
+/// Whether all colorants' names are different.
 pub fn have_distinct_names<S: AsStr>(words: &[S]) -> bool
     ensures { result ≡ are_distinct (names_of (map parts_of (map S.text words.now))) }
 {
-    match words {
-        [first, rest @ ..] => {
-            !has_name(rest, plate_parts(first.as_str()).name) && have_distinct_names(rest)
-        }
-        [] => true,
-    }
-}
-
-fn has_name<S: AsStr>(words: &[S], name: &str) -> bool
-    ensures { let names = names_of (map parts_of (map S.text words.now)) in
-        result ≡ list_any (bytes_eq name.now) names }
-{
-    match words {
-        [first, rest @ ..] => { name == plate_parts(first.as_str()).name || has_name(rest, name) }
-        [] => false,
-    }
+    have_distinct_parts(words, Place::First)
 }
 
 fn have_distinct_outputs<S: AsStr>(words: &[S]) -> bool
     ensures { result ≡ are_distinct (outputs_of (map parts_of (map S.text words.now))) }
 {
-    match words {
-        [first, rest @ ..] => {
-            !has_output(rest, plate_parts(first.as_str()).output) && have_distinct_outputs(rest)
-        }
-        [] => true,
-    }
+    have_distinct_parts(words, Place::AfterSecond)
 }
 
 // Whether some plate is written into that file.
@@ -72,10 +55,5 @@ fn has_output<S: AsStr>(words: &[S], file: &str) -> bool
     ensures { let outputs = outputs_of (map parts_of (map S.text words.now)) in
         result ≡ list_any (bytes_eq file.now) outputs }
 {
-    match words {
-        [first, rest @ ..] => {
-            file == plate_parts(first.as_str()).output || has_output(rest, file)
-        }
-        [] => false,
-    }
+    has_part(words, Place::AfterSecond, file)
 }

@@ -4,24 +4,24 @@ ghost use Rattle.std.specs.Prelude.{◌≡◌, ℕ, Bool, List, map};
 ghost use Rattle.std.specs.List.{list_any};
 ghost use Rattle.plain_words.specs.Parts.{parts_of};
 ghost use Rattle.plain_words.specs.Plates.{inputs_of, outputs_of};
-ghost use Rattle.plain_words.specs.Written.{is_written as written_test, reads_written as reads_test};
+ghost use Rattle.plain_words.specs.Written.{is_written as written_spec, reads_written as reads_spec};
 
 use crate::parts::plate_parts;
 use std::convert::AsStr;
 
-/// How a program names the files that it writes after the words for them.
+/// How a program makes the names of the files that it writes from the words for them.
 pub trait Naming {
     ghost may_name: { List ℕ → List ℕ → Bool };
 
-    /// Whether what is written for this word may stand in a file of that name.
+    /// Whether the file that is written for this word can have that name.
     fn may_be(word: &str, name: &str) -> bool
         ensures { result ≡ may_name word.now name.now };
 }
 
-/// Whether a file that is read, the job's or a plate's, may be one that is written, the report's or a plate's.
+/// Whether some file that is read, the job or a plate, can be one that is written, the report or a plate.
 pub fn reads_written<N: Naming, S: AsStr>(job: &str, report: &str, words: &[S]) -> bool
     ensures { let plates = map parts_of (map S.text words.now) in
-        result ≡ reads_test N.may_name job.now report.now plates }
+        result ≡ reads_spec N.may_name job.now report.now plates }
 {
     is_written::<N, S>(job, report, words) || is_some_input_written::<N, S>(words, report, words)
 }
@@ -29,7 +29,7 @@ pub fn reads_written<N: Naming, S: AsStr>(job: &str, report: &str, words: &[S]) 
 fn is_some_input_written<N: Naming, S: AsStr>(words: &[S], report: &str, all: &[S]) -> bool
     ensures { let plates = map parts_of (map S.text all.now) in
         let inputs = inputs_of (map parts_of (map S.text words.now)) in
-        result ≡ list_any (written_test N.may_name report.now plates) inputs }
+        result ≡ list_any (written_spec N.may_name report.now plates) inputs }
 {
     match words {
         [first, rest @ ..] => {
@@ -40,10 +40,10 @@ fn is_some_input_written<N: Naming, S: AsStr>(words: &[S], report: &str, all: &[
     }
 }
 
-// Whether the report or a plate may be written into that file.
+// Whether the report or a plate can be written to that file.
 fn is_written<N: Naming, S: AsStr>(name: &str, report: &str, words: &[S]) -> bool
     ensures { let plates = map parts_of (map S.text words.now) in
-        result ≡ written_test N.may_name report.now plates name.now }
+        result ≡ written_spec N.may_name report.now plates name.now }
 {
     N::may_be(report, name) || is_some_plate::<N, S>(name, words)
 }

@@ -5,7 +5,7 @@ ghost use Rattle.plane_shapes.specs.Shapes.{AreOneShape};
 
 use page_model::page::Page;
 
-/// The planes of a page are of one shape, and so they are after trapping.
+/// The planes of a page are of one shape, and so are they after trapping.
 pub fn page_planes_law(page: &Page)
     ensures before { AreOneShape page.now.planes }
     ensures after { AreOneShape (trapped_planes page.now) }

@@ -1,5 +1,5 @@
 -- Lists of which one element after the other was used.
-use Rattle.std.proofs.Common.{◌≡◌, ◌≢◌, ℕ, ◌+◌, ◌<◌, List, length, map, get_or, inl, inr, refl, sym, ap, ◌∙◌, subst, arith}
+use Rattle.std.proofs.Common.{◌≡◌, ◌≢◌, ℕ, ◌+◌, ◌<◌, List, length, map, get_or, inl, inr, sym, ap, ◌∙◌, subst, arith}
 use Rattle.std.specs.Prelude.{slice_set}
 use Rattle.std.proofs.lemmas.Bool.{cases_eq}
 use Rattle.std.proofs.lemmas.List.{get_or-map, length-set, map-set, get_or-set_same, get_or-set_other}
@@ -13,9 +13,6 @@ each_as none count Does Other a b so done = record {
 }
 
 module _ {Y : Type 0} (none : Y) (Does : ℕ → Y → Y → Type 0) where
-  pub none_yet : (a : List Y) → EachDoes none 0 Does a a
-  none_yet a = record { each = λ k less. absurd (omega arith); others = λ k more. refl }
-
   module _ (k : ℕ) (a b c : List Y) (others : (j : ℕ) → j ≢ k → get_or c j none ≡ get_or b j none) (so_far : EachDoes none k Does a b) where
     earlier : (j : ℕ) → j < k → Does j (get_or a j none) (get_or c j none)
     earlier j less =

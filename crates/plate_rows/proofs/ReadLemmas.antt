@@ -8,7 +8,6 @@ use Rattle.std.proofs.lemmas.List.Elements.{All-append, All-drop, All-head, All-
 use Rattle.std.proofs.lemmas.List.{append_assoc, get_or_default, get_or-set_same, get_or-set_other, append-nil, drop_all, length-append, length-drop, length-map, length-set, length-take-le, map-append}
 use Rattle.outside.specs.Tray.{TrayState}
 use Rattle.page_model.specs.declared.parts.Plane.{Plane}
-use Rattle.page_model.specs.Limits.{most_maxval}
 use Rattle.page_model.specs.Planes.{no_plane, plane_at}
 use Rattle.pgm_plates.specs.declared.bounds.Bounds.{Bounds}
 use Rattle.pgm_plates.specs.declared.bounds.Bounds.TheVariants.{Sheet}
@@ -16,13 +15,12 @@ use Rattle.pgm_plates.specs.declared.header.Header.{Header}
 use Rattle.pgm_plates.specs.declared.plate.PlateRefusal.{PlateRefusal}
 use Rattle.pgm_plates.specs.declared.plate.PlateRefusal.TheVariants.{Fault, ReadFault, OutOfMemory}
 use Rattle.pgm_plates.specs.declared.rows.OpenPlate.{OpenPlate}
-use Rattle.pgm_plates.specs.Reading.{ReadsPlateWithin}
 use Rattle.pgm_plates.specs.Rows.{EndsPlate, HasRead, ReadsRows, ReadsSome, samples_of}
 use Rattle.plate_rows.specs.declared.rereading.NextRows.{NextRows}
 use Rattle.plate_rows.specs.declared.stop.RereadError.{RereadError}
 use Rattle.plate_rows.specs.declared.stop.RereadError.TheVariants.{Changed, Unread}
 use Rattle.plate_rows.specs.Judging.{Refuses}
-use Rattle.plate_rows.specs.Rereading.{BeginsAgain, BeginsAt, BeginsOne, BeginsPlates, BreaksOn, ChangesAt, EndsAt, EndsPlates, FailsOn, IsReadTo, IsRefilled, ReadsNext, ReadsBehind, ReadsOn, ReadsPast, ReadsPlane, ReadsTints, new_rows, stop_at, turned, wanted}
+use Rattle.plate_rows.specs.Rereading.{BeginsAgain, BeginsAt, BeginsOne, BeginsPlates, BreaksOn, ChangesAt, EndsAt, EndsPlates, FailsOn, IsReadTo, IsRefilled, ReadsNext, ReadsAfter, ReadsOn, ReadsPast, ReadsPlane, ReadsTints, new_rows, stop_at, turned, wanted}
 use Rattle.plate_rows.specs.Trays.{EachTray, TrayStops, header_at, name_at, no_open, no_tray, open_at}
 use Rattle.plate_rows.proofs.EachLemmas.{each_as, set_more, set_stops, stops_as}
 
@@ -105,8 +103,8 @@ module _ (plate : OpenPlate) (done : ℕ) (first : List ℕ) (a b : TrayState) (
   )
 
 -- .. into the tints behind those that are kept
-pub rows_behind : (plate : OpenPlate) (next : NextRows) (buf part : List ℕ) (a b : TrayState) (result : Result (Unit {0}) PlateRefusal) → next.kept ≤ length buf → length part ≡ length buf - next.kept → ReadsTints plate next.done part a b result → ReadsBehind plate next buf (take next.kept buf ++ part) a b result
-rows_behind plate next buf part a b (Ok x) kept size reads =
+pub rows_read_after : (plate : OpenPlate) (next : NextRows) (buf part : List ℕ) (a b : TrayState) (result : Result (Unit {0}) PlateRefusal) → next.kept ≤ length buf → length part ≡ length buf - next.kept → ReadsTints plate next.done part a b result → ReadsAfter plate next buf (take next.kept buf ++ part) a b result
+rows_read_after plate next buf part a b (Ok x) kept size reads =
     let first : length (take next.kept buf) ≡ next.kept = length-take-le next.kept buf kept in
     let behind : drop next.kept (take next.kept buf ++ part) ≡ part = ap (λ (n : ℕ). drop n (take next.kept buf ++ part)) (sym first) ∙ drop-append_seam (take next.kept buf) part in
     let back = sym behind in (
@@ -117,26 +115,16 @@ rows_behind plate next buf part a b (Ok x) kept size reads =
       },
       subst (λ (l : List ℕ). ReadsRows plate next.done (turned plate.header.maxval l) a b (Ok x)) back reads.0,
     )
-rows_behind plate next buf part a b (Err refusal) kept size reads = subst (λ (n : ℕ). ReadsSome plate next.done n a b (Err refusal)) size reads
+rows_read_after plate next buf part a b (Err refusal) kept size reads = subst (λ (n : ℕ). ReadsSome plate next.done n a b (Err refusal)) size reads
 
 -- nothing stands behind a part that reaches to the end
 pub to_the_end : (buf part : List ℕ) (kept : ℕ) → kept ≤ length buf → part ++ drop (length buf - kept) (drop kept buf) ≡ part
 to_the_end buf part kept le = ap (λ (l : List ℕ). part ++ l) (drop_all (length buf - kept) (drop kept buf) (omega (arith, length-drop kept buf))) ∙ append-nil part
 
 -- .. and into a plane of these tints
-pub plane_read : (plate : OpenPlate) (next : NextRows) (old : Plane) (tints : List ℕ) (a b : TrayState) (result : Result (Unit {0}) PlateRefusal) → ReadsBehind plate next old.tints tints a b result → ReadsPlane plate next old (record { width = old.width; height = old.height; maxval = old.maxval; tints = tints }) a b result
+pub plane_read : (plate : OpenPlate) (next : NextRows) (old : Plane) (tints : List ℕ) (a b : TrayState) (result : Result (Unit {0}) PlateRefusal) → ReadsAfter plate next old.tints tints a b result → ReadsPlane plate next old (record { width = old.width; height = old.height; maxval = old.maxval; tints = tints }) a b result
 plane_read plate next old tints a b (Ok x) reads = (record { width = refl; height = refl; maxval = refl; tints = reads.0 }, reads.1)
 plane_read plate next old tints a b (Err refusal) reads = reads
-
--- the maxval of a plate that is begun
-pub some_maxval : (plate : OpenPlate) (done more : ℕ) (a : TrayState) → IsReadTo plate done more a → plate.header.maxval ≤ most_maxval
-some_maxval plate done more a to = to.read.within.maxval
-
--- A plate that is refused when it is begun once more.
-pub again_refused : (name : List ℕ) (header : Header) (k : ℕ) (a b : TrayState) (refusal : PlateRefusal) → (◌≡◌ {A = Result OpenPlate PlateRefusal} (Err refusal) (Err OutOfMemory) → ⊥) → ReadsPlateWithin Sheet name a b (Err refusal) → BeginsOne name header k a b (Err (stop_at k refusal))
-again_refused name header k a b (Fault fault) memory reads = (refl, inr (fault, reads))
-again_refused name header k a b ReadFault memory reads = (refl, reads)
-again_refused name header k a b OutOfMemory memory reads = absurd (memory refl)
 
 module _ {X : Type 0} (f : X → TrayState) (names : List (List ℕ)) (headers : List Header) (plates : List OpenPlate) (a : List TrayState) (xs : List X) (k : ℕ) (d x : X) (within : k < length xs) (so_far : EachTray k (BeginsAt names headers plates) a (map f xs)) where
   pub one_begun : (plate : OpenPlate) → k < length plates → BeginsAgain (name_at names k) (header_at headers k) plate (f (get_or xs k d)) (f x) → EachTray (k + 1) (BeginsAt names headers (slice_set plates k plate)) a (map f (slice_set xs k x))
@@ -166,14 +154,6 @@ pub record NextSoFar (plates : List OpenPlate) (next : NextRows) (k : ℕ) (old 
   pub filled : (j : ℕ) → j < k → IsRefilled (open_at plates j).header.maxval next.kept (plane_at old j) (plane_at now j)
   pub rest : (j : ℕ) → k ≤ j → plane_at now j ≡ plane_at old j
   pub many : length now ≡ length old
-
-pub none_filled : (plates : List OpenPlate) (next : NextRows) (old : List Plane) (a : List TrayState) → NextSoFar plates next 0 old old a a
-none_filled plates next old a = record {
-  read = record { each = λ j less. absurd (omega arith); others = λ j more. refl };
-  filled = λ j less. absurd (omega arith);
-  rest = λ j more. refl;
-  many = refl;
-}
 
 module _ {X : Type 0} (f : X → TrayState) (plates : List OpenPlate) (next : NextRows) (old now : List Plane) (a : List TrayState) (xs : List X) (k : ℕ) (d x : X) (within : k < length xs) (so_far : NextSoFar plates next k old now a (map f xs)) where
   module _ (plane : Plane) (held : k < length now) where
@@ -221,18 +201,6 @@ module _ {X : Type 0} (f : X → TrayState) (plates : List OpenPlate) (next : Ne
   next_stops new (Fault fault) memory known here = stops (FailsOn plates next.done (wanted next.kept old)) known (fault, here)
   next_stops new ReadFault memory known here = stops (BreaksOn plates next.done (wanted next.kept old)) known here
   next_stops new OutOfMemory memory known here = absurd (memory refl)
-
--- all planes are filled
-pub all_filled : (plates : List OpenPlate) (next : NextRows) (k : ℕ) (old now : List Plane) (a b : List TrayState) → k ≡ length plates → NextSoFar plates next k old now a b → ReadsNext plates next old now a b (Ok tt)
-all_filled plates next k old now a b same so_far =
-    let there : NextSoFar plates next (length plates) old now a b = subst (λ (n : ℕ). NextSoFar plates next n old now a b) same so_far in
-    (there.filled, there.read)
-
--- The next plate is read by a tray that is as it was, into a plane that is.
-pub still_to_read : (plates : List OpenPlate) (next : NextRows) (k : ℕ) (old now : List Plane) (a b : List TrayState) → NextSoFar plates next k old now a b → IsReadTo (open_at plates k) next.done (wanted next.kept old k) (get_or a k no_tray) → IsReadTo (open_at plates k) next.done (wanted next.kept now k) (get_or b k no_tray)
-still_to_read plates next k old now a b so_far to =
-    subst (λ (p : Plane). IsReadTo (open_at plates k) next.done (length p.tints - next.kept) (get_or b k no_tray)) (sym (so_far.rest k (omega arith)))
-    (subst (IsReadTo (open_at plates k) next.done (wanted next.kept old k)) (sym (so_far.read.others k (omega arith))) to)
 
 module _ {X : Type 0} (f : X → TrayState) (plates : List OpenPlate) (a : List TrayState) (xs : List X) (k : ℕ) (d x : X) (within : k < length xs) (so_far : EachTray k (EndsAt plates) a (map f xs)) where
   pub one_ended : EndsAt plates k (f (get_or xs k d)) (f x) → EachTray (k + 1) (EndsAt plates) a (map f (slice_set xs k x))

@@ -33,7 +33,7 @@ BeginsImages names header before after (Err (Write (Some k))) =
     before after
 BeginsImages names header before after (Err other) = ⊥
 
--- the tints of plate k, of so many of each plate, one plate after the other
+-- the tints of plate k, where there are `each` of every plate, one plate after the other
 abbrev pub part_at : ℕ → List ℕ → ℕ → List ℕ
 part_at each tints k = take each (drop (k * each) tints)
 

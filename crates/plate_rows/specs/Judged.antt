@@ -1,5 +1,5 @@
 -- What is so of plates that were judged: there are plates of these headers, which the trays' files
--- spell where they are told.
+-- spell where they are known.
 use Rattle.std.specs.Prelude.{◌≡◌, ℕ, ◌<◌, ◌≤◌, IsTrue, List, [], length, map, take, Some}
 use Rattle.std.specs.Prelude.{Ok, slice_index_or}
 use Rattle.std.specs.List.{All}
@@ -26,7 +26,7 @@ abbrev pub Tells : List ℕ → TrayState → Plate → Type 0
 Tells name tray plate = IsTrue tray.tells → (bytes : List ℕ) × (tray.file name ≡ Some bytes)
     × IsPlateFileWithin Sheet bytes plate
 
--- So many plates, each within the bounds of a sheet, have these headers, and the files tell them.
+-- `count` plates, each within the bounds of a sheet, have these headers, and the files tell them.
 pub record ArePlates (names : List (List ℕ)) (headers : List Header) (count : ℕ)
     (trays : List TrayState) (plates : List Plate) : Type 0 where
   pub all : length plates ≡ count

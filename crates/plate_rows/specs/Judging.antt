@@ -75,7 +75,7 @@ JudgesPlates names headers before after (Err (Read (Some k))) =
     RefusesFirst names headers k ReadFault before after
 JudgesPlates names headers before after (Err other) = ⊥
 
--- The same of some of the plates, of which the first that is refused is told by its number among
+-- The same of some of the plates, of which the first that is refused is given by its number among
 -- them. Memory is wanted for none.
 abbrev pub JudgesShare : List (List ℕ) → List Header → List TrayState → List TrayState
     → Result (Unit {0}) RefusedPlate → Type 0
@@ -85,7 +85,7 @@ JudgesShare names headers before after (Err stop) =
     RefusesFirst names headers stop.plate stop.refusal before after
     × (stop.refusal ≢ OutOfMemory)
 
--- the first refusal of two shares, of which the first has so many plates
+-- the first refusal of two shares, of which the first has that number of plates
 abbrev pub first_refusal : ℕ → Result (Unit {0}) RefusedPlate → Result (Unit {0}) RefusedPlate
     → Result (Unit {0}) RefusedPlate
 first_refusal count (Err stop) second = Err stop

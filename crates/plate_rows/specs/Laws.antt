@@ -33,7 +33,7 @@ ReadingBegins = (names : List (List ℕ)) (headers : List Header) (plates : List
     (before after : List TrayState) → BeginsPlates names headers plates before after (Ok tt)
     → HaveRead names plates (length names) (λ k. []) before after
 
--- so many samples of each of the first plates were read, and there are so many more
+-- `done` samples of each of the first plates were read, and there are `more` of each to come
 pub record AreReadTo (plates : List OpenPlate) (samples : ℕ → List ℕ) (done : ℕ)
     (more : ℕ → ℕ) : Type 0 where
   pub count : (k : ℕ) → k < length plates → length (samples k) ≡ done

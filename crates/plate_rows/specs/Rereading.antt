@@ -77,7 +77,7 @@ BeginsPlates names headers plates before after (Err (Changed k)) = TrayStops (le
 BeginsPlates names headers plates before after (Err (Unread k)) = TrayStops (length names) k
     (BeginsAt names headers plates) (Refuses names ReadFault) before after
 
--- So many samples of a plate were read, and so many more are to come.
+-- `done` samples of a plate were read, and `more` are to come.
 pub record IsReadTo (plate : OpenPlate) (done more : ℕ) (now : TrayState) : Type 0 where
   pub name : List ℕ
   pub start : TrayState
@@ -105,14 +105,14 @@ pub record AreFilled (most kept : ℕ) (old new : List ℕ) : Type 0 where
   pub first : take kept new ≡ take kept old
   pub below : All (λ t. t ≤ most) (drop kept new)
 
--- The same, behind the tints that are kept.
-abbrev pub ReadsBehind : OpenPlate → NextRows → List ℕ → List ℕ → TrayState → TrayState
+-- The same, after the tints that are kept.
+abbrev pub ReadsAfter : OpenPlate → NextRows → List ℕ → List ℕ → TrayState → TrayState
     → Result (Unit {0}) PlateRefusal → Type 0
-ReadsBehind plate next old new before after (Ok x) =
+ReadsAfter plate next old new before after (Ok x) =
     AreFilled plate.header.maxval next.kept old new
     × ReadsRows plate next.done (turned plate.header.maxval (drop next.kept new)) before after
     (Ok x)
-ReadsBehind plate next old new before after (Err refusal) =
+ReadsAfter plate next old new before after (Err refusal) =
     ReadsSome plate next.done (length old - next.kept) before after (Err refusal)
 
 -- A plane's tints are filled so, and all else of it stays.
@@ -122,7 +122,7 @@ pub record IsRefilled (most kept : ℕ) (old new : Plane) : Type 0 where
   pub maxval : new.maxval ≡ old.maxval
   pub tints : AreFilled most kept old.tints new.tints
 
--- The next samples of a plate are read into a plane, behind the tints that are kept.
+-- The next samples of a plate are read into a plane, after the tints that are kept.
 abbrev pub ReadsPlane : OpenPlate → NextRows → Plane → Plane → TrayState → TrayState
     → Result (Unit {0}) PlateRefusal → Type 0
 ReadsPlane plate next old new before after (Ok x) =
@@ -132,7 +132,7 @@ ReadsPlane plate next old new before after (Ok x) =
 ReadsPlane plate next old new before after (Err refusal) =
     ReadsSome plate next.done (length old.tints - next.kept) before after (Err refusal)
 
--- how many tints of plane k are to be read, where so many are kept
+-- how many tints of plane k are to be read, where `kept` are kept
 abbrev pub wanted : ℕ → List Plane → ℕ → ℕ
 wanted kept planes k = length (plane_at planes k).tints - kept
 
@@ -166,8 +166,8 @@ abbrev pub BreaksOn : List OpenPlate → ℕ → (ℕ → ℕ) → ℕ → TrayS
 BreaksOn plates done count k before after =
     ReadsSome (open_at plates k) done (count k) before after (Err ReadFault)
 
--- After so many samples of each plate the next are read into the planes, behind the tints that are
--- kept, up to the first plate that has a fault now or cannot be read.
+-- The next samples of each plate are read into the planes, after the tints that are kept, up to the
+-- first plate that has a fault now or cannot be read.
 abbrev pub ReadsNext : List OpenPlate → NextRows → List Plane → List Plane → List TrayState
     → List TrayState → Result (Unit {0}) RereadError → Type 0
 ReadsNext plates next old new before after (Ok x) = AreRefilled plates next.kept old new
@@ -194,7 +194,7 @@ EndsPlates plates before after (Err (Changed k)) = TrayStops (length plates) k (
 EndsPlates plates before after (Err (Unread k)) = TrayStops (length plates) k (EndsAt plates)
     (λ j a b. EndsPlate (open_at plates j) a b (Err ReadFault)) before after
 
--- The reading of so many plates stops at plate k: some files were begun, that one among them, and
+-- The reading of `count` plates stops at plate k: some files were begun, that one among them, and
 -- no fault of another tray was passed over.
 pub record Interrupts (names : List (List ℕ)) (count k : ℕ)
     (before after : List TrayState) : Type 0 where

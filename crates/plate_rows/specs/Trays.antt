@@ -71,7 +71,7 @@ pub record TakesFile (name : List ℕ) (before after : TrayState) : Type 0 where
 abbrev pub MayTakeFile : List ℕ → TrayState → TrayState → Type 0
 MayTakeFile name before after = (after ≡ before) ⊎ TakesFile name before after
 
--- The first so many files are asked for, each of its own tray.
+-- The first `count` files are asked for, each of its own tray.
 abbrev pub TakesFiles : List (List ℕ) → ℕ → List TrayState → List TrayState → Type 0
 TakesFiles names count = EachTray count (λ k before after. TakesFile (name_at names k) before after)
 

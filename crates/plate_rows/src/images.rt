@@ -1,6 +1,6 @@
 ghost use Rattle.std.specs.Prelude.{◌≡◌, ◌<◌, ◌≤◌, ◌*◌, ℕ, IsTrue, length, map};
 ghost use Rattle.std.specs.List.{All};
-ghost use Rattle.page_model.specs.Limits.{most_maxval};
+ghost use Rattle.page_model.specs.Limits.{most_maxval, most_plates};
 ghost use Rattle.plate_rows.specs.Images.{BeginsImages, EndsImages, WritesNext, part_at};
 ghost use Rattle.plate_rows.specs.Racks.{rack_at};
 
@@ -11,8 +11,7 @@ use pgm_plates::writing::{begin_image, end_image, write_rows};
 use refusals::refusal::Refusal;
 use std::convert::AsStr;
 
-/// Creates the files of these names, each by the rack of its number, and writes that header on each of them. It takes no
-/// memory.
+/// Creates the files of these names, file k by rack k, and writes the header to each of them. It allocates nothing.
 ///
 /// Where a call of a rack fails, it stops with `Write` and the plate's number, and no later file is created.
 pub fn begin_images<R: Rack, S: AsStr>(
@@ -20,7 +19,7 @@ pub fn begin_images<R: Rack, S: AsStr>(
     outputs: &[S],
     header: Header,
 ) -> Result<(), Refusal>
-    requires few { length outputs.now ≤ 16 }
+    requires few { length outputs.now ≤ most_plates }
     requires racks { length outputs.now ≤ length racks.old }
     ensures { BeginsImages (map S.text outputs.now) header (map R.state racks.old)
         (map R.state racks.new) result }
@@ -34,8 +33,8 @@ pub fn begin_images<R: Rack, S: AsStr>(
     Ok(())
 }
 
-/// Writes the next tints of so many plates, turned into samples, each by the rack of its number: `each` tints of every
-/// plate, one plate after the other. It writes by pieces of as many bytes as there is room for in `bytes`.
+/// Writes the next tints of `count` plates, turned into samples, plate k by rack k. `tints` has `each` tints of every
+/// plate, one plate after the other; `bytes` is the buffer that samples are encoded in, piece by piece.
 ///
 /// Where a call of a rack fails, it stops with `Write` and the plate's number.
 pub fn write_next<R: Rack>(
@@ -46,7 +45,7 @@ pub fn write_next<R: Rack>(
     each: usize,
     bytes: &mut [u8],
 ) -> Result<(), Refusal>
-    requires few { count ≤ 16 }
+    requires few { count ≤ most_plates }
     requires racks { count ≤ length racks.old }
     requires open { (k : ℕ) → k < count → IsTrue (rack_at (map R.state racks.old) k).is_open }
     requires tints { length tints.now ≡ count * each }
@@ -67,11 +66,11 @@ pub fn write_next<R: Rack>(
     Ok(())
 }
 
-/// Finishes the files of so many plates, each by the rack of its number.
+/// Finishes the files of `count` plates, file k by rack k.
 ///
 /// Where that fails, it stops with `Write` and the plate's number.
 pub fn end_images<R: Rack>(racks: &mut [R], count: usize) -> Result<(), Refusal>
-    requires few { count ≤ 16 }
+    requires few { count ≤ most_plates }
     requires racks { count ≤ length racks.old }
     requires open { (k : ℕ) → k < count → IsTrue (rack_at (map R.state racks.old) k).is_open }
     ensures { EndsImages count (map R.state racks.old) (map R.state racks.new) result }

@@ -3,6 +3,7 @@ ghost use Rattle.std.specs.Thread.{IsSend, IsSync};
 ghost use Rattle.pgm_plates.specs.Limits.{most_header};
 ghost use Rattle.pgm_plates.specs.Rows.{samples_of};
 ghost use Rattle.plate_rows.specs.Judging.{JudgesPlate, JudgesPlates, JudgesRest, JudgesShare, first_refusal, refusal_at};
+ghost use Rattle.page_model.specs.Limits.{most_plates};
 
 use outside::tray::Tray;
 use pgm_plates::bounds::Bounds;
@@ -13,20 +14,20 @@ use std::convert::AsStr;
 use std::thread;
 use std::thread::Threads;
 
-// The first of some plates that is refused, by its number among them, and what for.
+// The first of some plates that is refused, by its number among them, and why.
 #[derive(Clone, Copy, Drop)]
 struct RefusedPlate {
     plate: u32,
     refusal: PlateRefusal,
 }
 
-/// Judges the plates of these files, each by the tray of its number, and gives their headers in `headers`: side by side,
-/// by as many threads as there are workers, or plates where these are fewer; each thread judges some of the plates in order.
-/// It takes no memory but that of threads, and keeps nothing else of a plate.
+/// Checks the plates of these files, file k by tray k, and writes their headers to `headers`: side by side, on as many
+/// threads as there are workers, or plates if these are fewer; each thread checks some of the plates in order. It
+/// allocates nothing but what threads take, and keeps nothing of a plate but its header.
 ///
-/// The refusal is that of the first plate that is refused, in the order of the files: `Plate` with its fault, by the limits
-/// of a sheet, or `Read` where a read failed, each with the plate's number. Of the plates after it some may be judged as
-/// well, whatever that comes to; which of them were begun is not said.
+/// The refusal is that of the first refused plate in the order of the files: `Plate` with its fault, by the limits of a
+/// sheet, or `Read` if a read failed, each with the plate's number. Some of the plates after it may have been checked
+/// as well; which of them were begun is not said.
 pub fn judge_plates<H: Threads + Sync, T: Tray + Send, S: AsStr + Sync>(
     rt: &H,
     workers: u32,
@@ -35,7 +36,7 @@ pub fn judge_plates<H: Threads + Sync, T: Tray + Send, S: AsStr + Sync>(
     headers: &mut [Header],
 ) -> Result<(), Refusal>
     requires some_workers { 1 ≤ workers }
-    requires few { length inputs.now ≤ 16 }
+    requires few { length inputs.now ≤ most_plates }
     requires trays { length inputs.now ≤ length trays.old }
     requires headers { length inputs.now ≤ length headers.old }
     ensures { JudgesPlates (map S.text inputs.now) headers.new (map T.state trays.old)
@@ -43,11 +44,12 @@ pub fn judge_plates<H: Threads + Sync, T: Tray + Send, S: AsStr + Sync>(
 {
     match judge_share(rt, workers as usize, inputs, trays, headers) {
         Ok(()) => Ok(()),
-        Err(stop) => Err(numbered(stop)),
+        Err(stop) => Err(refusal_at_plate(stop)),
     }
 }
 
-// Judges some of the plates by so many workers: by one of them in order, by more of them in two shares side by side.
+// Checks some of the plates by a number of workers: one worker checks them in order, several in two shares side by
+// side.
 #[cycle(shares)]
 fn judge_share<H: Threads + Sync, T: Tray + Send, S: AsStr + Sync>(
     rt: &H,
@@ -56,7 +58,7 @@ fn judge_share<H: Threads + Sync, T: Tray + Send, S: AsStr + Sync>(
     trays: &mut [T],
     headers: &mut [Header],
 ) -> Result<(), RefusedPlate>
-    requires few { length inputs.now ≤ 16 }
+    requires few { length inputs.now ≤ most_plates }
     requires trays { length inputs.now ≤ length trays.old }
     requires headers { length inputs.now ≤ length headers.old }
     ensures { JudgesShare (map S.text inputs.now) headers.new (map T.state trays.old)
@@ -85,9 +87,9 @@ fn judge_share<H: Threads + Sync, T: Tray + Send, S: AsStr + Sync>(
     first_of(count as u32, first, second)
 }
 
-// How many of so many plates the first of the workers judge, each of them as many as another.
+// How many of the plates the first workers check, if all workers check about the same number.
 fn share_of(plates: usize, first: usize, workers: usize) -> usize
-    requires few { plates ≤ 16 }
+    requires few { plates ≤ most_plates }
     requires some_workers { 1 ≤ workers }
     requires first { first ≤ workers }
     requires plates { workers ≤ plates }
@@ -96,7 +98,7 @@ fn share_of(plates: usize, first: usize, workers: usize) -> usize
     plates * first / workers
 }
 
-// Judges two shares of plates side by side, each by its workers. It is a function of its own, so that what the closures
+// Checks two shares of plates side by side, each by its workers. It is a function of its own, so that what the closures
 // require is what this function is given.
 #[cycle(shares)]
 fn judge_beside<H: Threads + Sync, T: Tray + Send, S: AsStr + Sync>(
@@ -112,10 +114,10 @@ fn judge_beside<H: Threads + Sync, T: Tray + Send, S: AsStr + Sync>(
 ) -> (Result<(), RefusedPlate>, Result<(), RefusedPlate>)
     requires some_workers { 1 ≤ workers }
     requires some_workers_after { 1 ≤ workers_after }
-    requires few { length inputs.now ≤ 16 }
+    requires few { length inputs.now ≤ most_plates }
     requires trays { length inputs.now ≤ length trays.old }
     requires headers { length inputs.now ≤ length headers.old }
-    requires few_after { length inputs_after.now ≤ 16 }
+    requires few_after { length inputs_after.now ≤ most_plates }
     requires trays_after { length inputs_after.now ≤ length trays_after.old }
     requires headers_after { length inputs_after.now ≤ length headers_after.old }
     ensures first { JudgesShare (map S.text inputs.now) headers.new (map T.state trays.old)
@@ -125,7 +127,7 @@ fn judge_beside<H: Threads + Sync, T: Tray + Send, S: AsStr + Sync>(
 {
     let mut first = || -> Result<(), RefusedPlate>
         requires bounds { IsSync H.row × IsSend T.row × IsSync S.row }
-        requires few { length inputs.now ≤ 16 }
+        requires few { length inputs.now ≤ most_plates }
         requires trays { length inputs.now ≤ length trays.now }
         requires headers { length inputs.now ≤ length headers.now }
         ensures { JudgesShare (map S.text inputs.entry.now) headers.exit.now
@@ -133,7 +135,7 @@ fn judge_beside<H: Threads + Sync, T: Tray + Send, S: AsStr + Sync>(
     { judge_share(rt, workers, inputs, trays, headers) };
     let mut second = || -> Result<(), RefusedPlate>
         requires bounds { IsSync H.row × IsSend T.row × IsSync S.row }
-        requires few { length inputs_after.now ≤ 16 }
+        requires few { length inputs_after.now ≤ most_plates }
         requires trays { length inputs_after.now ≤ length trays_after.now }
         requires headers { length inputs_after.now ≤ length headers_after.now }
         ensures { JudgesShare (map S.text inputs_after.entry.now) headers_after.exit.now
@@ -142,15 +144,15 @@ fn judge_beside<H: Threads + Sync, T: Tray + Send, S: AsStr + Sync>(
     thread::join_mut(rt, &mut first, &mut second)
 }
 
-// What two shares come to together, where the first has so many plates: its refusal, or else that of the second, whose
-// plates are counted on.
+// The answer for two shares together: the refusal of the first one, or else that of the second, whose plates are
+// numbered after those of the first.
 fn first_of(
     count: u32,
     first: Result<(), RefusedPlate>,
     second: Result<(), RefusedPlate>,
 ) -> Result<(), RefusedPlate>
-    requires few { count ≤ 16 }
-    requires known { IfErr second (λ stop. stop.plate < 16) }
+    requires few { count ≤ most_plates }
+    requires known { IfErr second (λ stop. stop.plate < most_plates) }
     ensures { result ≡ first_refusal count first second }
 {
     match (first, second) {
@@ -163,7 +165,7 @@ fn first_of(
     }
 }
 
-// Judges plates in order by pieces of so many bytes. Their number is a parameter, so that no proof unfolds lists of so many.
+// Checks plates in order, by pieces of `PIECE` bytes. It is a parameter, so that no proof unfolds lists of that length.
 fn judge_by<T: Tray, S: AsStr, const PIECE: usize>(
     inputs: &[S],
     trays: &mut [T],
@@ -171,7 +173,7 @@ fn judge_by<T: Tray, S: AsStr, const PIECE: usize>(
 ) -> Result<(), RefusedPlate>
     requires some { 2 ≤ PIECE }
     requires small { PIECE ≤ 2 ^ 20 }
-    requires few { length inputs.now ≤ 16 }
+    requires few { length inputs.now ≤ most_plates }
     requires trays { length inputs.now ≤ length trays.old }
     requires headers { length inputs.now ≤ length headers.old }
     ensures { JudgesShare (map S.text inputs.now) headers.new (map T.state trays.old)
@@ -187,7 +189,7 @@ fn judge_each<T: Tray, S: AsStr>(
     headers: &mut [Header],
     bytes: &mut [u8],
 ) -> Result<(), RefusedPlate>
-    requires few { length inputs.now ≤ 16 }
+    requires few { length inputs.now ≤ most_plates }
     requires trays { length inputs.now ≤ length trays.old }
     requires headers { length inputs.now ≤ length headers.old }
     requires room { 2 ≤ length bytes.old }
@@ -208,8 +210,8 @@ fn judge_each<T: Tray, S: AsStr>(
     Ok(())
 }
 
-// What a plate is refused for, with its number.
-fn numbered(stop: RefusedPlate) -> Refusal
+// The refusal of a plate, with its number.
+fn refusal_at_plate(stop: RefusedPlate) -> Refusal
     ensures { result ≡ refusal_at stop.plate stop.refusal }
 {
     match stop.refusal {
@@ -219,10 +221,10 @@ fn numbered(stop: RefusedPlate) -> Refusal
     }
 }
 
-/// Reads the plate of a sheet that the file of that name spells to its end, and gives its header: its samples are judged
-/// by pieces of as many bytes as there is room for in `bytes`, and not kept.
+/// Reads the file `name` to its end as a plate of a sheet, and returns its header; its samples are checked and not
+/// kept. `bytes` is the buffer that they are read through, piece by piece.
 ///
-/// It takes no memory. A refusal is the plate's, as `read_plate_within` gives it.
+/// It allocates nothing. The refusal is the one of `read_plate_within`.
 pub fn judge_plate<T: Tray>(
     tray: &mut T,
     name: &str,
@@ -241,7 +243,7 @@ pub fn judge_plate<T: Tray>(
     }
 }
 
-// Reads a plate that is begun to its end.
+// Reads the rest of a plate whose header was read.
 fn judge_rest<T: Tray>(tray: &mut T, plate: OpenPlate, bytes: &mut [u8]) -> Result<(), PlateRefusal>
     requires begun { IsTrue (T.state tray.old).begun }
     requires header { plate.size ≤ most_header }

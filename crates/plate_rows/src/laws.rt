@@ -6,7 +6,7 @@ ghost use Rattle.plate_rows.specs.Laws.{EndsStop, NoChange, ReadingBegins, Readi
 use pgm_plates::bounds::Bounds;
 use pgm_plates::laws::{file_fault_within, file_plate_within, not_both_within, top_of_file_within};
 
-/// What is so of plates that were judged: of all of them, and of those before one that is refused.
+/// What holds of plates that were checked: of all of them, and of those before one that is refused.
 pub fn plates_judged()
     ensures ends { JudgingEnds }
     ensures stops { JudgingStops }
@@ -14,7 +14,7 @@ pub fn plates_judged()
     file_plate_within(Bounds::Sheet);
 }
 
-/// A plate whose file the tray tells does not change between two readings.
+/// If the tray tells the bytes of a plate's file, the plate does not change between two readings.
 pub fn no_change()
     ensures { NoChange }
 {
@@ -23,23 +23,23 @@ pub fn no_change()
     top_of_file_within(Bounds::Sheet);
 }
 
-/// What was read of each plate: nothing where the plates are begun, and so much more with each call for the next rows;
-/// after all samples the plates are read whole.
+/// What was read of each plate so far: nothing at first, and the next rows more with each call; after all samples the
+/// plates are read whole.
 pub fn reading_goes_on()
     ensures begins { ReadingBegins }
     ensures grows { ReadingGrows }
     ensures ends { ReadingEnds }
 {}
 
-/// What is so of a second reading that stops: where the plates are begun, where rows are read, and where the plates end.
+/// What holds if a second reading stops: at the beginning of the plates, at their rows, or at their ends.
 pub fn reading_stops()
     ensures begun { ReadingStops }
     ensures rows { RowsStop }
     ensures ended { EndsStop }
 {}
 
-/// What was written of each plate: so much more with each call for the next rows, or where that fails a prefix of each
-/// file; and the whole where the files are finished.
+/// What was written of each plate so far: the next rows more with each call, or if that fails a prefix of each file;
+/// and the whole when the files are finished.
 pub fn writing_goes_on()
     ensures grows { WritingGrows }
     ensures breaks { WritingBreaks }
@@ -47,7 +47,7 @@ pub fn writing_goes_on()
     ensures leaves { WritingLeaves }
 {}
 
-/// What stands under a plate's name while it is written: a prefix of its bytes, and all else as it was.
+/// What is in a plate's file while it is written: a prefix of its bytes. All other files are unchanged.
 pub fn writing_holds()
     ensures { WritingHolds }
 {}

@@ -1,4 +1,4 @@
-//! Plates of several trays, judged and read by rows; plates of several racks, written by rows.
+//! Plates of several trays, checked and read by rows; plates of several racks, written by rows.
 #![tactic(auto)]
 
 pub mod images;

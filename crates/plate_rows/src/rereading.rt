@@ -2,8 +2,9 @@ ghost use Rattle.std.specs.Prelude.{◌≡◌, ◌≢◌, ◌<◌, ◌≤◌, �
 ghost use Rattle.page_model.specs.Planes.{plane_at};
 ghost use Rattle.pgm_plates.specs.Limits.{most_header};
 ghost use Rattle.pgm_plates.specs.Rows.{samples_of};
-ghost use Rattle.plate_rows.specs.Rereading.{BeginsOne, BeginsPlates, EndsPlates, IsReadTo, ReadsBehind, ReadsNext, ReadsPlane, ReadsTints, stop_at, wanted};
+ghost use Rattle.plate_rows.specs.Rereading.{BeginsOne, BeginsPlates, EndsPlates, IsReadTo, ReadsAfter, ReadsNext, ReadsPlane, ReadsTints, stop_at, wanted};
 ghost use Rattle.plate_rows.specs.Trays.{open_at, tray_at};
+ghost use Rattle.page_model.specs.Limits.{most_plates};
 
 use crate::stop::RereadError;
 use lists::list::List;
@@ -16,17 +17,18 @@ use pgm_plates::turning::turn;
 use std::alloc::Global;
 use std::convert::AsStr;
 
-/// Which rows of plates are read next: those after so many samples of each, into each plane behind so many tints.
+/// Which rows of plates are read next: those after the first `done` samples of each, to each plane after its first
+/// `kept` tints.
 #[derive(Clone, Copy, Debug, Drop, PartialEq, Eq)]
 pub struct NextRows {
     pub done: u64,
     pub kept: usize,
 }
 
-/// Begins the plates of these files once more, each by the tray of its number, and gives in `plates` how they were begun.
-/// It takes no memory.
+/// Begins the plates of these files once more, file k by tray k, and reads their headers into `plates`. It allocates
+/// nothing.
 ///
-/// It stops at the first plate whose header is not the one of `headers` or has a fault now, and at the first that cannot
+/// It stops at the first plate whose header is not the one of `headers` or has a fault now, and at the first that can't
 /// be read. No later plate is begun.
 pub fn begin_plates<T: Tray, S: AsStr>(
     trays: &mut [T],
@@ -34,7 +36,7 @@ pub fn begin_plates<T: Tray, S: AsStr>(
     headers: &[Header],
     plates: &mut [OpenPlate],
 ) -> Result<(), RereadError>
-    requires few { length inputs.now ≤ 16 }
+    requires few { length inputs.now ≤ most_plates }
     requires trays { length inputs.now ≤ length trays.old }
     requires headers { length inputs.now ≤ length headers.now }
     requires plates { length inputs.now ≤ length plates.old }
@@ -55,7 +57,7 @@ pub fn begin_plates<T: Tray, S: AsStr>(
     Ok(())
 }
 
-// Begins one plate once more, the one of that number.
+// Begins plate number `plate` once more.
 fn begin_one<T: Tray>(
     tray: &mut T,
     plate: u32,
@@ -76,7 +78,7 @@ fn begin_one<T: Tray>(
     }
 }
 
-// Where the reading stops: a fault is a change, since the plate had none.
+// The error of the second reading: a fault is a change, since the plate had none before.
 fn stop_of(plate: u32, refusal: PlateRefusal) -> RereadError
     ensures { result ≡ stop_at plate refusal }
 {
@@ -86,11 +88,11 @@ fn stop_of(plate: u32, refusal: PlateRefusal) -> RereadError
     }
 }
 
-/// Reads the next rows of each plate by the tray of its number, and turns their samples into tints of the plane of its
-/// number: the planes are filled to their ends, behind the tints that are kept. It reads by pieces of as many bytes as
-/// there is room for in `bytes`, and takes no memory.
+/// Reads the next rows of each plate, plate k by tray k, and turns their samples into tints of plane k: each plane is
+/// filled to its end, after the tints that are kept. `bytes` is the buffer that samples are read through, piece by
+/// piece. It allocates nothing.
 ///
-/// It stops at the first plate that has a fault now or cannot be read; the planes' tints are of no use then.
+/// It stops at the first plate that has a fault now or can't be read; the tints of the planes must not be used then.
 pub fn read_next<T: Tray>(
     alloc: Global,
     trays: &mut [T],
@@ -99,7 +101,7 @@ pub fn read_next<T: Tray>(
     planes: &mut [Plane],
     bytes: &mut [u8],
 ) -> Result<(), RereadError>
-    requires few { length plates.now ≤ 16 }
+    requires few { length plates.now ≤ most_plates }
     requires trays { length plates.now ≤ length trays.old }
     requires planes { length planes.old ≡ length plates.now }
     requires kept { (k : ℕ) → k < length plates.now
@@ -127,7 +129,7 @@ pub fn read_next<T: Tray>(
     Ok(())
 }
 
-// Fills a plane with the next rows of a plate, behind the tints that are kept.
+// Fills a plane with the next rows of a plate, after the tints that are kept.
 fn read_plane<T: Tray>(
     alloc: Global,
     tray: &mut T,
@@ -145,13 +147,13 @@ fn read_plane<T: Tray>(
     ensures memory { result ≢ Err PlateRefusal.OutOfMemory }
 {
     let mut tints = std::mem::replace(&mut plane.tints, List::new(alloc)).into_vec();
-    let result = read_behind(tray, plate, next, tints.as_mut_slice(), bytes);
+    let result = read_after(tray, plate, next, tints.as_mut_slice(), bytes);
     plane.tints = List::from_vec(tints);
     result
 }
 
-// Fills tints with the next rows of a plate, behind those that are kept.
-fn read_behind<T: Tray>(
+// Fills a list with the next rows of a plate, after the tints that are kept.
+fn read_after<T: Tray>(
     tray: &mut T,
     plate: OpenPlate,
     next: NextRows,
@@ -162,16 +164,16 @@ fn read_behind<T: Tray>(
     requires read { let more = length tints.old - next.kept in
         IsReadTo plate next.done more (T.state tray.old) }
     requires room { 2 ≤ length bytes.old }
-    ensures answer { ReadsBehind plate next tints.old tints.new (T.state tray.old)
+    ensures answer { ReadsAfter plate next tints.old tints.new (T.state tray.old)
         (T.state tray.new) result }
     ensures memory { result ≢ Err PlateRefusal.OutOfMemory }
 {
     read_tints(tray, plate, next.done, &mut tints[next.kept..], bytes)
 }
 
-/// Reads the next samples of a plate, of which so many were read before, and turns them into tints: as many as there is
-/// room for in `tints`, by pieces of as many bytes as there is room for in `bytes`. Each piece is turned before the next one
-/// is read, while the cache still has it.
+/// Reads the next samples of a plate, of which `done` were read before, turns them into tints and fills `tints`.
+/// `bytes` is the buffer that they are read through. Each piece is turned before the next one is read, while it is in
+/// the cache.
 pub fn read_tints<T: Tray>(
     tray: &mut T,
     plate: OpenPlate,
@@ -202,7 +204,7 @@ pub fn read_tints<T: Tray>(
     Ok(())
 }
 
-// How many samples have room in so many bytes.
+// The number of samples that fit into a buffer.
 fn samples_at_once(bytes: usize, maxval: u32) -> usize
     requires { 2 ≤ bytes }
     ensures { 1 ≤ result }
@@ -232,11 +234,11 @@ fn read_piece<T: Tray>(
     }
 }
 
-/// Looks for what stands after the last sample of each plate, by the tray of its number: nothing, if it is what it was.
+/// Checks that nothing stands after the last sample of each plate, plate k by tray k.
 ///
-/// It stops at the first plate that has a fault now or cannot be read.
+/// It stops at the first plate that has a fault now or can't be read.
 pub fn end_plates<T: Tray>(trays: &mut [T], plates: &[OpenPlate]) -> Result<(), RereadError>
-    requires few { length plates.now ≤ 16 }
+    requires few { length plates.now ≤ most_plates }
     requires trays { length plates.now ≤ length trays.old }
     requires begun { (k : ℕ) → k < length plates.now
         → IsTrue (tray_at (map T.state trays.old) k).begun }

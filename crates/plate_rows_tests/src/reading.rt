@@ -57,7 +57,7 @@ enum End {
 }
 
 // Judges two plates side by side.
-fn judged(rt: &(impl Threads + Sync), trays: &mut [MemTray]) -> Result<[Header; 2], Refusal>
+fn judge_two(rt: &(impl Threads + Sync), trays: &mut [MemTray]) -> Result<[Header; 2], Refusal>
     requires { length trays.old ≡ 2 }
 {
     let mut headers = [NONE.header; 2];
@@ -85,7 +85,7 @@ fn keep_last_of_each(planes: &mut [Plane])
     keep_last(&mut planes[1]);
 }
 
-// Reads the plates once more: two rows, and then the third behind the second.
+// Reads the plates once more: two rows, and then the third after the second.
 fn read_again<T: Tray>(
     alloc: Global,
     trays: &mut [T],
@@ -135,7 +135,7 @@ fn read_both(
     planes: &mut [Plane],
 ) -> End {
     assert!(rt; trays.len() == 2);
-    match judged(rt, trays) {
+    match judge_two(rt, trays) {
         Ok(headers) => {
             assert!(rt; headers == HEADERS);
             read_second(rt, alloc, trays, planes)
@@ -155,7 +155,7 @@ fn read_second(rt: &impl Abort, alloc: Global, trays: &mut [MemTray], planes: &m
     }
 }
 
-fn ended(rt: &(impl Abort + Threads + Sync), alloc: Global, trays: &mut [MemTray]) -> End {
+fn end_of_both(rt: &(impl Abort + Threads + Sync), alloc: Global, trays: &mut [MemTray]) -> End {
     let mut planes = [plane_of(rt, alloc), plane_of(rt, alloc)];
     read_both(rt, alloc, trays, &mut planes)
 }
@@ -168,10 +168,10 @@ fn end_of(
     fault: Option<Fault>,
 ) -> End {
     let mut trays = trays_of(rt, alloc, files, fault);
-    ended(rt, alloc, &mut trays)
+    end_of_both(rt, alloc, &mut trays)
 }
 
-fn ended_again(rt: &impl Abort, alloc: Global, trays: &mut [MemTray]) -> End {
+fn end_of_second(rt: &impl Abort, alloc: Global, trays: &mut [MemTray]) -> End {
     let mut planes = [plane_of(rt, alloc), plane_of(rt, alloc)];
     read_second(rt, alloc, trays, &mut planes)
 }
@@ -179,7 +179,7 @@ fn ended_again(rt: &impl Abort, alloc: Global, trays: &mut [MemTray]) -> End {
 // How the second reading alone ends, of files that may have changed.
 fn end_again(rt: &impl Abort, alloc: Global, files: &[&str; 2]) -> End {
     let mut trays = trays_of(rt, alloc, files, None);
-    ended_again(rt, alloc, &mut trays)
+    end_of_second(rt, alloc, &mut trays)
 }
 
 // The second and the third row of each plate, turned into tints.

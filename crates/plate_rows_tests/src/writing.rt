@@ -53,7 +53,7 @@ fn length_on(rack: &MemRack, whole: &[u8]) -> Option<usize> {
     }
 }
 
-fn written(rt: &impl Abort, racks: &mut [MemRack]) -> End {
+fn end_of_writing(rt: &impl Abort, racks: &mut [MemRack]) -> End {
     assert!(rt; racks.len() == 2);
     let stop = write_both(racks).err();
     End {
@@ -67,7 +67,7 @@ fn written(rt: &impl Abort, racks: &mut [MemRack]) -> End {
 
 fn end_of(rt: &impl Abort, alloc: Global, fault: Option<Fault>) -> End {
     let mut racks = racks_of(rt, alloc, fault);
-    written(rt, &mut racks)
+    end_of_writing(rt, &mut racks)
 }
 
 #[test]

@@ -32,8 +32,8 @@ abbrev pub AreRefused : (List ℕ → Option (List ℕ)) → Sources → Refusal
 AreRefused files source refusal = IsVerdict one_page files source no_files (Refused refusal)
 
 -- Status 0 comes only where neither count rose. A page was then read, which is the one of the job
--- and the plates where the tray tells them, and its text is told and nothing else: the numbers are
--- the risk of its planes before trapping and after. Each file was asked for in its order.
+-- and the plates where the tray tells them, and its text is printed and nothing else: the numbers
+-- are the risk of its planes before trapping and after. Each file was asked for in its order.
 pub record Success (words : List (List ℕ)) (tray tray' : TrayState) (rack rack' : RackState)
     (status : ℕ) : Type 0 where
   pub calm : status ≡ done → (tray'.faults ≡ tray.faults) × (rack'.faults ≡ rack.faults)
@@ -43,8 +43,8 @@ pub record Success (words : List (List ℕ)) (tray tray' : TrayState) (rack rack
   pub begun : (check : CheckWords) → Mean words check → status ≡ done
       → Asks tray.asked tray'.asked (read_files (sources_of check))
 
--- Status 2 comes exactly where the words mean no check. The usage line is then told, and no name is
--- handed out.
+-- Status 2 comes exactly where the words mean no check. The usage line is then printed, and no name
+-- is handed out.
 pub record Usage (words : List (List ℕ)) (tray tray' : TrayState) (rack rack' : RackState)
     (status : ℕ) : Type 0 where
   pub only : status ≡ usage → check_of words ≡ None
@@ -94,7 +94,7 @@ pub record ReadFault (words : List (List ℕ)) (tray tray' : TrayState) (rack ra
 
 -- Status 6 comes only where the rack's count rose, by one: a page was read as for status 0, each
 -- file having been asked for in
--- its order, and a prefix of its text is told.
+-- its order, and a prefix of its text is printed.
 pub record TellFault (words : List (List ℕ)) (tray tray' : TrayState) (rack rack' : RackState)
     (status : ℕ) : Type 0 where
   pub cause : status ≡ not_written → RoseOnce rack.faults rack'.faults
@@ -106,8 +106,8 @@ pub record TellFault (words : List (List ℕ)) (tray tray' : TrayState) (rack ra
       × (IsTrue rack.tells → (count : ℕ)
       × (rack'.told ≡ rack.told ++ take count (text_of check.radius page)))
 
--- Every other status is a refusal's, whose line is told and nothing else. That of status 7 is the
--- one of out of memory.
+-- Every other status is a refusal's, whose line is printed and nothing else. That of status 7 is
+-- the one of out of memory.
 abbrev pub FaultLine : RackState → RackState → ℕ → Type 0
 FaultLine rack rack' status = status ≢ done → status ≢ not_written → status ≢ usage
     → (refusal : Refusal) × (status ≡ status_of refusal) × TellsText (line_of refusal) rack rack'

@@ -27,7 +27,7 @@ pub record ChecksPage (source : Sources) (radius : ℕ) (before after : TrayStat
   pub asked : AsksPrefix before.asked after.asked (read_files source)
   pub answer : AnswersText source radius before after result
 
--- The text is told whole, or a prefix of it where one call of the rack failed.
+-- The text is printed whole, or a prefix of it where one call of the rack failed.
 pub data AnswersTell (text : List ℕ) (before after : RackState) (status : ℕ) : Type 0 where
   told : status ≡ done → after.faults ≡ before.faults
       → (IsTrue before.tells → after.told ≡ before.told ++ text)
@@ -36,7 +36,7 @@ pub data AnswersTell (text : List ℕ) (before after : RackState) (status : ℕ)
       → (IsTrue before.tells → (count : ℕ) × (after.told ≡ before.told ++ take count text))
       → AnswersTell text before after status
 
--- A result is told, and no file is touched.
+-- A result is printed, and no file is touched.
 pub record TellsResult (text : List ℕ) (before after : RackState) (status : ℕ) : Type 0 where
   pub files : KeepsFiles before after
   pub answer : AnswersTell text before after status
@@ -46,14 +46,14 @@ abbrev pub Closes : Result (List ℕ) Refusal → RackState → RackState → �
 Closes (Ok text) before after status = TellsResult text before after status
 Closes (Err refusal) before after status = Refuses refusal before after status
 
--- A check is made, and its result or its refusal is told.
+-- A check is made, and its result or its refusal is printed.
 pub record EndsCheck (check : CheckWords) (tray tray' : TrayState) (rack rack' : RackState)
     (status : ℕ) : Type 0 where
   pub result : Result (List ℕ) Refusal
   pub checked : ChecksPage (sources_of check) check.radius tray tray' result
   pub closed : Closes result rack rack' status
 
--- The usage line is told.
+-- The usage line is printed.
 pub record RefusesWords (before after : RackState) (status : ℕ) : Type 0 where
   pub files : KeepsFiles before after
   pub line : TellsText usage_line before after

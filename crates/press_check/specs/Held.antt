@@ -2,10 +2,12 @@
 use Rattle.std.specs.Prelude.{◌≤◌, length, map, string_bytes}
 use Rattle.plain_words.specs.Parts.{input_of}
 use Rattle.press_check.specs.Words.{CheckWords}
-use Rattle.press_check.specs.declared.words.Check.{Check}
+use Rattle.press_check.specs.declared.words.PresscheckArgs.{PresscheckArgs}
+use Rattle.page_model.specs.Limits.{most_plates}
+use Rattle.misregister.specs.Limits.{most_radius}
 
 -- the check of the words that are held
-abbrev pub check_in : Check → CheckWords
+abbrev pub check_in : PresscheckArgs → CheckWords
 check_in check = record {
   radius = check.radius;
   job = check.job.now;
@@ -13,7 +15,7 @@ check_in check = record {
 }
 
 -- the limits of what the words may ask for
-pub record IsWithin (check : Check) : Type 0 where
-  pub radius : check.radius ≤ 16
+pub record IsWithin (check : PresscheckArgs) : Type 0 where
+  pub radius : check.radius ≤ most_radius
   pub some : 1 ≤ length check.plates.now
-  pub few : length check.plates.now ≤ 16
+  pub few : length check.plates.now ≤ most_plates

@@ -17,6 +17,6 @@ abbrev pub text_of : ℕ → PageParts → List ℕ
 text_of radius page =
     check_text radius (risk page.planes radius) (risk (trapped_planes page) radius)
 
--- what is told of words that are no check
+-- what is printed for words that are no check
 abbrev pub usage_line : List ℕ
 usage_line = line (codes "usage: presscheck RADIUS JOB NAME:IN ...")

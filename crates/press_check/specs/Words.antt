@@ -4,6 +4,7 @@ use Rattle.page_gather.specs.Inputs.{Sources}
 use Rattle.plain_words.specs.Inputs.{inputs_of, named_plates, names_of}
 use Rattle.plain_words.specs.Numbers.{number_of}
 use Rattle.plain_words.specs.Parts.{InputNames}
+use Rattle.misregister.specs.Limits.{most_radius}
 
 -- a check of a page: by how many samples a plate may shift, and the files that are read
 pub record CheckWords : Type 0 where
@@ -28,5 +29,6 @@ check_with _ _ _ = None
 -- the check that the words after the program's name mean: RADIUS JOB NAME:IN ..., the radius from 0
 -- to 16
 abbrev pub check_of : List (List ℕ) → Option CheckWords
-check_of (radius ∷ job ∷ plates) = check_with (number_of 0 16 radius) job (named_plates plates)
+check_of (radius ∷ job ∷ plates) =
+    check_with (number_of 0 most_radius radius) job (named_plates plates)
 check_of _ = None

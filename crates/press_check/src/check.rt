@@ -5,9 +5,10 @@ ghost use Rattle.press_check.specs.Endings.{ChecksPage, EndsCheck, TellsResult};
 ghost use Rattle.press_check.specs.Held.{check_in, IsWithin};
 ghost use Rattle.press_check.specs.Text.{text_of};
 ghost use Rattle.press_check.specs.Words.{sources_of};
+ghost use Rattle.misregister.specs.Limits.{most_radius};
 
 use crate::risks::page_text;
-use crate::words::Check;
+use crate::words::PresscheckArgs;
 use outside::rack::Rack;
 use outside::tray::{Failed, Tray};
 use page_gather::gather::gather;
@@ -19,10 +20,10 @@ use refusals::statuses::{DONE, NOT_WRITTEN};
 use refusals::telling::refuse;
 use std::alloc::Global;
 
-// Makes a check and tells its result, and gives the status that it ends with.
+// Makes a check and prints its result, and returns the status that it ends with.
 pub(crate) fn run_check<T: Tray, R: Rack>(
     alloc: Global,
-    check: &Check<'_>,
+    check: &PresscheckArgs<'_>,
     tray: &mut T,
     rack: &mut R,
 ) -> u8
@@ -45,8 +46,12 @@ fn tell_result<R: Rack>(rack: &mut R, text: &[u8]) -> u8
     }
 }
 
-// Reads the page, and gives the text that tells of it.
-fn check_page<T: Tray>(alloc: Global, check: &Check<'_>, tray: &mut T) -> Result<Name, Refusal>
+// Reads the page, and returns the text of the result.
+fn check_page<T: Tray>(
+    alloc: Global,
+    check: &PresscheckArgs<'_>,
+    tray: &mut T,
+) -> Result<Name, Refusal>
     requires { IsWithin check.now }
     ensures { let words = check_in check.now in
         ChecksPage (sources_of words) words.radius (T.state tray.old) (T.state tray.new) result }
@@ -57,8 +62,12 @@ fn check_page<T: Tray>(alloc: Global, check: &Check<'_>, tray: &mut T) -> Result
     }
 }
 
-// Gathers the page of the check's job and plates.
-fn read_page<T: Tray>(alloc: Global, check: &Check<'_>, tray: &mut T) -> Result<Page, Refusal>
+// Reads the page of the check's job and plates.
+fn read_page<T: Tray>(
+    alloc: Global,
+    check: &PresscheckArgs<'_>,
+    tray: &mut T,
+) -> Result<Page, Refusal>
     requires { IsWithin check.now }
     ensures { ReadsPage (sources_of (check_in check.now)) (T.state tray.old) (T.state tray.new)
         result }
@@ -73,7 +82,7 @@ fn read_page<T: Tray>(alloc: Global, check: &Check<'_>, tray: &mut T) -> Result<
 }
 
 fn text_or_refusal(alloc: Global, page: &Page, radius: u32) -> Result<Name, Refusal>
-    requires { radius ≤ 16 }
+    requires { radius ≤ most_radius }
     ensures valid { IsPage page.now }
     ensures text { let told = text_of radius page.now in
         MatchResult result (λ text. text ≡ told) (λ refusal. refusal ≡ Refusal.Memory) }

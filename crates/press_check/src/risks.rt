@@ -3,6 +3,7 @@ ghost use Rattle.page_model.specs.Conditions.{IsPage};
 ghost use Rattle.plane_shapes.specs.Shapes.{AreOneShape};
 ghost use Rattle.press_check.specs.Text.{text_of};
 ghost use Rattle.misregister.specs.Risk.{risk};
+ghost use Rattle.misregister.specs.Limits.{most_radius};
 
 use crate::text::check_text;
 use misregister::sheet::Sheet;
@@ -16,9 +17,9 @@ use std::marker::Brand;
 use std::sync::ledger::{Blank, Ledger};
 use strip_engine::trap_alone;
 
-/// Counts the samples at risk before a page is trapped and after, and gives the text that tells of them.
+/// Counts the samples at risk before a page is trapped and after, and returns the text of the result.
 pub(crate) fn page_text(alloc: Global, page: &Page, radius: u32) -> Result<Name, OutOfMemory>
-    requires { radius ≤ 16 }
+    requires { radius ≤ most_radius }
     ensures valid { IsPage page.now }
     ensures text { IfOk result (λ text. text ≡ text_of radius page.now) }
 {
@@ -29,10 +30,10 @@ pub(crate) fn page_text(alloc: Global, page: &Page, radius: u32) -> Result<Name,
     check_text(alloc, radius, before, after)
 }
 
-// How many samples of the planes are at risk.
+// The number of samples of the planes that are at risk.
 fn risk_of(alloc: Global, planes: &PlaneList, radius: u32) -> Result<u64, OutOfMemory>
     requires shape { AreOneShape planes.now }
-    requires radius { radius ≤ 16 }
+    requires radius { radius ≤ most_radius }
     ensures { IfOk result (λ count. count ≡ risk planes.now radius) }
 {
     risk_by::<Brand>(alloc, planes, radius, Blank::new(1))
@@ -45,7 +46,7 @@ fn risk_by<L: Ledger>(
     blank: Blank,
 ) -> Result<u64, OutOfMemory>
     requires shape { AreOneShape planes.now }
-    requires radius { radius ≤ 16 }
+    requires radius { radius ≤ most_radius }
     requires name { blank.name ≡ L.name }
     requires parts { blank.parts ≡ L.parts }
     requires some { 0 < L.parts }

@@ -1,7 +1,7 @@
 ghost use Rattle.std.specs.Prelude.{◌≡◌, map, string_bytes};
 ghost use Rattle.press_check.specs.Clauses.{Success, Usage, RefusedInput, ReadFault, TellFault, FaultLine, Completeness};
 ghost use Rattle.press_check.specs.Endings.{Ends, RefusesWords};
-ghost use Rattle.press_check.specs.Text.{usage_line as usage_meant};
+ghost use Rattle.press_check.specs.Text.{usage_line as usage_spec};
 ghost use Rattle.refusals.specs.Telling.{KeepsFiles};
 
 use crate::check::run_check;
@@ -14,16 +14,16 @@ use refusals::statuses::USAGE;
 use refusals::telling::tell_line;
 use std::alloc::Global;
 
-/// Tells how many samples of a page misregister could leave bare, before it is trapped and after, and answers the status
-/// that the program ends with.
+/// Prints how many samples of a page misregister could leave bare, before it is trapped and after, and returns the
+/// status that the program exits with.
 ///
-/// The words are `RADIUS JOB NAME:IN ...`: by how many samples, from 0 to 16, each plate may shift to each side, the job's
-/// file, and one to sixteen plates with the names of their colorants. It reads the job, then each plate in the order of the
-/// words, and tells `press check`, `radius R`, `before A`, `after B` and `end`. No file is created.
+/// The words are `RADIUS JOB NAME:IN ...`: by how many samples, from 0 to 16, each plate may shift to each side, the
+/// job's file, and one to sixteen plates with the names of their colorants. It reads the job, then each plate in the
+/// order of the words, and prints `press check`, `radius R`, `before A`, `after B` and `end`. No file is created.
 ///
-/// The status is 0 where the text is told; 2 where the words mean no check; 3 where the job has a fault or lacks the details
-/// of a plate's colorant; 4 where a plate's file has a fault, or the plates are no page; 5 where a read failed; 6 where the
-/// text could not be told; and 7 where memory ran out. Each refusal tells one line that names the cause.
+/// The status is 0 if the text is printed; 2 if the words are no command; 3 if the job has a fault or lacks the details
+/// of a plate's colorant; 4 if a plate's file has a fault, or the plates do not make a page; 5 if a read failed; 6 if
+/// the text could not be printed; and 7 if memory ran out. Each refusal prints one line that names the cause.
 pub fn presscheck_main<T: Tray, R: Rack>(
     alloc: Global,
     words: &[String],

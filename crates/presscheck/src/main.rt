@@ -1,4 +1,4 @@
-//! The program `presscheck`: its words, the disk and standard output, handed to the top call.
+//! The program `presscheck`: passes its words, the disk and standard output to the top call.
 #![tactic(auto)]
 
 use outside::disk_rack::DiskRack;

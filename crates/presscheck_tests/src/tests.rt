@@ -68,8 +68,8 @@ fn files_of(rt: &impl Abort, alloc: Global, case: Case<'_>) -> FileList {
     files
 }
 
-// The status, and whether the text is told and none of the files that are read was created.
-fn ended(
+// The status, and whether the text is printed and none of the files that are read was created.
+fn end_of_call(
     alloc: Global,
     words: &[String],
     tray: &mut MemTray,
@@ -80,7 +80,7 @@ fn ended(
     (status, rack.told() == text.as_bytes() && is_empty(rack))
 }
 
-fn ended_on_rack(
+fn end_on_rack(
     rt: &impl Abort,
     alloc: Global,
     words: &[String],
@@ -89,10 +89,10 @@ fn ended_on_rack(
     text: &str,
 ) -> (u8, bool) {
     let mut rack = rack_of(alloc, 50, 1000, case.rack_fails).expect(rt, "no memory");
-    ended(alloc, words, tray, &mut rack, text)
+    end_of_call(alloc, words, tray, &mut rack, text)
 }
 
-fn ended_on_files(
+fn end_on_files(
     rt: &impl Abort,
     alloc: Global,
     words: &[String],
@@ -101,13 +101,13 @@ fn ended_on_files(
 ) -> (u8, bool) {
     let files = files_of(rt, alloc, case);
     let mut tray = tray_of(alloc, files, 64, case.tray_fails).expect(rt, "no tray");
-    ended_on_rack(rt, alloc, words, &mut tray, case, text)
+    end_on_rack(rt, alloc, words, &mut tray, case, text)
 }
 
-// Whether a run ends with the status and the text told, and created none of the files that it reads.
+// Whether a run ends with the status and the text printed, and created none of the files that it reads.
 fn ends(rt: &impl Abort, alloc: Global, case: Case<'_>, status: u8, text: &str) -> bool {
     let words = words_of(alloc, case.words).expect(rt, "no memory");
-    ended_on_files(rt, alloc, &words, case, text) == (status, true)
+    end_on_files(rt, alloc, &words, case, text) == (status, true)
 }
 
 fn is_empty(rack: &MemRack) -> bool {

@@ -33,9 +33,8 @@ last_kinds (Operator name) = []
 last_kinds Array = kinds.CloseArray ∷ []
 last_kinds Dict = kinds.CloseDict ∷ []
 
--- the kinds for these objects, of which there are at most so many: the first one's, those for
--- the objects within it, its
--- end's, and those for the objects after it
+-- the kinds for these objects, of which there are at most as many as the number: the first one's,
+-- those for the objects within it, its end's, and those for the objects after it
 abbrev pub kinds_of : ℕ → List Object → List TokenKind
 kinds_of zero objects = []
 kinds_of (suc most) [] = []

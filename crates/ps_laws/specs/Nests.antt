@@ -5,9 +5,8 @@ use Rattle.ps_tokens.specs.declared.object.Object.{Object}
 use Rattle.ps_tokens.specs.Limits.{deepest}
 use Rattle.ps_laws.specs.Writes.{IsLiteral, IsPlain, Part, whole, items, entries}
 
--- Such a part of a job's objects within so many brackets: no bracket stands within 16 others, no
--- operator within one, and in
--- a dictionary each entry is a literal and an object.
+-- Such a part of a job's objects within a number of brackets: no bracket stands within 16 others,
+-- no operator within one, and in a dictionary each entry is a literal and an object.
 pub data Nests : Part → ℕ → List Object → Type 0 where
   plain : (depth : ℕ) (object : Object) → IsPlain depth object.body → object.inside ≡ 0
       → Nests whole depth (object ∷ [])

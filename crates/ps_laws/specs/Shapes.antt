@@ -10,6 +10,7 @@ use Rattle.ps_tokens.specs.Bytes.{is_regular, is_digit, is_hexadecimal, begins_w
 use Rattle.ps_tokens.specs.Limits.{largest_whole}
 use Rattle.ps_tokens.specs.Numbers.{begins_like_number, decimal, fraction_of, signed}
 use Rattle.ps_tokens.specs.Balance.{IsBalanced}
+use Rattle.page_model.specs.Limits.{scale}
 
 -- no sign, `+` or `-`
 pub data IsSign : List ℕ → Type 0 where
@@ -42,7 +43,7 @@ pub record IsNumber (value : ℤ) (text : List ℕ) : Type 0 where
   pub numeral : IsNumeral text
   pub not_too_large : decimal numeral.whole ≤ largest_whole
   pub valued : value ≡ signed (begins_with 45 numeral.sign)
-      (10000 * decimal numeral.whole + fraction_of numeral.fraction)
+      (scale * decimal numeral.whole + fraction_of numeral.fraction)
 
 -- What is written as a number, of a whole part that is too large.
 pub record IsTooLarge (text : List ℕ) : Type 0 where

@@ -31,7 +31,7 @@ IsBegunBy (Operator name) kind text = (kind ≡ kinds.Word) × (name ≡ text) �
 IsBegunBy Array kind text = kind ≡ kinds.OpenArray
 IsBegunBy Dict kind text = kind ≡ kinds.OpenDict
 
--- This token begins the object, within which so many stand.
+-- This token begins the object, within which `inside` objects stand.
 pub record Begins (bytes : List ℕ) (object : Object) (token : Token) (inside : ℕ) : Type 0 where
   pub place : object.at ≡ token.at
   pub count : object.inside ≡ inside
@@ -59,11 +59,9 @@ pub data Part : Type 0 where
   items : Part
   entries : Part
 
--- Tokens write out such a part of a job's objects, which stands within so many brackets: an
--- object is its token; an array
--- `[`, the objects within it and `]`; a dictionary `<<`, its entries and `>>`; an entry is a
--- literal and an object. No
--- bracket stands within 16 others.
+-- Tokens write out such a part of a job's objects, which stands within a number of brackets: an
+-- object is its token; an array `[`, the objects within it and `]`; a dictionary `<<`, its entries
+-- and `>>`; an entry is a literal and an object. No bracket stands within 16 others.
 pub data Writes (bytes : List ℕ) : Part → ℕ → List Object → List Token → Type 0 where
   plain : (depth : ℕ) (object : Object) (token : Token) → IsPlain depth object.body
       → Begins bytes object token 0 → Writes bytes whole depth (object ∷ []) (token ∷ [])

@@ -17,61 +17,62 @@ ghost use Rattle.ps_laws.specs.Firsts.{LeavesOpen, Misplaced};
 ghost use Rattle.ps_tokens.specs.declared.brackets.Bracket.{Bracket};
 ghost use Rattle.ps_tokens.specs.Brackets.{brackets_after};
 
-/// The tokens that bytes spell are read.
+/// If bytes encode tokens, these tokens are read.
 pub fn spelled_is_read()
     ensures { (bytes : List ℕ) (tokens : List Token) → Spells bytes tokens
         → tokens_of bytes ≡ Ok tokens }
 {}
 
-/// The tokens that are read are what the bytes spell.
+/// The tokens that are read are those that the bytes encode.
 pub fn read_is_spelled()
     ensures { (bytes : List ℕ) (tokens : List Token) → tokens_of bytes ≡ Ok tokens
         → Spells bytes tokens }
 {}
 
-/// Bytes spell one list of tokens at most.
+/// Bytes encode at most one list of tokens.
 pub fn one_token_list()
     ensures { (bytes : List ℕ) (a b : List Token) → Spells bytes a → Spells bytes b → a ≡ b }
 {}
 
-/// Where there is a fault, the bytes before it spell tokens, and neither a gap nor a token stands there.
+/// If there is a fault, the bytes before it encode tokens, and neither a gap nor a token stands there.
 pub fn fault_is_where_none_stands()
     ensures { (bytes : List ℕ) (fault : JobFault) → tokens_of bytes ≡ Err fault
         → Breaks bytes fault }
 {}
 
-/// Where the bytes spell tokens up to a place at which neither a gap nor a token stands, that is the fault.
+/// If the bytes encode tokens up to a place at which neither a gap nor a token stands, that is the fault.
 pub fn where_none_stands_is_fault()
     ensures { (bytes : List ℕ) (fault : JobFault) → Breaks bytes fault
         → tokens_of bytes ≡ Err fault }
 {}
 
-/// The bytes before a fault spell tokens by themselves.
+/// The bytes before a fault encode tokens by themselves.
 pub fn prefix_of_fault_is_spelled()
     ensures { (bytes : List ℕ) (fault : JobFault) → tokens_of bytes ≡ Err fault
         → (tokens : List Token) × Spells (take fault.at bytes) tokens }
 {}
 
-/// The objects that tokens write out are read.
+/// If tokens write out objects, these objects are read.
 pub fn written_is_read()
     ensures { (bytes : List ℕ) (tokens : List Token) (objects : List Object)
         → WritesOut bytes objects tokens → objects_of bytes tokens ≡ Ok objects }
 {}
 
-/// The objects that are read are what the tokens write out.
+/// The objects that are read are those that the tokens write out.
 pub fn read_is_written()
     ensures { (bytes : List ℕ) (tokens : List Token) (objects : List Object)
         → objects_of bytes tokens ≡ Ok objects → WritesOut bytes objects tokens }
 {}
 
-/// Tokens write out one list of objects at most.
+/// Tokens write out at most one list of objects.
 pub fn one_object_list()
     ensures { (bytes : List ℕ) (tokens : List Token) (a b : List Object)
         → WritesOut bytes a tokens → WritesOut bytes b tokens → a ≡ b }
 {}
 
-/// Written out in order, each closing token after the last object within its bracket, the objects that are read give the
-/// tokens: their kinds, and the offsets and the meanings of those that begin objects. They are nested as a job's objects are.
+/// The objects that are read, written out in order, each closing token after the last object within its bracket, give
+/// the tokens: their kinds, and the offsets and the meanings of those that begin objects. They are nested as a job's
+/// objects are.
 pub fn objects_write_their_tokens()
     ensures kinds { (bytes : List ℕ) (tokens : List Token) (objects : List Object)
         → objects_of bytes tokens ≡ Ok objects → map (λ t. t.kind) tokens ≡ kinds_written objects }
@@ -91,20 +92,20 @@ pub fn written_tokens_are_read()
         → begun_as bytes tokens ≡ map (λ o. o.body) objects → objects_of bytes tokens ≡ Ok objects }
 {}
 
-/// A fault of tokens is at the first after which no further ones could complete the list; or the tokens end within a
-/// bracket, and then it is at the innermost that is open.
+/// A fault of tokens is at the first one after which no further tokens could complete the list; or the tokens end
+/// within a bracket, and then it is at the innermost that is open.
 pub fn object_fault_is_first()
     ensures { (bytes : List ℕ) (tokens : List Token) (fault : JobFault)
         → objects_of bytes tokens ≡ Err fault → Misplaced bytes tokens fault }
 {}
 
-/// What tokens are that are out of place is their fault.
+/// If the first misplaced token is misplaced by a fault (`Misplaced`), that fault is the one of the tokens.
 pub fn first_misplaced_is_object_fault()
     ensures { (bytes : List ℕ) (tokens : List Token) (fault : JobFault)
         → Misplaced bytes tokens fault → objects_of bytes tokens ≡ Err fault }
 {}
 
-/// The brackets that are open after tokens are those that the tokens leave open.
+/// The brackets that are read as open are those that the tokens leave open.
 pub fn open_brackets_are_left_open()
     ensures left { (bytes : List ℕ) (tokens : List Token) (brackets : List Bracket)
         → brackets_after bytes tokens ≡ Ok brackets → LeavesOpen bytes brackets tokens }
@@ -119,7 +120,7 @@ pub fn dictionaries_have_entries()
         → (entries : List Entry) × HasEntries objects place entries }
 {}
 
-/// What is looked up under a name is the value of the last entry of that name, and nothing where no entry has it.
+/// Looking up a name gives the value of the last entry of that name, and nothing where no entry has it.
 pub fn last_is_of_the_last_entry()
     ensures found { (objects : List Object) (dict value : ℕ) (entries : List Entry) (name : List ℕ)
         → HasEntries objects dict entries

@@ -4,7 +4,7 @@ pub mod Bytes
 pub mod Dictionaries
 pub mod Laws
 pub mod Limits
-pub mod Misfits
+pub mod EntryErrors
 pub mod Numbers
 pub mod Objects
 pub mod Parameters

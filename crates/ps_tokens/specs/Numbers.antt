@@ -4,6 +4,7 @@ use Rattle.std.specs.Prelude.{◌==◌, ◌+◌, ◌-◌, ◌*◌, nat_lt, slice
 use Rattle.std.specs.List.{prefix_len, take_while, list_all}
 use Rattle.std.proofs.Common.{neg_ℤ}
 use Rattle.ps_tokens.specs.Bytes.{is_digit, first_passes, begins_with}
+use Rattle.page_model.specs.Limits.{scale}
 
 -- the run without its sign
 abbrev pub unsigned : List ℕ → List ℕ
@@ -58,4 +59,4 @@ signed false n = pos n
 -- a number's value
 abbrev pub value_of : List ℕ → ℤ
 value_of run = signed (begins_with 45 run)
-    (10000 * decimal (whole_digits run) + fraction_of (fraction_digits run))
+    (scale * decimal (whole_digits run) + fraction_of (fraction_digits run))

@@ -37,8 +37,8 @@ is_closing kinds.Word = false
 is_closing (kinds.Number n) = false
 is_closing kinds.Text = false
 
--- how many objects these tokens begin before the bracket closes that is so many outside the
--- innermost open one
+-- how many objects these tokens begin before the bracket closes that is `outside` brackets outside
+-- the innermost open one
 abbrev pub count_inside : ℕ → List Token → ℕ
 count_inside outside [] = 0
 count_inside outside (token ∷ tokens) =

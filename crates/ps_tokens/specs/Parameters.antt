@@ -6,6 +6,7 @@ use Rattle.ps_tokens.specs.declared.parameters.Key.TheVariants.{BlackColorLimit}
 use Rattle.ps_tokens.specs.declared.parameters.Key.TheVariants.{BlackDensityLimit, StepLimit}
 use Rattle.ps_tokens.specs.declared.parameters.Key.TheVariants.{SlidingTrapLimit, TrapColorScaling}
 use Rattle.ps_tokens.specs.declared.parameters.Key.TheVariants.{Enabled, Trapping}
+use Rattle.page_model.specs.Limits.{scale}
 
 -- a parameter's name
 abbrev pub name_of : Key → List ℕ
@@ -35,10 +36,10 @@ least_of Trapping = 0
 abbrev pub most_of : Key → ℕ
 most_of TrapWidth = 1000000
 most_of BlackWidth = 100000
-most_of BlackColorLimit = 10000
+most_of BlackColorLimit = scale
 most_of BlackDensityLimit = 100000
-most_of StepLimit = 10000
-most_of SlidingTrapLimit = 10000
-most_of TrapColorScaling = 10000
+most_of StepLimit = scale
+most_of SlidingTrapLimit = scale
+most_of TrapColorScaling = scale
 most_of Enabled = 0
 most_of Trapping = 0

@@ -61,7 +61,7 @@ piece_at b bs =
     else (if is_regular b then run_piece (take_while is_regular (b ∷ bs))
     else mark_piece b bs)
 
--- whitespace or a token has at least one byte, and at most so many
+-- whitespace or a token has at least one byte, and at most `most`
 abbrev pub IsWithin : Piece → ℕ → Type 0
 IsWithin (Blank len) most = (1 ≤ len) × (len ≤ most)
 IsWithin (Spelled kind len) most = (1 ≤ len) × (len ≤ most)

@@ -6,8 +6,8 @@ use Rattle.ps_tokens.specs.declared.faults.FaultKind.{FaultKind}
 use Rattle.ps_tokens.specs.declared.faults.FaultKind.TheVariants.{NotDictionary}
 use Rattle.ps_tokens.specs.declared.object.Body.{Body}
 use Rattle.ps_tokens.specs.declared.object.Object.{Object}
-use Rattle.ps_tokens.specs.declared.misfits.Misfit.{Misfit}
-use Rattle.ps_tokens.specs.Misfits.{judged_at, at_key}
+use Rattle.ps_tokens.specs.declared.entry_errors.EntryError.{EntryError}
+use Rattle.ps_tokens.specs.EntryErrors.{at_place, at_key}
 use Rattle.ps_tokens.specs.Objects.{is_dict}
 
 -- a judgement of an object's body, wherever the object stands
@@ -16,13 +16,13 @@ by_body judge place object = judge object.body
 
 -- what an object at a place gives; what there is now where none stands there
 abbrev pub value_by : {X : Type 0} → (ℕ → Object → Result X FaultKind) → X → ℕ → Option Object
-    → Result X Misfit
+    → Result X EntryError
 value_by judge now place None = Ok now
-value_by judge now place (Some object) = judged_at place object.at (judge place object)
+value_by judge now place (Some object) = at_place place object.at (judge place object)
 
 -- what the value at a place gives; what there is now where no entry has the key
 abbrev pub value_at : {X : Type 0} → (ℕ → Object → Result X FaultKind) → List Object → X → Option ℕ
-    → Result X Misfit
+    → Result X EntryError
 value_at judge objects now None = Ok now
 value_at judge objects now (Some place) = value_by judge now place (slice_get objects place)
 
@@ -39,14 +39,14 @@ place_of_value objects (Some place) = place_if_some place (slice_get objects pla
 -- what the dictionary gives that an entry's value is, at its place and its offset; what there is
 -- now where no value stands
 -- there
-abbrev pub entry_by : {X : Type 0} → (ℕ → ℕ → Result X Misfit) → X → ℕ → Option Object
-    → Result X Misfit
+abbrev pub entry_by : {X : Type 0} → (ℕ → ℕ → Result X EntryError) → X → ℕ → Option Object
+    → Result X EntryError
 entry_by read now key None = Ok now
 entry_by read now key (Some object) =
     if is_dict object.body then at_key key (read (key + 1) object.at)
-    else judged_at key object.at (Err NotDictionary)
+    else at_place key object.at (Err NotDictionary)
 
 -- what the dictionary gives that is the value of the entry whose key stands at a place
-abbrev pub entry_at : {X : Type 0} → (ℕ → ℕ → Result X Misfit) → List Object → X → ℕ
-    → Result X Misfit
+abbrev pub entry_at : {X : Type 0} → (ℕ → ℕ → Result X EntryError) → List Object → X → ℕ
+    → Result X EntryError
 entry_at read objects now key = entry_by read now key (slice_get objects (key + 1))

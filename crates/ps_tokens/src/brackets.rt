@@ -3,7 +3,7 @@ ghost use Rattle.ps_tokens.specs.Limits.{deepest};
 
 use std::marker::Model;
 
-/// How many brackets may be open at a place.
+/// The greatest number of brackets that may be open at a place.
 pub const DEEPEST: usize = 16;
 
 /// What an open bracket expects next.
@@ -99,7 +99,7 @@ impl Brackets {
         self.start += 1;
     }
 
-    /// Puts another bracket in the innermost one's place.
+    /// Replaces the innermost bracket.
     #[tactic(auto, using(crate::proofs::Stacks::stacks))]
     pub fn replace(&mut self, bracket: Bracket)
         requires { 0 < length self.old }

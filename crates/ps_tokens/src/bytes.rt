@@ -2,7 +2,7 @@ ghost use Rattle.std.specs.Prelude.{◌≡◌, ◌≤◌, length};
 ghost use Rattle.std.specs.List.{prefix_len};
 ghost use Rattle.ps_tokens.specs.Bytes.{is_whitespace, is_regular, is_digit, is_hexadecimal, is_in_comment};
 
-/// Whether a byte separates tokens.
+/// Whether a byte is whitespace, which separates tokens (PLRM3, section 3.2).
 #[tactic(auto, unfolding(crate::specs::Bytes::is_whitespace))]
 pub fn is_whitespace(b: u8) -> bool
     ensures { result ≡ is_whitespace b }
@@ -10,7 +10,8 @@ pub fn is_whitespace(b: u8) -> bool
     b == 0 || b == 9 || b == 10 || b == 12 || b == 13 || b == 32
 }
 
-/// Whether a byte may stand in a name, a word or a number.
+/// Whether a byte is a regular character, which may stand in a name, a word or a number: neither whitespace nor a
+/// delimiter (PLRM3, section 3.2, in this project's profile).
 #[tactic(auto, unfolding(crate::specs::Bytes::is_regular))]
 pub fn is_regular(b: u8) -> bool
     ensures { result ≡ is_regular b }
@@ -52,7 +53,7 @@ fn is_in_comment(b: u8) -> bool
     !(b == 10 || b == 12 || b == 13)
 }
 
-/// How many regular bytes stand at the beginning.
+/// The number of regular bytes at the beginning.
 pub fn regular_len(bytes: &[u8]) -> usize
     ensures value { result ≡ prefix_len is_regular bytes.now }
     ensures within { result ≤ length bytes.now }
@@ -60,7 +61,7 @@ pub fn regular_len(bytes: &[u8]) -> usize
     bytes.iter().take_while(|b| is_regular(**b)).count()
 }
 
-/// How many digits stand at the beginning.
+/// The number of digits at the beginning.
 pub fn digits_len(bytes: &[u8]) -> usize
     ensures value { result ≡ prefix_len is_digit bytes.now }
     ensures within { result ≤ length bytes.now }
@@ -68,7 +69,7 @@ pub fn digits_len(bytes: &[u8]) -> usize
     bytes.iter().take_while(|b| is_digit(**b)).count()
 }
 
-/// How many bytes of a hexadecimal string stand at the beginning.
+/// The number of bytes of a hexadecimal string at the beginning.
 pub fn hexadecimal_len(bytes: &[u8]) -> usize
     ensures value { result ≡ prefix_len is_hexadecimal bytes.now }
     ensures within { result ≤ length bytes.now }
@@ -76,7 +77,7 @@ pub fn hexadecimal_len(bytes: &[u8]) -> usize
     bytes.iter().take_while(|b| is_hexadecimal(**b)).count()
 }
 
-/// How many bytes of a comment stand at the beginning.
+/// The number of bytes of a comment at the beginning.
 pub fn comment_len(bytes: &[u8]) -> usize
     ensures value { result ≡ prefix_len is_in_comment bytes.now }
     ensures within { result ≤ length bytes.now }

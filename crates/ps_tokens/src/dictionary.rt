@@ -65,7 +65,7 @@ pub fn keys(alloc: Global, objects: &ObjectList, dict: u32) -> Result<Vec<u32>, 
     Ok(keys)
 }
 
-/// How many objects a list has that `objects` gave: at most as many as a job has bytes.
+/// The number of objects of a list that `objects` gave: at most as many as a job has bytes.
 pub fn count(objects: &ObjectList) -> u32
     requires { AreObjects objects.now }
     ensures value { result ≡ length objects.now }

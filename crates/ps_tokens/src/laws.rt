@@ -13,19 +13,19 @@ ghost use Rattle.ps_tokens.specs.Brackets.{brackets_after};
 ghost use Rattle.ps_tokens.specs.Objects.{objects_of};
 ghost use Rattle.ps_tokens.specs.Laws.{all_further_on, CanBeCompleted};
 
-/// Where the tokens stand changes nothing but their offsets.
+/// The place of tokens in a job changes only their offsets.
 pub fn place_moves_offsets_alone()
     ensures { (n at : ℕ) (bytes : List ℕ)
         → tokens_from (n + at) 0 bytes ≡ all_further_on n (tokens_from at 0 bytes) }
 {}
 
-/// A whitespace byte more before what is left changes nothing but the offsets after it.
+/// A whitespace byte inserted before some bytes changes only the offsets of the tokens after it.
 pub fn space_moves_offsets_alone()
     ensures { (at b : ℕ) (bytes : List ℕ) → is_whitespace b ≡ true
         → tokens_from at 0 (b ∷ bytes) ≡ all_further_on 1 (tokens_from at 0 bytes) }
 {}
 
-/// A comment more, with the line end after it, before what is left changes nothing but the offsets after it.
+/// A comment inserted before some bytes, with the line end after it, changes only the offsets of the tokens after it.
 pub fn comment_moves_offsets_alone()
     ensures { (at ending : ℕ) (text bytes : List ℕ) → list_all is_in_comment text ≡ true
         → is_in_comment ending ≡ false → is_whitespace ending ≡ true
@@ -39,7 +39,7 @@ pub fn faultless_is_completable()
         → brackets_after bytes tokens ≡ Ok brackets → CanBeCompleted bytes tokens }
 {}
 
-/// After a token with a fault no further tokens complete the list, and whatever they are, the fault is that one.
+/// After a token with a fault no further tokens complete the list, and its fault stays the same with all of them.
 pub fn faulty_is_never_completed()
     ensures { (bytes : List ℕ) (tokens more : List Token) (fault : JobFault)
         → brackets_after bytes tokens ≡ Err fault → objects_of bytes (tokens ++ more) ≡ Err fault }

@@ -1,13 +1,15 @@
-//! The job language's tokens and objects: what a job's bytes spell, and the first fault where they spell nothing.
+//! The job language's tokens and objects, and the first fault of a job's bytes. The notation is that of the PostScript
+//! Language Reference, third edition (PLRM3 in these comments), section 3.2, Syntax, in this project's profile:
+//! docs/JOBS.md says what of it is taken.
 #![tactic(auto)]
 
 pub mod brackets;
 mod bytes;
 pub mod dictionary;
+pub mod entry_errors;
 pub mod faults;
 mod judging;
 pub mod laws;
-pub mod misfits;
 pub mod names;
 mod numbers;
 pub mod object;

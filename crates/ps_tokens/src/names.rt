@@ -8,7 +8,7 @@ use lists::names::OutOfMemory;
 use std::alloc::Global;
 use std::collections::BTreeMap;
 
-/// The name of the literal at a place, empty where another object or none stands there.
+/// The name of the literal at a place, without its slash. It is empty where another object stands there, or none.
 pub fn name_at(objects: &[Object], place: usize) -> &[u8]
     ensures { result.now ≡ name_of (slice_get objects.now place) }
 {
@@ -21,8 +21,8 @@ pub fn name_at(objects: &[Object], place: usize) -> &[u8]
     }
 }
 
-/// The places of the last key of each name in the dictionary at a place, in ascending byte order of the names. The list
-/// is one that `objects` gave.
+/// For each name in the dictionary at a place, the place of its last key, in ascending byte order of the names. The
+/// list is one that `objects` gave.
 #[tactic(auto, unfolding(crate::specs::Dictionaries::last_keys_of))]
 pub fn last_keys(alloc: Global, objects: &ObjectList, dict: u32) -> Result<Vec<u32>, OutOfMemory>
     requires { AreObjects objects.now }

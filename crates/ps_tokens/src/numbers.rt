@@ -10,6 +10,7 @@ use crate::bytes::{digits_len, is_digit};
 use crate::faults::FaultKind;
 use crate::pieces::Piece;
 use crate::token::TokenKind;
+use page_model::bounds::SCALE;
 
 /// The greatest whole part of a number.
 pub const LARGEST_WHOLE: u32 = 1_000_000;
@@ -36,7 +37,7 @@ fn begins_like_number(run: &[u8]) -> bool
 }
 
 // A run without its sign.
-fn unsigned(run: &[u8]) -> &[u8]
+fn without_sign(run: &[u8]) -> &[u8]
     ensures { result.now ≡ unsigned run.now }
 {
     if begins_with(run, b'+') || begins_with(run, b'-') {
@@ -96,7 +97,7 @@ fn fraction_of(digits: &[u8]) -> u32
 }
 
 // A number with its sign.
-fn signed(negative: bool, magnitude: u64) -> i64
+fn with_sign(negative: bool, magnitude: u64) -> i64
     requires { magnitude < 2 ^ 40 }
     ensures { result ≡ signed negative magnitude }
 {
@@ -104,14 +105,15 @@ fn signed(negative: bool, magnitude: u64) -> i64
     if negative { -number } else { number }
 }
 
-/// What a run of regular bytes is: a number, a word, or neither.
+/// Reads a run of regular bytes as a number, a word, or neither (after PLRM3, section 3.2, in this project's profile:
+/// no exponent and no radix).
 #[tactic(auto, unfolding(crate::specs::Pieces::run_piece))]
 pub fn run_piece(run: &[u8]) -> Piece
     requires { 0 < length run.now }
     ensures value { result ≡ run_piece run.now }
     ensures within { IsWithin result (length run.now) }
 {
-    let body = unsigned(run);
+    let body = without_sign(run);
     let (whole, suffix) = body.split_at(digits_len(body));
     if is_unsigned_number(whole, suffix) {
         number_piece(run, whole, suffix)
@@ -139,7 +141,7 @@ fn number_piece(run: &[u8], whole: &[u8], suffix: &[u8]) -> Piece
         [_, digits @ ..] => fraction_of(digits),
         [] => 0,
     };
-    let magnitude = 10_000 * u64::from(value) + u64::from(fraction);
-    let number = signed(begins_with(run, b'-'), magnitude);
+    let magnitude = u64::from(SCALE) * u64::from(value) + u64::from(fraction);
+    let number = with_sign(begins_with(run, b'-'), magnitude);
     Piece::Spelled(TokenKind::Number(number), run.len())
 }

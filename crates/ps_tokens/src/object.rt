@@ -4,13 +4,13 @@ ghost use Rattle.ps_tokens.specs.Objects.{is_dict};
 use lists::list::List;
 use lists::names::Name;
 
-/// What an object is. A number is in ten-thousandths.
+/// The value of an object. A number is in ten-thousandths.
 #[derive(Drop)]
 pub enum Body {
     Number(i64),
     Truth(bool),
     Null,
-    /// A string, whose content nothing asks for.
+    /// A string. Its content is not kept.
     Text,
     /// The name after a `/`.
     Literal(Name),

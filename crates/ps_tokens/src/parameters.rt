@@ -1,6 +1,8 @@
 ghost use Rattle.std.specs.Prelude.{◌≡◌, ◌≤◌, length};
 ghost use Rattle.ps_tokens.specs.Parameters.{name_of, least_of, most_of};
 
+use page_model::bounds::SCALE;
+
 /// A parameter of the job language whose value can be of the wrong kind or out of its range.
 #[derive(Clone, Copy, Debug, Drop, PartialEq, Eq)]
 pub enum Key {
@@ -42,11 +44,11 @@ impl Key {
         match self {
             Key::TrapWidth => (1, 1_000_000),
             Key::BlackWidth => (1, 100_000),
-            Key::BlackColorLimit => (0, 10_000),
+            Key::BlackColorLimit => (0, SCALE),
             Key::BlackDensityLimit => (10, 100_000),
-            Key::StepLimit => (0, 10_000),
-            Key::SlidingTrapLimit => (0, 10_000),
-            Key::TrapColorScaling => (0, 10_000),
+            Key::StepLimit => (0, SCALE),
+            Key::SlidingTrapLimit => (0, SCALE),
+            Key::TrapColorScaling => (0, SCALE),
             Key::Enabled => (0, 0),
             Key::Trapping => (0, 0),
         }

@@ -8,12 +8,12 @@ use crate::numbers::{begins_with, run_piece};
 use crate::texts::text_len;
 use crate::token::TokenKind;
 
-/// What stands at a place among a job's bytes.
+/// What stands at a place among a job's bytes, with its length.
 #[derive(Clone, Copy, Debug, Drop, PartialEq, Eq)]
 pub enum Piece {
-    /// Whitespace or a comment of so many bytes.
+    /// Whitespace or a comment, with its length in bytes.
     Blank(usize),
-    /// A token of so many bytes.
+    /// A token, with its length in bytes.
     Spelled(TokenKind, usize),
     /// No token, for this reason.
     Broken(FaultKind),
@@ -86,7 +86,8 @@ fn mark_piece(first: u8, after: &[u8]) -> Piece
     }
 }
 
-/// What stands at the beginning of bytes that are not empty.
+/// The piece at the beginning of bytes that are not empty: a token, whitespace, a comment, or why there is none (after
+/// PLRM3, section 3.2, in this project's profile).
 #[tactic(auto, using(crate::proofs::Prefixes::prefixes), unfolding(crate::specs::Pieces::piece_at))]
 pub fn piece_at(bytes: &[u8]) -> Piece
     requires some { 0 < length bytes.now }

@@ -11,10 +11,11 @@ use crate::object::{Body, Object, ObjectList};
 use crate::token::{Token, TokenKind, TokenList};
 use crate::words::spelling;
 use lists::list::List;
-use lists::names::{OutOfMemory, copied};
+use lists::names::{OutOfMemory, copy_name};
 use std::alloc::Global;
 
-/// The objects that a job's tokens write out.
+/// Builds the objects of a job from its tokens: each array and dictionary with all that stands in it (after PLRM3,
+/// section 3.2, in this project's profile).
 ///
 /// The fault is at the first token that no further tokens could mend: `Unmatched`, `OddDictionary`, `KeyNotName`,
 /// `NameInside` and `TooDeep` at that token, in this order; `Unclosed` at the innermost bracket that is left open.
@@ -27,7 +28,7 @@ pub fn objects(alloc: Global, bytes: &[u8], tokens: &TokenList) -> Result<Object
 {
     let tokens = tokens.as_slice();
     match judge(bytes, tokens) {
-        Ok(()) => match written(alloc, bytes, tokens) {
+        Ok(()) => match objects_in(alloc, bytes, tokens) {
             Ok(objects) => Ok(List::from_vec(objects)),
             Err(OutOfMemory) => Err(JobRefusal::OutOfMemory),
         },
@@ -36,7 +37,7 @@ pub fn objects(alloc: Global, bytes: &[u8], tokens: &TokenList) -> Result<Object
 }
 
 // The objects that tokens begin. They are found from the last to the first.
-fn written(alloc: Global, bytes: &[u8], tokens: &[Token]) -> Result<Vec<Object>, OutOfMemory>
+fn objects_in(alloc: Global, bytes: &[u8], tokens: &[Token]) -> Result<Vec<Object>, OutOfMemory>
     requires { length tokens.now ≤ longest_job }
     ensures { IfOk result (λ objects. objects.items ≡ objects_in bytes.now tokens.now) }
 {
@@ -163,7 +164,7 @@ fn body_of(alloc: Global, kind: TokenKind, spelled: &[u8]) -> Result<Body, OutOf
         TokenKind::OpenArray => Ok(Body::Array),
         TokenKind::CloseDict => Ok(Body::Null),
         TokenKind::CloseArray => Ok(Body::Null),
-        TokenKind::Literal => match copied(alloc, after_slash(spelled)) {
+        TokenKind::Literal => match copy_name(alloc, after_slash(spelled)) {
             Ok(name) => Ok(Body::Literal(name)),
             Err(OutOfMemory) => Err(OutOfMemory),
         },
@@ -185,7 +186,7 @@ fn word_body(alloc: Global, word: &[u8]) -> Result<Body, OutOfMemory>
     } else if word == b"null".as_slice() {
         Ok(Body::Null)
     } else {
-        match copied(alloc, word) {
+        match copy_name(alloc, word) {
             Ok(name) => Ok(Body::Operator(name)),
             Err(OutOfMemory) => Err(OutOfMemory),
         }

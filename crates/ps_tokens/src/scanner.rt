@@ -8,14 +8,14 @@ use crate::token::{Token, TokenList};
 use lists::list::List;
 use std::alloc::Global;
 
-/// How many bytes a job may have.
+/// The greatest number of bytes of a job.
 pub const LONGEST_JOB: usize = 1_048_576;
 
-/// The tokens that a job's bytes spell, each the longest that stands at its place, with whitespace and comments
-/// between them (after PLRM3's token syntax, in this project's profile).
+/// Splits a job's bytes into tokens, each the longest that stands at its place, with whitespace and comments between
+/// them (after PLRM3, section 3.2, in this project's profile).
 ///
-/// The fault is the first from the left: `BadToken` at the first byte where no token stands, or `NumberTooLarge`.
-/// A job has at most `LONGEST_JOB` bytes.
+/// The fault is the first from the left: `BadToken` at the first byte where no token stands, or `NumberTooLarge`. A job
+/// has at most `LONGEST_JOB` bytes.
 pub fn tokens(alloc: Global, bytes: &[u8]) -> Result<TokenList, JobRefusal>
     requires { length bytes.now ≤ longest_job }
     ensures { Gives result (tokens_of bytes.now) }
@@ -35,7 +35,7 @@ pub fn tokens(alloc: Global, bytes: &[u8]) -> Result<TokenList, JobRefusal>
     Ok(List::from_vec(found))
 }
 
-// Adds the token that stands at the beginning of the rest, if it is one, and tells how many bytes were taken.
+// Adds the token that stands at the beginning of the rest, if it is one, and returns how many bytes were taken.
 fn take_piece(found: &mut Vec<Token>, rest: &[u8], at: u32) -> Result<usize, JobRefusal>
     requires some { 0 < length rest.now }
     requires size { at + length rest.now ≤ longest_job }

@@ -1,7 +1,9 @@
 ghost use Rattle.std.specs.Prelude.{◌≡◌, ◌≤◌, ◌<◌, ◌+◌, ◌^◌, length, IfSome, false};
 ghost use Rattle.ps_tokens.specs.Texts.{text_end};
 
-/// How many bytes a string has up to and with its closing parenthesis: `bytes` are those after the opening one.
+/// The length in bytes of a string in parentheses, both of them included, or `None` where it is not closed. `bytes`
+/// begins after the opening one. Parentheses within it are balanced, and `\` takes the next byte with it (after PLRM3,
+/// section 3.2, in this project's profile).
 pub fn text_len(bytes: &[u8]) -> Option<usize>
     requires { length bytes.now < 2 ^ 40 }
     ensures value { result ≡ text_end false 0 1 bytes.now }

@@ -1,6 +1,6 @@
 use lists::list::List;
 
-/// What a token is. A number is in ten-thousandths.
+/// A kind of token (after PLRM3, section 3.2, in this project's profile). A number is in ten-thousandths.
 #[derive(Clone, Copy, Debug, Drop, PartialEq, Eq)]
 pub enum TokenKind {
     /// `<<`

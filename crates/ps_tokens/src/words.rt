@@ -3,7 +3,7 @@ ghost use Rattle.ps_tokens.specs.Words.{spelling, is_value_word};
 
 use crate::token::Token;
 
-/// A token's bytes.
+/// The bytes of a token: `bytes` are the whole job's.
 pub fn spelling<'a>(bytes: &'a [u8], token: &Token) -> &'a [u8]
     ensures { result.now ≡ spelling bytes.now token.now }
 {

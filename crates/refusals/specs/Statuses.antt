@@ -25,7 +25,7 @@ page_refused = 4
 abbrev pub not_read : ℕ
 not_read = 5
 
--- a file could not be written, or a result could not be told
+-- a file could not be written, or a result could not be printed
 abbrev pub not_written : ℕ
 not_written = 6
 

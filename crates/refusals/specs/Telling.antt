@@ -6,15 +6,15 @@ use Rattle.outside.specs.Rack.{RackState, KeepsRack}
 use Rattle.refusals.specs.declared.refusal.Refusal.{Refusal}
 use Rattle.refusals.specs.Refusals.{line_of, status_of}
 
--- The text is told whole, and no call failed beyond that number of faults; or one further call
--- failed, none came after it, and a prefix of the text is told.
+-- The text is printed whole, and no call failed beyond that number of faults; or one further call
+-- failed, none came after it, and a prefix of the text is printed.
 abbrev pub IsTold : List ℕ → ℕ → RackState → RackState → Type 0
 IsTold text since before after = ((after.faults ≡ since)
     × (IsTrue before.tells → after.told ≡ before.told ++ text))
     ⊎ (RoseOnce since after.faults
     × (IsTrue before.tells → (count : ℕ) × (after.told ≡ before.told ++ take count text)))
 
--- The text is told and nothing else: whole, unless the rack has a fault, which is the last call.
+-- The text is printed and nothing else: whole, unless the rack has a fault, which is the last call.
 abbrev pub TellsText : List ℕ → RackState → RackState → Type 0
 TellsText text before after = IsTold text before.faults before after
 

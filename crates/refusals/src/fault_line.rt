@@ -1,6 +1,6 @@
 ghost use Rattle.std.specs.Prelude.{◌≡◌, ◌≤◌, ◌++◌, length, decimal};
 ghost use Rattle.refusals.specs.Lines.{line};
-ghost use Rattle.refusals.specs.Refusals.{line_of, numbered_line as numbered_line_of, job_line as job_text, plate_fault_line as plate_text, page_fault_line as page_text};
+ghost use Rattle.refusals.specs.Refusals.{line_of, numbered_line as numbered_line_of, job_line as job_spec, plate_fault_line as plate_spec, page_fault_line as page_spec};
 
 use crate::kind_names::{kind_name, named_key, plate_fault_name, plate_fault_place};
 use crate::line::Line;
@@ -9,15 +9,15 @@ use page_model::page::PageFault;
 use pgm_plates::plate::PlateFault;
 use ps_tokens::faults::JobFault;
 
-/// The line that a refusal tells, its LF included. It takes no memory, and has fewer than 160 bytes. The form is this
-/// project's own.
+/// The line that is printed for a refusal, its LF included: fewer than 160 bytes. It allocates nothing. The form is
+/// this project's own.
 pub fn fault_line(refusal: &Refusal) -> Line
     ensures { result ≡ line_of refusal.now }
 {
     short_line(refusal)
 }
 
-/// The line of a refusal at one page of many: the page's number, counted from 0, and the refusal's line.
+/// The line of a refusal of one page of many: the page's number, counted from 0, and the refusal's line.
 pub fn numbered_line(page: u32, refusal: &Refusal) -> Line
     ensures { result ≡ numbered_line_of page refusal.now }
 {
@@ -29,7 +29,7 @@ pub fn numbered_line(page: u32, refusal: &Refusal) -> Line
     told
 }
 
-// The line of a refusal, which leaves room for a page's number before it.
+// The line of a refusal, short enough for a page's number before it.
 fn short_line(refusal: &Refusal) -> Line
     ensures value { result ≡ line_of refusal.now }
     ensures short { length result ≤ 113 }
@@ -51,7 +51,7 @@ fn short_line(refusal: &Refusal) -> Line
 }
 
 fn job_line(fault: &JobFault) -> Line
-    ensures value { result ≡ job_text fault.now }
+    ensures value { result ≡ job_spec fault.now }
     ensures short { length result ≤ 113 }
 {
     let mut told = Line::new();
@@ -65,7 +65,7 @@ fn job_line(fault: &JobFault) -> Line
 }
 
 fn plate_fault_line(plate: u32, fault: &PlateFault) -> Line
-    ensures value { result ≡ plate_text plate fault.now }
+    ensures value { result ≡ plate_spec plate fault.now }
     ensures short { length result ≤ 113 }
 {
     let mut told = Line::new();
@@ -80,7 +80,7 @@ fn plate_fault_line(plate: u32, fault: &PlateFault) -> Line
 }
 
 fn page_fault_line(fault: &PageFault) -> Line
-    ensures value { result ≡ page_text fault.now }
+    ensures value { result ≡ page_spec fault.now }
     ensures short { length result ≤ 113 }
 {
     match fault {

@@ -1,12 +1,12 @@
 ghost use Rattle.std.specs.Prelude.{◌≡◌, ◌≤◌, length};
-ghost use Rattle.refusals.specs.Refusals.{kind_name as kind_text, named_key as named_text, plate_fault_name as plate_text, plate_fault_place as place_of};
+ghost use Rattle.refusals.specs.Refusals.{kind_name as kind_spec, named_key as named_spec, plate_fault_name as plate_spec, plate_fault_place as place_of};
 
 use pgm_plates::plate::PlateFault;
 use ps_tokens::faults::FaultKind;
 
-/// The name of a kind of fault. Where a parameter is named too, a space stands after it.
+/// The name of a kind of fault, with a space after it if a parameter's name follows.
 pub(crate) fn kind_name(kind: FaultKind) -> &'static [u8]
-    ensures name { result.now ≡ kind_text kind }
+    ensures name { result.now ≡ kind_spec kind }
     ensures short { length result.now ≤ 20 }
 {
     match kind {
@@ -39,9 +39,9 @@ pub(crate) fn kind_name(kind: FaultKind) -> &'static [u8]
     }
 }
 
-/// The parameter that a fault names, or nothing.
+/// The name of the parameter that a fault is about, empty if there is none.
 pub(crate) fn named_key(kind: FaultKind) -> &'static [u8]
-    ensures name { result.now ≡ named_text kind }
+    ensures name { result.now ≡ named_spec kind }
     ensures short { length result.now ≤ 20 }
 {
     match kind {
@@ -51,7 +51,7 @@ pub(crate) fn named_key(kind: FaultKind) -> &'static [u8]
 }
 
 pub(crate) fn plate_fault_name(fault: PlateFault) -> &'static [u8]
-    ensures name { result.now ≡ plate_text fault }
+    ensures name { result.now ≡ plate_spec fault }
     ensures short { length result.now ≤ 20 }
 {
     match fault {
@@ -66,7 +66,7 @@ pub(crate) fn plate_fault_name(fault: PlateFault) -> &'static [u8]
     }
 }
 
-/// The place that a plate's fault names.
+/// The offset that a plate's fault has.
 pub(crate) fn plate_fault_place(fault: PlateFault) -> u64
     ensures { result ≡ place_of fault }
 {

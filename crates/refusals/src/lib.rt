@@ -1,4 +1,4 @@
-//! Why a command did not do its work: each refusal, its status, its line, and how lines are told to a rack.
+//! Why a command did not do its work: each refusal, its status, its line, and how lines are printed.
 #![tactic(auto)]
 
 pub mod fault_line;

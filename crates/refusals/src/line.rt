@@ -4,7 +4,7 @@ ghost use Rattle.refusals.specs.Lines.{line as line_of};
 use itoa::Buffer;
 use std::marker::Model;
 
-/// A line of at most 160 bytes, held without memory. Contracts see it as its bytes.
+/// A line of at most 160 bytes, in a buffer of fixed size. Contracts see it as its bytes.
 #[derive(Drop)]
 pub struct Line {
     bytes: [u8; 160],
@@ -51,7 +51,7 @@ impl Line {
         line
     }
 
-    /// The line of this text and a number in decimal after it.
+    /// The line of this text with a number in decimal after it.
     pub fn of_number(text: &[u8], number: u32) -> Line
         requires { length text.now ≤ 50 }
         ensures value { result ≡ line_of (text.now ++ decimal number) }
@@ -64,7 +64,7 @@ impl Line {
         line
     }
 
-    /// Adds bytes at the end. The condition is that they fit.
+    /// Adds bytes at the end. The caller shows that they fit.
     pub fn push(&mut self, bytes: &[u8])
         requires { length self.old + length bytes.now ≤ 160 }
         ensures { self.new ≡ self.old ++ bytes.now }
@@ -73,7 +73,7 @@ impl Line {
         self.len += bytes.len();
     }
 
-    /// Adds a number in decimal at the end, which takes twenty bytes at most.
+    /// Adds a number in decimal at the end, of at most twenty digits.
     pub fn push_number(&mut self, number: u64)
         requires { length self.old ≤ 100 }
         ensures added { self.new ≡ self.old ++ decimal number }

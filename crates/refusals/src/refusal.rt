@@ -9,25 +9,25 @@ use ps_tokens::faults::JobFault;
 /// Why a command did not do its work. Plates are numbered from 0 in the order of the words.
 #[derive(Clone, Copy, Debug, Drop, PartialEq, Eq)]
 pub enum Refusal {
-    /// The words are no command.
+    /// The words are no command of the program.
     Usage,
     /// The job has a fault.
     Job(JobFault),
-    /// Some zone is enabled, and this plate's colorant has no details in the job.
+    /// Some zone is enabled, and the job has no details of this plate's colorant.
     NoDetails(u32),
     /// This plate's file has a fault.
     Plate(u32, PlateFault),
-    /// The plates are no page.
+    /// The plates do not make a page.
     Page(PageFault),
-    /// This plate could not be read, or where none is named the job.
+    /// This plate could not be read; with `None`, the job.
     Read(Option<u32>),
-    /// This plate could not be written, or where none is named the report.
+    /// This plate could not be written; with `None`, the report.
     Write(Option<u32>),
-    /// There was no memory.
+    /// Out of memory.
     Memory,
 }
 
-/// The status that the program ends with after a refusal: one of `crate::statuses`.
+/// The status that a program exits with after a refusal, one of `crate::statuses`.
 pub fn status(refusal: &Refusal) -> u8
     ensures { result ≡ status_of refusal.now }
 {

@@ -1,4 +1,4 @@
-//! Lines that are told to a rack.
+//! Lines that are printed on a rack.
 
 ghost use Rattle.refusals.specs.Telling.{KeepsFiles, Refuses, TellsText};
 
@@ -7,7 +7,7 @@ use crate::line::Line;
 use crate::refusal::{Refusal, status};
 use outside::rack::Rack;
 
-/// Tells a line, or a prefix of it where the rack has a fault, which changes nothing else.
+/// Prints a line, or a prefix of it where the rack fails; a failure is ignored.
 pub fn tell_line<R: Rack>(rack: &mut R, line: &Line)
     ensures files { KeepsFiles (R.state rack.old) (R.state rack.new) }
     ensures text { TellsText line.now (R.state rack.old) (R.state rack.new) }
@@ -15,7 +15,7 @@ pub fn tell_line<R: Rack>(rack: &mut R, line: &Line)
     let _told = rack.tell(line.as_slice());
 }
 
-/// Tells the line of a refusal, and gives its status, which stays where the line cannot be told.
+/// Prints the line of a refusal and returns its status, whether or not the line could be printed.
 pub fn refuse<R: Rack>(rack: &mut R, refusal: &Refusal) -> u8
     ensures { Refuses refusal.now (R.state rack.old) (R.state rack.new) result }
 {

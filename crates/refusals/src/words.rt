@@ -1,4 +1,4 @@
-//! The words of a program.
+//! A program's words: its arguments.
 
 ghost use Rattle.std.specs.Prelude.{◌≡◌, ◌≢◌, ◌⊎◌, IfErr, IfOk, drop};
 ghost use Rattle.std.specs.Vec.Iter.{into_iter_items};
@@ -10,8 +10,7 @@ use std::env;
 use std::env::Args;
 use std::io::ErrorKind;
 
-/// The words after the program's name, or the status that says why they cannot be had: one of them is not UTF-8, or there was no
-/// memory for them.
+/// The words after the program's name, or the status to exit with: one of them is not UTF-8, or memory ran out.
 pub fn words(rt: &HostRuntime) -> Result<Vec<String>, u8>
     ensures { IfErr result (λ status. (status ≡ not_text) ⊎ (status ≡ out_of_memory)) }
 {
@@ -21,7 +20,7 @@ pub fn words(rt: &HostRuntime) -> Result<Vec<String>, u8>
     }
 }
 
-/// All of a program's arguments but the first, its name; or the status of a program without memory for them.
+/// All arguments of a program but the first, its name; or the status for out of memory.
 pub fn words_of(alloc: Global, args: Args) -> Result<Vec<String>, u8>
     ensures words { IfOk result (λ words. words.items ≡ drop 1 (into_iter_items args)) }
     ensures memory { IfErr result (λ status. status ≡ out_of_memory) }
@@ -31,7 +30,7 @@ pub fn words_of(alloc: Global, args: Args) -> Result<Vec<String>, u8>
     collect_words(alloc, args).map_err(|_| OUT_OF_MEMORY)
 }
 
-/// The status of a program whose words cannot be had, for this reason of the system.
+/// The status to exit with where the system could not give the words, for this reason.
 pub fn status_without(kind: ErrorKind) -> u8
     ensures text { kind ≡ ErrorKind.InvalidData → result ≡ not_text }
     ensures memory { kind ≢ ErrorKind.InvalidData → result ≡ out_of_memory }

@@ -1,4 +1,4 @@
-//! The report of a sheet, written line by line into its file, with no memory taken.
+//! The report of a sheet, written line by line to its file. Nothing is allocated.
 #![tactic(auto)]
 
 mod lines;

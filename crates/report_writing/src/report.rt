@@ -13,8 +13,8 @@ use outside::tray::Failed;
 use outside::writing::write_on;
 use page_model::parts::{Counts, PageParts};
 
-/// Writes the report of a sheet with these counts into the file of that name. No tint of the sheet is looked at, and no
-/// memory is taken.
+/// Writes the report of a sheet with these counts to the file of that name. It reads no tint of the sheet, and
+/// allocates nothing.
 ///
 /// Where a call of the rack fails, a prefix of the report stands under the name, or, where the file could not be created,
 /// everything is as it was.

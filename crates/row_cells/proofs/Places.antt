@@ -8,7 +8,7 @@ use Rattle.page_model.proofs.BandLemmas.{band_begins, band-less, phase_of_piece,
 use Rattle.row_cells.specs.Layouts.{Layout, IsLayout}
 use Rattle.row_cells.specs.Most.{most_cells, most_before}
 use Rattle.row_cells.specs.Places.{HasCell, piece_count, per_row, lanes_of, cells_in, value_total, cell_total, first_cell_of, cells_of, piece_of_cell}
-use Rattle.row_cells.proofs.Sums.{sum_next, sum_at_most, run_of, run_of-is}
+use Rattle.row_cells.proofs.Sums.{sum_next, run_of, run_of-is}
 
 pub per_row_few : (plates width : ℕ) → plates ≤ 16 → width ≤ 16384 → plates * width ≤ 262144
 per_row_few plates width p w = let t = mul-le plates width 16 16384 p w in omega (arith, t)
@@ -112,14 +112,6 @@ most_next (suc (suc zero)) l = omega arith
 most_next (suc (suc (suc zero))) l = omega arith
 most_next (suc (suc (suc (suc phase)))) l = absurd (omega (arith, l))
 
-pub most_at_most : (phase : ℕ) → phase ≤ 4 → most_before phase ≤ 1701666688
-most_at_most zero l = omega arith
-most_at_most (suc zero) l = omega arith
-most_at_most (suc (suc zero)) l = omega arith
-most_at_most (suc (suc (suc zero))) l = omega arith
-most_at_most (suc (suc (suc (suc zero)))) l = omega arith
-most_at_most (suc (suc (suc (suc (suc phase))))) l = absurd (omega (arith, l))
-
 pub phases_fit : (layout : Layout) (phase : ℕ) → IsLayout layout → phase ≤ 4 → first_cell_of layout (phase * layout.bands.count) ≤ most_before phase
 phases_fit layout zero is few = let e = ap (first_cell_of layout) (let t : 0 * layout.bands.count ≡ 0 = omega arith in t) in omega (arith, e)
 phases_fit layout (suc phase) is few =
@@ -156,8 +148,3 @@ some_cells layout i is =
     let t : 1 * 1 ≤ value_total layout i = mul-le 1 1 (rows_in layout.bands (band_of layout.bands i)) (per_row layout (phase_of layout.bands i)) rows (some_row layout (phase_of layout.bands i) is) in
     let l = some_lanes (phase_of layout.bands i) in
     le-div 1 (value_total layout i + lanes_of (phase_of layout.bands i) - 1) (lanes_of (phase_of layout.bands i)) l (omega (arith, t, l))
-
-pub some_cell : (layout : Layout) → IsLayout layout → 1 ≤ cells_of layout
-some_cell layout is =
-    let some = is.bands.some_bands in let most = sum_at_most (cell_total layout) 1 (piece_count layout) (omega (arith, some)) in
-    let first = some_cells layout 0 is in omega (arith, most, first)

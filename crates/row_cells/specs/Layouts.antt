@@ -2,8 +2,9 @@
 use Rattle.std.specs.Prelude.{ℕ, ◌≤◌}
 use Rattle.page_model.specs.declared.bands.Bands.{Bands}
 use Rattle.page_model.specs.Bands.{AreBands}
+use Rattle.page_model.specs.Limits.{most_plates, most_side}
 
--- for pages of that width and so many plates, in these bands
+-- for pages of that width and number of plates, in these bands
 pub record Layout : Type 0 where
   pub bands : Bands
   pub width : ℕ
@@ -13,6 +14,6 @@ pub record Layout : Type 0 where
 pub record IsLayout (layout : Layout) : Type 0 where
   pub bands : AreBands layout.bands
   pub some_width : 1 ≤ layout.width
-  pub narrow : layout.width ≤ 16384
+  pub narrow : layout.width ≤ most_side
   pub some_plates : 1 ≤ layout.plates
-  pub few_plates : layout.plates ≤ 16
+  pub few_plates : layout.plates ≤ most_plates

@@ -22,7 +22,7 @@ bits_of phase = if phase == 0 then 8 else if phase == 1 then 2 else if phase == 
 abbrev pub lanes_of : ℕ → ℕ
 lanes_of phase = lanes (bits_of phase)
 
--- how many cells the values of so many rows of a phase take
+-- how many cells the values of `rows` rows of a phase take
 abbrev pub cells_in : Layout → ℕ → ℕ → ℕ
 cells_in layout phase rows = ceiling (rows * per_row layout phase) (lanes_of phase)
 

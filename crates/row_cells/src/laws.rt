@@ -5,19 +5,19 @@ ghost use Rattle.row_cells.specs.Layouts.{Layout, IsLayout};
 ghost use Rattle.row_cells.specs.Packing.{packed, lane};
 ghost use Rattle.row_cells.specs.Places.{HasCell, piece_count, piece_of_cell, cells_of, first_cell_of, cell_total};
 
-/// Each packed value stands in its lane.
+/// Unpacking gives back each value that was packed.
 pub fn unpack_gives_back_law()
     ensures { (bits : ℕ) (vs : List ℕ) (j : ℕ) → All (λ v. v < 2 ^ bits) vs → j < length vs
         → lane bits (packed bits vs) j ≡ slice_index vs j }
 {}
 
-/// The cells of the pieces stand one after the other, without gap.
+/// The cells of the pieces follow one another without a gap.
 pub fn one_after_the_other_law()
     ensures { (layout : Layout) (i : ℕ)
         → first_cell_of layout (i + 1) ≡ first_cell_of layout i + cell_total layout i }
 {}
 
-/// Each cell is one of one piece, and of no other.
+/// Each cell belongs to exactly one piece.
 pub fn one_piece_each_law()
     ensures owner { (layout : Layout) (j : ℕ) → j < cells_of layout
         → (piece_of_cell layout j < piece_count layout)
@@ -26,7 +26,7 @@ pub fn one_piece_each_law()
         → piece_of_cell layout j ≡ i }
 {}
 
-/// All cells together fit 31 bits.
+/// The number of all cells is below 2^31.
 pub fn cells_fit_law()
     ensures { (layout : Layout) → IsLayout layout → cells_of layout < 2 ^ 31 }
 {}

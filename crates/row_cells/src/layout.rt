@@ -4,12 +4,13 @@ ghost use Rattle.row_cells.specs.Layouts.{IsLayout};
 ghost use Rattle.row_cells.specs.Most.{most_cells, most_before};
 ghost use Rattle.row_cells.specs.Packing.{IsBits};
 ghost use Rattle.row_cells.specs.Places.{piece_count, per_row, bits_of, lanes_of, cells_in, value_total, cell_total, first_cell_of, cells_of};
+ghost use Rattle.page_model.specs.Limits.{most_band_height, most_plates, most_side};
 
 use page_model::bands::Bands;
 use std::marker::Model;
 
-/// Where the cells of each piece of work stand, for pages of a width and so many plates, in bands. Cells are numbered
-/// from 0, those of piece 0 first.
+/// Where the cells of each piece are in the table, for pages of a width and number of plates, in bands. Cells are
+/// numbered from 0, those of piece 0 first.
 #[derive(Clone, Copy, Drop)]
 pub struct Layout {
     bands: Bands,
@@ -30,7 +31,7 @@ impl Model for Layout {
     ghost inverse = { λ a. record { bands = a.bands; width = a.width; plates = a.plates } };
 }
 
-/// The bits of a value of each phase: 8 for zones, 2 for marks, 10 for column answers, 16 for tints.
+/// The number of bits of a value of each phase: 8 for zones, 2 for marks, 10 for column answers, 16 for tints.
 pub fn bits(phase: u32) -> u32
     ensures value { result ≡ bits_of phase }
     ensures bits { IsBits result }
@@ -43,7 +44,7 @@ pub fn bits(phase: u32) -> u32
     }
 }
 
-/// How many values a cell of each phase takes.
+/// The number of values of a cell of each phase.
 pub fn lanes(phase: u32) -> u32
     ensures value { result ≡ lanes_of phase }
     ensures some { 1 ≤ result }
@@ -58,13 +59,13 @@ pub fn lanes(phase: u32) -> u32
 }
 
 impl Layout {
-    /// The layout for pages of that width and so many plates, in these bands.
+    /// The layout for pages with `width` columns and `plates` plates, in these bands.
     pub fn new(width: u32, plates: u32, bands: &Bands) -> Layout
         requires bands { AreBands bands.now }
         requires some_width { 1 ≤ width }
-        requires narrow { width ≤ 16384 }
+        requires narrow { width ≤ most_side }
         requires some_plates { 1 ≤ plates }
-        requires few_plates { plates ≤ 16 }
+        requires few_plates { plates ≤ most_plates }
         ensures value { result ≡ record { bands = bands.now; width = width; plates = plates } }
         ensures valid { IsLayout result }
     {
@@ -83,8 +84,8 @@ impl Layout {
         &self.bands
     }
 
-    /// How many values a row of a phase has: a zone or two marks for each sample, an answer for each doubled column,
-    /// a tint for each plate and sample.
+    /// The number of values of a row of a phase: a zone or a mark for each sample, an answer for each doubled column, a
+    /// tint for each plate and sample.
     #[tactic(auto, using(crate::proofs::Places::per_row_few))]
     pub fn row_values(&self, phase: u32) -> u32
         ensures value { result ≡ per_row self.now phase }
@@ -97,7 +98,7 @@ impl Layout {
         }
     }
 
-    /// How many values a piece has.
+    /// The number of values of a piece.
     #[tactic(auto, using(crate::proofs::Places::rows_fit))]
     pub fn values(&self, piece: u32) -> u32
         requires piece { piece < piece_count self.now }
@@ -107,7 +108,7 @@ impl Layout {
         self.bands.rows_of(piece % self.bands.count) * row
     }
 
-    /// How many cells a piece has.
+    /// The number of cells of a piece.
     #[tactic(auto, using(crate::proofs::Places::some_cells), unfolding(crate::specs::Places::cell_total))]
     pub fn cell_count(&self, piece: u32) -> u32
         requires piece { piece < piece_count self.now }
@@ -129,7 +130,7 @@ impl Layout {
         self.before_phase(phase) + self.before_band(phase, band)
     }
 
-    /// How many cells there are.
+    /// The number of all cells.
     pub fn cells(&self) -> u32
         ensures value { result ≡ cells_of self.now }
         ensures bound { result < 2 ^ 31 }
@@ -137,17 +138,17 @@ impl Layout {
         self.before_phase(4)
     }
 
-    // The cells of so many rows.
+    // The number of cells of some rows.
     #[tactic(auto, using(crate::proofs::Places::rows_fit))]
     fn cells_of_rows(&self, phase: u32, rows: u32) -> u32
-        requires rows { rows ≤ 4096 }
+        requires rows { rows ≤ most_band_height }
         ensures { result ≡ cells_in self.now phase rows }
     {
         let lanes = lanes(phase);
         (rows * self.row_values(phase) + lanes - 1) / lanes
     }
 
-    // The cells of a phase's bands before one: these are whole.
+    // The number of cells of a phase in the bands before one: these bands have all their rows.
     #[tactic(auto, using(crate::proofs::Places::before_fits))]
     fn before_band(&self, phase: u32, band: u32) -> u32
         requires phase { phase < 4 }
@@ -158,7 +159,7 @@ impl Layout {
         band * self.cells_of_rows(phase, self.bands.height)
     }
 
-    // The cells of a phase.
+    // The number of cells of a phase.
     #[tactic(auto, using(crate::proofs::Places::all_fit, crate::proofs::Places::next_phase))]
     fn cells_of_phase(&self, phase: u32) -> u32
         requires phase { phase < 4 }
@@ -170,7 +171,7 @@ impl Layout {
         self.before_band(phase, last) + self.cells_of_rows(phase, self.bands.rows_of(last))
     }
 
-    // The cells of the phases before one.
+    // The number of cells of the phases before one.
     fn before_phase(&self, phase: u32) -> u32
         requires phase { phase ≤ 4 }
         ensures value { result ≡ first_cell_of self.now (phase * self.now.bands.count) }

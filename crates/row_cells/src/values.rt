@@ -1,32 +1,32 @@
-// What the values of cells are kept in.
+// The types of the values in cells.
 ghost use Rattle.std.specs.Prelude.{◌≡◌, ℕ, ◌<◌, ◌^◌, List, length, map, replicate};
 ghost use Rattle.std.proofs.lemmas.List.{map-id};
 
-/// A value of a cell, as memory holds it: a byte for zones and marks, 16 bits for column answers and tints.
+/// The type of a cell's values in memory: a byte for zones and marks, 16 bits for column answers and tints.
 pub trait CellValue: Copy + Drop {
-    /// How many bits it has.
+    /// The number of its bits.
     ghost width: { ℕ };
 
     /// The number that a value is.
     ghost number: { Self → ℕ };
 
-    /// The numbers that values are, in their order.
+    /// The numbers of several values, in order.
     ghost numbers: { List Self → List ℕ };
 
     /// The value as a number.
     fn to_u64(self) -> u64
         ensures { result ≡ number self };
 
-    /// The value that is this number.
+    /// The value of a number.
     fn from_u64(value: u64) -> Self
         requires { value < 2 ^ width }
         ensures { number result ≡ value };
 
-    /// Makes all of them 0.
+    /// Sets all values to 0.
     fn clear(values: &mut [Self])
         ensures { numbers values.new ≡ replicate (length values.old) 0 };
 
-    /// Each value's number stands in its place.
+    /// Number k of several values is the number of value k.
     ghost each: { (xs : List Self) → map number xs ≡ numbers xs };
 }
 

@@ -1,11 +1,12 @@
-// The hull of a row's arms: those that are nearest somewhere, with the doubled coordinates at which they begin to be.
+// The hull of a row's arms: the lower envelope of their parabolas, as the list of the arms that are nearest somewhere,
+// each with the doubled coordinate at which it begins to be.
 
 ghost use Rattle.std.specs.Prelude.{◌≡◌, ◌≤◌, ◌<◌, ◌+◌, ◌*◌, ◌-◌, length, vec_len, IfOk};
 ghost use Rattle.row_envelope.specs.Envelope.{Rising};
 ghost use Rattle.row_envelope.specs.Hull.{IsStop, IsHull, IsSettled};
 ghost use Rattle.page_model.specs.Limits.{most_column, most_side};
 
-use lists::memory::filled;
+use lists::memory::vec_of;
 use page_model::arms::Arm;
 use page_model::parts::OutOfMemory;
 use page_model::steps::Steps;
@@ -13,8 +14,8 @@ use std::alloc::Global;
 use std::marker::Model;
 use std::sync::ledger::Ledger;
 
-/// Room for the arms that are nearest somewhere in a row. Contracts see the doubled columns of the rows that it was made for,
-/// and how much memory it has.
+/// Buffers for the hull of a row. Contracts see the number of doubled columns of the rows that it was made for, and its
+/// capacity.
 #[derive(Drop)]
 pub struct HullBuf {
     pub(crate) places: Vec<u32>,
@@ -37,7 +38,7 @@ impl Model for HullBuf {
 }
 
 impl HullBuf {
-    /// Room for a row of this width, which contracts see as its number of doubled columns.
+    /// Allocates the buffers for rows of `width` samples, which have `2 * width - 1` doubled columns.
     pub fn new(alloc: Global, width: u32) -> Result<HullBuf, OutOfMemory>
         requires some { 1 ≤ width }
         requires narrow { width ≤ most_side }
@@ -45,13 +46,14 @@ impl HullBuf {
     {
         let columns = 2 * width as usize - 1;
         Ok(HullBuf {
-            places: filled(alloc, 0u32, columns)?,
-            starts: filled(alloc, 0u32, columns)?,
+            places: vec_of(alloc, 0u32, columns)?,
+            starts: vec_of(alloc, 0u32, columns)?,
         })
     }
 }
 
-/// The number of doubled coordinates up to `last` at which the left arm is as near as the right one.
+/// The doubled coordinate, up to `last`, from which on the right arm is nearer than the left one: the number of
+/// coordinates at which the left arm is at least as near.
 fn stop<L: Ledger>(left: &Arm, right: &Arm, last: u32, steps: &mut Steps<L>) -> u32
     requires order { left.now.column < right.now.column }
     requires last { last ≤ most_column }
@@ -61,14 +63,14 @@ fn stop<L: Ledger>(left: &Arm, right: &Arm, last: u32, steps: &mut Steps<L>) -> 
     (left.until(right, last, steps) + 1) as u32
 }
 
-/// What is left of a hull where a new arm joins it, and where the new arm begins.
+/// What is left of a hull when a new arm joins it, and where the new arm begins.
 #[derive(Clone, Copy, Drop)]
 struct Joint {
     left: usize,
     from: u32,
 }
 
-/// Drops the entries of the hull that arm i hides.
+/// Drops the arms at the hull's end that arm i hides.
 fn settle<L: Ledger>(
     arms: &[Arm],
     i: usize,
@@ -100,8 +102,8 @@ fn settle<L: Ledger>(
     Joint { left, from: 0 }
 }
 
-/// The hull of all arms, and how many entries it has.
-pub(crate) fn raised<L: Ledger>(
+/// Builds the hull of all arms, and returns the number of its entries.
+pub(crate) fn build_hull<L: Ledger>(
     arms: &[Arm],
     last: u32,
     places: &mut [u32],

@@ -3,12 +3,12 @@ ghost use Rattle.row_envelope.specs.Envelope.{Rising, arm_at, nearest};
 ghost use Rattle.row_envelope.specs.Hull.{IsHull};
 ghost use Rattle.page_model.specs.Limits.{most_side};
 
-use crate::hull::{HullBuf, raised};
+use crate::hull::{HullBuf, build_hull};
 use page_model::arms::Arm;
 use page_model::steps::Steps;
 use std::sync::ledger::Ledger;
 
-/// Gives the samples from x on and before `end` the arm at a place.
+/// Writes the place of an arm to `out[x..end]`.
 fn give(out: &mut [Option<u32>], x: usize, end: usize, place: u32)
     requires order { x ≤ end }
     requires inside { end ≤ length out.old }
@@ -22,7 +22,7 @@ fn give(out: &mut [Option<u32>], x: usize, end: usize, place: u32)
     }
 }
 
-/// Where the samples of the hull's entry k end, of which x is one.
+/// The end of the samples that entry k of the hull has; x is one of them.
 fn end_of(starts: &[u32], held: usize, k: usize, x: usize, width: usize) -> usize
     requires starts { held ≤ length starts.now }
     requires k { k < held }
@@ -39,7 +39,7 @@ fn end_of(starts: &[u32], held: usize, k: usize, x: usize, width: usize) -> usiz
     }
 }
 
-/// Gives each sample the hull's entry that has it, entry by entry.
+/// Writes for each sample the place of its nearest arm, entry by entry of the hull.
 fn spread(
     places: &[u32],
     starts: &[u32],
@@ -70,7 +70,7 @@ fn spread(
     }
 }
 
-/// No sample has a nearest arm.
+/// Writes that no sample has a nearest arm.
 fn clear(out: &mut [Option<u32>])
     ensures { (x : ℕ) → x < length out.old → slice_index_or out.new x None ≡ None }
 {
@@ -79,9 +79,9 @@ fn clear(out: &mut [Option<u32>])
     }
 }
 
-/// Writes for each sample of a row the place in `arms` of the arm with the least `((X - 2x)^2 + offset^2, X)`: the left
-/// one where two are as near, and none exactly where there are no arms. The arms stand in ascending order of X. It
-/// compares two arms at most four times for each doubled column.
+/// Writes for each sample x of a row the index in `arms` of the nearest arm, the one with the least `((X - 2x)^2 +
+/// offset^2, X)`: the left one where two are as near, and `None` exactly where there are no arms. The arms are in
+/// ascending order of X. It compares two arms at most four times for each doubled column.
 pub fn nearest_row<L: Ledger>(
     arms: &[Arm],
     width: u32,
@@ -106,6 +106,6 @@ pub fn nearest_row<L: Ledger>(
     }
     let places = hull.places.as_mut_slice();
     let starts = hull.starts.as_mut_slice();
-    let held = raised(arms, 2 * width - 2, places, starts, steps);
+    let held = build_hull(arms, 2 * width - 2, places, starts, steps);
     spread(places, starts, held, out, arms, 2 * width - 2);
 }

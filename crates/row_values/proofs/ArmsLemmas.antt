@@ -17,14 +17,6 @@ use Rattle.lists.proofs.FirstLeast.{Answers, first_least-is, first_least-from, f
 use Rattle.page_model.proofs.ColumnDecider.{column_edge-is, passes, rank}
 use Rattle.row_values.specs.Arms.{arm_of, coded_edge, AreAnswers, StandsAt, AreArms, edge_at_place}
 
-pub added_none : (codes : List ℕ) (n : ℕ) (arms : List ArmModel) (columns : List ℕ) (count : ℕ) → slice_index codes n ≡ 0 → AreArms codes n arms columns count → AreArms codes (n + 1) arms columns count
-added_none codes n arms columns count none h = record {
-  few = omega (arith, h.few);
-  each = λ k l. (let e = h.each k l in record { column = omega (arith, e.column); some = e.some; arm = e.arm });
-  rising = h.rising;
-  all = λ x2 l some. elim (cases_eq x2 n) [ inl e ↦ absurd (omega (arith, rw e at some, none)) | inr ne ↦ h.all x2 (omega (arith, ne)) some ];
-}
-
 -- columns side by side without a code
 pub added_blank : (codes : List ℕ) (n count : ℕ) (arms : List ArmModel) (columns : List ℕ) (raised : ℕ) → ((k : ℕ) → n ≤ k → k < n + count → slice_index codes k ≡ 0) → AreArms codes n arms columns raised → AreArms codes (n + count) arms columns raised
 added_blank codes n count arms columns raised none h = record {

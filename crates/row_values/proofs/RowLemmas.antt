@@ -1,5 +1,5 @@
 -- Rows that are written one after another, and what stands in a row that was written.
-use Rattle.std.proofs.Common.{◌≡◌, ℕ, ◌+◌, ◌*◌, ◌-◌, ◌/◌, ◌%◌, ◌<◌, ◌≤◌, inl, inr, sym, ◌∙◌, ap, arith, List, length, slice_index, slice_set}
+use Rattle.std.proofs.Common.{◌≡◌, ℕ, ◌+◌, ◌*◌, ◌/◌, ◌%◌, ◌<◌, ◌≤◌, inl, inr, sym, ◌∙◌, ap, arith, List, length, slice_index, slice_set}
 use Rattle.std.proofs.Math.Nat.{div-lt_iff_lt-mul}
 use Rattle.std.proofs.lemmas.Bool.{cases_eq, cases_lt}
 use Rattle.std.proofs.lemmas.List.{get_or-set_same, get_or-set_other, length-set}
@@ -25,37 +25,12 @@ rows_more w k value old later kept here before j o lj lo = elim (cases_eq j k) [
   | inr ne ↦ (let less : j < k = omega (arith, lj, ne) in kept (j * w + o) (omega (arith, mul-add-lt j w o k less lo)) ∙ before j o less lo)
 ]
 
--- a row ends where so many rows do
-pub row_inside : (k n w : ℕ) → k < n → (k + 1) * w ≤ n * w
-row_inside k n w l = (let d = n - (k + 1) in let e : n ≡ k + 1 + d = omega (arith, l) in plain (k + 1) d w n e) where
-  plain : (a d w n : ℕ) → n ≡ a + d → a * w ≤ n * w
-  plain a d w n e = rw e (omega arith)
-
 -- two places of rows are the same only in the same row
 apart_places : (w c j x z : ℕ) → x < w → z < w → c * w + x ≡ j * w + z → (c ≡ j) × (x ≡ z)
 apart_places w c j x z lx lz e = (
   sym (div-mul-add c w x lx) ∙ ap (λ (n : ℕ). n / w) e ∙ div-mul-add j w z lz,
   sym (mod-mul-add c w x lx) ∙ ap (λ (n : ℕ). n % w) e ∙ mod-mul-add j w z lz,
 )
-
-pub put_none : (page : PageParts) (y n : ℕ) (out : List ℕ) → n < width page → IsRowTo page y n out → IsRowPut page y n 0 out
-put_none page y n out l h = record {
-  long = h.long;
-  done = h.done;
-  here = λ j lj _. absurd (omega (arith, lj));
-  there = λ j _ lj. h.rest j n lj (omega arith) l;
-  rest = λ j x lj a lx. h.rest j x lj (omega (arith, a)) lx;
-}
-
-pub put_all : (page : PageParts) (y n c : ℕ) (out : List ℕ) → c ≡ plates page → IsRowPut page y n c out → IsRowTo page y (n + 1) out
-put_all page y n c out e h = record {
-  long = h.long;
-  done = λ j x lj l lx. elim (cases_eq x n) [
-    | inl q ↦ rw q (h.here j (omega (arith, lj, e)) lj)
-    | inr ne ↦ h.done j x lj (omega (arith, l, ne)) lx
-  ];
-  rest = λ j x lj a lx. h.rest j x lj (omega (arith, a)) lx;
-}
 
 pub put_next : (page : PageParts) (y n c t w : ℕ) (out : List ℕ) → w ≡ width page → n < width page → c < plates page → t ≡ new page (record { x = n; y = y }) c → IsRowPut page y n c out → IsRowPut page y n (c + 1) (slice_set out (c * w + n) t)
 put_next page y n c t w out ew ln lc et h = rw ew (record {

@@ -7,14 +7,15 @@ use Rattle.lists.specs.Words.{gap, square}
 use Rattle.page_model.specs.Arms.{ArmModel}
 use Rattle.row_envelope.specs.Envelope.{arm_at}
 use Rattle.page_model.specs.Columns.{column_answer}
+use Rattle.page_model.specs.Limits.{level_code}
 
 -- the arm of a column's code
 abbrev pub arm_of : ℕ → ℕ → ArmModel
-arm_of x2 code = record { column = x2; square = square (gap code 257) }
+arm_of x2 code = record { column = x2; square = square (gap code level_code) }
 
 -- the edge of a column's code for row y
 abbrev pub coded_edge : ℕ → ℕ → ℕ → EdgeAt
-coded_edge y x2 code = record { x2 = x2; y2 = code + 2 * y - 257 }
+coded_edge y x2 code = record { x2 = x2; y2 = code + 2 * y - level_code }
 
 -- the codes are the page's column answers for row y
 pub record AreAnswers (page : PageParts) (reach y columns : ℕ) (codes : List ℕ) : Type 0 where

@@ -5,13 +5,14 @@ use Rattle.page_model.specs.declared.parts.PageParts.{PageParts}
 use Rattle.page_model.specs.Columns.{column_decider}
 use Rattle.page_model.specs.Page.{width}
 use Rattle.row_values.specs.Arms.{edge_at_place}
+use Rattle.page_model.specs.Limits.{level_code}
 
 -- Each place is that of a column whose code can be turned into an edge, or there is none.
 abbrev pub AreKnown : ℕ → ℕ → List ℕ → List ℕ → List (Option ℕ) → Type 0
 AreKnown wide y codes columns places = (x : ℕ) → x < wide
     → MatchOption (slice_index_or places x None) (0 ≤ y)
     (λ k. (k < length columns) × (slice_index columns k < length codes)
-    × (257 ≤ slice_index codes (slice_index columns k) + 2 * y))
+    × (level_code ≤ slice_index codes (slice_index columns k) + 2 * y))
 
 -- The edge at each place is the one that decides its sample, by the page's columns.
 abbrev pub AreDeciders : PageParts → ℕ → ℕ → List ℕ → List ℕ → List (Option ℕ) → Type 0

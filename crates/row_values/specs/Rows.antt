@@ -9,7 +9,7 @@ use Rattle.page_model.specs.Reach.{page_reach}
 use Rattle.page_model.specs.Tints.{new}
 use Rattle.page_model.specs.Zones.{zone_of}
 
--- a list with so many items a row has the values of these rows, each by its row and its place in it
+-- a list with `wide` items a row has the values of these rows, each by its row and its place in it
 pub record HoldsRows (wide : ℕ) (value : ℕ → ℕ → ℕ) (rows : Rows) (items : List ℕ) : Type 0 where
   pub long : length items ≡ rows.count * wide
   pub each : (k o : ℕ) → k < rows.count → o < wide

@@ -13,7 +13,7 @@ use page_model::steps::Steps;
 use std::marker::Brand;
 use std::sync::ledger::{Blank, Ledger};
 
-/// Whether no sample of these has a mark. It goes over all of them, without a branch, so that many go at once.
+/// Whether no sample has a mark. All of them are read, without a branch, so that the loop is vectorized.
 fn are_blank(marks: &[u8]) -> bool
     ensures { result ≡ true → (k : ℕ) → k < length marks.now → slice_index marks.now k ≡ 0 }
 {
@@ -24,7 +24,7 @@ fn are_blank(marks: &[u8]) -> bool
     all
 }
 
-/// The marks of some rows, as the columns read them.
+/// The marks of some rows, as the column scan reads them.
 fn marks_of<'a>(page: &Page, held: Rows, marks: &'a [u8]) -> Marks<'a>
     requires marks { HoldsMarks page.now held marks.now }
     requires some { 1 ≤ held.count }
@@ -71,8 +71,8 @@ fn scan<L: Ledger>(
     );
 }
 
-/// The same with a counter of its own.
-fn scan_counted<L: Ledger>(
+/// Does the same with a step counter.
+fn scan_with_counter<L: Ledger>(
     page: &Page,
     rows: Rows,
     held: Rows,
@@ -102,7 +102,7 @@ fn scan_counted<L: Ledger>(
     scan(page, rows, held, marks, out, &mut steps);
 }
 
-/// No column has an answer.
+/// Writes that no column has an answer.
 fn clear(out: &mut [u16])
     ensures len { length out.new ≡ length out.old }
     ensures each { (k : ℕ) → k < length out.old → slice_index out.new k ≡ 0 }
@@ -110,9 +110,9 @@ fn clear(out: &mut [u16])
     out.fill(0);
 }
 
-/// Writes the column answers of these rows, row by row from doubled column 0 on. The marks are those of the rows `held`:
-/// these rows, and all rows of the page that are as near as its reach goes. Where none of them has a mark no column is
-/// gone over.
+/// Writes the column answers of these rows, row by row from doubled column 0 on. `marks` are the marks of the rows
+/// `held`: these rows, and all rows of the page within its reach of them. Where no sample of `held` has a mark, no
+/// column is scanned.
 pub fn make_answers(page: &Page, rows: Rows, held: Rows, marks: &[u8], out: &mut [u16])
     requires marks { HoldsMarks page.now held marks.now }
     requires some { 1 ≤ rows.count }
@@ -133,6 +133,6 @@ pub fn make_answers(page: &Page, rows: Rows, held: Rows, marks: &[u8], out: &mut
         clear(out);
     } else {
         let blank = Blank::new(1);
-        scan_counted::<Brand>(page, rows, held, marks, out, blank);
+        scan_with_counter::<Brand>(page, rows, held, marks, out, blank);
     }
 }

@@ -3,13 +3,14 @@
 ghost use Rattle.std.specs.Prelude.{◌≡◌, ◌≤◌, ◌<◌, ◌+◌, ◌*◌, ◌-◌, ℕ, length, slice_index};
 ghost use Rattle.std.specs.Option.{MatchOption};
 ghost use Rattle.row_values.specs.Arms.{arm_of, AreArms, edge_at_place};
-ghost use Rattle.page_model.specs.Limits.{most_column, most_reach, most_side};
+ghost use Rattle.page_model.specs.Limits.{level_code, most_column, most_reach, most_side};
 
 use column_scan::are_zero;
 use page_model::arms::Arm;
+use page_model::bounds::LEVEL_CODE;
 use page_model::parts::EdgeAt;
 
-/// How many columns are passed over at once at most.
+/// The number of columns that are skipped together, at most.
 const SPAN: usize = 32;
 
 fn arm_at(x2: u32, code: u16) -> Arm
@@ -18,10 +19,10 @@ fn arm_at(x2: u32, code: u16) -> Arm
     requires fits { code ≤ 2 * most_reach + 1 }
     ensures { result ≡ arm_of x2 code }
 {
-    Arm::new(x2, i32::from(code) - 257)
+    Arm::new(x2, i32::from(code) - LEVEL_CODE as i32)
 }
 
-/// Adds the arm of one column where it has a code, and gives the new number of arms.
+/// Adds the arm of one column if it has a code, and returns the new number of arms.
 fn add(codes: &[u16], x2: usize, arms: &mut [Arm], columns: &mut [u32], count: usize) -> usize
     requires column { x2 < length codes.now }
     requires few { length codes.now ≤ most_column + 1 }
@@ -42,8 +43,8 @@ fn add(codes: &[u16], x2: usize, arms: &mut [Arm], columns: &mut [u32], count: u
     count + 1
 }
 
-/// Adds the arms of so many columns from x2 on, and gives the new number of arms. Where none of them has a code, they are
-/// passed over at once.
+/// Adds the arms of `count` columns from x2 on, and returns the new number of arms. Where none of them has a code, all
+/// are skipped.
 fn add_some(
     codes: &[u16],
     x2: usize,
@@ -72,7 +73,7 @@ fn add_some(
     raised
 }
 
-/// Writes the arms of the columns that have a code, with their columns, and gives their number.
+/// Writes the arms of the columns that have a code, with these columns, from the left, and returns their number.
 pub fn raise_arms(codes: &[u16], arms: &mut [Arm], columns: &mut [u32]) -> usize
     requires few { length codes.now ≤ most_column + 1 }
     requires fits { (k : ℕ) → k < length codes.now → slice_index codes.now k ≤ 2 * most_reach + 1 }
@@ -92,12 +93,12 @@ pub fn raise_arms(codes: &[u16], arms: &mut [Arm], columns: &mut [u32]) -> usize
     raised
 }
 
-/// The edge whose arm stands at a place.
+/// The edge of the arm at a place of `columns`, in row y; `None` for no place.
 pub fn edge_at(codes: &[u16], y: u32, columns: &[u32], place: Option<u32>) -> Option<EdgeAt>
     requires row { y ≤ most_side }
     requires place { MatchOption place (0 ≤ y)
         (λ k. (k < length columns.now) × (slice_index columns.now k < length codes.now)
-        × (257 ≤ slice_index codes.now (slice_index columns.now k) + 2 * y)) }
+        × (level_code ≤ slice_index codes.now (slice_index columns.now k) + 2 * y)) }
     ensures { result ≡ edge_at_place codes.now y columns.now place }
 {
     match place {
@@ -106,7 +107,7 @@ pub fn edge_at(codes: &[u16], y: u32, columns: &[u32], place: Option<u32>) -> Op
             let code = codes[x2 as usize];
             Some(EdgeAt {
                 x2,
-                y2: u32::from(code) + 2 * y - 257,
+                y2: u32::from(code) + 2 * y - LEVEL_CODE,
             })
         }
         None => None,

@@ -5,8 +5,7 @@ ghost use Rattle.row_values.specs.Quiet.{KeepsTints, NoMarkNear};
 use page_model::page::Page;
 use page_model::parts::At;
 
-/// No mark within reach, no new tint: where no edge decides that is at most the page's reach away along each side, a
-/// sample keeps its tints.
+/// If no edge decides within the page's reach of a sample, both across and down, the sample keeps its tints.
 pub fn quiet_law(page: &Page, p: At)
     ensures { NoMarkNear page.now p → KeepsTints page.now p }
 {

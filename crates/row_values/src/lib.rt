@@ -1,5 +1,5 @@
 //! The values of a page's work, strip by strip: the zones, marks, column answers and new tints of some rows of a page,
-//! each from the values that it needs, as the phases of the work hand them on.
+//! each made from the ones before it.
 #![tactic(auto)]
 
 mod answers;

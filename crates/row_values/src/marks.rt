@@ -8,7 +8,7 @@ use crate::rows::{Rows, row_of_bytes};
 use edge_rule::edge_row;
 use page_model::page::Page;
 
-/// The zones of a row of the page out of those of some rows, and none below the last row.
+/// The zones of page row y out of those of the rows `held`, empty below the last row.
 fn zones_of<'a>(page: &Page, held: Rows, zones: &'a [u8], y: u32) -> &'a [u8]
     requires zones { HoldsZones page.now held zones.now }
     requires above { held.first ≤ y }
@@ -50,8 +50,8 @@ fn write_marks(page: &Page, rows: Rows, k: u32, held: Rows, zones: &[u8], out: &
     edge_row(page, y, here, below, &mut out[start..start + width]);
 }
 
-/// Writes the marks of the samples of these rows, row by row. The zones are those of these rows and of the row below them,
-/// if the page has one: `held` says which.
+/// Writes the marks of the samples of these rows, row by row. `zones` are the zones of the rows `held`: these rows and
+/// the row below them, if the page has one.
 pub fn make_marks(page: &Page, rows: Rows, held: Rows, zones: &[u8], out: &mut [u8])
     requires zones { HoldsZones page.now held zones.now }
     requires same { held.first ≡ rows.first }

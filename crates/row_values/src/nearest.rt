@@ -1,4 +1,4 @@
-// The edge that decides each sample of a row, from the row's column answers.
+// The decider of each sample of a row, from the row's column answers.
 
 ghost use Rattle.std.specs.Prelude.{◌≡◌, ◌≤◌, ◌<◌, ◌*◌, ◌-◌, length};
 ghost use Rattle.page_model.specs.Page.{width};
@@ -14,7 +14,7 @@ use row_envelope::{HullBuf, nearest_row};
 use std::marker::Brand;
 use std::sync::ledger::{Blank, Ledger};
 
-/// With a counter of the ledger's own.
+/// Does the same with a step counter.
 fn nearest_by<L: Ledger>(
     page: &Page,
     codes: &[u16],
@@ -49,7 +49,8 @@ fn nearest_by<L: Ledger>(
     nearest_row(&arms[..count], width, places, hull, &mut steps);
 }
 
-/// Writes for each sample of row y the place of its nearest arm, and for each place the arm's column.
+/// Writes for each sample of row y the index of its nearest arm to `places`, and the column of each arm to `columns`.
+/// `arms` and `hull` are buffers.
 pub fn nearest_arms(
     page: &Page,
     codes: &[u16],

@@ -1,4 +1,4 @@
-// Rows in which no sample is near enough to an edge to be trapped.
+// Rows without a sample that is near enough to an edge to be trapped: their tints stay unchanged.
 
 ghost use Rattle.std.specs.Prelude.{◌≡◌, ◌<◌, ◌≤◌, ◌+◌, true, ℕ, length, slice_index};
 ghost use Rattle.row_values.specs.Arms.{AreAnswers};
@@ -10,7 +10,8 @@ ghost use Rattle.page_model.specs.Reach.{page_reach};
 use column_scan::are_zero;
 use page_model::page::Page;
 
-/// Whether no column of row y has an answer. No edge decides then within reach of the row, and it keeps its tints.
+/// Whether no column of row y has an answer. Then no edge decides within reach of the row, and its tints stay
+/// unchanged.
 pub fn is_quiet(page: &Page, y: u32, codes: &[u16]) -> bool
     requires codes { AreAnswers page.now (page_reach page.now) y (doubled page.now) codes.now }
     ensures only { result ≡ true → (x : ℕ) → x < width page.now
@@ -22,8 +23,8 @@ pub fn is_quiet(page: &Page, y: u32, codes: &[u16]) -> bool
     are_zero(codes, 0, codes.len())
 }
 
-/// Whether no column has an answer that is within reach of some of so many samples of row y from x on. No edge decides then
-/// within reach of them, and they keep their tints.
+/// Whether no column has an answer within reach of the samples `x..x + count` of row y. Then no edge decides within
+/// reach of them, and their tints stay unchanged.
 pub fn are_quiet(page: &Page, y: u32, codes: &[u16], reach2: u32, x: u32, count: u32) -> bool
     requires codes { AreAnswers page.now (page_reach page.now) y (doubled page.now) codes.now }
     requires reach { reach2 ≡ page_reach page.now }

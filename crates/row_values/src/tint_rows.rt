@@ -34,7 +34,7 @@ pub fn tints_of_row<'a>(page: &'a Page, c: u32, y: u32) -> &'a [u16]
     &tints[start..start + width]
 }
 
-/// Writes the page's own tints of plate c in row y.
+/// Copies the page's tints of plate c in row y to `out`.
 fn copy_tints(page: &Page, c: u32, y: u32, out: &mut [u16])
     requires plate { c < plates page.now }
     requires row { y < height page.now }
@@ -51,7 +51,7 @@ fn copy_tints(page: &Page, c: u32, y: u32, out: &mut [u16])
     out[start..start + width].copy_from_slice(tints);
 }
 
-/// Writes the page's own tints of row y, plate after plate.
+/// Copies the page's tints of row y to `out`, plate after plate.
 pub fn copy_row(page: &Page, y: u32, out: &mut [u16])
     requires row { y < height page.now }
     requires out { length out.old ≡ plates page.now * width page.now }
@@ -62,7 +62,7 @@ pub fn copy_row(page: &Page, y: u32, out: &mut [u16])
     }
 }
 
-/// Puts the new tints of sample x into the row.
+/// Writes the new tints of sample x, one for each plate, to `out`, a row plate after plate.
 pub fn put_tints(page: &Page, y: u32, x: u32, tints: &[u16], out: &mut [u16])
     requires row { y < height page.now }
     requires column { x < width page.now }

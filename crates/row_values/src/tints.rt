@@ -1,4 +1,4 @@
-// The new tints of rows, each sample with the edge that decides it.
+// The new tints of rows, each sample with its decider.
 
 ghost use Rattle.std.specs.Prelude.{◌≡◌, ◌<◌, ◌≤◌, ◌+◌, ◌*◌, ◌-◌, ℕ, length, slice_index, None};
 ghost use Rattle.std.specs.Option.{ForSome};
@@ -25,10 +25,10 @@ use page_model::page::Page;
 use page_model::parts::{At, EdgeAt};
 use trap_color::trap_sample;
 
-/// How many samples are asked for at once at most.
+/// The number of samples that are tested together, at most.
 const SPAN: u32 = 32;
 
-/// Whether there is no edge, or it is farther from p than any trap of the page is wide.
+/// Whether there is no edge, or it is farther from p than the widest trap of the page.
 fn is_far(p: At, nearest: Option<EdgeAt>, reach2: u32) -> bool
     requires px { p.x < most_side }
     requires py { p.y < most_side }
@@ -42,7 +42,8 @@ fn is_far(p: At, nearest: Option<EdgeAt>, reach2: u32) -> bool
     }
 }
 
-/// Puts the new tints of p, whose deciding edge the row's columns give, into the row. The buffer has a place for each plate.
+/// Writes the new tints of p to the row; its decider comes from the row's columns. The buffer has a place for each
+/// plate.
 fn trap_at(
     page: &Page,
     zones: &[u8],
@@ -72,8 +73,8 @@ fn trap_at(
     }
 }
 
-/// Traps so many samples of row y from x on, whose nearest arms stand at these places. Where no arm is within reach of one
-/// of them, none is asked.
+/// Traps `count` samples of row y from x on, whose nearest arms have these indices. Where no arm is within reach of
+/// them, all are skipped.
 fn trap_some(
     page: &Page,
     zones: &[u8],
@@ -112,7 +113,7 @@ fn trap_some(
     }
 }
 
-/// Traps the samples of row y, whose nearest arms stand at these places.
+/// Traps the samples of row y, whose nearest arms have these indices.
 fn trap_samples(
     page: &Page,
     zones: &[u8],
@@ -176,7 +177,7 @@ fn trap_row(page: &Page, y: u32, zones: &[u8], codes: &[u16], out: &mut [u16], r
     trap_samples(page, zones, y, reach2, codes, columns, places, tints, out);
 }
 
-/// Writes the new tints of a row, or its own where it is quiet.
+/// Writes the new tints of a row, which are its own where no edge is within reach.
 fn fill_row(page: &Page, y: u32, zones: &[u8], codes: &[u16], out: &mut [u16], room: &mut Workspace)
     requires row { y < height page.now }
     requires zones { AreZones page.now y zones.now }
@@ -192,8 +193,8 @@ fn fill_row(page: &Page, y: u32, zones: &[u8], codes: &[u16], out: &mut [u16], r
     }
 }
 
-/// Writes the new tints of row y, plate after plate, from the zones of its samples and its column answers. A row that is
-/// quiet costs no more than the copy of its tints.
+/// Writes the new tints of row y, plate after plate, from the zones of its samples and its column answers. Where no
+/// edge is within reach of the row, it only copies the row's tints.
 pub fn make_row(
     page: &Page,
     y: u32,

@@ -2,7 +2,7 @@ ghost use Rattle.std.specs.Prelude.{◌≡◌, ◌<◌, ◌-◌, ◌*◌, IfOk, 
 ghost use Rattle.page_model.specs.Page.{plates, width};
 ghost use Rattle.row_values.specs.Room.{Serves};
 
-use lists::memory::filled;
+use lists::memory::vec_of;
 use page_model::arms::Arm;
 use page_model::page::Page;
 use page_model::parts::OutOfMemory;
@@ -11,10 +11,10 @@ use std::alloc::Global;
 use std::marker::Model;
 use zone_map::SpanBuf;
 
-/// The room that the makers work in, for pages of one width and number of plates: the crossings of a row, its arms with
-/// their columns, the place of each sample's nearest arm, the hull of the arms, and a tint for each plate. It is made once,
-/// and nothing is allocated afterwards: contracts see how much memory each of these has, so that a maker that leaves it as it
-/// was took none.
+/// The buffers that rows are made with, for pages of one width and number of plates: the crossings of a row, its arms
+/// with their columns, the index of each sample's nearest arm, the hull of the arms, and a tint for each plate. They
+/// are allocated once. Contracts see the capacity of each, so that a function that leaves it unchanged is known to have
+/// allocated nothing.
 #[derive(Drop)]
 pub struct Workspace {
     pub(crate) width: u32,
@@ -50,7 +50,7 @@ impl Model for Workspace {
 }
 
 impl Workspace {
-    /// Room for the work on pages of this page's width and number of plates.
+    /// Allocates the buffers for pages of this page's width and number of plates.
     pub fn new(alloc: Global, page: &Page) -> Result<Workspace, OutOfMemory>
         ensures { IfOk result (λ room. Serves room page.now) }
     {
@@ -61,11 +61,11 @@ impl Workspace {
             width,
             plates,
             spans: SpanBuf::new(alloc, width)?,
-            arms: filled(alloc, Arm::new(0, 0), doubled)?,
-            columns: filled(alloc, 0u32, doubled)?,
-            places: filled(alloc, None, width as usize)?,
+            arms: vec_of(alloc, Arm::new(0, 0), doubled)?,
+            columns: vec_of(alloc, 0u32, doubled)?,
+            places: vec_of(alloc, None, width as usize)?,
             hull: HullBuf::new(alloc, width)?,
-            tints: filled(alloc, 0u16, plates as usize)?,
+            tints: vec_of(alloc, 0u16, plates as usize)?,
         })
     }
 }

@@ -11,4 +11,6 @@ mod parameters;
 #[cfg(test)]
 mod samples;
 #[cfg(test)]
+mod widths;
+#[cfg(test)]
 mod zones;

@@ -19,7 +19,7 @@ type Point = (i64, i64);
 type Outline = &'static [&'static [Point]];
 
 /// A page of six rows of eight samples: its resolution, the outlines of its zones 1 to 3, and the zones of its rows.
-struct Sheet {
+struct ZonedPage {
     shows: &'static str,
     resolution: u32,
     zones: [Outline; 3],
@@ -27,8 +27,8 @@ struct Sheet {
 }
 
 // The rows were written by another program for the same rule; those at 72 pixels an inch were worked out by hand as well.
-static SHEETS: [Sheet; 13] = [
-    Sheet {
+static ZONED_PAGES: [ZonedPage; 13] = [
+    ZonedPage {
         shows: "a path that crosses itself",
         resolution: 72,
         zones: [
@@ -50,7 +50,7 @@ static SHEETS: [Sheet; 13] = [
             [1, 0, 0, 0, 0, 0, 0, 1],
         ],
     },
-    Sheet {
+    ZonedPage {
         shows: "subpaths of opposite turns",
         resolution: 72,
         zones: [
@@ -75,7 +75,7 @@ static SHEETS: [Sheet; 13] = [
             [1, 1, 1, 1, 1, 0, 0, 0],
         ],
     },
-    Sheet {
+    ZonedPage {
         shows: "a path twice round",
         resolution: 72,
         zones: [
@@ -109,7 +109,7 @@ static SHEETS: [Sheet; 13] = [
             [0, 0, 0, 0, 0, 0, 0, 0],
         ],
     },
-    Sheet {
+    ZonedPage {
         shows: "paths of no area",
         resolution: 72,
         zones: [
@@ -139,7 +139,7 @@ static SHEETS: [Sheet; 13] = [
             [0, 0, 0, 0, 0, 0, 0, 0],
         ],
     },
-    Sheet {
+    ZonedPage {
         shows: "level segments through middles",
         resolution: 72,
         zones: [
@@ -168,7 +168,7 @@ static SHEETS: [Sheet; 13] = [
             [0, 0, 2, 2, 2, 2, 2, 0],
         ],
     },
-    Sheet {
+    ZonedPage {
         shows: "vertices at middles",
         resolution: 72,
         zones: [
@@ -195,7 +195,7 @@ static SHEETS: [Sheet; 13] = [
             [0, 0, 0, 0, 0, 0, 0, 0],
         ],
     },
-    Sheet {
+    ZonedPage {
         shows: "paths a million points away",
         resolution: 72,
         zones: [
@@ -232,7 +232,7 @@ static SHEETS: [Sheet; 13] = [
             [2, 2, 2, 2, 2, 2, 2, 2],
         ],
     },
-    Sheet {
+    ZonedPage {
         shows: "subpaths left open",
         resolution: 72,
         zones: [
@@ -253,7 +253,7 @@ static SHEETS: [Sheet; 13] = [
             [2, 2, 2, 0, 0, 0, 0, 0],
         ],
     },
-    Sheet {
+    ZonedPage {
         shows: "later zones over earlier ones",
         resolution: 72,
         zones: [
@@ -280,7 +280,7 @@ static SHEETS: [Sheet; 13] = [
             [0, 0, 0, 2, 2, 2, 2, 0],
         ],
     },
-    Sheet {
+    ZonedPage {
         shows: "a zone under another",
         resolution: 72,
         zones: [
@@ -312,7 +312,7 @@ static SHEETS: [Sheet; 13] = [
             [0, 0, 0, 0, 0, 0, 0, 0],
         ],
     },
-    Sheet {
+    ZonedPage {
         shows: "600 pixels an inch",
         resolution: 600,
         zones: [
@@ -335,7 +335,7 @@ static SHEETS: [Sheet; 13] = [
             [1, 1, 1, 1, 1, 3, 1, 0],
         ],
     },
-    Sheet {
+    ZonedPage {
         shows: "7 pixels an inch",
         resolution: 7,
         zones: [
@@ -370,7 +370,7 @@ static SHEETS: [Sheet; 13] = [
             [2, 2, 0, 0, 0, 0, 0, 0],
         ],
     },
-    Sheet {
+    ZonedPage {
         shows: "10,000 pixels an inch",
         resolution: 10_000,
         zones: [
@@ -503,12 +503,12 @@ fn zone_of(alloc: Global, path: VertexList) -> Zone
     }
 }
 
-fn parts_of(alloc: Global, sheet: &Sheet) -> Result<PageParts, Fail>
-    requires some { 1 ≤ sheet.now.resolution }
-    requires fine { sheet.now.resolution ≤ most_resolution }
+fn parts_of(alloc: Global, zoned: &ZonedPage) -> Result<PageParts, Fail>
+    requires some { 1 ≤ zoned.now.resolution }
+    requires fine { zoned.now.resolution ≤ most_resolution }
     ensures { IfOk result IsParts }
 {
-    let [first, second, third] = sheet.zones;
+    let [first, second, third] = zoned.zones;
     let mut planes = List::new(alloc);
     push(&mut planes, blank(alloc)?)?;
     let mut inks = List::new(alloc);
@@ -519,18 +519,18 @@ fn parts_of(alloc: Global, sheet: &Sheet) -> Result<PageParts, Fail>
     push(&mut zones, zone_of(alloc, path_of(alloc, second)?))?;
     push(&mut zones, zone_of(alloc, path_of(alloc, third)?))?;
     Ok(PageParts {
-        resolution: sheet.resolution,
+        resolution: zoned.resolution,
         planes,
         inks,
         zones,
     })
 }
 
-fn page_of(alloc: Global, sheet: &Sheet) -> Result<Page, Fail> {
-    if sheet.resolution < 1 || sheet.resolution > 10_000 {
+fn page_of(alloc: Global, zoned: &ZonedPage) -> Result<Page, Fail> {
+    if zoned.resolution < 1 || zoned.resolution > 10_000 {
         return Err("no resolution")?;
     }
-    match Page::new(parts_of(alloc, sheet)?) {
+    match Page::new(parts_of(alloc, zoned)?) {
         Ok(page) => Ok(page),
         Err((_fault, _parts)) => Err("a fault")?,
     }
@@ -540,15 +540,15 @@ fn page_of(alloc: Global, sheet: &Sheet) -> Result<Page, Fail> {
 // has stays far from where these sums and products would wrap.
 
 /// The way from one coordinate to another.
-fn way(from: i64, to: i64) -> i128 {
+fn difference(from: i64, to: i64) -> i128 {
     i128::from(to.wrapping_sub(from))
 }
 
 /// Whether the way up from low to high passes the height of p, and to the right of p.
 fn passes(p: Point, low: Point, high: Point) -> bool {
-    let across = way(low.0, high.0).wrapping_mul(way(low.1, p.1));
-    let rise = way(low.1, high.1);
-    low.1 <= p.1 && p.1 < high.1 && across > way(low.0, p.0).wrapping_mul(rise)
+    let across = difference(low.0, high.0).wrapping_mul(difference(low.1, p.1));
+    let rise = difference(low.1, high.1);
+    low.1 <= p.1 && p.1 < high.1 && across > difference(low.0, p.0).wrapping_mul(rise)
 }
 
 /// The place of a vertex.
@@ -581,10 +581,10 @@ fn plain_sum(outline: Outline, resolution: u32, p: Point) -> i32 {
 }
 
 /// The last zone that winds round p.
-fn plain_zone(sheet: &Sheet, p: Point) -> u8 {
+fn plain_zone(zoned: &ZonedPage, p: Point) -> u8 {
     let mut last = 0;
-    for (outline, zone) in sheet.zones.iter().zip([1, 2, 3]) {
-        if plain_sum(outline, sheet.resolution, p) != 0 {
+    for (outline, zone) in zoned.zones.iter().zip([1, 2, 3]) {
+        if plain_sum(outline, zoned.resolution, p) != 0 {
             last = zone;
         }
     }
@@ -592,13 +592,13 @@ fn plain_zone(sheet: &Sheet, p: Point) -> u8 {
 }
 
 /// The zones of a row's samples, each found by itself.
-fn plain_row(sheet: &Sheet, y: u32) -> [u8; 8]
+fn plain_row(zoned: &ZonedPage, y: u32) -> [u8; 8]
     requires { y < 6 }
 {
     let mut row = [0; 8];
     let height = i64::from(2 * (6 - y) - 1) * 360_000;
     for x in 0..8u32 {
-        row[x as usize] = plain_zone(sheet, (i64::from(2 * x + 1) * 360_000, height));
+        row[x as usize] = plain_zone(zoned, (i64::from(2 * x + 1) * 360_000, height));
     }
     row
 }
@@ -608,24 +608,24 @@ fn expect_row(rt: &impl Abort, shows: &str, y: u32, row: [u8; 8], wanted: [u8; 8
 }
 
 /// Looks at each row of a page.
-fn expect_rows(rt: &impl Abort, alloc: Global, sheet: &Sheet) -> Result<(), Fail> {
-    let page = page_of(alloc, sheet)?;
+fn expect_rows(rt: &impl Abort, alloc: Global, zoned: &ZonedPage) -> Result<(), Fail> {
+    let page = page_of(alloc, zoned)?;
     assert_eq!(rt; page.width(), 8);
     assert_eq!(rt; page.height(), 6);
     let mut spans = SpanBuf::new(alloc, 8)?;
     for y in 0..6u32 {
         let mut row = [9; 8];
         zone_row(&page, y, &mut row, &mut spans);
-        expect_row(rt, sheet.shows, y, row, plain_row(sheet, y));
-        expect_row(rt, sheet.shows, y, row, sheet.rows[y as usize]);
+        expect_row(rt, zoned.shows, y, row, plain_row(zoned, y));
+        expect_row(rt, zoned.shows, y, row, zoned.rows[y as usize]);
     }
     Ok(())
 }
 
 #[test]
 fn a_sample_has_the_last_zone_that_winds_round_it(rt: HostRuntime) -> Result<(), Fail> {
-    for sheet in &SHEETS {
-        expect_rows(&rt, rt.alloc(), sheet)?;
+    for zoned in &ZONED_PAGES {
+        expect_rows(&rt, rt.alloc(), zoned)?;
     }
     Ok(())
 }

@@ -36,20 +36,20 @@ held_by trays source = record {
 abbrev pub Spells : Option (List ℕ) → (List ℕ → Type 0) → Type 0
 Spells held Fact = (bytes : List ℕ) × (held ≡ Some bytes) × Fact bytes
 
--- the files of the first so many plates spell these
+-- the files of the first `count` plates encode these
 pub record AreSpelled (held : ℕ → Option (List ℕ)) (count : ℕ)
     (plates : List Plate) : Type 0 where
   pub all : length plates ≡ count
   pub each : (k : ℕ) → k < count
       → Spells (held k) (λ bytes. IsSheetFile bytes (plate_at plates k))
 
--- The job and so many plates are read.
+-- The job and `count` plates are read.
 pub record SheetInputs (held : HeldBytes) (count : ℕ) (job : Job)
     (plates : List Plate) : Type 0 where
   pub job_read : Spells held.job (λ bytes. job_of bytes ≡ Ok job)
   pub plates_read : AreSpelled held.plate count plates
 
--- Of so many plates this one has that fault; the job and the plates before it are read.
+-- Of `count` plates this one has that fault; the job and the plates before it are read.
 pub record PlateFails (held : HeldBytes) (count plate : ℕ) (fault : PlateFault) : Type 0 where
   pub job : Job
   pub plates : List Plate

@@ -43,7 +43,7 @@ pub record IsJudged (source : Sources) (budget : Budget) (trays : List TrayState
       → Spells (plates_by trays source.inputs k) (λ bytes. (plate : PlateRead)
       × IsSheetFile bytes plate × (header_of plate ≡ header_in judged.bare))
 
--- what the answer says of the files' bytes, where they are told, and of the names that were handed
+-- what the answer says of the files' bytes, where they are known, and of the names that were handed
 -- out
 pub data AnswersJudging (source : Sources) (budget : Budget) (before after : List TrayState)
     (result : Result PlannedSheet TrapsheetError) : Type 0 where

@@ -22,6 +22,7 @@ use Rattle.sheet_gather.specs.SheetFiles.{IsSheetPlate}
 use Rattle.bare_sheets.specs.Planned.{IsPlan}
 use Rattle.bare_sheets.specs.Bare.{IsBareSheet, IsBarePlane, bare_sheet}
 use Rattle.sheet_windows.specs.Sheets.{IsSheet}
+use Rattle.page_model.specs.Limits.{most_plates, most_sheet_side}
 
 -- the header of a plate
 abbrev pub header_of : Plate → Header
@@ -38,18 +39,18 @@ bare_for job headers names = parts_of_planes job (map plane_for headers) names
 -- as many names as headers, each in range
 pub record CanPlan (headers : List Header) (names : List (List ℕ)) : Type 0 where
   pub some : 1 ≤ length headers
-  pub few : length headers ≤ 16
+  pub few : length headers ≤ most_plates
   pub named : length names ≡ length headers
   pub in_range : All (IsWithin Sheet) headers
 
 -- as many names as planes without tints, each in range
 pub record CanPlanPlanes (planes : List Plane) (names : List (List ℕ)) : Type 0 where
   pub some : 1 ≤ length planes
-  pub few : length planes ≤ 16
+  pub few : length planes ≤ most_plates
   pub named : length names ≡ length planes
   pub in_range : All IsBarePlane planes
-  pub narrow : All (λ (plane : Plane). plane.width ≤ 262144) planes
-  pub low : All (λ (plane : Plane). plane.height ≤ 262144) planes
+  pub narrow : All (λ (plane : Plane). plane.width ≤ most_sheet_side) planes
+  pub low : All (λ (plane : Plane). plane.height ≤ most_sheet_side) planes
 
 -- plates of a sheet that have these headers
 pub record HaveHeaders (plates : List Plate) (headers : List Header) : Type 0 where

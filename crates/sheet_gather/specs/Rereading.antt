@@ -17,7 +17,7 @@ use Rattle.bare_sheets.specs.Begun.{BeginsWith}
 abbrev pub tints_read : PageParts → (ℕ → List ℕ) → ℕ → List ℕ
 tints_read bare samples c = turned (maxval bare) (samples c)
 
--- After the first reading so many samples of each plate were read once more, whose header is still
+-- After the first reading some samples of each plate were read once more, and its header is still
 -- the sheet's.
 pub record IsReread (source : Sources) (bare : PageParts) (plates : List OpenPlate)
     (samples : ℕ → List ℕ) (between after : List TrayState) : Type 0 where

@@ -7,6 +7,7 @@ use Rattle.pgm_plates.specs.declared.bounds.Bounds.TheVariants.{Sheet}
 use Rattle.pgm_plates.specs.Faults.{IsFaultWithin}
 use Rattle.pgm_plates.specs.Planes.{IsPlaneWithin}
 use Rattle.pgm_plates.specs.Plates.{IsPlateWithin, IsPlateFileWithin}
+use Rattle.page_model.specs.Limits.{most_plates}
 
 -- a plate of a sheet
 abbrev pub IsSheetPlate : Plate → Type 0
@@ -23,13 +24,13 @@ IsSheetFault = IsFaultWithin Sheet
 -- as many names as plates, and each plate in range
 pub record CanAssembleSheet (plates : List Plate) (names : List (List ℕ)) : Type 0 where
   pub some : 1 ≤ length plates
-  pub few : length plates ≤ 16
+  pub few : length plates ≤ most_plates
   pub named : length names ≡ length plates
   pub in_range : All IsSheetPlate plates
 
 -- as many names as planes, and each plane in range
 pub record CanCutPlanes (planes : List Plane) (names : List (List ℕ)) : Type 0 where
   pub some : 1 ≤ length planes
-  pub few : length planes ≤ 16
+  pub few : length planes ≤ most_plates
   pub named : length names ≡ length planes
   pub in_range : All (IsPlaneWithin Sheet) planes

@@ -49,7 +49,7 @@ pub record TakesFile (name : List ℕ) (before after : TrayState) : Type 0 where
 abbrev pub MayTakeFile : List ℕ → TrayState → TrayState → Type 0
 MayTakeFile name before after = (after ≡ before) ⊎ TakesFile name before after
 
--- The first so many files are asked for, each of its own tray, and those after them may have been.
+-- The first `count` files are asked for, each of its own tray, and those after them may have been.
 -- The trays of no plate are as they were.
 pub record TakesFiles (names : List (List ℕ)) (count : ℕ)
     (before after : List TrayState) : Type 0 where

@@ -13,6 +13,6 @@ tray_files source (suc k) = name_at source.inputs (suc k) ∷ []
 abbrev pub files_twice : Sources → ℕ → List (List ℕ)
 files_twice source k = tray_files source k ++ name_at source.inputs k ∷ []
 
--- the trays of so many plates tell the bytes of their files
+-- the trays of `count` plates tell the bytes of their files
 abbrev pub AllTell : ℕ → List TrayState → Type 0
 AllTell count trays = (k : ℕ) → k < count → IsTrue (tray_at trays k).tells

@@ -2,6 +2,7 @@ ghost use Rattle.std.specs.Prelude.{◌≡◌, ◌≤◌, length, map};
 ghost use Rattle.job_reader.specs.InRange.{IsJob};
 ghost use Rattle.page_gather.specs.Inputs.{sources};
 ghost use Rattle.sheet_gather.specs.Judging.{JudgesRest, JudgesSheet};
+ghost use Rattle.page_model.specs.Limits.{most_plates};
 
 use crate::gather::read_first;
 use crate::planning::{PlannedSheet, plan_headers};
@@ -10,6 +11,7 @@ use bare_sheets::budget::Budget;
 use job_reader::job::Job;
 use lists::names::NameList;
 use outside::tray::Tray;
+use page_model::bounds::MOST_PLATES;
 use pgm_plates::bounds::Bounds;
 use pgm_plates::laws::file_fault_within;
 use pgm_plates::rows::Header;
@@ -19,13 +21,13 @@ use std::alloc::Global;
 use std::convert::AsStr;
 use std::thread::Threads;
 
-/// Reads the job of that name from the first tray, and then the plates, plate k from tray k, to their ends: side by side, by
-/// so many workers, which are threads of this call. It judges the sheet that they make; nothing is kept of a plate but its
-/// header. The names are those of the plates' colorants.
+/// Reads the job of that name from the first tray, and then the plates, plate k from tray k, to their ends, side by
+/// side on as many threads as there are workers; and checks the sheet that they make. Of a plate only its header is
+/// kept. The names are those of the plates' colorants.
 ///
-/// A refusal is the first of these: a read that fails, the job's fault, a plate's fault, a plate without details, a fault of
-/// the sheet, or out of memory. Of plates that are refused it is the first in the order of the files; of the plates after it
-/// some may have been read as well.
+/// The refusal is the first of these: a read that fails, the job's fault, a plate's fault, a plate without details, a
+/// fault of the sheet, or out of memory. If several plates are refused it is the first of them in the order of the
+/// files; some of the plates after it may have been read as well.
 pub fn judge_sheet<H: Threads + Sync, T: Tray + Send, S: AsStr + Sync>(
     rt: &H,
     alloc: Global,
@@ -38,7 +40,7 @@ pub fn judge_sheet<H: Threads + Sync, T: Tray + Send, S: AsStr + Sync>(
 ) -> Result<PlannedSheet, TrapsheetError>
     requires some_workers { 1 ≤ workers }
     requires some { 1 ≤ length inputs.now }
-    requires few { length inputs.now ≤ 16 }
+    requires few { length inputs.now ≤ most_plates }
     requires named { length names.now ≡ length inputs.now }
     requires trays { length inputs.now ≤ length trays.old }
     ensures { JudgesSheet (sources job.now names.now (map S.text inputs.now)) budget.now
@@ -50,7 +52,7 @@ pub fn judge_sheet<H: Threads + Sync, T: Tray + Send, S: AsStr + Sync>(
     }
 }
 
-// Judges the plates after the job, and the sheet of both.
+// Checks the plates after the job, and the sheet of both.
 fn judge_rest<H: Threads + Sync, T: Tray + Send, S: AsStr + Sync>(
     rt: &H,
     alloc: Global,
@@ -63,7 +65,7 @@ fn judge_rest<H: Threads + Sync, T: Tray + Send, S: AsStr + Sync>(
 ) -> Result<PlannedSheet, TrapsheetError>
     requires some_workers { 1 ≤ workers }
     requires some { 1 ≤ length inputs.now }
-    requires few { length inputs.now ≤ 16 }
+    requires few { length inputs.now ≤ most_plates }
     requires named { length names.now ≡ length inputs.now }
     requires trays { length inputs.now ≤ length trays.old }
     requires job { IsJob job }
@@ -77,7 +79,7 @@ fn judge_rest<H: Threads + Sync, T: Tray + Send, S: AsStr + Sync>(
         height: 0,
         maxval: 0,
     };
-    let mut headers = [none; 16];
+    let mut headers = [none; MOST_PLATES];
     match judge_plates(rt, workers, trays, inputs, &mut headers) {
         Ok(()) => plan_headers(alloc, job, &headers[..inputs.len()], names, budget),
         Err(refusal) => Err(TrapsheetError::Common(refusal)),

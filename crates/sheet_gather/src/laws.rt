@@ -8,7 +8,7 @@ use pgm_plates::laws::{
     not_both_within, one_fault_within, one_plate_within, plate_or_fault_within, top_of_file_within,
 };
 
-/// The bytes of a sheet's files have one verdict at most.
+/// The bytes of a sheet's files have at most one verdict.
 pub fn one_sheet_verdict()
     ensures { OneSheetVerdict }
 {
@@ -17,15 +17,15 @@ pub fn one_sheet_verdict()
     one_fault_within(Bounds::Sheet);
 }
 
-/// Where the job and all plates have files, there is a verdict.
+/// If the job and all plates have files, there is a verdict.
 pub fn some_sheet_verdict()
     ensures { SomeSheetVerdict }
 {
     plate_or_fault_within(Bounds::Sheet);
 }
 
-/// Whatever was read of a sheet's plates a second time, a sheet begins with it: the one that was judged, where the trays tell
-/// their bytes.
+/// Whatever was read of a sheet's plates a second time is the beginning of a sheet: of the one that was checked, if the
+/// trays tell their bytes.
 pub fn sheet_is_reread()
     ensures { SheetIsReread }
 {

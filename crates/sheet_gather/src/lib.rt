@@ -1,5 +1,5 @@
-//! The job and the plates of a sheet, each plate read from a tray of its own and judged, with nothing kept but its header; how the
-//! sheet is to be trapped that they make; its verdict; and the lines of its refusals.
+//! The job and the plates of a sheet, each plate read from a tray of its own and checked, with only its header kept;
+//! how the sheet of them is going to be trapped; its verdict; and the lines of its refusals.
 #![tactic(auto)]
 
 mod gather;

@@ -17,19 +17,19 @@ use pgm_plates::rows::Header;
 use refusals::refusal::Refusal;
 use std::alloc::Global;
 
-/// A sheet before its tints are read: all of it but these, and how it is to be trapped.
+/// A sheet before its tints are read: all of it but these, and how it is going to be trapped.
 #[derive(Drop)]
 pub struct PlannedSheet {
     pub bare: PageParts,
     pub plan: Plan,
 }
 
-/// The sheet that a job and plates of these headers make, but for its tints, and how it is to be trapped within a budget
-/// for each window. Each plate has its colorant's name, and gets the ink that the job's details give that name; each zone
-/// keeps the limits of the plates' names alone.
+/// Makes the sheet of a job and plates with these headers, without its tints, and decides how it is trapped within a
+/// budget for each window. Each plate has its colorant's name, and gets the ink that the job's details give that name;
+/// each zone keeps only the limits of the plates' names.
 ///
-/// Where some zone is enabled, the first plate without details is refused. Then come the faults of the sheet, and want of
-/// memory. No sample is looked at: what is refused here is refused of all plates of these headers.
+/// If some zone is enabled, the first plate without details is refused. Then come the faults of the sheet, and out of
+/// memory. No sample is read: what is refused here is refused for all plates with these headers.
 pub fn plan_headers(
     alloc: Global,
     job: Job,
@@ -68,7 +68,7 @@ fn plan_planes(
     }
 }
 
-// These parts with their plan, or the sheet's refusal.
+// These parts with their plan, or the refusal of the sheet.
 fn plan_parts(bare: PageParts, budget: &Budget) -> Result<PlannedSheet, TrapsheetError>
     requires bare { IsBareParts bare }
     requires narrow { width bare < 2 ^ 30 }

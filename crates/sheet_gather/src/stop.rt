@@ -8,15 +8,15 @@ use refusals::statuses::PAGE_REFUSED;
 /// Why a command of a sheet did not do its work.
 #[derive(Clone, Copy, Debug, Drop, PartialEq, Eq)]
 pub enum TrapsheetError {
-    /// The words, a file or memory, or a plate without details, as of a page.
+    /// A refusal that a page can have as well: the words, a file, memory, or a plate without details.
     Common(Refusal),
-    /// The sheet that the plates make.
+    /// The sheet of the plates is refused.
     OfSheet(SheetRefusal),
-    /// This plate, from 0, is not what it was when it was judged: it has another header, or a fault now.
+    /// This plate, from 0, is not the same as when it was checked: it has another header, or a fault now.
     Changed(u32),
 }
 
-/// The status that the program ends with: one of `refusals::statuses`.
+/// The status that the program exits with, one of `refusals::statuses`.
 pub fn stop_status(stop: &TrapsheetError) -> u8
     ensures { result ≡ status_of_stop stop.now }
 {

@@ -9,7 +9,7 @@ use refusals::line::Line;
 use refusals::refusal::Refusal;
 use refusals::telling::tell_line;
 
-/// Tells the line of a stop, and gives its status, which stays where the line cannot be told.
+/// Prints the line of a stop and returns its status, whether or not the line could be printed.
 pub fn refuse_sheet<R: Rack>(rack: &mut R, stop: &TrapsheetError) -> u8
     ensures { RefusesSheet stop.now (R.state rack.old) (R.state rack.new) result }
 {
@@ -17,7 +17,7 @@ pub fn refuse_sheet<R: Rack>(rack: &mut R, stop: &TrapsheetError) -> u8
     stop_status(stop)
 }
 
-/// The line that a stop tells, its LF included. The form is this project's own.
+/// The line that is printed for a stop, its LF included. The form is this project's own.
 pub fn stop_line(stop: &TrapsheetError) -> Line
     ensures { result ≡ line_of_stop stop.now }
 {

@@ -33,8 +33,8 @@ use Rattle.plate_rows.proofs.StopLemmas.{ends_stop, reading_ends, reading_stops,
 use Rattle.plate_rows.proofs.WriteLemmas.{writing_ends, writing_leaves}
 use Rattle.refusals.specs.declared.refusal.Refusal.{Refusal}
 use Rattle.refusals.specs.declared.refusal.Refusal.TheVariants.{Job as JobFails, Memory, NoDetails, Page, Plate, Read, Usage, Write}
-use Rattle.sheet_loop.specs.declared.stop.StreamStop.{StreamStop}
-use Rattle.sheet_loop.specs.declared.stop.StreamStop.TheVariants.{Unread, Unwritten}
+use Rattle.sheet_loop.specs.declared.stop.StreamError.{StreamError}
+use Rattle.sheet_loop.specs.declared.stop.StreamError.TheVariants.{Unread, Unwritten}
 use Rattle.sheet_loop.specs.Courses.{Course, HasStreamed, Starts, Stops, StopsUnread, StopsUnwritten}
 use Rattle.sheet_loop.specs.Rooms.{CanStream}
 use Rattle.sheet_loop.specs.Second.{CanEnd, ComesTo, EndsBoth, IsDone, IsUnread, IsUnwritten, MayStand, PartsStand, PlateBreaks, StreamsSheet, WasRead, sheet_header}
@@ -153,7 +153,7 @@ module _ (course : Course) (bare : PageParts) (plan : StripPlan) (begun : List O
         broken sheet k w.0 w.1 racks (omega (arith, e, l)) w.4);
   }
 
-  pub strips_stop : (counts : SheetCounts) (trays : List TrayState) (racks : List RackState) (stop : StreamStop) → Stops course bare plan begun trays racks stop → ComesTo course bare plan.header counts trays racks (Err stop)
+  pub strips_stop : (counts : SheetCounts) (trays : List TrayState) (racks : List RackState) (stop : StreamError) → Stops course bare plan begun trays racks stop → ComesTo course bare plan.header counts trays racks (Err stop)
   strips_stop counts trays racks (Unread stop) s = strips_unread trays racks stop s
   strips_stop counts trays racks (Unwritten (Write (Some k))) s = strips_unwritten trays racks k s
   strips_stop counts trays racks (Unwritten (Write None)) s = absurd s
@@ -248,7 +248,7 @@ module _ (course : Course) (bare : PageParts) (plan : StripPlan) (begun : List O
               });
         }
 
-    pub both_end : (result : Result (Unit {0}) StreamStop) → EndsBoth begun trays trays' racks racks' result → ComesTo course bare plan.header counts trays' racks' result
+    pub both_end : (result : Result (Unit {0}) StreamError) → EndsBoth begun trays trays' racks racks' result → ComesTo course bare plan.header counts trays' racks' result
     both_end (Ok x) ends = done ends.0 ends.1
     both_end (Err (Unread stop)) ends = subst (λ (rs : List RackState). IsUnread course bare plan.header trays' rs stop) (sym ends.1) (end_unread stop ends.0)
     both_end (Err (Unwritten (Write (Some k)))) ends = end_unwritten k ends.0 ends.1
@@ -341,7 +341,7 @@ pub sixteen : (h : Header) (k : ℕ) → k < 16 → header_at (replicate 16 h) k
 sixteen h k l = get_or-replicate 16 k h no_header l
 
 -- Once the plates are begun, what comes of it is what comes of all.
-pub streams_from : (course : Course) (bare : PageParts) (header : Header) (counts : SheetCounts) (trays : List TrayState) (racks : List RackState) (result : Result (Unit {0}) StreamStop) → ComesTo course bare header counts trays racks result → StreamsSheet course bare header counts trays racks result
+pub streams_from : (course : Course) (bare : PageParts) (header : Header) (counts : SheetCounts) (trays : List TrayState) (racks : List RackState) (result : Result (Unit {0}) StreamError) → ComesTo course bare header counts trays racks result → StreamsSheet course bare header counts trays racks result
 streams_from course bare header counts trays racks (Ok x) comes = comes
 streams_from course bare header counts trays racks (Err (Unread stop)) comes = inr comes
 streams_from course bare header counts trays racks (Err (Unwritten refusal)) comes = comes

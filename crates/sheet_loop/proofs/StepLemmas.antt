@@ -19,8 +19,8 @@ use Rattle.refusals.specs.declared.refusal.Refusal.{Refusal}
 use Rattle.refusals.specs.declared.refusal.Refusal.TheVariants.{Job as JobFails, Memory, NoDetails, Page, Plate, Read, Usage, Write}
 use Rattle.sheet_loop.specs.declared.room.StreamRoom.{StreamRoom}
 use Rattle.sheet_loop.specs.declared.rows.Progress.{Progress}
-use Rattle.sheet_loop.specs.declared.stop.StreamStop.{StreamStop}
-use Rattle.sheet_loop.specs.declared.stop.StreamStop.TheVariants.{Unread, Unwritten}
+use Rattle.sheet_loop.specs.declared.stop.StreamError.{StreamError}
+use Rattle.sheet_loop.specs.declared.stop.StreamError.TheVariants.{Unread, Unwritten}
 use Rattle.sheet_loop.specs.Courses.{AwaitsCore, Course, HoldsAt, OfEach, RowBreaks, RowsCount, RowsStand, Stops}
 use Rattle.sheet_loop.specs.Going.{IsNextRow, IsStripRow, core_top, gone_on}
 use Rattle.sheet_loop.specs.Reading.{HoldsTo, ReadsRow}
@@ -330,7 +330,7 @@ module _ (bare : PageParts) (plan : StripPlan) (begun : List OpenPlate) (row : S
       unwritten Memory writes = absurd writes
 
 -- The core that waits cannot be written, or then the next strip cannot be read.
-pub stopped_beside : (bare : PageParts) (plan : StripPlan) (begun : List OpenPlate) (last row next : Span) → CanStream bare plan → HaveHeader bare begun → IsStripRow plan.down row → IsNextRow plan.down (gone_on row) next → (old : StreamRoom) → IsSomeStrip bare plan old.strip → (new : PageParts) (trays trays' : List TrayState) (racks racks' : List RackState) (course : Course) (none : SheetCounts) → AwaitsCore course bare plan begun none last row trays racks old → (stop : StreamStop) → WritesAndReads bare plan begun (gone_on row) last next old.strip old.ahead new trays trays' racks racks' (Err stop) → Stops course bare plan begun trays' racks' stop
+pub stopped_beside : (bare : PageParts) (plan : StripPlan) (begun : List OpenPlate) (last row next : Span) → CanStream bare plan → HaveHeader bare begun → IsStripRow plan.down row → IsNextRow plan.down (gone_on row) next → (old : StreamRoom) → IsSomeStrip bare plan old.strip → (new : PageParts) (trays trays' : List TrayState) (racks racks' : List RackState) (course : Course) (none : SheetCounts) → AwaitsCore course bare plan begun none last row trays racks old → (stop : StreamError) → WritesAndReads bare plan begun (gone_on row) last next old.strip old.ahead new trays trays' racks racks' (Err stop) → Stops course bare plan begun trays' racks' stop
 stopped_beside bare plan begun last row next can headers hand is old at_hand new trays trays' racks racks' course none awaits (Unread stop) does = record {
   stops = reading_stops bare plan begun (gone_on row) next can headers is old.strip at_hand trays trays' new course.inputs course.trays awaits.at.holds stop does.1;
   samples = awaits.at.holds.samples;

@@ -13,14 +13,13 @@ use Rattle.plate_rows.specs.Rereading.{HaveRead}
 use Rattle.plate_rows.specs.Trays.{name_at}
 use Rattle.plate_rows.specs.declared.stop.RereadError.{RereadError}
 use Rattle.sheet_loop.specs.declared.room.StreamRoom.{StreamRoom}
-use Rattle.sheet_loop.specs.declared.stop.StreamStop.{StreamStop}
+use Rattle.sheet_loop.specs.declared.stop.StreamError.{StreamError}
 use Rattle.sheet_loop.specs.Courses.{AwaitsCore, BeginsAt, Course, Finishes, HasStreamed, OfEach, Reaches, ReachesLast, RowsCount, RowsStand, StandsAt, Starts, Streams}
-use Rattle.sheet_loop.specs.Going.{IsNextRow, IsProgress, IsStripRow, core_top, not_begun}
+use Rattle.sheet_loop.specs.Going.{IsNextRow, IsStripRow, core_top, not_begun}
 use Rattle.sheet_loop.specs.Reading.{HoldsTo, ReadsRow}
 use Rattle.sheet_loop.specs.Rooms.{CanStream, IsSomeStrip}
 use Rattle.sheet_loop.proofs.StepLemmas.{holds_then, reading_stops, written_then}
 use Rattle.sheet_stream.specs.Growing.{new_rows}
-use Rattle.sheet_windows.specs.declared.spans.Ruler.{Ruler}
 use Rattle.sheet_windows.specs.declared.spans.Span.{Span}
 use Rattle.sheet_windows.specs.Spans.{even_wide}
 use Rattle.sheet_stream.specs.Reading.{HaveHeader}
@@ -72,9 +71,6 @@ module _ (bare : PageParts) (plan : StripPlan) (begun : List OpenPlate) (row : S
     written = none_written course racks starts;
   }
 
-pub before_all : (down : Ruler) → IsProgress down not_begun
-before_all down = record { inside = omega arith; held = omega arith; known = omega arith; placed = λ more. absurd (omega (arith, more)) }
-
 -- after the last one
 pub ends : (course : Course) (bare : PageParts) (plan : StripPlan) (begun : List OpenPlate) (none counts : SheetCounts) (row : Span) (trays : List TrayState) (racks racks' : List RackState) (room : StreamRoom) → CanStream bare plan → HaveHeader bare begun → IsStripRow plan.down row → plan.down.side ≤ core_top row + row.core → (stands : StandsAt course bare plan begun none row trays racks room) → OfEach bare stands.at.holds.samples (RowsStand course bare plan (core_top row + row.core) racks') → OfEach bare stands.at.holds.samples (RowsCount none counts (core_top row + row.core)) → HasStreamed course bare plan begun none counts trays racks'
 ends course bare plan begun none counts row trays racks racks' room can headers is last stands written counted =
@@ -94,11 +90,11 @@ ends course bare plan begun none counts row trays racks racks' room can headers 
     }
 
 -- from where the first strip is at hand, as from where it was begun
-pub finished : (bare : PageParts) (plan : StripPlan) (begun : List OpenPlate) (first : Span) (none : SheetCounts) (trays trays' trays'' : List TrayState) (racks racks' : List RackState) (old new : StreamRoom) (result : Result (Unit {0}) StreamStop) → Finishes bare plan begun first trays' trays'' racks racks' old new result → ((course : Course) → Starts course bare plan begun trays racks → StandsAt course bare plan begun none first trays' racks old) → Streams bare plan begun none new.counts trays trays'' racks racks' result
+pub finished : (bare : PageParts) (plan : StripPlan) (begun : List OpenPlate) (first : Span) (none : SheetCounts) (trays trays' trays'' : List TrayState) (racks racks' : List RackState) (old new : StreamRoom) (result : Result (Unit {0}) StreamError) → Finishes bare plan begun first trays' trays'' racks racks' old new result → ((course : Course) → Starts course bare plan begun trays racks → StandsAt course bare plan begun none first trays' racks old) → Streams bare plan begun none new.counts trays trays'' racks racks' result
 finished bare plan begun first none trays trays' trays'' racks racks' old new (Ok done) finishes stands = λ course starts. finishes course none (stands course starts)
 finished bare plan begun first none trays trays' trays'' racks racks' old new (Err stop) finishes stands = λ course starts. finishes course none (stands course starts)
 
 -- from where the second strip is at hand, as from the first
-pub reached : (bare : PageParts) (plan : StripPlan) (begun : List OpenPlate) (first second : Span) (trays trays' trays'' : List TrayState) (racks racks' : List RackState) (old mid new : StreamRoom) (result : Result Span StreamStop) → Reaches bare plan begun first second trays' trays'' racks racks' mid new result → ((course : Course) (none : SheetCounts) → StandsAt course bare plan begun none first trays racks old → AwaitsCore course bare plan begun none first second trays' racks mid) → ReachesLast bare plan begun first trays trays'' racks racks' old new result
+pub reached : (bare : PageParts) (plan : StripPlan) (begun : List OpenPlate) (first second : Span) (trays trays' trays'' : List TrayState) (racks racks' : List RackState) (old mid new : StreamRoom) (result : Result Span StreamError) → Reaches bare plan begun first second trays' trays'' racks racks' mid new result → ((course : Course) (none : SheetCounts) → StandsAt course bare plan begun none first trays racks old → AwaitsCore course bare plan begun none first second trays' racks mid) → ReachesLast bare plan begun first trays trays'' racks racks' old new result
 reached bare plan begun first second trays trays' trays'' racks racks' old mid new (Ok end) reaches leads = λ course none stands. reaches course none (leads course none stands)
 reached bare plan begun first second trays trays' trays'' racks racks' old mid new (Err stop) reaches leads = λ course none stands. reaches course none (leads course none stands)

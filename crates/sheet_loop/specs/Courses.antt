@@ -16,8 +16,8 @@ use Rattle.plate_rows.specs.declared.stop.RereadError.{RereadError}
 use Rattle.refusals.specs.declared.refusal.Refusal.{Refusal}
 use Rattle.refusals.specs.declared.refusal.Refusal.TheVariants.{Write}
 use Rattle.sheet_loop.specs.declared.room.StreamRoom.{StreamRoom}
-use Rattle.sheet_loop.specs.declared.stop.StreamStop.{StreamStop}
-use Rattle.sheet_loop.specs.declared.stop.StreamStop.TheVariants.{Unread, Unwritten}
+use Rattle.sheet_loop.specs.declared.stop.StreamError.{StreamError}
+use Rattle.sheet_loop.specs.declared.stop.StreamError.TheVariants.{Unread, Unwritten}
 use Rattle.sheet_loop.specs.Going.{IsStripRow, core_top, gone_on}
 use Rattle.sheet_loop.specs.Reading.{HoldsTo}
 use Rattle.sheet_loop.specs.Waiting.{PlatesOpen, WritesRow}
@@ -44,12 +44,12 @@ abbrev pub OfEach : PageParts → (ℕ → List ℕ) → (PageParts → Type 0) 
 OfEach bare samples Fact =
     (sheet : PageParts) → BeginsWith bare (tints_for bare samples) sheet → Fact sheet
 
--- The new tints of so many rows are written.
+-- The new tints of `rows` rows are written.
 abbrev pub RowsStand : Course → PageParts → StripPlan → ℕ → List RackState → PageParts → Type 0
 RowsStand course bare plan rows racks sheet =
     RowsAreWritten course.outputs plan.header (plates bare) sheet rows course.racks racks
 
--- What was counted since counts of none is what is counted in so many rows.
+-- What was counted since all counts were 0 is what is counted in `rows` rows.
 abbrev pub RowsCount : SheetCounts → SheetCounts → ℕ → PageParts → Type 0
 RowsCount none counts rows sheet = AddsArea sheet 0 0 (width sheet) rows none counts
 
@@ -116,7 +116,7 @@ pub record StopsUnwritten (course : Course) (bare : PageParts) (plan : StripPlan
 
 -- What a stop says of a course.
 abbrev pub Stops : Course → PageParts → StripPlan → List OpenPlate → List TrayState
-    → List RackState → StreamStop → Type 0
+    → List RackState → StreamError → Type 0
 Stops course bare plan begun trays racks (Unread stop) =
     StopsUnread course bare plan begun trays racks stop
 Stops course bare plan begun trays racks (Unwritten (Write (Some k))) =
@@ -166,7 +166,7 @@ pub record HasStreamed (course : Course) (bare : PageParts) (plan : StripPlan)
 -- From where its plates and files are begun a sheet streams to its end, or to a stop.
 abbrev pub Streams : PageParts → StripPlan → List OpenPlate → SheetCounts → SheetCounts
     → List TrayState → List TrayState → List RackState → List RackState
-    → Result (Unit {0}) StreamStop → Type 0
+    → Result (Unit {0}) StreamError → Type 0
 Streams bare plan begun none counts trays trays' racks racks' (Ok done) = (course : Course)
     → Starts course bare plan begun trays racks
     → HasStreamed course bare plan begun none counts trays' racks'
@@ -200,7 +200,7 @@ GoesFirst bare plan begun row next trays trays' old new (Err stop) =
 -- hand, whatever course leads to it.
 abbrev pub GoesOn : PageParts → StripPlan → List OpenPlate → Span → Span → Span
     → List TrayState → List TrayState → List RackState → List RackState
-    → StreamRoom → StreamRoom → Result (Unit {0}) StreamStop → Type 0
+    → StreamRoom → StreamRoom → Result (Unit {0}) StreamError → Type 0
 GoesOn bare plan begun last row next trays trays' racks racks' old new (Ok done) =
     (course : Course) (none : SheetCounts)
     → AwaitsCore course bare plan begun none last row trays racks old
@@ -213,7 +213,7 @@ GoesOn bare plan begun last row next trays trays' racks racks' old new (Err stop
 -- From the second strip on all strips are put but the last, which is at hand then.
 abbrev pub Reaches : PageParts → StripPlan → List OpenPlate → Span → Span → List TrayState
     → List TrayState → List RackState → List RackState → StreamRoom → StreamRoom
-    → Result Span StreamStop → Type 0
+    → Result Span StreamError → Type 0
 Reaches bare plan begun last row trays trays' racks racks' old new (Ok end) =
     (course : Course) (none : SheetCounts)
     → AwaitsCore course bare plan begun none last row trays racks old
@@ -226,7 +226,7 @@ Reaches bare plan begun last row trays trays' racks racks' old new (Err stop) =
 -- From the first strip on, the same.
 abbrev pub ReachesLast : PageParts → StripPlan → List OpenPlate → Span → List TrayState
     → List TrayState → List RackState → List RackState → StreamRoom → StreamRoom
-    → Result Span StreamStop → Type 0
+    → Result Span StreamError → Type 0
 ReachesLast bare plan begun row trays trays' racks racks' old new (Ok end) =
     (course : Course) (none : SheetCounts)
     → StandsAt course bare plan begun none row trays racks old
@@ -244,7 +244,7 @@ pub record IsLastRow (plan : StripPlan) (row : Span) : Type 0 where
 -- The strip at hand and all strips below it are trapped, counted and written, or that stops.
 abbrev pub Finishes : PageParts → StripPlan → List OpenPlate → Span → List TrayState
     → List TrayState → List RackState → List RackState → StreamRoom → StreamRoom
-    → Result (Unit {0}) StreamStop → Type 0
+    → Result (Unit {0}) StreamError → Type 0
 Finishes bare plan begun row trays trays' racks racks' old new (Ok done) =
     (course : Course) (none : SheetCounts)
     → StandsAt course bare plan begun none row trays racks old

@@ -25,7 +25,7 @@ pub record IsProgress (down : Ruler) (progress : Progress) : Type 0 where
 abbrev pub core_top : Span → ℕ
 core_top row = row.from + row.skip
 
--- These rows are the next strip's: they begin among those that are held, or right behind them.
+-- These rows are the next strip's: they begin among those in memory, or right after them.
 pub record IsNextRow (down : Ruler) (progress : Progress) (row : Span) : Type 0 where
   pub span : IsSpan down progress.at row
   pub wide : row.wide ≡ even_wide down

@@ -1,4 +1,4 @@
--- The rows of the next strip are read, behind those that it has in common with the strip at hand.
+-- The rows of the next strip are read, after those that it has in common with the current strip.
 use Rattle.std.specs.Prelude.{◌≡◌, ◌⊎◌, ℕ, ◌+◌, ◌-◌, ◌*◌, ◌<◌, List, length, Result}
 use Rattle.outside.specs.Tray.{TrayState}
 use Rattle.page_model.specs.declared.parts.PageParts.{PageParts}

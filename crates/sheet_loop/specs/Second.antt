@@ -20,8 +20,8 @@ use Rattle.plate_rows.specs.Rereading.{EndsPlates, HaveRead, StopsReading}
 use Rattle.plate_rows.specs.Trays.{EachTray, IsCalm, TakesFiles, name_at}
 use Rattle.plate_rows.specs.declared.stop.RereadError.{RereadError}
 use Rattle.refusals.specs.declared.refusal.Refusal.TheVariants.{Write}
-use Rattle.sheet_loop.specs.declared.stop.StreamStop.{StreamStop}
-use Rattle.sheet_loop.specs.declared.stop.StreamStop.TheVariants.{Unread, Unwritten}
+use Rattle.sheet_loop.specs.declared.stop.StreamError.{StreamError}
+use Rattle.sheet_loop.specs.declared.stop.StreamError.TheVariants.{Unread, Unwritten}
 use Rattle.sheet_loop.specs.Courses.{Course, OfEach, Starts}
 use Rattle.sheet_stream.specs.Reading.{HaveHeader}
 use Rattle.sheet_stream.specs.Writing.{StandsInPart}
@@ -102,7 +102,7 @@ pub record IsUnwritten (course : Course) (bare : PageParts) (header : Header)
 
 -- The plates and the files are begun; this is what comes of it.
 abbrev pub ComesTo : Course → PageParts → Header → SheetCounts → List TrayState → List RackState
-    → Result (Unit {0}) StreamStop → Type 0
+    → Result (Unit {0}) StreamError → Type 0
 ComesTo course bare header counts trays racks (Ok done) =
     IsDone course bare header counts trays racks
 ComesTo course bare header counts trays racks (Err (Unread stop)) =
@@ -113,7 +113,7 @@ ComesTo course bare header counts trays racks (Err (Unwritten other)) = ⊥
 
 -- .. from wherever that began
 abbrev pub EndsCourse : PageParts → StripPlan → List OpenPlate → SheetCounts → List TrayState
-    → List TrayState → List RackState → List RackState → Result (Unit {0}) StreamStop → Type 0
+    → List TrayState → List RackState → List RackState → Result (Unit {0}) StreamError → Type 0
 EndsCourse bare plan begun counts trays trays' racks racks' result = (course : Course)
     → Starts course bare plan begun trays racks
     → ComesTo course bare plan.header counts trays' racks' result
@@ -132,7 +132,7 @@ pub record IsBegun (begun : List OpenPlate) (trays : List TrayState) : Type 0 wh
 -- After plates that are begun, their files are created and written.
 abbrev pub WritesBegun : List (List ℕ) → PageParts → StripPlan → List OpenPlate → SheetCounts
     → List TrayState → List TrayState → List RackState → List RackState
-    → Result (Unit {0}) StreamStop → Type 0
+    → Result (Unit {0}) StreamError → Type 0
 WritesBegun outputs bare plan begun counts trays trays' racks racks' result =
     (inputs : List (List ℕ)) (start : List TrayState)
     → HaveRead inputs begun (length begun) (λ k. []) start trays
@@ -146,7 +146,7 @@ pub record CanEnd (plate : OpenPlate) (tray : TrayState) : Type 0 where
 
 -- The plates are ended, and then the files.
 abbrev pub EndsBoth : List OpenPlate → List TrayState → List TrayState → List RackState
-    → List RackState → Result (Unit {0}) StreamStop → Type 0
+    → List RackState → Result (Unit {0}) StreamError → Type 0
 EndsBoth begun trays trays' racks racks' (Ok done) =
     EndsPlates begun trays trays' (Ok tt) × EndsImages (length begun) racks racks' (Ok tt)
 EndsBoth begun trays trays' racks racks' (Err (Unread stop)) =
@@ -157,7 +157,7 @@ EndsBoth begun trays trays' racks racks' (Err (Unwritten refusal)) =
 
 -- Before a file is created the reading may stop, with all racks as they were.
 abbrev pub StreamsSheet : Course → PageParts → Header → SheetCounts → List TrayState
-    → List RackState → Result (Unit {0}) StreamStop → Type 0
+    → List RackState → Result (Unit {0}) StreamError → Type 0
 StreamsSheet course bare header counts trays racks (Err (Unread stop)) =
     (StopsReading course.inputs (λ k. sheet_header bare) (plates bare) course.trays trays stop
     × (racks ≡ course.racks)) ⊎ IsUnread course bare header trays racks stop

@@ -7,8 +7,8 @@ use Rattle.page_model.specs.Page.{maxval, plates, width}
 use Rattle.pgm_plates.specs.declared.rows.OpenPlate.{OpenPlate}
 use Rattle.refusals.specs.declared.refusal.Refusal.{Refusal}
 use Rattle.sheet_loop.specs.declared.rows.Progress.{Progress}
-use Rattle.sheet_loop.specs.declared.stop.StreamStop.{StreamStop}
-use Rattle.sheet_loop.specs.declared.stop.StreamStop.TheVariants.{Unread, Unwritten}
+use Rattle.sheet_loop.specs.declared.stop.StreamError.{StreamError}
+use Rattle.sheet_loop.specs.declared.stop.StreamError.TheVariants.{Unread, Unwritten}
 use Rattle.sheet_loop.specs.Reading.{ReadsRow}
 use Rattle.sheet_windows.specs.declared.spans.Span.{Span}
 use Rattle.strip_rows.specs.declared.parts.StripPlan.{StripPlan}
@@ -39,7 +39,7 @@ WritesRow plan row strip racks racks' result = WritesCore (plates strip) plan.he
 -- The core that waits is written; then the next strip is read, in the place of the one that waited.
 abbrev pub WritesAndReads : PageParts → StripPlan → List OpenPlate → Progress → Span → Span
     → PageParts → PageParts → PageParts → List TrayState → List TrayState → List RackState
-    → List RackState → Result (Unit {0}) StreamStop → Type 0
+    → List RackState → Result (Unit {0}) StreamError → Type 0
 WritesAndReads bare plan begun progress last next strip waiting new trays trays' racks racks'
     (Ok done) = WritesRow plan last waiting racks racks' (Ok tt)
     × ReadsRow bare begun progress next strip new trays trays' (Ok tt)

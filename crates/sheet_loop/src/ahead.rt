@@ -1,4 +1,4 @@
-// The next strip of a sheet, read while the strip at hand is trapped.
+// The next strip of a sheet, read while the current strip is trapped.
 
 ghost use Rattle.std.specs.Prelude.{◌≡◌, ◌≤◌, length, map};
 ghost use Rattle.sheet_loop.specs.Going.{IsStripRow, gone_on};
@@ -6,7 +6,7 @@ ghost use Rattle.sheet_loop.specs.Reading.{CanReadRow, ReadsRow};
 ghost use Rattle.strip_rows.specs.Ready.{IsTrappable, TrapsRow};
 
 use crate::room::StreamRoom;
-use crate::rows::{Progress, gone_on_by};
+use crate::rows::{Progress, progress_after};
 use outside::tray::Tray;
 use page_model::parts::PageParts;
 use pgm_plates::rows::OpenPlate;
@@ -21,10 +21,10 @@ use std::thread::Threads;
 use strip_rows::parts::StripPlan;
 use strip_rows::strip::trap_row;
 
-/// Turns the next strip to these rows, copies those of them that the strip at hand has too out of it, and reads the others,
-/// each plate by the tray of its number. It takes no memory.
+/// Moves the next strip to these rows, copies those of them that the current strip has too from it, and reads the
+/// others, plate k by tray k. It allocates nothing.
 ///
-/// It stops at the first plate that has a fault now or cannot be read.
+/// It stops at the first plate that has a fault now or can't be read.
 pub fn read_row<T: Tray>(
     alloc: Global,
     trays: &mut [T],
@@ -57,10 +57,10 @@ pub fn read_row<T: Tray>(
     read_ahead(alloc, trays, plates, next, strip, by, ahead, bytes)
 }
 
-/// Traps the strip at hand and counts its core, and makes the next strip: side by side, the reading in the caller's thread;
-/// by one worker one after the other. It takes no memory but that of threads.
+/// Traps the current strip and counts its core, and makes the next strip: side by side, with the reading in the
+/// caller's thread; or with one worker one after the other. It allocates nothing but what threads take.
 ///
-/// It stops at the first plate that has a fault now or cannot be read.
+/// It stops at the first plate that has a fault now or can't be read.
 pub fn trap_and_read<H: Threads + Sync, T: Tray>(
     rt: &H,
     alloc: Global,
@@ -87,7 +87,7 @@ pub fn trap_and_read<H: Threads + Sync, T: Tray>(
     ensures read { ReadsRow bare.now plates.now (gone_on row.now) next.now room.old.strip
         room.new.ahead (map T.state trays.old) (map T.state trays.new) result }
 {
-    let progress = &gone_on_by(&plan.down, row);
+    let progress = &progress_after(&plan.down, row);
     let strip = &room.strip;
     let parts = strip.parts();
     let windows = &mut room.windows;

@@ -1,4 +1,4 @@
-// The core of the strip before written and the next strip read, while the strip at hand is trapped.
+// The core of the strip before is written and the next strip is read, while the current strip is trapped.
 
 ghost use Rattle.std.specs.Prelude.{◌≡◌, ◌≤◌, length, map};
 ghost use Rattle.page_model.specs.Page.{plates};
@@ -11,8 +11,8 @@ ghost use Rattle.strip_rows.specs.Ready.{IsTrappable, TrapsRow};
 
 use crate::ahead::read_row;
 use crate::room::{StreamRoom, no_parts};
-use crate::rows::{Progress, gone_on_by};
-use crate::stop::StreamStop;
+use crate::rows::{Progress, progress_after};
+use crate::stop::StreamError;
 use outside::rack::Rack;
 use outside::tray::Tray;
 use page_model::parts::PageParts;
@@ -26,7 +26,8 @@ use strip_rows::parts::StripPlan;
 use strip_rows::strip::{CoreRoom, trap_row, write_row};
 use window_pages::sheet::Sheet;
 
-/// Writes the rows of the core of a strip that waits for it, each plate by the rack of its number. It takes no memory.
+/// Writes the rows of the core of a strip that was trapped and not written yet, plate k by rack k. It allocates
+/// nothing.
 ///
 /// Where a call of a rack fails, it stops with `Write` and the plate's number.
 pub fn write_waiting<R: Rack>(
@@ -54,10 +55,11 @@ pub fn write_waiting<R: Rack>(
     result
 }
 
-/// Writes the core of the strip that waits for it, each plate by the rack of its number, and makes it the next strip, each
-/// plate by the tray of its number. It takes no memory.
+/// Writes the core of the strip that was trapped and not written yet, plate k by rack k, and then reads the next strip
+/// into its place, plate k by tray k. It allocates nothing.
 ///
-/// It stops where a call of a rack fails, with nothing read, and at the first plate that has a fault now or cannot be read.
+/// It stops where a call of a rack fails, with nothing read, and at the first plate that has a fault now or can't be
+/// read.
 pub fn write_and_read<T: Tray, R: Rack>(
     alloc: Global,
     trays: &mut [T],
@@ -72,7 +74,7 @@ pub fn write_and_read<T: Tray, R: Rack>(
     ahead: &mut PageParts,
     core: &mut CoreRoom,
     bytes: &mut Vec<u8>,
-) -> Result<(), StreamStop>
+) -> Result<(), StreamError>
     requires opened { PlatesOpen plan.now ahead.old (map R.state racks.old) }
     requires waiting { IsWaiting plan.now last.now ahead.old core.old }
     requires can { CanReadRow bare.now plan.now plates.now progress.now next.now
@@ -94,17 +96,18 @@ pub fn write_and_read<T: Tray, R: Rack>(
             alloc, trays, bare, plan, plates, progress, next, strip, ahead, bytes,
         ) {
             Ok(()) => Ok(()),
-            Err(stop) => Err(StreamStop::Unread(stop)),
+            Err(stop) => Err(StreamError::Unread(stop)),
         },
-        Err(refusal) => Err(StreamStop::Unwritten(refusal)),
+        Err(refusal) => Err(StreamError::Unwritten(refusal)),
     }
 }
 
-/// Traps the strip at hand and counts its core, writes the core of the strip before it, which waits for that, and makes the
-/// next strip: the writing and then the reading in the caller's thread, beside the trapping; by one worker one after the
-/// other. It takes no memory but that of threads.
+/// Traps the current strip and counts its core, writes the core of the strip before it, and makes the next strip: first
+/// the writing and then the reading in the caller's thread, beside the trapping; or with one worker one after the
+/// other. It allocates nothing but what threads take.
 ///
-/// It stops where a call of a rack fails, with nothing read, and at the first plate that has a fault now or cannot be read.
+/// It stops where a call of a rack fails, with nothing read, and at the first plate that has a fault now or can't be
+/// read.
 pub fn trap_beside<H: Threads + Sync, T: Tray, R: Rack>(
     rt: &H,
     alloc: Global,
@@ -117,7 +120,7 @@ pub fn trap_beside<H: Threads + Sync, T: Tray, R: Rack>(
     row: &Span,
     next: &Span,
     room: &mut StreamRoom,
-) -> Result<(), StreamStop>
+) -> Result<(), StreamError>
     requires row { IsStripRow plan.now.down row.now }
     requires trap { IsTrappable plan.now row.now room.old.strip room.old.windows
         room.old.counts }
@@ -140,7 +143,7 @@ pub fn trap_beside<H: Threads + Sync, T: Tray, R: Rack>(
         room.old.strip room.old.ahead room.new.ahead (map T.state trays.old)
         (map T.state trays.new) (map R.state racks.old) (map R.state racks.new) result }
 {
-    let progress = &gone_on_by(&plan.down, row);
+    let progress = &progress_after(&plan.down, row);
     let strip = &room.strip;
     let parts = strip.parts();
     let windows = &mut room.windows;
@@ -160,7 +163,7 @@ pub fn trap_beside<H: Threads + Sync, T: Tray, R: Rack>(
         &mut ||
             requires { IsTrappable plan.now row.now strip.now windows.now counts.now }
         { trap_row(rt, plan, row, strip, windows, counts) },
-        &mut || -> Result<(), StreamStop>
+        &mut || -> Result<(), StreamError>
             requires opened { PlatesOpen plan.now ahead.now (map R.state racks.now) }
             requires waiting { IsWaiting plan.now last.now ahead.now core.now }
             requires can { CanReadRow bare.now plan.now plates.now progress.now next.now

@@ -13,7 +13,7 @@ ghost use Rattle.window_pages.specs.Sheets.{IsCuttable};
 
 use crate::rows::{Progress, next_row};
 use lists::list::List;
-use lists::memory::filled;
+use lists::memory::vec_of;
 use page_model::parts::{OutOfMemory, PageParts};
 use sheet_stream::strip::first_strip;
 use sheet_windows::spans::{Span, spans_of};
@@ -25,12 +25,12 @@ use strip_tiles::room::StripRoom;
 use tile_counts::counts::SheetCounts;
 use window_pages::sheet::Sheet;
 
-// How many bytes of a plate are read at a time, and how many of its samples are written at a time, at most.
+// The greatest number of bytes of a plate that are read at a time, and of its samples that are written at a time.
 const PIECE: usize = 65_536;
 
-/// What a sheet is streamed through: the strip at hand, the other one, which was trapped before it and is the next one once its
-/// core is written, room for the windows of each, by turns, the second with room to write a core through, what is counted so
-/// far, and room for the bytes that are read at a time.
+/// What a sheet is streamed with: the current strip; the other strip, which was trapped before it and becomes the next
+/// one once its core is written; the buffers for the windows of each, in turn, the second with those to write a core;
+/// the counts so far; and the buffer for the bytes that are read at a time.
 #[derive(Drop)]
 pub struct StreamRoom {
     pub strip: Sheet,
@@ -41,7 +41,7 @@ pub struct StreamRoom {
     pub pieces: Vec<u8>,
 }
 
-/// All memory that a sheet is streamed through, with counts of none. It refuses nothing but for out of memory.
+/// Allocates all memory that a sheet is streamed with, with all counts 0. It fails only where memory runs out.
 pub fn stream_room(
     alloc: Global,
     bare: &PageParts,
@@ -64,7 +64,7 @@ pub fn stream_room(
     room_of(alloc, bare, plan, &row, columns.as_slice(), strip, ahead)
 }
 
-// The same with two strips of no ink, cut into these columns.
+// Does the same with two strips of tints 0, cut into these columns.
 fn room_of(
     alloc: Global,
     bare: &PageParts,
@@ -96,7 +96,7 @@ fn room_of(
     }
 }
 
-// What strips are trapped, counted and read through.
+// The buffers that strips are trapped, counted and read with.
 #[derive(Drop)]
 struct Means {
     windows: StripRoom,
@@ -105,8 +105,8 @@ struct Means {
     pieces: Vec<u8>,
 }
 
-// All that a strip of these rows wants beside itself. What is small is taken first, so that little has to be let go where memory
-// runs out.
+// Allocates all that a strip of these rows needs beside itself. What is small comes first, so that little has to be
+// freed where memory runs out.
 fn means_of(
     alloc: Global,
     bare: &PageParts,
@@ -127,7 +127,7 @@ fn means_of(
     ensures pieces { IfOk result (λ means. 2 ≤ length means.pieces.items) }
     ensures counts { IfOk result (λ means. AreNone strip.now means.counts) }
 {
-    let pieces = filled(alloc, 0u8, PIECE)?;
+    let pieces = vec_of(alloc, 0u8, PIECE)?;
     let counts = no_sheet_counts(alloc, strip)?;
     let core = second_room(alloc, bare, plan, row, columns, strip)?;
     let windows = windows_of(alloc, plan, row, columns, strip)?;
@@ -139,7 +139,7 @@ fn means_of(
     })
 }
 
-// The second room for the windows of a strip of these rows, with room to write its core through.
+// Allocates the second buffers for the windows of a strip of these rows, with those to write its core.
 fn second_room(
     alloc: Global,
     bare: &PageParts,
@@ -162,7 +162,7 @@ fn second_room(
     }
 }
 
-// The room for the windows of a strip of these rows.
+// Allocates the buffers for the windows of a strip of these rows.
 fn windows_of(
     alloc: Global,
     plan: &StripPlan,
@@ -178,8 +178,8 @@ fn windows_of(
     StripRoom::new(alloc, strip, &cut.across, &cut.down, columns, &cut.row)
 }
 
-// With room for so many rows of all plates that those of one are a piece at most, or for one row, and for two bytes of each
-// sample of a piece.
+// With a buffer for as many rows of all plates as make a piece of one plate at most, or for one row, and a buffer of
+// two bytes for each sample of a piece.
 fn core_room(alloc: Global, bare: &PageParts, windows: StripRoom) -> Result<CoreRoom, OutOfMemory>
     requires bare { IsBareSheet bare.now }
     requires narrow { width bare.now < 2 ^ 30 }
@@ -189,8 +189,8 @@ fn core_room(alloc: Global, bare: &PageParts, windows: StripRoom) -> Result<Core
 {
     let planes = bare.planes.as_slice();
     let wide = planes[0].width as usize;
-    let line = filled(alloc, 0u16, planes.len() * wide.max(PIECE))?;
-    let bytes = filled(alloc, 0u8, 2 * PIECE)?;
+    let line = vec_of(alloc, 0u16, planes.len() * wide.max(PIECE))?;
+    let bytes = vec_of(alloc, 0u8, 2 * PIECE)?;
     Ok(CoreRoom {
         windows,
         line,
@@ -198,8 +198,8 @@ fn core_room(alloc: Global, bare: &PageParts, windows: StripRoom) -> Result<Core
     })
 }
 
-/// The strips change places, and so do the rooms for their windows: the strip that was read is the one at hand then, and what
-/// was trapped is written out of the second room.
+/// Exchanges the strips, and the buffers for their windows: the strip that was read becomes the current one, and the
+/// strip that was trapped is written from the second buffers.
 pub fn change_places(alloc: Global, room: &mut StreamRoom)
     requires { IsCuttable room.old.ahead }
     ensures strip { room.new.strip ≡ room.old.ahead }
@@ -217,7 +217,7 @@ pub fn change_places(alloc: Global, room: &mut StreamRoom)
     std::mem::swap(&mut room.windows, &mut room.core.windows);
 }
 
-/// No plates, to stand in a strip's place. It takes no memory.
+/// No plates, as a placeholder for a strip. It allocates nothing.
 pub fn no_parts(alloc: Global) -> PageParts {
     PageParts {
         resolution: 0,

@@ -6,18 +6,19 @@ ghost use Rattle.sheet_windows.specs.Spans.{IsEvenRuler};
 
 use sheet_windows::spans::{Ruler, Span, even_span_at};
 
-/// How far a sheet has been read, in rows from its top.
+/// How far a sheet was read, in rows from its top.
 #[derive(Clone, Copy, Drop)]
 pub struct Progress {
-    /// Where the next strip's core begins: the rows above it are done with, or in the cores of strips that were read.
+    /// The first row of the next strip's core: the rows above it are finished, or in the cores of strips that were
+    /// read.
     pub at: u32,
-    /// The first row that is held.
+    /// The first row that is in memory.
     pub from: u32,
-    /// The first row that is not read.
+    /// The first row that was not read.
     pub read: u32,
 }
 
-/// The rows of the next strip, as many as each strip has. None of them is above those that are held: a window begins no
+/// The rows of the next strip, as many as each strip has. None of them is above the rows in memory: a window begins no
 /// higher than the one before it.
 pub fn next_row(down: &Ruler, progress: Progress) -> Span
     requires ruler { IsEvenRuler down.now }
@@ -36,8 +37,8 @@ pub fn next_row(down: &Ruler, progress: Progress) -> Span
     }
 }
 
-/// How far it has been read once the strip of these rows is.
-pub fn gone_on_by(down: &Ruler, row: &Span) -> Progress
+/// How far the sheet was read once the strip of these rows is.
+pub fn progress_after(down: &Ruler, row: &Span) -> Progress
     requires { IsStripRow down.now row.now }
     ensures value { result ≡ gone_on row.now }
     ensures is { IsProgress down.now result }

@@ -9,12 +9,14 @@ ghost use Rattle.plate_rows.specs.Trays.{open_at, tray_at};
 ghost use Rattle.sheet_loop.specs.Second.{CanEnd, EndsBoth, EndsCourse, IsBegun, StreamsSheet, WritesBegun, course_of, sheet_header};
 ghost use Rattle.sheet_stream.specs.Reading.{HaveHeader};
 ghost use Rattle.strip_tiles.specs.Works.{AreNone};
+ghost use Rattle.page_model.specs.Limits.{most_plates};
 
 use crate::room::StreamRoom;
-use crate::stop::StreamStop;
+use crate::stop::StreamError;
 use crate::strips::stream_strips;
 use outside::rack::Rack;
 use outside::tray::Tray;
+use page_model::bounds::MOST_PLATES;
 use page_model::parts::PageParts;
 use pgm_plates::rows::OpenPlate;
 use plate_rows::images::{begin_images, end_images};
@@ -24,12 +26,12 @@ use std::convert::AsStr;
 use std::thread::Threads;
 use strip_rows::parts::StripPlan;
 
-/// Reads the plates of a sheet that was judged once more, each by the tray of its number, and traps it strip by strip; what
-/// comes of each plate is written into the file of its name by the rack of its number. It takes no memory.
+/// Reads the plates of a sheet that was checked once more, plate k by tray k, and traps it strip by strip; the new
+/// plates are written to the files of their names, plate k by rack k. It allocates nothing.
 ///
-/// It stops at the first plate that has another header or a fault now, or cannot be read, and where a call of a rack fails.
-/// No file is created before each plate has the sheet's header again. Where it stops, of each file that was created a prefix
-/// stands of what was to be written.
+/// It stops at the first plate that has another header or a fault now, or can't be read, and where a call of a rack
+/// fails. No file is created before each plate has the sheet's header again. Where it stops, each file that was created
+/// has a prefix of what was to be written.
 pub fn stream_sheet<H: Threads + Sync, T: Tray, R: Rack, S: AsStr>(
     rt: &H,
     alloc: Global,
@@ -40,7 +42,7 @@ pub fn stream_sheet<H: Threads + Sync, T: Tray, R: Rack, S: AsStr>(
     bare: &PageParts,
     plan: &StripPlan,
     room: &mut StreamRoom,
-) -> Result<(), StreamStop>
+) -> Result<(), StreamError>
     requires can { CanStream bare.now plan.now }
     requires header { plan.now.header ≡ sheet_header bare.now }
     requires inputs { length inputs.now ≡ plates bare.now }
@@ -58,18 +60,18 @@ pub fn stream_sheet<H: Threads + Sync, T: Tray, R: Rack, S: AsStr>(
         header: plan.header,
         size: 0,
     };
-    let mut plates = [none; 16];
-    let headers = [plan.header; 16];
+    let mut plates = [none; MOST_PLATES];
+    let headers = [plan.header; MOST_PLATES];
     match begin_plates(trays, inputs, &headers, &mut plates) {
         Ok(()) => {
             let begun = &plates[..inputs.len()];
             write_sheet(rt, alloc, trays, racks, outputs, bare, plan, begun, room)
         }
-        Err(stop) => Err(StreamStop::Unread(stop)),
+        Err(stop) => Err(StreamError::Unread(stop)),
     }
 }
 
-// The same of plates that are begun.
+// Does the same with the plates begun.
 fn write_sheet<H: Threads + Sync, T: Tray, R: Rack, S: AsStr>(
     rt: &H,
     alloc: Global,
@@ -80,7 +82,7 @@ fn write_sheet<H: Threads + Sync, T: Tray, R: Rack, S: AsStr>(
     plan: &StripPlan,
     plates: &[OpenPlate],
     room: &mut StreamRoom,
-) -> Result<(), StreamStop>
+) -> Result<(), StreamError>
     requires can { CanStream bare.now plan.now }
     requires headers { HaveHeader bare.now plates.now }
     requires outputs { length outputs.now ≡ length plates.now }
@@ -95,11 +97,11 @@ fn write_sheet<H: Threads + Sync, T: Tray, R: Rack, S: AsStr>(
 {
     match begin_images(racks, outputs, plan.header) {
         Ok(()) => write_begun(rt, alloc, trays, racks, bare, plan, plates, room),
-        Err(refusal) => Err(StreamStop::Unwritten(refusal)),
+        Err(refusal) => Err(StreamError::Unwritten(refusal)),
     }
 }
 
-// The same of files that are begun too.
+// Does the same with the plates and the files begun.
 fn write_begun<H: Threads + Sync, T: Tray, R: Rack>(
     rt: &H,
     alloc: Global,
@@ -109,7 +111,7 @@ fn write_begun<H: Threads + Sync, T: Tray, R: Rack>(
     plan: &StripPlan,
     plates: &[OpenPlate],
     room: &mut StreamRoom,
-) -> Result<(), StreamStop>
+) -> Result<(), StreamError>
     requires can { CanStream bare.now plan.now }
     requires headers { HaveHeader bare.now plates.now }
     requires trays { length plates.now ≤ length trays.old }
@@ -127,13 +129,13 @@ fn write_begun<H: Threads + Sync, T: Tray, R: Rack>(
     }
 }
 
-// Looks for what stands behind the plates, and finishes the files.
+// Checks that nothing stands after the plates, and finishes the files.
 fn end_sheet<T: Tray, R: Rack>(
     trays: &mut [T],
     racks: &mut [R],
     plates: &[OpenPlate],
-) -> Result<(), StreamStop>
-    requires few { length plates.now ≤ 16 }
+) -> Result<(), StreamError>
+    requires few { length plates.now ≤ most_plates }
     requires trays { length plates.now ≤ length trays.old }
     requires racks { length plates.now ≤ length racks.old }
     requires read { (k : ℕ) → k < length plates.now → CanEnd (open_at plates.now k)
@@ -146,8 +148,8 @@ fn end_sheet<T: Tray, R: Rack>(
     match end_plates(trays, plates) {
         Ok(()) => match end_images(racks, plates.len()) {
             Ok(()) => Ok(()),
-            Err(refusal) => Err(StreamStop::Unwritten(refusal)),
+            Err(refusal) => Err(StreamError::Unwritten(refusal)),
         },
-        Err(stop) => Err(StreamStop::Unread(stop)),
+        Err(stop) => Err(StreamError::Unread(stop)),
     }
 }

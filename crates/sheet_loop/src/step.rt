@@ -1,5 +1,5 @@
-// The steps of a sheet that streams: the first strip is read, each strip is trapped while the one before it is written and the
-// next one is read, and the last one is put.
+// The steps of a sheet that streams: the first strip is read, each strip is trapped while the one before it is written
+// and the next one is read, and the last one is trapped and written.
 
 ghost use Rattle.std.specs.Prelude.{◌≡◌, ◌*◌, ◌≤◌, OnOk, length, map};
 ghost use Rattle.page_model.specs.Page.{maxval, plates, width};
@@ -17,7 +17,7 @@ use crate::ahead::{read_row, trap_and_read};
 use crate::beside::trap_beside;
 use crate::room::{StreamRoom, change_places};
 use crate::rows::Progress;
-use crate::stop::StreamStop;
+use crate::stop::StreamError;
 use outside::rack::Rack;
 use outside::tray::Tray;
 use page_model::parts::PageParts;
@@ -30,9 +30,9 @@ use std::thread::Threads;
 use strip_rows::parts::StripPlan;
 use strip_rows::strip::{trap_row, write_row};
 
-/// Reads the rows of the first strip, which is at hand then, each plate by the tray of its number. It takes no memory.
+/// Reads the rows of the first strip, which becomes the current one, plate k by tray k. It allocates nothing.
 ///
-/// It stops at the first plate that has a fault now or cannot be read.
+/// It stops at the first plate that has a fault now or can't be read.
 pub fn read_first<T: Tray>(
     alloc: Global,
     trays: &mut [T],
@@ -71,11 +71,11 @@ pub fn read_first<T: Tray>(
     }
 }
 
-/// Traps the first strip, which is at hand, and counts its core while the second strip is read, each plate by the tray of its
-/// number; the second one is at hand then, and the core of the first waits to be written. It takes no memory but that of
-/// threads.
+/// Traps the first strip, which is the current one, and counts its core while the second strip is read, plate k by tray
+/// k. Then the second strip is the current one, and the core of the first is still to be written. It allocates nothing
+/// but what threads take.
 ///
-/// It stops at the first plate that has a fault now or cannot be read.
+/// It stops at the first plate that has a fault now or can't be read.
 pub fn trap_first<H: Threads + Sync, T: Tray>(
     rt: &H,
     alloc: Global,
@@ -108,11 +108,12 @@ pub fn trap_first<H: Threads + Sync, T: Tray>(
     }
 }
 
-/// Traps the strip at hand and counts its core; beside that the core of the strip before, which waits, is written, each plate
-/// by the rack of its number, and the next strip is read, each plate by the tray of its number. The next strip is at hand then,
-/// and the core of the one that was trapped waits. It takes no memory but that of threads.
+/// Traps the current strip and counts its core; beside that the core of the strip before is written, plate k by rack k,
+/// and the next strip is read, plate k by tray k. Then the next strip is the current one, and the core of the one that
+/// was trapped is still to be written. It allocates nothing but what threads take.
 ///
-/// It stops where a call of a rack fails, with nothing read, and at the first plate that has a fault now or cannot be read.
+/// It stops where a call of a rack fails, with nothing read, and at the first plate that has a fault now or can't be
+/// read.
 pub fn stream_strip<H: Threads + Sync, T: Tray, R: Rack>(
     rt: &H,
     alloc: Global,
@@ -125,7 +126,7 @@ pub fn stream_strip<H: Threads + Sync, T: Tray, R: Rack>(
     row: &Span,
     next: &Span,
     room: &mut StreamRoom,
-) -> Result<(), StreamStop>
+) -> Result<(), StreamError>
     requires can { CanStream bare.now plan.now }
     requires headers { HaveHeader bare.now plates.now }
     requires trays { length plates.now ≤ length trays.old }
@@ -153,8 +154,8 @@ pub fn stream_strip<H: Threads + Sync, T: Tray, R: Rack>(
     }
 }
 
-/// Traps the last strip, which is at hand, counts its core, and writes the core's rows, each plate by the rack of its number.
-/// It takes no memory but that of threads.
+/// Traps the last strip, which is the current one, counts its core, and writes the core's rows, plate k by rack k. It
+/// allocates nothing but what threads take.
 ///
 /// Where a call of a rack fails, it stops with `Write` and the plate's number.
 pub fn put_last<H: Threads + Sync, R: Rack>(

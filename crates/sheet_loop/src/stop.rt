@@ -1,10 +1,10 @@
 use plate_rows::stop::RereadError;
 use refusals::refusal::Refusal;
 
-/// Why a sheet that streams stops.
+/// Why a sheet that streams stopped.
 #[derive(Clone, Copy, Debug, Drop, PartialEq, Eq)]
-pub enum StreamStop {
-    /// A plate is not what it was, or a read of it failed.
+pub enum StreamError {
+    /// A plate is not the same any more, or a read of it failed.
     Unread(RereadError),
     /// A call of a rack failed: `Write` with the number of its plate.
     Unwritten(Refusal),

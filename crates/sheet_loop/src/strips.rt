@@ -11,9 +11,9 @@ ghost use Rattle.strip_tiles.specs.Works.{AreNone};
 
 use crate::beside::write_waiting;
 use crate::room::StreamRoom;
-use crate::rows::{Progress, gone_on_by, next_row};
+use crate::rows::{Progress, next_row, progress_after};
 use crate::step::{put_last, read_first, stream_strip, trap_first};
-use crate::stop::StreamStop;
+use crate::stop::StreamError;
 use outside::rack::Rack;
 use outside::tray::Tray;
 use page_model::parts::PageParts;
@@ -23,13 +23,14 @@ use std::alloc::Global;
 use std::thread::Threads;
 use strip_rows::parts::StripPlan;
 
-/// Streams a sheet whose plates and files are begun: strip after strip, from the top, its rows are read, it is trapped by so
-/// many workers, and the rows of its core are written; plate k is read by tray k and written by rack k. With more workers than
-/// one a strip is trapped while the core of the strip above it is written and the rows of the strip below it are read. It takes
-/// no memory but that of threads. Nothing that is written or counted depends on the strips: it is that of the undivided sheet.
+/// Streams a sheet whose plates and files are begun: strip after strip, from the top, its rows are read, it is trapped
+/// by the workers, and the rows of its core are written; plate k is read by tray k and written by rack k. With several
+/// workers a strip is trapped while the core of the strip above it is written and the rows of the strip below it are
+/// read. It allocates nothing but what threads take. Nothing that is written or counted depends on the strips: it is
+/// that of the undivided sheet.
 ///
-/// It stops at the first plate that has a fault now or cannot be read, and where a call of a rack fails; of each file some
-/// first rows are written then.
+/// It stops at the first plate that has a fault now or can't be read, and where a call of a rack fails; each file then
+/// has some of its first rows.
 pub fn stream_strips<H: Threads + Sync, T: Tray, R: Rack>(
     rt: &H,
     alloc: Global,
@@ -39,7 +40,7 @@ pub fn stream_strips<H: Threads + Sync, T: Tray, R: Rack>(
     plan: &StripPlan,
     plates: &[OpenPlate],
     room: &mut StreamRoom,
-) -> Result<(), StreamStop>
+) -> Result<(), StreamError>
     requires can { CanStream bare.now plan.now }
     requires headers { HaveHeader bare.now plates.now }
     requires trays { length plates.now ≤ length trays.old }
@@ -60,11 +61,11 @@ pub fn stream_strips<H: Threads + Sync, T: Tray, R: Rack>(
     let first = next_row(&plan.down, top);
     match read_first(alloc, trays, bare, plan, plates, &first, room) {
         Ok(()) => stream_on(rt, alloc, trays, racks, bare, plan, plates, &first, room),
-        Err(stop) => Err(StreamStop::Unread(stop)),
+        Err(stop) => Err(StreamError::Unread(stop)),
     }
 }
 
-// The same from where the first strip is at hand.
+// Does the same with the first strip read.
 fn stream_on<H: Threads + Sync, T: Tray, R: Rack>(
     rt: &H,
     alloc: Global,
@@ -75,7 +76,7 @@ fn stream_on<H: Threads + Sync, T: Tray, R: Rack>(
     plates: &[OpenPlate],
     first: &Span,
     room: &mut StreamRoom,
-) -> Result<(), StreamStop>
+) -> Result<(), StreamError>
     requires can { CanStream bare.now plan.now }
     requires headers { HaveHeader bare.now plates.now }
     requires trays { length plates.now ≤ length trays.old }
@@ -91,13 +92,14 @@ fn stream_on<H: Threads + Sync, T: Tray, R: Rack>(
     match reach_last(rt, alloc, trays, racks, bare, plan, plates, first, room) {
         Ok(row) => match put_last(rt, racks, plan, &row, room) {
             Ok(()) => Ok(()),
-            Err(refusal) => Err(StreamStop::Unwritten(refusal)),
+            Err(refusal) => Err(StreamError::Unwritten(refusal)),
         },
         Err(stop) => Err(stop),
     }
 }
 
-// Puts all strips but the last, which is at hand then: gives its rows.
+// Traps all strips but the last and writes their cores; the last one is then the current one, and its rows are
+// returned.
 fn reach_last<H: Threads + Sync, T: Tray, R: Rack>(
     rt: &H,
     alloc: Global,
@@ -108,7 +110,7 @@ fn reach_last<H: Threads + Sync, T: Tray, R: Rack>(
     plates: &[OpenPlate],
     first: &Span,
     room: &mut StreamRoom,
-) -> Result<Span, StreamStop>
+) -> Result<Span, StreamError>
     requires can { CanStream bare.now plan.now }
     requires headers { HaveHeader bare.now plates.now }
     requires trays { length plates.now ≤ length trays.old }
@@ -123,7 +125,7 @@ fn reach_last<H: Threads + Sync, T: Tray, R: Rack>(
         (map T.state trays.new) (map R.state racks.old) (map R.state racks.new) room.old room.new
         result }
 {
-    let progress = gone_on_by(&plan.down, first);
+    let progress = progress_after(&plan.down, first);
     if progress.at >= plan.down.side {
         return Ok(*first);
     }
@@ -132,11 +134,11 @@ fn reach_last<H: Threads + Sync, T: Tray, R: Rack>(
         Ok(()) => go_on(
             rt, alloc, trays, racks, bare, plan, plates, first, &second, room,
         ),
-        Err(stop) => Err(StreamStop::Unread(stop)),
+        Err(stop) => Err(StreamError::Unread(stop)),
     }
 }
 
-// The same from where the second strip is at hand, and the core of the first waits to be written.
+// Does the same with the second strip read, and the core of the first still to be written.
 fn go_on<H: Threads + Sync, T: Tray, R: Rack>(
     rt: &H,
     alloc: Global,
@@ -148,7 +150,7 @@ fn go_on<H: Threads + Sync, T: Tray, R: Rack>(
     first: &Span,
     second: &Span,
     room: &mut StreamRoom,
-) -> Result<Span, StreamStop>
+) -> Result<Span, StreamError>
     requires can { CanStream bare.now plan.now }
     requires headers { HaveHeader bare.now plates.now }
     requires trays { length plates.now ≤ length trays.old }
@@ -166,7 +168,7 @@ fn go_on<H: Threads + Sync, T: Tray, R: Rack>(
 {
     let mut last = *first;
     let mut row = *second;
-    let mut progress = gone_on_by(&plan.down, &row);
+    let mut progress = progress_after(&plan.down, &row);
     while progress.at < plan.down.side {
         let next = next_row(&plan.down, progress);
         match stream_strip(
@@ -175,13 +177,13 @@ fn go_on<H: Threads + Sync, T: Tray, R: Rack>(
             Ok(()) => {
                 last = row;
                 row = next;
-                progress = gone_on_by(&plan.down, &row);
+                progress = progress_after(&plan.down, &row);
             }
             Err(stop) => return Err(stop),
         }
     }
     match write_waiting(alloc, racks, plan, &last, &mut room.ahead, &mut room.core) {
         Ok(()) => Ok(row),
-        Err(refusal) => Err(StreamStop::Unwritten(refusal)),
+        Err(refusal) => Err(StreamError::Unwritten(refusal)),
     }
 }

@@ -9,6 +9,7 @@ ghost use Rattle.sheet_stream.specs.Reading.{HaveHeader};
 ghost use Rattle.sheet_stream.specs.Strips.{IsStripOf};
 
 use outside::tray::Tray;
+use page_model::bounds::MOST_PLATES;
 use page_model::parts::{OutOfMemory, PageParts};
 use pgm_plates::rows::{Header, OpenPlate};
 use plate_rows::rereading::{begin_plates, end_plates};
@@ -19,7 +20,7 @@ use sheet_windows::spans::Span;
 use std::alloc::Global;
 use std::convert::AsStr;
 
-/// Room for a sheet with all its rows: a strip of all of them. It refuses nothing but for out of memory.
+/// Allocates a sheet with all its rows, as one strip. It fails only where memory runs out.
 pub fn sheet_room(alloc: Global, bare: &PageParts) -> Result<PageParts, OutOfMemory>
     requires bare { IsBareSheet bare.now }
     requires narrow { width bare.now < 2 ^ 30 }
@@ -36,11 +37,11 @@ pub fn sheet_room(alloc: Global, bare: &PageParts) -> Result<PageParts, OutOfMem
     first_strip(alloc, bare, &row)
 }
 
-/// Reads the plates of a sheet that was judged once more, each by the tray of its number, with all their rows into the room
-/// that is made for them, which is the sheet then. It reads by pieces of as many bytes as there is room for in `bytes`, and
-/// takes no memory.
+/// Reads the plates of a sheet that was checked once more, plate k by tray k, with all their rows into the memory that
+/// was allocated for them, which is then the sheet. `bytes` is the buffer that samples are read through, piece by
+/// piece. It allocates nothing.
 ///
-/// It stops at the first plate that has another header or a fault now, or cannot be read; the room's tints are of no use
+/// It stops at the first plate that has another header or a fault now, or can't be read; the tints must not be used
 /// then.
 pub fn hold_sheet<T: Tray, S: AsStr>(
     alloc: Global,
@@ -61,15 +62,15 @@ pub fn hold_sheet<T: Tray, S: AsStr>(
         (map T.state trays.new) result }
 {
     let none = OpenPlate { header, size: 0 };
-    let mut plates = [none; 16];
-    let headers = [header; 16];
+    let mut plates = [none; MOST_PLATES];
+    let headers = [header; MOST_PLATES];
     match begin_plates(trays, inputs, &headers, &mut plates) {
         Ok(()) => hold_begun(alloc, trays, bare, &plates[..inputs.len()], sheet, bytes),
         Err(stop) => Err(stop),
     }
 }
 
-// The same of plates that are begun.
+// Does the same with the plates begun.
 fn hold_begun<T: Tray>(
     alloc: Global,
     trays: &mut [T],

@@ -20,7 +20,7 @@ pub record AreAlike (old new : List Plane) : Type 0 where
   pub count : length new ≡ length old
   pub each : (c : ℕ) → c < length old → HasForm (plane_at old c) (plane_at new c)
 
--- So many tints of a plane, those behind the first `by`, stand at the front of another one.
+-- `kept` tints of a plane, those after the first `by`, stand at the beginning of another one.
 pub record IsCopied (by kept : ℕ) (old new : Plane) : Type 0 where
   pub form : HasForm old new
   pub first : take kept new.tints ≡ take kept (drop by old.tints)
@@ -30,14 +30,14 @@ pub record AreCopied (by kept : ℕ) (old new : List Plane) : Type 0 where
   pub count : length new ≡ length old
   pub each : (c : ℕ) → c < length old → IsCopied by kept (plane_at old c) (plane_at new c)
 
--- Of each plane the first so many tints are kept; all others may be new.
+-- Of each plane the first `kept` tints are kept; all others may be new.
 pub record AreKept (kept : ℕ) (old new : List Plane) : Type 0 where
   pub count : length new ≡ length old
   pub form : (c : ℕ) → c < length old → HasForm (plane_at old c) (plane_at new c)
   pub first : (c : ℕ) → c < length old → take kept (tints_of new c) ≡ take kept (tints_of old c)
 
--- Of each plate so many rows are held, from one on: they are the last that were read, where these
--- are all tints that were.
+-- Of each plate `rows` rows are in memory, from row `from` on: they are the last that were read,
+-- where these are all tints that were.
 pub record HoldRowsFrom (bare : PageParts) (from rows : ℕ) (tints : ℕ → List ℕ)
     (planes : List Plane) : Type 0 where
   pub count : length planes ≡ plates bare
@@ -47,7 +47,7 @@ pub record HoldRowsFrom (bare : PageParts) (from rows : ℕ) (tints : ℕ → Li
   pub deep : (c : ℕ) → c < plates bare → (plane_at planes c).maxval ≡ maxval bare
   pub held : (c : ℕ) → c < plates bare → tints_of planes c ≡ drop (from * width bare) (tints c)
 
--- planes with room for so many rows
+-- planes that hold `rows` rows
 pub record HaveRoomFor (bare : PageParts) (rows : ℕ) (planes : List Plane) : Type 0 where
   pub count : length planes ≡ plates bare
   pub wide : (c : ℕ) → c < plates bare → (plane_at planes c).width ≡ width bare
@@ -62,7 +62,7 @@ HoldsStrip = (bare sheet : PageParts) (row : Span) (tints : ℕ → List ℕ) (p
     → HoldRowsFrom bare row.from row.wide tints planes → BeginsWith bare tints sheet
     → row.from + row.wide ≤ height sheet → planes ≡ (strip_parts sheet row).planes
 
--- the tints of plate c that stand behind those that are kept
+-- the tints of plate c that stand after those that are kept
 abbrev pub behind : ℕ → List Plane → ℕ → List ℕ
 behind kept planes c = drop kept (tints_of planes c)
 
@@ -71,8 +71,8 @@ abbrev pub NoneAreHeld : Type 0
 NoneAreHeld = (bare : PageParts) (rows : ℕ) (old new : List Plane) → HaveRoomFor bare rows old
     → AreKept 0 old new → HoldRowsFrom bare 0 rows (behind 0 new) new
 
--- Where the rows that two strips have in common are copied to the front, and kept, and the others
--- are read behind them, the rows of the next strip are held.
+-- Where the rows that two strips have in common are copied to the beginning, and kept, and the
+-- others are read after them, the rows of the next strip are in memory.
 abbrev pub NextAreHeld : Type 0
 NextAreHeld = (bare : PageParts) (from next rows : ℕ) (tints : ℕ → List ℕ)
     (old copied new : List Plane) → HoldRowsFrom bare from rows tints old

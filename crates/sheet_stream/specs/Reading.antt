@@ -1,4 +1,4 @@
--- The rows of a strip that are read from the plates' files, behind those that are kept.
+-- The rows of a strip that are read from the plates' files, after those that are kept.
 use Rattle.std.specs.Prelude.{◌≡◌, ℕ, ◌+◌, ◌-◌, ◌*◌, ◌<◌, ◌≤◌, List, [], ◌++◌, length, Result, Ok}
 use Rattle.outside.specs.Tray.{TrayState}
 use Rattle.page_model.specs.declared.parts.PageParts.{PageParts}
@@ -11,8 +11,8 @@ use Rattle.plate_rows.specs.Rereading.{HaveRead, ReadsNext, turned}
 use Rattle.plate_rows.specs.Trays.{open_at}
 use Rattle.sheet_stream.specs.Holding.{AreCopied, HaveRoomFor, HoldRowsFrom}
 
--- Of each plane the tints that are kept, those behind the first `by`, are copied to the front, and
--- the next rows of the plates are read into the room behind; all else is as it was.
+-- Of each plane the tints that are kept, those after the first `by`, are copied to the beginning,
+-- and the next rows of the plates are read after them; all else is as it was.
 pub record ReadsStrip (plates : List OpenPlate) (next : NextRows) (by : ℕ) (old new : PageParts)
     (before after : List TrayState) (result : Result (Unit {0}) RereadError) : Type 0 where
   pub copied : List Plane
@@ -42,7 +42,8 @@ pub record HaveHeader (bare : PageParts) (open_plates : List OpenPlate) : Type 0
   pub each : (k : ℕ) → k < length open_plates → (open_at open_plates k).header
       ≡ record { width = width bare; height = height bare; maxval = maxval bare }
 
--- So many rows are held, from one on, of what was read of the plates since a second reading began.
+-- Of what was read of the plates since a second reading began, `rows` rows are in memory, from row
+-- `from` on.
 pub record HoldsRead (inputs : List (List ℕ)) (bare : PageParts) (open_plates : List OpenPlate)
     (from rows : ℕ) (start now : List TrayState) (planes : List Plane) : Type 0 where
   pub samples : ℕ → List ℕ

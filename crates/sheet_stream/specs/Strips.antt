@@ -10,7 +10,7 @@ use Rattle.sheet_windows.specs.Strips.{strip_parts}
 use Rattle.sheet_windows.specs.Windows.{moved_zone, points_of}
 use Rattle.window_pages.specs.Forms.{zone_form}
 
--- a plane of so many rows, of no ink
+-- a plane of `rows` rows, of no ink
 abbrev pub blank_plane : ℕ → Plane → Plane
 blank_plane rows plane = record {
   width = plane.width;

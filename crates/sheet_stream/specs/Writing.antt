@@ -10,7 +10,7 @@ use Rattle.bare_sheets.specs.StripCores.{new_from}
 use Rattle.plate_rows.specs.Images.{HaveWritten, WritesNext, part_at}
 use Rattle.sheet_stream.specs.Growing.{new_rows}
 
--- The new tints of so many rows of a sheet are written of each of the first plates.
+-- The new tints of some first rows of a sheet are written of each of the first plates.
 abbrev pub RowsAreWritten : List (List ℕ) → Header → ℕ → PageParts → ℕ → List RackState
     → List RackState → Type 0
 RowsAreWritten outputs header count sheet rows =

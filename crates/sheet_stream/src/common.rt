@@ -1,4 +1,4 @@
-// The rows that a strip has in common with the next one, copied to the front of that one's planes.
+// The rows that a strip has in common with the next one, copied to the beginning of that one's planes.
 
 ghost use Rattle.std.specs.Prelude.{◌≡◌, ◌+◌, ◌<◌, ◌≤◌, ℕ, drop, length, take};
 ghost use Rattle.page_model.specs.Planes.{plane_at};
@@ -8,8 +8,8 @@ use lists::list::List;
 use page_model::parts::{Plane, PlaneList};
 use std::alloc::Global;
 
-/// Copies so many tints of each plane, those behind the first `by`, to the front of the plane of its number of the next
-/// strip; what stands behind them there is to be read. It takes no memory: the allocator is that of lists that stay empty.
+/// Copies `kept` tints of each plane, after its first `by`, to the beginning of the same plane of the next strip; the
+/// tints after them are still to be read. It allocates nothing: the allocator is that of lists that stay empty.
 pub fn copy_planes(alloc: Global, planes: &PlaneList, by: usize, kept: usize, next: &mut PlaneList)
     requires alike { AreAlike planes.now next.old }
     requires fits { (c : ℕ) → c < length planes.now → by + kept ≤ length (plane_at planes.now c).tints }
@@ -21,19 +21,19 @@ pub fn copy_planes(alloc: Global, planes: &PlaneList, by: usize, kept: usize, ne
     }
 }
 
-// The same of one plane.
+// Does the same for one plane.
 fn copy_plane(alloc: Global, plane: &Plane, by: usize, kept: usize, next: &mut Plane)
     requires alike { HasForm plane.now next.old }
     requires fits { by + kept ≤ length plane.now.tints }
     ensures { IsCopied by kept plane.now next.new }
 {
     let mut tints = std::mem::replace(&mut next.tints, List::new(alloc)).into_vec();
-    copy_front(plane.tints.as_slice(), by, kept, tints.as_mut_slice());
+    copy_to_start(plane.tints.as_slice(), by, kept, tints.as_mut_slice());
     next.tints = List::from_vec(tints);
 }
 
-// Copies so many tints, those behind the first `by`, to the front of others.
-fn copy_front(from: &[u16], by: usize, kept: usize, tints: &mut [u16])
+// Copies `kept` tints, after the first `by`, to the beginning of other tints.
+fn copy_to_start(from: &[u16], by: usize, kept: usize, tints: &mut [u16])
     requires inside { by + kept ≤ length from.now }
     requires room { kept ≤ length tints.old }
     ensures full { length tints.new ≡ length tints.old }

@@ -7,48 +7,48 @@ ghost use Rattle.sheet_stream.specs.Reports.{ReportIsBare};
 ghost use Rattle.sheet_stream.specs.Strips.{StripIsMade, StripsHaveForm, TurnedIsStrip};
 ghost use Rattle.sheet_stream.specs.Writing.{PartStands, RowIsWritten};
 
-/// The rows that are held are those of the strip, of each sheet that begins with what was read.
+/// The rows in memory are those of the strip, for each sheet that begins with what was read.
 pub fn strip_is_held()
     ensures { HoldsStrip }
 {}
 
-/// A strip whose planes hold its rows is the sheet's strip.
+/// A strip whose planes have its rows is the sheet's strip.
 pub fn strip_is_made()
     ensures { StripIsMade }
 {}
 
-/// Rows that are kept, and rows that are read behind them, are held for the next strip; and all rows of the first strip
-/// are read.
+/// The rows that are kept, and those that are read after them, are the rows of the next strip; and all rows of the
+/// first strip are read.
 pub fn next_are_held()
     ensures first { NoneAreHeld }
     ensures next { NextAreHeld }
 {}
 
-/// The rows of new tints that are written grow by a row of a core, up to all of them.
+/// The written rows of new tints grow by a row of a core at a time, up to all of them.
 pub fn new_tints_grow()
     ensures grow { NewGrow }
     ensures all { AllAreNew }
 {}
 
-/// The rows of the first strip are read, and after the rows of a strip those of the next one, and held.
+/// The rows of the first strip are read, and after the rows of a strip those of the next one, and kept in memory.
 pub fn strips_are_read()
     ensures first { FirstIsRead }
     ensures next { NextIsRead }
 {}
 
-/// The rows of new tints that are written are one more with each row of every plate; and what is written of a plate by then
-/// is a prefix of it.
+/// With each row of every plate one row more of new tints is written; and what is written of a plate so far is a prefix
+/// of it.
 pub fn rows_are_written()
     ensures grow { RowIsWritten }
     ensures part { PartStands }
 {}
 
-/// The report of a sheet is that of all of it but its tints.
+/// The report of a sheet depends on all of it but its tints.
 pub fn report_is_bare()
     ensures { ReportIsBare }
 {}
 
-/// A strip that is turned to as many rows is a strip of them; and the zones of all strips have one form.
+/// A strip that is moved to other rows, as many, is the strip of those; and the zones of all strips have one form.
 pub fn strips_turn()
     ensures turned { TurnedIsStrip }
     ensures form { StripsHaveForm }

@@ -1,5 +1,5 @@
-//! A sheet while it streams: the rows of each plate that are held from one strip to the next, and what of the sheet is
-//! known and written by then.
+//! A sheet while it streams: the rows of each plate that are kept from one strip to the next, and what is known and
+//! written of the sheet by then.
 #![tactic(auto)]
 
 pub mod common;

@@ -6,6 +6,7 @@ ghost use Rattle.plate_rows.specs.Rereading.{IsReadTo, ReadsNext};
 ghost use Rattle.plate_rows.specs.Trays.{open_at, tray_at};
 ghost use Rattle.sheet_stream.specs.Holding.{AreAlike};
 ghost use Rattle.sheet_stream.specs.Reading.{ReadsStrip, with_rows};
+ghost use Rattle.page_model.specs.Limits.{most_plates};
 
 use crate::common::copy_planes;
 use lists::list::List;
@@ -16,10 +17,10 @@ use plate_rows::rereading::{NextRows, read_next};
 use plate_rows::stop::RereadError;
 use std::alloc::Global;
 
-/// Reads the first rows of each plate by the tray of its number, to the ends of the strip's planes. It reads by pieces of as
-/// many bytes as there is room for in `bytes`, and takes no memory.
+/// Reads the first rows of each plate, plate k by tray k, and fills the strip's planes. `bytes` is the buffer that
+/// samples are read through, piece by piece. It allocates nothing.
 ///
-/// It stops at the first plate that has a fault now or cannot be read; the strip's tints are of no use then.
+/// It stops at the first plate that has a fault now or can't be read; the strip's tints must not be used then.
 pub fn read_strip<T: Tray>(
     alloc: Global,
     trays: &mut [T],
@@ -27,7 +28,7 @@ pub fn read_strip<T: Tray>(
     strip: &mut PageParts,
     bytes: &mut [u8],
 ) -> Result<(), RereadError>
-    requires few { length plates.now ≤ 16 }
+    requires few { length plates.now ≤ most_plates }
     requires trays { length plates.now ≤ length trays.old }
     requires planes { length strip.old.planes ≡ length plates.now }
     requires read { (k : ℕ) → k < length plates.now → IsReadTo (open_at plates.now k) 0
@@ -40,11 +41,12 @@ pub fn read_strip<T: Tray>(
     fill_planes(alloc, trays, plates, top, strip, bytes)
 }
 
-/// Makes the rows of the next strip: those that it has in common with the strip at hand are copied out of it, behind the first
-/// `by` tints of each of its planes, and the next rows of each plate are read behind them by the tray of its number, to the
-/// ends of the next strip's planes. It reads by pieces of as many bytes as there is room for in `bytes`, and takes no memory.
+/// Makes the rows of the next strip: those that it has in common with the current strip are copied from it, after the
+/// first `by` tints of each of its planes, and the next rows of each plate are read after them, plate k by tray k,
+/// until the next strip's planes are full. `bytes` is the buffer that samples are read through, piece by piece. It
+/// allocates nothing.
 ///
-/// It stops at the first plate that has a fault now or cannot be read; the next strip's tints are of no use then.
+/// It stops at the first plate that has a fault now or can't be read; the next strip's tints must not be used then.
 pub fn read_ahead<T: Tray>(
     alloc: Global,
     trays: &mut [T],
@@ -55,7 +57,7 @@ pub fn read_ahead<T: Tray>(
     ahead: &mut PageParts,
     bytes: &mut [u8],
 ) -> Result<(), RereadError>
-    requires few { length plates.now ≤ 16 }
+    requires few { length plates.now ≤ most_plates }
     requires trays { length plates.now ≤ length trays.old }
     requires planes { length strip.now.planes ≡ length plates.now }
     requires alike { AreAlike strip.now.planes ahead.old.planes }
@@ -71,7 +73,7 @@ pub fn read_ahead<T: Tray>(
     fill_planes(alloc, trays, plates, next, ahead, bytes)
 }
 
-// Reads the next rows of each plate behind those that are kept, to the ends of the strip's planes.
+// Reads the next rows of each plate after those that are kept, until the strip's planes are full.
 fn fill_planes<T: Tray>(
     alloc: Global,
     trays: &mut [T],
@@ -80,7 +82,7 @@ fn fill_planes<T: Tray>(
     strip: &mut PageParts,
     bytes: &mut [u8],
 ) -> Result<(), RereadError>
-    requires few { length plates.now ≤ 16 }
+    requires few { length plates.now ≤ most_plates }
     requires trays { length plates.now ≤ length trays.old }
     requires planes { length strip.old.planes ≡ length plates.now }
     requires kept { (k : ℕ) → k < length plates.now

@@ -14,8 +14,8 @@ use std::alloc::Global;
 use window_pages::copies::{inks_of, zones_of};
 use window_pages::sheet::points;
 
-/// The strip of these rows of a sheet but its tints, whose planes have room for them. All memory for the strips of a sheet
-/// that have as many rows is taken here. Until rows are read there is no ink. It refuses nothing but for out of memory.
+/// Allocates a strip of these rows of a sheet, given without its tints. The memory does for all strips of the sheet
+/// with as many rows. Until rows are read all tints are 0. It fails only where memory runs out.
 pub fn first_strip(alloc: Global, bare: &PageParts, row: &Span) -> Result<PageParts, OutOfMemory>
     requires bare { IsBareSheet bare.now }
     requires narrow { width bare.now < 2 ^ 30 }
@@ -62,7 +62,7 @@ fn plane_of(alloc: Global, plane: &Plane, rows: u32) -> Result<Plane, OutOfMemor
     })
 }
 
-// So many tints of no ink.
+// A list of `count` tints, all 0.
 fn no_tints(alloc: Global, count: usize) -> Result<Tints, OutOfMemory>
     ensures { IfOk result (λ tints. tints ≡ replicate count 0) }
 {

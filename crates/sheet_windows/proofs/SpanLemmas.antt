@@ -1,8 +1,7 @@
 -- Windows round a sample of a side, and spans one after the other.
-use Rattle.std.proofs.Common.{◌≡◌, ℕ, zero, suc, ◌+◌, ◌-◌, ◌*◌, ◌/◌, ◌%◌, ◌<◌, ◌≤◌, max, min, Bool, true, false, List, [], ◌∷◌, ◌++◌, sym, ap, ◌∙◌, subst, arith, inl, inr, refl, div-add-mod'}
+use Rattle.std.proofs.Common.{◌≡◌, ℕ, ◌+◌, ◌-◌, ◌*◌, ◌/◌, ◌%◌, ◌<◌, ◌≤◌, max, min, Bool, true, false, List, [], ◌∷◌, ◌++◌, sym, ap, ◌∙◌, subst, arith, inl, inr, refl, div-add-mod'}
 use Rattle.std.specs.Prelude.{if◌then◌else◌}
 use Rattle.std.specs.Int.{div_ceil}
-use Rattle.std.specs.List.{All}
 use Rattle.std.proofs.Math.Nat.{div-mul-le_self, lt-div-mul-add, mod-lt}
 use Rattle.std.proofs.lemmas.Bool.{cases_eq, cases_lt}
 use Rattle.std.proofs.lemmas.Nat.{mod-mul-add}
@@ -109,11 +108,6 @@ evens side most step up over m some_side some some_halo least room eo eu = elim 
       record { fits = omega (arith, high, long, eo, least); all = omega (arith, high, long, eo, least); some = omega (arith, high, long, eo, least, some_halo); small = omega (arith, low, long, eo); room = λ _. omega (arith, high, long, eo, two) })
 ]
 
-pub even_sizes : (ruler : Ruler) (over up : ℕ) → IsEvenRuler ruler → over ≡ ruler.side - ruler.most → up ≡ div_ceil over ruler.step → (up * ruler.step ≤ ruler.side) × (1 ≤ ruler.side - up * ruler.step) × (ruler.side - up * ruler.step ≤ ruler.most)
-even_sizes ruler over up is eo eu =
-    let s = evens ruler.side ruler.most ruler.step up over (max 1 ruler.halo) is.ruler_is.some_side is.ruler_is.some_step (omega arith) is.ruler_is.room is.room_for_two eo eu in
-    (s.fits, s.some, s.small)
-
 -- the lesser of two multiples, and what is left of one of them after it
 least_multiple : (a b step : ℕ) → 1 ≤ step → min (a * step) (b * step) % step ≡ 0
 least_multiple a b step some = elim (cases_lt (a * step) (b * step)) [
@@ -159,10 +153,6 @@ even_window ruler at sub first wide is inside es ew ef =
       room = λ more. (let r = room (omega (arith, more, there, ew, fits)) in omega (arith, there, ew, fits, high, es, r, more));
       exact = either ruler.from_end (ruler.side - (first + wide)) first step (ap (λ (n : ℕ). n % step) ends ∙ left_multiple (sub / step) up step some) (ap (λ (n : ℕ). n % step) there ∙ least_multiple (sub / step) up step some);
     }
-
-pub one_wide : (wide : ℕ) (span : Span) → span.wide ≡ wide → All (λ (s : Span). s.wide ≡ wide) (span ∷ [])
-one_wide wide span e zero d l = e
-one_wide wide span e (suc k) d l = absurd (omega (arith, l))
 
 pub push_span : (ruler : Ruler) (spans : List Span) (at end : ℕ) (span : Span) → AreSpans ruler at spans end → IsSpan ruler end span → AreSpans ruler at (spans ++ span ∷ []) (end + span.core)
 push_span ruler [] at end span are is = (subst (λ (n : ℕ). IsSpan ruler n span) (sym are) is, ap (λ (n : ℕ). n + span.core) are)

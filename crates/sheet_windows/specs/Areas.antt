@@ -9,7 +9,7 @@ use Rattle.page_model.specs.Deciding.{lower_mark, right_mark}
 use Rattle.page_model.specs.Page.{height, width}
 use Rattle.page_model.specs.Zones.{zone_of}
 
--- the sum over so many columns and rows from a sample on
+-- the sum over `wide` columns and `tall` rows from a sample on
 abbrev pub area_sum : (At → ℕ) → ℕ → ℕ → ℕ → ℕ → ℕ
 area_sum f left top wide tall =
     sum_below (λ y. sum_below (λ x. f (record { x = left + x; y = top + y })) wide) tall

@@ -23,7 +23,7 @@ abbrev pub strip_of : List Span → Span → Strip
 strip_of columns row =
     record { tall = row.core; tiles = map (λ column. tile_of column row) columns }
 
--- by steps of so many samples a corner moves by a whole number of ten-thousandths of a point
+-- by steps of `step` samples a corner moves by a whole number of ten-thousandths of a point
 abbrev pub IsStep : ℕ → ℕ → Type 0
 IsStep resolution step = (72 * scale * step) % resolution ≡ 0
 

@@ -12,7 +12,7 @@ use Rattle.sheet_windows.specs.declared.cuts.Cut.{Cut}
 use Rattle.sheet_windows.specs.Areas.{area_sum, changes_in, changes_plate, edges_at, lies_in}
 use Rattle.sheet_windows.specs.Windows.{IsCut, window}
 
--- a window and its core, whose place is told within the window
+-- a window and its core, whose place is given within the window
 pub record Tile : Type 0 where
   pub cut : Cut
   pub core : Cut
@@ -30,7 +30,7 @@ pub record IsCore (sheet : PageParts) (cut core : Cut) : Type 0 where
   pub bottom : cut.top + cut.height < height sheet
       → core.top + core.height + max 1 (halo (page_reach sheet)) ≤ cut.height
 
--- a tile of a sheet, whose core has its upper left sample there, and so many rows
+-- a tile of a sheet, whose core has its upper left sample there, and `rows` rows
 pub record IsTile (sheet : PageParts) (tile : Tile) (x y rows : ℕ) : Type 0 where
   pub cut : IsCut sheet tile.cut
   pub core : IsCore sheet tile.cut tile.core
@@ -75,7 +75,7 @@ abbrev pub strip_row : ℕ → PageParts → ℕ → List Tile → List ℕ
 strip_row c sheet y [] = []
 strip_row c sheet y (tile ∷ tiles) = core_row c sheet y tile ++ strip_row c sheet y tiles
 
--- so many rows of a strip
+-- some first rows of a strip
 abbrev pub strip_rows : ℕ → PageParts → List Tile → ℕ → List ℕ
 strip_rows c sheet tiles zero = []
 strip_rows c sheet tiles (suc n) = strip_rows c sheet tiles n ++ strip_row c sheet n tiles

@@ -14,9 +14,9 @@ use Rattle.page_model.specs.Zones.{zone_of}
 use Rattle.sheet_windows.specs.declared.cuts.Cut.{Cut}
 use Rattle.sheet_windows.specs.Windows.{on_sheet, edge_on_sheet, window}
 
--- A sample of the window that is at least so many half-samples from each border of the window
--- that is none of the sheet: its middle is that far from the middles of the samples along the
--- border, and so farther from each edge that the window does not have.
+-- A sample of the window that is at least `reach` half-samples from each border of the window that
+-- is none of the sheet: its middle is that far from the middles of the samples along the border,
+-- and so farther from each edge that the window does not have.
 pub record IsInside (sheet : PageParts) (cut : Cut) (reach : ℕ) (p : At) : Type 0 where
   pub x : p.x < cut.width
   pub y : p.y < cut.height

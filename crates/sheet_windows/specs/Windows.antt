@@ -41,7 +41,7 @@ moved_zone right up zone = record {
   limits = zone.limits;
 }
 
--- the columns and rows of a plane, of a sheet of so many columns, that a window shows
+-- the columns and rows of a plane, of a sheet of `wide` columns, that a window shows
 abbrev pub shown_plane : ℕ → Cut → Plane → Plane
 shown_plane wide cut plane = record {
   width = cut.width;

@@ -18,21 +18,21 @@ ghost use Rattle.sheet_windows.specs.Whole.{WholeLaw};
 ghost use Rattle.sheet_windows.specs.WindowLaw.{WindowLaw};
 ghost use Rattle.sheet_windows.specs.Windows.{IsCut, window};
 
-/// A window of a sheet has the sheet's tints, zones, deciding edges and marks. Each sample of it
-/// that is at least the reach from the borders that are none of the sheet's is trapped as on the
-/// sheet, with the same new tints.
+/// A window of a sheet has the sheet's tints, zones, deciding edges and marks. Each of its samples that is at least the
+/// reach away from those borders of the window that are not the sheet's is trapped as on the sheet, with the same new
+/// tints.
 pub fn window_law()
     ensures { (sheet : PageParts) (cut : Cut) → IsCut sheet cut → WindowLaw sheet cut }
 {}
 
-/// A window within the limits of a page is a page, if the sheet keeps all other ranges of a page,
-/// and its vertices are in range from each of its corners.
+/// A window within the limits of a page is a page, if the sheet keeps all other ranges of a page, and its vertices are
+/// in range from each of its corners.
 pub fn window_page_law()
     ensures { (sheet : PageParts) (cut : Cut) → IsSheet sheet → IsNearSheet sheet
         → IsCut sheet cut → IsSmall sheet cut → IsPage (window sheet cut) }
 {}
 
-/// A sheet may be made of whatever a page may be made of.
+/// All parts of a page make a sheet as well.
 pub fn parts_law()
     ensures { (page : PageParts) → IsParts page → IsSheetParts page }
 {}
@@ -44,39 +44,39 @@ pub fn page_law()
         → width sheet * height sheet * plates sheet ≤ most_samples → IsPage sheet }
 {}
 
-/// What a report counts is a sum over samples.
+/// Each count of a report is a sum over samples.
 pub fn counts_law()
     ensures { (page : PageParts) → 1 ≤ width page → 1 ≤ height page
         → CountsBySamples page }
 {}
 
-/// Where the cores of windows tile a sheet, each plate's new tints are those of the cores, row by
-/// row, and all that the report counts is the sum of what is counted in the cores.
+/// If the cores of windows tile a sheet, the new tints of each plate are those of the cores, row by row, and each count
+/// of the report is the sum of the counts of the cores.
 pub fn tiling_law()
     ensures { (sheet : PageParts) (strips : List Strip) → 1 ≤ width sheet → 1 ≤ height sheet
         → IsTiling sheet 0 strips → TilingLaw sheet strips }
 {}
 
-/// The window that has all columns and rows of a sheet is the sheet.
+/// The window with all columns and rows of a sheet is the sheet.
 pub fn whole_law()
     ensures { (sheet : PageParts) → IsSheet sheet → WholeLaw sheet }
 {}
 
-/// What a tile's window says of its core is so on the sheet.
+/// What holds in the core of a tile's window holds on the sheet.
 pub fn tile_law()
     ensures { (sheet : PageParts) (tile : Tile) (x y rows : ℕ) → IsTile sheet tile x y rows
         → TileLaw sheet tile x y rows }
 {}
 
-/// Spans of the columns and of the rows of a sheet, by rulers for it, make tiles, small enough for
-/// pages where the rulers are, and together a tiling.
+/// Spans of the columns and of the rows of a sheet, by rulers for it, make tiles, and together a tiling. The tiles are
+/// small enough for pages where the rulers are.
 pub fn plan_law()
     ensures { (sheet : PageParts) (across down : Ruler) → 1 ≤ plates sheet
         → 1 ≤ length sheet.zones → AreRulers sheet across down → PlanLaw sheet across down }
 {}
 
-/// All columns of the rows of a span are a tile of the sheet, and a sheet of their own, which can
-/// be cut and trapped in turn.
+/// All columns of the rows of a span are a tile of the sheet, and a sheet of their own, which can be cut and trapped in
+/// turn.
 pub fn strip_law()
     ensures { (sheet : PageParts) (across down : Ruler) (at : ℕ) (row : Span) → IsSheet sheet
         → IsNearSheet sheet → AreRulers sheet across down → IsSpan down at row

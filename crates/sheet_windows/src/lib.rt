@@ -1,5 +1,5 @@
-//! Windows of a sheet of any sides: what is trapped and counted window by window is what is
-//! trapped and counted on the undivided sheet, wherever it is cut.
+//! Windows of a sheet of any sides: trapping and counting window by window gives what trapping and counting the
+//! undivided sheet gives, wherever it is cut.
 #![tactic(auto)]
 
 pub mod cuts;

@@ -1,16 +1,15 @@
 // How a side of a sheet is cut.
 
-ghost use Rattle.std.specs.Prelude.{◌≡◌, ◌≢◌, ℕ, ◌*◌, ◌%◌, ◌<◌, ◌≤◌, false, true, All, IfOk};
+ghost use Rattle.std.specs.Prelude.{◌≡◌, ◌≢◌, ℕ, ◌*◌, ◌%◌, ◌<◌, ◌≤◌, false, true, IfOk};
 ghost use Rattle.page_model.specs.Limits.{most_resolution, scale};
-ghost use Rattle.sheet_windows.specs.declared.spans.Span.{Span};
 ghost use Rattle.sheet_windows.specs.Spans.{AreSpans, IsEvenRuler, IsRuler, IsSpan, IsWindow, even_wide};
 
 use lists::names::OutOfMemory;
 use std::alloc::Global;
 
-/// How a side is cut, all in samples: the side; how far a window goes on beyond its core; of what
-/// the places of windows are multiples, counted from the side's end where `from_end` is true; and
-/// how many a window has at most.
+/// How a side is cut, all in samples: the length of the side; the halo, by which a window goes on beyond its core; the
+/// step, of which the places of windows are multiples, counted from the side's end where `from_end` is true; and the
+/// most samples of a window.
 #[derive(Clone, Copy, Debug, Drop, PartialEq, Eq)]
 pub struct Ruler {
     pub side: u32,
@@ -20,8 +19,8 @@ pub struct Ruler {
     pub from_end: bool,
 }
 
-/// The samples of a window along a side: where on the side they begin, and how many they are; and
-/// of its core, how many of the window's stand before it, and how many it has.
+/// The samples of a window along a side: the first of them on the side, and their number; and of its core, how many of
+/// the window's samples are before it, and its number.
 #[derive(Clone, Copy, Debug, Drop, PartialEq, Eq)]
 pub struct Span {
     pub from: u32,
@@ -30,8 +29,8 @@ pub struct Span {
     pub core: u32,
 }
 
-/// The least number of samples, at a resolution in samples to an inch, that is a whole number of
-/// ten-thousandths of a point: the resolution over its greatest common divisor with 720,000.
+/// The least number of samples that is a whole number of ten-thousandths of a point, at a resolution in samples per
+/// inch: the resolution over its greatest common divisor with 720,000.
 pub fn step_of(resolution: u32) -> u32
     requires some { 1 ≤ resolution }
     requires fine { resolution ≤ most_resolution }
@@ -48,7 +47,7 @@ pub fn step_of(resolution: u32) -> u32
     resolution
 }
 
-/// The span whose core begins at that sample of the side, as wide as may be.
+/// The widest span whose core begins at sample `at` of the side.
 pub fn span_at(ruler: &Ruler, at: u32) -> Span
     requires ruler { IsRuler ruler.now }
     requires inside { at < ruler.now.side }
@@ -61,7 +60,7 @@ pub fn span_at(ruler: &Ruler, at: u32) -> Span
     }
 }
 
-// Where steps are counted from the side's first sample, the window begins at one.
+// If steps are counted from the side's first sample, the window begins at a step.
 fn span_from_start(ruler: &Ruler, at: u32) -> Span
     requires ruler { IsRuler ruler.now }
     requires inside { at < ruler.now.side }
@@ -73,7 +72,7 @@ fn span_from_start(ruler: &Ruler, at: u32) -> Span
     span_of(ruler, at, from, wide)
 }
 
-// Where they are counted from its last one, the window ends before one.
+// If they are counted from its last sample, the window ends before a step.
 fn span_from_end(ruler: &Ruler, at: u32) -> Span
     requires ruler { IsRuler ruler.now }
     requires inside { at < ruler.now.side }
@@ -86,8 +85,7 @@ fn span_from_end(ruler: &Ruler, at: u32) -> Span
     span_of(ruler, at, from, rest - after)
 }
 
-// The span of a window: its core ends with the side, or so far before the end of the window that
-// the halo after it lies in the window.
+// The span of a window: its core ends with the side, or a halo before the window's end.
 fn span_of(ruler: &Ruler, at: u32, from: u32, wide: u32) -> Span
     requires ruler { IsRuler ruler.now }
     requires window { IsWindow ruler.now at from wide }
@@ -125,8 +123,8 @@ pub fn spans_of(alloc: Global, ruler: &Ruler) -> Result<Vec<Span>, OutOfMemory>
     Ok(spans)
 }
 
-/// How many samples each window of a side has where all have as many: the whole side, or at most
-/// `most`, and fewer than a step below it.
+/// The number of samples of each window of a side if all have the same: the whole side, or at most `most`, and less
+/// than a step below it.
 pub fn even_wide_of(ruler: &Ruler) -> u32
     requires { IsEvenRuler ruler.now }
     ensures value { result ≡ even_wide ruler.now }
@@ -138,8 +136,8 @@ pub fn even_wide_of(ruler: &Ruler) -> u32
     ruler.side - over.div_ceil(ruler.step) * ruler.step
 }
 
-/// The span whose core begins at that sample of the side, of a window that has as many samples as
-/// each other. The last one begins early enough for that, however long before its core that is.
+/// The span whose core begins at sample `at` of the side, of a window with as many samples as all others. The last one
+/// begins early enough for that, however far before its core.
 pub fn even_span_at(ruler: &Ruler, at: u32) -> Span
     requires ruler { IsEvenRuler ruler.now }
     requires inside { at < ruler.now.side }
@@ -149,23 +147,4 @@ pub fn even_span_at(ruler: &Ruler, at: u32) -> Span
     let wide = even_wide_of(ruler);
     let near = at.saturating_sub(ruler.halo) / ruler.step * ruler.step;
     span_of(ruler, at, near.min(ruler.side - wide), wide)
-}
-
-/// The spans of a side, from its first sample to its last, whose windows all have as many samples.
-pub fn even_spans_of(alloc: Global, ruler: &Ruler) -> Result<Vec<Span>, OutOfMemory>
-    requires { IsEvenRuler ruler.now }
-    ensures spans { IfOk result (λ spans. AreSpans ruler.now 0 spans.items ruler.now.side) }
-    ensures wide { IfOk result (λ spans. All (λ (span : Span). span.wide ≡ even_wide ruler.now)
-        spans.items) }
-{
-    let mut spans = Vec::new(alloc);
-    let mut done = 0;
-    while done < ruler.side {
-        let span = even_span_at(ruler, done);
-        if spans.push(span).is_err() {
-            return Err(OutOfMemory);
-        }
-        done += span.core;
-    }
-    Ok(spans)
 }

@@ -1,12 +1,12 @@
--- What is taken in of a page, and a bench for it, have the page's shape.
+-- What is taken in of a page, and buffers for it, have the page's shape.
 use Rattle.std.proofs.Common.{ℕ, Bool, ◌∙◌, ap, length}
 use Rattle.page_model.specs.declared.parts.PageParts.{PageParts}
 use Rattle.page_tally.specs.declared.outcome.Outcome.{Outcome}
 use Rattle.page_tally.specs.Shapes.{HasShape, shape_of}
 use Rattle.page_tally.specs.Standing.{HasRows}
 use Rattle.page_tally.specs.Uncounted.{HasTints}
-use Rattle.strip_engine.specs.declared.strips.Bench.{Bench}
-use Rattle.strip_engine.specs.Bench.{HasPlaces, IsBench}
+use Rattle.strip_engine.specs.declared.strips.StripBuffers.{StripBuffers}
+use Rattle.strip_engine.specs.StripBuffers.{HasPlaces, AreBuffers}
 use Rattle.strip_engine.specs.Taken.{IsTaken}
 use Rattle.strip_engine.proofs.WholeLemmas.{sample_marks-length, sample_zones-length}
 
@@ -27,8 +27,8 @@ rows_tints page rows o h = record { shape = outcome_shape page rows o h; planes 
 pub rows_taken : (page : PageParts) (rows : ℕ) (counted : Bool) (o : Outcome) → HasRows page rows o → IsTaken page rows counted o
 rows_taken page rows counted o h = record { tints = rows_tints page rows o h; counts = λ _. h }
 
-pub bench_shape : (page : PageParts) (bench : Bench) → IsBench page bench → HasPlaces (shape_of page) bench
-bench_shape page bench h = record {
+pub buffers_shape : (page : PageParts) (buffers : StripBuffers) → AreBuffers page buffers → HasPlaces (shape_of page) buffers
+buffers_shape page buffers h = record {
   zones = ap length h.zones ∙ sample_zones-length page;
   marks = ap length h.marks ∙ sample_marks-length page;
   row = h.row;

@@ -1,4 +1,4 @@
-pub mod Bench
+pub mod StripBuffers
 pub mod Rooms
 pub mod Rows
 pub mod Taken

@@ -8,8 +8,8 @@ use page_model::parts::OutOfMemory;
 use page_tally::Trapped;
 use std::alloc::Global;
 
-/// Traps a page on one thread: every plate's new tints, and the counts of the whole page. Out of memory is its only
-/// refusal.
+/// Traps a page on one thread: the new tints of every plate, and the counts of the whole page. It fails only where
+/// memory runs out.
 pub fn trap_alone(alloc: Global, page: &Page) -> Result<Trapped, OutOfMemory>
     ensures planes { IfOk result (λ trapped. trapped.planes ≡ trapped_planes page.now) }
     ensures counts { IfOk result (λ trapped. trapped.counts ≡ page_counts page.now) }

@@ -11,4 +11,4 @@ mod zones;
 pub use alone::trap_alone;
 pub use marks::{marks_of_row, zones_of_row};
 pub use room::PageRoom;
-pub use strips::Bench;
+pub use strips::StripBuffers;

@@ -7,15 +7,16 @@ ghost use Rattle.page_model.specs.Zones.{AreZones};
 ghost use Rattle.strip_engine.specs.Rows.{AreRows};
 ghost use Rattle.page_tally.specs.Standing.{AreMarks};
 ghost use Rattle.strip_engine.specs.Whole.{sample_marks, sample_zones};
+ghost use Rattle.page_model.specs.Limits.{most_side};
 
 use page_model::page::Page;
 use row_values::{Rows, make_marks};
 
-/// Of a list with `width` items for each row, the rows from one on and before another.
+/// The rows `from..to` of a list with `width` items for each row.
 fn rows_between<'a>(all: &'a [u8], width: u32, from: u32, to: u32) -> &'a [u8]
-    requires narrow { width ≤ 16384 }
+    requires narrow { width ≤ most_side }
     requires order { from ≤ to }
-    requires low { to ≤ 16384 }
+    requires low { to ≤ most_side }
     requires inside { from * width + (to - from) * width ≤ length all.now }
     ensures { AreRows width from to all.now result.now }
 {
@@ -24,7 +25,7 @@ fn rows_between<'a>(all: &'a [u8], width: u32, from: u32, to: u32) -> &'a [u8]
     &all[start..start + long]
 }
 
-/// The zones of row y.
+/// The zones of row y, out of those of the page.
 pub fn zones_of_row<'a>(page: &Page, zones: &'a [u8], y: u32) -> &'a [u8]
     requires zones { zones.now ≡ sample_zones page.now }
     requires row { y < height page.now }
@@ -34,7 +35,7 @@ pub fn zones_of_row<'a>(page: &Page, zones: &'a [u8], y: u32) -> &'a [u8]
     rows_between(zones, page.width(), y, y + 1)
 }
 
-/// The marks of row y.
+/// The marks of row y, out of those of the page.
 pub fn marks_of_row<'a>(page: &Page, marks: &'a [u8], y: u32) -> &'a [u8]
     requires marks { marks.now ≡ sample_marks page.now }
     requires row { y < height page.now }
@@ -57,7 +58,7 @@ pub fn fill_marks(page: &Page, zones: &[u8], out: &mut [u8])
     make_marks(page, rows, rows, zones, out);
 }
 
-/// The marks of these rows.
+/// The marks of the rows `held`, out of those of the page.
 pub fn marks_between<'a>(page: &Page, marks: &'a [u8], held: Rows) -> &'a [u8]
     requires marks { marks.now ≡ sample_marks page.now }
     requires some { 1 ≤ held.count }

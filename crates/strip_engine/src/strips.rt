@@ -7,7 +7,7 @@ ghost use Rattle.row_values.specs.Rows.{HoldsAnswers, doubled};
 ghost use Rattle.page_model.specs.Page.{height};
 ghost use Rattle.page_model.specs.Reach.{page_reach};
 ghost use Rattle.page_tally.specs.Shapes.{shape_of};
-ghost use Rattle.strip_engine.specs.Bench.{HasPlaces, IsBench};
+ghost use Rattle.strip_engine.specs.StripBuffers.{HasPlaces, AreBuffers};
 ghost use Rattle.page_model.specs.Zones.{AreZones};
 ghost use Rattle.strip_engine.specs.Taken.{IsTaken};
 ghost use Rattle.page_tally.specs.Standing.{AreMarks, IsNewRow, KeepsRow};
@@ -15,49 +15,49 @@ ghost use Rattle.page_tally.specs.Standing.{AreMarks, IsNewRow, KeepsRow};
 use crate::grid::samples_of;
 use crate::marks::{fill_marks, marks_between, marks_of_row, zones_of_row};
 use crate::zones::fill_zones;
-use lists::memory::filled;
+use lists::memory::vec_of;
 use page_model::page::Page;
 use page_model::parts::OutOfMemory;
 use page_tally::Outcome;
 use row_values::{Rows, Workspace, is_quiet, make_answers, make_row, row_of};
 use std::alloc::Global;
 
-/// How many rows a strip has at most.
+/// The greatest number of rows of a strip.
 pub const STRIP: u32 = 64;
 
-/// What the strips of a page are trapped with: the zones and marks of all samples, row by row, and room for the new
+/// What the strips of a page are trapped with: the zones and marks of all samples, row by row, and a buffer for the new
 /// tints of a row.
 #[derive(Drop)]
-pub struct Bench {
+pub struct StripBuffers {
     pub zones: Vec<u8>,
     pub marks: Vec<u8>,
     pub row: Vec<u16>,
 }
 
-/// A bench for pages of this page's shape.
-pub fn new_bench(alloc: Global, page: &Page) -> Result<Bench, OutOfMemory>
+/// Allocates buffers for pages of this page's shape.
+pub fn new_buffers(alloc: Global, page: &Page) -> Result<StripBuffers, OutOfMemory>
     ensures { IfOk result (HasPlaces (shape_of page.now)) }
 {
     let samples = samples_of(page);
-    Ok(Bench {
-        zones: filled(alloc, 0u8, samples)?,
-        marks: filled(alloc, 0u8, samples)?,
-        row: filled(alloc, 0u16, page.plates() as usize * page.width() as usize)?,
+    Ok(StripBuffers {
+        zones: vec_of(alloc, 0u8, samples)?,
+        marks: vec_of(alloc, 0u8, samples)?,
+        row: vec_of(alloc, 0u16, page.plates() as usize * page.width() as usize)?,
     })
 }
 
-/// Puts the zones and marks of the page's samples on a bench for pages of its shape.
-pub fn fill_bench(page: &Page, bench: &mut Bench, room: &mut Workspace)
-    requires bench { HasPlaces (shape_of page.now) bench.old }
+/// Writes the zones and marks of the page's samples to buffers for pages of its shape.
+pub fn fill_buffers(page: &Page, buffers: &mut StripBuffers, room: &mut Workspace)
+    requires buffers { HasPlaces (shape_of page.now) buffers.old }
     requires room { Serves room.old page.now }
-    ensures bench { IsBench page.now bench.new }
+    ensures buffers { AreBuffers page.now buffers.new }
     ensures room { room.new ≡ room.old }
 {
-    fill_zones(page, &mut bench.zones, room);
-    fill_marks(page, &bench.zones, &mut bench.marks);
+    fill_zones(page, &mut buffers.zones, room);
+    fill_marks(page, &buffers.zones, &mut buffers.marks);
 }
 
-/// Takes in row y: its new tints and, where rows are counted, its zones and marks.
+/// Adds row y to the result: its new tints and, where rows are counted, its zones and marks.
 fn take_row(
     page: &Page,
     y: u32,
@@ -81,68 +81,76 @@ fn take_row(
     }
 }
 
-/// Traps row y, whose column answers these are. The tints of a quiet row are neither made nor compared.
+/// Traps row y, by its column answers. A row without an edge in reach is neither made nor compared.
 fn trap_row(
     page: &Page,
     y: u32,
     codes: &[u16],
-    bench: &mut Bench,
+    buffers: &mut StripBuffers,
     room: &mut Workspace,
     counted: bool,
     outcome: &mut Outcome,
 )
     requires line { y < height page.now }
     requires codes { AreAnswers page.now (page_reach page.now) y (doubled page.now) codes.now }
-    requires bench { IsBench page.now bench.old }
+    requires buffers { AreBuffers page.now buffers.old }
     requires room { Serves room.old page.now }
     requires outcome { IsTaken page.now y counted outcome.old }
-    ensures bench { IsBench page.now bench.new }
+    ensures buffers { AreBuffers page.now buffers.new }
     ensures room { room.new ≡ room.old }
     ensures outcome { IsTaken page.now (y + 1) counted outcome.new }
 {
-    let zones = zones_of_row(page, &bench.zones, y);
-    let marks = marks_of_row(page, &bench.marks, y);
+    let zones = zones_of_row(page, &buffers.zones, y);
+    let marks = marks_of_row(page, &buffers.marks, y);
     if is_quiet(page, y, codes) {
         take_row(page, y, zones, marks, None, counted, outcome);
         return;
     }
-    make_row(page, y, zones, codes, &mut bench.row, room);
-    let tints = Some(bench.row.as_slice());
+    make_row(page, y, zones, codes, &mut buffers.row, room);
+    let tints = Some(buffers.row.as_slice());
     take_row(page, y, zones, marks, tints, counted, outcome);
 }
 
-/// Traps these rows, whose column answers these are.
+/// Traps these rows, by their column answers.
 fn trap_rows(
     page: &Page,
     rows: Rows,
     codes: &[u16],
-    bench: &mut Bench,
+    buffers: &mut StripBuffers,
     room: &mut Workspace,
     counted: bool,
     outcome: &mut Outcome,
 )
     requires inside { rows.first + rows.count ≤ height page.now }
     requires codes { HoldsAnswers page.now rows codes.now }
-    requires bench { IsBench page.now bench.old }
+    requires buffers { AreBuffers page.now buffers.old }
     requires room { Serves room.old page.now }
     requires outcome { IsTaken page.now rows.first counted outcome.old }
-    ensures bench { IsBench page.now bench.new }
+    ensures buffers { AreBuffers page.now buffers.new }
     ensures room { room.new ≡ room.old }
     ensures outcome { IsTaken page.now (rows.first + rows.count) counted outcome.new }
 {
     let wide = 2 * page.width() as usize - 1;
     for k in 0..rows.count {
         let answers = row_of(codes, wide, k as usize);
-        trap_row(page, rows.first + k, answers, bench, room, counted, outcome);
+        trap_row(
+            page,
+            rows.first + k,
+            answers,
+            buffers,
+            room,
+            counted,
+            outcome,
+        );
     }
 }
 
-/// Traps these rows. The codes have a place for each doubled column of each of them.
+/// Traps these rows. `codes` is a buffer for the column answers of each of them.
 fn trap_strip(
     page: &Page,
     rows: Rows,
     codes: &mut [u16],
-    bench: &mut Bench,
+    buffers: &mut StripBuffers,
     room: &mut Workspace,
     counted: bool,
     outcome: &mut Outcome,
@@ -150,11 +158,11 @@ fn trap_strip(
     requires some { 1 ≤ rows.count }
     requires inside { rows.first + rows.count ≤ height page.now }
     requires codes { length codes.old ≡ rows.count * doubled page.now }
-    requires bench { IsBench page.now bench.old }
+    requires buffers { AreBuffers page.now buffers.old }
     requires room { Serves room.old page.now }
     requires outcome { IsTaken page.now rows.first counted outcome.old }
     ensures codes { length codes.new ≡ length codes.old }
-    ensures bench { IsBench page.now bench.new }
+    ensures buffers { AreBuffers page.now buffers.new }
     ensures room { room.new ≡ room.old }
     ensures outcome { IsTaken page.now (rows.first + rows.count) counted outcome.new }
 {
@@ -165,27 +173,27 @@ fn trap_strip(
         first,
         count: to - first,
     };
-    let near = marks_between(page, &bench.marks, held);
+    let near = marks_between(page, &buffers.marks, held);
     make_answers(page, rows, held, near, codes);
-    trap_rows(page, rows, codes, bench, room, counted, outcome);
+    trap_rows(page, rows, codes, buffers, room, counted, outcome);
 }
 
-/// Traps the page, strip by strip, and counts its rows if that is asked. The codes have a place for each doubled column of each
-/// row of a strip.
+/// Traps the page, strip by strip, and counts its rows if that is asked. `codes` is a buffer for the column answers of
+/// each row of a strip.
 pub fn trap_strips(
     page: &Page,
     codes: &mut [u16],
-    bench: &mut Bench,
+    buffers: &mut StripBuffers,
     room: &mut Workspace,
     counted: bool,
     outcome: &mut Outcome,
 )
     requires codes { length codes.old ≡ 64 * doubled page.now }
-    requires bench { IsBench page.now bench.old }
+    requires buffers { AreBuffers page.now buffers.old }
     requires room { Serves room.old page.now }
     requires outcome { IsTaken page.now 0 counted outcome.old }
     ensures codes { length codes.new ≡ length codes.old }
-    ensures bench { IsBench page.now bench.new }
+    ensures buffers { AreBuffers page.now buffers.new }
     ensures room { room.new ≡ room.old }
     ensures outcome { IsTaken page.now (height page.now) counted outcome.new }
 {
@@ -199,7 +207,7 @@ pub fn trap_strips(
             page,
             Rows { first, count },
             codes,
-            bench,
+            buffers,
             room,
             counted,
             outcome,

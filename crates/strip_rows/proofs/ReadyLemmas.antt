@@ -1,10 +1,10 @@
 -- A strip that is ready may be trapped.
-use Rattle.std.proofs.Common.{◌≤◌, sym, subst, arith}
+use Rattle.std.proofs.Common.{sym, subst}
 use Rattle.bare_sheets.specs.StripCores.{StripCoreLaw, inner_row, inner_ruler}
 use Rattle.bare_sheets.proofs.CoreLemmas.{core_law}
 use Rattle.page_model.specs.declared.parts.PageParts.{PageParts}
 use Rattle.sheet_windows.specs.declared.spans.Span.{Span}
-use Rattle.sheet_windows.specs.Plans.{AreRulers, AreSmall}
+use Rattle.sheet_windows.specs.Plans.{AreRulers}
 use Rattle.sheet_windows.specs.Spans.{IsSpan}
 use Rattle.strip_rows.specs.declared.parts.StripPlan.{StripPlan}
 use Rattle.strip_tiles.specs.declared.room.StripRoom.{StripRoom}
@@ -17,9 +17,6 @@ module _ (plan : StripPlan) (row : Span) (strip : PageParts) (room : StripRoom) 
 
   pub strip_rulers : AreRulers strip plan.across (inner_ruler plan.down row)
   strip_rulers = subst (λ (s : PageParts). AreRulers s plan.across (inner_ruler plan.down row)) (sym is.same) core.rulers
-
-  pub strip_small : AreSmall strip plan.across (inner_ruler plan.down row)
-  strip_small = subst (λ (s : PageParts). AreSmall s plan.across (inner_ruler plan.down row)) (sym is.same) (core.small is.small)
 
   pub strip_span : IsSpan (inner_ruler plan.down row) row.skip (inner_row row)
   strip_span = core.span

@@ -3,7 +3,7 @@ use Rattle.std.proofs.Common.{ℕ, ◌+◌, ◌*◌, ◌-◌, ◌/◌, ◌<◌, 
 use Rattle.std.specs.List.{All}
 use Rattle.std.proofs.lemmas.Bool.{cases_Bool}
 use Rattle.std.proofs.lemmas.Nat.{mul-add-lt}
-use Rattle.std.proofs.Math.Nat.{mul-le-mul, div-le_of_le-mul, div-lt_iff_lt-mul, mod-lt}
+use Rattle.std.proofs.Math.Nat.{div-lt_iff_lt-mul, mod-lt}
 use Rattle.lists.proofs.ListBelow.{all_below}
 use Rattle.page_model.specs.declared.parts.At.{At}
 use Rattle.page_model.specs.declared.parts.EdgeAt.{EdgeAt}
@@ -18,6 +18,7 @@ use Rattle.page_model.specs.Trapped.{trapped_in}
 use Rattle.page_model.specs.Zones.{zone_of}
 use Rattle.page_model.proofs.DeciderLemmas.{Decides, decider-is}
 use Rattle.page_model.proofs.DensityLemmas.{density-le-full}
+use Rattle.page_model.proofs.TintLemmas.{scaled_at_most}
 use Rattle.page_model.proofs.ZoneLemmas.{greatest_cover-is}
 use Rattle.page_model.specs.Limits.{most_maxval}
 use Rattle.page_model.specs.declared.parts.Plane.{Plane}
@@ -47,19 +48,6 @@ module _ (sheet : PageParts) (valid : IsSheet sheet) where
       let here = tint_at_most c p l inside in
       let there = tint_at_most c (across p e) l (across_in p e edge) in
       elim (cases_Bool (spreads (ink_at sheet c).kind)) [ inl t ↦ rw t (omega (arith, here, there)) | inr f ↦ rw f here ]
-
-  -- a part of what is added, of at most one
-  part_at_most : (here there part : ℕ) → here ≤ there → part ≤ 10000 → here * 10000 + part * (there - here) ≤ there * 10000
-  part_at_most here there part grows few =
-      let cut : part * (there - here) ≤ 10000 * (there - here) = mul-le-mul few (omega arith) in
-      omega (arith, cut, grows)
-
-  scaled_at_most : (f here there part : ℕ) → here ≤ there → part ≤ 10000 → (f * (here * 10000 + part * (there - here))) / (there * 10000) ≤ f
-  scaled_at_most f here there part grows few =
-      let light = here * 10000 + part * (there - here) in
-      let most : f * light ≤ f * (there * 10000) = mul-le-mul (omega arith) (part_at_most here there part grows few) in
-      let turned : f * light ≤ there * 10000 * f = omega (arith, most) in
-      div-le_of_le-mul (there * 10000) turned
 
   zone_known : (p : At) → zone_of sheet p < length sheet.zones
   unfolding zone_of

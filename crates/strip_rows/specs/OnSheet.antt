@@ -25,8 +25,8 @@ abbrev pub strip_cut : Ruler → Ruler → Span → StripCut
 strip_cut across down row =
     record { across = across; down = inner_ruler down row; row = inner_row row }
 
--- After the rows above it the rows of a strip's core are written: they are so many rows more of the
--- sheet's new tints.
+-- After the rows above it the rows of a strip's core are written: with them that many more rows of
+-- the sheet's new tints are.
 abbrev pub StripIsWritten : Type 0
 StripIsWritten = (outputs : List (List ℕ)) (header : Header) (count at : ℕ) (sheet : PageParts)
     (across down : Ruler) (row : Span) (start before after : List RackState) → IsSheet sheet

@@ -1,4 +1,4 @@
-// The rows of a core, several of each plate at once.
+// The rows of a core, several rows of all plates at once.
 
 ghost use Rattle.std.specs.Prelude.{◌≡◌, ◌+◌, ◌*◌, ◌<◌, ◌≤◌, ◌++◌, ℕ, drop, length, map, take};
 ghost use Rattle.page_model.specs.Page.{maxval, plates, width};
@@ -22,7 +22,7 @@ pub struct StripCut {
     pub row: Span,
 }
 
-/// Puts n rows of the core of the strip that was trapped in the room last in `line`, from row k on: those of each plate, one
+/// Writes n rows of the core of the strip that was trapped last to `line`, from row k on: those of each plate, one
 /// plate after the other.
 pub fn put_rows(strip: &Sheet, cut: &StripCut, room: &StripRoom, k: u32, n: u32, line: &mut [u16])
     requires cut { IsCutStrip strip.now cut.now room.now }
@@ -40,7 +40,7 @@ pub fn put_rows(strip: &Sheet, cut: &StripCut, room: &StripRoom, k: u32, n: u32,
     }
 }
 
-// Puts n rows of the core of one plate in a line, from row k on, from there on.
+// Writes n rows of the core of one plate, from row k on, to its part of `line`.
 fn put_plate(
     strip: &Sheet,
     cut: &StripCut,
@@ -65,7 +65,7 @@ fn put_plate(
     }
 }
 
-// Puts row k of the core of one plate in a line, from there on.
+// Writes row k of the core of one plate to its part of `line`.
 fn put_row(
     strip: &Sheet,
     cut: &StripCut,
@@ -96,7 +96,7 @@ fn put_row(
     );
 }
 
-// How many of so many rows there is room for, each of so many tints.
+// How many of `rows` rows fit into a buffer of `room` tints, if each takes `each` tints.
 fn rows_at_once(room: usize, each: usize, rows: u32) -> u32
     requires some { 1 ≤ each }
     requires room { each ≤ room }
@@ -108,8 +108,8 @@ fn rows_at_once(room: usize, each: usize, rows: u32) -> u32
     (room / each).min(rows as usize) as u32
 }
 
-/// Writes the rows of the core of the strip that was trapped in the room last, each plate by the rack of its number: as many
-/// rows of all plates at once as there is room for in `line`, by pieces of as many bytes as there is room for in `bytes`.
+/// Writes the rows of the core of the strip that was trapped last, plate k by rack k. `line` is a buffer for some rows
+/// of all plates at once, and `bytes` one for encoded samples.
 ///
 /// Where a call of a rack fails, it stops with `Write` and the plate's number.
 pub fn write_core<R: Rack>(

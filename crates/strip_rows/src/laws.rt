@@ -2,8 +2,8 @@
 
 ghost use Rattle.strip_rows.specs.OnSheet.{StripIsBroken, StripIsCounted, StripIsWritten};
 
-/// What is written and counted of a strip's core is written and counted of the sheet; and where that fails, a row of the
-/// sheet is not written.
+/// What is written and counted of a strip's core is written and counted of the sheet; if the writing fails, a row of
+/// the sheet is not written.
 pub fn strip_is_put()
     ensures written { StripIsWritten }
     ensures broken { StripIsBroken }

@@ -1,4 +1,4 @@
-//! The rows of a strip's core, out of the room that the strip was trapped in, written to the files of its plates.
+//! The rows of a strip's core, from the buffers that the strip was trapped with, written to the files of its plates.
 #![tactic(auto)]
 
 pub mod core_rows;

@@ -16,8 +16,8 @@ use strip_tiles::room::{StripRoom, trap_strip_in};
 use tile_counts::counts::SheetCounts;
 use window_pages::sheet::Sheet;
 
-/// What a strip is trapped and written through: the room for its windows, room in `line` for some rows of all plates, one at
-/// least, and for some bytes.
+/// What a strip is trapped and written with: the buffers of its windows, a buffer `line` for some rows of all plates,
+/// at least one, and a buffer for some bytes.
 #[derive(Drop)]
 pub struct CoreRoom {
     pub windows: StripRoom,
@@ -25,8 +25,8 @@ pub struct CoreRoom {
     pub bytes: Vec<u8>,
 }
 
-/// Traps the strip of these rows by as many workers as the plan has, in the room for its windows, and adds what is counted in
-/// its core. It takes no memory.
+/// Traps the strip of these rows by as many workers as the plan has, with the buffers of its windows, and adds the
+/// counts of its core. It allocates nothing.
 pub fn trap_row<H: Threads + Sync>(
     rt: &H,
     plan: &StripPlan,
@@ -53,8 +53,8 @@ pub fn trap_row<H: Threads + Sync>(
     );
 }
 
-/// Writes the rows of the core of the strip of these rows, which was trapped in the room last, some rows of all plates at once,
-/// each plate by the rack of its number. It takes no memory.
+/// Writes the rows of the core of the strip of these rows, which was trapped last, some rows of all plates at once,
+/// plate k by rack k. It allocates nothing.
 ///
 /// Where a call of a rack fails, it stops with `Write` and the plate's number.
 pub fn write_row<R: Rack>(

@@ -134,8 +134,8 @@ put_long shown run after a inside e =
     let more = length-append run (drop (a + length run) shown) in
     ap length e ∙ omega (arith, all, more, before, rest, inside)
 
-pub put_front : (shown run after : List ℕ) (a : ℕ) → a + length run ≤ length shown → after ≡ take a shown ++ (run ++ drop (a + length run) shown) → take (a + length run) after ≡ take a shown ++ run
-put_front shown run after a inside e =
+pub put_prefix : (shown run after : List ℕ) (a : ℕ) → a + length run ≤ length shown → after ≡ take a shown ++ (run ++ drop (a + length run) shown) → take (a + length run) after ≡ take a shown ++ run
+put_prefix shown run after a inside e =
     let before = length-take-le a shown (omega (arith, inside)) in
     let both = length-append (take a shown) run in
     ap (take (a + length run)) (e ∙ sym (append_assoc (take a shown) run (drop (a + length run) shown)))

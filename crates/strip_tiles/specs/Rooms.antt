@@ -16,7 +16,7 @@ use Rattle.strip_tiles.specs.Works.{HasArea}
 use Rattle.tile_counts.specs.declared.counts.SheetCounts.{SheetCounts}
 use Rattle.window_pages.specs.Forms.{Form, form_of}
 
--- the shape of a window of these columns and so many rows
+-- the shape of a window of these columns and `tall` rows
 abbrev pub window_shape : Form → ℕ → Span → Shape
 window_shape form tall column =
     record { wide = column.wide; tall = tall; deep = form.deep; zones = length form.zones }
@@ -33,7 +33,7 @@ pub record HasCounts (form : Form) (counts : SheetCounts) : Type 0 where
   pub zone_changed : length counts.zone_changed.items ≡ length form.zones
   pub plate_changed : length counts.plate_changed.items ≡ form.deep
 
--- the room for a window of so many rows, whatever it showed last
+-- the buffers for a window of `tall` rows, whatever it showed last
 pub record IsWindowRoom (form : Form) (tall : ℕ) (window : WindowRoom) : Type 0 where
   pub page : IsSomeAnd window.page (HasForm form tall window.column)
   pub room : IsRoomFor (window_shape form tall window.column) window.room

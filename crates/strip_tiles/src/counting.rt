@@ -1,4 +1,4 @@
-// The counts of a sheet, from none on.
+// Sums of the counts of a sheet.
 
 ghost use Rattle.std.specs.Prelude.{◌≡◌, IfOk};
 ghost use Rattle.strip_tiles.specs.Works.{AreAdded, AreNone, CanAdd};
@@ -10,7 +10,7 @@ use std::alloc::Global;
 use tile_counts::counts::SheetCounts;
 use window_pages::sheet::Sheet;
 
-/// Counts of a sheet that are all 0.
+/// Allocates the counts of a sheet, all 0.
 pub fn no_sheet_counts(alloc: Global, sheet: &Sheet) -> Result<SheetCounts, OutOfMemory>
     ensures { IfOk result (AreNone sheet.now) }
 {
@@ -22,7 +22,7 @@ pub fn no_sheet_counts(alloc: Global, sheet: &Sheet) -> Result<SheetCounts, OutO
     })
 }
 
-/// Adds to each count of a sheet the other of its place.
+/// Adds to each count of a sheet the one of the same zone or plate in `more`.
 pub fn add_sheet_counts(counts: &mut SheetCounts, more: &SheetCounts)
     requires { CanAdd counts.old more.now }
     ensures { AreAdded counts.old more.now counts.new }

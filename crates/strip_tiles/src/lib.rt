@@ -1,5 +1,5 @@
-//! A sheet of any sides trapped strip by strip, tile by tile: each window as a page of its own,
-//! and what is counted in its core is added.
+//! A sheet of any sides trapped strip by strip, tile by tile: each window as a page of its own, with the counts of its
+//! core added to the sheet's.
 #![tactic(auto)]
 
 pub mod counting;

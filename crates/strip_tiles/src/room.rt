@@ -1,4 +1,4 @@
-// The room that the windows of strips of one form are trapped in. It is made once.
+// The buffers that the windows of strips of one form are trapped with. They are allocated once.
 
 ghost use Rattle.std.specs.Prelude.{◌≡◌, ◌<◌, ◌≤◌, ◌+◌, ◌*◌, ℕ, All, IfOk, map, length, slice_index_or};
 ghost use Rattle.page_model.specs.Page.{plates, width};
@@ -26,18 +26,18 @@ use tile_counts::counts::SheetCounts;
 use tile_counts::tile::trap_tile_in;
 use window_pages::sheet::Sheet;
 
-/// A window of strips: its columns, what it is trapped in, and what is counted in its core.
+/// A window of strips: its columns, the buffers that it is trapped with, and the counts of its core.
 #[derive(Drop)]
 pub struct WindowRoom {
     pub alloc: Global,
     pub column: Span,
-    /// What it showed last. It is there between all calls.
+    /// The page that it showed last. It is `None` only within a call.
     pub page: Option<Page>,
     pub room: PageRoom,
     pub counts: SheetCounts,
 }
 
-/// The room for all windows of a strip.
+/// The buffers for all windows of a strip.
 #[derive(Drop)]
 pub struct StripRoom {
     pub windows: Vec<WindowRoom>,
@@ -55,7 +55,8 @@ fn cut_of(column: &Span, row: &Span) -> Cut
     }
 }
 
-/// Room for a window of a strip.
+/// Allocates the buffers for a window of a strip, the small ones first, so that little has to be freed where memory runs
+/// out.
 fn window_room(
     alloc: Global,
     strip: &Sheet,
@@ -72,10 +73,10 @@ fn window_room(
     ensures room { IfOk result (IsWindowRoom (form_of strip.now) row.now.wide) }
 {
     let _valid = strip.width();
+    let counts = no_sheet_counts(alloc, strip)?;
     let cut = cut_of(column, row);
     let page = strip.window(alloc, &cut)?;
     let room = PageRoom::new(alloc, &page)?;
-    let counts = no_sheet_counts(alloc, strip)?;
     Ok(WindowRoom {
         alloc,
         column: *column,
@@ -86,7 +87,8 @@ fn window_room(
 }
 
 impl StripRoom {
-    /// All memory that strips of this one's form and number of rows are trapped in, cut into these columns.
+    /// Allocates all buffers that strips of this one's form and number of rows are trapped with, cut into these
+    /// columns.
     pub fn new(
         alloc: Global,
         strip: &Sheet,
@@ -126,7 +128,7 @@ fn clear(sheet: &Sheet, counts: &mut SheetCounts)
     counts.edges = 0;
 }
 
-/// Traps the window of a strip in its room.
+/// Traps the window of a strip with its buffers.
 fn trap_window_in(
     sheet: &Sheet,
     across: &Ruler,
@@ -216,7 +218,7 @@ fn trap_each_in<H: Threads + Sync>(
     );
 }
 
-/// Adds what is counted in a window of which the core begins at that column.
+/// Adds the counts of a window whose core begins at that column.
 fn add_window(
     sheet: &Sheet,
     row: &Span,
@@ -234,7 +236,7 @@ fn add_window(
     add_sheet_counts(counts, &window.counts);
 }
 
-/// Adds what is counted in the windows of a strip.
+/// Adds the counts of the windows of a strip.
 fn add_windows(
     sheet: &Sheet,
     across: &Ruler,
@@ -258,9 +260,9 @@ fn add_windows(
     }
 }
 
-/// Traps the windows of a strip side by side, by so many workers, in a room for strips of its form and number of rows, and
-/// adds what is counted in the strip. It takes no memory. The room then has the new tints of the windows. Nothing that comes
-/// of it depends on the workers, nor on the strip that was trapped in the room before.
+/// Traps the windows of a strip side by side, by `workers` workers, with buffers for strips of its form and number of
+/// rows, and adds the counts of the strip. It allocates nothing. The buffers then have the new tints of the windows.
+/// The result depends neither on the workers nor on the strip that was trapped before.
 pub fn trap_strip_in<H: Threads + Sync>(
     rt: &H,
     strip: &Sheet,

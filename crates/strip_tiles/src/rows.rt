@@ -1,4 +1,4 @@
-// The rows of a strip's new tints, out of the room that its windows were trapped in.
+// The rows of a strip's new tints, out of the buffers that its windows were trapped with.
 
 ghost use Rattle.std.specs.Prelude.{◌≡◌, ◌<◌, ◌≤◌, ◌+◌, ◌++◌, IfOk, drop, length, map, take};
 ghost use Rattle.page_model.specs.Page.{plates, width};
@@ -15,7 +15,7 @@ use sheet_windows::spans::{Ruler, Span};
 use std::alloc::Global;
 use window_pages::sheet::Sheet;
 
-/// Puts tints among others, from one on.
+/// Writes tints to `out`, from one place on.
 fn put_run(run: &[u16], from: usize, out: &mut [u16])
     requires { from + length run.now ≤ length out.old }
     ensures { out.new ≡ take from out.old ++ (run.now ++ drop (from + length run.now) out.old) }
@@ -23,7 +23,7 @@ fn put_run(run: &[u16], from: usize, out: &mut [u16])
     out[from..from + run.len()].copy_from_slice(run);
 }
 
-/// Puts row k of the new tints of plate c of the strip that was trapped in the room last.
+/// Writes row k of the new tints of plate c of the strip that was trapped with these buffers last.
 pub fn put_strip_row(
     strip: &Sheet,
     across: &Ruler,
@@ -56,7 +56,8 @@ pub fn put_strip_row(
     }
 }
 
-/// The new tints of plate c of the strip that was trapped in the room last, row by row. `line` is room for a row.
+/// The new tints of plate c of the strip that was trapped with these buffers last, row by row. `line` is a buffer for a
+/// row.
 pub fn strip_tints(
     alloc: Global,
     strip: &Sheet,

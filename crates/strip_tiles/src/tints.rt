@@ -11,7 +11,7 @@ use page_model::parts::Plane;
 use sheet_windows::spans::{Ruler, Span};
 use window_pages::sheet::Sheet;
 
-/// Row k of the new tints of plate c of a core.
+/// The new tints of plate c in row k of a core.
 pub fn row_of_core<'a>(
     sheet: &Sheet,
     across: &Ruler,
@@ -39,7 +39,7 @@ pub fn row_of_core<'a>(
     )
 }
 
-/// So many tints, from one on.
+/// Returns `tints[from..from + count]`.
 fn run_of(tints: &[u16], from: usize, count: usize) -> &[u16]
     requires { from + count ≤ length tints.now }
     ensures len { length result.now ≡ count }

@@ -8,6 +8,7 @@ ghost use Rattle.sheet_windows.specs.Spans.{AreSpans, IsRuler, IsSpan};
 ghost use Rattle.strip_tiles.specs.Strips.{IsSomeSpan, planes_of};
 ghost use Rattle.strip_tiles.specs.Rooms.{IsStripRoom, columns_in, tiles_in};
 ghost use Rattle.strip_tiles.specs.Whole.{AreTintsTo, HasStrip, IsCounted, IsKept};
+ghost use Rattle.strip_tiles.specs.Works.{AreNone, HasArea};
 ghost use Rattle.tile_counts.specs.Growth.{AddsArea, HasRooms};
 ghost use Rattle.window_pages.specs.Forms.{form_of};
 
@@ -15,7 +16,7 @@ use crate::counting::no_sheet_counts;
 use crate::room::{StripRoom, trap_strip_in};
 use crate::rows::strip_tints;
 use lists::list::List;
-use lists::memory::{filled, push};
+use lists::memory::{push, vec_of};
 use page_model::parts::{OutOfMemory, Tints};
 use sheet_windows::spans::{Ruler, Span, spans_of};
 use std::alloc::Global;
@@ -23,14 +24,14 @@ use std::thread::Threads;
 use tile_counts::counts::SheetCounts;
 use window_pages::sheet::Sheet;
 
-/// A sheet after trapping: the new tints of each plate, row by row, and what is counted.
+/// A sheet after trapping: the new tints of each plate, row by row, and the counts.
 #[derive(Drop)]
 pub struct TrappedSheet {
     pub tints: List<Tints>,
     pub counts: SheetCounts,
 }
 
-/// Adds tints after those of plate c.
+/// Appends tints to those of plate c.
 fn extend_plate(
     alloc: Global,
     out: &mut List<Tints>,
@@ -49,8 +50,8 @@ fn extend_plate(
     Ok(())
 }
 
-/// Adds the new tints of the strip that was trapped in the room last after those of the strips above it, plate by plate.
-/// `line` is room for a row.
+/// Appends the new tints of the strip that was trapped last to those of the strips above it, plate by plate. `line` is
+/// a buffer for a row.
 fn add_strip(
     alloc: Global,
     sheet: &Sheet,
@@ -88,14 +89,14 @@ fn no_tints(alloc: Global, sheet: &Sheet) -> Result<List<Tints>, OutOfMemory>
     Ok(out)
 }
 
-/// A room that the strip before was trapped in, and how many rows its windows have.
+/// The buffers of the strip before, and the number of rows of its windows.
 #[derive(Drop)]
 struct KeptRoom {
     tall: u32,
     room: StripRoom,
 }
 
-/// The room for a strip: that of the strip before, where it has as many rows, or a new one.
+/// The buffers for a strip: those of the strip before, if it has as many rows, or new ones.
 fn fit_room(
     alloc: Global,
     sheet: &Sheet,
@@ -121,7 +122,7 @@ fn fit_room(
     StripRoom::new(alloc, sheet, across, down, columns, row)
 }
 
-/// Traps a strip, and adds its new tints after those of the strips above it. It gives the room that it took.
+/// Traps a strip, and appends its new tints to those of the strips above it. Returns the buffers that it used.
 fn trap_row<H: Threads + Sync>(
     rt: &H,
     alloc: Global,
@@ -161,9 +162,84 @@ fn trap_row<H: Threads + Sync>(
     Ok(KeptRoom { tall, room })
 }
 
-/// Traps a sheet of any sides, window by window, by rulers for its columns and rows. The tints,
-/// for each plate `width * height`, rows from the top, and the counts are those of the undivided
-/// sheet, wherever it is cut. It refuses nothing but for out of memory.
+/// Traps the strips of these rows, from the top down, into planes without tints and counts of nothing.
+fn trap_rows<H: Threads + Sync>(
+    rt: &H,
+    alloc: Global,
+    sheet: &Sheet,
+    across: &Ruler,
+    down: &Ruler,
+    columns: &[Span],
+    rows: &[Span],
+    workers: usize,
+    tints: &mut List<Tints>,
+    counts: &mut SheetCounts,
+) -> Result<(), OutOfMemory>
+    requires some_workers { 1 ≤ workers }
+    requires rulers { AreRulers sheet.now across.now down.now }
+    requires small { AreSmall sheet.now across.now down.now }
+    requires columns { AreSpans across.now 0 columns.now (width sheet.now) }
+    requires rows { AreSpans down.now 0 rows.now (height sheet.now) }
+    requires tints { AreTintsTo sheet.now 0 tints.old }
+    requires counts { AreNone sheet.now counts.old }
+    ensures tints { OnOk result (AreTintsTo sheet.now (height sheet.now) tints.new) }
+    ensures counts { OnOk result (AddsArea sheet.now 0 0 (width sheet.now) (height sheet.now)
+        counts.old counts.new) }
+{
+    let mut line = vec_of(alloc, 0u16, sheet.width() as usize)?;
+    let mut kept = None;
+    let mut at = 0;
+    for row in rows {
+        let room = trap_row(
+            rt, alloc, sheet, across, down, columns, row, at, workers, kept, &mut line, tints,
+            counts,
+        )?;
+        kept = Some(room);
+        at += row.core;
+    }
+    Ok(())
+}
+
+/// Traps a sheet that is cut into these columns and rows.
+fn trap_cut<H: Threads + Sync>(
+    rt: &H,
+    alloc: Global,
+    sheet: &Sheet,
+    across: &Ruler,
+    down: &Ruler,
+    columns: &[Span],
+    rows: &[Span],
+    workers: usize,
+) -> Result<TrappedSheet, OutOfMemory>
+    requires some_workers { 1 ≤ workers }
+    requires rulers { AreRulers sheet.now across.now down.now }
+    requires small { AreSmall sheet.now across.now down.now }
+    requires columns { AreSpans across.now 0 columns.now (width sheet.now) }
+    requires rows { AreSpans down.now 0 rows.now (height sheet.now) }
+    ensures tints { IfOk result (λ trapped. AreTintsTo sheet.now (height sheet.now) trapped.tints) }
+    ensures counts { IfOk result (λ trapped. HasArea sheet.now 0 0 (width sheet.now)
+        (height sheet.now) trapped.counts) }
+{
+    let mut counts = no_sheet_counts(alloc, sheet)?;
+    let mut tints = no_tints(alloc, sheet)?;
+    trap_rows(
+        rt,
+        alloc,
+        sheet,
+        across,
+        down,
+        columns,
+        rows,
+        workers,
+        &mut tints,
+        &mut counts,
+    )?;
+    Ok(TrappedSheet { tints, counts })
+}
+
+/// Traps a sheet of any sides, window by window, by rulers for its columns and rows. The tints, `width * height` for
+/// each plate, row by row from the top, and the counts are those of the undivided sheet, wherever it is cut. It fails
+/// only where memory runs out.
 pub fn trap_sheet<H: Threads + Sync>(
     rt: &H,
     alloc: Global,
@@ -182,32 +258,16 @@ pub fn trap_sheet<H: Threads + Sync>(
         → slice_index_or trapped.tints c [] ≡ new_tints sheet.now c) }
     ensures counts { IfOk result (λ trapped. IsCounted sheet.now trapped.counts) }
 {
-    let _valid = sheet.width();
     let columns = spans_of(alloc, across)?;
     let rows = spans_of(alloc, down)?;
-    let mut counts = no_sheet_counts(alloc, sheet)?;
-    let mut tints = no_tints(alloc, sheet)?;
-    let mut line = filled(alloc, 0u16, sheet.width() as usize)?;
-    let mut kept = None;
-    let mut at = 0;
-    for row in rows.as_slice() {
-        let room = trap_row(
-            rt,
-            alloc,
-            sheet,
-            across,
-            down,
-            columns.as_slice(),
-            row,
-            at,
-            workers,
-            kept,
-            &mut line,
-            &mut tints,
-            &mut counts,
-        )?;
-        kept = Some(room);
-        at += row.core;
-    }
-    Ok(TrappedSheet { tints, counts })
+    trap_cut(
+        rt,
+        alloc,
+        sheet,
+        across,
+        down,
+        columns.as_slice(),
+        rows.as_slice(),
+        workers,
+    )
 }

@@ -1,4 +1,5 @@
-//! What the tests of the programs are made of: words, files and devices in memory, a small job with two plates, and what it gives.
+//! What the tests of the programs need: words, files and devices in memory, a small job with two plates, and its
+//! results.
 #![tactic(auto)]
 
 ghost use Rattle.std.specs.Prelude.{◌<◌};
@@ -15,7 +16,7 @@ use std::alloc::{AllocError, Global};
 /// A plate of one row: on the left full ink, and on the right none.
 pub const CYAN: &[u8] = b"P5\n6 1\n255\n\0\0\0\xFF\xFF\xFF";
 
-/// The other way round.
+/// A plate of one row: on the left no ink, and on the right full ink.
 pub const MAGENTA: &[u8] = b"P5\n6 1\n255\n\xFF\xFF\xFF\0\0\0";
 
 /// The pieces of a job: it begins with its inks, and a page may set parameters and be shown.
@@ -28,25 +29,29 @@ pub const WIDE: &[u8] = b"<< /TrapWidth 2 >> settrapparams showpage";
 /// A page without traps.
 pub const DISABLED: &[u8] = b"<< /Enabled false >> settrapparams showpage";
 
-/// What the wide traps make of the two plates: one on both sides of the edge.
+/// The Cyan plate after the wide traps, which lie on both sides of the edge.
 pub const TRAPPED_CYAN: &[u8] = b"P5\n6 1\n255\n\0\0\0\0\xFF\xFF";
 
+/// The Magenta plate after the wide traps.
 pub const TRAPPED_MAGENTA: &[u8] = b"P5\n6 1\n255\n\xFF\xFF\0\0\0\0";
 
+/// The report of the wide traps.
 pub const TRAPPED_REPORT: &[u8] =
     b"trap report\npage 6 1 255 plates 2\nzone 0 samples 6 changed 2\nedges 1\nplate Cyan changed 1\nplate Magenta changed 1\nend\n";
 
-/// Where the sliding limit is 1 both samples of the trap lie on the darker side, and Magenta is as it was.
+/// The Cyan plate after the wide traps where the sliding limit is 1: both samples of the trap lie on the darker side,
+/// and Magenta is unchanged.
 pub const UNSLID_CYAN: &[u8] = b"P5\n6 1\n255\n\0\0\0\0\0\xFF";
 
+/// The report of the wide traps where the sliding limit is 1.
 pub const UNSLID_REPORT: &[u8] =
     b"trap report\npage 6 1 255 plates 2\nzone 0 samples 6 changed 2\nedges 1\nplate Cyan changed 2\nplate Magenta changed 0\nend\n";
 
-/// What is reported of the two plates where nothing is trapped.
+/// The report of the two plates if nothing is trapped.
 pub const UNTRAPPED_REPORT: &[u8] =
     b"trap report\npage 6 1 255 plates 2\nzone 0 samples 6 changed 0\nedges 0\nplate Cyan changed 0\nplate Magenta changed 0\nend\n";
 
-/// The words of a text, with single spaces between them; none where it is empty.
+/// The words of a text, with single spaces between them; no words if it is empty.
 pub fn words_of(alloc: Global, text: &str) -> Result<Vec<String>, AllocError> {
     let mut words = Vec::new(alloc);
     if text.is_empty() {

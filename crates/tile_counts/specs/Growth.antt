@@ -8,7 +8,7 @@ use Rattle.sheet_windows.specs.declared.cuts.Cut.{Cut}
 use Rattle.sheet_windows.specs.Areas.{area_sum, changes_in, changes_plate, edges_at, lies_in}
 use Rattle.tile_counts.specs.declared.counts.SheetCounts.{SheetCounts}
 
--- the sum over so many samples of row y, from one on
+-- the sum over `wide` samples of row y, from sample `left` on
 abbrev pub row_sum : (At → ℕ) → ℕ → ℕ → ℕ → ℕ
 row_sum f y left wide = sum_below (λ k. f (record { x = left + k; y = y })) wide
 
@@ -41,7 +41,7 @@ pub record AddsRow (page : PageParts) (y left wide : ℕ) (before after : SheetC
       before.plate_changed.items after.plate_changed.items
   pub edges : after.edges ≡ before.edges + row_sum (edges_at page) y left wide
 
--- and by what is counted in so many rows
+-- and by what is counted in `rows` rows
 pub record AddsArea (page : PageParts) (left top wide rows : ℕ) (before after : SheetCounts)
     : Type 0 where
   pub zone_samples : Grows (length page.zones)
@@ -55,7 +55,7 @@ pub record AddsArea (page : PageParts) (left top wide rows : ℕ) (before after 
       before.plate_changed.items after.plate_changed.items
   pub edges : after.edges ≡ before.edges + area_sum (edges_at page) left top wide rows
 
--- the counts may grow by so many samples of the page, each with two edges
+-- the counts may grow by `more` samples of the page, each with two edges
 pub record HasRooms (page : PageParts) (more : ℕ) (counts : SheetCounts) : Type 0 where
   pub zone_samples : HasRoom (length page.zones) more counts.zone_samples.items
   pub zone_changed : HasRoom (length page.zones) more counts.zone_changed.items

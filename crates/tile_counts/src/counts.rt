@@ -1,5 +1,5 @@
-/// What is counted of a sheet so far: for each zone its samples and how many of these change, for
-/// each plate how many of its samples change, and the edges that decide.
+/// The counts of a sheet so far: for each zone its samples and those of them that change, for each plate its samples
+/// that change, and the deciding edges.
 #[derive(Drop)]
 pub struct SheetCounts {
     pub zone_samples: Vec<u64>,

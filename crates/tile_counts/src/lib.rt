@@ -1,5 +1,4 @@
-//! The tile of a sheet: its window is trapped as a page, and what is counted in its core is added
-//! to the counts of the sheet.
+//! The tile of a sheet: its window is trapped as a page, and the counts of its core are added to those of the sheet.
 #![tactic(auto)]
 
 pub mod counts;

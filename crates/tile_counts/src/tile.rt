@@ -1,4 +1,4 @@
-// The tile of a sheet: its window, a page, is trapped, and what is counted in its core is added.
+// The tile of a sheet: its window, a page, is trapped, and the counts of its core are added.
 
 ghost use Rattle.std.specs.Prelude.{◌≡◌, ◌<◌, ◌≤◌, ◌+◌, ◌*◌, ℕ, IfOk, OnOk, false, length, slice_index, slice_index_or};
 ghost use Rattle.page_model.specs.Counts.{sample_changes};
@@ -9,7 +9,7 @@ ghost use Rattle.sheet_windows.specs.Areas.{changes_in, changes_plate};
 ghost use Rattle.page_tally.specs.Shapes.{shape_of};
 ghost use Rattle.page_tally.specs.Standing.{AreTrappedTo, IsTrappedTo};
 ghost use Rattle.page_tally.specs.Uncounted.{HasTints};
-ghost use Rattle.strip_engine.specs.Bench.{IsBench};
+ghost use Rattle.strip_engine.specs.StripBuffers.{AreBuffers};
 ghost use Rattle.strip_engine.specs.Rooms.{IsRoomFor};
 ghost use Rattle.tile_counts.specs.Growth.{AddsArea, AddsRow, Grows, HasRoom, HasRooms, LiesOn, row_sum};
 
@@ -17,13 +17,13 @@ use crate::counts::SheetCounts;
 use crate::rows::{add_changed, add_zones, edges_of, plate_changes_in};
 use page_model::page::Page;
 use page_model::parts::{OutOfMemory, Plane, PlaneList};
-use page_tally::{are_clear, note_taken};
+use page_tally::{are_clear, note_changes};
 use row_values::{row_of, tints_of_row};
 use sheet_windows::cuts::Cut;
 use std::alloc::Global;
-use strip_engine::{Bench, PageRoom, marks_of_row, zones_of_row};
+use strip_engine::{PageRoom, StripBuffers, marks_of_row, zones_of_row};
 
-/// Row y of a plane that has all new tints of plate c.
+/// Row y of the plane of plate c, which has the new tints of the whole page.
 fn row_of_plane<'a>(page: &Page, plane: &'a Plane, y: u32, c: u32) -> &'a [u16]
     requires plane { IsTrappedTo page.now c (height page.now * width page.now) plane.now }
     requires row { y < height page.now }
@@ -48,7 +48,7 @@ fn new_row<'a>(page: &Page, planes: &'a [Plane], y: u32, c: u32) -> &'a [u16]
     row_of_plane(page, &planes[c as usize], y, c)
 }
 
-/// Adds for each plate how many of these samples of row y change.
+/// Adds for each plate the number of these samples of row y that change.
 fn add_plates(page: &Page, planes: &[Plane], y: u32, left: usize, wide: usize, counts: &mut [u64])
     requires planes { AreTrappedTo page.now planes.now (height page.now * width page.now) }
     requires row { y < height page.now }
@@ -65,8 +65,8 @@ fn add_plates(page: &Page, planes: &[Plane], y: u32, left: usize, wide: usize, c
     }
 }
 
-/// Adds for each zone, and for each plate, how many of these samples of row y change, where they are noted. Where none
-/// does, nothing is gone over.
+/// Adds for each zone, and for each plate, the number of these samples of row y that change. Where none is marked as
+/// changed, nothing is done.
 fn add_changes(
     page: &Page,
     planes: &[Plane],
@@ -110,11 +110,11 @@ fn add_changes(
     add_plates(page, planes, y, left, wide, &mut counts.plate_changed);
 }
 
-/// Adds what is counted in these samples of row y. What stands in `changes`, room for a row, has no meaning.
+/// Adds the counts of these samples of row y. `changes` is a buffer for a row.
 fn add_row(
     page: &Page,
     planes: &[Plane],
-    bench: &Bench,
+    buffers: &StripBuffers,
     y: u32,
     left: usize,
     wide: usize,
@@ -122,7 +122,7 @@ fn add_row(
     counts: &mut SheetCounts,
 )
     requires planes { AreTrappedTo page.now planes.now (height page.now * width page.now) }
-    requires bench { IsBench page.now bench.now }
+    requires buffers { AreBuffers page.now buffers.now }
     requires row { y < height page.now }
     requires inside { left + wide ≤ width page.now }
     requires changes { length changes.old ≡ width page.now }
@@ -130,25 +130,25 @@ fn add_row(
     ensures changes { length changes.new ≡ width page.now }
     ensures counts { AddsRow page.now y left wide counts.old counts.new }
 {
-    let zones = zones_of_row(page, &bench.zones, y);
-    let marks = marks_of_row(page, &bench.marks, y);
-    note_taken(page, planes, y, changes);
+    let zones = zones_of_row(page, &buffers.zones, y);
+    let marks = marks_of_row(page, &buffers.marks, y);
+    note_changes(page, planes, y, changes);
     add_zones(page, zones, y, left, wide, &mut counts.zone_samples);
     add_changes(page, planes, zones, changes, y, left, wide, counts);
     counts.edges += edges_of(page, marks, y, left, wide);
 }
 
-/// Adds what is counted in a core, row by row.
+/// Adds the counts of a core, row by row.
 fn add_rows(
     page: &Page,
     planes: &[Plane],
-    bench: &Bench,
+    buffers: &StripBuffers,
     core: &Cut,
     changes: &mut [bool],
     counts: &mut SheetCounts,
 )
     requires planes { AreTrappedTo page.now planes.now (height page.now * width page.now) }
-    requires bench { IsBench page.now bench.now }
+    requires buffers { AreBuffers page.now buffers.now }
     requires core { LiesOn page.now core.now }
     requires changes { length changes.old ≡ width page.now }
     requires room { HasRooms page.now (core.now.width * core.now.height) counts.old }
@@ -161,7 +161,7 @@ fn add_rows(
         add_row(
             page,
             planes,
-            bench,
+            buffers,
             core.top + k,
             core.left as usize,
             core.width as usize,
@@ -171,10 +171,10 @@ fn add_rows(
     }
 }
 
-/// Adds what is counted in a core of the page that was trapped in the room last.
+/// Adds the counts of a core of the page that was trapped with these buffers last.
 fn add_core(page: &Page, core: &Cut, room: &mut PageRoom, counts: &mut SheetCounts)
     requires shape { IsRoomFor (shape_of page.now) room.old }
-    requires bench { IsBench page.now room.old.bench }
+    requires buffers { AreBuffers page.now room.old.buffers }
     requires tints { HasTints page.now (height page.now) room.old.outcome }
     requires core { LiesOn page.now core.now }
     requires room { HasRooms page.now (core.now.width * core.now.height) counts.old }
@@ -186,15 +186,15 @@ fn add_core(page: &Page, core: &Cut, room: &mut PageRoom, counts: &mut SheetCoun
     add_rows(
         page,
         room.outcome.planes.as_slice(),
-        &room.bench,
+        &room.buffers,
         core,
         &mut room.outcome.changes,
         counts,
     );
 }
 
-/// Traps the page of a tile's window in a room for pages of its shape, and adds to the counts of its sheet what is counted
-/// in its core. It takes no memory. The room's outcome then has the page's new tints.
+/// Traps the page of a tile's window with buffers for pages of its shape, and adds the counts of its core to those of
+/// its sheet. It allocates nothing. `room.outcome` then has the page's new tints.
 pub fn trap_tile_in(page: &Page, core: &Cut, room: &mut PageRoom, counts: &mut SheetCounts)
     requires shape { IsRoomFor (shape_of page.now) room.old }
     requires core { LiesOn page.now core.now }
@@ -208,8 +208,8 @@ pub fn trap_tile_in(page: &Page, core: &Cut, room: &mut PageRoom, counts: &mut S
     add_core(page, core, room, counts);
 }
 
-/// Traps the page of a tile's window, and adds to the counts of its sheet what is counted in its
-/// core. It refuses nothing but for out of memory.
+/// Traps the page of a tile's window, and adds the counts of its core to those of its sheet. It fails only where memory
+/// runs out.
 pub fn trap_tile(
     alloc: Global,
     page: &Page,

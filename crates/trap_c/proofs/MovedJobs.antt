@@ -90,7 +90,3 @@ moved_in_range layout place job is =
         details = is.details;
       };
     }
-
--- the vertices of a job in range
-pub near_paths : (job : Job) → IsJob job → All (λ (zone : Zone). All IsVertex zone.path) job.zones
-near_paths job is = λ k d l. (is.zones k d l).path.near

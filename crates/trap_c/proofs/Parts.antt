@@ -2,7 +2,7 @@
 use Rattle.std.proofs.Common.{◌≡◌, ℕ, ◌+◌, ◌-◌, ◌<◌, ◌≤◌, List, ◌++◌, length, take, drop, get_or, inl, inr, refl, sym, ap, ◌∙◌, arith}
 use Rattle.std.specs.Prelude.{slice_range}
 use Rattle.std.proofs.lemmas.Bool.{cases_lt}
-use Rattle.std.proofs.lemmas.List.{take-append-le, take-append-drop, take-take, take_at, drop_at, length-take, length-drop, length-append, get_or_append_left, get_or-append_right, get_or-drop, get_or-take}
+use Rattle.std.proofs.lemmas.List.{take-append-le, take-append-drop, take-take, take_at, drop_at, length-take, get_or_append_left, get_or-append_right, get_or-drop, get_or-take}
 use Rattle.std.proofs.lemmas.Slice.{between_is}
 
 long_prefix : (xs : List ℕ) (a : ℕ) → a ≤ length xs → length (take a xs) ≡ a
@@ -25,10 +25,6 @@ part_here xs ys rest a e inside end =
 -- a prefix and what follows it
 pub prefix_more : (xs : List ℕ) (a e : ℕ) → a ≤ e → take e xs ≡ take a xs ++ slice_range xs a e
 prefix_more xs a e l = sym (take-append-drop a (take e xs)) ∙ (ap (λ (ys : List ℕ). ys ++ drop a (take e xs)) (take-take a e xs l) ∙ ap (λ (ys : List ℕ). take a xs ++ ys) (sym (between_is xs a e)))
-
--- it is as long as before
-pub long_put : (xs ys : List ℕ) (a e : ℕ) → e ≡ a + length ys → e ≤ length xs → length (take a xs ++ (ys ++ drop e xs)) ≡ length xs
-long_put xs ys a e end inside = omega (arith, length-append (take a xs) (ys ++ drop e xs), length-append ys (drop e xs), length-drop e xs, long_prefix xs a (omega (arith, end, inside)))
 
 -- what lies elsewhere is as it was
 pub item_kept : (xs ys : List ℕ) (a e k : ℕ) → e ≡ a + length ys → e ≤ length xs → ((a ≤ k) → (k < e) → ⊥) → get_or (take a xs ++ (ys ++ drop e xs)) k 0 ≡ get_or xs k 0

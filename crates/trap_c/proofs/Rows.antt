@@ -1,7 +1,7 @@
 -- Rows among samples, and what becomes of them where one is put in.
 use Rattle.std.proofs.Common.{◌≡◌, ℕ, zero, suc, ◌+◌, ◌-◌, ◌*◌, ◌%◌, ◌<◌, ◌≤◌, List, ◌++◌, length, take, drop, refl, sym, ap, ◌∙◌, subst, arith, add-one}
 use Rattle.std.specs.Prelude.{slice_range}
-use Rattle.std.proofs.lemmas.List.{length-append, take_all}
+use Rattle.std.proofs.lemmas.List.{length-append}
 use Rattle.std.proofs.lemmas.List.Edits.{length-between}
 use Rattle.std.proofs.lemmas.Nat.{mod-mul-add}
 use Rattle.trap_c.specs.declared.layout.Layout.{Layout}
@@ -43,9 +43,6 @@ pub record IsPut (layout : Layout) (tints before now : List ℕ) (c y : ℕ) : T
   pub earlier : (j : ℕ) → j < c → tints_in layout now j ≡ tints_in layout before j
   pub gaps : KeepsGaps layout before now
 
-pub put_begun : (layout : Layout) (tints before : List ℕ) (c : ℕ) → IsPut layout tints before before c 0
-put_begun layout tints before c = record { here = (let none : 0 ≡ 0 * layout.width = omega arith in ap (λ (n : ℕ). take n tints) none); earlier = λ j l. refl; gaps = λ k far. refl }
-
 -- one more row
 pub put_more : (layout : Layout) (tints before now after row : List ℕ) (c y : ℕ) → layout.width ≤ layout.step → y < layout.height → (c * layout.height + layout.height) * layout.step ≤ length now → length row ≡ layout.width → row ≡ slice_range tints (y * layout.width) (y * layout.width + layout.width) → after ≡ put ((c * layout.height + y) * layout.step) row now → IsPut layout tints before now c y → IsPut layout tints before after c (y + 1)
 put_more layout tints before now after row c y apart ly inside long is put_in h =
@@ -62,9 +59,6 @@ put_more layout tints before now after row c y apart ly inside long is put_in h 
       earlier = λ j lj. rows_kept layout now (row ++ drop (r * layout.step + length row) now) (r * layout.step) (j * layout.height) layout.height apart (omega (arith, times_le (j * layout.height + layout.height) (c * layout.height + y) layout.step (omega (arith, plane_before j c layout.height lj)))) from ∙ h.earlier j lj;
       gaps = λ k far. gaps_kept layout now row r apart long fits k far ∙ h.gaps k far;
     })
-
-pub put_whole : (layout : Layout) (tints before now : List ℕ) (c : ℕ) → length tints ≡ size layout → IsPut layout tints before now c layout.height → tints_in layout now c ≡ tints
-put_whole layout tints before now c long h = h.here ∙ take_all (layout.height * layout.width) tints (omega (arith, long))
 
 -- a row of tints
 pub tint_row : (layout : Layout) (tints : List ℕ) (y : ℕ) → y < layout.height → length tints ≡ size layout → length (slice_range tints (y * layout.width) (y * layout.width + layout.width)) ≡ layout.width

@@ -32,7 +32,7 @@ use Rattle.trap_c.specs.declared.layout.Layout.{Layout}
 use Rattle.trap_c.specs.declared.place.Along.{Along}
 use Rattle.trap_c.specs.declared.place.Place.{Place}
 use Rattle.trap_c.specs.declared.stop.CallFault.{CallFault}
-use Rattle.trap_c.specs.declared.stop.Stop.{Stop}
+use Rattle.trap_c.specs.declared.stop.CallError.{CallError}
 use Rattle.trap_c.specs.Cores.{HaveCores, core_run, sum_over, tint_run}
 use Rattle.trap_c.specs.Fit.{AreSides, call_fault}
 use Rattle.trap_c.specs.Names.{names_in}
@@ -48,15 +48,15 @@ use Rattle.trap_c.proofs.WorkLemmas.{as_many_planes, one_plane}
 
 -- the page that was made is the window of a job that was read, at a place that suits it
 
-by_call : (o : Option CallFault) (made : Result PageParts Stop) (page : PageParts) → made_unless o made ≡ Ok page → made ≡ Ok page
+by_call : (o : Option CallFault) (made : Result PageParts CallError) (page : PageParts) → made_unless o made ≡ Ok page → made ≡ Ok page
 by_call None made page e = e
 by_call (Some fault) made page e = absurd (cc)
 
-by_place : (b : Bool) (made : Result PageParts Stop) (page : PageParts) → placed b made ≡ Ok page → (b ≡ true) × (made ≡ Ok page)
+by_place : (b : Bool) (made : Result PageParts CallError) (page : PageParts) → placed b made ≡ Ok page → (b ≡ true) × (made ≡ Ok page)
 by_place true made page e = (refl, e)
 by_place false made page e = absurd (cc)
 
-by_far : (o : Option ℕ) (made : Result PageParts Stop) (page : PageParts) → unless_far o made ≡ Ok page → made ≡ Ok page
+by_far : (o : Option ℕ) (made : Result PageParts CallError) (page : PageParts) → unless_far o made ≡ Ok page → made ≡ Ok page
 by_far None made page e = e
 by_far (Some zone) made page e = absurd (cc)
 

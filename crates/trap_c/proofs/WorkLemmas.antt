@@ -1,6 +1,5 @@
 -- A page after trapping, as it lies in the samples.
-use Rattle.std.proofs.Common.{◌≡◌, ℕ, ◌+◌, ◌*◌, ◌<◌, ◌≤◌, List, All, length, inl, inr, sym, ap, ◌∙◌, subst, arith}
-use Rattle.std.proofs.lemmas.Bool.{cases_eq}
+use Rattle.std.proofs.Common.{◌≡◌, ℕ, ◌*◌, ◌<◌, ◌≤◌, List, All, length, sym, ap, ◌∙◌, subst, arith}
 use Rattle.lists.proofs.ListBelow.{length-list_below, list_below-at, list_below-of}
 use Rattle.page_model.specs.declared.parts.PageParts.{PageParts}
 use Rattle.page_model.specs.declared.parts.Plane.{Plane}
@@ -73,10 +72,3 @@ each_narrow layout before page text d is c l =
     let fits : IsPlane (plane_at d.planes c) = subst (λ (ps : List Plane). IsPlane (plane_at ps c)) (sym is.planes) (is.in_range c no_plane there) in
     let deep : (plane_at d.planes c).maxval ≡ layout.maxval = ap (λ (ps : List Plane). (plane_at ps c).maxval) is.planes ∙ (ap (λ (p : Plane). p.maxval) (one_plane page c here) ∙ is.laid_out.deep) in
     λ k t within. omega (arith, fits.below k t within, deep, is.narrow)
-
--- one more plane is put in
-pub next_plane : (layout : Layout) (planes : List Plane) (samples after tints : List ℕ) (c : ℕ) → tints_in layout after c ≡ tints → tints ≡ (plane_at planes c).tints → ((j : ℕ) → j < c → tints_in layout after j ≡ tints_in layout samples j) → ((j : ℕ) → j < c → tints_in layout samples j ≡ (plane_at planes j).tints) → (j : ℕ) → j < c + 1 → tints_in layout after j ≡ (plane_at planes j).tints
-next_plane layout planes samples after tints c here e kept before j l = elim (cases_eq j c) [
-  | inl same ↦ rw same (here ∙ e)
-  | inr other ↦ (let lower : j < c = omega (arith, l, other) in kept j lower ∙ before j lower)
-]

@@ -10,16 +10,17 @@ use Rattle.refusals.specs.declared.refusal.Refusal.TheVariants.{Memory}
 use Rattle.trap_report.specs.Report.{report_of}
 use Rattle.refusals.specs.Statuses.{done}
 use Rattle.trap_c.specs.declared.layout.Layout.{Layout}
-use Rattle.trap_c.specs.declared.stop.Stop.{Stop}
-use Rattle.trap_c.specs.declared.stop.Stop.TheVariants.{Page}
+use Rattle.trap_c.specs.declared.stop.CallError.{CallError}
+use Rattle.trap_c.specs.declared.stop.CallError.TheVariants.{Page}
 use Rattle.trap_c.specs.declared.work.Done.{Done}
 use Rattle.trap_c.specs.Pages.{Fills, call_page}
 use Rattle.trap_c.specs.Planes.{KeepsGaps, planes_in}
 use Rattle.trap_c.specs.Requests.{Asked}
 use Rattle.trap_c.specs.Stops.{status_of_stop, line_of_stop}
+use Rattle.page_model.specs.Limits.{most_plates}
 
--- As much of a text as there is room for is put at the start of a buffer, the rest of which
--- stays, and the whole length of the text is told.
+-- As much of a text as fits is written to the start of a buffer, the rest of which stays, and the
+-- whole length of the text is answered.
 pub record Tells (text before after : List ℕ) (len : ℕ) : Type 0 where
   pub size : len ≡ length text
   pub put : let count = min (length text) (length before) in
@@ -38,13 +39,13 @@ pub record IsWorked (most : ℕ) (layout : Layout) (before : List ℕ) (page : P
   pub laid_out : Fills layout (plates page) page
   pub all : length before ≡ plates page * layout.height * layout.step
   pub apart : layout.width ≤ layout.step
-  pub few : plates page ≤ 16
+  pub few : plates page ≤ most_plates
   pub narrow : layout.maxval ≤ most
   pub in_range : All IsPlane (trapped_planes page)
 
 -- The work for the page that was to be made; or why there is none, which may be that memory was
 -- refused.
-abbrev pub Works : ℕ → Layout → List ℕ → Result PageParts Stop → Result Done Stop → Type 0
+abbrev pub Works : ℕ → Layout → List ℕ → Result PageParts CallError → Result Done CallError → Type 0
 Works most layout before made (Ok work) =
     (page : PageParts) × (made ≡ Ok page)
     × IsWorked most layout before page (report_of page (page_counts page)) work
@@ -64,7 +65,7 @@ Succeeds most asked before after text text' len =
 -- the arguments call for, or of memory that was refused.
 abbrev pub Refuses : ℕ → Asked → List ℕ → List ℕ → List ℕ → List ℕ → ℕ → ℕ → Type 0
 Refuses most asked before after text text' len status =
-    (stop : Stop)
+    (stop : CallError)
     × (status ≡ status_of_stop stop)
     × (after ≡ before)
     × Tells (line_of_stop stop) text text' len

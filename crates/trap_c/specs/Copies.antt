@@ -11,7 +11,7 @@ pub record IsCopied (layout : Layout) (samples : List ℕ) (c : ℕ) (copied : C
   pub tints : copied.tints.items ≡ tints_in layout samples c
   pub fit : IsTrue copied.are_fit → AreFit layout.maxval (tints_in layout samples c)
 
--- So many planes, which are in range where they are said to be.
+-- `count` planes, which are in range where they are said to be.
 pub record AreCopies (layout : Layout) (samples : List ℕ) (count : ℕ)
     (copies : Copies) : Type 0 where
   pub planes : copies.planes ≡ planes_in layout samples count

@@ -45,7 +45,7 @@ tint_run layout core y = (core.top + y) * layout.width + core.left
 abbrev pub core_run : Layout → Cut → ℕ → ℕ → ℕ
 core_run layout core c y = (c * layout.height + (core.top + y)) * layout.step + core.left
 
--- a sample that is none of so many, from one on
+-- sample k is none of the `wide` samples from `from` on
 abbrev pub IsBeside : ℕ → ℕ → ℕ → Type 0
 IsBeside k from wide = (k < from) ⊎ (from + wide ≤ k)
 
@@ -69,7 +69,7 @@ pub record HaveCores (layout : Layout) (core : Cut) (planes : List Plane)
       → IsBeside k (core_run layout core c y) core.width)
       → slice_index after k ≡ slice_index before k
 
--- so many items of a list, from one on
+-- `count` items of a list, from item `from` on
 pub record IsRun (items : List ℕ) (from count : ℕ) (run : List ℕ) : Type 0 where
   pub long : length run ≡ count
   pub each : (x : ℕ) → x < count → slice_index run x ≡ slice_index items (from + x)

@@ -4,7 +4,7 @@ use Rattle.std.specs.Prelude.{if◌then◌else◌, List, length, slice_index, Op
 use Rattle.std.specs.List.{position}
 use Rattle.lists.specs.Words.{first_some}
 use Rattle.page_model.specs.declared.parts.Plane.{Plane}
-use Rattle.page_model.specs.Limits.{most_side, most_samples, most_maxval}
+use Rattle.page_model.specs.Limits.{most_maxval, most_plates, most_samples, most_side}
 use Rattle.page_model.specs.Planes.{plane_at}
 use Rattle.pgm_plates.specs.declared.plate.PlateFault.TheVariants.{SampleAboveMaxval}
 use Rattle.refusals.specs.declared.refusal.Refusal.{Refusal}
@@ -56,7 +56,7 @@ pub record IsLayout (layout : Layout) : Type 0 where
 -- A call whose arguments have no fault.
 pub record IsCall (names : List (List ℕ)) (layout : Layout) (count : ℕ) : Type 0 where
   pub some : 1 ≤ length names
-  pub few : length names ≤ 16
+  pub few : length names ≤ most_plates
   pub laid_out : IsLayout layout
   pub all : count ≡ length names * layout.height * layout.step
 

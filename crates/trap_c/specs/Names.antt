@@ -4,6 +4,7 @@ use Rattle.std.specs.Prelude.{length}
 use Rattle.std.specs.List.{list_all}
 use Rattle.plain_words.specs.Distinct.{are_distinct}
 use Rattle.plain_words.specs.Names.{is_name}
+use Rattle.page_model.specs.Limits.{most_plates}
 
 -- the names in the rest of a text, after the bytes of one that is begun
 abbrev pub names_from : List ℕ → List ℕ → List (List ℕ)
@@ -18,5 +19,5 @@ names_in text = names_from [] text
 -- the names of 1 to 16 colorants, none of them twice
 abbrev pub are_names : List (List ℕ) → Bool
 are_names names =
-    nat_le 1 (length names) && nat_le (length names) 16
+    nat_le 1 (length names) && nat_le (length names) most_plates
     && list_all is_name names && are_distinct names

@@ -11,8 +11,8 @@ use Rattle.refusals.specs.declared.refusal.Refusal.{Refusal}
 use Rattle.refusals.specs.declared.refusal.Refusal.TheVariants.{Job as JobRefusal, Memory}
 use Rattle.trap_c.specs.declared.layout.Layout.{Layout}
 use Rattle.trap_c.specs.declared.stop.CallFault.{CallFault}
-use Rattle.trap_c.specs.declared.stop.Stop.{Stop}
-use Rattle.trap_c.specs.declared.stop.Stop.TheVariants.{Call, Page}
+use Rattle.trap_c.specs.declared.stop.CallError.{CallError}
+use Rattle.trap_c.specs.declared.stop.CallError.TheVariants.{Call, Page}
 use Rattle.trap_c.specs.Requests.{Asked}
 use Rattle.trap_c.specs.Names.{names_in}
 use Rattle.trap_c.specs.Fit.{call_fault, first_above}
@@ -39,23 +39,23 @@ abbrev pub page_of : List ℕ → List (List ℕ) → List Plane → Result Page
 page_of job names planes = page_by (job_of job) names planes
 
 -- a page that was made, or the refusal
-abbrev pub stop_or : Result PageParts Refusal → Result PageParts Stop
+abbrev pub stop_or : Result PageParts Refusal → Result PageParts CallError
 stop_or (Ok page) = Ok page
 stop_or (Err refusal) = Err (Page refusal)
 
 -- where the arguments have no fault
-abbrev pub call_unless : Option CallFault → Result PageParts Refusal → Result PageParts Stop
+abbrev pub call_unless : Option CallFault → Result PageParts Refusal → Result PageParts CallError
 call_unless (Some fault) made = Err (Call fault)
 call_unless None made = stop_or made
 
 -- the page of these names: the arguments are judged, and then the job and the planes
-abbrev pub named_page : ℕ → List ℕ → List (List ℕ) → Layout → List ℕ → Result PageParts Stop
+abbrev pub named_page : ℕ → List ℕ → List (List ℕ) → Layout → List ℕ → Result PageParts CallError
 named_page most job names layout samples =
     call_unless (call_fault most names layout (length samples))
     (page_of job names (planes_in layout samples (length names)))
 
 -- the page that a call is for, or why there is none
-abbrev pub call_page : ℕ → Asked → List ℕ → Result PageParts Stop
+abbrev pub call_page : ℕ → Asked → List ℕ → Result PageParts CallError
 call_page most asked samples =
     named_page most asked.job (names_in asked.names) asked.layout samples
 
@@ -64,7 +64,7 @@ abbrev pub Gives : Result PageParts Refusal → Result PageParts Refusal → Typ
 Gives made (Ok page) = made ≡ Ok page
 Gives made (Err refusal) = (refusal ≡ Memory) ⊎ (made ≡ Err refusal)
 
--- A page of that layout, with so many plates.
+-- A page of that layout, with `count` plates.
 pub record Fills (layout : Layout) (count : ℕ) (page : PageParts) : Type 0 where
   pub wide : width page ≡ layout.width
   pub tall : height page ≡ layout.height

@@ -4,17 +4,13 @@ use Rattle.std.specs.Prelude.{nat_le, length, []}
 use Rattle.job_reader.specs.declared.job.Job.{Job}
 use Rattle.page_model.specs.declared.parts.PageParts.{PageParts}
 use Rattle.page_model.specs.Columns.{halo}
-use Rattle.page_model.specs.Limits.{scale}
+use Rattle.page_model.specs.Limits.{most_sheet_side, scale}
 use Rattle.page_model.specs.Reach.{page_reach}
 use Rattle.sheet_windows.specs.declared.cuts.Cut.{Cut}
 use Rattle.sheet_windows.specs.Tiles.{Tile}
 use Rattle.trap_c.specs.declared.layout.Layout.{Layout}
 use Rattle.trap_c.specs.declared.place.Along.{Along}
 use Rattle.trap_c.specs.declared.place.Place.{Place}
-
--- the samples of a sheet's side
-abbrev pub most_sheet_side : ℕ
-most_sheet_side = 262144
 
 -- the window's columns and rows on its sheet
 abbrev pub cut_of : Layout → Place → Cut
@@ -66,7 +62,7 @@ abbrev pub is_place : Layout → Place → Bool
 is_place layout place =
     lies_along (across_of layout place) && lies_along (down_of layout place)
 
--- on each side that is no border of the sheet the window goes on beyond its core by so many samples
+-- on each side that is no border of the sheet the window goes on beyond its core by `more` samples
 abbrev pub is_wide_along : ℕ → Along → Bool
 is_wide_along more along = ((along.from == 0) || nat_le more along.core_from)
     && ((along.from + along.wide == along.side)
@@ -89,7 +85,7 @@ job_reach job = page_reach (job_parts job)
 abbrev pub job_halo : Job → ℕ
 job_halo job = max 1 (halo (job_reach job))
 
--- so many samples are a whole number of ten-thousandths of a point
+-- `samples` samples are a whole number of ten-thousandths of a point
 abbrev pub is_exact : ℕ → ℕ → Bool
 is_exact resolution samples = (72 * scale * samples) % resolution == 0
 

@@ -13,7 +13,7 @@ size layout = layout.width * layout.height
 abbrev pub row_in : Layout → List ℕ → ℕ → List ℕ
 row_in layout samples r = slice_range samples (r * layout.step) (r * layout.step + layout.width)
 
--- so many rows, from one on, without what stands after the end of each
+-- some rows, from row `first` on, without what stands after the end of each
 abbrev pub rows_in : Layout → List ℕ → ℕ → ℕ → List ℕ
 rows_in layout samples first zero = []
 rows_in layout samples first (suc n) =
@@ -36,7 +36,7 @@ plane_with layout tints = record {
 abbrev pub plane_in : Layout → List ℕ → ℕ → Plane
 plane_in layout samples c = plane_with layout (tints_in layout samples c)
 
--- the planes that lie there, so many
+-- the first `count` planes that lie there
 abbrev pub planes_in : Layout → List ℕ → ℕ → List Plane
 planes_in layout samples count = list_below (plane_in layout samples) count
 

@@ -19,8 +19,8 @@ use Rattle.sheet_windows.specs.Windows.{shown_plane, window}
 use Rattle.tile_counts.specs.Growth.{LiesOn}
 use Rattle.trap_c.specs.declared.layout.Layout.{Layout}
 use Rattle.trap_c.specs.declared.place.Place.{Place}
-use Rattle.trap_c.specs.declared.stop.Stop.{Stop}
-use Rattle.trap_c.specs.declared.stop.Stop.TheVariants.{Page}
+use Rattle.trap_c.specs.declared.stop.CallError.{CallError}
+use Rattle.trap_c.specs.declared.stop.CallError.TheVariants.{Page}
 use Rattle.trap_c.specs.declared.work.Done.{Done}
 use Rattle.trap_c.specs.Calls.{IsWorked, Tells}
 use Rattle.trap_c.specs.Cores.{IsBeside, core_counts, core_run, sum_over}
@@ -40,8 +40,8 @@ core_report place page = sided_report_of page place.sheet_width place.sheet_heig
 
 -- The work for the window that was to be made; or why there is none, which may be that memory was
 -- refused.
-abbrev pub WorksWindow : ℕ → Layout → Place → List ℕ → Result PageParts Stop → Result Done Stop
-    → Type 0
+abbrev pub WorksWindow : ℕ → Layout → Place → List ℕ → Result PageParts CallError
+    → Result Done CallError → Type 0
 WorksWindow most layout place before made (Ok work) =
     (page : PageParts) × (made ≡ Ok page)
     × IsWorked most layout before page (core_report place page) work
@@ -114,7 +114,7 @@ SucceedsWindow most asked place before after text text' len =
 -- that the arguments call for, or of memory that was refused.
 abbrev pub RefusesWindow : ℕ → Asked → Place → List ℕ → List ℕ → List ℕ → List ℕ → ℕ → ℕ → Type 0
 RefusesWindow most asked place before after text text' len status =
-    (stop : Stop)
+    (stop : CallError)
     × (status ≡ status_of_stop stop)
     × (after ≡ before)
     × Tells (line_of_stop stop) text text' len
@@ -128,15 +128,15 @@ pub record TrapsWindow (most : ℕ) (asked : Asked) (place : Place)
   pub refused : status ≢ done → RefusesWindow most asked place before after text text' len status
 
 -- why a job is not read
-abbrev pub stop_of_job : JobRefusal → Stop
+abbrev pub stop_of_job : JobRefusal → CallError
 stop_of_job (Fault fault) = Page (JobFaulty fault)
 stop_of_job OutOfMemory = Page Memory
 
--- the halo of a job that was read; or why it is not told, which may be that memory was refused
+-- the halo of a job that was read; or why it is not answered, which may be that memory was refused
 abbrev pub HaloIs : List ℕ → ℕ → Type 0
 HaloIs bytes halo = (job : Job) × (job_of bytes ≡ Ok job) × (halo ≡ job_halo job)
 
-abbrev pub HaloRefused : List ℕ → ℕ → Stop → Type 0
+abbrev pub HaloRefused : List ℕ → ℕ → CallError → Type 0
 HaloRefused bytes status stop =
     (status ≡ status_of_stop stop) × ((stop ≡ Page Memory)
     ⊎ ((fault : JobFault) × (job_of bytes ≡ Err fault) × (stop ≡ Page (JobFaulty fault))))
@@ -145,5 +145,5 @@ HaloRefused bytes status stop =
 pub record TellsHalo (bytes : List ℕ) (halo halo' : ℕ) (text text' : List ℕ) (len status : ℕ)
     : Type 0 where
   pub success : status ≡ done → HaloIs bytes halo' × Tells [] text text' len
-  pub refused : status ≢ done → (halo' ≡ halo) × ((stop : Stop)
+  pub refused : status ≢ done → (halo' ≡ halo) × ((stop : CallError)
       × HaloRefused bytes status stop × Tells (line_of_stop stop) text text' len)

@@ -17,8 +17,8 @@ use Rattle.trap_c.specs.declared.layout.Layout.{Layout}
 use Rattle.trap_c.specs.declared.place.Place.{Place}
 use Rattle.trap_c.specs.declared.stop.CallFault.{CallFault}
 use Rattle.trap_c.specs.declared.stop.CallFault.TheVariants.{Place as PlaceFault}
-use Rattle.trap_c.specs.declared.stop.Stop.{Stop}
-use Rattle.trap_c.specs.declared.stop.Stop.TheVariants.{Call, Far, Page}
+use Rattle.trap_c.specs.declared.stop.CallError.{CallError}
+use Rattle.trap_c.specs.declared.stop.CallError.TheVariants.{Call, Far, Page}
 use Rattle.trap_c.specs.Fit.{call_fault}
 use Rattle.trap_c.specs.Names.{names_in}
 use Rattle.trap_c.specs.Pages.{page_with, stop_or}
@@ -42,52 +42,53 @@ abbrev pub first_far : List Zone → Option ℕ
 first_far zones = position (λ (zone : Zone). list_any is_far zone.path) zones
 
 -- what is made, where no zone is too far
-abbrev pub unless_far : Option ℕ → Result PageParts Stop → Result PageParts Stop
+abbrev pub unless_far : Option ℕ → Result PageParts CallError → Result PageParts CallError
 unless_far (Some zone) made = Err (Far zone)
 unless_far None made = made
 
 -- what is made, where the place is right
-abbrev pub placed : Bool → Result PageParts Stop → Result PageParts Stop
+abbrev pub placed : Bool → Result PageParts CallError → Result PageParts CallError
 placed right made = if right then made else Err (Call PlaceFault)
 
 -- the window of a job whose paths are moved
-abbrev pub near_window : Job → List (List ℕ) → List Plane → Result PageParts Stop
+abbrev pub near_window : Job → List (List ℕ) → List Plane → Result PageParts CallError
 near_window job names planes =
     unless_far (first_far job.zones) (stop_or (page_with job names planes))
 
 -- the window of a job: its place is judged by the job, then its zones, its tints, and what they
 -- make
-abbrev pub window_with : Layout → Place → Job → List (List ℕ) → List Plane → Result PageParts Stop
+abbrev pub window_with : Layout → Place → Job → List (List ℕ) → List Plane
+    → Result PageParts CallError
 window_with layout place job names planes =
     placed (suits job layout place) (near_window (moved_job layout place job) names planes)
 
 -- the window of a job that was read, or the job's fault
 abbrev pub window_by : Layout → Place → Result Job JobFault → List (List ℕ) → List Plane
-    → Result PageParts Stop
+    → Result PageParts CallError
 window_by layout place (Ok job) names planes = window_with layout place job names planes
 window_by layout place (Err fault) names planes = Err (Page (JobRefusal fault))
 
 -- where the arguments have no fault but that of the place
-abbrev pub made_unless : Option CallFault → Result PageParts Stop → Result PageParts Stop
+abbrev pub made_unless : Option CallFault → Result PageParts CallError → Result PageParts CallError
 made_unless (Some fault) made = Err (Call fault)
 made_unless None made = made
 
 -- the window of these names: the arguments are judged, the place last, and then the job, the place
 -- by the job, and the planes
 abbrev pub named_window : ℕ → List ℕ → List (List ℕ) → Layout → Place → List ℕ
-    → Result PageParts Stop
+    → Result PageParts CallError
 named_window most job names layout place samples =
     made_unless (call_fault most names layout (length samples))
     (placed (is_place layout place)
     (window_by layout place (job_of job) names (planes_in layout samples (length names))))
 
 -- the page that a window's call is for, or why there is none
-abbrev pub call_window : ℕ → Asked → Place → List ℕ → Result PageParts Stop
+abbrev pub call_window : ℕ → Asked → Place → List ℕ → Result PageParts CallError
 call_window most asked place samples =
     named_window most asked.job (names_in asked.names) asked.layout place samples
 
 -- A result of what is asked for, or that memory was refused.
-abbrev pub GivesWindow : Result PageParts Stop → Result PageParts Stop → Type 0
+abbrev pub GivesWindow : Result PageParts CallError → Result PageParts CallError → Type 0
 GivesWindow made (Ok page) = made ≡ Ok page
 GivesWindow made (Err stop) = (stop ≡ Page Memory) ⊎ (made ≡ Err stop)
 

@@ -4,6 +4,7 @@ ghost use Rattle.trap_c.specs.Calls.{Tells, Traps};
 ghost use Rattle.trap_c.specs.Requests.{asked};
 ghost use Rattle.trap_c.specs.WindowCalls.{TellsHalo, TrapsWindow, stop_of_job};
 ghost use Rattle.trap_c.specs.Stops.{line_of_stop, status_of_stop};
+ghost use Rattle.page_model.specs.Limits.{most_maxval};
 
 use crate::cores::{put_byte_cores, put_word_cores};
 use crate::halo::halo_of;
@@ -11,17 +12,18 @@ use crate::place::{Place, core_of};
 use crate::planes::{put_bytes, put_words};
 use crate::request::Request;
 use crate::source::Source;
-use crate::stop::{Stop, line_of, status_of};
+use crate::stop::{CallError, line_of, status_of};
 use crate::work::{carry_out, carry_out_window};
 use job_reader::reader::read_job;
+use page_model::bounds::MOST_MAXVAL;
 use ps_tokens::faults::JobRefusal;
 use refusals::refusal::Refusal;
 use refusals::statuses::DONE;
 use sheet_windows::laws::{tile_law, window_law};
 use std::alloc::Global;
 
-/// Carries out a call over samples of two bytes, puts the report or the line of the refusal into the text, and gives the
-/// status.
+/// Carries out a call over samples of two bytes, writes the report or the line of the refusal to the text, and returns
+/// the status.
 pub fn answer_words(
     alloc: Global,
     request: &Request<'_>,
@@ -29,10 +31,10 @@ pub fn answer_words(
     text: &mut [u8],
     text_len: &mut usize,
 ) -> u8
-    ensures { Traps 65535 (asked request.now) samples.old samples.new text.old text.new
+    ensures { Traps most_maxval (asked request.now) samples.old samples.new text.old text.new
         text_len.new result }
 {
-    match carry_out(alloc, 65_535, request, &Source::Words(samples)) {
+    match carry_out(alloc, MOST_MAXVAL, request, &Source::Words(samples)) {
         Ok(done) => {
             put_words(&done.planes, request.layout, samples);
             put_text(done.report.as_slice(), text, text_len);
@@ -42,7 +44,7 @@ pub fn answer_words(
     }
 }
 
-/// As `answer_words`, for samples of one byte.
+/// Does what `answer_words` does, for samples of one byte.
 pub fn answer_bytes(
     alloc: Global,
     request: &Request<'_>,
@@ -63,8 +65,8 @@ pub fn answer_bytes(
     }
 }
 
-/// Carries out a window's call over samples of two bytes, puts the core's part of the report or the line of the refusal into
-/// the text, and gives the status.
+/// Carries out a window's call over samples of two bytes, writes the core's part of the report or the line of the
+/// refusal to the text, and returns the status.
 pub fn answer_window_words(
     alloc: Global,
     request: &Request<'_>,
@@ -73,12 +75,12 @@ pub fn answer_window_words(
     text: &mut [u8],
     text_len: &mut usize,
 ) -> u8
-    ensures { TrapsWindow 65535 (asked request.now) place.now samples.old samples.new text.old
+    ensures { TrapsWindow most_maxval (asked request.now) place.now samples.old samples.new text.old
         text.new text_len.new result }
 {
     window_law();
     tile_law();
-    match carry_out_window(alloc, 65_535, request, place, &Source::Words(samples)) {
+    match carry_out_window(alloc, MOST_MAXVAL, request, place, &Source::Words(samples)) {
         Ok(done) => {
             put_word_cores(&done.planes, request.layout, &core_of(place), samples);
             put_text(done.report.as_slice(), text, text_len);
@@ -88,7 +90,7 @@ pub fn answer_window_words(
     }
 }
 
-/// As `answer_window_words`, for samples of one byte.
+/// Does what `answer_window_words` does, for samples of one byte.
 pub fn answer_window_bytes(
     alloc: Global,
     request: &Request<'_>,
@@ -112,7 +114,7 @@ pub fn answer_window_bytes(
     }
 }
 
-/// Tells how far a window of a job has to go on beyond its core, and gives the status.
+/// Works out the halo that windows of a job need, and returns the status.
 pub fn answer_halo(
     alloc: Global,
     job: &[u8],
@@ -132,16 +134,16 @@ pub fn answer_halo(
     }
 }
 
-fn stop_of(refusal: JobRefusal) -> Stop
+fn stop_of(refusal: JobRefusal) -> CallError
     ensures { result ≡ stop_of_job refusal }
 {
     match refusal {
-        JobRefusal::Fault(fault) => Stop::Page(Refusal::Job(fault)),
-        JobRefusal::OutOfMemory => Stop::Page(Refusal::Memory),
+        JobRefusal::Fault(fault) => CallError::Page(Refusal::Job(fault)),
+        JobRefusal::OutOfMemory => CallError::Page(Refusal::Memory),
     }
 }
 
-fn refuse(stop: &Stop, text: &mut [u8], text_len: &mut usize) -> u8
+fn refuse(stop: &CallError, text: &mut [u8], text_len: &mut usize) -> u8
     ensures text { Tells (line_of_stop stop.now) text.old text.new text_len.new }
     ensures status { result ≡ status_of_stop stop.now }
     ensures refused { result ≢ done_status }

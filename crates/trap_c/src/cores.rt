@@ -2,17 +2,18 @@ ghost use Rattle.std.specs.Prelude.{◌≡◌, ◌≤◌, ◌<◌, ◌*◌, ◌+
 ghost use Rattle.page_model.specs.Planes.{plane_at};
 ghost use Rattle.trap_c.specs.Cores.{HasCoreTo, HaveCores, IsIn, IsRun, tint_run};
 ghost use Rattle.trap_c.specs.Planes.{size};
+ghost use Rattle.page_model.specs.Limits.{most_plates};
 
 use crate::layout::Layout;
 use crate::planes::{put_bytes_row, put_words_row};
 use page_model::parts::PlaneList;
 use sheet_windows::cuts::Cut;
 
-/// Puts the core of each plane into samples of two bytes.
+/// Writes the core of each plane to samples of two bytes.
 pub fn put_word_cores(planes: &PlaneList, layout: Layout, core: &Cut, samples: &mut [u16])
     requires layout { layout.width ≤ layout.step }
     requires all { length samples.old ≡ length planes.now * layout.height * layout.step }
-    requires few { length planes.now ≤ 16 }
+    requires few { length planes.now ≤ most_plates }
     requires core { IsIn layout core.now }
     requires full { (c : ℕ) → c < length planes.now
         → length (plane_at planes.now c).tints ≡ size layout }
@@ -24,10 +25,10 @@ pub fn put_word_cores(planes: &PlaneList, layout: Layout, core: &Cut, samples: &
     }
 }
 
-// Puts the core of plane c into its rows.
+// Writes the core of plane c to its rows.
 fn put_word_core(tints: &[u16], layout: Layout, core: &Cut, c: usize, samples: &mut [u16])
     requires layout { layout.width ≤ layout.step }
-    requires few { c < 16 }
+    requires few { c < most_plates }
     requires core { IsIn layout core.now }
     requires inside { (c * layout.height + layout.height) * layout.step ≤ length samples.old }
     requires full { length tints.now ≡ size layout }
@@ -44,11 +45,11 @@ fn put_word_core(tints: &[u16], layout: Layout, core: &Cut, c: usize, samples: &
     }
 }
 
-/// Puts the core of each plane into samples of one byte.
+/// Writes the core of each plane to samples of one byte.
 pub fn put_byte_cores(planes: &PlaneList, layout: Layout, core: &Cut, samples: &mut [u8])
     requires layout { layout.width ≤ layout.step }
     requires all { length samples.old ≡ length planes.now * layout.height * layout.step }
-    requires few { length planes.now ≤ 16 }
+    requires few { length planes.now ≤ most_plates }
     requires core { IsIn layout core.now }
     requires full { (c : ℕ) → c < length planes.now
         → length (plane_at planes.now c).tints ≡ size layout }
@@ -62,10 +63,10 @@ pub fn put_byte_cores(planes: &PlaneList, layout: Layout, core: &Cut, samples: &
     }
 }
 
-// Puts the core of plane c into its rows.
+// Writes the core of plane c to its rows.
 fn put_byte_core(tints: &[u16], layout: Layout, core: &Cut, c: usize, samples: &mut [u8])
     requires layout { layout.width ≤ layout.step }
-    requires few { c < 16 }
+    requires few { c < most_plates }
     requires core { IsIn layout core.now }
     requires inside { (c * layout.height + layout.height) * layout.step ≤ length samples.old }
     requires full { length tints.now ≡ size layout }
@@ -83,7 +84,7 @@ fn put_byte_core(tints: &[u16], layout: Layout, core: &Cut, c: usize, samples: &
     }
 }
 
-// Row y of the core, of a plane's tints.
+// Row y of the core, out of a plane's tints.
 fn core_row<'a>(tints: &'a [u16], layout: Layout, core: &Cut, y: usize) -> &'a [u16]
     requires core { IsIn layout core.now }
     requires row { y < core.now.height }

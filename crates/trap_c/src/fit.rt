@@ -1,8 +1,8 @@
 ghost use Rattle.std.specs.Prelude.{◌≡◌, ◌≤◌, ◌<◌, ◌*◌, ◌+◌, ℕ, IfNone, IsTrue, length, nat_le, nat_lt, slice_index};
 ghost use Rattle.std.specs.List.{position};
 ghost use Rattle.lists.specs.Words.{or_else};
-ghost use Rattle.page_model.specs.Limits.{most_maxval, most_side};
-ghost use Rattle.trap_c.specs.Fit.{AreFit, ArePlanesFit, AreSides, IsCall, are_sides as sides_test, is_side as side_test, is_maxval as maxval_test, call_fault as call_fault_of, above_at, first_above as first_above_in};
+ghost use Rattle.page_model.specs.Limits.{most_maxval, most_plates, most_side};
+ghost use Rattle.trap_c.specs.Fit.{AreFit, ArePlanesFit, AreSides, IsCall, are_sides as sides_spec, is_side as side_spec, is_maxval as maxval_spec, call_fault as call_fault_of, above_at, first_above as first_above_in};
 
 use crate::layout::Layout;
 use crate::names::are_names;
@@ -13,7 +13,8 @@ use page_model::parts::{Plane, PlaneList};
 use pgm_plates::plate::PlateFault;
 use refusals::refusal::Refusal;
 
-/// The first fault of the arguments: the samples are of a type that holds numbers up to `most`, and there are so many.
+/// The first fault of a call's arguments. `most` is the greatest number that a sample's type holds, and `count` the
+/// number of samples.
 pub fn call_fault(most: u32, names: &[Name], layout: Layout, count: usize) -> Option<CallFault>
     requires { most ≤ most_maxval }
     ensures fault { result ≡ call_fault_of most names.now layout count }
@@ -39,7 +40,7 @@ pub fn call_fault(most: u32, names: &[Name], layout: Layout, count: usize) -> Op
 }
 
 fn are_sides(layout: Layout) -> bool
-    ensures value { result ≡ sides_test layout }
+    ensures value { result ≡ sides_spec layout }
     ensures sides { IsTrue result → AreSides layout }
 {
     is_side(layout.width)
@@ -55,7 +56,7 @@ fn is_step(layout: Layout) -> bool
 }
 
 fn is_side(side: u32) -> bool
-    ensures value { result ≡ side_test side }
+    ensures value { result ≡ side_spec side }
     ensures some { IsTrue result → 1 ≤ side }
     ensures few { IsTrue result → side ≤ most_side }
 {
@@ -63,16 +64,17 @@ fn is_side(side: u32) -> bool
 }
 
 fn is_maxval(most: u32, maxval: u32) -> bool
-    ensures value { result ≡ maxval_test most maxval }
+    ensures value { result ≡ maxval_spec most maxval }
     ensures some { IsTrue result → 1 ≤ maxval }
     ensures few { IsTrue result → maxval ≤ most }
 {
     1 <= maxval && maxval <= most
 }
 
-/// The first tint that is above the maxval, of all planes. They are gone over only where they are not known to be fit.
+/// The first tint, over all planes, that is above the maxval, as a refusal. The planes are searched only if `are_fit`
+/// is false.
 pub fn first_above(planes: &PlaneList, are_fit: bool) -> Option<Refusal>
-    requires few { length planes.now ≤ 16 }
+    requires few { length planes.now ≤ most_plates }
     requires fit { IsTrue are_fit → ArePlanesFit planes.now }
     ensures { result ≡ first_above_in planes.now }
 {
@@ -80,7 +82,7 @@ pub fn first_above(planes: &PlaneList, are_fit: bool) -> Option<Refusal>
 }
 
 fn look_above(planes: &PlaneList) -> Option<Refusal>
-    requires { length planes.now ≤ 16 }
+    requires { length planes.now ≤ most_plates }
     ensures { result ≡ first_above_in planes.now }
 {
     let all = planes.as_slice();
@@ -116,7 +118,7 @@ fn place_above(tints: &[u16], maxval: u32) -> Option<usize>
     tints.iter().position(|tint| *tint as u32 > maxval)
 }
 
-/// Whether no tint is above the maxval. It goes over all of them without a branch, so that many go at once.
+/// Whether no tint is above the maxval. All of them are read, without a branch, so that the loop is vectorized.
 pub fn are_fit(tints: &[u16], maxval: u32) -> bool
     ensures { IsTrue result → AreFit maxval tints.now }
 {

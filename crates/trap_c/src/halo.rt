@@ -34,8 +34,8 @@ fn reach_of_job(job: &Job) -> u32
     reach
 }
 
-/// How many rows and columns a window needs round its core, on each side that is no border of the sheet: half the reach of
-/// the job's zones in whole samples, and one at least.
+/// The halo that a window needs round its core, in rows and columns, on each side that is no border of the sheet: half
+/// the reach of the job's zones, rounded up to whole samples, and at least one.
 pub fn halo_of(job: &Job) -> u32
     requires { IsJob job.now }
     ensures { result ≡ job_halo job.now }

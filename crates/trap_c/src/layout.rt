@@ -1,5 +1,5 @@
-/// How planes lie in samples: the sides of each plane in samples, how many samples there are from the start of a row to
-/// that of the next, and the tint of full ink.
+/// How planes are laid out in the samples: the sides of each plane in samples, the number of samples from the start of
+/// a row to that of the next, and the tint of full ink.
 #[derive(Clone, Copy, Debug, Drop, PartialEq, Eq)]
 pub struct Layout {
     pub width: u32,

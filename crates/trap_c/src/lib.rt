@@ -1,4 +1,4 @@
-//! The engine as a static library for C: the planes of a page are trapped where they lie. The header `library/trap.h`
+//! The engine as a static library for C: the planes of a page are trapped in place. The header `library/trap.h`
 //! declares what is exported here.
 #![tactic(auto)]
 
@@ -23,6 +23,7 @@ ghost use Rattle.std.specs.Prelude.{◌≡◌};
 ghost use Rattle.trap_c.specs.Calls.{Traps};
 ghost use Rattle.trap_c.specs.Requests.{asked_by};
 ghost use Rattle.trap_c.specs.WindowCalls.{TellsHalo, TrapsWindow};
+ghost use Rattle.page_model.specs.Limits.{most_maxval};
 
 use crate::answer::{
     answer_bytes, answer_halo, answer_window_bytes, answer_window_words, answer_words,
@@ -32,14 +33,14 @@ use crate::place::Place;
 use crate::request::Request;
 use std::alloc::Global;
 
-/// Traps the planes of a page where they lie, one after the other, each row by row from the top: a tint of 0 is no ink,
+/// Traps the planes of a page in place; they follow one another, each row by row from the top: a tint of 0 is no ink,
 /// and one of `maxval` is full ink. From the start of a row to that of the next there are `step` samples; those after a
-/// row's end are left alone. The rule is that of docs/JOBS.md and of page_model's definitions.
+/// row's end are left unchanged. The rule is that of docs/JOBS.md and of page_model's definitions.
 ///
-/// The names of the plates' colorants are separated by LF. The report, or the line of the refusal, goes into `text`, as
-/// much of it as there is room for, and its whole length into `text_len`. The status is 0, or that of the refusal, and a
-/// refusal leaves the planes as they were: 2 for a fault of the call, 3 of the job, 4 of the page, and 7 where there is
-/// too little memory.
+/// The names of the plates' colorants are separated by LF. The report, or the line of the refusal, is written to
+/// `text`, as much of it as fits, and its whole length to `text_len`. The status is 0, or that of the refusal, and a
+/// refusal leaves the planes unchanged: 2 for a fault of the call, 3 of the job, 4 of the page, and 7 if there is too
+/// little memory.
 #[unsafe(no_mangle)]
 pub extern "C" fn trap_planes16(
     alloc: Global,
@@ -53,7 +54,7 @@ pub extern "C" fn trap_planes16(
     text: &mut [u8],
     text_len: &mut usize,
 ) -> u8
-    ensures { Traps 65535 (asked_by job.now names.now width height step maxval)
+    ensures { Traps most_maxval (asked_by job.now names.now width height step maxval)
         samples.old samples.new text.old text.new text_len.new result }
 {
     let layout = Layout {
@@ -66,7 +67,7 @@ pub extern "C" fn trap_planes16(
     answer_words(alloc, &request, samples, text, text_len)
 }
 
-/// As `trap_planes16`, for samples of one byte: the maxval is at most 255.
+/// Does what `trap_planes16` does, for samples of one byte: the maxval is at most 255.
 #[unsafe(no_mangle)]
 pub extern "C" fn trap_planes8(
     alloc: Global,
@@ -93,10 +94,10 @@ pub extern "C" fn trap_planes8(
     answer_bytes(alloc, &request, samples, text, text_len)
 }
 
-/// How many rows and columns a window needs round its core, on each side that is no border of the sheet, for a job: half the
-/// reach of its zones in whole samples, and one at least. It goes into `halo`, and the text is empty. The status is 0, or
-/// that of the refusal, and a refusal leaves `halo` as it was: 3 for a fault of the job, and 7 where there is too little
-/// memory.
+/// Writes the halo of a job to `halo`: how many rows and columns a window needs round its core, on each side that is no
+/// border of the sheet. It is half the reach of the job's zones, rounded up to whole samples, and at least one. The
+/// text is empty. The status is 0, or that of the refusal, and a refusal leaves `halo` unchanged: 3 for a fault of the
+/// job, and 7 if there is too little memory.
 #[unsafe(no_mangle)]
 pub extern "C" fn trap_halo(
     alloc: Global,
@@ -110,9 +111,9 @@ pub extern "C" fn trap_halo(
     answer_halo(alloc, job, halo, text, text_len)
 }
 
-/// Traps the core of a window where it lies: what stands in it then is what the rule gives on the sheet, whatever sheet it is
-/// that shows these samples in the window. All other samples are left alone, the halo with them. The arguments are those of
-/// `trap_planes16`, the planes being those of the window; `place` tells where it stands on the sheet, and what its core is.
+/// Traps the core of a window in place: afterwards it has what the rule gives on the sheet, for every sheet that shows
+/// these samples in the window. All other samples are left unchanged, those of the halo too. The arguments are those of
+/// `trap_planes16`, with the planes of the window; `place` says where it is on the sheet, and what its core is.
 ///
 /// The text is the core's part of the report: its header has the sheet's sides, and its counts over the cores of a tiling add
 /// up to the sheet's. The status and the line of a refusal are those of `trap_planes16`, with two more: 2 for a place that
@@ -131,7 +132,7 @@ pub extern "C" fn trap_window16(
     text: &mut [u8],
     text_len: &mut usize,
 ) -> u8
-    ensures { TrapsWindow 65535 (asked_by job.now names.now width height step maxval) place.now
+    ensures { TrapsWindow most_maxval (asked_by job.now names.now width height step maxval) place.now
         samples.old samples.new text.old text.new text_len.new result }
 {
     let layout = Layout {
@@ -144,7 +145,7 @@ pub extern "C" fn trap_window16(
     answer_window_words(alloc, &request, place, samples, text, text_len)
 }
 
-/// As `trap_window16`, for samples of one byte: the maxval is at most 255.
+/// Does what `trap_window16` does, for samples of one byte: the maxval is at most 255.
 #[unsafe(no_mangle)]
 pub extern "C" fn trap_window8(
     alloc: Global,
@@ -172,7 +173,7 @@ pub extern "C" fn trap_window8(
     answer_window_bytes(alloc, &request, place, samples, text, text_len)
 }
 
-/// The library's version, as one number: 10,000 times the first, 100 times the second, and the third.
+/// The library's version as one number: 10,000 times the first part, plus 100 times the second, plus the third.
 #[unsafe(no_mangle)]
 pub extern "C" fn trap_version() -> u32
     ensures { result ≡ 900 }

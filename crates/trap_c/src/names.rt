@@ -1,12 +1,14 @@
 ghost use Rattle.std.specs.Prelude.{◌≡◌, ◌++◌, ◌∷◌, [], ◌≤◌, IfOk, IsTrue, OnOk, length};
 ghost use Rattle.std.specs.List.{list_all, list_any};
 ghost use Rattle.std.specs.Str.{bytes_eq};
-ghost use Rattle.plain_words.specs.Distinct.{are_distinct as distinct_test};
-ghost use Rattle.plain_words.specs.Names.{is_name as name_test};
-ghost use Rattle.trap_c.specs.Names.{names_in, are_names as names_test};
+ghost use Rattle.plain_words.specs.Distinct.{are_distinct as distinct_spec};
+ghost use Rattle.plain_words.specs.Names.{is_name as name_spec};
+ghost use Rattle.trap_c.specs.Names.{names_in, are_names as names_spec};
+ghost use Rattle.page_model.specs.Limits.{most_plates};
 
 use lists::list::List;
 use lists::names::{Name, NameList, OutOfMemory, same_name};
+use page_model::bounds::MOST_PLATES;
 use plain_words::names::is_name;
 use std::alloc::Global;
 
@@ -46,23 +48,23 @@ fn push_byte(name: &mut Name, byte: u8) -> Result<(), OutOfMemory>
     }
 }
 
-/// Whether they are the names of 1 to 16 colorants, and none stands there twice.
+/// Whether these are 1 to 16 names of colorants, all different.
 pub fn are_names(names: &[Name]) -> bool
-    ensures value { result ≡ names_test names.now }
+    ensures value { result ≡ names_spec names.now }
     ensures some { IsTrue result → 1 ≤ length names.now }
-    ensures few { IsTrue result → length names.now ≤ 16 }
+    ensures few { IsTrue result → length names.now ≤ most_plates }
 {
-    1 <= names.len() && names.len() <= 16 && are_each_names(names) && are_distinct(names)
+    1 <= names.len() && names.len() <= MOST_PLATES && are_each_names(names) && are_distinct(names)
 }
 
 fn are_each_names(names: &[Name]) -> bool
-    ensures { result ≡ list_all name_test names.now }
+    ensures { result ≡ list_all name_spec names.now }
 {
     names.iter().all(|name| is_name(name.as_slice()))
 }
 
 fn are_distinct(names: &[Name]) -> bool
-    ensures { result ≡ distinct_test names.now }
+    ensures { result ≡ distinct_spec names.now }
 {
     match names {
         [first, rest @ ..] => !is_among(first.as_slice(), rest) && are_distinct(rest),

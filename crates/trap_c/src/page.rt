@@ -1,10 +1,11 @@
 ghost use Rattle.std.specs.Prelude.{◌≡◌, ◌<◌, ◌≤◌, ℕ, IfOk, IsTrue, length};
 ghost use Rattle.job_reader.specs.InRange.{IsJob};
 ghost use Rattle.trap_c.specs.Fit.{ArePlanesFit, IsCall, IsFull, IsLayout};
-ghost use Rattle.trap_c.specs.Pages.{Fills, Gives, page_of as page_meant, page_with as page_meant_with};
+ghost use Rattle.trap_c.specs.Pages.{Fills, Gives, page_of as page_spec, page_with as page_with_spec};
 ghost use Rattle.page_model.specs.Planes.{plane_at};
 ghost use Rattle.trap_c.specs.Planes.{planes_in};
 ghost use Rattle.trap_c.specs.Sources.{numbers};
+ghost use Rattle.page_model.specs.Limits.{most_plates};
 
 use crate::fit::first_above;
 use crate::layout::Layout;
@@ -19,7 +20,7 @@ use ps_tokens::faults::JobRefusal;
 use refusals::refusal::Refusal;
 use std::alloc::Global;
 
-/// The page of a job's bytes and of the planes that lie in the samples.
+/// Makes a page of a job's bytes and of the planes in the samples.
 pub fn page_of(
     alloc: Global,
     job: &[u8],
@@ -28,7 +29,7 @@ pub fn page_of(
     layout: Layout,
 ) -> Result<Page, Refusal>
     requires { IsCall names.now layout (length (numbers source.now)) }
-    ensures gives { Gives (page_meant job.now names.now
+    ensures gives { Gives (page_spec job.now names.now
         (planes_in layout (numbers source.now) (length names.now))) result }
     ensures layout { IfOk result (Fills layout (length names.now)) }
 {
@@ -39,7 +40,7 @@ pub fn page_of(
     }
 }
 
-/// The page of a job and of the planes that lie in the samples.
+/// Makes a page of a job and of the planes in the samples.
 pub fn page_of_job(
     alloc: Global,
     job: Job,
@@ -49,7 +50,7 @@ pub fn page_of_job(
 ) -> Result<Page, Refusal>
     requires call { IsCall names.now layout (length (numbers source.now)) }
     requires job { IsJob job }
-    ensures gives { Gives (page_meant_with job names.now
+    ensures gives { Gives (page_with_spec job names.now
         (planes_in layout (numbers source.now) (length names.now))) result }
     ensures layout { IfOk result (Fills layout (length names.now)) }
 {
@@ -68,13 +69,13 @@ fn page_with(
 ) -> Result<Page, Refusal>
     requires layout { IsLayout layout }
     requires some { 1 ≤ length names.now }
-    requires few { length names.now ≤ 16 }
+    requires few { length names.now ≤ most_plates }
     requires count { length copies.planes ≡ length names.now }
     requires planes { (c : ℕ) → c < length copies.planes
         → IsFull layout (plane_at copies.planes c) }
     requires fit { IsTrue copies.are_fit → ArePlanesFit copies.planes }
     requires job { IsJob job }
-    ensures gives { Gives (page_meant_with job names.now copies.planes) result }
+    ensures gives { Gives (page_with_spec job names.now copies.planes) result }
     ensures layout { IfOk result (Fills layout (length names.now)) }
 {
     match first_above(&copies.planes, copies.are_fit) {

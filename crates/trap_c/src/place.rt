@@ -1,10 +1,9 @@
 ghost use Rattle.std.specs.Prelude.{◌≡◌, ◌+◌, IsTrue};
-ghost use Rattle.trap_c.specs.Places.{IsPlaced, across_of, core_of as core_meant, down_of, is_place as place_test, is_wide as wide_test, is_wide_along, lies_along, rows_after as rows_meant};
+ghost use Rattle.trap_c.specs.Places.{IsPlaced, across_of, core_of as core_spec, down_of, is_place as place_spec, is_wide as wide_spec, is_wide_along, lies_along, rows_after as rows_spec};
 
 use crate::layout::Layout;
+use page_model::bounds::MOST_SHEET_SIDE;
 use sheet_windows::cuts::Cut;
-
-const MOST_SHEET_SIDE: u32 = 262_144;
 
 /// Where a window stands on its sheet, and which of its samples are its core, all in samples, columns from the left and
 /// rows from the top: the sheet's sides; the window's first column and row on the sheet; the core's first column and row in
@@ -22,8 +21,8 @@ pub struct Place {
     pub core_height: u32,
 }
 
-/// The columns of a place, or its rows: the sheet's side; where the window begins on it, and how long it is; where the core
-/// begins in the window, and how long it is.
+/// The columns of a place, or its rows: the sheet's side; where the window begins on it, and its length; where the core
+/// begins in the window, and its length.
 #[derive(Clone, Copy, Debug, Drop, PartialEq, Eq)]
 pub struct Along {
     pub side: u32,
@@ -35,7 +34,7 @@ pub struct Along {
 
 /// The core's columns and rows in the window.
 pub fn core_of(place: &Place) -> Cut
-    ensures { result ≡ core_meant place.now }
+    ensures { result ≡ core_spec place.now }
 {
     Cut {
         left: place.core_left,
@@ -83,9 +82,9 @@ fn lies(along: &Along) -> bool
         && sum(along.core_from, along.core) <= u64::from(along.wide)
 }
 
-/// Whether the window lies on a sheet, and its core in the window.
+/// Whether the window is within a sheet, and its core within the window.
 pub fn is_place(layout: Layout, place: &Place) -> bool
-    ensures value { result ≡ place_test layout place.now }
+    ensures value { result ≡ place_spec layout place.now }
     ensures placed { IsTrue result → IsPlaced layout place.now }
 {
     lies(&across(layout, place)) && lies(&down(layout, place))
@@ -99,17 +98,17 @@ fn is_wide_enough(along: &Along, halo: u32) -> bool
             || sum(along.core_from, along.core) + u64::from(halo) <= u64::from(along.wide))
 }
 
-/// Whether the window goes on beyond its core by so many samples, on each side that is no border of the sheet.
+/// Whether the window goes on beyond its core by at least `halo` samples, on each side that is no border of the sheet.
 pub fn is_wide(layout: Layout, place: &Place, halo: u32) -> bool
-    ensures { result ≡ wide_test halo layout place.now }
+    ensures { result ≡ wide_spec halo layout place.now }
 {
     is_wide_enough(&across(layout, place), halo) && is_wide_enough(&down(layout, place), halo)
 }
 
-/// The rows of the sheet below the window.
+/// The number of rows of the sheet below the window.
 pub fn rows_after(layout: Layout, place: &Place) -> u32
     requires { IsPlaced layout place.now }
-    ensures { result ≡ rows_meant layout place.now }
+    ensures { result ≡ rows_spec layout place.now }
 {
     place.sheet_height - (place.top + layout.height)
 }

@@ -4,6 +4,7 @@ ghost use Rattle.trap_c.specs.Copies.{AreCopies};
 ghost use Rattle.trap_c.specs.Fit.{IsCall};
 ghost use Rattle.trap_c.specs.Planes.{KeepsGaps, plane_with, size, tints_in};
 ghost use Rattle.trap_c.specs.Sources.{numbers};
+ghost use Rattle.page_model.specs.Limits.{most_plates};
 
 use crate::layout::Layout;
 use crate::source::Source;
@@ -12,14 +13,14 @@ use lists::names::NameList;
 use page_model::parts::{OutOfMemory, Plane, PlaneList};
 use std::alloc::Global;
 
-/// Planes, and whether their tints were seen to be at most their maxval.
+/// Planes, and whether all their tints were found to be at most the maxval.
 #[derive(Drop)]
 pub struct Copies {
     pub planes: PlaneList,
     pub are_fit: bool,
 }
 
-/// Copies of the planes that lie in the samples.
+/// Copies the planes out of the samples.
 pub fn planes_of(
     alloc: Global,
     source: &Source<'_>,
@@ -52,11 +53,11 @@ fn plane_of(layout: Layout, tints: Vec<u16>) -> Plane
     }
 }
 
-/// Puts planes into samples of two bytes.
+/// Writes planes to samples of two bytes.
 pub fn put_words(planes: &PlaneList, layout: Layout, samples: &mut [u16])
     requires layout { layout.width ≤ layout.step }
     requires all { length samples.old ≡ length planes.now * layout.height * layout.step }
-    requires few { length planes.now ≤ 16 }
+    requires few { length planes.now ≤ most_plates }
     requires full { (c : ℕ) → c < length planes.now
         → length (plane_at planes.now c).tints ≡ size layout }
     ensures planes { (c : ℕ) → c < length planes.now
@@ -69,10 +70,10 @@ pub fn put_words(planes: &PlaneList, layout: Layout, samples: &mut [u16])
     }
 }
 
-// Puts the tints of plane c into its rows.
+// Writes the tints of plane c to its rows.
 fn put_plane_words(tints: &[u16], layout: Layout, c: usize, samples: &mut [u16])
     requires layout { layout.width ≤ layout.step }
-    requires few { c < 16 }
+    requires few { c < most_plates }
     requires inside { (c * layout.height + layout.height) * layout.step ≤ length samples.old }
     requires full { length tints.now ≡ size layout }
     ensures here { tints_in layout samples.new c ≡ tints.now }
@@ -91,7 +92,7 @@ fn put_plane_words(tints: &[u16], layout: Layout, c: usize, samples: &mut [u16])
     }
 }
 
-/// Puts a row into the samples, from one on.
+/// Writes a row to `samples[from..]`.
 pub fn put_words_row(row: &[u16], from: usize, samples: &mut [u16])
     requires { from + length row.now ≤ length samples.old }
     ensures { samples.new ≡ take from samples.old ++ (row.now
@@ -100,11 +101,11 @@ pub fn put_words_row(row: &[u16], from: usize, samples: &mut [u16])
     samples[from..from + row.len()].copy_from_slice(row);
 }
 
-/// Puts planes into samples of one byte.
+/// Writes planes to samples of one byte.
 pub fn put_bytes(planes: &PlaneList, layout: Layout, samples: &mut [u8])
     requires layout { layout.width ≤ layout.step }
     requires all { length samples.old ≡ length planes.now * layout.height * layout.step }
-    requires few { length planes.now ≤ 16 }
+    requires few { length planes.now ≤ most_plates }
     requires full { (c : ℕ) → c < length planes.now
         → length (plane_at planes.now c).tints ≡ size layout }
     requires narrow { (c : ℕ) → c < length planes.now
@@ -119,10 +120,10 @@ pub fn put_bytes(planes: &PlaneList, layout: Layout, samples: &mut [u8])
     }
 }
 
-// Puts the tints of plane c into its rows.
+// Writes the tints of plane c to its rows.
 fn put_plane_bytes(tints: &[u16], layout: Layout, c: usize, samples: &mut [u8])
     requires layout { layout.width ≤ layout.step }
-    requires few { c < 16 }
+    requires few { c < most_plates }
     requires inside { (c * layout.height + layout.height) * layout.step ≤ length samples.old }
     requires full { length tints.now ≡ size layout }
     requires narrow { All (λ t. t ≤ 255) tints.now }
@@ -142,7 +143,7 @@ fn put_plane_bytes(tints: &[u16], layout: Layout, c: usize, samples: &mut [u8])
     }
 }
 
-/// Puts a row into the samples, from one on.
+/// Writes a row to `samples[from..]`.
 pub fn put_bytes_row(row: &[u16], from: usize, samples: &mut [u8])
     requires inside { from + length row.now ≤ length samples.old }
     requires narrow { All (λ t. t ≤ 255) row.now }

@@ -1,7 +1,7 @@
 use crate::layout::Layout;
 
-/// What a call asks for, but for the samples: the job's bytes, the names of the planes' colorants separated by LF, and how
-/// the planes lie in the samples.
+/// The arguments of a call without its samples: the job's bytes, the names of the planes' colorants separated by LF,
+/// and the layout of the planes in the samples.
 #[derive(Clone, Copy)]
 pub struct Request<'a> {
     pub job: &'a [u8],

@@ -6,18 +6,18 @@ ghost use Rattle.trap_c.specs.Sources.{numbers};
 
 use crate::fit::are_fit;
 use crate::layout::Layout;
-use lists::memory::filled;
+use lists::memory::vec_of;
 use page_model::parts::OutOfMemory;
 use std::alloc::Global;
 
-/// The tints of a plane, and whether they were seen to be at most its maxval.
+/// The tints of a plane, and whether all of them were found to be at most its maxval.
 #[derive(Drop)]
 pub struct Copied {
     pub tints: Vec<u16>,
     pub are_fit: bool,
 }
 
-/// The samples of a call, of the type that it has them in.
+/// The samples of a call, of one of the two types.
 #[derive(Clone, Copy)]
 pub enum Source<'a> {
     Bytes(&'a [u8]),
@@ -25,7 +25,7 @@ pub enum Source<'a> {
 }
 
 impl Source<'_> {
-    /// How many samples there are.
+    /// The number of samples.
     pub fn count(&self) -> usize
         ensures { result ≡ length (numbers self.now) }
     {
@@ -35,14 +35,14 @@ impl Source<'_> {
         }
     }
 
-    /// A copy of the tints of plane c, and whether they were seen to be at most the maxval.
+    /// Copies the tints of plane c, and checks whether all of them are at most the maxval.
     pub fn copy_of(&self, alloc: Global, layout: Layout, c: u32) -> Result<Copied, OutOfMemory>
         requires layout { IsLayout layout }
         requires inside { (c * layout.height + layout.height) * layout.step
             ≤ length (numbers self.now) }
         ensures { IfOk result (IsCopied layout (numbers self.now) c) }
     {
-        let mut row = filled(alloc, 0u16, layout.width as usize)?;
+        let mut row = vec_of(alloc, 0u16, layout.width as usize)?;
         let Ok(mut tints) = Vec::with_capacity(alloc, row.len() * layout.height as usize) else {
             return Err(OutOfMemory);
         };
@@ -50,7 +50,7 @@ impl Source<'_> {
         Ok(Copied { tints, are_fit })
     }
 
-    // Copies the tints of plane c, row by row. Each row is looked at while it is at hand.
+    // Copies the tints of plane c, row by row. Each row is checked while it is in the cache.
     fn fill(
         &self,
         layout: Layout,
@@ -76,7 +76,7 @@ impl Source<'_> {
         Ok(are_fit)
     }
 
-    // Adds row r to the tints, by way of one row of memory, and tells whether it is at most the maxval.
+    // Adds row r to the tints, through a buffer for one row, and returns whether it is at most the maxval.
     fn add_row(
         &self,
         layout: Layout,

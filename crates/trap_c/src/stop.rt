@@ -9,7 +9,7 @@ use refusals::statuses::{PAGE_REFUSED, USAGE};
 /// What is wrong with the arguments of a call.
 #[derive(Clone, Copy, Debug, Drop, PartialEq, Eq)]
 pub enum CallFault {
-    /// The names are not 1 to 16 names of colorants, separated by LF, or a name stands there twice.
+    /// The names are not 1 to 16 names of colorants, separated by LF, or two of them are the same.
     Names,
     /// A side is 0 or above 16,384, or a plane has more than 160,000,000 samples.
     Sides,
@@ -17,16 +17,16 @@ pub enum CallFault {
     Step,
     /// The maxval is 0, or above what the samples' type holds.
     Maxval,
-    /// There are not as many samples as the names, the height and the step say.
+    /// The number of samples is not what the names, the height and the step give.
     Samples,
-    /// The window does not lie on the sheet, or its core not in the window; the halo is too small for the job, or the job
-    /// has zones and the window's corner is not at the step.
+    /// The window is not within the sheet, or its core not within the window; the halo is too small for the job; or the
+    /// job has zones and the window's corner is not at a multiple of the step.
     Place,
 }
 
-/// Why a call leaves the planes as they were.
+/// Why a call leaves the planes unchanged.
 #[derive(Clone, Copy, Debug, Drop, PartialEq, Eq)]
-pub enum Stop {
+pub enum CallError {
     /// The arguments are wrong.
     Call(CallFault),
     /// The job or the page is refused, or there is too little memory.
@@ -35,25 +35,25 @@ pub enum Stop {
     Far(u32),
 }
 
-/// The status of a stop.
-pub fn status_of(stop: &Stop) -> u8
+/// The status that a call returns for a stop.
+pub fn status_of(stop: &CallError) -> u8
     ensures { result ≡ status_of_stop stop.now }
 {
     match stop {
-        Stop::Call(_) => USAGE,
-        Stop::Page(refusal) => status(refusal),
-        Stop::Far(_) => PAGE_REFUSED,
+        CallError::Call(_) => USAGE,
+        CallError::Page(refusal) => status(refusal),
+        CallError::Far(_) => PAGE_REFUSED,
     }
 }
 
-/// The line that tells of a stop.
-pub fn line_of(stop: &Stop) -> Line
+/// The line that a call writes to the text for a stop.
+pub fn line_of(stop: &CallError) -> Line
     ensures { result ≡ line_of_stop stop.now }
 {
     match stop {
-        Stop::Call(fault) => call_line(*fault),
-        Stop::Page(refusal) => fault_line(refusal),
-        Stop::Far(zone) => Line::of_number(b"sheet: Far in zone ", *zone),
+        CallError::Call(fault) => call_line(*fault),
+        CallError::Page(refusal) => fault_line(refusal),
+        CallError::Far(zone) => Line::of_number(b"sheet: Far in zone ", *zone),
     }
 }
 

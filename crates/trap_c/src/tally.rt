@@ -3,7 +3,7 @@ ghost use Rattle.page_model.specs.Conditions.{IsPlane};
 ghost use Rattle.page_model.specs.Tints.{trapped_planes};
 ghost use Rattle.tile_counts.specs.Growth.{AddsArea, LiesOn};
 ghost use Rattle.trap_c.specs.Cores.{AreNone, HasCounts, core_counts};
-ghost use Rattle.trap_c.specs.Places.{core_of as core_meant};
+ghost use Rattle.trap_c.specs.Places.{core_of as core_spec};
 ghost use Rattle.trap_report.specs.Report.{sided_report_of};
 
 use crate::place::{Place, core_of};
@@ -41,7 +41,7 @@ fn counts_of(counts: SheetCounts) -> Counts
     }
 }
 
-/// A window after trapping, and what is counted in its core.
+/// A window after trapping, and the counts of its core.
 #[derive(Drop)]
 pub struct Tallied {
     pub planes: PlaneList,
@@ -63,21 +63,21 @@ fn tally_core(alloc: Global, page: &Page, core: &Cut) -> Result<Tallied, OutOfMe
 }
 
 fn tally_window(alloc: Global, page: &Page, place: &Place) -> Result<Tallied, OutOfMemory>
-    requires { LiesOn page.now (core_meant place.now) }
+    requires { LiesOn page.now (core_spec place.now) }
     ensures planes { IfOk result (λ done. done.planes ≡ trapped_planes page.now) }
     ensures counts { IfOk result (λ done. done.counts
-        ≡ core_counts page.now (core_meant place.now)) }
+        ≡ core_counts page.now (core_spec place.now)) }
 {
     tally_core(alloc, page, &core_of(place))
 }
 
 /// The planes of a window after trapping, and its core's part of the report.
 pub fn trapped_window(alloc: Global, page: &Page, place: &Place) -> Result<Done, OutOfMemory>
-    requires { LiesOn page.now (core_meant place.now) }
+    requires { LiesOn page.now (core_spec place.now) }
     ensures planes { IfOk result (λ done. done.planes ≡ trapped_planes page.now) }
     ensures report { IfOk result (λ done. done.report ≡ sided_report_of page.now
         place.now.sheet_width place.now.sheet_height
-        (core_counts page.now (core_meant place.now))) }
+        (core_counts page.now (core_spec place.now))) }
     ensures in_range { All IsPlane (trapped_planes page.now) }
 {
     trapped_planes_law(page);

@@ -13,7 +13,7 @@ use crate::page::page_of_job;
 use crate::place::Place;
 use crate::shift::{first_far, moved_job, suits};
 use crate::source::Source;
-use crate::stop::{CallFault, Stop};
+use crate::stop::{CallError, CallFault};
 use job_reader::job::Job;
 use job_reader::reader::read_job;
 use lists::names::{NameList, OutOfMemory};
@@ -22,7 +22,7 @@ use ps_tokens::faults::JobRefusal;
 use refusals::refusal::Refusal;
 use std::alloc::Global;
 
-/// The page that a window is, of a job's bytes and of the planes that lie in the samples.
+/// Makes the page of a window, of a job's bytes and of the planes in the samples.
 pub fn window_of(
     alloc: Global,
     job: &[u8],
@@ -30,7 +30,7 @@ pub fn window_of(
     source: &Source<'_>,
     layout: Layout,
     place: &Place,
-) -> Result<Page, Stop>
+) -> Result<Page, CallError>
     requires call { IsCall names.now layout (length (numbers source.now)) }
     requires placed { IsPlaced layout place.now }
     ensures gives { GivesWindow (window_by layout place.now (job_of job.now) names.now
@@ -39,8 +39,8 @@ pub fn window_of(
 {
     match read_job(alloc, job) {
         Ok(job) => window_of_job(alloc, job, names, source, layout, place),
-        Err(JobRefusal::Fault(fault)) => Err(Stop::Page(Refusal::Job(fault))),
-        Err(JobRefusal::OutOfMemory) => Err(Stop::Page(Refusal::Memory)),
+        Err(JobRefusal::Fault(fault)) => Err(CallError::Page(Refusal::Job(fault))),
+        Err(JobRefusal::OutOfMemory) => Err(CallError::Page(Refusal::Memory)),
     }
 }
 
@@ -51,7 +51,7 @@ fn window_of_job(
     source: &Source<'_>,
     layout: Layout,
     place: &Place,
-) -> Result<Page, Stop>
+) -> Result<Page, CallError>
     requires call { IsCall names.now layout (length (numbers source.now)) }
     requires placed { IsPlaced layout place.now }
     requires job { IsJob job }
@@ -60,22 +60,22 @@ fn window_of_job(
     ensures layout { IfOk result (Fills layout (length names.now)) }
 {
     if !suits(&job, layout, place) {
-        return Err(Stop::Call(CallFault::Place));
+        return Err(CallError::Call(CallFault::Place));
     }
     match moved_job(alloc, job, layout, place) {
         Ok(moved) => window_of_moved(alloc, moved, names, source, layout),
-        Err(OutOfMemory) => Err(Stop::Page(Refusal::Memory)),
+        Err(OutOfMemory) => Err(CallError::Page(Refusal::Memory)),
     }
 }
 
-// The window of a job whose paths are moved. What a job is in range for is known but for its vertices.
+// The window of a job whose paths are moved. That the job is in range is known, except for its vertices.
 fn window_of_moved(
     alloc: Global,
     job: Job,
     names: &NameList,
     source: &Source<'_>,
     layout: Layout,
-) -> Result<Page, Stop>
+) -> Result<Page, CallError>
     requires call { IsCall names.now layout (length (numbers source.now)) }
     requires job { IsMovedJob job }
     ensures gives { GivesWindow (near_window job names.now
@@ -83,10 +83,10 @@ fn window_of_moved(
     ensures layout { IfOk result (Fills layout (length names.now)) }
 {
     if let Some(zone) = first_far(&job.zones) {
-        return Err(Stop::Far(zone));
+        return Err(CallError::Far(zone));
     }
     match page_of_job(alloc, job, names, source, layout) {
         Ok(page) => Ok(page),
-        Err(refusal) => Err(Stop::Page(refusal)),
+        Err(refusal) => Err(CallError::Page(refusal)),
     }
 }

@@ -11,7 +11,7 @@ ghost use Rattle.trap_c.specs.WindowCalls.{WorksWindow};
 ghost use Rattle.trap_c.specs.Windows.{call_window, named_window, window_by};
 ghost use Rattle.trap_c.specs.Places.{IsPlaced};
 ghost use Rattle.trap_c.specs.Requests.{asked};
-ghost use Rattle.trap_c.specs.Pages.{call_page, named_page, page_of as page_meant, stop_or};
+ghost use Rattle.trap_c.specs.Pages.{call_page, named_page, page_of as page_spec, stop_or};
 ghost use Rattle.trap_c.specs.Planes.{planes_in};
 ghost use Rattle.trap_c.specs.Sources.{numbers};
 
@@ -22,7 +22,7 @@ use crate::page::page_of;
 use crate::place::{Place, is_place};
 use crate::request::Request;
 use crate::source::Source;
-use crate::stop::{CallFault, Stop};
+use crate::stop::{CallError, CallFault};
 use crate::tally::trapped_window;
 use crate::window::window_of;
 use lists::names::{Name, NameList, OutOfMemory};
@@ -42,21 +42,21 @@ pub struct Done {
     pub report: Name,
 }
 
-/// Carries out a call up to the planes after trapping, which are still to be put into the samples. These hold numbers up to
-/// `most`.
+/// Carries out a call up to the planes after trapping, which are still to be written to the samples. `most` is the
+/// greatest number that a sample's type holds.
 pub fn carry_out(
     alloc: Global,
     most: u32,
     request: &Request<'_>,
     source: &Source<'_>,
-) -> Result<Done, Stop>
+) -> Result<Done, CallError>
     requires { most ≤ most_maxval }
     ensures { Works most request.now.layout (numbers source.now)
         (call_page most (asked request.now) (numbers source.now)) result }
 {
     match names_of(alloc, request.names) {
         Ok(names) => carry_out_named(alloc, most, request, &names, source),
-        Err(OutOfMemory) => Err(Stop::Page(Refusal::Memory)),
+        Err(OutOfMemory) => Err(CallError::Page(Refusal::Memory)),
     }
 }
 
@@ -66,7 +66,7 @@ fn carry_out_named(
     request: &Request<'_>,
     names: &NameList,
     source: &Source<'_>,
-) -> Result<Done, Stop>
+) -> Result<Done, CallError>
     requires { most ≤ most_maxval }
     ensures { let layout = request.now.layout in
         Works most layout (numbers source.now)
@@ -74,7 +74,7 @@ fn carry_out_named(
 {
     let layout = request.layout;
     if let Some(fault) = call_fault(most, names.as_slice(), layout, source.count()) {
-        return Err(Stop::Call(fault));
+        return Err(CallError::Call(fault));
     }
     trap_source(alloc, request.job, names, source, layout)
 }
@@ -85,22 +85,22 @@ fn trap_source(
     names: &NameList,
     source: &Source<'_>,
     layout: Layout,
-) -> Result<Done, Stop>
+) -> Result<Done, CallError>
     requires { IsCall names.now layout (length (numbers source.now)) }
     ensures { let planes = planes_in layout (numbers source.now) (length names.now) in
         Works layout.maxval layout (numbers source.now)
-        (stop_or (page_meant job.now names.now planes)) result }
+        (stop_or (page_spec job.now names.now planes)) result }
 {
     match page_of(alloc, job, names, source, layout) {
-        Ok(page) => match trapped(alloc, &page) {
+        Ok(page) => match trap_whole(alloc, &page) {
             Ok(done) => Ok(done),
-            Err(OutOfMemory) => Err(Stop::Page(Refusal::Memory)),
+            Err(OutOfMemory) => Err(CallError::Page(Refusal::Memory)),
         },
-        Err(refusal) => Err(Stop::Page(refusal)),
+        Err(refusal) => Err(CallError::Page(refusal)),
     }
 }
 
-fn trapped(alloc: Global, page: &Page) -> Result<Done, OutOfMemory>
+fn trap_whole(alloc: Global, page: &Page) -> Result<Done, OutOfMemory>
     ensures planes { IfOk result (λ done. done.planes ≡ trapped_planes page.now) }
     ensures report { IfOk result (λ done. done.report ≡ report_of page.now (page_counts page.now)) }
     ensures in_range { All IsPlane (trapped_planes page.now) }
@@ -111,22 +111,22 @@ fn trapped(alloc: Global, page: &Page) -> Result<Done, OutOfMemory>
     Ok(Done { planes, report })
 }
 
-/// Carries out a window's call up to the planes after trapping, the cores of which are still to be put into the samples.
-/// These hold numbers up to `most`.
+/// Carries out a window's call up to the planes after trapping, whose cores are still to be written to the samples.
+/// `most` is the greatest number that a sample's type holds.
 pub fn carry_out_window(
     alloc: Global,
     most: u32,
     request: &Request<'_>,
     place: &Place,
     source: &Source<'_>,
-) -> Result<Done, Stop>
+) -> Result<Done, CallError>
     requires { most ≤ most_maxval }
     ensures { WorksWindow most request.now.layout place.now (numbers source.now)
         (call_window most (asked request.now) place.now (numbers source.now)) result }
 {
     match names_of(alloc, request.names) {
         Ok(names) => carry_out_named_window(alloc, most, request, place, &names, source),
-        Err(OutOfMemory) => Err(Stop::Page(Refusal::Memory)),
+        Err(OutOfMemory) => Err(CallError::Page(Refusal::Memory)),
     }
 }
 
@@ -137,7 +137,7 @@ fn carry_out_named_window(
     place: &Place,
     names: &NameList,
     source: &Source<'_>,
-) -> Result<Done, Stop>
+) -> Result<Done, CallError>
     requires { most ≤ most_maxval }
     ensures { let layout = request.now.layout in
         WorksWindow most layout place.now (numbers source.now)
@@ -146,10 +146,10 @@ fn carry_out_named_window(
 {
     let layout = request.layout;
     if let Some(fault) = call_fault(most, names.as_slice(), layout, source.count()) {
-        return Err(Stop::Call(fault));
+        return Err(CallError::Call(fault));
     }
     if !is_place(layout, place) {
-        return Err(Stop::Call(CallFault::Place));
+        return Err(CallError::Call(CallFault::Place));
     }
     trap_window(alloc, request.job, names, source, layout, place)
 }
@@ -161,7 +161,7 @@ fn trap_window(
     source: &Source<'_>,
     layout: Layout,
     place: &Place,
-) -> Result<Done, Stop>
+) -> Result<Done, CallError>
     requires call { IsCall names.now layout (length (numbers source.now)) }
     requires placed { IsPlaced layout place.now }
     ensures { let planes = planes_in layout (numbers source.now) (length names.now) in
@@ -171,7 +171,7 @@ fn trap_window(
     match window_of(alloc, job, names, source, layout, place) {
         Ok(page) => match trapped_window(alloc, &page, place) {
             Ok(done) => Ok(done),
-            Err(OutOfMemory) => Err(Stop::Page(Refusal::Memory)),
+            Err(OutOfMemory) => Err(CallError::Page(Refusal::Memory)),
         },
         Err(stop) => Err(stop),
     }

@@ -41,7 +41,7 @@ MeanSample words sample = command_of words ≡ Some (Sample sample)
 -- the job and the plates where the tray tells them, so that the verdict is its outcome; the
 -- rack's files are the old ones with these put in, in order; and the receipt is the whole one of
 -- this page, in bands of as many rows as the words say. Each file is finished, each was asked
--- for in its order, no other is, and nothing is told. Of a sample page the receipt is the whole
+-- for in its order, no other is, and nothing is printed. Of a sample page the receipt is the whole
 -- one of the sample page. At no other status there is a receipt.
 pub record Success (words : List (List ℕ)) (tray tray' : TrayState) (rack rack' : RackState)
     (status : ℕ) (receipt : Option Receipt) : Type 0 where
@@ -149,9 +149,9 @@ Locality words tray = (page : PageWords) (job : Job) (read : List PlateRead) (ma
     → MeanPage words page → IsTrue tray.tells → Inputs one_page tray.file (sources_of page) job read
     → assembly job read (sources_of page).names ≡ Ok made → ChangesNearEdges made read
 
--- A sample page answers 0, 4, 6 or 7: its report is told; it has too many samples, which its
--- line says; the report was told in part, since one call of the rack failed and none after it; or
--- memory ran out. No name is handed out.
+-- A sample page answers 0, 4, 6 or 7: its report is printed; it has too many samples, which its
+-- line says; the report was printed in part, since one call of the rack failed and none after it;
+-- or memory ran out. No name is handed out.
 pub record SamplePage (words : List (List ℕ)) (tray tray' : TrayState) (rack rack' : RackState)
     (status : ℕ) : Type 0 where
   pub statuses : (sample : SampleWords) → MeanSample words sample

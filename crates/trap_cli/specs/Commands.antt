@@ -1,14 +1,9 @@
 -- The files of a command of a page.
-use Rattle.std.specs.Prelude.{List, ℕ, map}
+use Rattle.std.specs.Prelude.{ℕ}
 use Rattle.page_gather.specs.Inputs.{Sources}
-use Rattle.plain_words.specs.Parts.{PlateNames}
-use Rattle.plain_words.specs.Plates.{names_of, outputs_of}
+use Rattle.plain_words.specs.Plates.{inputs_of, names_of, outputs_of}
 use Rattle.trap_words.specs.Words.{PageWords}
 use Rattle.verdicts.specs.Verdicts.{Targets}
-
--- the files of the plates, in their order
-abbrev pub inputs_of : List PlateNames → List (List ℕ)
-inputs_of plates = map (λ (p : PlateNames). p.input) plates
 
 -- the files that are read, with the plates' names
 abbrev pub sources_of : PageWords → Sources

@@ -68,7 +68,7 @@ pub record EndsPage (band : ℕ) (source : Sources) (target : Targets) (tray tra
   pub carried : CarriesOut band source target tray tray' rack between result
   pub closed : Closes result between rack' status receipt
 
--- There is a receipt, and it is the whole one of the page in bands of so many rows.
+-- There is a receipt, and it is the whole one of the page in bands of `band` rows.
 abbrev pub HasReceipt : PageParts → ℕ → Option Receipt → Type 0
 HasReceipt page band receipt =
     (closed : Receipt) × (receipt ≡ Some closed) × IsWholeReceipt page band closed
@@ -93,7 +93,7 @@ MakesReport words (Err (Page TooManySamples)) = IsSmall words → ⊥
 MakesReport words (Err Memory) = IsSmall words
 MakesReport words (Err other) = ⊥
 
--- A command of a sample page: its report is told, whole or in part, or it is refused.
+-- A command of a sample page: its report is printed, whole or in part, or it is refused.
 pub data AnswersSample (words : SampleWords) (rack rack' : RackState) (status : ℕ)
     (receipt : Option Receipt) : Type 0 where
   told : IsSmall words → status ≡ done → rack'.faults ≡ rack.faults

@@ -1,4 +1,3 @@
-pub mod Files
 pub mod Commands
 pub mod Endings
 pub mod Clauses

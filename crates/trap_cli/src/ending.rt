@@ -9,14 +9,14 @@ use refusals::telling::refuse;
 /// How the top call ended.
 #[derive(Drop)]
 pub struct Ended {
-    /// The status that the program ends with.
+    /// The status that the program exits with.
     pub status: u8,
-    /// The closed table at which the workers trapped the page. It is there at status 0 and at no other.
+    /// The closed table at which the workers trapped the page. It is there exactly at status 0.
     pub receipt: Option<Closed>,
 }
 
-// Tells the line of a refusal, which ends the call without a receipt.
-pub(crate) fn end_refused<R: Rack>(rack: &mut R, refusal: &Refusal) -> Ended
+// Prints the line of a refusal, which ends the call without a receipt.
+pub(crate) fn end_with_refusal<R: Rack>(rack: &mut R, refusal: &Refusal) -> Ended
     ensures line { Refuses refusal.now (R.state rack.old) (R.state rack.new) result.status }
     ensures receipt { result.receipt ≡ None }
 {

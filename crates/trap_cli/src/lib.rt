@@ -2,7 +2,6 @@
 #![tactic(auto)]
 
 mod ending;
-mod files;
 mod page;
 mod sample;
 pub mod top;

@@ -6,8 +6,7 @@ ghost use Rattle.page_gather.specs.Gathering.{ReadsPage};
 ghost use Rattle.trap_cli.specs.Endings.{CarriesOut, EndsPage};
 ghost use Rattle.page_output.specs.Output.{PutsOut};
 
-use crate::ending::{Ended, end_refused};
-use crate::files::{inputs_of, names_of, outputs_of};
+use crate::ending::{Ended, end_with_refusal};
 use band_claims::Closed;
 use band_workers::Gate;
 use outside::rack::Rack;
@@ -15,18 +14,19 @@ use outside::tray::Tray;
 use page_gather::gather::gather;
 use page_model::page::Page;
 use page_model::parts::OutOfMemory;
-use page_output::output::{PageOrder, put_out};
+use page_output::output::{OutputArgs, put_out};
+use plain_words::files::{plate_inputs, plate_names, plate_outputs};
 use refusals::refusal::Refusal;
 use refusals::statuses::DONE;
 use std::alloc::Global;
 use std::thread::Threads;
-use trap_words::command::PageCommand;
+use trap_words::command::PageArgs;
 
-// Carries out a command of a page, and gives how it ends.
+// Runs the command `page`, and returns how it ended.
 pub(crate) fn run_page<H: Threads + Sync, T: Tray, R: Rack, G: Gate + Sync>(
     rt: &H,
     alloc: Global,
-    command: &PageCommand<'_>,
+    command: &PageArgs<'_>,
     tray: &mut T,
     rack: &mut R,
     gate: &G,
@@ -41,7 +41,7 @@ pub(crate) fn run_page<H: Threads + Sync, T: Tray, R: Rack, G: Gate + Sync>(
             status: DONE,
             receipt: Some(receipt),
         },
-        Err(refusal) => end_refused(rack, &refusal),
+        Err(refusal) => end_with_refusal(rack, &refusal),
     }
 }
 
@@ -49,7 +49,7 @@ pub(crate) fn run_page<H: Threads + Sync, T: Tray, R: Rack, G: Gate + Sync>(
 fn carry_out<H: Threads + Sync, T: Tray, R: Rack, G: Gate + Sync>(
     rt: &H,
     alloc: Global,
-    command: &PageCommand<'_>,
+    command: &PageArgs<'_>,
     tray: &mut T,
     rack: &mut R,
     gate: &G,
@@ -65,29 +65,24 @@ fn carry_out<H: Threads + Sync, T: Tray, R: Rack, G: Gate + Sync>(
     }
 }
 
-// Gathers the page of the command's job and plates.
-fn read_page<T: Tray>(
-    alloc: Global,
-    command: &PageCommand<'_>,
-    tray: &mut T,
-) -> Result<Page, Refusal>
+// Reads the page of the command's job and plates.
+fn read_page<T: Tray>(alloc: Global, command: &PageArgs<'_>, tray: &mut T) -> Result<Page, Refusal>
     requires { IsPageWithin command.now }
     ensures { let source = sources_of (page_in command.now) in
         ReadsPage source (T.state tray.old) (T.state tray.new) result }
 {
     let words = command.plates.as_slice();
-    match (names_of(alloc, words), inputs_of(alloc, words)) {
+    match (plate_names(alloc, words), plate_inputs(alloc, words)) {
         (Ok(names), Ok(inputs)) => gather(alloc, tray, command.job, &names, inputs.as_slice()),
         _ => Err(Refusal::Memory),
     }
 }
 
-// Traps the page and writes its files, and gives the receipt. All memory that is wanted is taken before the first file is
-// created.
+// Traps the page, writes its files, and returns the receipt. All memory is allocated before the first file is created.
 fn write_out<H: Threads + Sync, R: Rack, G: Gate + Sync>(
     rt: &H,
     alloc: Global,
-    command: &PageCommand<'_>,
+    command: &PageArgs<'_>,
     page: &Page,
     rack: &mut R,
     gate: &G,
@@ -99,10 +94,10 @@ fn write_out<H: Threads + Sync, R: Rack, G: Gate + Sync>(
         (R.state rack.new) result }
 {
     let _valid = page.plates();
-    let Ok(outputs) = outputs_of(alloc, command.plates.as_slice()) else {
+    let Ok(outputs) = plate_outputs(alloc, command.plates.as_slice()) else {
         return Err(Refusal::Memory);
     };
-    let order = PageOrder {
+    let order = OutputArgs {
         workers: command.workers,
         band: command.band,
         outputs: outputs.as_slice(),

@@ -7,7 +7,7 @@ ghost use Rattle.trap_words.specs.Held.{IsSampleWithin, sample_in};
 ghost use Rattle.trap_cli.specs.Commands.{sample_band};
 ghost use Rattle.trap_cli.specs.Endings.{EndsSample, MakesReport};
 
-use crate::ending::{Ended, end_refused};
+use crate::ending::{Ended, end_with_refusal};
 use band_workers::Gate;
 use outside::rack::Rack;
 use outside::tray::Failed;
@@ -19,16 +19,16 @@ use refusals::refusal::Refusal;
 use refusals::statuses::{DONE, NOT_WRITTEN};
 use std::alloc::Global;
 use std::thread::Threads;
-use trap_words::command::SampleCommand;
+use trap_words::command::SampleArgs;
 
 // The rows of a band in which a sample page is trapped.
 const SAMPLE_BAND: u32 = 64;
 
-// Traps a sample page and tells its report, and gives how the command ends.
+// Traps a sample page and prints its report, and returns how the command ended.
 pub(crate) fn run_sample<H: Threads + Sync, R: Rack, G: Gate + Sync>(
     rt: &H,
     alloc: Global,
-    command: SampleCommand,
+    command: SampleArgs,
     rack: &mut R,
     gate: &G,
 ) -> Ended
@@ -47,14 +47,14 @@ pub(crate) fn run_sample<H: Threads + Sync, R: Rack, G: Gate + Sync>(
                 receipt: None,
             },
         },
-        Err(refusal) => end_refused(rack, &refusal),
+        Err(refusal) => end_with_refusal(rack, &refusal),
     }
 }
 
 fn sample_outcome<H: Threads + Sync, G: Gate + Sync>(
     rt: &H,
     alloc: Global,
-    command: SampleCommand,
+    command: SampleArgs,
     gate: &G,
 ) -> Result<Outcome, Refusal>
     requires { IsSampleWithin command }

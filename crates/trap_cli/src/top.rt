@@ -3,7 +3,7 @@ ghost use Rattle.trap_cli.specs.Clauses.{Success, Usage, RefusedInput, ReadFault
 ghost use Rattle.trap_cli.specs.Endings.{Ends};
 
 pub use crate::ending::Ended;
-use crate::ending::end_refused;
+use crate::ending::end_with_refusal;
 use crate::page::run_page;
 use crate::sample::run_sample;
 use band_workers::Gate;
@@ -16,22 +16,22 @@ use std::alloc::Global;
 use std::thread::Threads;
 use trap_words::command::{Command, read_words};
 
-/// Carries out the command that the words mean, and answers the status that the program ends with, and at status 0 the
-/// receipt of the work.
+/// Runs the command of the words, and returns the status that the program exits with, and at status 0 the receipt of
+/// the work.
 ///
 /// `page [--workers N] [--band B] JOB REPORT NAME:IN:OUT ...` reads the job, then each plate in the order of the words,
 /// traps the page by N workers in bands of B rows, and only then writes: each plate in order, and then the report.
-/// `sample NUMBER WIDTH HEIGHT WORKERS` traps a page of the program's own in bands of 64 rows and tells its report. The
-/// workers are threads of `rt`, and `gate` is told of each piece that one of them claims. What is written is the same for
-/// every number of workers, every band, and every order in which the workers claim and publish.
+/// `sample NUMBER WIDTH HEIGHT WORKERS` traps a page of the program's own in bands of 64 rows and prints its report.
+/// The workers are threads of `rt`, and `gate` is called for each piece that one of them claims. What is written is the
+/// same for every number of workers, every band, and every order in which the workers claim and publish.
 ///
-/// The status is 0 where the work is done; 2 where the words mean no command; 3 where the job has a fault or lacks the
-/// details of a plate's colorant; 4 where a plate's file has a fault, or the plates are no page; 5 where a read failed; 6
-/// where a write failed; and 7 where memory ran out. Each refusal tells one line that names the cause.
+/// The status is 0 if the work is done; 2 if the words are no command; 3 if the job has a fault or lacks the details of
+/// a plate's colorant; 4 if a plate's file has a fault, or the plates do not make a page; 5 if a read failed; 6 if a
+/// write failed; and 7 if memory ran out. Each refusal prints one line that names the cause.
 ///
-/// The receipt of status 0 is the closed table of the page that the job and the plates make, in bands of B rows, or of the
-/// sample page, in bands of 64. In it every piece is done and every cell is that of the whole-page rule; no piece was
-/// published twice, by the workers or by the caller alone after them; and each piece is accounted for: the workers
+/// The receipt of status 0 is the closed table of the page that the job and the plates make, in bands of B rows, or of
+/// the sample page, in bands of 64. In it every piece is done and every cell is that of the whole-page rule; no piece
+/// was published twice, by the workers or by the caller alone after them; and each piece is accounted for: the workers
 /// published it or saw it done, or saw it claimed or a need of it not done.
 pub fn trap_main<H: Threads + Sync, T: Tray, R: Rack, G: Gate + Sync>(
     rt: &H,
@@ -79,7 +79,7 @@ fn run<H: Threads + Sync, T: Tray, R: Rack, G: Gate + Sync>(
     match read_words(alloc, words) {
         Ok(Some(Command::Page(page))) => run_page(rt, alloc, &page, tray, rack, gate),
         Ok(Some(Command::Sample(sample))) => run_sample(rt, alloc, sample, rack, gate),
-        Ok(None) => end_refused(rack, &Refusal::Usage),
-        Err(OutOfMemory) => end_refused(rack, &Refusal::Memory),
+        Ok(None) => end_with_refusal(rack, &Refusal::Usage),
+        Err(OutOfMemory) => end_with_refusal(rack, &Refusal::Memory),
     }
 }

@@ -1,11 +1,11 @@
 -- A trap is no darker than the scaling asks, where no ink is opaque.
-use Rattle.std.proofs.Common.{◌≡◌, ◌≢◌, ℕ, zero, suc, ◌+◌, ◌*◌, ◌-◌, ◌/◌, ◌<◌, ◌≤◌, ◌⊎◌, Bool, true, false, ◌&&◌, inl, inr, refl, arith, ap, ◌∙◌, if◌then◌else◌}
+use Rattle.std.proofs.Common.{◌≡◌, ◌≢◌, ℕ, zero, suc, ◌+◌, ◌*◌, ◌-◌, ◌/◌, ◌<◌, ◌≤◌, ◌⊎◌, Bool, true, false, ◌&&◌, inl, inr, arith, ap, ◌∙◌, if◌then◌else◌}
 use Rattle.std.proofs.lemmas.Bool.{cases_lt}
 use Rattle.std.proofs.Math.Nat.{mul-le-mul_left, div-mul-le_self}
 use Rattle.page_model.specs.declared.parts.At.{At}
 use Rattle.page_model.specs.declared.parts.EdgeAt.{EdgeAt}
 use Rattle.page_model.specs.declared.parts.InkKind.{InkKind}
-use Rattle.page_model.specs.declared.parts.InkKind.TheVariants.{Normal, Transparent, Opaque, OpaqueIgnore}
+use Rattle.page_model.specs.declared.parts.InkKind.TheVariants.{Opaque}
 use Rattle.page_model.specs.declared.parts.PageParts.{PageParts}
 use Rattle.page_model.specs.Density.{counts, density, density_of, plate_counts, spreads, weight}
 use Rattle.page_model.specs.Page.{ink_at, params_at, plates, tint}

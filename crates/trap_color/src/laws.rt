@@ -13,7 +13,7 @@ use page_model::laws::full_density_law;
 use page_model::page::Page;
 use page_model::parts::{At, EdgeAt};
 
-/// On a page without an Opaque ink a trapped sample grows by at most TrapColorScaling of what its full tints would add.
+/// On a page without an Opaque ink a trap adds at most TrapColorScaling of the density that the full tints would add.
 pub fn density_law(page: &Page, p: At, e: EdgeAt)
     requires inks { HasNoOpaque page.now }
     requires trapped { trapped page.now p e ≡ true }

@@ -5,6 +5,6 @@ pub mod laws;
 mod sample;
 mod tints;
 mod trapped;
-mod widths;
+pub mod widths;
 
 pub use sample::trap_sample;

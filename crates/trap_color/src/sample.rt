@@ -15,7 +15,8 @@ use page_model::laws::zone_law;
 use page_model::page::Page;
 use page_model::parts::{At, EdgeAt};
 
-/// Writes the new tints of p, which e traps, where the zone scales them by 1: its full tints. No density is summed.
+/// Writes the new tints of p, trapped by e, where the zone scales them by 1: they are its full tints, and no density is
+/// summed.
 fn put_full(page: &Page, zone: u32, p: At, e: EdgeAt, out: &mut [u16])
     requires sample { InPage page.now p }
     requires edge { IsEdge page.now e }
@@ -31,7 +32,7 @@ fn put_full(page: &Page, zone: u32, p: At, e: EdgeAt, out: &mut [u16])
     }
 }
 
-/// Writes the new tints of p, which e traps.
+/// Writes the new tints of p, trapped by e.
 fn put_scaled(page: &Page, zone: u32, p: At, e: EdgeAt, out: &mut [u16])
     requires sample { InPage page.now p }
     requires edge { IsEdge page.now e }
@@ -51,7 +52,7 @@ fn put_scaled(page: &Page, zone: u32, p: At, e: EdgeAt, out: &mut [u16])
     }
 }
 
-/// Writes the new tints of p with e as its decider, and tells whether p is trapped.
+/// Writes the new tints of p with e as its decider, and returns whether p is trapped.
 fn trap_by(page: &Page, zone: u32, p: At, e: EdgeAt, out: &mut [u16]) -> bool
     requires sample { InPage page.now p }
     requires edge { IsEdge page.now e }
@@ -86,8 +87,8 @@ fn keep_tints(page: &Page, p: At, out: &mut [u16])
     }
 }
 
-/// Writes the new tints of p, one for each plate, with the given edge as its decider, and tells whether p is trapped.
-/// Without an edge p keeps its tints. The zone is p's.
+/// Writes the new tints of p, one for each plate, with the given edge as its decider, and returns whether p is trapped.
+/// Without an edge p keeps its tints. `zone` is the zone of p.
 pub fn trap_sample(page: &Page, p: At, zone: u32, nearest: Option<EdgeAt>, out: &mut [u16]) -> bool
     requires sample { InPage page.now p }
     requires zone { zone ≡ zone_of page.now p }

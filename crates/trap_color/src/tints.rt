@@ -20,7 +20,7 @@ fn spreads_at(page: &Page, c: u32) -> bool
     page.ink(c).kind.spreads()
 }
 
-/// The tint of plate c at p where the inks of both sides of the edge lie one over the other.
+/// The full tint of plate c at p: that of the inks of both sides of the edge printed one over the other.
 fn full_at(page: &Page, p: At, e: EdgeAt, c: u32) -> u16
     requires sample { InPage page.now p }
     requires edge { IsEdge page.now e }
@@ -38,7 +38,7 @@ fn full_at(page: &Page, p: At, e: EdgeAt, c: u32) -> u16
     }
 }
 
-/// The neutral density of the full tints.
+/// The neutral density of the full tints of p at the edge.
 pub fn density_of_full(page: &Page, p: At, e: EdgeAt) -> u64
     requires sample { InPage page.now p }
     requires edge { IsEdge page.now e }
@@ -91,7 +91,7 @@ pub fn new_at(
     }
 }
 
-/// The new tint of plate c at p, which e traps, where the zone scales tints by 1: its full tint.
+/// The new tint of plate c at p, trapped by e, where the zone scales tints by 1: its full tint.
 pub fn full_new(page: &Page, zone: u32, p: At, e: EdgeAt, c: u32) -> u16
     requires sample { InPage page.now p }
     requires edge { IsEdge page.now e }

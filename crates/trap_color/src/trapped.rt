@@ -13,8 +13,7 @@ use page_model::edges::{across_of, own_of, squared_distance};
 use page_model::page::Page;
 use page_model::parts::{At, EdgeAt, TrapParams};
 
-/// The densities of an edge's samples on the side of a third sample and across from it, summed once for all that is asked
-/// of them.
+/// The densities of an edge's two samples, on the side of a third sample and across from it, summed once for all tests.
 #[derive(Clone, Copy)]
 struct Sides {
     own: u64,
@@ -32,7 +31,7 @@ fn sides_of(page: &Page, p: At, e: EdgeAt) -> Sides
     Sides { own, across }
 }
 
-/// Whether a side of this density has a black ink, where no side has a greater one.
+/// Whether a side has the density `most`, the greater one of the edge's two sides, and a black ink.
 fn is_black_side(page: &Page, params: &TrapParams, side: At, density: u64, most: u64) -> bool
     requires sample { InPage page.now side }
     ensures { result ≡ ((density == most) && black_sample page.now params.now side) }
@@ -68,7 +67,7 @@ fn is_edge_slid(page: &Page, params: &TrapParams, p: At, e: EdgeAt, sides: Sides
     )
 }
 
-/// Whether p, in the zone, is as near to the edge as its widest trap reaches, be the edge black or not, slid or not.
+/// Whether p, in the zone, is within the widest trap of the edge, whether or not the edge is black or slid.
 #[tactic(auto, using(crate::proofs::SideLemmas::beyond))]
 fn may_reach(page: &Page, zone: u32, p: At, e: EdgeAt) -> bool
     requires sample { InPage page.now p }
@@ -82,8 +81,8 @@ fn may_reach(page: &Page, zone: u32, p: At, e: EdgeAt) -> bool
     is_near(d2, false, params.trap_width, factor, page.resolution())
 }
 
-/// Whether the edge is near enough to trap p. Where the black width and the plain one say the same, it is not asked whether
-/// the edge is black.
+/// Whether the edge is near enough to trap p. If the black width and the plain one give the same answer, the edge is
+/// not tested for black.
 #[tactic(auto, unfolding(page_model::specs::Within::within_in))]
 fn is_within(page: &Page, zone: u32, p: At, e: EdgeAt, sides: Sides, slid: bool) -> bool
     requires sample { InPage page.now p }
@@ -109,7 +108,7 @@ fn is_within(page: &Page, zone: u32, p: At, e: EdgeAt, sides: Sides, slid: bool)
     }
 }
 
-/// Whether the edge traps p, which lies in the zone, if the zone is enabled. What costs least is asked first.
+/// Whether the edge traps p, which lies in the zone, if the zone is enabled. The cheapest tests come first.
 fn is_trapped_near(page: &Page, zone: u32, p: At, e: EdgeAt) -> bool
     requires sample { InPage page.now p }
     requires edge { IsEdge page.now e }

@@ -1,5 +1,5 @@
 -- The rows of the parts stay as they are while it is counted in them, and one part more follows the others.
-use Rattle.std.proofs.Common.{◌≡◌, ℕ, ◌+◌, ◌<◌, ◌≤◌, ◌∙◌, ◌∷◌, ◌++◌, [], refl, sym, ap, arith, List, length, inl, inr}
+use Rattle.std.proofs.Common.{◌≡◌, ℕ, ◌+◌, ◌<◌, ◌≤◌, ◌∙◌, ◌∷◌, ◌++◌, [], sym, ap, arith, List, length, inl, inr}
 use Rattle.std.specs.Prelude.{◌-◌, min, slice_index_or}
 use Rattle.std.proofs.lemmas.Bool.{cases_eq}
 use Rattle.std.specs.Prelude.{◌*◌, ◌/◌, ◌%◌, slice_set}
@@ -10,7 +10,7 @@ use Rattle.page_model.specs.declared.parts.PageParts.{PageParts}
 use Rattle.page_model.specs.Page.{height}
 use Rattle.trap_engine.specs.declared.parts.Part.{Part}
 use Rattle.trap_engine.specs.Memory.{KeepsParts, KeepsTally}
-use Rattle.trap_engine.specs.Parts.{AreOfSize, AreParts, CoverPage, IsPart}
+use Rattle.trap_engine.specs.Parts.{AreOfSize, CoverPage, IsPart}
 
 -- the parts' rows are those of before
 abbrev pub SameRows : List Part → List Part → Type 0
@@ -41,15 +41,6 @@ pub record AreLaid (page : PageParts) (to : ℕ) (parts : List Part) : Type 0 wh
   pub last : (i : ℕ) (d : Part) → i + 1 ≡ length parts → (slice_index_or parts i d).rows.first + (slice_index_or parts i d).rows.count ≡ to
   pub each : (i : ℕ) (d : Part) → i < length parts → IsPart page (slice_index_or parts i d)
 
-pub none_laid : (page : PageParts) → AreLaid page 0 []
-none_laid page = record {
-  none = λ _. refl;
-  first = λ d l. absurd (omega (arith, l));
-  next = λ i d l. absurd (omega (arith, l));
-  last = λ i d e. absurd (omega (arith, e));
-  each = λ i d l. absurd (omega (arith, l));
-}
-
 abbrev begin_of : Part → ℕ
 begin_of part = part.rows.first
 
@@ -74,17 +65,6 @@ one_laid page to parts one e here h =
         | inl n ↦ (let at = get_or_push parts one d i (sym n) in rw at here)
         | inr ne ↦ (let at = get_or_append_left parts (one ∷ []) d i (omega (arith, l, long, ne)) in rw at (h.each i d (omega (arith, l, long, ne))))
       ];
-    }
-
-pub all_laid : (page : PageParts) (to : ℕ) (parts : List Part) → to ≡ height page → 1 ≤ height page → AreLaid page to parts → AreParts page parts
-all_laid page to parts e tall h =
-    let some : 1 ≤ length parts = elim (cases_eq (length parts) 0) [
-      | inl n ↦ absurd (omega (arith, h.none n, e, tall))
-      | inr ne ↦ omega (arith, ne)
-    ] in
-    record {
-      cover = record { some = some; first = λ d. h.first d some; next = h.next; last = λ i d l. h.last i d l ∙ e };
-      each = h.each;
     }
 
 -- parts of one size are as many as the rows before the next one call for, and so no more than are asked for
@@ -112,9 +92,6 @@ at_most n most size tall some e few =
     omega (arith, below)
 
 -- the room of the parts' tallies
-
-pub parts_kept : (parts : List Part) → KeepsParts parts parts
-parts_kept parts = record { count = refl; each = λ i d l. record { zones = refl; marks = refl; changes = refl; zone_samples = refl; zone_changed = refl } }
 
 pub one_kept : (before after : List Part) (k : ℕ) (one : Part) → k < length after → ((d : Part) → KeepsTally (slice_index_or after k d).tally one.tally) → KeepsParts before after → KeepsParts before (slice_set after k one)
 one_kept before after k one within here h = record {

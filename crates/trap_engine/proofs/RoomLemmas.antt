@@ -3,7 +3,7 @@ use Rattle.std.proofs.Common.{refl, ◌≡◌, ℕ, ◌∙◌, ◌∷◌, ◌++�
 use Rattle.std.proofs.lemmas.List.Elements.{All-append, All-cons}
 use Rattle.page_model.specs.declared.bands.Bands.{Bands}
 use Rattle.row_cells.specs.Layouts.{Layout}
-use Rattle.band_claims.specs.declared.sheet.Sheet.{Sheet}
+use Rattle.band_claims.specs.declared.table_key.TableKey.{TableKey}
 use Rattle.band_claims.specs.declared.view.View.{View}
 use Rattle.band_claims.specs.Shares.{IsWhole}
 use Rattle.band_claims.specs.Views.{newcomer}
@@ -23,5 +23,5 @@ pub one_more_laid : (all : List Memory) (one : Memory) (bands : Bands) (w p : �
 one_more_laid all one bands w p h e = All-append (λ (s : Memory). s.layout ≡ laid bands w p) all (one ∷ []) h (All-cons (λ (s : Memory). s.layout ≡ laid bands w p) one [] e (λ j d none. absurd (omega arith)))
 
 -- a table's first pass has all shares
-pub newcomer_whole : (key : Sheet) (v : View) → v ≡ newcomer key → IsWhole v.share
+pub newcomer_whole : (key : TableKey) (v : View) → v ≡ newcomer key → IsWhole v.share
 newcomer_whole key v e = subst (λ (z : View). IsWhole z.share) (sym e) (record { halvings = 0; cut = (omega arith, tt); all = refl })

@@ -1,17 +1,15 @@
--- A row that is read out of the table has the row's zones, marks and new tints.
-use Rattle.std.proofs.Common.{◌≡◌, ℕ, ◌+◌, ◌*◌, ◌/◌, ◌<◌, ◌∙◌, ap, arith, List, length, slice_index}
-use Rattle.std.proofs.lemmas.Nat.{div-mul-add, mod-mul-add, mul-add-lt}
+-- A row that is read out of the table has the row's zones and marks.
+use Rattle.std.proofs.Common.{◌≡◌, ℕ, ◌+◌, ◌*◌, ◌<◌, ◌∙◌, ap, arith, List, length, slice_index}
 use Rattle.page_model.specs.declared.parts.PageParts.{PageParts}
 use Rattle.page_model.specs.Deciding.{mark}
-use Rattle.page_model.specs.Page.{plates, width}
-use Rattle.page_model.specs.Tints.{new}
+use Rattle.page_model.specs.Page.{width}
 use Rattle.page_model.specs.Zones.{AreZones}
-use Rattle.row_values.specs.Rows.{HoldsMarks, HoldsRows, HoldsTints, HoldsZones, tint_value, zone_value}
+use Rattle.row_values.specs.Rows.{HoldsMarks, HoldsRows, HoldsZones, zone_value}
 use Rattle.band_claims.specs.Receipt.{Receipt}
 use Rattle.band_claims.proofs.Steps.{fit_shape}
 use Rattle.band_pieces.specs.Fills.{HasCells}
 use Rattle.band_pieces.specs.Finished.{IsFinished}
-use Rattle.page_tally.specs.Standing.{AreMarks, IsNewRow}
+use Rattle.page_tally.specs.Standing.{AreMarks}
 
 -- of one row the places are those of the list
 one_row : (wide y o : ℕ) (value : ℕ → ℕ → ℕ) (items : List ℕ) → HoldsRows wide value (record { first = y; count = 1 }) items → o < wide → slice_index items o ≡ value y o
@@ -35,15 +33,6 @@ row_marks page y marks h = record {
   each = λ x l. one_row (width page) y x (mark page) marks h l;
 }
 
-pub row_tints : (page : PageParts) (y : ℕ) (tints : List ℕ) → HoldsTints page (record { first = y; count = 1 }) tints → IsNewRow page y tints
-row_tints page y tints h = record {
-  long = one_long (plates page * width page) y (tint_value page) tints h;
-  each = λ c x lc lx.
-      one_row (plates page * width page) y (c * width page + x) (tint_value page) tints h (omega (arith, mul-add-lt c (width page) x (plates page) lc lx))
-      ∙ ap (λ (n : ℕ). new page (record { x = n; y = y }) ((c * width page + x) / width page)) (mod-mul-add c (width page) x lx)
-      ∙ ap (λ (n : ℕ). new page (record { x = x; y = y }) n) (div-mul-add c (width page) x lx);
-}
-
 -- all cells of a finished table are known
 pub cells_held : (page : PageParts) (receipt : Receipt) (i : ℕ) → IsFinished page receipt → HasCells receipt i
-cells_held page receipt i h = λ j has. h.cells j (omega (arith, has.below, (fit_shape receipt.sheet h.fit).inside i has.piece))
+cells_held page receipt i h = λ j has. h.cells j (omega (arith, has.below, (fit_shape receipt.table_key h.fit).inside i has.piece))

@@ -19,7 +19,7 @@ use Rattle.page_tally.specs.declared.outcome.Outcome.{Outcome}
 use Rattle.page_tally.proofs.OutcomeLemmas.{none_taken}
 use Rattle.page_tally.proofs.StandingLemmas.{copied, next_row, numbered}
 use Rattle.page_tally.specs.Standing.{AreMarks, AreTrappedTo, HasRows, IsPlateRow, IsTrappedTo, edges_of}
-use Rattle.page_tally.specs.Tallies.{HasPlates, HasTallies}
+use Rattle.page_tally.specs.Tallies.{HasTallies}
 use Rattle.trap_engine.specs.declared.plates.PlateWork.{PlateWork}
 use Rattle.trap_engine.specs.Memory.{KeepsWorks}
 use Rattle.trap_engine.specs.Taking.{HasTaken, IsTakenPlate}
@@ -103,18 +103,6 @@ tallies_begun page o valid ez ec planes es ex ep ee changes =
       changes = none.changes;
     }
 
--- and one to which all was added
-pub all_added : (page : PageParts) (o : Outcome) → HasPlates page (height page) o → HasRows page (height page) o
-all_added page o h = record {
-  planes = h.planes;
-  zone_samples = h.counted.zone_samples;
-  zone_changed = h.counted.zone_changed;
-  plate_changed = h.plate_changed;
-  edges = h.counted.edges;
-  few_edges = h.counted.few_edges;
-  changes = h.counted.changes;
-}
-
 -- the works without the last one, and that one
 
 pub fewer_taken : (page : PageParts) (works : List PlateWork) (work : PlateWork) (n : ℕ) → n ≡ length works → ((j : ℕ) (d : PlateWork) → j < n + 1 → IsTakenPlate page j (slice_index_or (works ++ work ∷ []) j d).tints.items (slice_index_or (works ++ work ∷ []) j d).changed) → (j : ℕ) (d : PlateWork) → j < n → IsTakenPlate page j (slice_index_or works j d).tints.items (slice_index_or works j d).changed
@@ -124,9 +112,6 @@ pub last_taken : (page : PageParts) (works : List PlateWork) (work : PlateWork) 
 last_taken page works work n e h = subst (λ (w : PlateWork). IsTakenPlate page n w.tints.items w.changed) (get_or_push works work work n (sym e)) (h n work (omega arith))
 
 -- the room of the rows that plates are taken with
-
-pub works_kept : (works : List PlateWork) → KeepsWorks works works
-works_kept works = record { count = refl; each = λ c d l. refl }
 
 pub work_kept : (before after : List PlateWork) (k : ℕ) (one : PlateWork) → k < length after → ((d : PlateWork) → vec_capacity one.row ≡ vec_capacity (slice_index_or after k d).row) → KeepsWorks before after → KeepsWorks before (slice_set after k one)
 work_kept before after k one within here h = record {

@@ -30,7 +30,7 @@ pub record CoverPage (page : PageParts) (parts : List Part) : Type 0 where
   pub last : (i : ℕ) (d : Part) → i + 1 ≡ length parts
       → (slice_index_or parts i d).rows.first + (slice_index_or parts i d).rows.count ≡ height page
 
--- each part has so many rows, or those that are left, where they are fewer
+-- each part has `size` rows, or those that are left, where they are fewer
 abbrev pub AreOfSize : PageParts → ℕ → List Part → Type 0
 AreOfSize page size parts = (i : ℕ) (d : Part) → i < length parts
     → (slice_index_or parts i d).rows.count

@@ -30,17 +30,18 @@ pub record RoomView : Type 0 where
 -- its rows, at most as many as workers, each with a seat of the table to read by, and an outcome
 -- with
 -- nothing in it
-pub record IsRoom (shared : OpenTable) (pass : Seating) (scratches : List Memory) (spare : Memory)
-    (works : List PlateWork) (parts : List Part) (outcome : Outcome) : Type 0 where
+pub record IsRoom (shared : OpenTable) (pass : Seating) (scratches : List Memory)
+    (alone_scratch : Memory) (works : List PlateWork) (parts : List Part)
+    (outcome : Outcome) : Type 0 where
   pub seat : Seats shared pass
   pub idle : pass.view.held ≡ None
   pub whole : IsWhole pass.view.share
-  pub served : All (λ (scratch : Memory). scratch.layout ≡ shared.sheet.layout) scratches
+  pub served : All (λ (scratch : Memory). scratch.layout ≡ shared.table_key.layout) scratches
   pub some : 1 ≤ length scratches
-  pub spare_served : spare.layout ≡ shared.sheet.layout
+  pub alone_scratch_served : alone_scratch.layout ≡ shared.table_key.layout
   pub work_seats : AreSeatedWorks shared works
-  pub plate_works : ArePlateWorks shared.sheet.page.value works
+  pub plate_works : ArePlateWorks shared.table_key.page.value works
   pub part_seats : AreSeatedParts shared parts
-  pub row_parts : AreParts shared.sheet.page.value parts
+  pub row_parts : AreParts shared.table_key.page.value parts
   pub few_parts : length parts ≤ length scratches
-  pub begun : HasTallies shared.sheet.page.value 0 outcome
+  pub begun : HasTallies shared.table_key.page.value 0 outcome

@@ -1,6 +1,6 @@
 -- The result as it is taken out of a table: plate by plate, and then counted.
-use Rattle.std.specs.Prelude.{◌≡◌, ℕ, ◌*◌, ◌<◌, ◌≤◌, false, true, All, List, [], length, slice_index}
-use Rattle.std.specs.Prelude.{slice_index_or, vec_capacity}
+use Rattle.std.specs.Prelude.{◌≡◌, ℕ, ◌*◌, ◌<◌, ◌≤◌, false, true, All, List, [], length}
+use Rattle.std.specs.Prelude.{slice_index, slice_index_or, vec_capacity}
 use Rattle.band_claims.specs.Seating.{OpenTable, Seats}
 use Rattle.page_model.specs.declared.parts.PageParts.{PageParts}
 use Rattle.page_model.specs.Counts.{plate_changes}
@@ -16,7 +16,7 @@ pub record HasTaken (page : PageParts) (c n : ℕ) (tints : List ℕ) : Type 0 w
   pub long : length tints ≡ n
   pub each : (k : ℕ) → k < n → slice_index tints k ≡ new page (sample_at page k) c
 
--- these are all new tints of plate c, and so many of its samples change
+-- these are all new tints of plate c, and `changed` of its samples change
 pub record IsTakenPlate (page : PageParts) (c : ℕ) (tints : List ℕ) (changed : ℕ) : Type 0 where
   pub taken : HasTaken page c (height page * width page) tints
   pub counted : changed

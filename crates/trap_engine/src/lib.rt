@@ -1,4 +1,4 @@
-//! The traps of a whole page, by workers at a shared table; and by one thread, as strip_engine has it.
+//! The traps of a whole page, by workers at a shared table. The crate strip_engine has them by one thread.
 #![tactic(auto)]
 
 mod parts;

@@ -1,8 +1,8 @@
-// The page's rows in parts, and what is counted in each out of a table's cells: by the reader of each, side by side with the others,
-// or from the closed table.
+// The page's rows in parts, and the counts of each part out of a table's cells: by a reader of its own, side by side
+// with the others, or from the closed table.
 ghost use Rattle.std.specs.Prelude.{◌≡◌, ℕ, ◌+◌, ◌*◌, ◌/◌, ◌<◌, ◌≤◌, IfOk, None, length};
 ghost use Rattle.band_claims.specs.Seating.{Seats};
-ghost use Rattle.band_claims.specs.Sheets.{IsFit};
+ghost use Rattle.band_claims.specs.TableKeys.{IsFit};
 ghost use Rattle.band_pieces.specs.Finished.{IsFinished};
 ghost use Rattle.page_model.specs.Bands.{pieces_of};
 ghost use Rattle.page_model.specs.Page.{height, width};
@@ -13,7 +13,7 @@ ghost use Rattle.trap_engine.specs.Parts.{AreCountedParts, AreOfSize, AreParts, 
 
 use crate::tally::{Tally, take_rows, tally_of};
 use band_claims::{Closed, Pass, Reader, Shared};
-use band_pieces::all_done;
+use band_pieces::are_all_done;
 use lists::list::List;
 use lists::memory::push;
 use page_model::page::Page;
@@ -24,8 +24,7 @@ use std::alloc::Global;
 use std::thread;
 use std::thread::Threads;
 
-/// Some rows of the page, with a seat of their own to read by. Until it is `done` nothing is counted in them; then the tally has
-/// all that there is.
+/// Some rows of the page, with a reader of their own and their counts. The counts are complete if `done`, else all 0.
 #[derive(Drop)]
 pub struct Part {
     pub rows: Rows,
@@ -34,8 +33,8 @@ pub struct Part {
     pub done: bool,
 }
 
-/// The page's rows in so many parts at most, one after the other and of as many rows; the last has what is left. A reader for
-/// each is split off.
+/// Cuts the page's rows into at most `most` parts, one after the other, with the same number of rows each; the last one
+/// has the rest. A reader is split off for each.
 pub fn parts_of(
     alloc: Global,
     page: &Page,
@@ -70,10 +69,10 @@ pub fn parts_of(
     Ok(parts.into_vec())
 }
 
-/// Counts in the rows of a part by its own reader, if it finds all pieces done; else the part stays as it is. These planes have
-/// all their new tints.
+/// Counts the rows of a part by its own reader, if it finds all pieces done; else the part stays unchanged. The planes
+/// have the new tints of the whole page.
 fn count_by_reader(shared: &Shared, page: &Page, planes: &[Plane], part: &mut Part)
-    requires page { page.now ≡ shared.now.sheet.page.value }
+    requires page { page.now ≡ shared.now.table_key.page.value }
     requires planes { AreTrappedTo page.now planes.now (height page.now * width page.now) }
     requires seat { Seats shared.now part.old.reader }
     requires part { IsPart page.now part.old }
@@ -84,7 +83,7 @@ fn count_by_reader(shared: &Shared, page: &Page, planes: &[Plane], part: &mut Pa
     if part.done {
         return;
     }
-    if !all_done(shared, &mut part.reader) {
+    if !are_all_done(shared, &mut part.reader) {
         return;
     }
     let _fits = shared.bands();
@@ -100,8 +99,8 @@ fn count_by_reader(shared: &Shared, page: &Page, planes: &[Plane], part: &mut Pa
     part.done = true;
 }
 
-/// Counts in all parts by their own readers, in a thread for each. A part whose reader found a piece not done is left. These planes
-/// have all their new tints.
+/// Counts the rows of all parts by their own readers, each in a thread. A part whose reader found a piece not done is
+/// left uncounted. The planes have the new tints of the whole page.
 pub fn count_by_readers<R: Threads + Sync>(
     rt: &R,
     shared: &Shared,
@@ -109,7 +108,7 @@ pub fn count_by_readers<R: Threads + Sync>(
     planes: &[Plane],
     parts: &mut [Part],
 )
-    requires page { page.now ≡ shared.now.sheet.page.value }
+    requires page { page.now ≡ shared.now.table_key.page.value }
     requires planes { AreTrappedTo page.now planes.now (height page.now * width page.now) }
     requires seats { AreSeatedParts shared.now parts.old }
     requires parts { AreParts page.now parts.old }
@@ -122,7 +121,7 @@ pub fn count_by_readers<R: Threads + Sync>(
         parts,
         threads,
         &|_i: usize, part: &mut Part|
-            requires page { page.now ≡ shared.now.sheet.page.value }
+            requires page { page.now ≡ shared.now.table_key.page.value }
             requires planes { AreTrappedTo page.now planes.now (height page.now * width page.now) }
             requires seat { Seats shared.now part.now.reader }
             requires part { IsPart page.now part.now }
@@ -133,7 +132,7 @@ pub fn count_by_readers<R: Threads + Sync>(
     );
 }
 
-/// Counts in the rows of a part out of the closed table, if it is not done yet.
+/// Counts the rows of a part out of the closed table, if it is not done yet.
 fn count_left(closed: &Closed, page: &Page, planes: &[Plane], part: &mut Part)
     requires finished { IsFinished page.now closed.now }
     requires planes { AreTrappedTo page.now planes.now (height page.now * width page.now) }
@@ -158,7 +157,8 @@ fn count_left(closed: &Closed, page: &Page, planes: &[Plane], part: &mut Part)
     part.done = true;
 }
 
-/// Counts out of the closed table in the parts that are not done yet. These planes have all their new tints.
+/// Counts the rows of all parts that are not done yet out of the closed table. The planes have the new tints of the
+/// whole page.
 pub fn count_those_left(closed: &Closed, page: &Page, planes: &[Plane], parts: &mut [Part])
     requires finished { IsFinished page.now closed.now }
     requires planes { AreTrappedTo page.now planes.now (height page.now * width page.now) }
@@ -171,7 +171,7 @@ pub fn count_those_left(closed: &Closed, page: &Page, planes: &[Plane], parts: &
     }
 }
 
-/// Adds what is counted in the next part to the outcome.
+/// Adds the counts of the next part to the result.
 fn add_part(outcome: &mut Outcome, page: &Page, part: &Part)
     requires plates { HasPlates page.now part.now.rows.first outcome.old }
     requires part { IsCounted page.now part.now }
@@ -188,7 +188,7 @@ fn add_part(outcome: &mut Outcome, page: &Page, part: &Part)
     );
 }
 
-/// Adds what is counted in all parts of the page to the outcome.
+/// Adds the counts of all parts of the page to the result.
 pub fn add_parts(outcome: &mut Outcome, page: &Page, parts: &[Part])
     requires plates { HasPlates page.now 0 outcome.old }
     requires parts { AreCountedParts page.now parts.now }

@@ -1,8 +1,8 @@
-// The plates of the result, each read out of a table's cells: by the reader of each, side by side with the others, or from the
-// closed table.
+// The plates of the result, each read out of a table's cells: by a reader of its own, side by side with the others, or
+// from the closed table.
 ghost use Rattle.std.specs.Prelude.{◌≡◌, ℕ, ◌+◌, ◌*◌, ◌<◌, ◌≤◌, [], length, slice_index_or, vec_capacity, false, true};
 ghost use Rattle.band_claims.specs.Seating.{Seats};
-ghost use Rattle.band_claims.specs.Sheets.{IsFit};
+ghost use Rattle.band_claims.specs.TableKeys.{IsFit};
 ghost use Rattle.band_pieces.specs.Finished.{IsFinished};
 ghost use Rattle.lists.specs.Words.{count_below};
 ghost use Rattle.page_model.specs.Bands.{pieces_of};
@@ -12,9 +12,10 @@ ghost use Rattle.page_tally.specs.Standing.{IsPlateRow, KeepsRoom};
 ghost use Rattle.page_tally.specs.Tallies.{HasPlates, HasTallies};
 ghost use Rattle.trap_engine.specs.Memory.{KeepsWorks};
 ghost use Rattle.trap_engine.specs.Taking.{ArePlateWorks, AreSeatedWorks, AreTakenPlates, HasTaken, IsPlateWork, IsTakenPlate};
+ghost use Rattle.page_model.specs.Limits.{most_plates};
 
 use band_claims::{Closed, Reader, Shared};
-use band_pieces::{CellSource, all_done, read_plate};
+use band_pieces::{CellSource, are_all_done, read_plate};
 use lists::list::List;
 use page_model::page::Page;
 use page_model::parts::Plane;
@@ -24,8 +25,9 @@ use row_values::tints_of_row;
 use std::thread;
 use std::thread::Threads;
 
-/// What a plate of the result is taken with: a seat of its own to read by, room for a row, and room for all tints. Until it is
-/// `done` there are none; then they are the new ones, and `changed` tells how many are not the page's own.
+/// What a plate of the result is read with: a reader of its own, a buffer for a row, and the list of its tints. The
+/// list is empty until `done`; then it has the new tints, and `changed` is the number of those that differ from the
+/// page's.
 #[derive(Drop)]
 pub struct PlateWork {
     pub reader: Reader,
@@ -35,7 +37,8 @@ pub struct PlateWork {
     pub done: bool,
 }
 
-/// Adds the new tints of plate c in row y to those of the rows above it, and tells how many are not the page's own.
+/// Appends the new tints of plate c in row y to those of the rows above it, and returns how many differ from the
+/// page's.
 fn add_row(page: &Page, y: u32, c: u32, row: &[u16], tints: &mut Vec<u16>) -> u64
     requires line { y < height page.now }
     requires plate { c < plates page.now }
@@ -54,7 +57,8 @@ fn add_row(page: &Page, y: u32, c: u32, row: &[u16], tints: &mut Vec<u16>) -> u6
     differences(tints_of_row(page, c, y), row)
 }
 
-/// Takes plate c out of the cells of a table whose pieces are done, row by row, and tells how many of its samples change.
+/// Reads plate c out of the cells of a table whose pieces are done, row by row, and returns how many of its samples
+/// change.
 fn take_plate<S, C: CellSource<S>>(
     source: &C,
     seat: &mut S,
@@ -64,9 +68,9 @@ fn take_plate<S, C: CellSource<S>>(
     row: &mut [u16],
     tints: &mut Vec<u16>,
 ) -> u64
-    requires page { page.now ≡ (C.sheet source.now seat.old).page.value }
-    requires layout { layout.now ≡ (C.sheet source.now seat.old).layout }
-    requires fit { IsFit (C.sheet source.now seat.old) }
+    requires page { page.now ≡ (C.table_key source.now seat.old).page.value }
+    requires layout { layout.now ≡ (C.table_key source.now seat.old).layout }
+    requires fit { IsFit (C.table_key source.now seat.old) }
     requires known { (i : ℕ) → i < pieces_of layout.now.bands → C.knows source.now seat.old i }
     requires plate { c < plates page.now }
     requires row { length row.old ≡ width page.now }
@@ -85,9 +89,9 @@ fn take_plate<S, C: CellSource<S>>(
     changed
 }
 
-/// Takes plate c by the work's own reader, if it finds all pieces done; else the work stays as it is.
+/// Reads plate c by its own reader, if it finds all pieces done; else the work stays unchanged.
 fn take_by_reader(shared: &Shared, page: &Page, c: u32, work: &mut PlateWork)
-    requires page { page.now ≡ shared.now.sheet.page.value }
+    requires page { page.now ≡ shared.now.table_key.page.value }
     requires plate { c < plates page.now }
     requires seat { Seats shared.now work.old.reader }
     requires work { IsPlateWork page.now c work.old }
@@ -97,7 +101,7 @@ fn take_by_reader(shared: &Shared, page: &Page, c: u32, work: &mut PlateWork)
     if work.done {
         return;
     }
-    if !all_done(shared, &mut work.reader) {
+    if !are_all_done(shared, &mut work.reader) {
         return;
     }
     let _fits = shared.bands();
@@ -113,7 +117,8 @@ fn take_by_reader(shared: &Shared, page: &Page, c: u32, work: &mut PlateWork)
     work.done = true;
 }
 
-/// Takes all plates by their own readers, in so many threads. A plate whose reader found a piece not done is left.
+/// Reads all plates by their own readers, on `threads` threads. A plate whose reader found a piece not done is left
+/// out.
 pub fn take_by_readers<R: Threads + Sync>(
     rt: &R,
     shared: &Shared,
@@ -121,7 +126,7 @@ pub fn take_by_readers<R: Threads + Sync>(
     threads: usize,
     works: &mut [PlateWork],
 )
-    requires page { page.now ≡ shared.now.sheet.page.value }
+    requires page { page.now ≡ shared.now.table_key.page.value }
     requires some { 1 ≤ threads }
     requires seats { AreSeatedWorks shared.now works.old }
     requires works { ArePlateWorks page.now works.old }
@@ -134,9 +139,9 @@ pub fn take_by_readers<R: Threads + Sync>(
         works,
         threads,
         &|c: usize, work: &mut PlateWork|
-            requires page { page.now ≡ shared.now.sheet.page.value }
+            requires page { page.now ≡ shared.now.table_key.page.value }
             requires plate { c < plates page.now }
-            requires few { plates page.now ≤ 16 }
+            requires few { plates page.now ≤ most_plates }
             requires seat { Seats shared.now work.now.reader }
             requires work { IsPlateWork page.now c work.now }
             ensures work { IsPlateWork page.entry.now c work.exit.now }
@@ -145,7 +150,7 @@ pub fn take_by_readers<R: Threads + Sync>(
     );
 }
 
-/// Whether all plates are taken.
+/// Whether all plates were read.
 pub fn are_taken(works: &[PlateWork]) -> bool
     ensures all { result ≡ true → (c : ℕ) (d : PlateWork) → c < length works.now
         → (slice_index_or works.now c d).done ≡ true }
@@ -155,7 +160,7 @@ pub fn are_taken(works: &[PlateWork]) -> bool
     works.iter().all(|work| work.done)
 }
 
-/// Takes plate c out of the closed table, if it is not taken yet.
+/// Reads plate c out of the closed table, if it was not read yet.
 fn take_left(closed: &Closed, page: &Page, c: u32, work: &mut PlateWork)
     requires finished { IsFinished page.now closed.now }
     requires plate { c < plates page.now }
@@ -179,7 +184,7 @@ fn take_left(closed: &Closed, page: &Page, c: u32, work: &mut PlateWork)
     work.done = true;
 }
 
-/// Takes out of the closed table the plates that are not taken yet.
+/// Reads the plates that were not read yet out of the closed table.
 pub fn take_those_left(closed: &Closed, page: &Page, works: &mut [PlateWork])
     requires finished { IsFinished page.now closed.now }
     requires works { ArePlateWorks page.now works.old }
@@ -191,7 +196,7 @@ pub fn take_those_left(closed: &Closed, page: &Page, works: &mut [PlateWork])
     }
 }
 
-/// Puts the plates, which are all taken, into the outcome, and how many samples of each change.
+/// Moves the plates, which were all read, into the result, with the number of samples of each that change.
 pub fn put_works(outcome: &mut Outcome, page: &Page, works: Vec<PlateWork>)
     requires counted { HasTallies page.now 0 outcome.old }
     requires works { AreTakenPlates page.now works.items }

@@ -14,7 +14,7 @@ use crate::plates::PlateWork;
 use band_claims::{Pass, Reader, Shared};
 use band_pieces::Scratch;
 use lists::list::List;
-use lists::memory::{filled, no_counts, push};
+use lists::memory::{no_counts, push, vec_of};
 use page_model::bands::Bands;
 use page_model::page::Page;
 use page_model::parts::{OutOfMemory, Plane, PlaneList};
@@ -23,16 +23,16 @@ use row_cells::layout::Layout;
 use std::alloc::Global;
 use std::marker::Model;
 
-/// All the memory that trapping a page by workers takes: the shared table, the memory of each worker, the planes of
-/// the result and the counts. Contracts see the page that it was made for, the layout of its cells, how many workers it
-/// has memory for, and in how many parts the page's rows are counted, each in a thread.
+/// All the memory that trapping a page by workers takes: the shared table, the memory of each worker, the planes of the
+/// result and the counts. Contracts see the page that it was made for, the layout of its cells, the number of workers
+/// that it has memory for, and the number of parts in which the page's rows are counted, each in a thread.
 #[derive(Drop)]
 pub struct TrapRoom {
     pub(crate) shared: Shared,
     pub(crate) pass: Pass,
     pub(crate) scratches: Vec<Scratch>,
     // of the caller, for what the workers leave
-    pub(crate) spare: Scratch,
+    pub(crate) alone_scratch: Scratch,
     // one for each plate
     pub(crate) works: Vec<PlateWork>,
     // the page's rows, one part for each worker at most
@@ -47,17 +47,17 @@ impl Model for TrapRoom {
     ghost Value = { RoomView };
 
     ghost view = { λ r. record {
-      page = record { value = r.shared.sheet.page.value };
-      layout = r.shared.sheet.layout;
+      page = record { value = r.shared.table_key.page.value };
+      layout = r.shared.table_key.layout;
       workers = length r.scratches.items;
       parts = length r.parts.items;
     } };
 
-    ghost invariant = { λ r. IsRoom r.shared r.pass r.scratches.items r.spare r.works.items
+    ghost invariant = { λ r. IsRoom r.shared r.pass r.scratches.items r.alone_scratch r.works.items
         r.parts.items r.outcome };
 }
 
-/// As many workers as are asked for, or as there are bands, if these are fewer.
+/// The number of workers: as many as are asked for, or as there are bands, if these are fewer.
 fn workers_for(bands: &Bands, workers: u32) -> u32
     requires bands { AreBands bands.now }
     requires some { 1 ≤ workers }
@@ -67,7 +67,7 @@ fn workers_for(bands: &Bands, workers: u32) -> u32
     workers.min(bands.count)
 }
 
-/// The memory of so many workers.
+/// Allocates the memory of the workers.
 fn scratches_of(
     alloc: Global,
     page: &Page,
@@ -92,7 +92,7 @@ fn scratches_of(
     Ok(scratches)
 }
 
-/// An empty plane, to stand where one is put in.
+/// An empty plane, as a placeholder.
 fn no_plane(alloc: Global) -> Plane {
     Plane {
         width: 0,
@@ -102,8 +102,8 @@ fn no_plane(alloc: Global) -> Plane {
     }
 }
 
-/// Room for the tints of a plate, of which there are none. Nothing is written into it, so that its memory is first touched where
-/// the plate is taken.
+/// Allocates an empty list with the capacity for the tints of a plate. Nothing is written to it, so that its memory is
+/// first touched by the thread that reads the plate.
 fn no_tints(alloc: Global, page: &Page) -> Result<Vec<u16>, OutOfMemory>
     ensures none { IfOk result (λ tints. tints.items ≡ []) }
     ensures room { IfOk result (λ tints. samples page.now ≤ vec_capacity tints) }
@@ -115,7 +115,7 @@ fn no_tints(alloc: Global, page: &Page) -> Result<Vec<u16>, OutOfMemory>
     }
 }
 
-/// What a plate is taken with.
+/// What a plate is read with.
 fn work_of(alloc: Global, page: &Page, reader: Reader) -> Result<PlateWork, OutOfMemory>
     ensures row { IfOk result (λ work. length work.row.items ≡ width page.now) }
     ensures reader { IfOk result (λ work. work.reader ≡ reader) }
@@ -125,14 +125,14 @@ fn work_of(alloc: Global, page: &Page, reader: Reader) -> Result<PlateWork, OutO
 {
     Ok(PlateWork {
         reader,
-        row: filled(alloc, 0u16, page.width() as usize)?,
+        row: vec_of(alloc, 0u16, page.width() as usize)?,
         tints: no_tints(alloc, page)?,
         changed: 0,
         done: false,
     })
 }
 
-/// What each plate is taken with. A reader for each is split off.
+/// What each plate is read with. A reader is split off for each.
 fn works_of(
     alloc: Global,
     page: &Page,
@@ -153,7 +153,7 @@ fn works_of(
     Ok(works.into_vec())
 }
 
-/// Empty planes, to stand where those of the plates are put in.
+/// Empty planes, as placeholders for those of the plates.
 fn no_planes(alloc: Global, count: u32) -> Result<PlaneList, OutOfMemory>
     ensures { IfOk result (λ planes. length planes ≡ count) }
 {
@@ -164,7 +164,7 @@ fn no_planes(alloc: Global, count: u32) -> Result<PlaneList, OutOfMemory>
     Ok(planes)
 }
 
-/// An outcome with no row of the page taken in, into which the planes are to be put.
+/// A result with no row of the page added, whose planes are set later.
 fn no_outcome(alloc: Global, page: &Page) -> Result<Outcome, OutOfMemory>
     ensures { IfOk result (HasTallies page.now 0) }
 {
@@ -175,13 +175,13 @@ fn no_outcome(alloc: Global, page: &Page) -> Result<Outcome, OutOfMemory>
         zone_changed: no_counts(alloc, zones)?,
         plate_changed: no_counts(alloc, page.plates() as usize)?,
         edges: 0,
-        changes: filled(alloc, false, page.width() as usize)?,
+        changes: vec_of(alloc, false, page.width() as usize)?,
     })
 }
 
 impl TrapRoom {
-    /// The room for trapping this page by so many workers, in bands of so many rows. As many workers are used as there
-    /// are bands, if these are fewer.
+    /// Allocates the memory for trapping this page by `workers` workers, in bands of `band` rows. If there are fewer
+    /// bands than workers, as many workers as bands are used.
     pub fn new(alloc: Global, page: &Page, workers: u32, band: u32) -> Result<TrapRoom, OutOfMemory>
         requires some_workers { 1 ≤ workers }
         requires few_workers { workers ≤ most_workers }
@@ -203,7 +203,7 @@ impl TrapRoom {
             shared,
             pass,
             scratches: scratches_of(alloc, page, &bands, count as usize)?,
-            spare: Scratch::new(alloc, page, &bands)?,
+            alone_scratch: Scratch::new(alloc, page, &bands)?,
             works,
             parts,
             outcome: no_outcome(alloc, page)?,

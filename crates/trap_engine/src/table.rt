@@ -1,4 +1,4 @@
-// The page by workers at the shared table: they make its pieces, and what comes of it is read out of the table's cells.
+// The page by workers at the shared table: they make its pieces, and the result is read out of the table's cells.
 ghost use Rattle.std.specs.Prelude.{◌≡◌, ◌≤◌, IfNone, IfOk, IfSome};
 ghost use Rattle.band_pieces.specs.Finished.{IsFinished};
 ghost use Rattle.page_model.specs.Counts.{page_counts};
@@ -24,8 +24,8 @@ use page_tally::{Outcome, Trapped};
 use std::alloc::Global;
 use std::thread::Threads;
 
-/// Takes the plates by their own readers, in so many threads, and where that took all of them, puts them into the outcome and
-/// counts in the parts by theirs. It gives the works where some plate is left.
+/// Reads all plates by their own readers, side by side, and then counts the parts by theirs. If some plate was left
+/// out, it only returns the plates.
 fn take_side_by_side<R: Threads + Sync>(
     rt: &R,
     shared: &Shared,
@@ -34,7 +34,7 @@ fn take_side_by_side<R: Threads + Sync>(
     parts: &mut [Part],
     outcome: &mut Outcome,
 ) -> Option<Vec<PlateWork>>
-    requires page { page.now ≡ shared.now.sheet.page.value }
+    requires page { page.now ≡ shared.now.table_key.page.value }
     requires seats { AreSeatedWorks shared.now works.items }
     requires works { ArePlateWorks page.now works.items }
     requires part_seats { AreSeatedParts shared.now parts.old }
@@ -58,7 +58,7 @@ fn take_side_by_side<R: Threads + Sync>(
     None
 }
 
-/// Takes out of the closed table what is left, and gives the outcome of the whole page.
+/// Reads what is left out of the closed table, and returns the result of the whole page.
 fn take_rest(
     closed: &Closed,
     page: &Page,
@@ -83,9 +83,9 @@ fn take_rest(
     add_parts(outcome, page, parts);
 }
 
-/// Traps the page that the room was made for, by the workers that it has memory for. It takes no memory, refuses
-/// nothing, and waits for its own workers alone. It gives every plate's new tints and the counts of the whole page, and
-/// with them, as a receipt, the closed table that they were read out of.
+/// Traps the page that the memory was made for, by the workers that it is for. It allocates nothing, can't fail, and
+/// waits only for its own workers. It returns the new tints of every plate and the counts of the whole page, and with
+/// them, as a receipt, the closed table that they were read out of.
 pub fn trap_in<R: Threads + Sync, G: Gate + Sync>(
     rt: &R,
     room: TrapRoom,
@@ -101,7 +101,7 @@ pub fn trap_in<R: Threads + Sync, G: Gate + Sync>(
         shared,
         pass,
         mut scratches,
-        mut spare,
+        mut alone_scratch,
         works,
         mut parts,
         mut outcome,
@@ -112,14 +112,15 @@ pub fn trap_in<R: Threads + Sync, G: Gate + Sync>(
     } else {
         Some(works)
     };
-    let closed = finish_table(shared, pass, page, &mut spare);
+    let closed = finish_table(shared, pass, page, &mut alone_scratch);
     take_rest(&closed, page, left, &mut parts, &mut outcome);
     (outcome.into_trapped(page), closed)
 }
 
-/// Traps a page by so many workers at a shared table, in bands of so many rows: every plate's new tints, the counts of
-/// the whole page, and the closed table as a receipt. As many workers are used as there are bands, if these are fewer.
-/// All memory is taken before the first claim, and want of it is the only refusal.
+/// Traps a page by `workers` workers at a shared table, in bands of `band` rows. It returns the new tints of every
+/// plate, the counts of the whole page, and the closed table as a receipt. If there are fewer bands than workers, as
+/// many workers as bands are used. All memory is allocated before the first claim, and it fails only where memory runs
+/// out.
 pub fn trap_page<R: Threads + Sync, G: Gate + Sync>(
     rt: &R,
     alloc: Global,

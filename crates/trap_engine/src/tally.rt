@@ -1,6 +1,6 @@
-// What is counted in rows that are read out of a table's cells, beside the planes that were taken out of it.
+// The counts of rows that are read out of a table's cells, beside the planes that were read out of it.
 ghost use Rattle.std.specs.Prelude.{◌≡◌, ℕ, ◌+◌, ◌*◌, ◌<◌, ◌≤◌, IfOk};
-ghost use Rattle.band_claims.specs.Sheets.{IsFit};
+ghost use Rattle.band_claims.specs.TableKeys.{IsFit};
 ghost use Rattle.page_model.specs.Bands.{pieces_of};
 ghost use Rattle.page_model.specs.Page.{height, width};
 ghost use Rattle.page_model.specs.Zones.{AreZones};
@@ -9,15 +9,15 @@ ghost use Rattle.trap_engine.specs.Memory.{KeepsTally};
 ghost use Rattle.trap_engine.specs.Taking.{HasCounted};
 
 use band_pieces::{CellSource, read_marks, read_zones};
-use lists::memory::{filled, no_counts};
+use lists::memory::{no_counts, vec_of};
 use page_model::page::Page;
 use page_model::parts::{OutOfMemory, Plane};
-use page_tally::{count_changed, count_zones, edges_in, note_taken};
+use page_tally::{count_changed, count_zones, edges_in, note_changes};
 use row_cells::layout::Layout;
 use row_values::Rows;
 use std::alloc::Global;
 
-/// What is counted in rows, and room for the zones and marks of a row and for where it changes.
+/// The counts of some rows, with buffers for the zones, the marks and the changes of a row.
 #[derive(Drop)]
 pub struct Tally {
     pub zones: Vec<u8>,
@@ -28,23 +28,24 @@ pub struct Tally {
     pub edges: u64,
 }
 
-/// The room to count in rows, with nothing counted, from whichever row on.
+/// Allocates an empty tally: row buffers, and all counts 0.
 pub fn tally_of(alloc: Global, page: &Page) -> Result<Tally, OutOfMemory>
     ensures { IfOk result (λ tally. (first : ℕ) → HasCounted page.now first first tally) }
 {
     let width = page.width() as usize;
     let zones = page.zones() as usize;
     Ok(Tally {
-        zones: filled(alloc, 0u8, width)?,
-        marks: filled(alloc, 0u8, width)?,
-        changes: filled(alloc, false, width)?,
+        zones: vec_of(alloc, 0u8, width)?,
+        marks: vec_of(alloc, 0u8, width)?,
+        changes: vec_of(alloc, false, width)?,
         zone_samples: no_counts(alloc, zones)?,
         zone_changed: no_counts(alloc, zones)?,
         edges: 0,
     })
 }
 
-/// Counts in row y, whose zones and marks are at hand, beside what is counted of the rows from `first` on.
+/// Adds the counts of row y, whose zones and marks are in the buffers. `first` is the first of the rows that are
+/// counted.
 fn count_row(page: &Page, planes: &[Plane], first: u32, y: u32, tally: &mut Tally)
     requires planes { AreTrappedTo page.now planes.now (height page.now * width page.now) }
     requires line { y < height page.now }
@@ -57,7 +58,7 @@ fn count_row(page: &Page, planes: &[Plane], first: u32, y: u32, tally: &mut Tall
     let _valid = page.plates();
     tally.edges += edges_in(&tally.marks);
     count_zones(page, &tally.zones, first, y, &mut tally.zone_samples);
-    note_taken(page, planes, y, &mut tally.changes);
+    note_changes(page, planes, y, &mut tally.changes);
     count_changed(
         page,
         &tally.zones,
@@ -68,7 +69,7 @@ fn count_row(page: &Page, planes: &[Plane], first: u32, y: u32, tally: &mut Tall
     );
 }
 
-/// Counts in row y, out of the cells of a table whose pieces are done.
+/// Adds the counts of row y, out of the cells of a table whose pieces are done.
 fn take_row<S, C: CellSource<S>>(
     source: &C,
     seat: &mut S,
@@ -79,9 +80,9 @@ fn take_row<S, C: CellSource<S>>(
     y: u32,
     tally: &mut Tally,
 )
-    requires page { page.now ≡ (C.sheet source.now seat.old).page.value }
-    requires layout { layout.now ≡ (C.sheet source.now seat.old).layout }
-    requires fit { IsFit (C.sheet source.now seat.old) }
+    requires page { page.now ≡ (C.table_key source.now seat.old).page.value }
+    requires layout { layout.now ≡ (C.table_key source.now seat.old).layout }
+    requires fit { IsFit (C.table_key source.now seat.old) }
     requires known { (i : ℕ) → i < pieces_of layout.now.bands → C.knows source.now seat.old i }
     requires planes { AreTrappedTo page.now planes.now (height page.now * width page.now) }
     requires line { y < height page.now }
@@ -96,7 +97,7 @@ fn take_row<S, C: CellSource<S>>(
     count_row(page, planes, first, y, tally);
 }
 
-/// Counts in these rows, out of the cells of a table whose pieces are done.
+/// Adds the counts of these rows, out of the cells of a table whose pieces are done.
 pub fn take_rows<S, C: CellSource<S>>(
     source: &C,
     seat: &mut S,
@@ -106,9 +107,9 @@ pub fn take_rows<S, C: CellSource<S>>(
     rows: Rows,
     tally: &mut Tally,
 )
-    requires page { page.now ≡ (C.sheet source.now seat.old).page.value }
-    requires layout { layout.now ≡ (C.sheet source.now seat.old).layout }
-    requires fit { IsFit (C.sheet source.now seat.old) }
+    requires page { page.now ≡ (C.table_key source.now seat.old).page.value }
+    requires layout { layout.now ≡ (C.table_key source.now seat.old).layout }
+    requires fit { IsFit (C.table_key source.now seat.old) }
     requires known { (i : ℕ) → i < pieces_of layout.now.bands → C.knows source.now seat.old i }
     requires planes { AreTrappedTo page.now planes.now (height page.now * width page.now) }
     requires inside { rows.first + rows.count ≤ height page.now }

@@ -9,7 +9,7 @@ use Rattle.ps_tokens.specs.declared.object.Body.TheVariants.{Number, Truth, Null
 use Rattle.ps_tokens.specs.declared.object.Body.TheVariants.{Operator, Array, Dict}
 use Rattle.ps_tokens.specs.declared.object.Object.{Object}
 use Rattle.ps_tokens.specs.Dictionaries.{last_of}
-use Rattle.ps_tokens.specs.declared.misfits.Misfit.{Misfit}
+use Rattle.ps_tokens.specs.declared.entry_errors.EntryError.{EntryError}
 use Rattle.ps_tokens.specs.Values.{by_body, value_at}
 use Rattle.ps_tokens.specs.Parameters.{name_of, least_of, most_of}
 
@@ -42,11 +42,11 @@ boolean_of key Array = Err (WrongKind key)
 boolean_of key Dict = Err (WrongKind key)
 
 -- a number after a dictionary
-unfoldable pub number_after : List Object → ℕ → Key → ℕ → Result ℕ Misfit
+unfoldable pub number_after : List Object → ℕ → Key → ℕ → Result ℕ EntryError
 number_after objects dict key now =
     value_at (by_body (number_of key)) objects now (last_of objects dict (name_of key))
 
 -- a boolean after a dictionary
-unfoldable pub boolean_after : List Object → ℕ → Key → Bool → Result Bool Misfit
+unfoldable pub boolean_after : List Object → ℕ → Key → Bool → Result Bool EntryError
 boolean_after objects dict key now =
     value_at (by_body (boolean_of key)) objects now (last_of objects dict (name_of key))

@@ -1,24 +1,22 @@
 ghost use Rattle.std.specs.Prelude.{◌≡◌, ◌++◌, ◌∷◌, [], IfOk, OnOk};
 ghost use Rattle.ps_tokens.specs.Tokens.{Gives};
 ghost use Rattle.ps_tokens.specs.Dictionaries.{AreObjects, last_keys_of};
-ghost use Rattle.ps_tokens.specs.Misfits.{unless};
-ghost use Rattle.trap_params.specs.Limits.{AscendByName, step_by, step_in, step_of, limit_if_short, limits_of, first_misfit, limits_after};
+ghost use Rattle.ps_tokens.specs.EntryErrors.{unless};
+ghost use Rattle.trap_params.specs.Limits.{AscendByName, step_by, step_in, step_of, limit_if_short, limits_of, first_error, limits_after};
 
 use crate::settings::number_of;
 use lists::list::List;
-use lists::names::copied;
+use lists::names::copy_name;
+use page_model::bounds::LONGEST_NAME;
 use page_model::parts::{Limit, LimitList, OutOfMemory};
 use ps_tokens::dictionary::count;
+use ps_tokens::entry_errors::{EntryError, at_key, at_place, earlier};
 use ps_tokens::faults::{FaultKind, JobFault, JobRefusal};
-use ps_tokens::misfits::{Misfit, at_key, earlier, judged_at};
 use ps_tokens::names::{last_keys, name_at};
 use ps_tokens::object::{Body, ObjectList};
 use ps_tokens::parameters::Key;
 use ps_tokens::{last, last_value};
 use std::alloc::Global;
-
-/// How many bytes a name may have whose limit is kept.
-pub const LONGEST_NAME: usize = 64;
 
 /// The step limits after the dictionary at a place: those of its last ColorantZoneDetails entry, in ascending byte order
 /// of the names, or a copy of `now` where it has none (this project's own).
@@ -59,14 +57,14 @@ pub fn zone_limits(
 fn limits_in(alloc: Global, objects: &ObjectList, place: u32) -> Result<LimitList, JobRefusal>
     requires { AreObjects objects.now }
     ensures { let keys = last_keys_of objects.now place in
-        Gives result (unless (first_misfit objects.now keys) (limits_of objects.now keys)) }
+        Gives result (unless (first_error objects.now keys) (limits_of objects.now keys)) }
 {
     let keys = match last_keys(alloc, objects, place) {
         Ok(keys) => keys,
         Err(OutOfMemory) => return Err(JobRefusal::OutOfMemory),
     };
-    match first_misfit(objects, &keys) {
-        Some(misfit) => Err(JobRefusal::Fault(misfit.fault)),
+    match first_error(objects, &keys) {
+        Some(error) => Err(JobRefusal::Fault(error.fault)),
         None => match limits_of(alloc, objects, &keys) {
             Ok(limits) => Ok(List::from_vec(limits)),
             Err(OutOfMemory) => Err(JobRefusal::OutOfMemory),
@@ -75,9 +73,9 @@ fn limits_in(alloc: Global, objects: &ObjectList, place: u32) -> Result<LimitLis
 }
 
 // Of the faults of these keys the one that stands first.
-fn first_misfit(objects: &ObjectList, keys: &[u32]) -> Option<Misfit>
+fn first_error(objects: &ObjectList, keys: &[u32]) -> Option<EntryError>
     requires { AreObjects objects.now }
-    ensures { result ≡ first_misfit objects.now keys.now }
+    ensures { result ≡ first_error objects.now keys.now }
 {
     let mut first = None;
     for key in keys {
@@ -107,7 +105,7 @@ fn keep(
     alloc: Global,
     limits: &mut Vec<Limit>,
     name: &[u8],
-    step: Result<Option<u32>, Misfit>,
+    step: Result<Option<u32>, EntryError>,
 ) -> Result<(), OutOfMemory>
     ensures { OnOk result (limits.new.items ≡ limits.old.items ++ limit_if_short name.now step) }
 {
@@ -134,7 +132,7 @@ fn put_limit(
     ensures { OnOk result
         (limits.new.items ≡ limits.old.items ++ record { name = name.now; step = step } ∷ []) }
 {
-    let name = match copied(alloc, name) {
+    let name = match copy_name(alloc, name) {
         Ok(name) => name,
         Err(OutOfMemory) => return Err(OutOfMemory),
     };
@@ -146,7 +144,7 @@ fn put_limit(
 
 // The step that the entry of a colorant's key names, none where it has no StepLimit.
 #[tactic(auto, unfolding(crate::specs::Limits::step_of))]
-fn step_of(objects: &ObjectList, key: u32) -> Result<Option<u32>, Misfit>
+fn step_of(objects: &ObjectList, key: u32) -> Result<Option<u32>, EntryError>
     requires { AreObjects objects.now }
     ensures { result ≡ step_of objects.now key }
 {
@@ -158,7 +156,7 @@ fn step_of(objects: &ObjectList, key: u32) -> Result<Option<u32>, Misfit>
             if object.body.is_dict() {
                 at_key(key, step_in(objects, key + 1))
             } else {
-                judged_at(key, object.at, Err(FaultKind::NotDictionary))
+                at_place(key, object.at, Err(FaultKind::NotDictionary))
             }
         }
         None => Ok(None),
@@ -166,12 +164,12 @@ fn step_of(objects: &ObjectList, key: u32) -> Result<Option<u32>, Misfit>
 }
 
 // The step that a colorant's dictionary names, if it names one.
-fn step_in(objects: &ObjectList, dict: u32) -> Result<Option<u32>, Misfit>
+fn step_in(objects: &ObjectList, dict: u32) -> Result<Option<u32>, EntryError>
     requires { AreObjects objects.now }
     ensures { result ≡ step_in objects.now dict }
 {
     match last_value(objects, dict, b"StepLimit") {
-        Some((place, object)) => judged_at(place, object.at, step_by(&object.body)),
+        Some((place, object)) => at_place(place, object.at, step_by(&object.body)),
         None => Ok(None),
     }
 }

@@ -2,9 +2,9 @@ ghost use Rattle.std.specs.Prelude.{◌≡◌, ◌≤◌, ◌<◌, ◌^◌, IfOk
 ghost use Rattle.ps_tokens.specs.Dictionaries.{AreObjects};
 ghost use Rattle.trap_params.specs.Settings.{in_range, number_of, boolean_of, number_after, boolean_after};
 
+use ps_tokens::entry_errors::{EntryError, at_place};
 use ps_tokens::faults::FaultKind;
 use ps_tokens::last_value;
-use ps_tokens::misfits::{Misfit, judged_at};
 use ps_tokens::object::{Body, ObjectList};
 use ps_tokens::parameters::Key;
 
@@ -20,7 +20,7 @@ fn in_range(key: Key, number: i64) -> Result<u32, FaultKind>
     }
 }
 
-/// The number that a value sets.
+/// The number that a parameter's value is, in ten-thousandths, or its fault: `WrongKind` or `OutOfRange`.
 pub fn number_of(key: Key, value: &Body) -> Result<u32, FaultKind>
     ensures { result ≡ number_of key value.now }
 {
@@ -40,26 +40,33 @@ fn boolean_of(key: Key, value: &Body) -> Result<bool, FaultKind>
     }
 }
 
-/// A number after a dictionary: that of the last entry of its key, or the one now.
+/// A parameter's number after the dictionary at `dict`: that of the last entry of its key, or `now` where there is no
+/// entry.
 #[tactic(auto, unfolding(crate::specs::Settings::number_after))]
-pub fn number_after(objects: &ObjectList, dict: u32, key: Key, now: u32) -> Result<u32, Misfit>
+pub fn number_after(objects: &ObjectList, dict: u32, key: Key, now: u32) -> Result<u32, EntryError>
     requires { AreObjects objects.now }
     ensures { result ≡ number_after objects.now dict key now }
 {
     match last_value(objects, dict, key.name()) {
-        Some((place, object)) => judged_at(place, object.at, number_of(key, &object.body)),
+        Some((place, object)) => at_place(place, object.at, number_of(key, &object.body)),
         None => Ok(now),
     }
 }
 
-/// A boolean after a dictionary: that of the last entry of its key, or the one now.
+/// A parameter's boolean after the dictionary at `dict`: that of the last entry of its key, or `now` where there is no
+/// entry.
 #[tactic(auto, unfolding(crate::specs::Settings::boolean_after))]
-pub fn boolean_after(objects: &ObjectList, dict: u32, key: Key, now: bool) -> Result<bool, Misfit>
+pub fn boolean_after(
+    objects: &ObjectList,
+    dict: u32,
+    key: Key,
+    now: bool,
+) -> Result<bool, EntryError>
     requires { AreObjects objects.now }
     ensures { result ≡ boolean_after objects.now dict key now }
 {
     match last_value(objects, dict, key.name()) {
-        Some((place, object)) => judged_at(place, object.at, boolean_of(key, &object.body)),
+        Some((place, object)) => at_place(place, object.at, boolean_of(key, &object.body)),
         None => Ok(now),
     }
 }

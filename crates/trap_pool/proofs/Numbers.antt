@@ -5,15 +5,9 @@ use native.Mathlib.Decide.{ℕ_discrete}
 use Rattle.line_queue.specs.Rule.{Ascends, IsAbove, times}
 use Rattle.line_queue.proofs.Keeps.{here, there}
 
-pub no_number : (n : ℕ) → IsAbove n []
-no_number n x some = absurd (omega arith)
-
 times_after : (x : ℕ) (xs : List ℕ) (n : ℕ) → times x (xs ++ n ∷ []) ≡ times x xs + times x (n ∷ [])
 times_after x [] n = omega arith
 times_after x (y ∷ ys) n = let later = times_after x ys n in omega arith
-
-above_one : (n x : ℕ) → 0 < times x (n ∷ []) → x ≡ n
-above_one n x some = dite (ℕ_discrete n x) (λ same. sym same) (λ other. absurd (let none = there n x [] other in omega arith))
 
 -- what is above all and one more number
 pub above_both : (xs : List ℕ) (n m : ℕ) → IsAbove n xs → n < m → IsAbove m (xs ++ n ∷ [])
@@ -23,9 +17,6 @@ above_both xs n m above less x some =
     let none = there n x [] (λ e. other (sym e)) in
     let before : x < n = above x (omega arith) in
     omega arith)
-
-pub above_more : (xs : List ℕ) (n m : ℕ) → IsAbove n xs → n < m → IsAbove m xs
-above_more xs n m above less x some = let before = above x some in omega arith
 
 pub ascends_more : (xs : List ℕ) (n : ℕ) → Ascends xs → IsAbove n xs → Ascends (xs ++ n ∷ [])
 ascends_more [] n up above = (λ y some. absurd (omega arith), tt)

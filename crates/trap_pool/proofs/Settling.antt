@@ -1,8 +1,5 @@
 -- Replies whose accepted pages are done one after another.
-use Rattle.std.proofs.Common.{◌≡◌, ◌∙◌, ℕ, suc, ◌+◌, ◌<◌, List, [], ◌∷◌, length, Option, Some, None, slice_set, inl, inr, refl, sym, ap, subst, arith}
-use mathlib.Core.Logic.{dite}
-use native.Mathlib.Decide.{ℕ_discrete}
-use Rattle.std.proofs.lemmas.List.{get_or-set_other, get_or-set_same, length-set}
+use Rattle.std.proofs.Common.{◌≡◌, ◌∙◌, ℕ, suc, ◌+◌, List, [], ◌∷◌, Option, Some, None, inl, inr, refl, sym, ap, subst, arith}
 use Rattle.outside.specs.Tray.{TrayState}
 use Rattle.page_gather.specs.Gathering.{Gathers}
 use Rattle.page_model.specs.declared.parts.PageParts.{PageParts}
@@ -11,9 +8,8 @@ use Rattle.page_tally.specs.declared.outcome.Trapped.{Trapped}
 use Rattle.trap_pool.specs.declared.outcome.Outcome.{Outcome}
 use Rattle.trap_pool.specs.declared.outcome.Outcome.TheVariants.{Done, Refused, TooLarge}
 use Rattle.trap_pool.specs.Pools.{AnswersLine, InTurn, KeepsLimit, source_of}
-use Rattle.trap_pool.specs.Replies.{ReplyParts, IsReply, IsTrapOf, accepted_of, gathered_of, reply_parts}
-use Rattle.trap_pool.specs.declared.traps.Traps.{Traps}
-use Rattle.trap_pool.specs.Taking.{AllSettled, Settled, Settles, SettlesBy, TrapsLine, accepted_page, no_reply, reply_at}
+use Rattle.trap_pool.specs.Replies.{ReplyParts, IsReply, IsTrapOf, accepted_of, gathered_of}
+use Rattle.trap_pool.specs.Taking.{AllSettled, Settled, Settles, accepted_page, reply_at}
 
 -- The page that was accepted is done.
 module _ (made : PageParts) (trapped : Trapped) (trap : IsTrapOf made trapped) where
@@ -77,26 +73,11 @@ settled_then a b c one two = record {
   outcome = settles_then a.page a.outcome b.outcome c.outcome one.outcome (subst (λ (p : Option PageParts). Settles p b.outcome c.outcome) one.page two.outcome);
 }
 
-pub all_same : (replies : List ReplyParts) → AllSettled replies replies
-all_same replies = record { count = refl; each = λ k here. record { line = refl; page = refl; outcome = inl refl } }
-
 pub all_then : (a b c : List ReplyParts) → AllSettled a b → AllSettled b c → AllSettled a c
 all_then a b c one two = record {
   count = two.count ∙ one.count;
   each = λ k here. settled_then (reply_at a k) (reply_at b k) (reply_at c k) (one.each k here) (two.each k (let count = one.count in omega arith));
 }
-
--- What is made of a line is made of it also when others are settled.
-pub line_kept : (a b : List ReplyParts) (line : ℕ) (traps : Traps) → AllSettled a b → TrapsLine a line traps → TrapsLine b line traps
-line_kept a b line traps all makes =
-    let one = all.each line makes.0 in (
-      let count = all.count in let here = makes.0 in omega arith,
-      (
-        makes.1.0,
-        ap (λ (p : Option PageParts). accepted_page p (reply_at b line).outcome) one.page ∙ page_kept (reply_at a line).page (reply_at a line).outcome (reply_at b line).outcome one.outcome ∙ makes.1.1,
-        makes.1.2,
-      ),
-    )
 
 -- the replies after the first
 after_first : (x y : ReplyParts) (xs ys : List ReplyParts) → AllSettled (x ∷ xs) (y ∷ ys) → AllSettled xs ys
@@ -125,26 +106,3 @@ turn_kept k u (l ∷ ls) a b (x ∷ xs) (y ∷ ys) all turn =
       answers_kept k u l a turn.0 x y first turn.1,
       subst (λ (n : ℕ). InTurn (k + 1) n ls turn.0 b ys) same (turn_kept (k + 1) (u + accepted_of x.page x.outcome) ls turn.0 b xs ys (after_first x y xs ys all) turn.2),
     )
-
--- One reply is settled.
-module _ (replies : List ReplyParts) (k : ℕ) (traps : Traps) (here : k < length replies) (by : SettlesBy (reply_at replies k) traps) where
-  abbrev pub settled_one : ReplyParts
-  settled_one = reply_parts (reply_at replies k).line (reply_at replies k).page (Done traps.trapped)
-
-  this_one : Settled (reply_at replies k) (reply_at (slice_set replies k settled_one) k)
-  this_one =
-      let is : reply_at (slice_set replies k settled_one) k ≡ settled_one = get_or-set_same replies k settled_one no_reply here in
-      subst (Settled (reply_at replies k)) (sym is) (record { line = refl; page = refl; outcome = inr (by.0, traps.trapped, by.1, refl, by.2.trap) })
-
-  other_one : (j : ℕ) → (j ≡ k → ⊥) → Settled (reply_at replies j) (reply_at (slice_set replies k settled_one) j)
-  other_one j other =
-      let is : reply_at (slice_set replies k settled_one) j ≡ reply_at replies j = get_or-set_other replies k j settled_one no_reply other in
-      subst (Settled (reply_at replies j)) (sym is) (record { line = refl; page = refl; outcome = inl refl })
-
-  pub put_one : AllSettled replies (slice_set replies k settled_one)
-  put_one = record {
-    count = length-set replies k settled_one;
-    each = λ j within. dite (ℕ_discrete j k)
-        (λ same. subst (λ (n : ℕ). Settled (reply_at replies n) (reply_at (slice_set replies k settled_one) n)) (sym same) this_one)
-        (λ other. other_one j other);
-  }

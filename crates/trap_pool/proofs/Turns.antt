@@ -1,6 +1,6 @@
 -- Lines that are gathered one after another, and what that says of each.
 use Rattle.std.proofs.Common.{◌≡◌, ◌↔◌, ◌∙◌, ℕ, suc, ◌+◌, ◌-◌, ◌^◌, ◌<◌, ◌≤◌, IsTrue, List, [], ◌∷◌, ◌++◌, length, take, get_or, Option, Some, None, Ok, Err, inl, inr, refl, sym, ap, subst, arith}
-use Rattle.std.proofs.lemmas.List.{length-take-le, take_all, take_more}
+use Rattle.std.proofs.lemmas.List.{length-take-le, take_more}
 use Rattle.outside.specs.Tray.{TrayState, KeepsTray}
 use Rattle.outside.proofs.Steps.{kept_tray}
 use Rattle.page_gather.specs.Gathering.{AnswersPage, Gathers}
@@ -12,7 +12,7 @@ use Rattle.refusals.specs.declared.refusal.Refusal.TheVariants as refusals
 use Rattle.trap_pool.specs.declared.outcome.Outcome.{Outcome}
 use Rattle.trap_pool.specs.declared.outcome.Outcome.TheVariants.{Done, Refused, TooLarge}
 use Rattle.trap_pool.specs.Pools.{AnswersLine, InTurn, IsJudged, IsReplyTo, KeepsLimit, Pools, source_of}
-use Rattle.trap_pool.specs.Replies.{ReplyParts, IsReading, IsReply, accepted, accepted_of, all_samples, gathered_of, most_in_all, read_fault, read_faults}
+use Rattle.trap_pool.specs.Replies.{ReplyParts, IsReply, accepted, accepted_of, all_samples, gathered_of, most_in_all, read_fault, read_faults}
 
 kept_same : (a : TrayState) → KeepsTray a a
 kept_same a = record { tells = refl; file = refl; faults = omega arith }
@@ -163,27 +163,6 @@ next_turn lines n u line a b c replies reply here count used item turn answers =
     let more : take (n + 1) lines ≡ take n lines ++ line ∷ [] = take_more lines n line here ∙ ap (λ (l : LineParts). take n lines ++ l ∷ []) (sym item) in
     subst (λ (l : List LineParts). InTurn 0 0 l a c (replies ++ reply ∷ [])) (sym more)
     (one_more 0 0 (take n lines) line a b c replies reply turn (moved n (0 + length (take n lines)) u (0 + accepted replies) line b c reply (omega arith) (omega arith) answers))
-
-pub all_turns : (lines : List LineParts) (n : ℕ) (a b : TrayState) (replies : List ReplyParts) → length lines ≤ n → InTurn 0 0 (take n lines) a b replies → InTurn 0 0 lines a b replies
-all_turns lines n a b replies done turn = subst (λ (l : List LineParts). InTurn 0 0 l a b replies) (take_all n lines done) turn
-
--- what the page's answer is where none was gathered
-pub is_reading : (source : Sources) (a b : TrayState) (refusal : Refusal) → AnswersPage source a b (Err refusal) → IsReading refusal
-is_reading source a b (refusals.Job fault) answer = tt
-is_reading source a b (refusals.NoDetails k) answer = tt
-is_reading source a b (refusals.Plate k fault) answer = tt
-is_reading source a b (refusals.Page fault) answer = tt
-is_reading source a b (refusals.Read file) answer = tt
-is_reading source a b refusals.Memory answer = tt
-is_reading source a b refusals.Usage answer = absurd answer
-is_reading source a b (refusals.Write file) answer = absurd answer
-
--- no more samples are accepted than may be
-pub within : (u : ℕ) (page : Option PageParts) (outcome : Outcome) → u ≤ most_in_all → KeepsLimit u page outcome → u + accepted_of page outcome ≤ most_in_all
-within u None outcome few limit = omega arith
-within u (Some page) TooLarge few limit = omega arith
-within u (Some page) (Done trapped) few limit = limit
-within u (Some page) (Refused refusal) few limit = limit
 
 -- The page of a line is gathered.
 pub page_answers : (k u : ℕ) (line : LineParts) (job : List ℕ) (names inputs : List (List ℕ)) (a b : TrayState) (page : PageParts) (reply : ReplyParts) → job ≡ line.job → names ≡ line.names → inputs ≡ line.inputs → Gathers (sources job names inputs) a b (Ok page) → reply.line ≡ k → gathered_of reply.page reply.outcome ≡ Ok page → IsReply reply.page reply.outcome → KeepsLimit u reply.page reply.outcome → AnswersLine k u line a b reply

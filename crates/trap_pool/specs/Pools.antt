@@ -22,8 +22,8 @@ source_of line = sources line.job line.names line.inputs
 abbrev pub target_of : LineParts → Targets
 target_of line = record { outputs = line.outs; report = line.report }
 
--- A page is accepted exactly where its samples, after so many of the pages before it, are not too
--- many.
+-- A page is accepted exactly where its samples, with the `used` samples of the pages before it, are
+-- not too many.
 abbrev pub KeepsLimit : ℕ → Option PageParts → Outcome → Type 0
 KeepsLimit used None outcome = Unit {0}
 KeepsLimit used (Some page) TooLarge = most_in_all < used + all_samples page
@@ -59,7 +59,7 @@ IsJudged files source (Read file) = Unit {0}
 IsJudged files source Memory = Unit {0}
 IsJudged files source refusal = IsVerdict one_page files source nowhere (refused_verdict refusal)
 
--- The reply to line k, where the accepted pages of the lines before it have so many samples.
+-- The reply to line k, where the accepted pages of the lines before it have `used` samples.
 pub record IsReplyTo (tray : TrayState) (k used : ℕ) (line : LineParts)
     (reply : ReplyParts) : Type 0 where
   pub number : reply.line ≡ k

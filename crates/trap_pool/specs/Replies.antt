@@ -5,7 +5,7 @@ use Rattle.page_model.specs.declared.parts.PageParts.{PageParts}
 use Rattle.page_model.specs.declared.parts.Plane.{Plane}
 use Rattle.page_model.specs.Conditions.{IsPlane}
 use Rattle.page_model.specs.Counts.{page_counts}
-use Rattle.page_model.specs.Limits.{most_samples}
+use Rattle.page_model.specs.Limits.{most_plates, most_samples}
 use Rattle.page_model.specs.Page.{height, plates, width}
 use Rattle.page_model.specs.Tints.{trapped_planes}
 use Rattle.page_tally.specs.declared.outcome.Trapped.{Trapped}
@@ -32,7 +32,7 @@ pub record IsTrapOf (page : PageParts) (trapped : Trapped) : Type 0 where
 -- Planes that can be written, with their report, the page's.
 pub record IsReport (page : PageParts) (planes : List Plane) (text : List ℕ) : Type 0 where
   pub text_is : text ≡ report_of page (page_counts page)
-  pub few : length planes ≤ 16
+  pub few : length planes ≤ most_plates
   pub planes_in_range : All IsPlane planes
   pub few_samples : All (λ (plane : Plane). plane.width * plane.height ≤ most_samples) planes
 

@@ -14,14 +14,14 @@ pub record IsOpen (opening : Opening) : Type 0 where
   pub few : vec_len opening.rooms < whole
   pub unused : All IsUnused opening.rooms.items
 
--- room for so many lines and their pages, in which none are yet
+-- room for `lines` lines and their pages, in which none are yet
 pub record IsRoomOf (lines : ℕ) (room : Gathering) : Type 0 where
   pub no_line : room.lines.items ≡ []
   pub line_room : lines ≤ vec_capacity room.lines
   pub no_page : room.pages.items ≡ []
   pub page_room : lines ≤ vec_capacity room.pages
 
--- room for so many lines, and for as many workers
+-- room for `lines` lines, and for as many workers as are asked for
 pub record IsRoomFor (lines workers : ℕ) (room : PoolRoom) : Type 0 where
   pub gathering : IsRoomOf lines room.gathering
   pub no_reply : room.replies.items ≡ []

@@ -1,4 +1,4 @@
-// A page at a worker's desk.
+// Trapping a page at a worker's desk.
 
 ghost use Rattle.std.specs.Prelude.{◌≡◌, IfOk, IsTrue, MatchResult};
 ghost use Rattle.page_model.specs.Counts.{page_counts};
@@ -32,7 +32,7 @@ impl Desk {
         })
     }
 
-    // A desk for the page: the one that is idle, where it serves.
+    // A desk for the page: the idle one, if it fits.
     pub(crate) fn for_page(
         alloc: Global,
         idle: Option<Desk>,
@@ -58,7 +58,7 @@ impl Desk {
             && self.zones == page.zones()
     }
 
-    // Traps a page of the desk's shape, or hands it back where there is no memory for its counts and its report.
+    // Traps a page of the desk's shape, or gives it back if there is no memory for its counts and its report.
     pub(crate) fn trap(&mut self, alloc: Global, page: Page) -> Result<Traps, Page>
         requires { desk_shape self.old ≡ shape_of page }
         ensures { MatchResult result (λ traps. IsTrapsOf page traps) (λ back. back ≡ page) }
@@ -85,7 +85,7 @@ impl Desk {
     }
 }
 
-// All that is counted of a page whose rows are all taken in.
+// The counts of a page all of whose rows were added.
 fn counts_of(alloc: Global, page: &Page, outcome: &Outcome) -> Result<Counts, OutOfMemory>
     requires { HasRows page.now (height page.now) outcome.now }
     ensures { IfOk result (λ counts. counts ≡ page_counts page.now) }

@@ -4,8 +4,8 @@ ghost use Rattle.strip_engine.specs.Rooms.{IsRoomFor};
 
 use strip_engine::PageRoom;
 
-/// The room that pages of one shape are trapped in, with that shape. The planes that are in it are those of the page before: a
-/// page's own planes stay, and its new ones go out.
+/// The buffers that pages of one shape are trapped with, and that shape. They have the planes of the page before: the
+/// planes of the page that is trapped go in, and the new ones come out.
 #[derive(Drop)]
 pub(crate) struct Desk {
     pub room: PageRoom,

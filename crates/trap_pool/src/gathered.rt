@@ -12,13 +12,13 @@ use refusals::refusal::Refusal;
 use std::marker::Model;
 use std::snapshot::Snapshot;
 
-/// A line that the pool works on: its number, the page that was gathered for it, as clauses see it, and what became of it. A page
-/// that waits to be trapped has no outcome yet, and stands beside the line until a worker's slot takes it.
+/// A line that the pool works on: its number, the page that was read for it, as contracts see it, and what became of
+/// it. A page that waits to be trapped has no outcome yet; it is kept beside the line until a worker's slot takes it.
 #[derive(Drop)]
 pub(crate) struct Gathered {
     line: u32,
     page: Snapshot<Option<Page>>,
-    // How many samples of the list's the page takes.
+    // How many samples of the list's limit the page takes.
     samples: u64,
     outcome: Option<Outcome>,
     report: Option<Name>,
@@ -41,8 +41,8 @@ impl Model for Gathered {
 const MOST_IN_ALL: u64 = 320_000_000;
 
 impl Gathered {
-    // A line whose page was gathered, where the accepted pages have so many samples; and the page, which waits, unless it is too
-    // large.
+    // A line whose page was read, after the accepted pages have `used` samples; and the page, which waits, unless it is
+    // too large.
     pub(crate) fn of_page(line: u32, used: u64, page: Page) -> (Gathered, Option<Page>)
         requires { used ≤ most_in_all }
         ensures line { result.0.line ≡ line }
@@ -95,7 +95,7 @@ impl Gathered {
         self.samples
     }
 
-    // Puts in what the accepted page is trapped to.
+    // Sets the result of the accepted page.
     pub(crate) fn settle(&mut self, traps: Traps)
         requires { SettlesBy self.old traps }
         ensures { self.new ≡ reply_parts self.old.line self.old.page (Outcome.Done traps.trapped) }
@@ -105,7 +105,7 @@ impl Gathered {
         self.outcome = Some(Outcome::Done(trapped));
     }
 
-    // The reply to the line. For a page that waits still there was no memory.
+    // The reply to the line. A page that still waits is refused as out of memory.
     pub(crate) fn into_reply(self) -> Reply
         ensures { result ≡ self }
     {

@@ -12,15 +12,15 @@ use page_gather::gather::gather;
 use page_model::page::Page;
 use std::alloc::Global;
 
-/// The lines of a list, and beside each of them its page, where one waits to be trapped.
+/// The lines of a list, and beside each of them its page, if it waits to be trapped.
 #[derive(Drop)]
 pub(crate) struct Gathering {
     pub lines: Vec<Gathered>,
     pub pages: Vec<Option<Page>>,
 }
 
-// Gathers the page of each line in order, and puts them into the room, which has a place for each. The pages of lines
-// that come later may be too large beside those that were accepted before.
+// Reads the page of each line in order into `room`, which has a place for each. Later pages may be too large together
+// with those that were accepted before.
 pub(crate) fn gather_lines<T: Tray>(
     alloc: Global,
     tray: &mut T,
@@ -53,7 +53,7 @@ pub(crate) fn gather_lines<T: Tray>(
     }
 }
 
-// The line as it was gathered, and its page, where it waits to be trapped.
+// The line with what was read for it, and its page, if it waits to be trapped.
 fn gather_line<T: Tray>(
     alloc: Global,
     tray: &mut T,

@@ -1,4 +1,4 @@
-//! Workers that stay over a whole list of jobs and take page after page, by line numbers from a queue under a rule.
+//! Workers that go through a whole list of jobs and take page after page, by line numbers from a queue under a rule.
 #![tactic(auto)]
 
 mod at_desk;

@@ -6,7 +6,7 @@ use refusals::refusal::Refusal;
 pub enum Outcome {
     /// Its page is trapped.
     Done(Trapped),
-    /// Its page was refused; or there was no memory to trap it.
+    /// Its page was refused, or memory ran out.
     Refused(Refusal),
     /// Its page, together with the pages that were accepted before it, has more samples than a list may have.
     TooLarge,

@@ -4,6 +4,7 @@ ghost use Rattle.line_queue.specs.Rule.{Ascends, IsAbove, pass_view, whole};
 ghost use Rattle.line_queue.specs.Serving.{IsUnused};
 ghost use Rattle.trap_pool.specs.Pools.{AnswersPool};
 ghost use Rattle.trap_pool.specs.Rooms.{IsOpen, IsRoomFor};
+ghost use Rattle.page_model.specs.Limits.{most_workers};
 
 use crate::gathering::{Gathering, gather_lines};
 use crate::reply::{Reply, ReplyList};
@@ -21,17 +22,17 @@ use std::marker::Brand;
 use std::sync::Wait;
 use std::thread::Threads;
 
-// How many line numbers the queue has places for.
+// The number of places of the queue.
 const PLACES: usize = 256;
 
-/// Gathers the page of each line in order, traps the pages by so many workers, which take them by their line numbers from a
-/// queue, and gives a reply for each line.
+/// Reads the page of each line in order, traps the pages by `workers` workers, which take them by their line numbers
+/// from a queue, and returns a reply for each line.
 ///
-/// A page is accepted where its samples, together with those of the pages that were accepted before it, are at most
-/// 320,000,000; each stands in a slot of its own, which all workers see, and its room is used again for a page that is trapped
-/// after it. What no worker made, the caller makes after them, so that each line has its reply whatever the queue does. Where
-/// there is no memory for a page, that is the reply to its line alone. All room for replies is taken first: where that is
-/// wanting, nothing is begun.
+/// A page is accepted if its samples, together with those of the pages that were accepted before it, are at most
+/// 320,000,000. Each accepted page is in a slot of its own, which all workers see; a worker's buffers are used again
+/// for its next page. What no worker made, the caller makes after them, so that each line has its reply whatever the
+/// queue does. If there is no memory for a page, that is the reply to its line alone. All memory for replies is
+/// allocated first: if that fails, nothing is begun.
 pub fn pool_run<H: Threads + Wait + Sync, T: Tray, G: TakeGate + Sync>(
     rt: &H,
     alloc: Global,
@@ -42,7 +43,7 @@ pub fn pool_run<H: Threads + Wait + Sync, T: Tray, G: TakeGate + Sync>(
 ) -> Result<ReplyList, OutOfMemory>
     requires numbered { length lines.now < 2 ^ 32 }
     requires some_workers { 1 ≤ workers }
-    requires few_workers { workers ≤ 64 }
+    requires few_workers { workers ≤ most_workers }
     ensures { AnswersPool lines.now (T.state tray.old) (T.state tray.new) result }
 {
     let Ok(room) = PoolRoom::new(alloc, lines.len(), workers as usize) else {
@@ -60,7 +61,8 @@ pub fn pool_run<H: Threads + Wait + Sync, T: Tray, G: TakeGate + Sync>(
     Ok(List::from_vec(replies_of(gathered, replies)))
 }
 
-// What a pool takes before it begins: a place for each line's page, reply and number, and what its workers begin with.
+// What a pool allocates before it begins: a place for each line's page, reply and number, and what its workers begin
+// with.
 #[derive(Drop)]
 struct PoolRoom {
     gathering: Gathering,
@@ -91,7 +93,7 @@ impl PoolRoom {
     }
 }
 
-// The lines whose pages wait to be trapped, in order.
+// The numbers of the lines whose pages wait to be trapped, in order.
 fn waiting_lines(pages: &[Option<Page>], room: Vec<u32>) -> Vec<u32>
     requires numbered { length pages.now < 2 ^ 32 }
     requires empty { room.items ≡ [] }
@@ -105,7 +107,7 @@ fn waiting_lines(pages: &[Option<Page>], room: Vec<u32>) -> Vec<u32>
     numbers
 }
 
-// Adds the line's number, where its page waits to be trapped.
+// Adds the line's number, if its page waits to be trapped.
 fn note_waiting(page: &Option<Page>, number: u32, numbers: &mut Vec<u32>)
     requires ascends { Ascends numbers.old.items }
     requires above { IsAbove number numbers.old.items }

@@ -8,8 +8,8 @@ use page_model::parts::Name;
 use std::marker::Model;
 use std::snapshot::Snapshot;
 
-/// The reply to a line of a list: the line's number, the page that was gathered for it, if any, as clauses see it, and what
-/// became of it. What is done are the new tints and the counts of that very page; its report stands beside them.
+/// The reply to a line of a list: the line's number, the page that was read for it, if any, as contracts see it, and
+/// what became of it. A page that is done has its own new tints and counts; its report is beside them.
 #[derive(Drop)]
 pub struct Reply {
     line: u32,
@@ -29,7 +29,7 @@ impl Model for Reply {
         × IsReady r.page.value r.outcome r.report };
 }
 
-/// The parts of a reply, the page as clauses see it.
+/// The parts of a reply, the page as contracts see it.
 #[derive(Drop)]
 pub struct ReplyLine {
     pub line: u32,

@@ -12,7 +12,8 @@ use page_model::page::Page;
 use std::alloc::Global;
 use std::marker::{Brand, Model, PhantomData};
 
-/// The lines of a list, as they were gathered. Only clauses know them: under a lock they say which page is whose.
+/// The lines of a list, with what was read for them. It exists in contracts alone: under a lock they say which page
+/// belongs to which line.
 pub(crate) trait Lines {
     ghost replies: { List ReplyParts };
 }
@@ -21,7 +22,7 @@ impl Lines for Brand {
     ghost replies = { [] };
 }
 
-/// The place of a line that all workers see, under a lock.
+/// The slot of a line, which all workers see, under a lock.
 #[derive(Drop)]
 pub(crate) struct Slot<L: Lines> {
     line: u32,
@@ -40,7 +41,7 @@ impl<L: Lines> Model for Slot<L> {
 }
 
 impl<L: Lines> Slot<L> {
-    // The slot of a line, with its page, where one was accepted.
+    // The slot of a line, with its page, if one was accepted.
     pub(crate) fn new(line: u32, page: Option<Page>) -> Slot<L>
         requires line { line < length L.replies }
         requires page { page ≡ waiting_of (reply_at L.replies line) }
@@ -59,8 +60,8 @@ impl<L: Lines> Slot<L> {
         }
     }
 
-    // Traps the page that waits, on the desk that is idle or on a new one, and gives the desk back. Where there is no memory for it,
-    // the page waits on.
+    // Traps the page that waits, at the idle desk or at a new one, and returns the desk. If memory runs out, the page
+    // goes on waiting.
     pub(crate) fn work(&mut self, alloc: Global, idle: Option<Desk>) -> Option<Desk> {
         match std::mem::replace(&mut self.stage, Stage::Empty) {
             Stage::Waits(page) => {

@@ -10,7 +10,7 @@ use page_model::page::Page;
 use std::alloc::Global;
 use std::sync::Mutex;
 
-// A slot for each line, with its page where one waits, in the room, which has a place for each.
+// A slot for each line, with its page if one waits, in `room`, which has a place for each.
 pub(crate) fn slots_of<L: Lines>(
     pages: Vec<Option<Page>>,
     room: Vec<Mutex<Slot<L>>>,
@@ -31,7 +31,7 @@ pub(crate) fn slots_of<L: Lines>(
     slots
 }
 
-// Puts in all that was made. A page that waits still is trapped first, as far as there is memory.
+// Sets all results that were made. A page that still waits is trapped first, if there is memory.
 pub(crate) fn take_in<L: Lines>(
     alloc: Global,
     gathered: &mut Vec<Gathered>,
@@ -51,7 +51,7 @@ pub(crate) fn take_in<L: Lines>(
     }
 }
 
-// Puts in what the accepted page of that line is trapped to.
+// Sets the result of the accepted page of that line.
 fn settle_at(gathered: &mut Vec<Gathered>, place: usize, traps: Traps)
     requires { TrapsLine gathered.old.items place traps }
     ensures { AllSettled gathered.old.items gathered.new.items }
@@ -59,7 +59,7 @@ fn settle_at(gathered: &mut Vec<Gathered>, place: usize, traps: Traps)
     gathered[place].settle(traps);
 }
 
-// The replies to the lines, in their order, in the room, which has a place for each.
+// The replies to the lines, in their order, in `room`, which has a place for each.
 pub(crate) fn replies_of(gathered: Vec<Gathered>, room: Vec<Reply>) -> Vec<Reply>
     requires empty { room.items ≡ [] }
     requires room { vec_len gathered ≤ vec_capacity room }

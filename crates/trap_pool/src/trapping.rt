@@ -15,7 +15,7 @@ use std::alloc::Global;
 use std::sync::{Mutex, Wait};
 use std::thread::Threads;
 
-/// What the workers begin with: the queue with its opening pass, and for each of them a room for the lines that it takes.
+/// What the workers begin with: the queue with its first pass, and for each of them a list for the lines that it takes.
 #[derive(Drop)]
 pub(crate) struct Opening {
     pub queue: LineQueue,
@@ -23,8 +23,8 @@ pub(crate) struct Opening {
     pub rooms: Rooms<()>,
 }
 
-// Traps the pages that wait, whose lines have these numbers, and puts in what came of them. Where there is no memory for the slots,
-// they wait on.
+// Traps the pages that wait, whose lines have these numbers, and sets their results. If there is no memory for the
+// slots, they go on waiting.
 pub(crate) fn trap_lines<L: Lines + Send + Sync, H: Threads + Wait + Sync, G: TakeGate + Sync>(
     rt: &H,
     alloc: Global,
@@ -59,7 +59,7 @@ pub(crate) fn trap_lines<L: Lines + Send + Sync, H: Threads + Wait + Sync, G: Ta
     gathered
 }
 
-// Pushes the lines into the queue, as far as it has places, and lets the workers serve them.
+// Pushes the lines into the queue, as many as it has places for, and lets the workers take them.
 fn serve_waiting<L: Lines + Send + Sync, H: Threads + Wait + Sync, G: TakeGate + Sync>(
     rt: &H,
     work: &PageWork<'_, L, H, G>,

@@ -1,7 +1,7 @@
 use page_model::parts::Name;
 use page_tally::Trapped;
 
-/// What comes of a page: its planes after trapping, its counts, and the text of its report.
+/// The result of a page: its planes after trapping, its counts, and the text of its report.
 #[derive(Drop)]
 pub(crate) struct Traps {
     pub trapped: Trapped,

@@ -4,9 +4,9 @@ use line_queue::LineWork;
 use std::alloc::Global;
 use std::sync::{Mutex, Wait};
 
-/// What is called after each line that a worker took from the queue. It has no meaning, and must return.
+/// A hook that is called after each line that a worker took from the queue. It has no effect, and must return.
 pub trait TakeGate {
-    /// This worker took this line.
+    /// Called when a worker took this line.
     fn taken(&self, line: u32);
 }
 

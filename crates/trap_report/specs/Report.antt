@@ -16,7 +16,7 @@ head_line wide tall most count = line
     (codes "page " ++ decimal wide ++ codes " " ++ decimal tall ++ codes " "
     ++ decimal most ++ codes " plates " ++ decimal count)
 
--- the sides that are told of a page, its maxval and its number of plates
+-- the sides that are reported of a page, its maxval and its number of plates
 abbrev pub sided_page_line : PageParts → ℕ → ℕ → List ℕ
 sided_page_line page wide tall = head_line wide tall (maxval page) (plates page)
 
@@ -46,7 +46,7 @@ plate_lines page counts zero = []
 plate_lines page counts (suc n) = plate_lines page counts n
     ++ plate_line (ink_at page n).name (slice_index counts.plate_changed n)
 
--- the whole report, with the sides that are told: those of a sheet, where the page is a window
+-- the whole report, with the sides that are reported: those of a sheet, where the page is a window
 abbrev pub sided_report_of : PageParts → ℕ → ℕ → Counts → List ℕ
 sided_report_of page wide tall counts =
     title_line ++ sided_page_line page wide tall

@@ -1,4 +1,4 @@
-//! The report of a page that was trapped; with the line and the status of each refusal, as the crate refusals has them.
+//! The report of a page that was trapped, as text. The crate refusals has the line and the status of each refusal.
 #![tactic(auto)]
 
 pub mod lines;

@@ -1,4 +1,4 @@
-// The lines of a report, for whatever was trapped.
+// The lines of a report, of a page or of a sheet.
 
 ghost use Rattle.std.specs.Prelude.{◌≡◌, ◌++◌, OnOk, length, decimal};
 ghost use Rattle.trap_report.specs.Report.{edges_line, head_line, plate_line, title_line, zone_line, zone_lines};
@@ -7,7 +7,7 @@ use itoa::Buffer;
 use page_model::parts::Counts;
 use std::alloc::AllocError;
 
-/// What the first line after the title says: the sides, in samples, the maxval, and how many plates there are.
+/// The numbers in the report's second line: the sides in samples, the maxval, and the number of plates.
 #[derive(Clone, Copy, Debug, Drop, PartialEq, Eq)]
 pub struct Head {
     pub width: u32,
@@ -16,7 +16,7 @@ pub struct Head {
     pub plates: u64,
 }
 
-// Adds all that stands before the lines of the plates, of so many zones.
+// Adds all that stands before the lines of the plates; `zones` is their number.
 pub(crate) fn add_counts(
     text: &mut Vec<u8>,
     head: &Head,
@@ -78,7 +78,7 @@ pub(crate) fn add_plate(text: &mut Vec<u8>, name: &[u8], changed: u64) -> Result
     add(text, b"\n")
 }
 
-/// Adds these bytes to a text.
+/// Appends bytes to a text.
 pub fn add(text: &mut Vec<u8>, bytes: &[u8]) -> Result<(), AllocError>
     ensures { OnOk result (text.new.items ≡ text.old.items ++ bytes.now) }
 {
@@ -86,7 +86,7 @@ pub fn add(text: &mut Vec<u8>, bytes: &[u8]) -> Result<(), AllocError>
     Ok(())
 }
 
-/// Adds these bytes to a text, and a number in decimal after them.
+/// Appends bytes to a text, and a number in decimal after them.
 pub fn add_number(text: &mut Vec<u8>, before: &[u8], number: u64) -> Result<(), AllocError>
     ensures { OnOk result (text.new.items ≡ text.old.items ++ (before.now ++ decimal number)) }
 {

@@ -9,7 +9,7 @@ use lists::list::List;
 use page_model::parts::{Counts, Name, OutOfMemory, PageParts};
 use std::alloc::{AllocError, Global};
 
-/// As `report`, of parts whose sides may be those of no page.
+/// The report of a page or a sheet, as `report` gives it, from its parts: the sides may be larger than a page's.
 pub fn report_parts(alloc: Global, parts: &PageParts, counts: &Counts) -> Result<Name, OutOfMemory>
     requires some { 1 ≤ plates parts.now }
     requires inks { length parts.now.inks ≡ plates parts.now }

@@ -8,10 +8,11 @@ use page_model::page::Page;
 use page_model::parts::{Counts, Name, OutOfMemory};
 use std::alloc::{AllocError, Global};
 
-/// The report of a page and its counts: lines that each end with LF, numbers in decimal.
+/// The report of a page with its counts: lines that each end with LF, numbers in decimal.
 ///
-/// It names the page's sides, maxval and number of plates; for each zone how many samples lie in it and how many of these
-/// changed; how many edges decide; and for each plate how many of its samples changed. The form is this project's own.
+/// It gives the page's sides, maxval and number of plates; for each zone the number of its samples and of those that
+/// changed; the number of deciding edges; and for each plate the number of its changed samples. The form is this
+/// project's own (docs/REPORT.md).
 pub fn report(alloc: Global, page: &Page, counts: &Counts) -> Result<Name, OutOfMemory>
     requires { AreCounts page.now counts.now }
     ensures { IfOk result (λ text. text ≡ report_of page.now counts.now) }
@@ -19,7 +20,8 @@ pub fn report(alloc: Global, page: &Page, counts: &Counts) -> Result<Name, OutOf
     sided_report(alloc, page, page.width(), page.height(), counts)
 }
 
-/// As `report`, of a page that is a window of a sheet of these sides: they stand in place of its own.
+/// The report of a page that is a window of a sheet, as `report` gives it, with the sheet's sides in place of the
+/// page's.
 pub fn sided_report(
     alloc: Global,
     page: &Page,

@@ -114,21 +114,6 @@ puts_failed e e2 a b held held2 held3 s t f = record {
   is_open = tt;
 }
 
--- nothing is put
-pub puts_nothing : {T E : Type 0} (v : T) (held : List ℕ) (s : RackState) → IsTrue s.is_open → Puts {T = T} {E = E} [] held held s s (Ok v)
-puts_nothing v held s o = record {
-  well = λ start text h. subst (λ (bs : List ℕ). Holds bs held start s) (sym (append-nil text)) h;
-  fault = tt;
-  is_open = o;
-}
-
-pub puts_held : {T E : Type 0} (v : T) (piece held held2 : List ℕ) (s : RackState) → IsTrue s.is_open → held2 ≡ held ++ piece → Puts {T = T} {E = E} piece held held2 s s (Ok v)
-puts_held v piece held held2 s o e = record {
-  well = λ start text h. subst (λ (bs : List ℕ). Holds (text ++ piece) bs start s) (sym e) (holds_more text held piece start s h);
-  fault = tt;
-  is_open = o;
-}
-
 pub puts_written : {T T2 E E2 : Type 0} (v : T) (w : T2) (bytes held held2 : List ℕ) (s t : RackState) → IsTrue s.is_open → bytes ≡ held → held2 ≡ [] → WritesOn {T = T} {E = E} bytes s t (Ok v) → Puts {T = T2} {E = E2} [] held held2 s t (Ok w)
 puts_written v w bytes held held2 s t o same e f = record {
   well = λ start text h. subst (λ (bs : List ℕ). Holds bs held2 start t) (sym (append-nil text)) (subst (λ (bs : List ℕ). Holds text bs start t) (sym e) (holds_written v text bytes start s t f (subst (λ (bs : List ℕ). Holds text bs start s) (sym same) h)));

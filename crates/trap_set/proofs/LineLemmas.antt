@@ -115,11 +115,6 @@ same_head a b short_a short_b is =
 pub short_head : (head : SetHead) → IsHead head → AreShort head
 short_head head h = record { width = omega (arith, h.narrow); height = omega (arith, h.low); maxval = omega (arith, h.maxval_fits); plates = omega (arith, h.few_plates) }
 
-pub lone_byte : (xs : List ℕ) (b : ℕ) → length xs ≡ 1 → get_or xs 0 0 ≡ b → xs ≡ b ∷ []
-lone_byte [] b e f = absurd (omega (arith, e))
-lone_byte (a ∷ []) b e f = ap (λ (k : ℕ). k ∷ []) f
-lone_byte (a ∷ c ∷ xs) b e f = absurd (omega (arith, e))
-
 -- the numbers of a run's line
 abbrev pub numbers_of : Run → List ℕ
 numbers_of run = run.y ∷ run.x ∷ run.count ∷ run.tints

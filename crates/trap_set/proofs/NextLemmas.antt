@@ -1,11 +1,8 @@
 -- A line that is read byte by byte, and what is looked for in its place.
-use Rattle.std.proofs.Common.{◌≡◌, ◌≢◌, ◌↔◌, ℕ, Bool, true, false, if◌then◌else◌, inl, inr, ◌+◌, ◌-◌, ◌<◌, ◌≤◌, List, [], ◌∷◌, ◌++◌, length, get_or, Option, Some, None, Ok, Err, IsTrue, refl, sym, ap, ◌∙◌, subst, arith, append_assoc}
-use Rattle.std.proofs.lemmas.List.{length-append, get_or_append_left, get_or-append_right}
-use Rattle.std.proofs.lemmas.List.Elements.{All-nil, All-push}
+use Rattle.std.proofs.Common.{◌≡◌, ◌↔◌, ℕ, Bool, true, false, if◌then◌else◌, inl, inr, List, ◌++◌, Option, Some, None, Ok, IsTrue, refl, sym, ◌∙◌, subst}
 use Rattle.outside.specs.Tray.{TrayState, KeepsTray}
-use Rattle.outside.proofs.Steps.{kept_tray, rose_before}
-use Rattle.trap_set.specs.Bytes.{GivesByte, ReadsNext, IsShortLine, most_line}
-use Rattle.trap_set.specs.Lines.{IsLine, HasNoEnd}
+use Rattle.trap_set.specs.Bytes.{ReadsNext, IsShortLine}
+use Rattle.trap_set.specs.Lines.{HasNoEnd}
 use Rattle.std.proofs.lemmas.Bool.{false≢true}
 use Rattle.std.specs.Prelude.{IfSome, IfNone}
 use Rattle.trap_set.specs.Reading.{head_in, run_in}
@@ -25,90 +22,6 @@ pub record ReadSoFar (start s : TrayState) (held0 held line : List ℕ) : Type 0
   pub count : s.faults ≡ start.faults
   pub none : HasNoEnd line
   pub text : IsTrue start.tells → held0 ++ start.left ≡ line ++ (held ++ s.left)
-
-pub so_none : (s : TrayState) (held : List ℕ) → IsTrue s.begun → ReadSoFar s s held held []
-so_none s held begun = record { keeps = record { tells = refl; file = refl; faults = omega arith }; asked = refl; begun = begun; count = refl; none = All-nil (λ b. b ≢ 10); text = λ t. refl }
-
--- a line of this length cannot stand where the end was not met
-no_short : (line rest l more : List ℕ) → HasNoEnd line → IsLine l → length l ≤ length line → line ++ rest ≡ l ++ more → ⊥
-no_short line rest l more none is few e =
-    let n = length is.text in
-    let long : length l ≡ n + 1 = ap (length {A = ℕ}) is.is ∙ length-append is.text (10 ∷ []) in
-    let here : get_or (line ++ rest) n 0 ≡ get_or line n 0 = get_or_append_left line rest 0 n (omega (arith, long, few)) in
-    let there : get_or (l ++ more) n 0 ≡ get_or l n 0 = get_or_append_left l more 0 n (omega (arith, long)) in
-    let last : get_or l n 0 ≡ 10 = ap (λ (bs : List ℕ). get_or bs n 0) is.is ∙ get_or-append_right is.text (10 ∷ []) n n 0 refl (omega arith) ∙ ap (λ (i : ℕ). get_or (10 ∷ []) i 0) (let z : n - n ≡ 0 = omega arith in z) in
-    none n 0 (omega (arith, long, few)) (sym here ∙ ap (λ (bs : List ℕ). get_or bs n 0) e ∙ there ∙ last)
-
-module _ {E : Type 0} (start s t : TrayState) (held0 held held2 line : List ℕ) (so : ReadSoFar start s held0 held line) where
-  text_more : (b : ℕ) → GivesByte {E = E} s t held held2 (Ok (Some b)) → IsTrue start.tells → held0 ++ start.left ≡ (line ++ b ∷ []) ++ (held2 ++ t.left)
-  text_more b g tells = so.text tells ∙ ap (λ (bs : List ℕ). line ++ bs) (g.some (so.keeps.tells ∙ tells)) ∙ sym (append_assoc line (b ∷ []) (held2 ++ t.left))
-
-  pub so_more : (b : ℕ) → GivesByte {E = E} s t held held2 (Ok (Some b)) → b ≢ 10 → ReadSoFar start t held0 held2 (line ++ b ∷ [])
-  so_more b g ne = record {
-    keeps = kept_tray start s t so.keeps g.keeps;
-    asked = g.asked ∙ so.asked;
-    begun = g.begun;
-    count = g.well ∙ so.count;
-    none = All-push (λ c. c ≢ 10) line b so.none ne;
-    text = text_more b g;
-  }
-
-  pub line_whole : {D : Type 0} → (b : ℕ) → GivesByte {E = E} s t held held2 (Ok (Some b)) → b ≡ 10 → length line < most_line → ReadsNext {E = D} IsShortLine start t held0 held2 (Ok (Some (line ++ b ∷ [])))
-  line_whole b g is few = record {
-    keeps = kept_tray start s t so.keeps g.keeps;
-    asked = g.asked ∙ so.asked;
-    begun = g.begun;
-    line = ((record { text = line; is = ap (λ (c : ℕ). line ++ c ∷ []) is; one = so.none }, omega (arith, few, length-append line (b ∷ []))), text_more b g);
-    none = tt;
-    other = tt;
-    part = tt;
-    well = g.well ∙ so.count;
-    cause = tt;
-  }
-
-  pub line_cut : {D : Type 0} → GivesByte {E = E} s t held held2 (Ok None) → ReadsNext {E = D} IsShortLine start t held0 held2 (Ok None)
-  line_cut g = record {
-    keeps = kept_tray start s t so.keeps g.keeps;
-    asked = g.asked ∙ so.asked;
-    begun = g.begun;
-    line = tt;
-    none = λ tells l more short e.
-        (let whole : held0 ++ start.left ≡ line ++ [] = so.text tells ∙ ap (λ (bs : List ℕ). line ++ bs) (g.none (so.keeps.tells ∙ tells)).0 in
-        let same : line ++ [] ≡ l ++ more = sym whole ∙ e in
-        no_short line [] l more so.none short.0 (omega (arith, ap (length {A = ℕ}) same, length-append line [], length-append l more)) same);
-    other = λ tells.
-        (let ends = g.none (so.keeps.tells ∙ tells) in
-        (line, so.text tells ∙ ap (λ (bs : List ℕ). line ++ bs) (ends.0 ∙ sym ends.1)));
-    part = tt;
-    well = g.well ∙ so.count;
-    cause = tt;
-  }
-
-  pub line_fault : {D : Type 0} → (e : E) (d : D) → GivesByte {E = E} s t held held2 (Err e) → ReadsNext {E = D} IsShortLine start t held0 held2 (Err d)
-  line_fault e d g = record {
-    keeps = kept_tray start s t so.keeps g.keeps;
-    asked = g.asked ∙ so.asked;
-    begun = g.begun;
-    line = tt;
-    none = tt;
-    other = tt;
-    part = λ tells. (line, so.none, so.text tells ∙ ap (λ (bs : List ℕ). line ++ bs) (g.kept (so.keeps.tells ∙ tells)));
-    well = tt;
-    cause = rose_before start.faults s.faults t.faults so.keeps.faults g.cause;
-  }
-
-pub line_long : {D : Type 0} (start s : TrayState) (held0 held line : List ℕ) → ReadSoFar start s held0 held line → most_line ≤ length line → ReadsNext {E = D} IsShortLine start s held0 held (Ok None)
-line_long start s held0 held line so full = record {
-  keeps = so.keeps;
-  asked = so.asked;
-  begun = so.begun;
-  line = tt;
-  none = λ tells l more short e. no_short line (held ++ s.left) l more so.none short.0 (omega (arith, short.1, full)) (sym (so.text tells) ∙ e);
-  other = λ tells. (line, so.text tells);
-  part = tt;
-  well = so.count;
-  cause = tt;
-}
 
 -- what is looked for in place of any short line
 module _ {E D : Type 0} (Looked : List ℕ → Type 0) (s t : TrayState) (held held2 : List ℕ) where
@@ -130,9 +43,6 @@ module _ {E D : Type 0} (Looked : List ℕ → Type 0) (s t : TrayState) (held h
     well = n.well;
     cause = tt;
   }
-
-  pub next_fault : (e : E) (d : D) → ReadsNext {E = E} IsShortLine s t held held2 (Err e) → ReadsNext {E = D} Looked s t held held2 (Err d)
-  next_fault e d n = record { keeps = n.keeps; asked = n.asked; begun = n.begun; line = tt; none = tt; other = tt; part = n.part; well = tt; cause = n.cause }
 
 pub short_title : (l : List ℕ) → l ≡ title_line → IsShortLine l
 short_title l is = subst IsShortLine (sym is) title_is_line

@@ -44,10 +44,6 @@ prefix_digits ds i h few k l =
     let short : k < i = omega (arith, length-take-le i ds few) in
     ap is_ascii_digit (get_or-take i ds k 0 short) ∙ h k (omega arith)
 
--- fewer than five digits before a digit
-pub prefix_below : (ds : List ℕ) (i : ℕ) → AreDigits ds → i ≤ length ds → length ds ≤ 5 → digits_value 10 (take i ds) < past_numbers
-prefix_below ds i h few short = digits_value_short own (take i ds) 5 (in_range (take i ds) (prefix_digits ds i h few)) (omega (arith, length-take-le i ds few))
-
 pub prefix_short : (ds : List ℕ) (i : ℕ) → AreDigits ds → i < length ds → length ds ≤ 5 → digits_value 10 (take i ds) < 10000
 prefix_short ds i h l short = digits_value_short own (take i ds) 4 (in_range (take i ds) (prefix_digits ds i h (omega arith))) (omega (arith, length-take-le i ds (omega arith)))
 

@@ -1,5 +1,5 @@
 -- How the reading of a set goes on, and how it ends.
-use Rattle.std.proofs.Common.{◌≡◌, ℕ, zero, suc, ◌+◌, ◌-◌, ◌*◌, ◌<◌, ◌≤◌, List, [], ◌∷◌, ◌++◌, length, take, map, get_or, Option, Some, None, Result, Ok, Err, IsTrue, refl, sym, ap, ◌∙◌, subst, inl, inr, arith, append_assoc}
+use Rattle.std.proofs.Common.{◌≡◌, ℕ, zero, suc, ◌+◌, ◌-◌, ◌*◌, ◌≤◌, List, [], ◌∷◌, ◌++◌, length, take, map, get_or, Option, Some, None, Result, Ok, Err, IsTrue, refl, sym, ap, ◌∙◌, subst, inl, inr, arith, append_assoc}
 use Rattle.std.specs.List.{All}
 use Rattle.std.proofs.Math.Nat.{mul-le-mul}
 use Rattle.std.proofs.lemmas.List.{append-nil, length-append, get_or-append_right}
@@ -378,28 +378,6 @@ standing_more head place next number old planes planes2 before now after held0 h
   planes_are = put ∙ ap (applied (run ∷ [])) so.planes_are ∙ applied_more so.runs run old ((so.to.suffix run).0 suffix);
   text = λ start r. reached_run (MayCome head place) head so.runs run start now after held held2 (so.text start r) n;
 }
-
--- the place moves on with each run
-pub comes_after : (head : SetHead) (place next : Place) (run : Run) → place.column ≤ head.width → IsRun head run → IsAfter place run → next.row ≡ run.y → next.column ≡ run.x + run.count → head.height * head.width - (next.row * head.width + next.column) < head.height * head.width - (place.row * head.width + place.column)
-comes_after head place next run low is suffix row column = by suffix where
-  inside : run.y * head.width + head.width ≤ head.height * head.width
-  inside = (let up : run.y + 1 ≤ head.height = omega (arith, is.in_rows) in let wide : head.width ≤ head.width = omega arith in let rows : (run.y + 1) * head.width ≤ head.height * head.width = mul-le-mul up wide in omega (arith, rows))
-
-  by : IsAfter place run → head.height * head.width - (next.row * head.width + next.column) < head.height * head.width - (place.row * head.width + place.column)
-  by (inl less) =
-      let rows : (place.row + 1) * head.width ≤ run.y * head.width = (let up : place.row + 1 ≤ run.y = omega (arith, less) in let wide : head.width ≤ head.width = omega arith in mul-le-mul up wide) in
-      omega (arith, rows, low, is.some, is.in_row, inside, column, ap (λ (r : ℕ). r * head.width) row)
-  by (inr (same, after)) = omega (arith, after, is.some, is.in_row, inside, column, ap (λ (r : ℕ). r * head.width) row, ap (λ (r : ℕ). r * head.width) same)
-
--- so the number of a line stays small
-pub number_fits : (head : SetHead) (place : Place) (number : ℕ) (old planes : List Plane) (before now : TrayState) (held0 held : List ℕ) → IsHead head → Standing head place number old planes before now held0 held → number + 1 < 4294967296
-number_fits head place number old planes before now held0 held h so =
-    let up : place.row + 1 ≤ head.height = omega (arith, so.to.row) in
-    let wide : head.width ≤ 16384 = omega (arith, h.narrow) in
-    let rows : (place.row + 1) * head.width ≤ head.height * head.width = (let same : head.width ≤ head.width = omega arith in mul-le-mul up same) in
-    let tall : head.height ≤ 16384 = omega (arith, h.low) in
-    let all : head.height * head.width ≤ 16384 * 16384 = mul-le-mul tall wide in
-    omega (arith, so.is_number, so.to.few, so.to.column, rows, all)
 
 -- the file is begun first
 counts_from : {T : Type 0} (a b c : TrayState) (r : Result T SetRefusal) → b.faults ≡ a.faults → CountsFaults b c r → CountsFaults a c r

@@ -13,8 +13,8 @@ past_numbers = 100000
 abbrev pub NoDigit : List ℕ → Type 0
 NoDigit text = is_ascii_digit (slice_index text 0) ≡ false
 
--- so many first bytes of the text, all of them digits, may be a number: one to five, and no zero
--- before others
+-- the first `count` bytes of the text, all of them digits, may be a number: one to five, and no
+-- zero before others
 pub record IsPlain (text : List ℕ) (count : ℕ) : Type 0 where
   pub some : 0 < count
   pub few : count ≤ 5

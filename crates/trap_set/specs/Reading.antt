@@ -30,7 +30,7 @@ run_in numbers = record {
   tints = drop 3 numbers;
 }
 
--- a run whose line has so many numbers, each of five digits at most
+-- a run whose line has `count` numbers, each of five digits at most
 pub record IsShortRun (count : ℕ) (run : Run) : Type 0 where
   pub as_many : length run.tints + 3 ≡ count
   pub place : (run.y < past_numbers) × (run.x < past_numbers) × (run.count < past_numbers)

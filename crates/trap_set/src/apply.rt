@@ -14,17 +14,17 @@ use outside::tray::{Failed, Tray};
 use page_model::parts::{Plane, PlaneList};
 use thiserror::Error;
 
-/// Why a set is not applied, or not to its end.
+/// Why a set was not applied, or not to its end.
 #[derive(Clone, Copy, Debug, Drop, Error)]
 pub enum SetRefusal {
-    /// The first line, counted from 1, with which the text no longer begins a set; a line that is missing is one, and so is
-    /// one that has no end or more than 160 bytes.
+    /// The first bad line, counted from 1: with it the text no longer begins a set. A missing line is a bad one, and so
+    /// is one that has no end or more than 160 bytes.
     #[error("line {0} is no line of a set")]
     BadLine(u32),
     /// The set is for another number of planes, or for planes of other sides or another maxval.
     #[error("the set is for other planes")]
     Differs,
-    /// The tray has a fault.
+    /// A call of the tray failed.
     #[error("the file could not be read")]
     ReadFault,
 }
@@ -33,11 +33,11 @@ const PIECE: usize = 4096;
 
 const MOST_NUMBERS: usize = 19;
 
-/// Applies the set of the file of that name to the planes, run by run, and takes no memory.
+/// Applies the set in the file `name` to the planes, run by run. It allocates nothing.
 ///
-/// The text is read line by line and each line judged as it ends. After a refusal the planes have the runs of the good
-/// lines before it. Whether the set is for these planes is judged after its second line. Whatever the answer, the planes
-/// keep their number, sides and maxvals, and no tint comes above a maxval where none was.
+/// The text is read line by line and each line checked at its end. After a refusal the planes have the runs of the good
+/// lines before it. Whether the set is for these planes is checked after its second line. Whatever the answer, the
+/// planes keep their number, sides and maxvals, and if no tint was above a maxval before, none is afterwards.
 pub fn apply_set<T: Tray>(
     tray: &mut T,
     name: &str,
@@ -58,7 +58,7 @@ pub fn apply_set<T: Tray>(
     }
 }
 
-// Applies the set of the file that is begun.
+// Applies the set in the open file.
 fn apply_text<T: Tray>(
     tray: &mut T,
     planes: &mut PlaneList,
@@ -144,7 +144,7 @@ fn apply_runs<T: Tray>(
     }
 }
 
-// The end of the run of these numbers.
+// The end of the run with these numbers.
 fn end_of(numbers: &[u32]) -> Place
     requires many { 2 < length numbers.now }
     requires small { slice_index numbers.now 1 + slice_index numbers.now 2 < 2 ^ 32 }
@@ -159,7 +159,7 @@ fn end_of(numbers: &[u32]) -> Place
     }
 }
 
-// Looks for bytes after the last line, which would be a bad one of that number.
+// Checks that no bytes stand after the last line; they would be a bad line of that number.
 fn end_set<T: Tray>(
     tray: &mut T,
     buf: &mut [u8],

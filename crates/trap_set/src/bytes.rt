@@ -1,4 +1,4 @@
-// The lines of the file that is begun, one after another.
+// The lines of the open file, one after another.
 
 ghost use Rattle.std.specs.Prelude.{◌<◌, IsTrue, length};
 ghost use Rattle.trap_set.specs.Bytes.{GivesByte, IsIn, IsShortLine, ReadsNext, found_line, held_in};
@@ -6,10 +6,10 @@ ghost use Rattle.trap_set.specs.Bytes.{GivesByte, IsIn, IsShortLine, ReadsNext, 
 use arrayvec::ArrayVec;
 use outside::tray::{Failed, Tray};
 
-/// A line of a set with its LF. No line of a set has as many bytes as there are places.
+/// A line of a set with its LF. Every line of a set is shorter than the buffer.
 pub(crate) type SetLine = ArrayVec<u8, 160>;
 
-/// Which bytes of a buffer were read from the file and not given out yet: those from one place to before another.
+/// The bytes of a buffer that were read from the file and not given out yet: a range of its indices.
 #[derive(Clone, Copy, Drop)]
 pub(crate) struct Unread {
     pub(crate) from: usize,
@@ -44,7 +44,7 @@ pub(crate) fn next_byte<T: Tray>(
     }
 }
 
-/// Reads the next line, and says whether there is one: a line without its LF and one that is too long are none.
+/// Reads the next line, and returns whether there is one: a line without its LF, or a line that is too long, is none.
 pub(crate) fn read_line<T: Tray>(
     tray: &mut T,
     buf: &mut [u8],

@@ -1,4 +1,4 @@
-// A text that is written piece by piece, by large writes.
+// A text that is collected in a buffer and written by large writes.
 
 ghost use Rattle.std.specs.Prelude.{◌≡◌, ◌∷◌, ◌++◌, [], IsTrue, OnOk};
 ghost use Rattle.std.specs.Fmt.{decimal};
@@ -11,10 +11,10 @@ use outside::rack::Rack;
 use outside::tray::Failed;
 use outside::writing::write_on;
 
-/// The bytes that are held back until there are enough of them for a write.
+/// The bytes that are not written yet, until there are enough of them for a write.
 pub(crate) type Held = ArrayVec<u8, 4096>;
 
-/// Writes what is held back.
+/// Writes the bytes of the buffer, and empties it.
 pub(crate) fn flush<R: Rack>(rack: &mut R, held: &mut Held) -> Result<(), Failed>
     requires { IsTrue (R.state rack.old).is_open }
     ensures puts { Puts []
@@ -30,7 +30,7 @@ pub(crate) fn flush<R: Rack>(rack: &mut R, held: &mut Held) -> Result<(), Failed
     }
 }
 
-/// Puts a piece after what is held back, which is written where there is no room for it.
+/// Appends a piece to the buffer, which is written first if the piece does not fit.
 pub(crate) fn put<R: Rack>(rack: &mut R, held: &mut Held, piece: &[u8]) -> Result<(), Failed>
     requires { IsTrue (R.state rack.old).is_open }
     ensures { Puts piece.now
@@ -45,7 +45,7 @@ pub(crate) fn put<R: Rack>(rack: &mut R, held: &mut Held, piece: &[u8]) -> Resul
     }
 }
 
-/// Puts a piece where nothing is held back.
+/// Puts a piece into an empty buffer, or writes it if it is too large.
 fn put_past<R: Rack>(rack: &mut R, held: &mut Held, piece: &[u8]) -> Result<(), Failed>
     requires is_open { IsTrue (R.state rack.old).is_open }
     requires none { held.old.items ≡ [] }
@@ -58,7 +58,7 @@ fn put_past<R: Rack>(rack: &mut R, held: &mut Held, piece: &[u8]) -> Result<(), 
     }
 }
 
-/// Puts a space and a number.
+/// Appends a space and a number.
 pub(crate) fn put_number<R: Rack>(rack: &mut R, held: &mut Held, n: u32) -> Result<(), Failed>
     requires { IsTrue (R.state rack.old).is_open }
     ensures { Puts (number n)

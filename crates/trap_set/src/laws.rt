@@ -7,7 +7,7 @@ ghost use Rattle.trap_set.specs.SetText.{IsSet, IsSetFile, SetHead, head_of};
 
 use page_model::parts::PlaneList;
 
-/// The set of what changed, applied to the planes as they were, gives the planes after the change.
+/// The set of the changes between two lists of planes, applied to the old planes, gives the new ones.
 pub fn round_law(old: &PlaneList, new: &PlaneList)
     requires { ArePair old.now new.now }
     ensures { applied (trap_runs old.now new.now) old.now ≡ new.now }
@@ -16,8 +16,8 @@ pub fn round_law(old: &PlaneList, new: &PlaneList)
     let _new = new;
 }
 
-/// The runs of planes of one shape are a set, whose text is a set file, and a sample that a run covers has another tint
-/// than before in some plate.
+/// The runs of two lists of planes of one shape are a set, whose text is a set file, and each sample that a run covers
+/// changes in some plate.
 pub fn set_law(old: &PlaneList, new: &PlaneList)
     requires { ArePair old.now new.now }
     ensures set { IsSet (head_of old.now) (trap_runs old.now new.now) }
@@ -36,14 +36,14 @@ pub fn same_law(planes: &PlaneList)
     let _planes = planes;
 }
 
-/// A set applied twice gives the same as applied once.
+/// Applying a set twice gives the same as applying it once.
 pub fn twice_law(planes: &PlaneList)
     ensures { (runs : List Run) → applied runs (applied runs planes.now) ≡ applied runs planes.now }
 {
     let _planes = planes;
 }
 
-/// A text has one set at most.
+/// A text has at most one set.
 pub fn one_set_law(text: &[u8])
     ensures { (a b : SetHead) (runs others : List Run) → IsSetFile text.now a runs
         → IsSetFile text.now b others → (a ≡ b) × (runs ≡ others) }

@@ -1,4 +1,4 @@
-// The lines of a set, each read whole.
+// The lines of a set, each in memory as a whole.
 
 ghost use Rattle.std.specs.Prelude.{◌≡◌, ◌∷◌, [], ◌+◌, ◌<◌, ◌≤◌, ◌↔◌, IfSome, IfNone, IsTrue, All, length, false};
 ghost use Rattle.trap_set.specs.Reading.{AreShort, IsShortRun, head_in, run_in};
@@ -7,16 +7,9 @@ ghost use Rattle.trap_set.specs.SetText.{IsHead, IsRun, SetHead, page_line, run_
 ghost use Rattle.trap_set.specs.Numbers.{past_numbers};
 
 use crate::numbers::{take_number, take_numbers, take_word};
+use page_model::bounds::{MOST_MAXVAL, MOST_PLATES, MOST_SAMPLES, MOST_SIDE};
 
-const MOST_SIDE: u32 = 16_384;
-
-const MOST_MAXVAL: u32 = 65_535;
-
-const MOST_PLATES: u32 = 16;
-
-const MOST_SAMPLES: u64 = 160_000_000;
-
-/// What the second line of a set says.
+/// The numbers of a set's second line.
 #[derive(Clone, Copy, Drop)]
 pub(crate) struct Head {
     pub(crate) width: u32,
@@ -25,7 +18,7 @@ pub(crate) struct Head {
     pub(crate) plates: u32,
 }
 
-/// The sides, the maxval and the number of planes of a page line, which has its LF; `None` for every other line.
+/// Reads a page line with its LF: the sides, the maxval and the number of planes; `None` for every other line.
 pub(crate) fn read_page_line(line: &[u8]) -> Option<Head>
     ensures line { IfSome result (λ head. line.now ≡ page_line (head_in head)) }
     ensures range { IfSome result (λ head. IsHead (head_in head)) }
@@ -37,7 +30,7 @@ pub(crate) fn read_page_line(line: &[u8]) -> Option<Head>
     }
 }
 
-// The numbers of a page line, in range or not.
+// The numbers of a page line, whether or not they are in range.
 fn read_page_words(line: &[u8]) -> Option<Head>
     ensures line { IfSome result (λ head. line.now ≡ page_line (head_in head)) }
     ensures short { IfSome result (λ head. AreShort (head_in head)) }
@@ -68,7 +61,7 @@ fn read_page_words(line: &[u8]) -> Option<Head>
     })
 }
 
-// Whether nothing but the LF of a line is left.
+// Whether only the LF of a line is left.
 fn is_line_end(text: &[u8]) -> bool
     ensures { IsTrue result ↔ (text.now ≡ 10 ∷ []) }
 {
@@ -87,12 +80,12 @@ fn is_head(head: Head) -> bool
         && 1 <= head.maxval
         && head.maxval <= MOST_MAXVAL
         && 1 <= head.plates
-        && head.plates <= MOST_PLATES
+        && head.plates as usize <= MOST_PLATES
         && u64::from(head.width) * u64::from(head.height) * u64::from(head.plates) <= MOST_SAMPLES
 }
 
-/// Reads the numbers of a run's line, which has its LF: its row, its column, how many samples it has, and its tints.
-/// Whether it is a run of a set with such a page line.
+/// Reads the numbers of a run's line with its LF: its row, its column, its number of samples, and its tints. Returns
+/// whether it is a run of a set with that page line.
 pub(crate) fn read_run_line(line: &[u8], head: Head, numbers: &mut [u32]) -> bool
     requires { length numbers.old ≡ head.plates + 3 }
     ensures line { IsTrue result → line.now ≡ run_line (run_in numbers.new) }
@@ -103,7 +96,7 @@ pub(crate) fn read_run_line(line: &[u8], head: Head, numbers: &mut [u32]) -> boo
     read_run_words(line, numbers) && is_run(head, numbers)
 }
 
-// Reads the numbers of a run's line, in range or not.
+// Reads the numbers of a run's line, whether or not they are in range.
 fn read_run_words(line: &[u8], numbers: &mut [u32]) -> bool
     requires { 3 ≤ length numbers.old }
     ensures line { IsTrue result → line.now ≡ run_line (run_in numbers.new) }

@@ -9,7 +9,7 @@ ghost use Rattle.trap_set.specs.Numbers.{BeginsDigits, BeginsNumbers, IsPlain};
 // The greatest numbers of a set have five digits.
 const MOST_DIGITS: usize = 5;
 
-/// The number that the text begins with after a space, and what stands after it.
+/// Reads a space and a number at the beginning of the text. Returns the number and the rest.
 pub(crate) fn take_number(text: &[u8]) -> Option<(u32, &[u8])>
     ensures some { IfSome result (λ r. BeginsNumbers text.now (r.0 ∷ []) r.1.now) }
     ensures none { IfNone result
@@ -21,7 +21,7 @@ pub(crate) fn take_number(text: &[u8]) -> Option<(u32, &[u8])>
     }
 }
 
-// The number that the text begins with, and what stands after it.
+// Reads a number at the beginning of the text. Returns the number and the rest.
 fn take_digits(text: &[u8]) -> Option<(u32, &[u8])>
     ensures some { IfSome result (λ r. BeginsDigits text.now r.0 r.1.now) }
     ensures none { IfNone result ((n : ℕ) (rest : List ℕ) → BeginsDigits text.now n rest → ⊥) }
@@ -33,7 +33,7 @@ fn take_digits(text: &[u8]) -> Option<(u32, &[u8])>
     Some((value_of(&text[..count]), &text[count..]))
 }
 
-// Whether so many digits at the beginning of a text may be a number.
+// Whether the first `count` bytes of a text, all digits, have the form of a number.
 fn is_plain(text: &[u8], count: usize) -> bool
     requires { count ≤ length text.now }
     ensures { IsTrue result ↔ IsPlain text.now count }
@@ -41,7 +41,7 @@ fn is_plain(text: &[u8], count: usize) -> bool
     0 < count && count <= MOST_DIGITS && (count == 1 || text[0] != b'0')
 }
 
-// How many digits the text begins with.
+// The number of digits at the beginning of the text.
 fn count_digits(text: &[u8]) -> usize
     ensures { result ≡ prefix_len is_ascii_digit text.now }
 {
@@ -67,7 +67,7 @@ fn value_of(digits: &[u8]) -> u32
     value
 }
 
-/// What stands after the word with which the text begins.
+/// The rest of a text after a word; `None` where the text does not begin with it.
 pub(crate) fn take_word<'a>(text: &'a [u8], word: &[u8]) -> Option<&'a [u8]>
     ensures some { IfSome result (λ rest. text.now ≡ word.now ++ rest.now) }
     ensures none { IfNone result ((rest : List ℕ) → text.now ≡ word.now ++ rest → ⊥) }
@@ -75,7 +75,7 @@ pub(crate) fn take_word<'a>(text: &'a [u8], word: &[u8]) -> Option<&'a [u8]>
     text.strip_prefix(word)
 }
 
-/// Puts the numbers that the text begins with into the list, as many as it has places, and gives what stands after them.
+/// Reads as many numbers at the beginning of the text as the list has places. Returns the rest.
 pub(crate) fn take_numbers<'a>(text: &'a [u8], numbers: &mut [u32]) -> Option<&'a [u8]>
     requires { 0 < length numbers.old }
     ensures some { IfSome result (λ rest. BeginsNumbers text.now numbers.new rest.now) }

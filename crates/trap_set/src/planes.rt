@@ -10,7 +10,7 @@ use crate::lines::Head;
 use lists::list::List;
 use page_model::parts::{Plane, PlaneList};
 
-/// Puts the tints of a run on the samples that it covers. The numbers are those of its line.
+/// Writes the tints of a run to the samples that it covers. `numbers` are those of its line.
 pub(crate) fn put_run(planes: &mut PlaneList, head: Head, numbers: &[u32])
     requires head { IsHead (head_in head) }
     requires fits { Fits (head_in head) planes.old }
@@ -24,7 +24,7 @@ pub(crate) fn put_run(planes: &mut PlaneList, head: Head, numbers: &[u32])
     }
 }
 
-// Puts plate c's tint of a run on a plane.
+// Writes plate c's tint of a run to a plane.
 fn put_on_plane(plane: &mut Plane, c: usize, numbers: &[u32])
     requires many { c + 3 < length numbers.now }
     requires full { IsFull plane.old }
@@ -40,7 +40,7 @@ fn put_on_plane(plane: &mut Plane, c: usize, numbers: &[u32])
     put_tints(&mut plane.tints, first, first + numbers[2] as usize, tint);
 }
 
-// Puts a tint in the places from one to before another.
+// Writes a tint to the places `from..to`.
 fn put_tints(tints: &mut List<u16>, from: usize, to: usize, tint: u16)
     requires order { from ≤ to }
     requires within { to ≤ length tints.old }

@@ -1,4 +1,4 @@
-// What changed between planes before and after, sample by sample.
+// The changes between two lists of planes, sample by sample.
 
 ghost use Rattle.std.specs.Prelude.{◌≡◌, ◌<◌, ◌≤◌, ◌+◌, ◌*◌, ◌==◌, ℕ, IsTrue, EachIndex, false, not, suc, length, slice_index, slice_range};
 ghost use Rattle.page_model.specs.Planes.{tints_of};
@@ -34,10 +34,10 @@ pub(crate) fn tint_of(planes: &PlaneList, c: u32, x: u32, y: u32) -> u16
     row_of(planes, c, y)[x as usize]
 }
 
-// How many samples of a row are looked at together.
+// The number of samples of a row that are compared together.
 const SPAN: u32 = 64;
 
-// Whether the tints at each place are the same. It reads all of them, so that many are compared at once.
+// Whether the tints at each place are equal. All of them are read, so that the loop is vectorized.
 fn are_same(old: &[u16], new: &[u16]) -> bool
     requires { length old.now ≡ length new.now }
     ensures { IsTrue result → EachIndex old.now
@@ -50,7 +50,7 @@ fn are_same(old: &[u16], new: &[u16]) -> bool
     same
 }
 
-// Whether plane c has the tints of before at some samples of a row, one beside another.
+// Whether the samples `from..to` of a row have the same tints before and after in plane c.
 fn plane_is_same(old: &PlaneList, new: &PlaneList, c: u32, y: u32, from: u32, to: u32) -> bool
     requires pair { ArePair old.now new.now }
     requires plate { c < length old.now }
@@ -67,7 +67,7 @@ fn plane_is_same(old: &PlaneList, new: &PlaneList, c: u32, y: u32, from: u32, to
     )
 }
 
-// Whether no plane has another tint than before at some samples of a row, one beside another.
+// Whether the samples `from..to` of a row have the same tints before and after in all planes.
 fn span_is_same(old: &PlaneList, new: &PlaneList, y: u32, from: u32, to: u32) -> bool
     requires pair { ArePair old.now new.now }
     requires row { y < tall old.now }
@@ -82,7 +82,8 @@ fn span_is_same(old: &PlaneList, new: &PlaneList, y: u32, from: u32, to: u32) ->
     true
 }
 
-/// The column to go on at in a row, from column x on: after the span that begins there if nothing changes in it, else x.
+/// The column from which to search a row on, at column x: the end of the span that begins there if nothing changes in
+/// it, else x.
 pub(crate) fn skip_same(old: &PlaneList, new: &PlaneList, y: u32, x: u32, width: u32) -> u32
     requires pair { ArePair old.now new.now }
     requires width { width ≡ wide old.now }
@@ -99,7 +100,7 @@ pub(crate) fn skip_same(old: &PlaneList, new: &PlaneList, y: u32, x: u32, width:
     }
 }
 
-/// Whether some plane has another tint than before at a sample.
+/// Whether the tint of some plane changes at a sample.
 fn changes_at(old: &PlaneList, new: &PlaneList, x: u32, y: u32) -> bool
     requires pair { ArePair old.now new.now }
     requires column { x < wide old.now }
@@ -127,7 +128,7 @@ fn same_as_left(new: &PlaneList, left: u32, y: u32) -> bool
     !any
 }
 
-/// Whether a sample goes on with the run of the sample to its left.
+/// Whether a sample continues the run of the sample to its left.
 fn goes_on_at(old: &PlaneList, new: &PlaneList, x: u32, y: u32) -> bool
     requires pair { ArePair old.now new.now }
     requires column { x < wide old.now }
@@ -150,7 +151,7 @@ pub(crate) fn begins_at(old: &PlaneList, new: &PlaneList, x: u32, y: u32) -> boo
     changes_at(old, new, x, y) && !goes_on_at(old, new, x, y)
 }
 
-/// How many samples the run has that begins at a sample.
+/// The number of samples of the run that begins at a sample.
 pub(crate) fn run_length(old: &PlaneList, new: &PlaneList, x: u32, y: u32, width: u32) -> u32
     requires pair { ArePair old.now new.now }
     requires width { width ≡ wide old.now }

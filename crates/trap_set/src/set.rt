@@ -12,7 +12,7 @@ use outside::rack::Rack;
 use outside::tray::Failed;
 use page_model::parts::PlaneList;
 
-/// Puts the first two lines, and those of the runs.
+/// Appends the first two lines, and those of the runs.
 fn put_lines<R: Rack>(
     rack: &mut R,
     held: &mut Held,
@@ -35,7 +35,7 @@ fn put_lines<R: Rack>(
     }
 }
 
-/// Puts the whole set.
+/// Appends the whole set.
 fn put_set<R: Rack>(
     rack: &mut R,
     held: &mut Held,
@@ -57,7 +57,7 @@ fn put_set<R: Rack>(
     }
 }
 
-/// Puts the whole set, and holds nothing back.
+/// Appends the whole set, and writes all of it.
 fn put_whole<R: Rack>(
     rack: &mut R,
     held: &mut Held,
@@ -80,7 +80,7 @@ fn put_whole<R: Rack>(
     }
 }
 
-/// Fills the open file with the set.
+/// Writes the set to the open file.
 fn fill_set<R: Rack>(rack: &mut R, old: &PlaneList, new: &PlaneList) -> Result<(), Failed>
     requires is_open { IsTrue (R.state rack.old).is_open }
     requires pair { ArePair old.now new.now }
@@ -94,7 +94,7 @@ fn fill_set<R: Rack>(rack: &mut R, old: &PlaneList, new: &PlaneList) -> Result<(
     }
 }
 
-/// Writes the set of what changed between planes of one shape, as a file of that name. It takes no memory.
+/// Writes the set of the changes between two lists of planes of one shape to the file `name`. It allocates nothing.
 pub fn write_set<R: Rack>(
     rack: &mut R,
     name: &str,

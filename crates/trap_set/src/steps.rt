@@ -1,4 +1,4 @@
-// The lines of a set, as they are looked for one after another.
+// The lines of a set, read one after another.
 
 ghost use Rattle.std.specs.Prelude.{◌≡◌, ◌⊎◌, ◌↔◌, ◌+◌, ◌<◌, ◌≤◌, IsTrue, IfOk, IfSome, length};
 ghost use Rattle.trap_set.specs.Bytes.{IsIn, ReadsNext, found_line, held_in};
@@ -25,7 +25,7 @@ pub(crate) enum Next {
     Bad,
 }
 
-/// Reads the first line, and says whether a set may begin with it.
+/// Reads the first line, and returns whether a set may begin with it.
 pub(crate) fn read_title<T: Tray>(
     tray: &mut T,
     buf: &mut [u8],
@@ -53,7 +53,7 @@ fn is_title(line: &[u8]) -> bool
     line == b"trap set\n".as_slice()
 }
 
-/// Reads the second line, where it is a page line.
+/// Reads the second line; `None` where it is no page line.
 pub(crate) fn read_page<T: Tray>(
     tray: &mut T,
     buf: &mut [u8],
@@ -75,7 +75,7 @@ pub(crate) fn read_page<T: Tray>(
     }
 }
 
-/// Reads a later line, and puts the numbers of a run into the list.
+/// Reads a later line, and writes the numbers of a run to the list.
 pub(crate) fn read_next<T: Tray>(
     tray: &mut T,
     buf: &mut [u8],

@@ -15,7 +15,7 @@ use outside::rack::Rack;
 use outside::tray::Failed;
 use page_model::parts::PlaneList;
 
-/// Puts a space and a number, for each of some.
+/// Appends a space and a number, for each of these numbers.
 fn put_numbers<R: Rack>(rack: &mut R, held: &mut Held, numbers: &[u32]) -> Result<(), Failed>
     requires { IsTrue (R.state rack.old).is_open }
     ensures { Puts (flat_map number numbers.now)
@@ -30,7 +30,7 @@ fn put_numbers<R: Rack>(rack: &mut R, held: &mut Held, numbers: &[u32]) -> Resul
     Ok(())
 }
 
-/// Puts a sample's tints.
+/// Appends a sample's tints.
 fn put_tints<R: Rack>(
     rack: &mut R,
     held: &mut Held,
@@ -55,7 +55,7 @@ fn put_tints<R: Rack>(
     Ok(())
 }
 
-/// Puts the first words of a run's line: its row, its column, and how many samples it has.
+/// Appends the first words of a run's line: its row, its column, and its number of samples.
 fn put_place<R: Rack>(
     rack: &mut R,
     held: &mut Held,
@@ -73,7 +73,7 @@ fn put_place<R: Rack>(
     }
 }
 
-/// Puts a sample's tints and the end of the line.
+/// Appends a sample's tints and the end of the line.
 fn put_last_tints<R: Rack>(
     rack: &mut R,
     held: &mut Held,
@@ -94,7 +94,7 @@ fn put_last_tints<R: Rack>(
     }
 }
 
-/// Puts the line of the run that begins at a sample.
+/// Appends the line of the run that begins at a sample.
 fn put_run<R: Rack>(
     rack: &mut R,
     held: &mut Held,
@@ -119,7 +119,7 @@ fn put_run<R: Rack>(
     }
 }
 
-/// Puts the line of the run that begins at a sample, where one does.
+/// Appends the line of the run that begins at a sample, if one does.
 fn put_sample<R: Rack>(
     rack: &mut R,
     held: &mut Held,
@@ -143,7 +143,7 @@ fn put_sample<R: Rack>(
     Ok(())
 }
 
-/// Puts the lines of the runs of a row. Spans in which nothing changes are passed over.
+/// Appends the lines of the runs of a row. Spans in which nothing changes are skipped.
 fn put_row<R: Rack>(
     rack: &mut R,
     held: &mut Held,
@@ -174,7 +174,7 @@ fn put_row<R: Rack>(
     Ok(())
 }
 
-/// Puts the lines of all runs.
+/// Appends the lines of all runs.
 pub(crate) fn put_rows<R: Rack>(
     rack: &mut R,
     held: &mut Held,
@@ -199,7 +199,7 @@ pub(crate) fn put_rows<R: Rack>(
     Ok(())
 }
 
-/// Puts the first line, and the sides and the maxval of the second.
+/// Appends the first line, and the sides and the maxval of the second.
 fn put_sides<R: Rack>(
     rack: &mut R,
     held: &mut Held,
@@ -217,7 +217,7 @@ fn put_sides<R: Rack>(
     }
 }
 
-/// Puts how many planes there are.
+/// Appends the number of planes.
 fn put_count<R: Rack>(rack: &mut R, held: &mut Held, plates: u32) -> Result<(), Failed>
     requires { IsTrue (R.state rack.old).is_open }
     ensures { Puts (codes " plates" ++ number plates)
@@ -229,7 +229,7 @@ fn put_count<R: Rack>(rack: &mut R, held: &mut Held, plates: u32) -> Result<(), 
     }
 }
 
-/// Puts how many planes there are, and the end of the line.
+/// Appends the number of planes, and the end of the line.
 fn put_plates<R: Rack>(rack: &mut R, held: &mut Held, plates: u32) -> Result<(), Failed>
     requires { IsTrue (R.state rack.old).is_open }
     ensures { Puts ((codes " plates" ++ number plates) ++ 10 ∷ [])
@@ -241,7 +241,7 @@ fn put_plates<R: Rack>(rack: &mut R, held: &mut Held, plates: u32) -> Result<(),
     }
 }
 
-/// Puts the first two lines.
+/// Appends the first two lines.
 pub(crate) fn put_head<R: Rack>(
     rack: &mut R,
     held: &mut Held,

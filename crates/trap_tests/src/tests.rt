@@ -12,28 +12,22 @@ use self::failing::{holds_up_to, is_broken};
 use band_workers::{Gate, OpenGate};
 use lists::list::List;
 use lists::memory::push;
-use lists::names::{CallList, Name, copied};
-use outside::distinct_names::have_distinct_names;
 use outside::mem_file::{FileList, MemFile};
 use outside::mem_rack::MemRack;
 use outside::mem_tray::MemTray;
 use std::alloc::Global;
 use std::process::Abort;
 use std::thread::Threads;
-use test_files::{CYAN, MAGENTA, calls, words_of};
+use test_files::{
+    CYAN, DISABLED, INKS, MAGENTA, TRAPPED_CYAN, TRAPPED_MAGENTA, TRAPPED_REPORT, UNSLID_CYAN,
+    UNSLID_REPORT, UNTRAPPED_REPORT, WIDE, rack_of, tray_of, words_of,
+};
 use trap_cli::top::trap_main;
 
-const DISABLED: &str = "<< /Enabled false >> settrapparams showpage";
+// What stands round the parameters of a page, between the inks and the page's end.
+const SET: &[u8] = b"<< ";
 
-// The pieces of a job: HEAD, INKS, more inks, SET, parameters, END.
-const HEAD: &str = "<< /HWResolution [72 72]";
-
-const INKS: &str =
-    " /TrappingDetails << /Type 1001 /ColorantDetails << /Cyan << /NeutralDensity 0.61 >> /Magenta << /NeutralDensity 0.76 >> /Yellow << /NeutralDensity 0.16 >> /Black << /NeutralDensity 1.70 >>";
-
-const SET: &str = " >> >> >> setpagedevice << ";
-
-const END: &str = " >> settrapparams showpage";
+const END: &[u8] = b" >> settrapparams showpage";
 
 const ONE_PLATE: &str = "page job report Cyan:in0:out0";
 
@@ -55,7 +49,7 @@ struct Case<'a> {
     // with single spaces between them; no words where it is empty
     words: &'a str,
     // the pieces of the job
-    job: &'a [&'a str],
+    job: &'a [&'a [u8]],
     plates: &'a [&'a [u8]],
     // the number of a file, from 0 for the job, and the place in it at which reads fail
     failing: Option<(usize, u64)>,
@@ -66,7 +60,7 @@ struct Case<'a> {
 
 const USUAL: Case<'static> = Case {
     words: TWO_PLATES,
-    job: &[HEAD, INKS, SET, "/TrapWidth 2", END],
+    job: &[INKS, WIDE],
     plates: &[CYAN, MAGENTA],
     failing: None,
     tray_fails: None,
@@ -77,15 +71,16 @@ const USUAL: Case<'static> = Case {
 // What is looked at where a run has ended.
 #[derive(Clone, Copy)]
 enum Look<'a> {
-    // Of the files none was created, and this is told.
+    // Of the files none was created, and this is printed.
     Refused(&'a str),
-    // These plates and this report were written, and nothing is told.
-    Written(&'a [&'a [u8]], &'a str),
-    // This is told.
+    // These plates and this report were written, and nothing is printed.
+    Written(&'a [&'a [u8]], &'a [u8]),
+    // This is printed.
     Told(&'a str),
-    // This is told, and the first plate was not created.
+    // This is printed, and the first plate was not created.
     Unwritten(&'a str),
-    // Of what the usual case writes all files stand before that one, of it so many bytes, and no later one; and this is told.
+    // Of the files of the usual case all stand there before this one, this many bytes of it, and no later one; and this
+    // is printed.
     UpTo(usize, usize, &'a str),
     // Of what the usual case writes a file broke.
     Broken,
@@ -98,39 +93,17 @@ fn judge(rt: &impl Abort, is_right: bool, row: &str, number: u64) {
     assert!(rt; is_right, "{row}, {number}");
 }
 
-fn bytes_of(rt: &impl Abort, alloc: Global, text: &[u8]) -> Name {
-    copied(alloc, text).expect(rt, "no memory")
-}
-
-fn calls_of(rt: &impl Abort, alloc: Global, call: Option<u64>) -> CallList {
-    calls(alloc, call).expect(rt, "no memory")
-}
-
-// The pieces one after the other.
-fn joined(rt: &impl Abort, alloc: Global, pieces: &[&str]) -> Vec<u8> {
-    let mut bytes = Vec::new(alloc);
-    for piece in pieces {
-        add(rt, &mut bytes, piece.as_bytes());
-    }
-    bytes
-}
-
-fn add(rt: &impl Abort, bytes: &mut Vec<u8>, more: &[u8]) {
-    assert!(rt; bytes.extend_from_slice(more).is_ok(), "no memory");
-}
-
+// The file of that name, of these pieces one after the other, of which reads fail from that place on.
 fn file_of(
     rt: &impl Abort,
     alloc: Global,
     name: &str,
-    bytes: &[u8],
+    pieces: &[&[u8]],
     fails_at: Option<u64>,
 ) -> MemFile {
-    MemFile {
-        name: bytes_of(rt, alloc, name.as_bytes()),
-        bytes: bytes_of(rt, alloc, bytes),
-        fails_at,
-    }
+    let mut file = test_files::file_of(alloc, name, pieces).expect(rt, "no memory");
+    file.fails_at = fails_at;
+    file
 }
 
 fn put(rt: &impl Abort, files: &mut FileList, file: MemFile) {
@@ -146,15 +119,14 @@ fn place_in(case: Case<'_>, file: usize) -> Option<u64> {
 }
 
 fn job_of(rt: &impl Abort, alloc: Global, case: Case<'_>) -> MemFile {
-    let job = joined(rt, alloc, case.job);
-    file_of(rt, alloc, "job", &job, place_in(case, 0))
+    file_of(rt, alloc, "job", case.job, place_in(case, 0))
 }
 
 // Adds that plate where the case has it, by its name of READ.
 fn add_plate(rt: &impl Abort, alloc: Global, files: &mut FileList, case: Case<'_>, plate: usize) {
     if let (Some(name), Some(bytes)) = (READ.get(plate), case.plates.get(plate)) {
         let place = place_in(case, plate.saturating_add(1));
-        put(rt, files, file_of(rt, alloc, name, bytes, place));
+        put(rt, files, file_of(rt, alloc, name, &[*bytes], place));
     }
 }
 
@@ -168,22 +140,8 @@ fn files_of(rt: &impl Abort, alloc: Global, case: Case<'_>) -> FileList {
     files
 }
 
-fn tray_with(rt: &impl Abort, alloc: Global, files: FileList, fails: CallList) -> MemTray {
-    assert!(rt; have_distinct_names(files.as_slice()));
-    MemTray::new(alloc, files, 64, fails)
-}
-
-fn tray_of(rt: &impl Abort, alloc: Global, case: Case<'_>) -> MemTray {
-    let files = files_of(rt, alloc, case);
-    tray_with(rt, alloc, files, calls_of(rt, alloc, case.tray_fails))
-}
-
-fn rack_of(rt: &impl Abort, alloc: Global, case: Case<'_>) -> MemRack {
-    MemRack::new(alloc, 50, case.room, calls_of(rt, alloc, case.rack_fails))
-}
-
 // The status, and whether the rack stands so then.
-fn ended<H: Threads + Sync, G: Gate + Sync>(
+fn end_of_call<H: Threads + Sync, G: Gate + Sync>(
     rt: &H,
     alloc: Global,
     words: &[String],
@@ -196,7 +154,7 @@ fn ended<H: Threads + Sync, G: Gate + Sync>(
     (ended.status, looks(rack, look))
 }
 
-fn ended_on_rack<H: Abort + Threads + Sync, G: Gate + Sync>(
+fn end_on_rack<H: Abort + Threads + Sync, G: Gate + Sync>(
     rt: &H,
     alloc: Global,
     words: &[String],
@@ -205,11 +163,11 @@ fn ended_on_rack<H: Abort + Threads + Sync, G: Gate + Sync>(
     gate: &G,
     look: Look<'_>,
 ) -> (u8, bool) {
-    let mut rack = rack_of(rt, alloc, case);
-    ended(rt, alloc, words, tray, &mut rack, gate, look)
+    let mut rack = rack_of(alloc, 50, case.room, case.rack_fails).expect(rt, "no memory");
+    end_of_call(rt, alloc, words, tray, &mut rack, gate, look)
 }
 
-fn ended_on_files<H: Abort + Threads + Sync, G: Gate + Sync>(
+fn end_on_files<H: Abort + Threads + Sync, G: Gate + Sync>(
     rt: &H,
     alloc: Global,
     words: &[String],
@@ -217,8 +175,9 @@ fn ended_on_files<H: Abort + Threads + Sync, G: Gate + Sync>(
     gate: &G,
     look: Look<'_>,
 ) -> (u8, bool) {
-    let mut tray = tray_of(rt, alloc, case);
-    ended_on_rack(rt, alloc, words, case, &mut tray, gate, look)
+    let files = files_of(rt, alloc, case);
+    let mut tray = tray_of(alloc, files, 64, case.tray_fails).expect(rt, "no tray");
+    end_on_rack(rt, alloc, words, case, &mut tray, gate, look)
 }
 
 // The status of a run, and whether its rack stands so then.
@@ -230,7 +189,7 @@ fn run_by<H: Abort + Threads + Sync, G: Gate + Sync>(
     look: Look<'_>,
 ) -> (u8, bool) {
     let words = words_of(alloc, case.words).expect(rt, "no memory");
-    ended_on_files(rt, alloc, &words, case, gate, look)
+    end_on_files(rt, alloc, &words, case, gate, look)
 }
 
 fn run(
@@ -278,13 +237,13 @@ fn has(rack: &MemRack, name: &str, wanted: Option<&[u8]>) -> bool {
 }
 
 // Whether the plates and the report are these.
-fn holds(rack: &MemRack, plates: &[&[u8]], report: &str) -> bool {
+fn holds(rack: &MemRack, plates: &[&[u8]], report: &[u8]) -> bool {
     for (name, bytes) in WRITTEN.iter().zip(plates) {
         if !has(rack, name, Some(bytes)) {
             return false;
         }
     }
-    has(rack, "report", Some(report.as_bytes()))
+    has(rack, "report", Some(report))
 }
 
 // Whether none of the files was created.

@@ -1,5 +1,5 @@
 -- What `clap` says of the command `page`.
-use Rattle.std.proofs.Common.{◌≡◌, ◌≢◌, ◌⊎◌, Bool, true, false, cond, codes, List, [], ◌∷◌, Option, Some, None, is_some, option_map, Result, Ok, Err, IfOk, IfSome, OnOk, refl, sym, ap, ◌∙◌, inl, inr}
+use Rattle.std.proofs.Common.{◌≡◌, ◌≢◌, ◌⊎◌, true, false, codes, List, [], ◌∷◌, Option, Some, None, is_some, option_map, Result, Ok, Err, IfOk, IfSome, OnOk, refl, sym, ap, ◌∙◌, inl, inr}
 use Rattle.clap.proofs.WalkLemmas.{first_value-rows, raw_values-rows}
 use Rattle.clap.specs.Matches.{first_value, matched_of, raw_values}
 use Rattle.clap.specs.declared.parser.matches.Found.{Found}
@@ -7,7 +7,7 @@ use Rattle.clap.specs.Words.{App, HasMatchesOf, all_of, first_of, IsAmong, Kinds
 use Rattle.clap.specs.declared.parser.matches.ArgMatches.{ArgMatches}
 use Rattle.clap.specs.declared.error.kind.ErrorKind.{ErrorKind}
 use Rattle.clap.specs.declared.error.kind.ErrorKind.TheVariants.{OutOfMemory}
-use Rattle.trap_words.specs.Words.{PageWords, page_of, page_of_rows, page_of_words}
+use Rattle.trap_words.specs.Words.{page_of, page_of_rows}
 use Rattle.trap_words.specs.PageApp.{is_faultless, is_taken, page_app, rows_in}
 
 page_is_simple : is_simple page_app ≡ true
@@ -71,11 +71,3 @@ pub page_found : (f : Found) (workers band job report : Option Text) (plates : O
 page_found f workers band job report plates a b c d e =
     same_page workers (first_of (codes "workers") (rows_of f)) band (first_of (codes "band") (rows_of f)) job (first_of (codes "job") (rows_of f)) report (first_of (codes "report") (rows_of f)) plates (all_of (codes "plate") (rows_of f))
     (a ∙ first_value-rows f (codes "workers")) (b ∙ first_value-rows f (codes "band")) (c ∙ first_value-rows f (codes "job")) (d ∙ first_value-rows f (codes "report")) (e ∙ raw_values-rows f (codes "plate"))
-
--- the page of words that are taken is that of the rows
-pub page_taken : (words : List Text) (m : ArgMatches) (page : Option PageWords) → true ≡ is_taken words → rows_of (found_of m) ≡ rows_in words → page ≡ page_of_rows (rows_of (found_of m)) → page ≡ page_of_words words
-page_taken words m page is rows same =
-    same ∙ ap page_of_rows rows ∙ ap (λ (b : Bool). cond b (page_of_rows (rows_in words)) None) is
-
-pub page_not_taken : (words : List Text) → false ≡ is_taken words → None ≡ page_of_words words
-page_not_taken words is = ap (λ (b : Bool). cond b (page_of_rows (rows_in words)) None) is

@@ -1,20 +1,21 @@
 -- What the program holds of a command, as the words that it stands for.
-use Rattle.std.specs.Prelude.{◌≤◌, List, map, vec_len}
+use Rattle.std.specs.Prelude.{ℕ, ◌≤◌, List, map, vec_len}
+use Rattle.std.specs.Borrow.{Bor}
 use Rattle.trap_words.specs.Words.{PlateNames, PageWords, SampleWords, Command as Meaning}
 use Rattle.trap_words.specs.Words.{Page as page, Sample as sample}
-use Rattle.plain_words.specs.declared.parts.PlateWord.{PlateWord}
-pub use Rattle.plain_words.specs.Held.{names_in}
-use Rattle.trap_words.specs.declared.command.PageCommand.{PageCommand}
-use Rattle.trap_words.specs.declared.command.SampleCommand.{SampleCommand}
+use Rattle.plain_words.specs.Parts.{parts_of}
+use Rattle.trap_words.specs.declared.command.PageArgs.{PageArgs}
+use Rattle.trap_words.specs.declared.command.SampleArgs.{SampleArgs}
 use Rattle.trap_words.specs.declared.command.Command.{Command}
 use Rattle.trap_words.specs.declared.command.Command.TheVariants.{Page, Sample}
+use Rattle.page_model.specs.Limits.{most_band_height, most_plates, most_side, most_workers}
 
 -- the plates of the words, in their order
-abbrev pub plates_in : List PlateWord → List PlateNames
-plates_in = map names_in
+abbrev pub plates_in : List (Bor (List ℕ)) → List PlateNames
+plates_in words = map parts_of (map (λ w. w.now) words)
 
 -- a command of a page
-abbrev pub page_in : PageCommand → PageWords
+abbrev pub page_in : PageArgs → PageWords
 page_in p =
     record {
       workers = p.workers;
@@ -25,7 +26,7 @@ page_in p =
     }
 
 -- a command of a sample page
-abbrev pub sample_in : SampleCommand → SampleWords
+abbrev pub sample_in : SampleArgs → SampleWords
 sample_in s = record { number = s.number; width = s.width; height = s.height; workers = s.workers }
 
 -- either of them
@@ -34,22 +35,22 @@ command_in (Page p) = page (page_in p)
 command_in (Sample s) = sample (sample_in s)
 
 -- the limits of what the words may ask for
-pub record IsPageWithin (p : PageCommand) : Type 0 where
+pub record IsPageWithin (p : PageArgs) : Type 0 where
   pub workers_from : 1 ≤ p.workers
-  pub workers_to : p.workers ≤ 64
+  pub workers_to : p.workers ≤ most_workers
   pub band_from : 1 ≤ p.band
-  pub band_to : p.band ≤ 4096
+  pub band_to : p.band ≤ most_band_height
   pub plates_from : 1 ≤ vec_len p.plates
-  pub plates_to : vec_len p.plates ≤ 16
+  pub plates_to : vec_len p.plates ≤ most_plates
 
 -- the same of a sample page
-pub record IsSampleWithin (s : SampleCommand) : Type 0 where
+pub record IsSampleWithin (s : SampleArgs) : Type 0 where
   pub width_from : 1 ≤ s.width
-  pub width_to : s.width ≤ 16384
+  pub width_to : s.width ≤ most_side
   pub height_from : 1 ≤ s.height
-  pub height_to : s.height ≤ 16384
+  pub height_to : s.height ≤ most_side
   pub workers_from : 1 ≤ s.workers
-  pub workers_to : s.workers ≤ 64
+  pub workers_to : s.workers ≤ most_workers
 
 -- the limits of either
 abbrev pub IsWithin : Command → Type 0

@@ -1,4 +1,4 @@
--- The command `page`, as `clap` is told it, and what `clap` makes of words.
+-- The command `page`, as it is described to `clap`, and what `clap` makes of words.
 use Rattle.std.specs.Prelude.{Bool, true, false, List, [], ◌∷◌, Some, codes}
 use Rattle.clap.specs.Lexer.{usize_max}
 use Rattle.clap.specs.Walk.{Row, Rule, Text}

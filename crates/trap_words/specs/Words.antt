@@ -9,6 +9,7 @@ use Rattle.trap_words.specs.Options.{option_number}
 use Rattle.trap_words.specs.PageApp.{is_taken, rows_in}
 pub use Rattle.plain_words.specs.Parts.{PlateNames}
 use Rattle.trap_words.specs.Plates.{plates_of}
+use Rattle.page_model.specs.Limits.{most_band_height, most_side, most_workers}
 
 -- a command of one page: its workers, the rows of its bands, the files that are read and written
 pub record PageWords : Type 0 where
@@ -41,7 +42,7 @@ page_with _ _ _ _ _ = None
 abbrev pub page_of : Option (List ℕ) → Option (List ℕ) → Option (List ℕ) → Option (List ℕ)
     → Option (List (List ℕ)) → Option PageWords
 page_of workers band (Some job) (Some report) (Some plates) = page_with
-    (option_number 1 64 4 workers) (option_number 1 4096 64 band) job report
+    (option_number 1 most_workers 4 workers) (option_number 1 most_band_height 64 band) job report
     (plates_of report plates)
 page_of _ _ _ _ _ = None
 
@@ -63,8 +64,8 @@ sample_with _ _ _ _ = None
 -- NUMBER WIDTH HEIGHT WORKERS
 abbrev pub sample_of_words : List (List ℕ) → Option SampleWords
 sample_of_words (number ∷ width ∷ height ∷ workers ∷ []) = sample_with
-    (number_of 0 4294967295 number) (number_of 1 16384 width) (number_of 1 16384 height)
-    (number_of 1 64 workers)
+    (number_of 0 4294967295 number) (number_of 1 most_side width) (number_of 1 most_side height)
+    (number_of 1 most_workers workers)
 sample_of_words _ = None
 
 -- whether `page` is the first word, so that the words go to `clap`

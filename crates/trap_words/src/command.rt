@@ -5,37 +5,36 @@ ghost use Rattle.trap_words.specs.Held.{command_in, IsWithin};
 use crate::page::read_page;
 use crate::sample::read_sample;
 use lists::names::OutOfMemory;
-use plain_words::parts::PlateWord;
 use std::alloc::Global;
 
-/// A command of one page: its workers, the rows of its bands, and the files that are read and written.
+/// The command `page`: its workers, the rows of its bands, and the files that are read and written.
 #[derive(Debug, Drop)]
-pub struct PageCommand<'a> {
+pub struct PageArgs<'a> {
     pub workers: u32,
     pub band: u32,
     pub job: &'a str,
     pub report: &'a str,
-    pub plates: Vec<PlateWord<'a>>,
+    pub plates: Vec<&'a str>,
 }
 
-/// A command of a sample page: its number, its sides in samples and its workers.
+/// The command `sample`: the number of the sample page, its sides in samples, and its workers.
 #[derive(Clone, Copy, Debug, PartialEq, Eq)]
-pub struct SampleCommand {
+pub struct SampleArgs {
     pub number: u32,
     pub width: u32,
     pub height: u32,
     pub workers: u32,
 }
 
-/// What the words ask for.
+/// The command of a program's words.
 #[derive(Debug, Drop)]
 pub enum Command<'a> {
-    Page(PageCommand<'a>),
-    Sample(SampleCommand),
+    Page(PageArgs<'a>),
+    Sample(SampleArgs),
 }
 
-/// The command that the words after the program's name mean; `None` where they mean nothing. Memory is wanted only for the
-/// words of a page.
+/// Reads the words after the program's name; `None` where they are no command. Memory is needed only for the words of
+/// `page`.
 pub fn read_words<'a>(
     alloc: Global,
     words: &'a [String],

@@ -1,4 +1,4 @@
-//! The words of a command: what `trap` is asked to do.
+//! The words of the program `trap`, read as a command.
 #![tactic(auto)]
 
 pub mod command;

@@ -2,23 +2,25 @@ ghost use Rattle.std.specs.Prelude.{◌≡◌, ◌≢◌, ◌≤◌, false, IfOk
 ghost use Rattle.std.specs.Option.{ForSome};
 ghost use Rattle.clap.specs.Words.{app_of, found_of, rows_of, with_rule};
 ghost use Rattle.trap_words.specs.PageApp.{is_taken, option_rule, page_app, rows_in, word_rule, words_rule};
-ghost use Rattle.trap_words.specs.Words.{page_of as page_meant, page_of_rows, page_of_words, page_with as page_made};
+ghost use Rattle.trap_words.specs.Words.{page_of as page_spec, page_of_rows, page_of_words, page_with as page_made};
 ghost use Rattle.trap_words.specs.Held.{IsPageWithin, page_in, plates_in};
+ghost use Rattle.page_model.specs.Limits.{most_band_height, most_plates, most_workers};
 
-use crate::command::PageCommand;
+use crate::command::PageArgs;
 use crate::options::option_number;
 use crate::plates::read_plates;
 use clap::error::ErrorKind;
 use clap::{Arg, ArgMatches, Command};
 use lists::names::OutOfMemory;
+use page_model::bounds::{MOST_BAND_HEIGHT, MOST_WORKERS};
 use plain_words::parts::PlateWord;
 use std::alloc::{AllocError, Global};
 
-// The page that the words mean, `page` being the first of them.
+// The command `page` of the words, the first of which is `page`.
 pub(crate) fn read_page<'a>(
     alloc: Global,
     words: &'a [String],
-) -> Result<Option<PageCommand<'a>>, OutOfMemory>
+) -> Result<Option<PageArgs<'a>>, OutOfMemory>
     ensures meaning { IfOk result
         (λ r. option_map page_in r ≡ page_of_words (map string_bytes words.now)) }
     ensures limits { IfOk result (λ r. IfSome r IsPageWithin) }
@@ -30,7 +32,7 @@ pub(crate) fn read_page<'a>(
     }
 }
 
-// What `clap` finds in the words; `None` where it refuses them or they ask for help.
+// What `clap` makes of the words; `None` where it refuses them or they ask for help.
 fn matches_in<'a>(alloc: Global, words: &'a [String]) -> Result<Option<ArgMatches<'a>>, OutOfMemory>
     ensures taken { IfOk result (λ r. is_some r ≡ is_taken (map string_bytes words.now)) }
     ensures rows { IfOk result
@@ -57,7 +59,7 @@ fn matches_by<'a>(
     }
 }
 
-// Out of memory is an error of its own, and every other one refuses the words.
+// Out of memory is an error of its own; every other error refuses the words.
 fn without_matches<'a>(kind: ErrorKind) -> Result<Option<ArgMatches<'a>>, OutOfMemory>
     ensures none { IfOk result (λ r. is_some r ≡ false) }
     ensures cause { OnOk result (kind ≢ ErrorKind.OutOfMemory) }
@@ -91,7 +93,7 @@ fn with_option<'a>(
     command.arg(Arg::new(alloc, name).long(name))
 }
 
-// The command with one more word, which has to be there.
+// The command with one more word, which is required.
 fn with_word<'a>(
     alloc: Global,
     command: Command<'a>,
@@ -116,7 +118,7 @@ fn with_words<'a>(
 fn page_of_matches<'a>(
     alloc: Global,
     matches: &ArgMatches<'a>,
-) -> Result<Option<PageCommand<'a>>, OutOfMemory>
+) -> Result<Option<PageArgs<'a>>, OutOfMemory>
     ensures meaning { IfOk result
         (λ r. option_map page_in r ≡ page_of_rows (rows_of (found_of matches.now))) }
     ensures limits { IfOk result (λ r. IfSome r IsPageWithin) }
@@ -131,7 +133,7 @@ fn page_of_matches<'a>(
     )
 }
 
-// The page of the texts that were found, where each of them has its form.
+// The command of the texts that `clap` found, if each of them has its form.
 fn page_of<'a>(
     alloc: Global,
     workers: Option<&str>,
@@ -139,9 +141,9 @@ fn page_of<'a>(
     job: Option<&'a str>,
     report: Option<&'a str>,
     plates: Option<&[&'a str]>,
-) -> Result<Option<PageCommand<'a>>, OutOfMemory>
+) -> Result<Option<PageArgs<'a>>, OutOfMemory>
     ensures meaning { IfOk result
-        (λ r. option_map page_in r ≡ page_meant (option_map (λ w. w.now) workers.entry)
+        (λ r. option_map page_in r ≡ page_spec (option_map (λ w. w.now) workers.entry)
         (option_map (λ w. w.now) band.entry) (option_map (λ w. w.now) job.entry)
         (option_map (λ w. w.now) report.entry)
         (option_map (λ s. map (λ w. w.now) s.now) plates.entry)) }
@@ -158,8 +160,8 @@ fn page_of<'a>(
     };
     match read_plates(alloc, report, plates) {
         Ok(plates) => Ok(page_with(
-            option_number(workers, 1, 64, 4),
-            option_number(band, 1, 4096, 64),
+            option_number(workers, 1, MOST_WORKERS, 4),
+            option_number(band, 1, MOST_BAND_HEIGHT, 64),
             job,
             report,
             plates,
@@ -173,17 +175,17 @@ fn page_with<'a>(
     band: Option<u32>,
     job: &'a str,
     report: &'a str,
-    plates: Option<Vec<PlateWord<'a>>>,
-) -> Option<PageCommand<'a>>
-    requires workers_range { ForSome workers (λ n. (1 ≤ n) × (n ≤ 64)) }
-    requires band_range { ForSome band (λ n. (1 ≤ n) × (n ≤ 4096)) }
-    requires plates_count { ForSome plates (λ v. (1 ≤ vec_len v) × (vec_len v ≤ 16)) }
+    plates: Option<Vec<&'a str>>,
+) -> Option<PageArgs<'a>>
+    requires workers_range { ForSome workers (λ n. (1 ≤ n) × (n ≤ most_workers)) }
+    requires band_range { ForSome band (λ n. (1 ≤ n) × (n ≤ most_band_height)) }
+    requires plates_count { ForSome plates (λ v. (1 ≤ vec_len v) × (vec_len v ≤ most_plates)) }
     ensures meaning { option_map page_in result
         ≡ page_made workers band job.now report.now
         (option_map (λ v. plates_in v.items) plates.entry) }
     ensures limits { IfSome result IsPageWithin }
 {
-    Some(PageCommand {
+    Some(PageArgs {
         workers: workers?,
         band: band?,
         job,

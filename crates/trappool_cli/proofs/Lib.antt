@@ -1,7 +1,7 @@
 pub mod Steps
 pub mod Writing
 pub mod Prefixes
-pub mod Telling
+pub mod TellingLemmas
 pub mod Outs
 pub mod Clauses
 pub mod Cases

@@ -1,12 +1,11 @@
 -- One line more is answered.
-use Rattle.std.proofs.Common.{◌≡◌, ◌∙◌, ℕ, suc, ◌+◌, ◌<◌, List, [], ◌∷◌, length, drop, get_or, Some, None, inl, inr, refl, sym, ap, subst, arith}
+use Rattle.std.proofs.Common.{◌≡◌, ◌∙◌, ℕ, suc, ◌+◌, ◌<◌, List, [], ◌∷◌, length, drop, get_or, None, inr, refl, sym, ap, subst, arith}
 use Rattle.std.proofs.Math.Seq.{drop-cons}
 use Rattle.std.proofs.lemmas.List.{length-drop}
 use Rattle.outside.specs.Rack.{RackState}
 use Rattle.job_list.specs.Lines.{LineParts}
 use Rattle.trap_pool.specs.Replies.{ReplyParts}
-use Rattle.trappool_cli.specs.declared.answering.LineStatus.{LineStatus}
-use Rattle.trappool_cli.specs.Answers.{AllHaveOuts, AnswersAll, AnswersOne, HasOuts, status_with}
+use Rattle.trappool_cli.specs.Answers.{AllHaveOuts, AnswersAll, AnswersOne}
 
 -- Where a reply is left, a line is.
 some_left : (left : List LineParts) (reply : ReplyParts) (rest : List ReplyParts) → AllHaveOuts left (reply ∷ rest) → 0 < length left
@@ -22,21 +21,9 @@ left_first lines n line here is =
     let one : suc n ≡ n + 1 = omega arith in
     drop-cons lines n line here ∙ ap (λ (l : LineParts). l ∷ drop (suc n) lines) (sym is) ∙ ap (λ (m : ℕ). line ∷ drop m lines) one
 
-pub answered_on : (n so_far : ℕ) (lines left : List LineParts) (line : LineParts) (reply : ReplyParts) (rest : List ReplyParts) (before between after : RackState) (said : LineStatus) (status : ℕ) → left ≡ line ∷ lines → AnswersOne n line reply before between (Some said) → AnswersAll (n + 1) (status_with so_far said) lines rest between after status → AnswersAll n so_far left (reply ∷ rest) before after status
-answered_on n so_far lines left line reply rest before between after said status is one later =
-    subst (λ (l : List LineParts). AnswersAll n so_far l (reply ∷ rest) before after status) (sym is) (inl (said, between, one, later))
-
 pub untold_here : (n so_far : ℕ) (lines left : List LineParts) (line : LineParts) (reply : ReplyParts) (rest : List ReplyParts) (before after : RackState) (status : ℕ) → left ≡ line ∷ lines → AnswersOne n line reply before after None → status ≡ 6 → AnswersAll n so_far left (reply ∷ rest) before after status
 untold_here n so_far lines left line reply rest before after status is one ends =
     subst (λ (l : List LineParts). AnswersAll n so_far l (reply ∷ rest) before after status) (sym is) (inr (one, ends))
-
-pub next_left : (lines : List LineParts) (n : ℕ) (line : LineParts) (reply : ReplyParts) (rest : List ReplyParts) → n < length lines → line ≡ get_or lines n line → AllHaveOuts (drop n lines) (reply ∷ rest) → HasOuts line reply × AllHaveOuts (drop (n + 1) lines) rest
-next_left lines n line reply rest here is outs = subst (λ (l : List LineParts). AllHaveOuts l (reply ∷ rest)) (left_first lines n line here is) outs
-
--- no line is left after the last reply
-pub none_left : (lines : List LineParts) → AllHaveOuts lines [] → lines ≡ []
-none_left [] outs = refl
-none_left (line ∷ lines) outs = absurd outs
 
 pub all_answered : (n so_far : ℕ) (left : List LineParts) (rack : RackState) → AllHaveOuts left [] → AnswersAll n so_far left [] rack rack so_far
 all_answered n so_far [] rack outs = (refl, refl)

@@ -48,9 +48,6 @@ large_kept line k page r = record {
   answer = large_as line page r;
 }
 
-pub done_written : (line : LineParts) (k : ℕ) (page : PageParts) (trapped : Trapped) (a b : RackState) (what : LineStatus) → WritesDone line page a b what → WritesReply line (reply_parts k (Some page) (outcomes.Done trapped)) a b what
-done_written line k page trapped a b what done = record { keeps = done.keeps; told = done.told; asked = done.asked; answer = done.answer }
-
 -- What is done is of a page, and its report stands beside it.
 pub ready_page : (page : Option PageParts) (trapped : Trapped) (text : List ℕ) → IsReply page (outcomes.Done trapped) → IsReady page (outcomes.Done trapped) (Some text) → (made : PageParts) × (page ≡ Some made) × IsTrapOf made trapped × IsReport made trapped.planes text
 ready_page None trapped text kind ready = absurd kind

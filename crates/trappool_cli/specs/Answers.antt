@@ -1,4 +1,4 @@
--- How the lines of a list are answered: files are written, and a line is told.
+-- How the lines of a list are answered: files are written, and a line is printed.
 use Rattle.std.specs.Prelude.{◌≡◌, ◌⊎◌, ℕ, ◌+◌, IsTrue, List, [], ◌∷◌, ◌++◌, length, take, Option}
 use Rattle.std.specs.Prelude.{Some, None}
 use Rattle.outside.specs.Causes.{RoseOnce, AsksPrefix}
@@ -40,7 +40,7 @@ AnswersSaid target page (outcomes.Refused refusal) before after (said.Refused ot
 AnswersSaid target page outcomes.TooLarge before after said.TooLarge = after ≡ before
 AnswersSaid target page outcome before after other = ⊥
 
--- The files of a line are written, as far as they are; no text is told.
+-- The files of a line are written, as far as they are; no text is printed.
 pub record WritesReply (line : LineParts) (reply : ReplyParts) (before after : RackState)
     (said : LineStatus) : Type 0 where
   pub keeps : KeepsRack before after
@@ -67,19 +67,19 @@ pub record WritesDone (line : LineParts) (page : PageParts) (before after : Rack
   pub asked : AsksPrefix before.asked after.asked (written_names (target_of line))
   pub answer : AnswersDone (target_of line) page before after said
 
--- The text is told whole, and no file is touched.
+-- The text is printed whole, and no file is touched.
 pub record TellsWhole (text : List ℕ) (before after : RackState) : Type 0 where
   pub files : KeepsFiles before after
   pub calm : after.faults ≡ before.faults
   pub told : IsTrue before.tells → after.told ≡ before.told ++ text
 
--- One call of the rack failed: a prefix of the text is told.
+-- One call of the rack failed: a prefix of the text is printed.
 pub record TellsPart (text : List ℕ) (before after : RackState) : Type 0 where
   pub files : KeepsFiles before after
   pub once : RoseOnce before.faults after.faults
   pub told : IsTrue before.tells → (count : ℕ) × (after.told ≡ before.told ++ take count text)
 
--- Line k is answered, and told if there is something said.
+-- Line k is answered, and printed if there is something said.
 abbrev pub AnswersOne : ℕ → LineParts → ReplyParts → RackState → RackState → Option LineStatus
     → Type 0
 AnswersOne k line reply before after (Some said) = (between : RackState)
@@ -93,8 +93,8 @@ status_with status said.Done = status
 status_with status (said.Refused refusal) = lines_refused
 status_with status said.TooLarge = lines_refused
 
--- The lines from number k on are answered one after another; the first that cannot be told is the
--- last.
+-- The lines from number k on are answered one after another; the first that cannot be printed is
+-- the last.
 abbrev pub AnswersAll : ℕ → ℕ → List LineParts → List ReplyParts → RackState → RackState → ℕ
     → Type 0
 AnswersAll k so_far [] [] before after status = (after ≡ before) × (status ≡ so_far)

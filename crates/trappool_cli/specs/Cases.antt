@@ -25,7 +25,7 @@ pub record MakesPage (tray : TrayState) (line : LineParts) (page : PageParts) : 
       → IsVerdict one_page tray.file (source_of line) (target_of line)
       (Out (outcome (target_of line) page))
 
--- And it is accepted: after so many samples of the accepted pages before it, its own are not too
+-- And it is accepted: with the `used` samples of the accepted pages before it, its own are not too
 -- many.
 pub record AcceptsPage (tray : TrayState) (used taken : ℕ) (line : LineParts)
     (page : PageParts) : Type 0 where
@@ -58,8 +58,8 @@ IsCase tray tray' used taken line before after (said.Refused refusal) =
     → IsVerdict one_page tray.file (source_of line) (target_of line) (refused_verdict refusal))
     × (taken ≡ 0) × (after ≡ before)
 
--- A line is in one of the cases. No text is told, and the names that are handed to `create` are the
--- first of its outputs and its report.
+-- A line is in one of the cases. No text is printed, and the names that are handed to `create` are
+-- the first of its outputs and its report.
 pub record LineEnds (tray tray' : TrayState) (used taken : ℕ) (line : LineParts)
     (before after : RackState) (what : LineStatus) : Type 0 where
   pub keeps : KeepsRack before after
@@ -67,8 +67,8 @@ pub record LineEnds (tray tray' : TrayState) (used taken : ℕ) (line : LinePart
   pub asked : AsksPrefix before.asked after.asked (written_names (target_of line))
   pub ends : IsCase tray tray' used taken line before after what
 
--- The lines from number k on end one after another, and of each is told what is said of it. The
--- first that cannot be told is the last of which something is said; what comes later is not
+-- The lines from number k on end one after another, and for each is printed what is said of it. The
+-- first that cannot be printed is the last of which something is said; what comes later is not
 -- touched.
 abbrev pub LinesEnd : TrayState → TrayState → ℕ → ℕ → ℕ → List LineParts → List LineStatus
     → RackState
@@ -83,7 +83,7 @@ LinesEnd tray tray' k used so_far (line ∷ lines) (what ∷ whats) before after
     (status_with so_far what) lines whats next after status)
     ⊎ (TellsPart (job_line k what) between after × (whats ≡ []) × (status ≡ not_written)))
 
--- 1 where a failed read is told
+-- 1 where a failed read is reported
 abbrev pub read_line : LineStatus → ℕ
 read_line (said.Refused (refusals.Read file)) = 1
 read_line other = 0
@@ -93,7 +93,7 @@ abbrev pub read_lines : List LineStatus → ℕ
 read_lines [] = 0
 read_lines (what ∷ whats) = read_line what + read_lines whats
 
--- 1 where a failed write is told
+-- 1 where a failed write is reported
 abbrev pub write_line : LineStatus → ℕ
 write_line (said.Refused (refusals.Write file)) = 1
 write_line other = 0
@@ -103,7 +103,7 @@ abbrev pub write_lines : List LineStatus → ℕ
 write_lines [] = 0
 write_lines (what ∷ whats) = write_line what + write_lines whats
 
--- Of each group of names, one after another, the first so many are handed out.
+-- Of each group of names, one after another, a prefix is handed out.
 abbrev pub AsksPrefixes : Option (List (List ℕ)) → Option (List (List ℕ)) → List (List (List ℕ))
     → Type 0
 AsksPrefixes before after [] = after ≡ before

@@ -26,8 +26,8 @@ use Rattle.trappool_cli.specs.Text.{bad_line, job_line, unread_line, usage_line}
 use Rattle.trappool_cli.specs.Words.{AskedWords, asked_of}
 use Rattle.trappool_cli.specs.declared.answering.LineStatus.TheVariants as said
 
--- Status 2 comes exactly where the words mean nothing. The usage line is then told, and nothing is
--- read.
+-- Status 2 comes exactly where the words mean nothing. The usage line is then printed, and nothing
+-- is read.
 pub record Usage (words : List (List ℕ)) (tray tray' : TrayState) (rack rack' : RackState)
     (status : ℕ) : Type 0 where
   pub only : status ≡ usage → asked_of words ≡ None
@@ -35,8 +35,8 @@ pub record Usage (words : List (List ℕ)) (tray tray' : TrayState) (rack rack' 
   pub line : asked_of words ≡ None → TellsText usage_line rack rack'
   pub unread : asked_of words ≡ None → tray' ≡ tray
 
--- Status 3 comes only where the list has a first bad line, which is told; status 5 only where one
--- call of the tray failed while the list was read, which is told; and status 7 tells that
+-- Status 3 comes only where the list has a first bad line, which is reported; status 5 only where
+-- one call of the tray failed while the list was read, which is reported; and status 7 tells that
 -- memory ran out.
 pub record RefusedList (words : List (List ℕ)) (tray tray' : TrayState) (rack rack' : RackState)
     (status : ℕ) : Type 0 where
@@ -52,7 +52,7 @@ abbrev pub LeavesFiles : RackState → RackState → ℕ → Type 0
 LeavesFiles rack rack' status = status ≢ done → status ≢ not_written → status ≢ lines_refused
     → KeepsFiles rack rack'
 
--- what is told where each of these lines, the first of them being line k, is done
+-- what is printed where each of these lines, the first of them being line k, is done
 abbrev pub done_text : ℕ → List LineParts → List ℕ
 done_text k [] = []
 done_text k (line ∷ lines) = job_line k said.Done ++ done_text (k + 1) lines
@@ -62,8 +62,8 @@ abbrev pub all_written : List LineParts → List (List ℕ)
 all_written [] = []
 all_written (line ∷ lines) = written_names (target_of line) ++ all_written lines
 
--- Status 0 comes only where the list is one, each of its lines is told done, and each of their
--- files is finished.
+-- Status 0 comes only where the list is one, each of its lines is printed as done, and each of
+-- their files is finished.
 abbrev pub Success : List (List ℕ) → TrayState → RackState → RackState → ℕ → Type 0
 Success words tray rack rack' status = status ≡ done → (asked : AskedWords)
     × (lines : List LineParts) × (asked_of words ≡ Some asked)
@@ -93,8 +93,8 @@ IsStatus status = IsAnswer status ⊎ ((status ≡ usage)
     ⊎ ((status ≡ job_refused) ⊎ ((status ≡ not_read) ⊎ (status ≡ out_of_memory))))
 
 -- Where the tray tells the list's bytes: status 3 does not come of bytes that are a list; and of
--- bytes with a first bad line, where the tray's count did not rise, it comes and that line is told,
--- or status 7 comes.
+-- bytes with a first bad line, where the tray's count did not rise, it comes and that line is
+-- reported, or status 7 comes.
 pub record JudgesList (words : List (List ℕ)) (tray tray' : TrayState) (rack rack' : RackState)
     (status : ℕ) : Type 0 where
   pub good : (asked : AskedWords) (lines : List LineParts) → asked_of words ≡ Some asked
@@ -129,7 +129,7 @@ pub record Answered (asked : AskedWords) (tray tray' : TrayState) (rack rack' : 
       ⊎ ((what ≡ said.TooLarge) ⊎ (what ≡ said.Refused refusals.Memory))
 
 -- Status 0, 9 and 6 come only where a list was read: there is then something said of each of its
--- lines, up to the first that cannot be told.
+-- lines, up to the first that cannot be printed.
 abbrev pub AnswersEach : List (List ℕ) → TrayState → TrayState → RackState → RackState → ℕ → Type 0
 AnswersEach words tray tray' rack rack' status = IsAnswer status → (asked : AskedWords)
     × (lines : List LineParts) × (whats : List LineStatus) × (asked_of words ≡ Some asked)

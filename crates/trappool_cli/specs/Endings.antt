@@ -15,7 +15,7 @@ use Rattle.trappool_cli.specs.Words.{AskedWords, asked_of}
 use Rattle.trappool_cli.specs.declared.lines.TrappoolError.{TrappoolError}
 use Rattle.trappool_cli.specs.declared.lines.TrappoolError.TheVariants.{BadLine, NotRead, Memory}
 
--- A line is told that says why nothing is written.
+-- A line is printed that says why nothing is written.
 pub record Refuses (line : List ℕ) (its : ℕ) (before after : RackState) (status : ℕ) : Type 0 where
   pub files : KeepsFiles before after
   pub text : TellsText line before after

@@ -1,11 +1,11 @@
 -- How the list and the pages of its lines are read.
-use Rattle.std.specs.Prelude.{◌≡◌, ◌⊎◌, ℕ, ◌≤◌, IsTrue, List, [], ◌∷◌, length, Result, Ok, Err}
+use Rattle.std.specs.Prelude.{◌≡◌, ◌⊎◌, ℕ, ◌+◌, ◌≤◌, IsTrue, List, [], ◌∷◌, length, Result, Ok, Err}
 use Rattle.outside.specs.Causes.{RoseOnce, Asks}
 use Rattle.outside.specs.Reading.{TakesFew}
 use Rattle.outside.specs.Tray.{TrayState, KeepsTray}
 use Rattle.page_gather.specs.Inputs.{Holds}
 use Rattle.job_list.specs.Lines.{LineParts}
-use Rattle.job_list.specs.Lists.{IsBadLine, IsList, most_lines}
+use Rattle.job_list.specs.Lists.{IsBadLine, IsList, longest_list, most_lines}
 use Rattle.job_list.specs.declared.reading.ListRefusal.{ListRefusal}
 use Rattle.job_list.specs.declared.reading.ListRefusal.TheVariants as refused
 use Rattle.trap_pool.specs.Pools.{Pools}
@@ -22,7 +22,7 @@ AllPaired (line ∷ lines) = (length line.outs ≡ length line.inputs) × AllPai
 abbrev pub AreJobs : List LineParts → Type 0
 AreJobs lines = (length lines ≤ most_lines) × AllPaired lines
 
--- What the answer says of the list's bytes, where they are told; only a failed read raises the
+-- What the answer says of the list's bytes, where they are known; only a failed read raises the
 -- count, by one.
 abbrev pub AnswersList : List ℕ → TrayState → TrayState → Result (List LineParts) TrappoolError
     → Type 0
@@ -35,7 +35,7 @@ AnswersList name before after (Err Memory) = after.faults ≡ before.faults
 
 -- how many bytes are taken of a list at most: as many as it may have, and one
 abbrev pub most_of_list : ℕ
-most_of_list = 1048577
+most_of_list = longest_list + 1
 
 -- No more is taken of the list's file, where it is begun, than is owed.
 abbrev pub TakesList : List ℕ → TrayState → TrayState → Type 0

@@ -11,7 +11,7 @@ said_text Done = line (codes "done")
 said_text TooLarge = line (codes "TooLarge")
 said_text (Refused refusal) = line_of refusal
 
--- the prefix of the line that is told of a job of the list
+-- the prefix of the line that is printed for a job of the list
 abbrev pub job_name : ℕ → List ℕ
 job_name number = codes "job " ++ decimal number ++ codes ": "
 
@@ -27,6 +27,6 @@ bad_line number = line (codes "list: BadLine " ++ decimal number)
 abbrev pub unread_line : List ℕ
 unread_line = line (codes "read fault: list")
 
--- what is told of words that mean nothing
+-- what is printed for words that mean nothing
 abbrev pub usage_line : List ℕ
 usage_line = line (codes "usage: trappool WORKERS LIST")

@@ -3,12 +3,12 @@ ghost use Rattle.std.specs.List.{All};
 ghost use Rattle.page_model.specs.Conditions.{IsPlane};
 ghost use Rattle.page_model.specs.Counts.{page_counts};
 ghost use Rattle.page_model.specs.declared.parts.PageParts.{PageParts};
-ghost use Rattle.page_model.specs.Limits.{most_samples};
+ghost use Rattle.page_model.specs.Limits.{most_plates, most_samples};
 ghost use Rattle.page_model.specs.Tints.{trapped_planes};
 ghost use Rattle.trap_report.specs.Report.{report_of};
 ghost use Rattle.trappool_cli.specs.Answers.{AllHaveOuts, AnswersAll, AnswersOne, HasOuts, WritesDone, WritesReply};
 
-use crate::told::tell_job;
+use crate::telling::tell_job;
 use job_list::line::{LineList, ListLine};
 use outside::rack::Rack;
 use outside::tray::Failed;
@@ -19,7 +19,7 @@ use refusals::statuses::{DONE, LINES_REFUSED, NOT_WRITTEN};
 use trap_pool::outcome::Outcome;
 use trap_pool::reply::{Reply, ReplyLine, ReplyList};
 
-// What is said of a line.
+// What became of a line, as it is printed.
 #[derive(Clone, Copy, Debug, Drop, PartialEq, Eq)]
 pub(crate) enum LineStatus {
     // Its files are written.
@@ -28,7 +28,7 @@ pub(crate) enum LineStatus {
     TooLarge,
 }
 
-// Line by line writes the files of what is done, and tells what became of it. It stops where that cannot be told.
+// Writes line by line the files of what is done, and prints what became of it. It stops if that can't be printed.
 pub(crate) fn answer_all<R: Rack>(rack: &mut R, lines: &LineList, replies: ReplyList) -> u8
     requires numbered { length lines.now < 2 ^ 32 }
     requires outs { AllHaveOuts lines.now replies }
@@ -50,7 +50,7 @@ pub(crate) fn answer_all<R: Rack>(rack: &mut R, lines: &LineList, replies: Reply
     status
 }
 
-// Writes the files of a line, and tells what became of it; `None` where that cannot be told.
+// Writes the files of a line, and prints what became of it; `None` if that can't be printed.
 fn answer_line<R: Rack>(
     rack: &mut R,
     number: u32,
@@ -67,7 +67,7 @@ fn answer_line<R: Rack>(
     }
 }
 
-// Writes the files of a line whose page is done, and says what became of it.
+// Writes the files of a line whose page is done, and returns what became of it.
 fn write_reply<R: Rack>(rack: &mut R, line: &ListLine, reply: Reply) -> LineStatus
     requires { HasOuts line.now reply }
     ensures { WritesReply line.now reply (R.state rack.old) (R.state rack.new) result }
@@ -89,7 +89,7 @@ fn write_reply<R: Rack>(rack: &mut R, line: &ListLine, reply: Reply) -> LineStat
 }
 
 fn write_done<R: Rack>(rack: &mut R, line: &ListLine, planes: PlaneList, text: &Name) -> LineStatus
-    requires few { length planes ≤ 16 }
+    requires few { length planes ≤ most_plates }
     requires outs { length planes ≡ length line.now.outs }
     requires planes { All IsPlane planes }
     requires samples { All (λ plane. plane.width * plane.height ≤ most_samples) planes }

@@ -1,11 +1,12 @@
 ghost use Rattle.std.specs.Prelude.{◌≡◌, ◌≤◌, length};
 ghost use Rattle.trappool_cli.specs.Endings.{Refuses, fault_line, fault_status};
 ghost use Rattle.trappool_cli.specs.Reading.{MakesReplies};
-ghost use Rattle.trappool_cli.specs.Text.{bad_line as bad_line_meant, usage_line};
+ghost use Rattle.trappool_cli.specs.Text.{bad_line as bad_line_spec, usage_line};
 ghost use Rattle.refusals.specs.Statuses.{usage};
+ghost use Rattle.page_model.specs.Limits.{most_workers};
 
 use crate::lines::{TrappoolError, read_lines};
-use crate::words::Asked;
+use crate::words::TrappoolArgs;
 use job_list::line::LineList;
 use lists::names::OutOfMemory;
 use outside::rack::Rack;
@@ -25,12 +26,12 @@ use trap_pool::reply::ReplyList;
 pub(crate) fn make_replies<H: Threads + Wait + Sync, T: Tray, G: TakeGate + Sync>(
     rt: &H,
     alloc: Global,
-    asked: Asked<'_>,
+    asked: TrappoolArgs<'_>,
     tray: &mut T,
     gate: &G,
 ) -> Result<(LineList, ReplyList), TrappoolError>
     requires some { 1 ≤ asked.workers }
-    requires few { asked.workers ≤ 64 }
+    requires few { asked.workers ≤ most_workers }
     ensures { MakesReplies asked.entry.list.now (T.state tray.old) (T.state tray.new) result }
 {
     let lines = read_lines(alloc, tray, asked.list)?;
@@ -40,7 +41,7 @@ pub(crate) fn make_replies<H: Threads + Wait + Sync, T: Tray, G: TakeGate + Sync
     }
 }
 
-// Tells why nothing was written, and gives the status of it.
+// Prints why nothing was written, and returns its status.
 pub(crate) fn refuse_list<R: Rack>(rack: &mut R, fault: TrappoolError) -> u8
     ensures { Refuses (fault_line fault) (fault_status fault) (R.state rack.old)
         (R.state rack.new) result }

@@ -1,9 +1,10 @@
-//! The top call of the program `trappool`: a list of jobs, whose pages are trapped by workers that stay over all of them.
+//! The top call of the program `trappool`: a list of jobs, whose pages are trapped by workers that go through all of
+//! them.
 #![tactic(auto)]
 
 mod answering;
 mod asking;
 mod lines;
-mod told;
+mod telling;
 pub mod top;
 mod words;

@@ -1,25 +1,25 @@
 ghost use Rattle.trappool_cli.specs.Reading.{Judges, ReadsLines};
 
 use job_list::line::LineList;
-use job_list::reading::{ListRefusal, read_list};
+use job_list::reading::{ListRefusal, MOST_BYTES, read_list};
 use outside::reading::{ReadRefusal, read_file};
 use outside::tray::Tray;
 use std::alloc::Global;
 
 // One byte more than a list may have.
-const MOST_LIST: u32 = 1_048_577;
+const MOST_LIST: u32 = MOST_BYTES as u32 + 1;
 
-// Why nothing is written.
+// Why nothing was written.
 #[derive(Clone, Copy, Debug, Drop, PartialEq, Eq)]
 pub(crate) enum TrappoolError {
-    // This line of the list is the first bad one.
+    // The first bad line of the list.
     BadLine(u32),
     // The list could not be read.
     NotRead,
     Memory,
 }
 
-// Reads the list of that name: all of its bytes, or one more than a list may have, and never more.
+// Reads the list of that name: all its bytes, but at most one more than a list may have.
 pub(crate) fn read_lines<T: Tray>(
     alloc: Global,
     tray: &mut T,

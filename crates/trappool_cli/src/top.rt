@@ -14,17 +14,18 @@ use std::thread::Threads;
 use trap_pool::TakeGate;
 use verdicts::laws::one_verdict;
 
-/// Traps the pages of a list of jobs, and answers the status that the program ends with.
+/// Traps the pages of a list of jobs, and returns the status that the program exits with.
 ///
-/// The words are `WORKERS LIST`: from 1 to 64 workers, and the file of the list, which has a line `JOB REPORT NAME:IN:OUT ...`
-/// for each job. It reads the list, then for each line in order the job and the plates, and traps the pages by the workers,
-/// which are threads of `rt`; `gate` is told of each line that one of them takes. Only then it writes: line by line the plates
-/// and the report of a page that is trapped, and tells `job K: done`, or `job K: ` and why line K is refused, or `job K:
-/// TooLarge`. A line whose files cannot be written is refused, and the next line goes on.
+/// The words are `WORKERS LIST`: from 1 to 64 workers, and the file of the list, which has a line `JOB REPORT
+/// NAME:IN:OUT ...` for each job. It reads the list, then for each line in order the job and the plates, and traps the
+/// pages by the workers, which are threads of `rt`; `gate` is called for each line that one of them takes. Only then it
+/// writes: line by line the plates and the report of a page that was trapped, and prints `job K: done`, or `job K: `
+/// and why line K is refused, or `job K: TooLarge`. A line whose files can't be written is refused, and the next line
+/// goes on.
 ///
-/// The status is 0 where every line is done; 2 where the words mean nothing; 3 where the list has a bad line; 5 where the list
-/// could not be read; 6 where a line could not be told, after which nothing is written; 7 where memory ran out before the
-/// first write; and 9 where some line was refused.
+/// The status is 0 if every line is done; 2 if the words are no command; 3 if the list has a bad line; 5 if the list
+/// could not be read; 6 if a line could not be printed, after which nothing is written; 7 if memory ran out before the
+/// first write; and 9 if some line was refused.
 pub fn trappool_main<H: Threads + Wait + Sync, T: Tray, R: Rack, G: TakeGate + Sync>(
     rt: &H,
     alloc: Global,

@@ -59,7 +59,7 @@ const USUAL: Case<'static> = Case {
     rack_fails: None,
 };
 
-// How a run ends: its status, what is told, and some files with what stands in them afterwards.
+// How a run ends: its status, what is printed, and some files with what stands in them afterwards.
 #[derive(Clone, Copy)]
 struct Wanted<'a> {
     status: u8,
@@ -87,7 +87,7 @@ fn files_of(rt: &impl Abort, alloc: Global, list: Pieces<'_>) -> FileList {
 }
 
 // Whether the run by this tray and this rack ends so.
-fn ended<H: Threads + Wait + Sync, G: TakeGate + Sync>(
+fn end_of_call<H: Threads + Wait + Sync, G: TakeGate + Sync>(
     rt: &H,
     alloc: Global,
     words: &[String],
@@ -100,7 +100,7 @@ fn ended<H: Threads + Wait + Sync, G: TakeGate + Sync>(
     status == wanted.status && is_left(rack, wanted)
 }
 
-fn ended_on_rack<H: Threads + Wait + Abort + Sync, G: TakeGate + Sync>(
+fn end_on_rack<H: Threads + Wait + Abort + Sync, G: TakeGate + Sync>(
     rt: &H,
     alloc: Global,
     words: &[String],
@@ -110,10 +110,10 @@ fn ended_on_rack<H: Threads + Wait + Abort + Sync, G: TakeGate + Sync>(
     wanted: Wanted<'_>,
 ) -> bool {
     let mut rack = rack_of(alloc, 4096, 1_000_000, case.rack_fails).expect(rt, "no memory");
-    ended(rt, alloc, words, tray, &mut rack, gate, wanted)
+    end_of_call(rt, alloc, words, tray, &mut rack, gate, wanted)
 }
 
-fn ended_on_files<H: Threads + Wait + Abort + Sync, G: TakeGate + Sync>(
+fn end_on_files<H: Threads + Wait + Abort + Sync, G: TakeGate + Sync>(
     rt: &H,
     alloc: Global,
     words: &[String],
@@ -123,7 +123,7 @@ fn ended_on_files<H: Threads + Wait + Abort + Sync, G: TakeGate + Sync>(
 ) -> bool {
     let files = files_of(rt, alloc, case.list);
     let mut tray = tray_of(alloc, files, 4096, case.tray_fails).expect(rt, "no tray");
-    ended_on_rack(rt, alloc, words, &mut tray, case, gate, wanted)
+    end_on_rack(rt, alloc, words, &mut tray, case, gate, wanted)
 }
 
 // Whether the run ends so.
@@ -135,7 +135,7 @@ fn ends<H: Threads + Wait + Abort + Sync, G: TakeGate + Sync>(
     wanted: Wanted<'_>,
 ) -> bool {
     let words = words_of(alloc, case.words).expect(rt, "no memory");
-    ended_on_files(rt, alloc, &words, case, gate, wanted)
+    end_on_files(rt, alloc, &words, case, gate, wanted)
 }
 
 fn is_left(rack: &MemRack, wanted: Wanted<'_>) -> bool {

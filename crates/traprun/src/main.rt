@@ -1,4 +1,4 @@
-//! The program `traprun`: its words, the disk and standard output, handed to the top call.
+//! The program `traprun`: passes its words, the disk and standard output to the top call.
 #![tactic(auto)]
 
 use band_workers::OpenGate;

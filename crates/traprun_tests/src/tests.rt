@@ -29,7 +29,7 @@ const TWO_PLATES: &str = "4 64 job report Cyan:in0:out0 Magenta:in1:out1";
 // the files that are read: the job, and the plates in order
 const READ: &[&str] = &["job", "in0", "in1"];
 
-// the files that so many pages of two plates write, in their order, and those of one page more
+// the files that two pages of two plates write, in their order, and those of one page more
 const WRITTEN: &[&str] = &[
     "out0.0", "out1.0", "report.0", "out0.1", "out1.1", "report.1", "out0.2", "out1.2", "report.2",
     "out0.3", "out1.3", "report.3",
@@ -55,12 +55,12 @@ const USUAL: Case<'static> = Case {
     rack_fails: None,
 };
 
-// What is looked at where a run has ended: what is told, and what stands in files.
+// What is looked at where a run has ended: what is printed, and what stands in files.
 #[derive(Clone, Copy)]
 enum Look<'a> {
     // Of the files of WRITTEN these stand there, from the first on, and no more.
     Left(&'a str, &'a [&'a [u8]]),
-    // So many files of a run of two pages are whole, of the next one there is a prefix or nothing, and no more.
+    // This many files of a run of two pages are whole, of the next one there is a prefix or nothing, and no more.
     Broken(&'a str, usize),
     // In these files that stands.
     Some(&'a str, &'a [(&'a str, Option<&'a [u8]>)]),
@@ -84,7 +84,7 @@ fn files_of(rt: &impl Abort, alloc: Global, found: &[Pieces<'_>]) -> FileList {
 }
 
 // The status, and whether the rack stands so then.
-fn ended(
+fn end_of_call(
     rt: &(impl Threads + Sync),
     alloc: Global,
     words: &[String],
@@ -96,7 +96,7 @@ fn ended(
     (status, looks(rack, look))
 }
 
-fn ended_on_rack(
+fn end_on_rack(
     rt: &(impl Abort + Threads + Sync),
     alloc: Global,
     words: &[String],
@@ -105,10 +105,10 @@ fn ended_on_rack(
     look: Look<'_>,
 ) -> (u8, bool) {
     let mut rack = rack_of(alloc, 50, 100000, case.rack_fails).expect(rt, "no memory");
-    ended(rt, alloc, words, tray, &mut rack, look)
+    end_of_call(rt, alloc, words, tray, &mut rack, look)
 }
 
-fn ended_on_files(
+fn end_on_files(
     rt: &(impl Abort + Threads + Sync),
     alloc: Global,
     words: &[String],
@@ -117,7 +117,7 @@ fn ended_on_files(
 ) -> (u8, bool) {
     let files = files_of(rt, alloc, case.files);
     let mut tray = tray_of(alloc, files, 64, case.tray_fails).expect(rt, "no tray");
-    ended_on_rack(rt, alloc, words, &mut tray, case, look)
+    end_on_rack(rt, alloc, words, &mut tray, case, look)
 }
 
 // The status of a run, and whether its rack stands so then.
@@ -128,7 +128,7 @@ fn run(
     look: Look<'_>,
 ) -> (u8, bool) {
     let words = words_of(alloc, case.words).expect(rt, "no memory");
-    ended_on_files(rt, alloc, &words, case, look)
+    end_on_files(rt, alloc, &words, case, look)
 }
 
 // Whether a run ends with the status, and its rack stands so then.

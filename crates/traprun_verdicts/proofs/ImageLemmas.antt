@@ -8,7 +8,7 @@ use Rattle.pgm_plates.specs.Faults.{IsFault}
 use Rattle.pgm_plates.specs.Plates.{IsPlateFile}
 use Rattle.pgm_plates.specs.Sequences.{StandsAfter, further as further_on}
 use Rattle.pgm_plates.proofs.Facts.{one_fault, one_plate}
-use Rattle.traprun_verdicts.specs.Images.{HasImage, HasImageFault, HasNoImage, page_spelling}
+use Rattle.traprun_verdicts.specs.Images.{HasImage, HasImageFault, HasNoImage, page_decoder}
 use Rattle.traprun_verdicts.proofs.PrefixLemmas.{Begins, Further, begins_faultless, further, none_or_some, nothing_begins, nothing_faultless}
 use Rattle.pgm_plates.proofs.OneSequence.{one_image}
 use Rattle.verdicts.proofs.VerdictLemmas.{PlateLaws}
@@ -85,5 +85,5 @@ fault_one k bytes f g a b =
     ]
 
 -- the images of one number keep the laws of a plate's file
-pub page_laws : (k : ℕ) → PlateLaws (page_spelling k)
+pub page_laws : (k : ℕ) → PlateLaws (page_decoder k)
 page_laws k = record { not_both = image_or_fault k; one_plate = image_one k; one_fault = fault_one k }

@@ -13,7 +13,7 @@ use Rattle.job_reader.specs.declared.job.Job.{Job as JobRead}
 use Rattle.ps_tokens.specs.declared.faults.JobFault.{JobFault}
 use Rattle.traprun_verdicts.specs.declared.stop.TraprunError.{TraprunError}
 use Rattle.traprun_verdicts.specs.declared.stop.TraprunError.TheVariants.{Whole, TooManyPages, AtPage, Ends, Extra}
-use Rattle.traprun_verdicts.specs.Images.{HasImage, HasImageFault, HasNoImage, page_spelling}
+use Rattle.traprun_verdicts.specs.Images.{HasImage, HasImageFault, HasNoImage, page_decoder}
 use Rattle.traprun_verdicts.specs.Pages.{AreMade, pages_of, run_files, target_at}
 use Rattle.traprun_verdicts.specs.RunVerdicts.{RunVerdict, HasPages, ComesTo, PlateEnds, AllMade, AllEnd, LooksLast, IsRunVerdict, OneRunVerdict}
 use Rattle.traprun_verdicts.specs.RunVerdicts.RunVerdict.{Stopped, Out}
@@ -66,7 +66,7 @@ module _ (files : List ℕ → Option (List ℕ)) (source : Sources) (target : T
 
   -- a page that is made
   abbrev Made : ℕ → Type 0
-  Made k = (page : PageParts) × Makes (page_spelling k) files source (Ok page)
+  Made k = (page : PageParts) × Makes (page_decoder k) files source (Ok page)
 
   -- each page below the number of pages that are made is made
   made_at : (pages : List PageParts) (j : ℕ) → AreMade files source pages → j < length pages → Made j
@@ -79,12 +79,12 @@ module _ (files : List ℕ → Option (List ℕ)) (source : Sources) (target : T
   ]
 
   abbrev PageSays : ℕ → Verdict → Type 0
-  PageSays k verdict = IsVerdict (page_spelling k) files source (target_at target k) verdict
+  PageSays k verdict = IsVerdict (page_decoder k) files source (target_at target k) verdict
 
   one_page_verdict : (k : ℕ) (v w : Verdict) → PageSays k v → PageSays k w → v ≡ w
-  one_page_verdict k v w = one_verdict (page_spelling k) (page_laws k) files source (target_at target k) v w
+  one_page_verdict k v w = one_verdict (page_decoder k) (page_laws k) files source (target_at target k) v w
 
-  one_outcome : (k : ℕ) (p q : PageParts) → Makes (page_spelling k) files source (Ok p) → Makes (page_spelling k) files source (Ok q) → outcome (target_at target k) p ≡ outcome (target_at target k) q
+  one_outcome : (k : ℕ) (p q : PageParts) → Makes (page_decoder k) files source (Ok p) → Makes (page_decoder k) files source (Ok q) → outcome (target_at target k) p ≡ outcome (target_at target k) q
   one_outcome k p q a b =
       let same : PageOut (outcome (target_at target k) p) ≡ PageOut (outcome (target_at target k) q) = one_page_verdict k (PageOut (outcome (target_at target k) p)) (PageOut (outcome (target_at target k) q)) (p, a, refl) (q, b, refl) in
       cc
@@ -95,15 +95,15 @@ module _ (files : List ℕ → Option (List ℕ)) (source : Sources) (target : T
       absurd cc
 
   -- a plate that was read does not end
-  read_or_end : (k n plate : ℕ) (plates : List PlateRead) → plate < n → AreRead (page_spelling k) files source.inputs n plates → Holds files (name_at source.inputs plate) (HasNoImage k) → ⊥
+  read_or_end : (k n plate : ℕ) (plates : List PlateRead) → plate < n → AreRead (page_decoder k) files source.inputs n plates → Holds files (name_at source.inputs plate) (HasNoImage k) → ⊥
   read_or_end k n plate plates within read ended =
       let both = held_both files (name_at source.inputs plate) (λ bytes. HasImage k bytes (plate_at plates plate)) (HasNoImage k) (read.each plate within) ended in
       image_or_end k both.0 (plate_at plates plate) both.1 both.2
 
-  makes_or_ends : (k plate : ℕ) (made : Result PageParts Refusal) → Makes (page_spelling k) files source made → PlateEnds files source k plate → ⊥
+  makes_or_ends : (k plate : ℕ) (made : Result PageParts Refusal) → Makes (page_decoder k) files source made → PlateEnds files source k plate → ⊥
   makes_or_ends k plate made makes ends = read_or_end k (length source.inputs) plate makes.1 ends.known makes.2.plates_read ends.ended
 
-  fails_or_ends : (k p plate : ℕ) (fault : PlateFault) → PlateFails (page_spelling k) files source p fault → PlateEnds files source k plate → ⊥
+  fails_or_ends : (k p plate : ℕ) (fault : PlateFault) → PlateFails (page_decoder k) files source p fault → PlateEnds files source k plate → ⊥
   fails_or_ends k p plate fault fails ends = elim (order p plate) [
     | less before ↦
         let both = held_both files (name_at source.inputs p) (λ bytes. HasImage k bytes (plate_at ends.plates p)) (λ bytes. HasImageFault k bytes fault) (ends.before.each p before) fails.broken in
@@ -115,9 +115,9 @@ module _ (files : List ℕ → Option (List ℕ)) (source : Sources) (target : T
     | more suffix ↦ read_or_end k p plate fails.plates suffix fails.before ends.ended
   ]
 
-  job_or_ends : (k plate : ℕ) (fault : JobFault) → Holds files source.job (λ bytes. (page_spelling k).job bytes ≡ Err fault) → PlateEnds files source k plate → ⊥
+  job_or_ends : (k plate : ℕ) (fault : JobFault) → Holds files source.job (λ bytes. (page_decoder k).job bytes ≡ Err fault) → PlateEnds files source k plate → ⊥
   job_or_ends k plate fault fails ends =
-      let both = held_both files source.job (λ bytes. (page_spelling k).job bytes ≡ Ok ends.job) (λ bytes. (page_spelling k).job bytes ≡ Err fault) ends.job_read fails in
+      let both = held_both files source.job (λ bytes. (page_decoder k).job bytes ≡ Ok ends.job) (λ bytes. (page_decoder k).job bytes ≡ Err fault) ends.job_read fails in
       let same : ◌≡◌ {A = Result JobRead JobFault} (Ok ends.job) (Err fault) = sym both.1 ∙ both.2 in
       absurd cc
 
@@ -178,7 +178,7 @@ module _ (files : List ℕ → Option (List ℕ)) (source : Sources) (target : T
   same_files (p ∷ ps) [] a b count = absurd (omega arith)
   same_files (p ∷ ps) (q ∷ qs) a b count =
       let less : length ps ≡ length qs = omega arith in
-      let here : Makes (page_spelling (length qs)) files source (Ok p) = subst (λ (n : ℕ). Makes (page_spelling n) files source (Ok p)) less a.1 in
+      let here : Makes (page_decoder (length qs)) files source (Ok p) = subst (λ (n : ℕ). Makes (page_decoder n) files source (Ok p)) less a.1 in
       ap (λ (ws : List Written). ws ++ outcome (target_at target (length ps)) p) (same_files ps qs a.0 b.0 less)
       ∙ ap (λ (n : ℕ). run_files target qs ++ outcome (target_at target n) p) less
       ∙ ap (λ (ws : List Written). run_files target qs ++ ws) (one_outcome (length qs) p q here b.1)

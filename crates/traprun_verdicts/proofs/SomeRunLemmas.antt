@@ -3,8 +3,8 @@ use Rattle.std.proofs.Common.{◌≡◌, ◌⊎◌, ℕ, zero, suc, ◌<◌, ◌
 use Rattle.std.specs.Option.{option_map}
 use Rattle.std.proofs.lemmas.Bool.{cases_lt}
 use Rattle.lists.specs.Words.{or_else}
-use Rattle.page_gather.specs.Inputs.{Sources, Spelling, Holds, AreRead, Makes, name_at}
-use Rattle.job_pages.specs.declared.passages.Passage.{Passage}
+use Rattle.page_gather.specs.Inputs.{Sources, Decoder, Holds, AreRead, Makes, name_at}
+use Rattle.job_pages.specs.declared.statement_spans.StatementSpan.{StatementSpan}
 use Rattle.job_pages.specs.declared.run.RunRefusal.{RunRefusal}
 use Rattle.job_pages.specs.declared.run.RunRefusal.TheVariants.{Fault, TooManyPages as HasTooMany, OutOfMemory}
 use Rattle.job_pages.specs.Runs.{count_from, excess, objects_in, page_job_of, run_from, run_of, run_unless}
@@ -16,7 +16,7 @@ use Rattle.ps_tokens.specs.declared.faults.JobFault.{JobFault}
 use Rattle.ps_tokens.specs.declared.object.Object.{Object}
 use Rattle.traprun_verdicts.specs.declared.stop.TraprunError.{TraprunError}
 use Rattle.traprun_verdicts.specs.declared.stop.TraprunError.TheVariants.{Whole, TooManyPages, AtPage, Ends, Extra}
-use Rattle.traprun_verdicts.specs.Images.{HasImage, HasImageFault, HasNoImage, page_spelling}
+use Rattle.traprun_verdicts.specs.Images.{HasImage, HasImageFault, HasNoImage, page_decoder}
 use Rattle.traprun_verdicts.specs.Pages.{AreMade, pages_of, run_files, target_at}
 use Rattle.traprun_verdicts.specs.RunVerdicts.{RunVerdict, AllEnd, AllMade, ComesTo, HasPages, IsRunVerdict, SomeRunVerdict}
 use Rattle.traprun_verdicts.specs.RunVerdicts.RunVerdict.{Stopped, Out}
@@ -27,28 +27,28 @@ use Rattle.verdicts.specs.Verdicts.Verdict.{Refused, Out as PageOut}
 use Rattle.verdicts.proofs.SomeLemmas.{some_verdict}
 
 -- A job of many pages is counted or refused, and never for lack of memory.
-no_memory_refusal : (end : Option JobFault) (more : Option Passage) → or_else (option_map Fault end) (excess more) ≡ Some OutOfMemory → ⊥
+no_memory_refusal : (end : Option JobFault) (more : Option StatementSpan) → or_else (option_map Fault end) (excess more) ≡ Some OutOfMemory → ⊥
 no_memory_refusal (Some fault) more is = let e : Some (Fault fault) ≡ Some OutOfMemory = is in absurd cc
 no_memory_refusal None (Some p) is = let e : Some (HasTooMany p.at) ≡ Some OutOfMemory = is in absurd cc
 no_memory_refusal None None is = let e : None ≡ Some OutOfMemory = is in absurd cc
 
-no_memory_unless : (refusal : Option RunRefusal) (passages : List Passage) → (refusal ≡ Some OutOfMemory → ⊥) → run_unless refusal passages ≡ Err OutOfMemory → ⊥
-no_memory_unless None passages other is = let e : ◌≡◌ {A = Result (List Passage) RunRefusal} (Ok passages) (Err OutOfMemory) = is in absurd cc
-no_memory_unless (Some refusal) passages other is =
-    let e : ◌≡◌ {A = Result (List Passage) RunRefusal} (Err refusal) (Err OutOfMemory) = is in
+no_memory_unless : (refusal : Option RunRefusal) (spans : List StatementSpan) → (refusal ≡ Some OutOfMemory → ⊥) → run_unless refusal spans ≡ Err OutOfMemory → ⊥
+no_memory_unless None spans other is = let e : ◌≡◌ {A = Result (List StatementSpan) RunRefusal} (Ok spans) (Err OutOfMemory) = is in absurd cc
+no_memory_unless (Some refusal) spans other is =
+    let e : ◌≡◌ {A = Result (List StatementSpan) RunRefusal} (Err refusal) (Err OutOfMemory) = is in
     let same : refusal ≡ OutOfMemory = cc in
     other (ap (λ (r : RunRefusal). Some r) same)
 
 no_memory_from : (len : ℕ) (objects : Result (List Object) JobFault) → run_from len objects ≡ Err OutOfMemory → ⊥
-no_memory_from len (Err fault) is = let e : ◌≡◌ {A = Result (List Passage) RunRefusal} (Err (Fault fault)) (Err OutOfMemory) = is in absurd cc
+no_memory_from len (Err fault) is = let e : ◌≡◌ {A = Result (List StatementSpan) RunRefusal} (Err (Fault fault)) (Err OutOfMemory) = is in absurd cc
 no_memory_from len (Ok objects) is = no_memory_unless _ _ (no_memory_refusal _ _) is
 
 no_memory_run : (bytes : List ℕ) → run_of bytes ≡ Err OutOfMemory → ⊥
 unfolding run_of
 no_memory_run bytes is = no_memory_from (length bytes) (objects_in bytes) is
 
-no_memory_count : (run : Result (List Passage) RunRefusal) → (run ≡ Err OutOfMemory → ⊥) → count_from run ≡ Err OutOfMemory → ⊥
-no_memory_count (Ok passages) other is = let e : ◌≡◌ {A = Result ℕ RunRefusal} (Ok _) (Err OutOfMemory) = is in absurd cc
+no_memory_count : (run : Result (List StatementSpan) RunRefusal) → (run ≡ Err OutOfMemory → ⊥) → count_from run ≡ Err OutOfMemory → ⊥
+no_memory_count (Ok spans) other is = let e : ◌≡◌ {A = Result ℕ RunRefusal} (Ok _) (Err OutOfMemory) = is in absurd cc
 no_memory_count (Err refusal) other is =
     let e : ◌≡◌ {A = Result ℕ RunRefusal} (Err refusal) (Err OutOfMemory) = is in
     let same : refusal ≡ OutOfMemory = cc in
@@ -62,7 +62,7 @@ never_memory : (bytes : List ℕ) → pages_of bytes ≡ Err OutOfMemory → ⊥
 never_memory bytes is = no_memory_if _ _ _ (no_memory_count (run_of bytes) (no_memory_run bytes)) is
 
 -- Page k with the end of a plate's file as one of its faults, so that the law of a page's verdict speaks of both.
-abbrev with_ends : ℕ → Spelling
+abbrev with_ends : ℕ → Decoder
 with_ends k = record { job = λ bytes. page_job_of bytes k; plate = HasImage k; fault = λ bytes fault. HasImageFault k bytes fault ⊎ HasNoImage k bytes }
 
 image_or_not : (k : ℕ) (bytes : List ℕ) → Judged k bytes → ((plate : PlateRead) × HasImage k bytes plate) ⊎ ((fault : PlateFault) × (HasImageFault k bytes fault ⊎ HasNoImage k bytes))
@@ -76,13 +76,13 @@ module _ (files : List ℕ → Option (List ℕ)) (source : Sources) (target : T
 
   -- Page k is made, or the run stops there.
   data PageEnd (k : ℕ) : Type 0 where
-    made : (page : PageParts) → Makes (page_spelling k) files source (Ok page) → PageEnd k
+    made : (page : PageParts) → Makes (page_decoder k) files source (Ok page) → PageEnd k
     stops : (stop : TraprunError) → (ComesTo files source k → IsRunVerdict files source target (Stopped stop)) → PageEnd k
 
-  are_read : (k n : ℕ) (plates : List PlateRead) → AreRead (with_ends k) files source.inputs n plates → AreRead (page_spelling k) files source.inputs n plates
+  are_read : (k n : ℕ) (plates : List PlateRead) → AreRead (with_ends k) files source.inputs n plates → AreRead (page_decoder k) files source.inputs n plates
   are_read k n plates read = record { all = read.all; each = read.each }
 
-  makes : (k : ℕ) (result : Result PageParts _) → Makes (with_ends k) files source result → Makes (page_spelling k) files source result
+  makes : (k : ℕ) (result : Result PageParts _) → Makes (with_ends k) files source result → Makes (page_decoder k) files source result
   makes k result is = (is.0, is.1, record { job_read = is.2.job_read; plates_read = are_read k (length source.inputs) is.1 is.2.plates_read }, is.3)
 
   page_end : (k : ℕ) (verdict : Verdict) → IsVerdict (with_ends k) files source (target_at target k) verdict → PageEnd k
@@ -112,7 +112,7 @@ module _ (files : List ℕ → Option (List ℕ)) (source : Sources) (target : T
   Came n = ((pages : List PageParts) × (length pages ≡ n) × AreMade files source pages) ⊎ Stands
 
   next_page : (count n : ℕ) → HasPages files source count → n < count → (pages : List PageParts) → length pages ≡ n → AreMade files source pages → PageEnd n → Came (suc n)
-  next_page count n has within pages number before (made page is) = inl (page ∷ pages, ap suc number, (before, subst (λ (k : ℕ). Makes (page_spelling k) files source (Ok page)) (sym number) is))
+  next_page count n has within pages number before (made page is) = inl (page ∷ pages, ap suc number, (before, subst (λ (k : ℕ). Makes (page_decoder k) files source (Ok page)) (sym number) is))
   next_page count n has within pages number before (stops stop is) = inr (Stopped stop, is (record { count = count; has = has; within = within; pages = pages; number = number; made = before }))
 
   pages_to : (count : ℕ) → HasPages files source count → (n : ℕ) → n ≤ count → Came n

@@ -7,7 +7,7 @@ use Rattle.pgm_plates.specs.declared.header.Header.{Header}
 use Rattle.pgm_plates.specs.declared.header.Scan.{Scan}
 use Rattle.pgm_plates.specs.declared.plate.PlateFault.{PlateFault}
 use Rattle.pgm_plates.specs.declared.plate.PlateFault.TheVariants.{BadHeader, SampleAboveMaxval, TrailingBytes}
-use Rattle.pgm_plates.specs.declared.stand.Stand.TheVariants.{Start, Ended}
+use Rattle.pgm_plates.specs.declared.header_state.HeaderState.TheVariants.{Start, Ended}
 use Rattle.pgm_plates.specs.Faults.{Decides, IsFault}
 use Rattle.pgm_plates.specs.Header.{IsHeader}
 use Rattle.pgm_plates.specs.Plates.{IsPlateFile, IsSide, raster, sample_bytes}

@@ -1,6 +1,6 @@
 -- What the bytes of a plate's file give for one page of many.
 use Rattle.std.specs.Prelude.{◌≡◌, ℕ, ◌≤◌, List, ◌++◌, length}
-use Rattle.page_gather.specs.Inputs.{Spelling}
+use Rattle.page_gather.specs.Inputs.{Decoder}
 use Rattle.job_pages.specs.Runs.{page_job_of}
 use Rattle.pgm_plates.specs.declared.plate.Plate.{Plate}
 use Rattle.pgm_plates.specs.declared.plate.PlateFault.{PlateFault}
@@ -31,8 +31,8 @@ abbrev pub HasNoImage : ℕ → List ℕ → Type 0
 HasNoImage number bytes = (plates : List Plate) × IsSequence bytes plates × (length plates ≤ number)
 
 -- page k of a job of many pages, and image k of each plate's file
-abbrev pub page_spelling : ℕ → Spelling
-page_spelling k = record {
+abbrev pub page_decoder : ℕ → Decoder
+page_decoder k = record {
   job = λ bytes. page_job_of bytes k;
   plate = HasImage k;
   fault = HasImageFault k;

@@ -9,7 +9,7 @@ use Rattle.page_model.specs.declared.parts.PageParts.{PageParts}
 use Rattle.page_writing.specs.Files.{Written}
 use Rattle.ps_tokens.specs.declared.faults.FaultKind.TheVariants.{JobTooLong}
 use Rattle.ps_tokens.specs.Limits.{longest_job}
-use Rattle.traprun_verdicts.specs.Images.{page_spelling}
+use Rattle.traprun_verdicts.specs.Images.{page_decoder}
 use Rattle.verdicts.specs.Verdicts.{Targets, outcome, written_names}
 
 -- a name followed by `.` and a page's number
@@ -34,7 +34,7 @@ pages_of bytes =
 abbrev pub AreMade : (List ℕ → Option (List ℕ)) → Sources → List PageParts → Type 0
 AreMade files source [] = Unit {0}
 AreMade files source (page ∷ earlier) =
-    AreMade files source earlier × Makes (page_spelling (length earlier)) files source (Ok page)
+    AreMade files source earlier × Makes (page_decoder (length earlier)) files source (Ok page)
 
 -- the files that the first pages are written into, in the order in which they are written; the last
 -- page is given first
@@ -43,13 +43,13 @@ run_files target [] = []
 run_files target (page ∷ earlier) =
     run_files target earlier ++ outcome (target_at target (length earlier)) page
 
--- the names of the files of so many pages, in the order in which they are written
+-- the names of the files of some first pages, in the order in which they are written
 abbrev pub run_names : Targets → ℕ → List (List ℕ)
 run_names target zero = []
 run_names target (suc k) = run_names target k ++ written_names (target_at target k)
 
--- the files that are read for so many pages, in their order: the job, and then for each page each
--- plate
+-- the files that are read for some first pages, in their order: the job, and then for each page
+-- each plate
 abbrev pub run_reads : Sources → ℕ → List (List ℕ)
 run_reads source zero = source.job ∷ []
 run_reads source (suc k) = run_reads source k ++ source.inputs

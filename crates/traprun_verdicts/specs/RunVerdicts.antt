@@ -11,7 +11,7 @@ use Rattle.traprun_verdicts.specs.declared.stop.TraprunError.{TraprunError}
 use Rattle.traprun_verdicts.specs.declared.stop.TraprunError.TheVariants.{Whole, TooManyPages}
 use Rattle.traprun_verdicts.specs.declared.stop.TraprunError.TheVariants.{AtPage}
 use Rattle.traprun_verdicts.specs.declared.stop.TraprunError.TheVariants.{Ends, Extra}
-use Rattle.traprun_verdicts.specs.Images.{HasImage, HasImageFault, HasNoImage, page_spelling}
+use Rattle.traprun_verdicts.specs.Images.{HasImage, HasImageFault, HasNoImage, page_decoder}
 use Rattle.traprun_verdicts.specs.Pages.{AreMade, pages_of, run_files, target_at}
 use Rattle.refusals.specs.declared.refusal.Refusal.TheVariants.{Job, Plate}
 use Rattle.refusals.specs.Statuses.{done}
@@ -25,7 +25,7 @@ pub data RunVerdict : Type 0 where
   -- these files are to be written, in this order
   Out : List Written → RunVerdict
 
--- The job has so many pages.
+-- The job has `count` pages.
 abbrev pub HasPages : (List ℕ → Option (List ℕ)) → Sources → ℕ → Type 0
 HasPages files source count = Holds files source.job (λ bytes. pages_of bytes ≡ Ok count)
 
@@ -44,8 +44,8 @@ pub record PlateEnds (files : List ℕ → Option (List ℕ)) (source : Sources)
     : Type 0 where
   pub job : JobRead
   pub plates : List PlateRead
-  pub job_read : Holds files source.job (λ bytes. (page_spelling k).job bytes ≡ Ok job)
-  pub before : AreRead (page_spelling k) files source.inputs plate plates
+  pub job_read : Holds files source.job (λ bytes. (page_decoder k).job bytes ≡ Ok job)
+  pub before : AreRead (page_decoder k) files source.inputs plate plates
   pub known : plate < length source.inputs
   pub ended : Holds files (name_at source.inputs plate) (HasNoImage k)
 
@@ -55,7 +55,7 @@ pub record AllMade (files : List ℕ → Option (List ℕ)) (source : Sources) :
   pub has : HasPages files source (length pages)
   pub made : AreMade files source pages
 
--- The files of the first so many plates have no image after that of the last page.
+-- The files of the first `plates` plates have no image after that of the last page.
 abbrev pub AllEnd : (List ℕ → Option (List ℕ)) → Sources → ℕ → ℕ → Type 0
 AllEnd files source count plates = (plate : ℕ) → plate < plates →
     Holds files (name_at source.inputs plate) (HasNoImage count)
@@ -78,7 +78,7 @@ IsRunVerdict files source target (Stopped (Whole (Job fault))) =
 IsRunVerdict files source target (Stopped (TooManyPages at)) =
     Holds files source.job (λ bytes. pages_of bytes ≡ Err (HasTooMany at))
 IsRunVerdict files source target (Stopped (AtPage k refusal)) =
-    ComesTo files source k × IsVerdict (page_spelling k) files source (target_at target k)
+    ComesTo files source k × IsVerdict (page_decoder k) files source (target_at target k)
     (PageRefused refusal)
 IsRunVerdict files source target (Stopped (Ends k plate)) =
     ComesTo files source k × PlateEnds files source k plate

@@ -1,4 +1,4 @@
--- What is told where a run stops.
+-- What is printed where a run stops.
 use Rattle.std.specs.Prelude.{◌≡◌, ℕ, List, ◌++◌, codes, decimal}
 use Rattle.outside.specs.Rack.{RackState}
 use Rattle.traprun_verdicts.specs.declared.stop.TraprunError.{TraprunError}

@@ -2,12 +2,12 @@
 
 ghost use Rattle.traprun_verdicts.specs.RunVerdicts.{OneRunVerdict, SomeRunVerdict};
 
-/// The bytes of a run's files have one verdict at most.
+/// The bytes of a run's files have at most one verdict.
 pub fn one_run_verdict()
     ensures { OneRunVerdict }
 {}
 
-/// Where the job and all plates are among the files, there is a verdict.
+/// If the job and all plates are among the files, there is a verdict.
 pub fn some_run_verdict()
     ensures { SomeRunVerdict }
 {}

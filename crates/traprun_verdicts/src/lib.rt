@@ -1,4 +1,4 @@
-//! What is to come of a job of many pages, by the bytes of its files; and what is told where it stops.
+//! What the bytes of the files of a job of many pages call for; and the lines that are printed where it stops.
 #![tactic(auto)]
 
 pub mod laws;

@@ -7,19 +7,20 @@ use refusals::statuses::{JOB_REFUSED, PAGE_REFUSED};
 /// Why a run over many pages stopped. Pages and plates are numbered from 0.
 #[derive(Clone, Copy, Debug, Drop, PartialEq, Eq)]
 pub enum TraprunError {
-    /// The job as a whole, or a plate that is looked at after the last page; or out of memory, at any place.
+    /// The job as a whole is refused, or a plate when its end is checked after the last page; or memory ran out, at any
+    /// place.
     Whole(Refusal),
     /// The 257th `showpage` stands at this offset.
     TooManyPages(u32),
     /// This page is refused.
     AtPage(u32, Refusal),
-    /// For this page this plate's file has no image.
+    /// This page has no image in this plate's file.
     Ends(u32, u32),
     /// This plate's file has another image after that of the last page.
     Extra(u32),
 }
 
-/// The status that the program ends with: one of `refusals::statuses`.
+/// The status that the program exits with, one of `refusals::statuses`.
 pub fn stop_status(stop: &TraprunError) -> u8
     ensures { result ≡ status_of_stop stop.now }
 {
@@ -30,7 +31,7 @@ pub fn stop_status(stop: &TraprunError) -> u8
     }
 }
 
-/// The stop that a page's refusal is. Out of memory belongs to no page.
+/// Adds the page number to a page's error. Out of memory is reported without one.
 pub fn stop_at(page: u32, refusal: Refusal) -> TraprunError
     ensures { result ≡ stop_at page refusal }
 {

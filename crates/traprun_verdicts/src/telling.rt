@@ -8,7 +8,7 @@ use refusals::fault_line::{fault_line, numbered_line};
 use refusals::line::Line;
 use refusals::telling::tell_line;
 
-/// Tells the line of a stop, and gives its status, which stays where the line cannot be told.
+/// Prints the line of a stop and returns its status, whether or not the line could be printed.
 pub fn refuse_run<R: Rack>(rack: &mut R, stop: &TraprunError) -> u8
     ensures { RefusesRun stop.now (R.state rack.old) (R.state rack.new) result }
 {
@@ -16,7 +16,7 @@ pub fn refuse_run<R: Rack>(rack: &mut R, stop: &TraprunError) -> u8
     stop_status(stop)
 }
 
-/// The line that a stop tells, its LF included. The form is this project's own.
+/// The line that is printed for a stop, its LF included. The form is this project's own.
 pub fn stop_line(stop: &TraprunError) -> Line
     ensures { result ≡ line_of_stop stop.now }
 {

@@ -4,7 +4,7 @@ use Rattle.std.proofs.lemmas.List.{length-map, take-append-le, take_min}
 use Rattle.outside.specs.Causes.{Asks, AsksPrefix}
 use Rattle.outside.specs.Tray.{TrayState}
 use Rattle.outside.specs.Rack.{RackState, KeepsRack}
-use Rattle.outside.proofs.Names.{asks_all, asks_none_of, asks_then}
+use Rattle.outside.proofs.Names.{asks_all, asks_then}
 use Rattle.outside.proofs.Steps.{rose_before}
 use Rattle.page_gather.specs.Inputs.{name_at}
 use Rattle.page_gather.specs.Looks.{Refuses, StopsAt}
@@ -27,7 +27,6 @@ use Rattle.trapset_cli.specs.Commands.{inputs_of, read_names}
 use Rattle.trapset_cli.specs.Endings.{Answers, CarriesOut, NotRead, SetInHand}
 use Rattle.trapset_cli.specs.Putting.{AnswersPatch, AreInRange, Patches, PatchesPlanes, PutsPlates}
 use Rattle.trapset_cli.proofs.PlanesInRange.{kept_in_range, read_in_range}
-use Rattle.trapset_cli.proofs.TrapsLemmas.{nothing_written}
 use Rattle.trapset_cli.specs.Verdicts.{ArePlanes}
 use Rattle.trapset_cli.specs.Words.{ApplyWords, Apply, outputs_of}
 use Rattle.refusals.specs.declared.refusal.Refusal.{Refusal}
@@ -74,14 +73,6 @@ some_plates text words some = omega (arith, some, length-map (map text words) co
 
 pub plates_unread : (words : ApplyWords) (a b : TrayState) (names : List (List ℕ)) (refusal : Refusal) → names ≡ inputs_of words → 0 < length words.plates → ReadsPlates names a b (Err refusal) → PatchesPlanes words a b (Err (causes.Page refusal))
 plates_unread words a b names refusal named some reads = plate_refused words a b refusal (omega (arith, some, length-map words.plates (λ (p : CopyNames). p.input))) (subst (λ (ns : List (List ℕ)). ReadsPlates ns a b (Err refusal)) named reads)
-
--- there was no memory to begin with
-pub none_read : (words : ApplyWords) (a : TrayState) → PatchesPlanes words a a (Err (causes.Page refusals.Memory))
-none_read words a = record {
-  asked = asks_none_of a.asked (read_names (Apply words));
-  in_hand = inl refl;
-  answer = NotRead.no_memory refl refl;
-}
 
 -- a file was begun, unless a read failed
 begun_or : (b : Bool) → (b ≡ true) ⊎ (b ≡ false)
@@ -176,9 +167,6 @@ plates_patched law words a b c names old result named reads app = set_put_on law
 -- as many files are written as plates are read
 pub as_many : (words : ApplyWords) → length (inputs_of words) ≡ length (outputs_of words.plates)
 as_many words = length-map words.plates (λ (p : CopyNames). p.input) ∙ sym (length-map words.plates (λ (p : CopyNames). p.output))
-
-pub not_patched_out : (words : ApplyWords) (a b : TrayState) (r : RackState) (cause : TrapsetError) → PatchesPlanes words a b (Err cause) → CarriesOut (Apply words) a b r r (Err cause)
-not_patched_out words a b r cause patches = nothing_written (Apply words) a b r cause patches.asked patches.in_hand patches.answer
 
 module _ (words : ApplyWords) (planes : List Plane) (a b : TrayState) (r r' : RackState) (patches : PatchesPlanes words a b (Ok planes)) where
   in_all : length planes ≡ length (outputs_of words.plates)

@@ -1,14 +1,11 @@
 -- How `traps` ends, from how its page is read and its set written.
-use Rattle.std.proofs.Common.{◌≡◌, ℕ, List, [], ◌∷◌, Some, None, Result, Ok, Err, inl, inr, refl, sym, ap, ◌∙◌, subst, arith}
-use Rattle.outside.specs.Causes.{AsksPrefix}
+use Rattle.std.proofs.Common.{◌≡◌, ℕ, List, [], ◌∷◌, Result, Ok, Err, inl, inr, refl, ap, ◌∙◌, subst, arith}
 use Rattle.outside.specs.Tray.{TrayState}
 use Rattle.outside.specs.Rack.{RackState, KeepsRack}
 use Rattle.outside.specs.Writing.{WritesFile}
 use Rattle.outside.proofs.Names.{asks_all, asks_none_of}
-use Rattle.page_gather.specs.Gathering.{AnswersPage, Gathers, ReadsPage}
-use Rattle.page_gather.specs.Inputs.{read_files}
-use Rattle.page_gather.specs.Steps.{PassesNoFault}
-use Rattle.page_gather.proofs.GatherLemmas.{gathered, refused_count}
+use Rattle.page_gather.specs.Gathering.{Gathers, ReadsPage}
+use Rattle.page_gather.proofs.GatherLemmas.{gathered}
 use Rattle.page_model.specs.declared.parts.PageParts.{PageParts}
 use Rattle.page_model.specs.declared.parts.Plane.{Plane}
 use Rattle.page_model.specs.Conditions.{IsPage}
@@ -17,28 +14,16 @@ use Rattle.page_writing.specs.Writing.{BreaksAt, WritesAll}
 use Rattle.page_writing.proofs.Steps.{breaks_next, wrote_more, wrote_none}
 use Rattle.trapset_cli.specs.declared.cause.TrapsetError.{TrapsetError}
 use Rattle.trapset_cli.specs.declared.cause.TrapsetError.TheVariants as causes
-use Rattle.trapset_cli.specs.Commands.{read_names, sources_of, written_names}
-use Rattle.trapset_cli.specs.Endings.{Answers, CarriesOut, HasInHand, NotRead}
+use Rattle.trapset_cli.specs.Commands.{sources_of}
+use Rattle.trapset_cli.specs.Endings.{Answers, CarriesOut, NotRead}
 use Rattle.trapset_cli.specs.Putting.{AnswersPut, PutsSet}
 use Rattle.trapset_cli.specs.Verdicts.{set_files}
-use Rattle.trapset_cli.specs.Words.{TrapsWords, Command, Traps}
-use Rattle.refusals.specs.declared.refusal.Refusal.{Refusal}
+use Rattle.trapset_cli.specs.Words.{TrapsWords, Traps}
 use Rattle.refusals.specs.declared.refusal.Refusal.TheVariants as refusals
 use Rattle.trap_set.specs.SetText.{set_text}
 
 pub unchanged : (a : RackState) → KeepsRack a a
 unchanged a = record { tells = refl; faults = omega arith }
-
--- Nothing is written, since not all was read.
-pub nothing_written : (command : Command) (a b : TrayState) (r : RackState) (cause : TrapsetError) → AsksPrefix a.asked b.asked (read_names command) → HasInHand command a b → NotRead command a b cause → CarriesOut command a b r r (Err cause)
-nothing_written command a b r cause asked in_hand not_read = record {
-  asked = asked;
-  in_hand = in_hand;
-  rack_keeps = unchanged r;
-  told = λ tells. refl;
-  created = asks_none_of r.asked (written_names command);
-  answer = inl (not_read, refl);
-}
 
 -- The set of a page is one file.
 pub set_wrote : {T E : Type 0} (name bytes : List ℕ) (a b : RackState) (x : T) → WritesFile {T = T} {E = E} name bytes a b (Ok x) → WritesAll (record { name = name; bytes = bytes } ∷ []) a b
@@ -78,29 +63,6 @@ not_trapped name page a valid = record {
   asked = asks_none_of a.asked (name ∷ []);
   answer = refl;
 }
-
-module _ (words : TrapsWords) (a b : TrayState) where
-  not_gathered : (refusal : Refusal) → AnswersPage (sources_of words) a b (Err refusal) → PassesNoFault {T = PageParts} a b (Err refusal) → NotRead (Traps words) a b (causes.Page refusal)
-  not_gathered (refusals.Job fault) answer count = NotRead.refused (inl refl) (refused_count PageParts (Unit {0}) a b (refusals.Job fault) count) answer.0 answer.1
-  not_gathered (refusals.NoDetails k) answer count = NotRead.refused (inl refl) (refused_count PageParts (Unit {0}) a b (refusals.NoDetails k) count) answer.0 answer.1
-  not_gathered (refusals.Plate k fault) answer count = NotRead.refused (inr refl) (refused_count PageParts (Unit {0}) a b (refusals.Plate k fault) count) answer.0 answer.1
-  not_gathered (refusals.Page fault) answer count = NotRead.refused (inr refl) (refused_count PageParts (Unit {0}) a b (refusals.Page fault) count) answer.0 answer.1
-  not_gathered (refusals.Read None) answer count = NotRead.unread refl answer.0 answer.1 tt
-  not_gathered (refusals.Read (Some k)) answer count = NotRead.unread refl answer.0 answer.1 answer.2
-  not_gathered refusals.Memory answer count = NotRead.no_memory refl count
-  not_gathered refusals.Usage answer count = absurd answer
-  not_gathered (refusals.Write file) answer count = absurd answer
-
--- There was no memory to begin with.
-pub not_begun : (words : TrapsWords) (a : TrayState) (r : RackState) → CarriesOut (Traps words) a a r r (Err (causes.Page refusals.Memory))
-not_begun words a r = nothing_written (Traps words) a a r (causes.Page refusals.Memory) (asks_none_of a.asked (read_files (sources_of words))) (inl refl) (NotRead.no_memory refl refl)
-
--- The page was not read.
-pub page_unread : (words : TrapsWords) (a b : TrayState) (r : RackState) (refusal : Refusal) → ReadsPage (sources_of words) a b (Err refusal) → CarriesOut (Traps words) a b r r (Err (causes.Page refusal))
-page_unread words a b r refusal (inl none) =
-    let same : refusal ≡ refusals.Memory = (let e : ◌≡◌ {A = Result PageParts Refusal} (Err refusal) (Err refusals.Memory) = none.1 in cc) in
-    subst (λ (t : TrayState). CarriesOut (Traps words) a t r r (Err (causes.Page refusal))) (sym none.0) (subst (λ (e : Refusal). CarriesOut (Traps words) a a r r (Err (causes.Page e))) (sym same) (not_begun words a r))
-page_unread words a b r refusal (inr reads) = nothing_written (Traps words) a b r (causes.Page refusal) reads.asked (inr reads.in_hand) (not_gathered words a b refusal reads.answer reads.count)
 
 module _ (words : TrapsWords) (page : PageParts) (a b : TrayState) (r r' : RackState) (reads : Gathers (sources_of words) a b (Ok page)) (valid : IsPage page) where
   put_answer : (result : Result (Unit {0}) TrapsetError) → AnswersPut words.set page r r' result → Answers (Traps words) a b r r' result

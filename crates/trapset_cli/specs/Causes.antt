@@ -10,7 +10,7 @@ use Rattle.refusals.specs.Lines.{line}
 use Rattle.refusals.specs.Statuses.{usage, not_read, not_written, set_refused}
 use Rattle.refusals.specs.Telling.{KeepsFiles, TellsText}
 
--- the line that is told of a cause
+-- the line that is printed for a cause
 abbrev pub cause_line : TrapsetError → List ℕ
 cause_line NoCommand =
     line (codes "usage: trapset traps JOB SET NAME:IN ... | trapset apply SET IN:OUT ...")

@@ -24,7 +24,7 @@ Mean words command = command_of words ≡ Some command
 -- Status 0 comes only where neither count rose. The rack's files are then the old ones with those
 -- put in, in order, that the command is to write: where the tray tells, what the command's files
 -- give. Each file was asked for in its order and each is finished, none is open, and nothing is
--- told.
+-- printed.
 pub record Success (words : List (List ℕ)) (tray tray' : TrayState) (rack rack' : RackState)
     (status : ℕ) : Type 0 where
   pub calm : status ≡ done → (tray'.faults ≡ tray.faults) × (rack'.faults ≡ rack.faults)
@@ -40,8 +40,8 @@ pub record Success (words : List (List ℕ)) (tray tray' : TrayState) (rack rack
   pub created : (command : Command) → Mean words command → status ≡ done
       → Asks rack.asked rack'.asked (written_names command)
 
--- Status 2 comes exactly where the words mean no command. The usage line is then told, and no name
--- is handed out.
+-- Status 2 comes exactly where the words mean no command. The usage line is then printed, and no
+-- name is handed out.
 pub record Usage (words : List (List ℕ)) (tray tray' : TrayState) (rack rack' : RackState)
     (status : ℕ) : Type 0 where
   pub only : status ≡ usage → command_of words ≡ None

@@ -144,7 +144,7 @@ Answers command tray tray' rack rack' (Err cause) =
     (NotRead command tray tray' cause × (rack' ≡ rack))
     ⊎ (NotWritten command tray tray' rack rack' cause × RoseOnce rack.faults rack'.faults)
 
--- A command is carried out: all is read, and only then written. Nothing is told.
+-- A command is carried out: all is read, and only then written. Nothing is printed.
 pub record CarriesOut (command : Command) (tray tray' : TrayState) (rack rack' : RackState)
     (result : Result (Unit {0}) TrapsetError) : Type 0 where
   pub asked : AsksPrefix tray.asked tray'.asked (read_names command)

@@ -4,13 +4,13 @@ use Rattle.plain_words.specs.Inputs.{AreFew}
 use Rattle.plain_words.specs.Parts.{input_of, copy_of}
 use Rattle.trapset_cli.specs.Words.{TrapsWords, ApplyWords, Command as Meaning, Traps as traps}
 use Rattle.trapset_cli.specs.Words.{Apply as apply}
-use Rattle.trapset_cli.specs.declared.command.TrapsCommand.{TrapsCommand}
-use Rattle.trapset_cli.specs.declared.command.ApplyCommand.{ApplyCommand}
+use Rattle.trapset_cli.specs.declared.command.TrapsArgs.{TrapsArgs}
+use Rattle.trapset_cli.specs.declared.command.ApplyArgs.{ApplyArgs}
 use Rattle.trapset_cli.specs.declared.command.Command.{Command}
 use Rattle.trapset_cli.specs.declared.command.Command.TheVariants.{Traps, Apply}
 
 -- a command of `traps`
-abbrev pub traps_in : TrapsCommand → TrapsWords
+abbrev pub traps_in : TrapsArgs → TrapsWords
 traps_in c = record {
   job = c.job.now;
   set = c.set.now;
@@ -18,7 +18,7 @@ traps_in c = record {
 }
 
 -- a command of `apply`
-abbrev pub apply_in : ApplyCommand → ApplyWords
+abbrev pub apply_in : ApplyArgs → ApplyWords
 apply_in c = record { set = c.set.now; plates = map copy_of (map string_bytes c.plates.now) }
 
 -- either of them

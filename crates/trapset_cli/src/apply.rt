@@ -4,9 +4,10 @@ ghost use Rattle.trapset_cli.specs.Putting.{AreInRange, PutsPlates};
 ghost use Rattle.plain_words.specs.Inputs.{AreFew};
 ghost use Rattle.trapset_cli.specs.Held.{apply_in};
 ghost use Rattle.trapset_cli.specs.Words.{Apply as apply};
+ghost use Rattle.page_model.specs.Limits.{most_plates};
 
 use crate::cause::TrapsetError;
-use crate::command::ApplyCommand;
+use crate::command::ApplyArgs;
 use crate::planes::patched_planes;
 use outside::rack::Rack;
 use outside::tray::Tray;
@@ -16,11 +17,11 @@ use plain_words::files::copy_outputs;
 use refusals::refusal::Refusal;
 use std::alloc::Global;
 
-// Carries out a command `apply`: reads the plates and then the set, and only then writes the plates. All memory that is
-// wanted is taken before the first file is created.
+// Runs the command `apply`: reads the plates and then the set, and only then writes the plates. All memory is allocated
+// before the first file is created.
 pub(crate) fn carry_out_apply<T: Tray, R: Rack>(
     alloc: Global,
-    command: &ApplyCommand<'_>,
+    command: &ApplyArgs<'_>,
     tray: &mut T,
     rack: &mut R,
 ) -> Result<(), TrapsetError>
@@ -42,7 +43,7 @@ fn put_plates<R: Rack>(
     outputs: &[&str],
     planes: PlaneList,
 ) -> Result<(), TrapsetError>
-    requires few { length outputs.now ≤ 16 }
+    requires few { length outputs.now ≤ most_plates }
     requires planes { AreInRange planes (length outputs.now) }
     ensures { PutsPlates (map (λ file. file.now) outputs.now) planes (R.state rack.old)
         (R.state rack.new) result }

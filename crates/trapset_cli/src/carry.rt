@@ -10,7 +10,7 @@ use outside::tray::Tray;
 use refusals::statuses::DONE;
 use std::alloc::Global;
 
-// Carries out a command, and gives the status that the program ends with.
+// Runs a command, and returns the status that the program exits with.
 pub(crate) fn run_command<T: Tray, R: Rack>(
     alloc: Global,
     command: &Command<'_>,

@@ -1,5 +1,5 @@
 ghost use Rattle.std.specs.Prelude.{◌≡◌, ◌≤◌, ◌++◌, decimal, length};
-ghost use Rattle.trapset_cli.specs.Causes.{RefusesCause, cause_line as line_meant, cause_status as status_meant};
+ghost use Rattle.trapset_cli.specs.Causes.{RefusesCause, cause_line as line_spec, cause_status as status_spec};
 ghost use Rattle.refusals.specs.Lines.{line};
 
 use outside::rack::Rack;
@@ -9,24 +9,24 @@ use refusals::refusal::{Refusal, status};
 use refusals::statuses::{NOT_READ, NOT_WRITTEN, SET_REFUSED, USAGE};
 use refusals::telling::tell_line;
 
-/// Why a command ends without its work.
+/// Why a command did not do its work.
 #[derive(Clone, Copy, Drop)]
 pub enum TrapsetError {
-    /// The words are no command.
+    /// The words are no command of the program.
     NoCommand,
-    /// The job, a plate or the page is refused, a plate is not written, or there was no memory.
+    /// The job, a plate or the page is refused, a plate could not be written, or memory ran out.
     Page(Refusal),
     /// The set could not be read.
     SetUnread,
     /// The set could not be written.
     SetUnwritten,
-    /// This line of the set, counted from 1, is its first bad one.
+    /// The set's first bad line, counted from 1.
     BadLine(u32),
     /// The set is for other plates.
     Differs,
 }
 
-// Tells the line of a cause, and gives its status, which stays where the line cannot be told.
+// Prints the line of a cause and returns its status, whether or not the line could be printed.
 pub(crate) fn refuse_by<R: Rack>(rack: &mut R, cause: &TrapsetError) -> u8
     ensures { RefusesCause cause.now (R.state rack.old) (R.state rack.new) result }
 {
@@ -35,7 +35,7 @@ pub(crate) fn refuse_by<R: Rack>(rack: &mut R, cause: &TrapsetError) -> u8
 }
 
 fn cause_status(cause: &TrapsetError) -> u8
-    ensures { result ≡ status_meant cause.now }
+    ensures { result ≡ status_spec cause.now }
 {
     match cause {
         TrapsetError::NoCommand => USAGE,
@@ -47,7 +47,7 @@ fn cause_status(cause: &TrapsetError) -> u8
 }
 
 fn cause_line(cause: &TrapsetError) -> Line
-    ensures { result ≡ line_meant cause.now }
+    ensures { result ≡ line_spec cause.now }
 {
     match cause {
         TrapsetError::NoCommand => Line::of_text(

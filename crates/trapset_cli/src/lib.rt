@@ -1,4 +1,5 @@
-//! The top call of the program `trapset`: the traps of a page as a file of their own, and such a file onto plates.
+//! The top call of the program `trapset`: writes the traps of a page to a file of their own, and applies such a file to
+//! plates.
 #![tactic(auto)]
 
 mod apply;

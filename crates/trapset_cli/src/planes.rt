@@ -1,4 +1,4 @@
-// The plates of `apply`, from their files to their planes with the set on them.
+// The plates of `apply`: read from their files, and the set applied to them.
 
 ghost use Rattle.std.specs.Prelude.{◌≤◌, All, length};
 ghost use Rattle.trapset_cli.specs.Putting.{Patches, PatchesPlanes};
@@ -7,7 +7,7 @@ ghost use Rattle.trapset_cli.specs.Held.{apply_in};
 ghost use Rattle.trap_set.specs.Applying.{IsFull};
 
 use crate::cause::TrapsetError;
-use crate::command::ApplyCommand;
+use crate::command::ApplyArgs;
 use outside::tray::Tray;
 use page_gather::plates::read_plates;
 use page_model::parts::PlaneList;
@@ -17,10 +17,10 @@ use refusals::refusal::Refusal;
 use std::alloc::Global;
 use trap_set::{SetRefusal, apply_set};
 
-/// Reads the plates in the order of the words and then the set, and gives the planes with the set on them.
+/// Reads the plates in the order of the words and then the set, and returns the planes with the set applied.
 pub(crate) fn patched_planes<T: Tray>(
     alloc: Global,
-    command: &ApplyCommand<'_>,
+    command: &ApplyArgs<'_>,
     tray: &mut T,
 ) -> Result<PlaneList, TrapsetError>
     requires { AreFew (length command.now.plates.now) }
@@ -38,7 +38,7 @@ pub(crate) fn patched_planes<T: Tray>(
     }
 }
 
-// Puts the set of that file onto the planes.
+// Applies the set of that file to the planes.
 fn patch_planes<T: Tray>(
     tray: &mut T,
     set: &str,

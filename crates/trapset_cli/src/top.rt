@@ -10,16 +10,16 @@ use outside::tray::Tray;
 use pgm_plates::laws::{not_both, one_fault, one_plate};
 use std::alloc::Global;
 
-/// Carries out the command that the words mean, and answers the status that the program ends with.
+/// Runs the command of the words, and returns the status that the program exits with.
 ///
-/// `traps JOB SET NAME:IN ...` reads the job, then each plate in the order of the words, traps the page, and writes the set
-/// of what changed. `apply SET IN:OUT ...` reads each plate in the order of the words, then the set, puts its runs onto the
-/// plates, and only then writes each plate in order. There are one to sixteen plates. Nobody is waited for.
+/// `traps JOB SET NAME:IN ...` reads the job, then each plate in the order of the words, traps the page, and writes the
+/// set of the changes. `apply SET IN:OUT ...` reads each plate in the order of the words, then the set, applies its
+/// runs to the plates, and only then writes each plate in order. There are one to sixteen plates. There are no threads.
 ///
-/// The status is 0 where the work is done; 2 where the words mean no command; 3 where the job has a fault or lacks the
-/// details of a plate's colorant; 4 where a plate's file has a fault, or the plates are no page; 5 where a read failed; 6
-/// where a write failed; 7 where memory ran out; and 8 where the set has a bad line or is for other plates. Each refusal
-/// tells one line that names the cause.
+/// The status is 0 if the work is done; 2 if the words are no command; 3 if the job has a fault or lacks the details of
+/// a plate's colorant; 4 if a plate's file has a fault, or the plates do not make a page; 5 if a read failed; 6 if a
+/// write failed; 7 if memory ran out; and 8 if the set has a bad line or is for other plates. Each refusal prints one
+/// line that names the cause.
 pub fn trapset_main<T: Tray, R: Rack>(
     alloc: Global,
     words: &[String],

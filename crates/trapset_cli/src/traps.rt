@@ -8,7 +8,7 @@ ghost use Rattle.trapset_cli.specs.Held.{traps_in};
 ghost use Rattle.trapset_cli.specs.Words.{Traps as traps};
 
 use crate::cause::TrapsetError;
-use crate::command::TrapsCommand;
+use crate::command::TrapsArgs;
 use outside::rack::Rack;
 use outside::tray::{Failed, Tray};
 use page_gather::gather::gather;
@@ -20,10 +20,10 @@ use std::alloc::Global;
 use strip_engine::trap_alone;
 use trap_set::write_set;
 
-// Carries out a command `traps`: reads the page, traps it, and only then writes the set.
+// Runs the command `traps`: reads the page, traps it, and only then writes the set.
 pub(crate) fn carry_out_traps<T: Tray, R: Rack>(
     alloc: Global,
-    command: &TrapsCommand<'_>,
+    command: &TrapsArgs<'_>,
     tray: &mut T,
     rack: &mut R,
 ) -> Result<(), TrapsetError>
@@ -37,12 +37,8 @@ pub(crate) fn carry_out_traps<T: Tray, R: Rack>(
     }
 }
 
-// Gathers the page of the command's job and plates.
-fn read_page<T: Tray>(
-    alloc: Global,
-    command: &TrapsCommand<'_>,
-    tray: &mut T,
-) -> Result<Page, Refusal>
+// Reads the page of the command's job and plates.
+fn read_page<T: Tray>(alloc: Global, command: &TrapsArgs<'_>, tray: &mut T) -> Result<Page, Refusal>
     requires { AreFew (length command.now.plates.now) }
     ensures { ReadsPage (sources_of (traps_in command.now)) (T.state tray.old)
         (T.state tray.new) result }
@@ -56,7 +52,7 @@ fn read_page<T: Tray>(
     }
 }
 
-// Traps the page, and writes the set of what changed.
+// Traps the page, and writes the set of the changes.
 fn put_set<R: Rack>(
     alloc: Global,
     page: &Page,

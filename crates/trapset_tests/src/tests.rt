@@ -82,11 +82,11 @@ fn case_of<'a>(
 // What is looked at where a run has ended.
 #[derive(Clone, Copy)]
 enum Look<'a> {
-    // This is told, and none of the files was created.
+    // This is printed, and none of the files was created.
     Refused(&'a str),
-    // Nothing is told, and this stands in the files, in their order.
+    // Nothing is printed, and this stands in the files, in their order.
     Written(&'a [Option<&'a [u8]>]),
-    // A file of these is broken off, and the line of that one is told.
+    // A file of these is broken off, and the line of that one is printed.
     Broken(&'a [Option<&'a [u8]>], &'a [&'a str]),
 }
 
@@ -111,7 +111,7 @@ fn files_of(rt: &impl Abort, alloc: Global, case: Case<'_>) -> FileList {
 }
 
 // The status, and whether the rack stands so then.
-fn ended(
+fn end_of_call(
     alloc: Global,
     words: &[String],
     tray: &mut MemTray,
@@ -123,7 +123,7 @@ fn ended(
     (status, looks(rack, case.written, look))
 }
 
-fn ended_on_rack(
+fn end_on_rack(
     rt: &impl Abort,
     alloc: Global,
     words: &[String],
@@ -132,10 +132,10 @@ fn ended_on_rack(
     look: Look<'_>,
 ) -> (u8, bool) {
     let mut rack = rack_of(alloc, 50, 1000, case.rack_fails).expect(rt, "no memory");
-    ended(alloc, words, tray, &mut rack, case, look)
+    end_of_call(alloc, words, tray, &mut rack, case, look)
 }
 
-fn ended_on_files(
+fn end_on_files(
     rt: &impl Abort,
     alloc: Global,
     words: &[String],
@@ -144,13 +144,13 @@ fn ended_on_files(
 ) -> (u8, bool) {
     let files = files_of(rt, alloc, case);
     let mut tray = tray_of(alloc, files, 64, case.tray_fails).expect(rt, "no tray");
-    ended_on_rack(rt, alloc, words, &mut tray, case, look)
+    end_on_rack(rt, alloc, words, &mut tray, case, look)
 }
 
 // The status of a run, and whether its rack stands so then.
 fn run(rt: &impl Abort, alloc: Global, case: Case<'_>, look: Look<'_>) -> (u8, bool) {
     let words = words_of(alloc, case.words).expect(rt, "no memory");
-    ended_on_files(rt, alloc, &words, case, look)
+    end_on_files(rt, alloc, &words, case, look)
 }
 
 // Whether a run ends with the status, and its rack stands so then.

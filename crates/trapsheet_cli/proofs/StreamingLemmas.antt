@@ -14,7 +14,7 @@ use Rattle.sheet_gather.specs.declared.stop.TrapsheetError.{TrapsheetError}
 use Rattle.sheet_gather.specs.declared.stop.TrapsheetError.TheVariants.{Common}
 use Rattle.sheet_loop.specs.Courses.{Course}
 use Rattle.sheet_loop.specs.Second.{IsDone, StreamsSheet, sheet_header}
-use Rattle.sheet_loop.specs.declared.stop.StreamStop.TheVariants.{Unread, Unwritten}
+use Rattle.sheet_loop.specs.declared.stop.StreamError.TheVariants.{Unread, Unwritten}
 use Rattle.sheet_loop.proofs.OnSheets.{may_begin}
 use Rattle.sheet_stream.specs.Reading.{tints_for}
 use Rattle.tile_counts.specs.declared.counts.SheetCounts.{SheetCounts}

@@ -60,7 +60,7 @@ pub record Writes (order : SheetWords) (trays : List TrayState)
       → WritesAll (sheet_files (targets_of order) sheet k) (rack_at racks k) (rack_at racks' k)
 
 -- Status 0 comes only where no count rose. The files are then written, all inputs were begun, each
--- in its order and each plate twice, and nothing is told.
+-- in its order and each plate twice, and nothing is printed.
 pub record Success (words : List (List ℕ)) (trays trays' : List TrayState)
     (racks racks' : List RackState) (status : ℕ) : Type 0 where
   pub calm : status ≡ done → (k : ℕ) → IsCalm trays trays' k
@@ -72,7 +72,7 @@ pub record Success (words : List (List ℕ)) (trays trays' : List TrayState)
   pub begun : (order : SheetWords) → Mean words order → status ≡ done → (k : ℕ)
       → k < length (sources_of order).inputs → AsksTwice (sources_of order) trays trays' k
 
--- Status 2 comes exactly where the words mean no sheet. The usage line is then told to the first
+-- Status 2 comes exactly where the words mean no sheet. The usage line is then printed on the first
 -- rack, and else every tray and rack is as before.
 pub record Usage (words : List (List ℕ)) (trays trays' : List TrayState)
     (racks racks' : List RackState) (status : ℕ) : Type 0 where
@@ -94,8 +94,8 @@ pub record RefusesInput (order : SheetWords) (trays trays' : List TrayState)
   pub kept : (k : ℕ) → KeepsFiles (rack_at racks k) (rack_at racks' k)
 
 -- A command stopped while its plates were read again, at a sheet that was made: of each plate a
--- prefix of its bytes stands, or it was not begun; no report is. Then the line of the stop was told
--- to the first rack, and nothing else was changed.
+-- prefix of its bytes stands, or it was not begun; no report is. Then the line of the stop was
+-- printed on the first rack, and nothing else was changed.
 pub record StopsInParts (order : SheetWords) (trays : List TrayState)
     (racks racks' : List RackState) (stop : TrapsheetError) : Type 0 where
   pub sheet : PageParts
@@ -164,8 +164,8 @@ pub record ReadFault (words : List (List ℕ)) (trays trays' : List TrayState)
 
 -- What comes where a write fails, at a sheet that was made. Of the rack of that file, those before
 -- it are whole, and it holds a prefix of its bytes or is as before; each other rack is as before,
--- or its plate stands in part or whole. Then the line was told to the first rack, and nothing else
--- was changed; it names the file.
+-- or its plate stands in part or whole. Then the line was printed on the first rack, and nothing
+-- else was changed; it names the file.
 pub record FailsToWrite (order : SheetWords) (trays : List TrayState)
     (racks racks' : List RackState) : Type 0 where
   pub sheet : PageParts
@@ -200,7 +200,7 @@ LeavesFiles racks racks' status = status ≢ done → status ≢ page_refused �
     → status ≢ not_written → (k : ℕ) → KeepsFiles (rack_at racks k) (rack_at racks' k)
 
 -- Every stop tells its line to the first rack and nothing else; that of a failed write is the line
--- of `write_fault`, and that of words that mean no sheet the one of `usage`. Nothing is told to
+-- of `write_fault`, and that of words that mean no sheet the one of `usage`. Nothing is printed on
 -- another rack.
 pub record FaultLine (racks racks' : List RackState) (status : ℕ) : Type 0 where
   pub stopped : status ≢ done → status ≢ usage → status ≢ not_written

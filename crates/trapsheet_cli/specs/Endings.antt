@@ -88,7 +88,7 @@ pub record CarriesOut (order : SheetWords) (trays trays' : List TrayState)
   pub keeps : KeepsRacks (targets_of order) racks racks'
   pub answer : Carries (sources_of order) (targets_of order) trays trays' racks racks' result
 
--- The line of a stop is told to the first rack.
+-- The line of a stop is printed on the first rack.
 pub record RefusesFirst (stop : TrapsheetError) (before after : List RackState)
     (status : ℕ) : Type 0 where
   pub first : RefusesSheet stop (rack_at before 0) (rack_at after 0) status
@@ -108,7 +108,7 @@ pub record EndsSheet (order : SheetWords) (trays trays' : List TrayState)
   pub carried : CarriesOut order trays trays' racks between result
   pub closed : Closes result between racks' status
 
--- The usage line is told and nothing else.
+-- The usage line is printed and nothing else.
 pub record TellsUsage (before after : RackState) : Type 0 where
   pub files : KeepsFiles before after
   pub line : TellsText usage_line before after

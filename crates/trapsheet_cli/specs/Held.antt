@@ -3,6 +3,7 @@ use Rattle.std.specs.Prelude.{◌≤◌, length, map, string_bytes}
 use Rattle.plain_words.specs.Parts.{parts_of}
 use Rattle.trapsheet_cli.specs.Words.{SheetWords}
 use Rattle.trapsheet_cli.specs.declared.words.SheetArgs.{SheetArgs}
+use Rattle.page_model.specs.Limits.{most_plates, most_workers}
 
 -- the sheet of the words that are held
 abbrev pub order_in : SheetArgs → SheetWords
@@ -16,6 +17,6 @@ order_in order = record {
 -- the limits of what the words may ask for
 pub record IsWithin (order : SheetArgs) : Type 0 where
   pub workers_from : 1 ≤ order.workers
-  pub workers_to : order.workers ≤ 64
+  pub workers_to : order.workers ≤ most_workers
   pub some : 1 ≤ length order.plates.now
-  pub few : length order.plates.now ≤ 16
+  pub few : length order.plates.now ≤ most_plates

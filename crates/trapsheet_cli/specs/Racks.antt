@@ -36,7 +36,7 @@ rack_names target zero = name_at target.outputs zero ∷ target.report ∷ []
 rack_names target (suc k) = name_at target.outputs (suc k) ∷ []
 
 -- Each rack is asked for its own files alone, and those of no plate are as they were. Nothing is
--- told.
+-- printed.
 pub record KeepsRacks (target : Targets) (before after : List RackState) : Type 0 where
   pub keeps : (k : ℕ) → KeepsRack (rack_at before k) (rack_at after k)
   pub told : (k : ℕ) → IsTrue (rack_at before k).tells
@@ -93,7 +93,7 @@ pub data WritesSheet (target : Targets) (planes : List Plane) (text : List ℕ)
 abbrev pub targets : List (List ℕ) → List ℕ → Targets
 targets outputs report = record { outputs = outputs; report = report }
 
--- The first so many planes are written, each by its own rack; the racks after them are as they
+-- The first `count` planes are written, each by its own rack; the racks after them are as they
 -- were.
 pub record WritesFirst (outputs : List (List ℕ)) (planes : List Plane) (count : ℕ)
     (before after : List RackState) : Type 0 where

@@ -7,6 +7,7 @@ use Rattle.plain_words.specs.Parts.{PlateNames, parts_of}
 use Rattle.plain_words.specs.Plates.{are_plates, inputs_of, names_of, outputs_of, stand_together}
 use Rattle.plain_words.specs.Written.{reads_written as reads_named}
 use Rattle.verdicts.specs.Verdicts.{Targets}
+use Rattle.page_model.specs.Limits.{most_workers}
 
 -- a sheet: its workers, and the files that are read and written
 pub record SheetWords : Type 0 where
@@ -51,5 +52,5 @@ order_with _ _ _ _ = None
 -- 64 workers
 abbrev pub order_of : List (List ℕ) → Option SheetWords
 order_of (workers ∷ job ∷ report ∷ plates) =
-    order_with (number_of 1 64 workers) job report (plates_of job report plates)
+    order_with (number_of 1 most_workers workers) job report (plates_of job report plates)
 order_of _ = None

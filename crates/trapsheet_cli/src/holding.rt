@@ -7,8 +7,8 @@ ghost use Rattle.sheet_loop.specs.Whole.{all_rows};
 ghost use Rattle.sheet_stream.specs.Strips.{IsStripOf};
 ghost use Rattle.trapsheet_cli.specs.Holding.{HoldsAll};
 
-use crate::streaming::{header_for, told_stop};
-use lists::memory::filled;
+use crate::streaming::{error_of, header_for};
+use lists::memory::vec_of;
 use outside::tray::Tray;
 use page_model::parts::PageParts;
 use refusals::refusal::Refusal;
@@ -17,11 +17,11 @@ use sheet_loop::whole::{hold_sheet, sheet_room};
 use std::alloc::Global;
 use std::convert::AsStr;
 
-// How many bytes of a plate are read at a time.
+// The number of bytes of a plate that are read at a time.
 const PIECE: usize = 65_536;
 
-// Reads the plates of a sheet that was judged once more, and gives the sheet with all its rows. All memory that is wanted is
-// taken before the first file is begun.
+// Reads the plates of a sheet that was checked once more, and returns the sheet with all its rows. All memory is
+// allocated before the first file is begun.
 pub(crate) fn hold<T: Tray, S: AsStr>(
     alloc: Global,
     trays: &mut [T],
@@ -36,13 +36,13 @@ pub(crate) fn hold<T: Tray, S: AsStr>(
     ensures { HoldsAll (map S.text inputs.now) bare.now (map T.state trays.old)
         (map T.state trays.new) result }
 {
-    match (sheet_room(alloc, bare), filled(alloc, 0u8, PIECE)) {
+    match (sheet_room(alloc, bare), vec_of(alloc, 0u8, PIECE)) {
         (Ok(room), Ok(bytes)) => hold_in(alloc, trays, inputs, bare, room, bytes),
         _ => Err(TrapsheetError::Common(Refusal::Memory)),
     }
 }
 
-// The same in memory that is made for it.
+// Does the same with the memory allocated.
 fn hold_in<T: Tray, S: AsStr>(
     alloc: Global,
     trays: &mut [T],
@@ -64,6 +64,6 @@ fn hold_in<T: Tray, S: AsStr>(
     let mut buffer = bytes;
     match hold_sheet(alloc, trays, inputs, bare, header, &mut sheet, &mut buffer) {
         Ok(()) => Ok(sheet),
-        Err(stop) => Err(told_stop(stop)),
+        Err(stop) => Err(error_of(stop)),
     }
 }

@@ -7,7 +7,7 @@ ghost use Rattle.trap_report.specs.Report.{report_of};
 ghost use Rattle.trapsheet_cli.specs.Trapping.{CanCut, CanTrap, IsTrappedSheet, plane_with};
 ghost use Rattle.page_model.specs.Conditions.{IsPage};
 
-use crate::reporting::told_counts;
+use crate::reporting::counts_in_report;
 use bare_sheets::plan::{Plan, Rulers};
 use lists::list::List;
 use page_model::page::Page;
@@ -22,15 +22,15 @@ use trap_report::parts::report_parts;
 use trap_report::report::report;
 use window_pages::sheet::Sheet;
 
-/// A sheet after trapping: its planes, and the report of what changed.
+/// A sheet after trapping: its planes, and its report.
 #[derive(Drop)]
 pub struct SheetOutcome {
     pub planes: PlaneList,
     pub report: Name,
 }
 
-/// Traps a sheet as it is planned: window by window, the windows of a strip by so many workers; or as the page that it is, by one
-/// thread. The one refusal is out of memory.
+/// Traps a sheet as it is planned: window by window, the windows of a strip by `workers` workers; or as a page, by one
+/// thread. It fails only where memory runs out.
 pub fn outcome_of<H: Threads + Sync>(
     rt: &H,
     alloc: Global,
@@ -89,13 +89,13 @@ fn sheet_outcome<H: Threads + Sync>(
 {
     let workers = workers as usize;
     match trap_sheet(rt, alloc, sheet, &rulers.across, &rulers.down, workers) {
-        Ok(trapped) => reported(alloc, sheet, trapped),
+        Ok(trapped) => with_report(alloc, sheet, trapped),
         Err(OutOfMemory) => Err(OutOfMemory),
     }
 }
 
-// The planes of a trapped sheet, with the report of what changed.
-fn reported(
+// The planes of a trapped sheet, with its report.
+fn with_report(
     alloc: Global,
     sheet: &Sheet,
     trapped: TrappedSheet,
@@ -117,7 +117,7 @@ fn sheet_report(alloc: Global, sheet: &Sheet, counts: SheetCounts) -> Result<Nam
     ensures { IfOk result (λ text. text ≡ report_of sheet.now (page_counts sheet.now)) }
 {
     let _valid = sheet.plates();
-    let counts = told_counts(counts);
+    let counts = counts_in_report(counts);
     report_parts(alloc, sheet.parts(), &counts)
 }
 

@@ -20,8 +20,8 @@ use report_writing::report::write_report;
 use sheet_stream::laws::report_is_bare;
 use tile_counts::counts::SheetCounts;
 
-// What is counted of a sheet, as its report tells it: of whichever sheet these are the counts.
-pub(crate) fn told_counts(counts: SheetCounts) -> Counts
+// The counts of a sheet as its report has them.
+pub(crate) fn counts_in_report(counts: SheetCounts) -> Counts
     ensures { (sheet : PageParts) → IsCounted sheet counts
         → (result ≡ page_counts sheet) × AreCounts sheet result }
 {
@@ -39,7 +39,7 @@ pub(crate) fn told_counts(counts: SheetCounts) -> Counts
     }
 }
 
-// Writes the report of a sheet with these counts by the first rack, where all of the sheet but its tints is known.
+// Writes the report of a sheet, given without its tints, with these counts by the first rack.
 pub(crate) fn report_counts<R: Rack>(
     racks: &mut [R],
     name: &str,
@@ -57,6 +57,6 @@ pub(crate) fn report_counts<R: Rack>(
         → rack_at (map R.state racks.new) k ≡ rack_at (map R.state racks.old) k }
 {
     report_is_bare();
-    let told = told_counts(counts);
+    let told = counts_in_report(counts);
     write_report(&mut racks[0], name, bare, &told)
 }

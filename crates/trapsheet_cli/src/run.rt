@@ -11,6 +11,7 @@ ghost use Rattle.trapsheet_cli.specs.Holding.{CanHold};
 ghost use Rattle.trapsheet_cli.specs.Trapping.{CanTrap};
 ghost use Rattle.trapsheet_cli.specs.Words.{targets_of};
 ghost use Rattle.sheet_windows.specs.Sheets.{IsSheet};
+ghost use Rattle.page_model.specs.Limits.{most_plates};
 
 use crate::holding::hold;
 use crate::outcome::outcome_of;
@@ -35,7 +36,7 @@ use sheet_gather::telling::refuse_sheet;
 use std::alloc::Global;
 use std::thread::Threads;
 
-// Carries out the work on a sheet, and gives the status that it ends with.
+// Runs the command on a sheet, and returns the status that it ends with.
 pub(crate) fn run_order<H: Threads + Sync, T: Tray + Send, R: Rack>(
     rt: &H,
     alloc: Global,
@@ -45,8 +46,8 @@ pub(crate) fn run_order<H: Threads + Sync, T: Tray + Send, R: Rack>(
     racks: &mut [R],
 ) -> u8
     requires within { IsWithin order.now }
-    requires trays { 16 ≤ length trays.old }
-    requires racks { 16 ≤ length racks.old }
+    requires trays { most_plates ≤ length trays.old }
+    requires racks { most_plates ≤ length racks.old }
     ensures { EndsSheet (order_in order.now) (map T.state trays.old) (map T.state trays.new)
         (map R.state racks.old) (map R.state racks.new) result }
 {
@@ -56,7 +57,7 @@ pub(crate) fn run_order<H: Threads + Sync, T: Tray + Send, R: Rack>(
     }
 }
 
-// Tells the line of a stop to the first rack, and gives its status.
+// Prints the line of a stop on the first rack, and returns its status.
 fn refuse_first<R: Rack>(racks: &mut [R], stop: &TrapsheetError) -> u8
     requires { 1 ≤ length racks.old }
     ensures { RefusesFirst stop.now (map R.state racks.old) (map R.state racks.new) result }
@@ -64,7 +65,7 @@ fn refuse_first<R: Rack>(racks: &mut [R], stop: &TrapsheetError) -> u8
     refuse_sheet(&mut racks[0], stop)
 }
 
-// Judges the sheet, reads it once more, traps it and writes its files.
+// Checks the sheet, reads it once more, traps it and writes its files.
 fn carry_out<H: Threads + Sync, T: Tray + Send, R: Rack>(
     rt: &H,
     alloc: Global,
@@ -74,8 +75,8 @@ fn carry_out<H: Threads + Sync, T: Tray + Send, R: Rack>(
     racks: &mut [R],
 ) -> Result<(), TrapsheetError>
     requires within { IsWithin order.now }
-    requires trays { 16 ≤ length trays.old }
-    requires racks { 16 ≤ length racks.old }
+    requires trays { most_plates ≤ length trays.old }
+    requires racks { most_plates ≤ length racks.old }
     ensures { CarriesOut (order_in order.now) (map T.state trays.old) (map T.state trays.new)
         (map R.state racks.old) (map R.state racks.new) result }
 {
@@ -111,7 +112,7 @@ fn carry_out<H: Threads + Sync, T: Tray + Send, R: Rack>(
     }
 }
 
-// Reads a sheet that was judged once more, traps it and writes its files, strip by strip where it can be cut so.
+// Reads a sheet that was checked once more, traps it and writes its files, strip by strip if it can be cut so.
 fn put_planned<H: Threads + Sync, T: Tray, R: Rack>(
     rt: &H,
     alloc: Global,
@@ -123,8 +124,8 @@ fn put_planned<H: Threads + Sync, T: Tray, R: Rack>(
     racks: &mut [R],
 ) -> Result<(), TrapsheetError>
     requires within { IsWithin order.now }
-    requires trays { 16 ≤ length trays.old }
-    requires racks { 16 ≤ length racks.old }
+    requires trays { most_plates ≤ length trays.old }
+    requires racks { most_plates ≤ length racks.old }
     requires valid { IsBareSheet planned.now.bare }
     requires blank { bare_sheet planned.now.bare ≡ planned.now.bare }
     requires plan { IsPlan planned.now.bare budget.now planned.now.plan }
@@ -145,7 +146,7 @@ fn put_planned<H: Threads + Sync, T: Tray, R: Rack>(
     }
 }
 
-// The same of a sheet that streams in strips by these rulers.
+// Does the same for a sheet that streams in strips by these rulers.
 fn put_strips<H: Threads + Sync, T: Tray, R: Rack>(
     rt: &H,
     alloc: Global,
@@ -157,8 +158,8 @@ fn put_strips<H: Threads + Sync, T: Tray, R: Rack>(
     racks: &mut [R],
 ) -> Result<(), TrapsheetError>
     requires within { IsWithin order.now }
-    requires trays { 16 ≤ length trays.old }
-    requires racks { 16 ≤ length racks.old }
+    requires trays { most_plates ≤ length trays.old }
+    requires racks { most_plates ≤ length racks.old }
     requires can { StreamsBy bare.now rulers.now }
     requires inputs { length inputs.now ≡ plates bare.now }
     requires count { length order.now.plates.now ≡ plates bare.now }
@@ -184,7 +185,7 @@ fn put_strips<H: Threads + Sync, T: Tray, R: Rack>(
     )
 }
 
-// The same of a sheet that has no strips of one height: all of its rows are held.
+// Does the same for a sheet without strips of one height: all of its rows are in memory.
 fn put_whole<H: Threads + Sync, T: Tray, R: Rack>(
     rt: &H,
     alloc: Global,
@@ -195,8 +196,8 @@ fn put_whole<H: Threads + Sync, T: Tray, R: Rack>(
     racks: &mut [R],
 ) -> Result<(), TrapsheetError>
     requires within { IsWithin order.now }
-    requires trays { 16 ≤ length trays.old }
-    requires racks { 16 ≤ length racks.old }
+    requires trays { most_plates ≤ length trays.old }
+    requires racks { most_plates ≤ length racks.old }
     requires valid { IsBareSheet planned.now.bare }
     requires blank { bare_sheet planned.now.bare ≡ planned.now.bare }
     requires can { CanHold planned.now.bare planned.now.plan }
@@ -212,7 +213,7 @@ fn put_whole<H: Threads + Sync, T: Tray, R: Rack>(
     }
 }
 
-// Traps a sheet and writes its files. All memory that is wanted is taken before the first file is created.
+// Traps a sheet and writes its files. All memory is allocated before the first file is created.
 fn put_out<H: Threads + Sync, R: Rack>(
     rt: &H,
     alloc: Global,
@@ -222,7 +223,7 @@ fn put_out<H: Threads + Sync, R: Rack>(
     racks: &mut [R],
 ) -> Result<(), TrapsheetError>
     requires within { IsWithin order.now }
-    requires racks { 16 ≤ length racks.old }
+    requires racks { most_plates ≤ length racks.old }
     requires can { CanTrap parts plan }
     requires sheet { IsSheet parts }
     requires count { plates parts ≡ length order.now.plates.now }

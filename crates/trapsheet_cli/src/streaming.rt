@@ -19,14 +19,14 @@ use refusals::refusal::Refusal;
 use sheet_gather::stop::TrapsheetError;
 use sheet_loop::room::{StreamRoom, stream_room};
 use sheet_loop::sheet::stream_sheet;
-use sheet_loop::stop::StreamStop;
+use sheet_loop::stop::StreamError;
 use std::alloc::Global;
 use std::convert::AsStr;
 use std::thread::Threads;
 use strip_rows::parts::StripPlan;
 
-// What stops a second reading, as the program tells it.
-pub(crate) fn told_stop(stop: RereadError) -> TrapsheetError
+// The program's error for what stopped a second reading.
+pub(crate) fn error_of(stop: RereadError) -> TrapsheetError
     ensures { result ≡ error_of stop }
 {
     match stop {
@@ -48,8 +48,8 @@ pub(crate) fn header_for(bare: &PageParts) -> Header
     }
 }
 
-// Reads the plates of a sheet that was judged once more, traps it strip by strip, and writes its files, the report last.
-// All memory that is wanted is taken before the first file is begun.
+// Reads the plates of a sheet that was checked once more, traps it strip by strip, and writes its files, the report
+// last. All memory is allocated before the first file is begun.
 pub(crate) fn stream<H: Threads + Sync, T: Tray, R: Rack, S: AsStr>(
     rt: &H,
     alloc: Global,
@@ -86,7 +86,7 @@ pub(crate) fn stream<H: Threads + Sync, T: Tray, R: Rack, S: AsStr>(
     }
 }
 
-// The same in a room that is made for it.
+// Does the same with the memory allocated.
 fn stream_in<H: Threads + Sync, T: Tray, R: Rack, S: AsStr>(
     rt: &H,
     alloc: Global,
@@ -116,12 +116,12 @@ fn stream_in<H: Threads + Sync, T: Tray, R: Rack, S: AsStr>(
         rt, alloc, trays, racks, inputs, outputs, bare, plan, &mut used,
     ) {
         Ok(()) => report_room(racks, report, bare, used),
-        Err(StreamStop::Unread(stop)) => Err(told_stop(stop)),
-        Err(StreamStop::Unwritten(refusal)) => Err(TrapsheetError::Common(refusal)),
+        Err(StreamError::Unread(stop)) => Err(error_of(stop)),
+        Err(StreamError::Unwritten(refusal)) => Err(TrapsheetError::Common(refusal)),
     }
 }
 
-// Writes the report of what is counted in a room.
+// Writes the report of the counts.
 fn report_room<R: Rack>(
     racks: &mut [R],
     report: &str,

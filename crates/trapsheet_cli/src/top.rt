@@ -1,6 +1,7 @@
 ghost use Rattle.std.specs.Prelude.{◌≡◌, ◌≤◌, length, map, string_bytes};
 ghost use Rattle.trapsheet_cli.specs.Clauses.{Completeness, FaultLine, LeavesFiles, Locality, ReadFault, RefusedInput, Success, Usage, WriteFault};
 ghost use Rattle.trapsheet_cli.specs.Endings.{EndsWords, RefusesWords, TellsUsage};
+ghost use Rattle.page_model.specs.Limits.{most_plates};
 
 use crate::run::run_order;
 use crate::windows::WINDOW;
@@ -15,24 +16,25 @@ use sheet_gather::laws::one_sheet_verdict;
 use std::alloc::Global;
 use std::thread::Threads;
 
-/// Traps a sheet of any size, and answers the status that the program ends with.
+/// Traps a sheet of any size, and returns the status that the program exits with.
 ///
-/// The words are `WORKERS JOB REPORT NAME:IN:OUT ...`: the workers, from 1 to 64, the job's file, the report's, and one to
-/// sixteen plates, each with the name of its colorant, the file that is read and the one that is written. Each plate is read
-/// by the tray and written by the rack of its number. The job is read by the first tray, before its plate, and the report is
-/// written by the first rack, after all plates; lines are told to it.
+/// The words are `WORKERS JOB REPORT NAME:IN:OUT ...`: the workers, from 1 to 64, the job's file, the report's, and one
+/// to sixteen plates, each with the name of its colorant, the file that is read and the one that is written. Plate k is
+/// read by tray k and written by rack k. The job is read by the first tray, before its plate, and the report is written
+/// by the first rack, after all plates; lines are printed on it.
 ///
 /// The job is read to its end, and then the plates are, side by side by the workers, which are threads of `rt`. All are
-/// judged, and nothing is kept of a plate but its header: where plates are refused, the first in the order of the words is
-/// told, and which of the later ones were begun is not said. Then each plate is begun once more, and strip by strip from the
-/// top its rows are read, trapped in windows by the workers, and written. A sheet of which no strips of one height can be cut
-/// is held with all its rows. What is written is the same for every number of workers, and that of the undivided sheet.
+/// checked, and of a plate only its header is kept: if several plates are refused, the line names the first in the
+/// order of the words, and which of the later ones were begun is not said. Then each plate is begun once more, and
+/// strip by strip from the top its rows are read, trapped in windows by the workers, and written. A sheet that can't be
+/// cut into strips of one height is read into memory as a whole. What is written is the same for every number of
+/// workers, and that of the undivided sheet.
 ///
-/// The status is 0 where the work is done; 2 where the words mean no sheet; 3 where the job has a fault or lacks the details
-/// of a plate's colorant; 4 where a plate's file has a fault, or the plates are no sheet that can be trapped, or a plate is not
-/// what it was when it is begun once more; 5 where a read failed; 6 where a write failed; and 7 where memory ran out. Each
-/// refusal tells one line that names the cause. No file is created before all memory is taken and each plate has its header
-/// again.
+/// The status is 0 if the work is done; 2 if the words are no command; 3 if the job has a fault or lacks the details of
+/// a plate's colorant; 4 if a plate's file has a fault, or the plates do not make a sheet that can be trapped, or a
+/// plate is not the same when it is begun once more; 5 if a read failed; 6 if a write failed; and 7 if memory ran out.
+/// Each refusal prints one line that names the cause. No file is created before all memory is allocated and each plate
+/// has its header again.
 pub fn trapsheet_main<H: Threads + Sync, T: Tray + Send, R: Rack + Send>(
     rt: &H,
     alloc: Global,
@@ -40,8 +42,8 @@ pub fn trapsheet_main<H: Threads + Sync, T: Tray + Send, R: Rack + Send>(
     trays: &mut [T],
     racks: &mut [R],
 ) -> u8
-    requires trays { 16 ≤ length trays.old }
-    requires racks { 16 ≤ length racks.old }
+    requires trays { most_plates ≤ length trays.old }
+    requires racks { most_plates ≤ length racks.old }
     ensures success { Success (map string_bytes words.now) (map T.state trays.old)
         (map T.state trays.new) (map R.state racks.old) (map R.state racks.new) result }
     ensures usage { Usage (map string_bytes words.now) (map T.state trays.old)
@@ -62,8 +64,8 @@ pub fn trapsheet_main<H: Threads + Sync, T: Tray + Send, R: Rack + Send>(
     trapsheet_within(rt, alloc, words, &WINDOW, trays, racks)
 }
 
-/// As `trapsheet_main`, with windows of at most so many rows and samples; where these are the usual rows, those of a narrow sheet
-/// have twice as many, and those of a wide one fewer.
+/// Does what `trapsheet_main` does, with windows of at most the budget's rows and samples; if these are the usual rows,
+/// the windows of a narrow sheet have twice as many, and those of a wide one fewer.
 pub fn trapsheet_within<H: Threads + Sync, T: Tray + Send, R: Rack + Send>(
     rt: &H,
     alloc: Global,
@@ -72,8 +74,8 @@ pub fn trapsheet_within<H: Threads + Sync, T: Tray + Send, R: Rack + Send>(
     trays: &mut [T],
     racks: &mut [R],
 ) -> u8
-    requires trays { 16 ≤ length trays.old }
-    requires racks { 16 ≤ length racks.old }
+    requires trays { most_plates ≤ length trays.old }
+    requires racks { most_plates ≤ length racks.old }
     ensures { EndsWords (map string_bytes words.now) (map T.state trays.old)
         (map T.state trays.new) (map R.state racks.old) (map R.state racks.new) result }
 {

@@ -7,27 +7,27 @@ use bare_sheets::budget::Budget;
 use bare_sheets::plan::{Plan, Rulers, plan_sheet};
 use page_model::parts::PageParts;
 
-/// A window has so many rows, and so many samples in all plates, where its halo leaves room for that.
+/// The usual window: its rows, and its samples in all plates, unless its halo takes more.
 pub(crate) const WINDOW: Budget = Budget {
     rows: 128,
     samples: 400_000,
 };
 
-// Less of a deep strip is halo, and the workers meet less often.
+// A deep strip has less halo for its rows, and its workers wait for each other less often.
 const DEEP_WINDOW: Budget = Budget {
     rows: 256,
     samples: 800_000,
 };
 
-// The most samples in all plates of a strip of deep windows, and of one whose rows can be fewer.
+// The most samples in all plates of a strip of deep windows, and of one whose rows can be reduced.
 const MOST_DEEP: u64 = 8_388_608;
 
 const MOST_STRIP: u64 = 67_108_864;
 
-// However wide the sheet is, so many rows are worth a strip.
+// A strip has at least so many rows, however wide the sheet is: fewer are not worth their halo.
 const LEAST_ROWS: u64 = 32;
 
-/// The rulers of a sheet's strips, or where these have the usual rows, those of strips that are twice as high in a narrow
+/// The rulers of a sheet's strips; if these have the usual rows, those of strips that are twice as high in a narrow
 /// sheet, and lower in a wide one, so that a strip takes about as much memory however wide the sheet is.
 pub(crate) fn rulers_for(bare: &PageParts, rulers: Rulers) -> Rulers
     requires by { StreamsBy bare.now rulers }

@@ -1,7 +1,7 @@
 ghost use Rattle.std.specs.Prelude.{◌≡◌, ◌≢◌, ◌<◌, ◌≤◌, ℕ, length, map};
 ghost use Rattle.std.specs.List.{All};
 ghost use Rattle.outside.specs.Writing.{WritesFile};
-ghost use Rattle.page_model.specs.Limits.{most_maxval};
+ghost use Rattle.page_model.specs.Limits.{most_maxval, most_plates};
 ghost use Rattle.page_writing.specs.Format.{encoded};
 ghost use Rattle.plate_rows.specs.Racks.{rack_at};
 ghost use Rattle.trapsheet_cli.specs.Racks.{WritesPlates, WritesSheet, targets};
@@ -15,12 +15,12 @@ use refusals::refusal::Refusal;
 use sheet_gather::stop::TrapsheetError;
 use std::convert::AsStr;
 
-/// Writes each plane, turned into a plate, into the file of its name, plane k by rack k, and then the text into the report by
-/// the first rack. It takes no memory.
+/// Writes each plane as a plate to the file of its name, plane k by rack k, and then the text to the report by the
+/// first rack. It allocates nothing.
 ///
-/// It stops at the first file at which a call of its rack fails, and answers `Write` with the plate's number from 0, or with
-/// none for the report. The files before it then stand whole; of it a prefix of its bytes stands under its name, or, where
-/// it could not be created, nothing; no later file is begun.
+/// It stops at the first file at which a call of its rack fails, and returns `Write` with the plate's number from 0, or
+/// with `None` for the report. The files before it are whole; of that file a prefix of its bytes stands under its name,
+/// or, where it could not be created, nothing; no later file is begun.
 pub fn write_sheet<R: Rack, S: AsStr>(
     racks: &mut [R],
     names: &[S],
@@ -29,7 +29,7 @@ pub fn write_sheet<R: Rack, S: AsStr>(
     text: &[u8],
 ) -> Result<(), TrapsheetError>
     requires some { 1 ≤ length names.now }
-    requires few { length names.now ≤ 16 }
+    requires few { length names.now ≤ most_plates }
     requires racks { length names.now ≤ length racks.old }
     requires count { length planes.now ≡ length names.now }
     requires maxvals { All (λ plane. plane.maxval ≤ most_maxval) planes.now }
@@ -53,7 +53,7 @@ fn write_plates<R: Rack, S: AsStr>(
     names: &[S],
     planes: &[Plane],
 ) -> Result<(), TrapsheetError>
-    requires few { length names.now ≤ 16 }
+    requires few { length names.now ≤ most_plates }
     requires racks { length names.now ≤ length racks.old }
     requires count { length planes.now ≡ length names.now }
     requires maxvals { All (λ plane. plane.maxval ≤ most_maxval) planes.now }

@@ -71,7 +71,7 @@ struct Case<'a> {
     rack_fails: Option<Fault>,
 }
 
-// How a run ends: its status, the text that is told, the plates that stand then, and the report.
+// How a run ends: its status, the text that is printed, the plates that stand then, and the report.
 #[derive(Clone, Copy)]
 struct Wanted<'a> {
     status: u8,
@@ -158,7 +158,7 @@ fn racks_of(rt: &impl Abort, alloc: Global, case: Case<'_>) -> Result<Vec<MemRac
 }
 
 // The status, and the racks as they stand then.
-fn ended(
+fn end_of_call(
     rt: &(impl Abort + Threads + Sync),
     alloc: Global,
     words: &[String],
@@ -180,7 +180,7 @@ fn run(
     let words = words_of(alloc, case.words)?;
     let racks = racks_of(rt, alloc, case)?;
     let trays = trays_of(rt, alloc, case)?;
-    Ok(ended(rt, alloc, &words, &case.windows, trays, racks))
+    Ok(end_of_call(rt, alloc, &words, &case.windows, trays, racks))
 }
 
 // Whether the rack of that number holds its plate, and nothing else but the report where it is the first.

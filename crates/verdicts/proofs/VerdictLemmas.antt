@@ -10,7 +10,7 @@ use Rattle.page_model.specs.declared.page.PageFault.{PageFault}
 use Rattle.pgm_plates.specs.declared.plate.Plate.{Plate as PlateRead}
 use Rattle.pgm_plates.specs.declared.plate.PlateFault.{PlateFault}
 use Rattle.page_gather.specs.Assembly.{assembly}
-use Rattle.page_gather.specs.Inputs.{Sources, Spelling, Holds, AreRead, PlateFails, Makes, name_at, plate_at, no_plate}
+use Rattle.page_gather.specs.Inputs.{Sources, Decoder, Holds, AreRead, PlateFails, Makes, name_at, plate_at, no_plate}
 use Rattle.page_writing.specs.Files.{Written}
 use Rattle.refusals.specs.declared.refusal.Refusal.{Refusal}
 use Rattle.refusals.specs.declared.refusal.Refusal.TheVariants.{Usage, Job, NoDetails, Plate, Page, Read, Write, Memory}
@@ -18,10 +18,10 @@ use Rattle.verdicts.specs.Verdicts.{Verdict, Targets, IsVerdict, OneVerdict, out
 use Rattle.verdicts.specs.Verdicts.Verdict.{Refused, Out}
 
 -- What has to be known of the plates' files: bytes that hold a plate have no fault, and hold one plate; others have one fault.
-pub record PlateLaws (spelling : Spelling) : Type 0 where
-  pub not_both : (bytes : List ℕ) (plate : PlateRead) (fault : PlateFault) → spelling.plate bytes plate → spelling.fault bytes fault → ⊥
-  pub one_plate : (bytes : List ℕ) (one two : PlateRead) → spelling.plate bytes one → spelling.plate bytes two → one ≡ two
-  pub one_fault : (bytes : List ℕ) (one two : PlateFault) → spelling.fault bytes one → spelling.fault bytes two → one ≡ two
+pub record PlateLaws (decoder : Decoder) : Type 0 where
+  pub not_both : (bytes : List ℕ) (plate : PlateRead) (fault : PlateFault) → decoder.plate bytes plate → decoder.fault bytes fault → ⊥
+  pub one_plate : (bytes : List ℕ) (one two : PlateRead) → decoder.plate bytes one → decoder.plate bytes two → one ≡ two
+  pub one_fault : (bytes : List ℕ) (one two : PlateFault) → decoder.fault bytes one → decoder.fault bytes two → one ≡ two
 
 -- A file has one list of bytes.
 held_both : (files : List ℕ → Option (List ℕ)) (name : List ℕ) (F G : List ℕ → Type 0) → Holds files name F → Holds files name G → (bytes : List ℕ) × F bytes × G bytes
@@ -29,89 +29,89 @@ held_both files name F G one two =
     let same : two.0 ≡ one.0 = same_Some two.0 one.0 (sym two.1 ∙ one.1) in
     (one.0, one.2, subst G same two.2)
 
-module _ (spelling : Spelling) (laws : PlateLaws spelling) (files : List ℕ → Option (List ℕ)) (source : Sources) (target : Targets) where
+module _ (decoder : Decoder) (laws : PlateLaws decoder) (files : List ℕ → Option (List ℕ)) (source : Sources) (target : Targets) where
   -- the job is read, or it has a fault, one of them
   abbrev JobIs : JobRead → Type 0
-  JobIs job = Holds files source.job (λ bytes. spelling.job bytes ≡ Ok job)
+  JobIs job = Holds files source.job (λ bytes. decoder.job bytes ≡ Ok job)
 
   abbrev JobFails : JobFault → Type 0
-  JobFails fault = Holds files source.job (λ bytes. spelling.job bytes ≡ Err fault)
+  JobFails fault = Holds files source.job (λ bytes. decoder.job bytes ≡ Err fault)
 
   one_job : (one two : JobRead) → JobIs one → JobIs two → one ≡ two
   one_job one two a b =
-      let both = held_both files source.job (λ bytes. spelling.job bytes ≡ Ok one) (λ bytes. spelling.job bytes ≡ Ok two) a b in
+      let both = held_both files source.job (λ bytes. decoder.job bytes ≡ Ok one) (λ bytes. decoder.job bytes ≡ Ok two) a b in
       let same : ◌≡◌ {A = Result JobRead JobFault} (Ok one) (Ok two) = sym both.1 ∙ both.2 in
       cc
 
   one_job_fault : (one two : JobFault) → JobFails one → JobFails two → one ≡ two
   one_job_fault one two a b =
-      let both = held_both files source.job (λ bytes. spelling.job bytes ≡ Err one) (λ bytes. spelling.job bytes ≡ Err two) a b in
+      let both = held_both files source.job (λ bytes. decoder.job bytes ≡ Err one) (λ bytes. decoder.job bytes ≡ Err two) a b in
       let same : ◌≡◌ {A = Result JobRead JobFault} (Err one) (Err two) = sym both.1 ∙ both.2 in
       cc
 
   job_or_fault : (job : JobRead) (fault : JobFault) → JobIs job → JobFails fault → ⊥
   job_or_fault job fault a b =
-      let both = held_both files source.job (λ bytes. spelling.job bytes ≡ Ok job) (λ bytes. spelling.job bytes ≡ Err fault) a b in
+      let both = held_both files source.job (λ bytes. decoder.job bytes ≡ Ok job) (λ bytes. decoder.job bytes ≡ Err fault) a b in
       let same : ◌≡◌ {A = Result JobRead JobFault} (Ok job) (Err fault) = sym both.1 ∙ both.2 in
       absurd cc
 
   -- a plate that was read has no fault
-  read_or_fault : (k n : ℕ) (plates : List PlateRead) (fault : PlateFault) → k < n → AreRead spelling files source.inputs n plates → Holds files (name_at source.inputs k) (λ bytes. spelling.fault bytes fault) → ⊥
+  read_or_fault : (k n : ℕ) (plates : List PlateRead) (fault : PlateFault) → k < n → AreRead decoder files source.inputs n plates → Holds files (name_at source.inputs k) (λ bytes. decoder.fault bytes fault) → ⊥
   read_or_fault k n plates fault within read broken =
-      let both = held_both files (name_at source.inputs k) (λ bytes. spelling.plate bytes (plate_at plates k)) (λ bytes. spelling.fault bytes fault) (read.each k within) broken in
+      let both = held_both files (name_at source.inputs k) (λ bytes. decoder.plate bytes (plate_at plates k)) (λ bytes. decoder.fault bytes fault) (read.each k within) broken in
       laws.not_both both.0 (plate_at plates k) fault both.1 both.2
 
-  same_at : (n : ℕ) (p q : List PlateRead) → AreRead spelling files source.inputs n p → AreRead spelling files source.inputs n q → (k : ℕ) → k < n → plate_at p k ≡ plate_at q k
+  same_at : (n : ℕ) (p q : List PlateRead) → AreRead decoder files source.inputs n p → AreRead decoder files source.inputs n q → (k : ℕ) → k < n → plate_at p k ≡ plate_at q k
   same_at n p q a b k within =
-      let both = held_both files (name_at source.inputs k) (λ bytes. spelling.plate bytes (plate_at p k)) (λ bytes. spelling.plate bytes (plate_at q k)) (a.each k within) (b.each k within) in
+      let both = held_both files (name_at source.inputs k) (λ bytes. decoder.plate bytes (plate_at p k)) (λ bytes. decoder.plate bytes (plate_at q k)) (a.each k within) (b.each k within) in
       laws.one_plate both.0 (plate_at p k) (plate_at q k) both.1 both.2
 
-  one_list : (n : ℕ) (p q : List PlateRead) → AreRead spelling files source.inputs n p → AreRead spelling files source.inputs n q → p ≡ q
+  one_list : (n : ℕ) (p q : List PlateRead) → AreRead decoder files source.inputs n p → AreRead decoder files source.inputs n q → p ≡ q
   one_list n p q a b = same_lists p q (a.all ∙ sym b.all) (λ k d within.
       let below : k < n = omega (arith, a.all) in
       let there : k < length q = omega (arith, b.all) in
       get_or_default p k d no_plate within ∙ same_at n p q a b k below ∙ sym (get_or_default q k d no_plate there))
 
   -- what the job and the plates make is one thing
-  one_making : (one two : Result PageParts Refusal) → Makes spelling files source one → Makes spelling files source two → one ≡ two
+  one_making : (one two : Result PageParts Refusal) → Makes decoder files source one → Makes decoder files source two → one ≡ two
   one_making one two a b =
       let job : a.0 ≡ b.0 = one_job a.0 b.0 a.2.job_read b.2.job_read in
       let plates : a.1 ≡ b.1 = one_list (length source.inputs) a.1 b.1 a.2.plates_read b.2.plates_read in
       sym a.3 ∙ ap (λ (j : JobRead). assembly j a.1 source.names) job ∙ ap (λ (ps : List PlateRead). assembly b.0 ps source.names) plates ∙ b.3
 
   -- of two plates that are the first with a fault
-  one_place : (j k : ℕ) (f g : PlateFault) → PlateFails spelling files source j f → PlateFails spelling files source k g → j < k → ⊥
+  one_place : (j k : ℕ) (f g : PlateFault) → PlateFails decoder files source j f → PlateFails decoder files source k g → j < k → ⊥
   one_place j k f g a b less = read_or_fault j k b.plates f less b.before a.broken
 
-  same_place : (j k : ℕ) (f g : PlateFault) → PlateFails spelling files source j f → PlateFails spelling files source k g → j ≡ k
+  same_place : (j k : ℕ) (f g : PlateFault) → PlateFails decoder files source j f → PlateFails decoder files source k g → j ≡ k
   same_place j k f g a b = elim (cases_lt j k) [
     | inl less ↦ absurd (one_place j k f g a b less)
     | inr more ↦ elim (cases_lt k j) [ inl less ↦ absurd (one_place k j g f b a less) | inr other ↦ omega arith ]
   ]
 
-  one_plate_fault : (j k : ℕ) (f g : PlateFault) → PlateFails spelling files source j f → PlateFails spelling files source k g → ◌≡◌ {A = Refusal} (Plate j f) (Plate k g)
+  one_plate_fault : (j k : ℕ) (f g : PlateFault) → PlateFails decoder files source j f → PlateFails decoder files source k g → ◌≡◌ {A = Refusal} (Plate j f) (Plate k g)
   one_plate_fault j k f g a b =
       let place : j ≡ k = same_place j k f g a b in
-      let there = subst (λ (n : ℕ). Holds files (name_at source.inputs n) (λ bytes. spelling.fault bytes f)) place a.broken in
-      let both = held_both files (name_at source.inputs k) (λ bytes. spelling.fault bytes f) (λ bytes. spelling.fault bytes g) there b.broken in
+      let there = subst (λ (n : ℕ). Holds files (name_at source.inputs n) (λ bytes. decoder.fault bytes f)) place a.broken in
+      let both = held_both files (name_at source.inputs k) (λ bytes. decoder.fault bytes f) (λ bytes. decoder.fault bytes g) there b.broken in
       let fault : f ≡ g = laws.one_fault both.0 f g both.1 both.2 in
       ap (λ (n : ℕ). Plate n f) place ∙ ap (λ (h : PlateFault). Plate k h) fault
 
-  made_or_fault : (made : Result PageParts Refusal) (k : ℕ) (fault : PlateFault) → Makes spelling files source made → PlateFails spelling files source k fault → ⊥
+  made_or_fault : (made : Result PageParts Refusal) (k : ℕ) (fault : PlateFault) → Makes decoder files source made → PlateFails decoder files source k fault → ⊥
   made_or_fault made k fault a b = read_or_fault k (length source.inputs) a.1 fault b.known a.2.plates_read b.broken
 
-  made_or_job : (made : Result PageParts Refusal) (fault : JobFault) → Makes spelling files source made → JobFails fault → ⊥
+  made_or_job : (made : Result PageParts Refusal) (fault : JobFault) → Makes decoder files source made → JobFails fault → ⊥
   made_or_job made fault a b = job_or_fault a.0 fault a.2.job_read b
 
   -- A verdict is a fault of the job, of a plate, or what is made.
   data View (v : Verdict) : Type 0 where
     of_job : (fault : JobFault) → v ≡ Refused (Job fault) → JobFails fault → View v
-    of_plate : (k : ℕ) (fault : PlateFault) → v ≡ Refused (Plate k fault) → PlateFails spelling files source k fault → View v
-    of_details : (k : ℕ) → v ≡ Refused (NoDetails k) → Makes spelling files source (Err (NoDetails k)) → View v
-    of_page : (fault : PageFault) → v ≡ Refused (Page fault) → Makes spelling files source (Err (Page fault)) → View v
-    of_out : (page : PageParts) → v ≡ Out (outcome target page) → Makes spelling files source (Ok page) → View v
+    of_plate : (k : ℕ) (fault : PlateFault) → v ≡ Refused (Plate k fault) → PlateFails decoder files source k fault → View v
+    of_details : (k : ℕ) → v ≡ Refused (NoDetails k) → Makes decoder files source (Err (NoDetails k)) → View v
+    of_page : (fault : PageFault) → v ≡ Refused (Page fault) → Makes decoder files source (Err (Page fault)) → View v
+    of_out : (page : PageParts) → v ≡ Out (outcome target page) → Makes decoder files source (Ok page) → View v
 
-  view : (v : Verdict) → IsVerdict spelling files source target v → View v
+  view : (v : Verdict) → IsVerdict decoder files source target v → View v
   view (Refused (Job fault)) is = of_job fault refl is
   view (Refused (Plate k fault)) is = of_plate k fault refl is
   view (Refused (NoDetails k)) is = of_details k refl is
@@ -122,7 +122,7 @@ module _ (spelling : Spelling) (laws : PlateLaws spelling) (files : List ℕ →
   view (Refused Memory) is = absurd is
   view (Out written) is = of_out is.0 (ap (λ (w : List Written). Out w) is.2) is.1
 
-  made_same : (one two : Result PageParts Refusal) (v w : Verdict) (verdict : Result PageParts Refusal → Verdict) → v ≡ verdict one → w ≡ verdict two → Makes spelling files source one → Makes spelling files source two → v ≡ w
+  made_same : (one two : Result PageParts Refusal) (v w : Verdict) (verdict : Result PageParts Refusal → Verdict) → v ≡ verdict one → w ≡ verdict two → Makes decoder files source one → Makes decoder files source two → v ≡ w
   made_same one two v w verdict is also a b = is ∙ ap verdict (one_making one two a b) ∙ sym also
 
   abbrev verdict_on : Result PageParts Refusal → Verdict
@@ -157,5 +157,5 @@ module _ (spelling : Spelling) (laws : PlateLaws spelling) (files : List ℕ →
   same v w (of_out page is a) (of_out other also b) = made_same (Ok page) (Ok other) v w verdict_on is also a b
 
 -- The files have one verdict.
-pub one_verdict : (spelling : Spelling) → PlateLaws spelling → OneVerdict spelling
-one_verdict spelling laws files source target v w is also = same spelling laws files source target v w (view spelling laws files source target v is) (view spelling laws files source target w also)
+pub one_verdict : (decoder : Decoder) → PlateLaws decoder → OneVerdict decoder
+one_verdict decoder laws files source target v w is also = same decoder laws files source target v w (view decoder laws files source target v is) (view decoder laws files source target w also)

@@ -3,7 +3,7 @@ use Rattle.std.specs.Prelude.{◌≡◌, ℕ, ◌<◌, All, List, ◌∷◌, [],
 use Rattle.page_model.specs.declared.parts.PageParts.{PageParts}
 use Rattle.page_model.specs.Counts.{page_counts}
 use Rattle.page_model.specs.Tints.{trapped_planes}
-use Rattle.page_gather.specs.Inputs.{Sources, Spelling, Holds, PlateFails, Makes, name_at}
+use Rattle.page_gather.specs.Inputs.{Sources, Decoder, Holds, PlateFails, Makes, name_at}
 use Rattle.page_writing.specs.Files.{Written, page_files}
 use Rattle.refusals.specs.declared.refusal.Refusal.{Refusal}
 use Rattle.refusals.specs.declared.refusal.Refusal.TheVariants.{Job, NoDetails, Plate, Page}
@@ -32,32 +32,32 @@ outcome target page = page_files target.outputs (trapped_planes page) target.rep
 
 -- The job is judged first, then each plate in order, then what they make. Where a file that this
 -- comes to is not there, there is no verdict.
-abbrev pub IsVerdict : Spelling → (List ℕ → Option (List ℕ)) → Sources → Targets → Verdict → Type 0
-IsVerdict spelling files source target (Refused (Job fault)) =
-    Holds files source.job (λ bytes. spelling.job bytes ≡ Err fault)
-IsVerdict spelling files source target (Refused (Plate plate fault)) =
-    PlateFails spelling files source plate fault
-IsVerdict spelling files source target (Refused (NoDetails plate)) =
-    Makes spelling files source (Err (NoDetails plate))
-IsVerdict spelling files source target (Refused (Page fault)) =
-    Makes spelling files source (Err (Page fault))
-IsVerdict spelling files source target (Refused other) = ⊥
-IsVerdict spelling files source target (Out written) =
-    (page : PageParts) × Makes spelling files source (Ok page) × (written ≡ outcome target page)
+abbrev pub IsVerdict : Decoder → (List ℕ → Option (List ℕ)) → Sources → Targets → Verdict → Type 0
+IsVerdict decoder files source target (Refused (Job fault)) =
+    Holds files source.job (λ bytes. decoder.job bytes ≡ Err fault)
+IsVerdict decoder files source target (Refused (Plate plate fault)) =
+    PlateFails decoder files source plate fault
+IsVerdict decoder files source target (Refused (NoDetails plate)) =
+    Makes decoder files source (Err (NoDetails plate))
+IsVerdict decoder files source target (Refused (Page fault)) =
+    Makes decoder files source (Err (Page fault))
+IsVerdict decoder files source target (Refused other) = ⊥
+IsVerdict decoder files source target (Out written) =
+    (page : PageParts) × Makes decoder files source (Ok page) × (written ≡ outcome target page)
 
 -- No two verdicts stand on the same files.
-abbrev pub OneVerdict : Spelling → Type 0
-OneVerdict spelling = (files : List ℕ → Option (List ℕ)) (source : Sources) (target : Targets)
-    (one two : Verdict) → IsVerdict spelling files source target one
-    → IsVerdict spelling files source target two → one ≡ two
+abbrev pub OneVerdict : Decoder → Type 0
+OneVerdict decoder = (files : List ℕ → Option (List ℕ)) (source : Sources) (target : Targets)
+    (one two : Verdict) → IsVerdict decoder files source target one
+    → IsVerdict decoder files source target two → one ≡ two
 
 -- There is a file of that name, of bytes.
 abbrev pub IsFile : (List ℕ → Option (List ℕ)) → List ℕ → Type 0
 IsFile files name = Holds files name (λ bytes. All (λ b. b < 256) bytes)
 
 -- Where the job and all plates are among the files, a verdict stands.
-abbrev pub SomeVerdict : Spelling → Type 0
-SomeVerdict spelling = (files : List ℕ → Option (List ℕ)) (source : Sources) (target : Targets)
+abbrev pub SomeVerdict : Decoder → Type 0
+SomeVerdict decoder = (files : List ℕ → Option (List ℕ)) (source : Sources) (target : Targets)
     → IsFile files source.job
     → ((k : ℕ) → k < length source.inputs → IsFile files (name_at source.inputs k))
-    → (verdict : Verdict) × IsVerdict spelling files source target verdict
+    → (verdict : Verdict) × IsVerdict decoder files source target verdict

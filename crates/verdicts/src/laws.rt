@@ -5,7 +5,7 @@ ghost use Rattle.verdicts.specs.Verdicts.{OneVerdict, SomeVerdict};
 
 use pgm_plates::laws::{not_both, one_fault, one_plate, plate_or_fault};
 
-/// The bytes of a page's files have one verdict at most.
+/// The bytes of a page's files have at most one verdict.
 pub fn one_verdict()
     ensures { OneVerdict one_page }
 {
@@ -14,7 +14,7 @@ pub fn one_verdict()
     one_fault();
 }
 
-/// Where the job and all plates are among the files, there is a verdict.
+/// If the job and all plates are among the files, there is a verdict.
 pub fn some_verdict()
     ensures { SomeVerdict one_page }
 {

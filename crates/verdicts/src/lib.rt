@@ -1,4 +1,4 @@
-//! What is to come of a page, by the bytes of its files.
+//! What the bytes of a page's files call for: a refusal, or the files to write.
 #![tactic(auto)]
 
 pub mod laws;

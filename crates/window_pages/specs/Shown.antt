@@ -8,7 +8,7 @@ abbrev pub shown_tints : ℕ → Cut → List ℕ → ℕ → List ℕ
 shown_tints wide cut tints count = list_below (λ k. slice_index tints
     ((cut.top + k / cut.width) * wide + (cut.left + k % cut.width))) count
 
--- so many tints, in rows of so many, cover the window
+-- `count` tints, in rows of `wide`, cover the window
 pub record Covers (wide : ℕ) (cut : Cut) (count : ℕ) : Type 0 where
   pub some_width : 1 ≤ cut.width
   pub across : cut.left + cut.width ≤ wide

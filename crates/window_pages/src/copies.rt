@@ -1,4 +1,4 @@
-// Copies of a sheet's inks and zones, the zones from a window's corner.
+// Copies of a sheet's inks and zones, the zones moved to a window's corner.
 
 ghost use Rattle.std.specs.Prelude.{◌≡◌, ◌∷◌, ◌++◌, ◌<◌, ◌≤◌, ◌^◌, [], All, IfOk, OnOk, map};
 ghost use Rattle.page_model.specs.declared.parts.Zone.{Zone};
@@ -6,7 +6,7 @@ ghost use Rattle.page_model.specs.Conditions.{IsVertex};
 ghost use Rattle.sheet_windows.specs.Windows.{moved_vertex, moved_zone};
 
 use lists::list::List;
-use lists::names::copied;
+use lists::names::copy_name;
 use page_model::parts::{
     Ink, InkList, Limit, LimitList, OutOfMemory, Vertex, VertexList, Zone, ZoneList,
 };
@@ -26,7 +26,7 @@ fn ink_of(alloc: Global, ink: &Ink) -> Result<Ink, OutOfMemory>
     ensures { IfOk result (λ copy. copy ≡ ink.now) }
 {
     Ok(Ink {
-        name: copied(alloc, ink.name.as_slice())?,
+        name: copy_name(alloc, ink.name.as_slice())?,
         density: ink.density,
         kind: ink.kind,
     })
@@ -47,7 +47,7 @@ fn limit_of(alloc: Global, limit: &Limit) -> Result<Limit, OutOfMemory>
     ensures { IfOk result (λ copy. copy ≡ limit.now) }
 {
     Ok(Limit {
-        name: copied(alloc, limit.name.as_slice())?,
+        name: copy_name(alloc, limit.name.as_slice())?,
         step: limit.step,
     })
 }
@@ -62,7 +62,7 @@ fn limits_of(alloc: Global, limits: &[Limit]) -> Result<LimitList, OutOfMemory>
     Ok(copies)
 }
 
-/// The vertex from a corner that stands so far to the right and up.
+/// The vertex as seen from a corner that is `right` and `up` away, in ten-thousandths of a point.
 pub fn vertex_of(vertex: &Vertex, right: u64, up: u64) -> Vertex
     requires vertex { IsVertex vertex.now }
     requires right { right < 2 ^ 50 }
@@ -102,7 +102,7 @@ fn zone_of(alloc: Global, zone: &Zone, right: u64, up: u64) -> Result<Zone, OutO
     })
 }
 
-/// The zones from a corner that stands so far to the right and up, in ten-thousandths of a point.
+/// The zones as seen from a corner that is `right` and `up` away, in ten-thousandths of a point.
 pub fn zones_of(alloc: Global, zones: &[Zone], right: u64, up: u64) -> Result<ZoneList, OutOfMemory>
     requires vertices { All (λ (zone : Zone). All IsVertex zone.path) zones.now }
     requires right { right < 2 ^ 50 }

@@ -11,7 +11,7 @@ use page_model::parts::{OutOfMemory, Plane, PlaneList, Tints};
 use sheet_windows::cuts::Cut;
 use std::alloc::Global;
 
-/// So many tints, from one on.
+/// Returns `tints[from..from + count]`.
 pub fn run_of(tints: &[u16], from: usize, count: usize) -> &[u16]
     requires { from + count ≤ length tints.now }
     ensures len { length result.now ≡ count }
@@ -52,7 +52,7 @@ fn plane_of(alloc: Global, plane: &Plane, wide: usize, cut: &Cut) -> Result<Plan
     })
 }
 
-/// What a window shows of each plane.
+/// The part of each plane that a window shows.
 pub fn planes_of(
     alloc: Global,
     planes: &[Plane],

@@ -1,5 +1,5 @@
-// What a window shows, put in the place of what a window of the same form and sides showed before. Nothing here takes
-// memory: the allocators are those of lists that stay empty.
+// What a window shows replaces what a window of the same form and sides showed before. Nothing here allocates: the
+// allocators are those of lists that stay empty.
 
 ghost use Rattle.std.specs.Prelude.{◌≡◌, ◌+◌, ◌*◌, ◌++◌, ◌<◌, ◌≤◌, ◌^◌, ℕ, All, drop, length, map, slice_index, take};
 ghost use Rattle.page_model.specs.declared.parts.Plane.{Plane};
@@ -17,7 +17,7 @@ use page_model::parts::{Plane, PlaneList, Vertex, VertexList, Zone, ZoneList};
 use sheet_windows::cuts::Cut;
 use std::alloc::Global;
 
-/// Puts a row among tints, from one on.
+/// Writes a row to `tints`, from one place on.
 fn put_run(run: &[u16], from: usize, tints: &mut [u16])
     requires { from + length run.now ≤ length tints.old }
     ensures { tints.new ≡ take from tints.old ++ (run.now
@@ -26,7 +26,7 @@ fn put_run(run: &[u16], from: usize, tints: &mut [u16])
     tints[from..from + run.len()].copy_from_slice(run);
 }
 
-/// Puts the tints that a window shows in the place of as many others.
+/// Copies the tints that a window shows to a list with as many.
 fn show_tints(tints: &[u16], wide: usize, cut: &Cut, shown: &mut [u16])
     requires covers { Covers wide cut.now (length tints.now) }
     requires long { length shown.old ≡ cut.now.width * cut.now.height }
@@ -39,7 +39,7 @@ fn show_tints(tints: &[u16], wide: usize, cut: &Cut, shown: &mut [u16])
     }
 }
 
-/// Puts what a window shows of a plane in the place of a plane with as many tints.
+/// Copies the part of a plane that a window shows to a plane with as many tints.
 fn show_plane(alloc: Global, plane: &Plane, wide: usize, cut: &Cut, shown: &mut Plane)
     requires covers { Covers wide cut.now (length plane.now.tints) }
     requires long { length shown.old.tints ≡ cut.now.width * cut.now.height }
@@ -53,7 +53,7 @@ fn show_plane(alloc: Global, plane: &Plane, wide: usize, cut: &Cut, shown: &mut 
     shown.tints = List::from_vec(tints);
 }
 
-/// Puts what a window shows of each plane in the place of as many planes with as many tints.
+/// Copies the part of each plane that a window shows to planes with as many tints.
 pub fn show_planes(alloc: Global, planes: &[Plane], wide: usize, cut: &Cut, shown: &mut PlaneList)
     requires covers { All (λ (plane : Plane). Covers wide cut.now (length plane.tints))
         planes.now }
@@ -67,7 +67,7 @@ pub fn show_planes(alloc: Global, planes: &[Plane], wide: usize, cut: &Cut, show
     }
 }
 
-/// Puts the moved vertices of a path in the place of as many others.
+/// Writes the moved vertices of a path over as many others.
 fn move_path(path: &[Vertex], right: u64, up: u64, moved: &mut VertexList)
     requires vertices { All IsVertex path.now }
     requires right { right < 2 ^ 50 }
@@ -80,7 +80,7 @@ fn move_path(path: &[Vertex], right: u64, up: u64, moved: &mut VertexList)
     }
 }
 
-/// Moves a zone into the place of one with as many vertices and the same limits.
+/// Writes a moved zone over one with as many vertices and the same limits.
 fn move_zone(zone: &Zone, right: u64, up: u64, moved: &mut Zone)
     requires vertices { All IsVertex zone.now.path }
     requires right { right < 2 ^ 50 }
@@ -92,7 +92,7 @@ fn move_zone(zone: &Zone, right: u64, up: u64, moved: &mut Zone)
     move_path(zone.path.as_slice(), right, up, &mut moved.path);
 }
 
-/// Moves zones into the places of zones of their form.
+/// Writes moved zones over zones with as many vertices and the same limits.
 pub fn move_zones(zones: &[Zone], right: u64, up: u64, moved: &mut ZoneList)
     requires vertices { All (λ (zone : Zone). All IsVertex zone.path) zones.now }
     requires right { right < 2 ^ 50 }

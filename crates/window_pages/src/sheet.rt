@@ -16,8 +16,8 @@ use sheet_windows::cuts::Cut;
 use std::alloc::Global;
 use std::marker::Model;
 
-/// A sheet: what a page is made of, with sides below 2^30 samples and no bound on the samples of all
-/// planes. Its vertices are in range from each of its corners.
+/// A sheet: the parts of a page, with sides below 2^30 samples and no bound on the samples of all planes. Its vertices
+/// are in range from each of its corners.
 #[derive(Drop)]
 pub struct Sheet {
     parts: PageParts,
@@ -35,7 +35,7 @@ impl Model for Sheet {
     ghost invariant = { λ a. IsCuttable a.parts };
 }
 
-/// A length in samples as one in ten-thousandths of a point, rounded down, 0 at resolution 0.
+/// A length in samples, in ten-thousandths of a point, rounded down; 0 at resolution 0.
 pub fn points(resolution: u32, samples: u32) -> u64
     requires { samples < 2 ^ 30 }
     ensures value { result ≡ points_of resolution samples }
@@ -49,14 +49,14 @@ pub fn points(resolution: u32, samples: u32) -> u64
     }
 }
 
-/// How far to the right and up a window's lower left corner stands from its sheet's, in ten-thousandths of a point.
+/// How far to the right of its sheet's lower left corner a window's is, and how far up, in ten-thousandths of a point.
 struct Corner {
     right: u64,
     up: u64,
 }
 
 impl Sheet {
-    /// The sheet of these parts.
+    /// Makes a sheet of these parts.
     pub fn of(parts: PageParts) -> Sheet
         requires { IsCuttable parts }
         ensures { result ≡ parts }
@@ -64,7 +64,7 @@ impl Sheet {
         Sheet { parts }
     }
 
-    /// Samples in a row.
+    /// The number of samples in a row.
     pub fn width(&self) -> u32
         ensures value { result ≡ width self.now }
         ensures valid { IsCuttable self.now }
@@ -73,7 +73,7 @@ impl Sheet {
         planes[0].width
     }
 
-    /// Rows.
+    /// The number of rows.
     pub fn height(&self) -> u32
         ensures value { result ≡ height self.now }
         ensures valid { IsCuttable self.now }
@@ -91,7 +91,7 @@ impl Sheet {
         planes[0].maxval
     }
 
-    /// What it is made of.
+    /// The parts of the sheet.
     pub fn parts(&self) -> &PageParts
         ensures value { result.now ≡ self.now }
         ensures valid { IsCuttable self.now }
@@ -99,7 +99,7 @@ impl Sheet {
         &self.parts
     }
 
-    /// What it is made of, handed back; nothing is copied.
+    /// Takes the sheet apart again, without a copy.
     pub fn into_parts(self) -> PageParts
         ensures parts { result ≡ self }
         ensures valid { IsCuttable result }
@@ -107,7 +107,7 @@ impl Sheet {
         self.parts
     }
 
-    /// How many plates there are.
+    /// The number of plates.
     pub fn plates(&self) -> u32
         ensures value { result ≡ plates self.now }
         ensures valid { IsCuttable self.now }
@@ -115,7 +115,7 @@ impl Sheet {
         self.parts.planes.len() as u32
     }
 
-    /// How many zones there are.
+    /// The number of zones.
     pub fn zones(&self) -> u32
         ensures value { result ≡ length self.now.zones }
         ensures valid { IsCuttable self.now }
@@ -123,7 +123,7 @@ impl Sheet {
         self.parts.zones.len() as u32
     }
 
-    /// Where a window's lower left corner stands.
+    /// Where a window's lower left corner is.
     fn corner_of(&self, cut: &Cut) -> Corner
         requires cut { IsCut self.now cut.now }
         ensures right { result.right ≡ right_of self.now cut.now }
@@ -139,7 +139,7 @@ impl Sheet {
         }
     }
 
-    /// What a window of it is made of.
+    /// The parts of a window of the sheet.
     fn parts_of(&self, alloc: Global, cut: &Cut) -> Result<PageParts, OutOfMemory>
         requires cut { IsCut self.now cut.now }
         ensures { IfOk result (λ parts. parts ≡ window self.now cut.now) }
@@ -154,7 +154,7 @@ impl Sheet {
         })
     }
 
-    /// The window as a page. It refuses nothing but for out of memory.
+    /// The window as a page. It fails only where memory runs out.
     pub fn window(&self, alloc: Global, cut: &Cut) -> Result<Page, OutOfMemory>
         requires cut { IsCut self.now cut.now }
         requires small { IsSmall self.now cut.now }
@@ -165,8 +165,9 @@ impl Sheet {
         Ok(page_of(parts))
     }
 
-    /// The window as a page, put in the place of a page with the sheet's form and the window's sides, as an earlier window
-    /// of it or of another sheet of its form is. It takes no memory: the allocator is that of lists that stay empty.
+    /// The window as a page, written over `page`, which has the sheet's form and the window's sides, as an earlier
+    /// window of this sheet, or of another one of its form, has. It allocates nothing: the allocator is that of lists
+    /// that stay empty.
     pub fn refill(&self, alloc: Global, cut: &Cut, page: Page) -> Page
         requires cut { IsCut self.now cut.now }
         requires small { IsSmall self.now cut.now }
@@ -179,7 +180,7 @@ impl Sheet {
         page_of(self.put_parts(alloc, cut, page.into_parts()))
     }
 
-    /// What a window is made of, in the place of the parts of such a page.
+    /// Writes the parts of a window over those of such a page.
     fn put_parts(&self, alloc: Global, cut: &Cut, parts: PageParts) -> PageParts
         requires cut { IsCut self.now cut.now }
         requires page { IsPage parts }
@@ -199,7 +200,7 @@ impl Sheet {
     }
 }
 
-/// The page of parts that make one.
+/// Makes a page of parts that have no fault.
 fn page_of(parts: PageParts) -> Page
     requires { IsPage parts }
     ensures { result ≡ parts }

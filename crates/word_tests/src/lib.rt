@@ -1,7 +1,9 @@
-//! The tests of what goes in and out as text: the words of `trap`, and the line and the status of each refusal. They stand
-//! apart so that no heavy crate is proved a second time for them.
+//! The tests of what goes in and out as text: words that are read by hand, the words of `trap`, and the line and the status
+//! of each refusal. They stand apart so that no crate is proved a second time for them.
 #![tactic(auto)]
 
+#[cfg(test)]
+mod hand_words;
 #[cfg(test)]
 mod refusal_lines;
 #[cfg(test)]

@@ -1,7 +1,7 @@
-use plain_words::parts::PlateWord;
+use plain_words::parts::{PlateWord, plate_parts};
 use std::alloc::{AllocError, Global};
 use std::test::Fail;
-use trap_words::command::{Command, PageCommand, read_words};
+use trap_words::command::{Command, PageArgs, read_words};
 
 // Words that are no command, with single spaces between them: two spaces stand round an empty word.
 const REFUSED: &[&str] = &[
@@ -260,12 +260,21 @@ fn is_page(alloc: Global, case: &PageCase) -> Result<bool, AllocError> {
     }
 }
 
-fn has_values(page: &PageCommand<'_>, case: &PageCase) -> bool {
+fn has_values(page: &PageArgs<'_>, case: &PageCase) -> bool {
     page.workers == case.workers
         && page.band == case.band
         && page.job == case.job
         && page.report == case.report
-        && page.plates.as_slice() == case.plates
+        && have_parts(page.plates.as_slice(), case.plates)
+}
+
+fn have_parts(words: &[&str], plates: &[PlateWord<'_>]) -> bool {
+    for (word, plate) in words.iter().zip(plates) {
+        if plate_parts(word) != *plate {
+            return false;
+        }
+    }
+    words.len() == plates.len()
 }
 
 fn plate_count(alloc: Global, line: &str) -> Result<usize, AllocError> {

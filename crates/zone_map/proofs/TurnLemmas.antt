@@ -27,12 +27,6 @@ start_at-near start v h k = pick v.starts where
   pick true = k
   pick false = h
 
-pub segment_end-near : (start v : Vertex) → IsVertex start → IsVertex v → IsVertex (segment_end start v)
-segment_end-near start v h k = pick v.starts where
-  pick : (b : Bool) → IsVertex (if b then start else v)
-  pick true = h
-  pick false = k
-
 -- a path begins with the turns after its first vertex
 pub turns-first : (r : ℕ) (p : Point) (path : List Vertex) (d : Vertex) → 0 < length path → turns r p (slice_index_or path 0 d) (slice_index_or path 0 d) (drop 1 path) ≡ winding r p path
 turns-first r p [] d l = absurd (omega (arith, l))

@@ -27,9 +27,6 @@ way_is r from to h k e = omega (arith, ints)
 pub same_sum : (m n a b x c a' b' x' c' : ℤ) → m ≡ a *ℤ b → n ≡ x *ℤ c → a ≡ a' → b ≡ b' → x ≡ x' → c ≡ c' → m +ℤ n ≡ (a' *ℤ b') +ℤ (x' *ℤ c')
 same_sum m n a b x c a' b' x' c' e f g h i k = rw (e, f, g, h, i, k) refl
 
-pub regrouped : (s t rest whole : ℤ) → s +ℤ (t +ℤ rest) ≡ whole → (s +ℤ t) +ℤ rest ≡ whole
-regrouped s t rest whole e = omega (arith, ints)
-
 pub near_64 : (z : ℤ) → nat_abs z ≤ 100000000000000 → to_z w64 (of_z w64 z) ≡ z
 near_64 z h = omega (arith, ints)
 

@@ -1,4 +1,4 @@
 pub mod Room
-pub mod Spots
+pub mod PagePoints
 pub mod Subpaths
 pub mod Tallies

@@ -2,32 +2,32 @@ ghost use Rattle.std.specs.Prelude.{◌≡◌, ℕ, ◌<◌, ◌≤◌, ◌+◌,
 ghost use Rattle.page_model.specs.Conditions.{IsVertex};
 ghost use Rattle.page_model.specs.Zones.{corner, lean};
 ghost use Rattle.page_model.specs.Limits.{most_resolution, scale};
-ghost use Rattle.zone_map.specs.Spots.{middle, point, IsNear, furthest};
+ghost use Rattle.zone_map.specs.PagePoints.{middle, point, IsNear, furthest};
 
 use page_model::parts::Vertex;
 
 /// A point of the page, in ten-thousandths of a 72nd of an inch times the resolution, from the lower left corner.
 #[derive(Clone, Copy, Debug, Drop)]
-pub struct Spot {
+pub struct PagePoint {
     pub x: i64,
     pub y: i64,
 }
 
-/// Where a vertex stands.
-pub fn spot_of(v: Vertex, resolution: u32) -> Spot
+/// The point of a vertex.
+pub fn point_of(v: Vertex, resolution: u32) -> PagePoint
     requires vertex { IsVertex v }
     requires resolution { resolution ≤ most_resolution }
     ensures value { point result ≡ corner resolution v }
     ensures near { IsNear result }
 {
-    Spot {
+    PagePoint {
         x: v.x * i64::from(resolution),
         y: v.y * i64::from(resolution),
     }
 }
 
-/// The way from one coordinate to another.
-fn way(from: i64, to: i64) -> i64
+/// The difference of two coordinates.
+fn difference(from: i64, to: i64) -> i64
     requires from { nat_abs from ≤ furthest }
     requires to { nat_abs to ≤ furthest }
     ensures value { result ≡ to -ℤ from }
@@ -46,20 +46,20 @@ fn product(one: i64, two: i64) -> i128
     i128::from(one) * i128::from(two)
 }
 
-/// Where the segment from a to b stands at height y, times its rise.
-fn across_of(a: Spot, b: Spot, y: i64) -> i128
+/// The x at which the line through a and b has height y, times the rise from a to b.
+fn across_of(a: PagePoint, b: PagePoint, y: i64) -> i128
     requires a { IsNear a }
     requires b { IsNear b }
     requires y { nat_abs y ≤ furthest }
     ensures value { result ≡ ((b.x -ℤ a.x) *ℤ (y -ℤ a.y)) +ℤ (a.x *ℤ (b.y -ℤ a.y)) }
     ensures bound { nat_abs result ≤ 8 * (furthest * furthest) }
 {
-    let along = product(way(a.x, b.x), way(a.y, y));
-    let aside = product(a.x, way(a.y, b.y));
+    let along = product(difference(a.x, b.x), difference(a.y, y));
+    let aside = product(a.x, difference(a.y, b.y));
     along + aside
 }
 
-/// How many samples of a row have their middles left of a point of it, which is given times the rise.
+/// The number of samples of a row whose middles are left of an x, which is given times the rise.
 fn samples_below(across: u128, rise: u64, width: u32) -> u32
     requires across { across ≤ 8 * (furthest * furthest) }
     requires rises { 0 < rise }
@@ -77,8 +77,9 @@ fn samples_below(across: u128, rise: u64, width: u32) -> u32
     }
 }
 
-/// How many samples have their middles left of where the rising segment from a to b crosses the row at height y.
-pub fn samples_left_of(a: Spot, b: Spot, y: i64, width: u32) -> u32
+/// The number of samples of a row, which has height y and `width` samples, whose middles are left of its crossing with
+/// the rising segment from a to b.
+pub fn samples_left_of(a: PagePoint, b: PagePoint, y: i64, width: u32) -> u32
     requires a { IsNear a }
     requires b { IsNear b }
     requires y { nat_abs y ≤ furthest }
@@ -88,7 +89,7 @@ pub fn samples_left_of(a: Spot, b: Spot, y: i64, width: u32) -> u32
         → nat_lt x result ≡ int_lt (pos 0) (lean (point a) (point b) (middle x y)) }
 {
     let across = across_of(a, b, y);
-    let rise = way(a.y, b.y).unsigned_abs();
+    let rise = difference(a.y, b.y).unsigned_abs();
     if across < 0 {
         0
     } else {

@@ -2,11 +2,10 @@
 
 ghost use Rattle.std.specs.Prelude.{◌≡◌, ℕ, ◌<◌, ◌≤◌, ◌+◌, true, length, slice_index};
 
-/// How many places are looked at at once at most.
+/// The number of places that are looked at together, at most.
 const SPAN: usize = 64;
 
-/// Whether these counts, from one on and before another, are all 0. It goes over all of them, without a branch, so that many
-/// go at once.
+/// Whether `counts[from..to]` are all 0. All of them are read, without a branch, so that the loop is vectorized.
 fn are_none(counts: &[u32], from: usize, to: usize) -> bool
     requires order { from ≤ to }
     requires inside { to ≤ length counts.now }
@@ -19,7 +18,7 @@ fn are_none(counts: &[u32], from: usize, to: usize) -> bool
     all
 }
 
-/// How many places next before x have no crossing, at most so many.
+/// The number of places without a crossing directly before x, at most `most`.
 fn none_until(ups: &[u32], downs: &[u32], x: usize, most: usize) -> usize
     requires ups { x ≤ length ups.now }
     requires downs { x ≤ length downs.now }
@@ -35,7 +34,7 @@ fn none_until(ups: &[u32], downs: &[u32], x: usize, most: usize) -> usize
     count
 }
 
-/// How many places next before x have no crossing: at most as many as are looked at at once, and not all of them.
+/// A number of places without a crossing directly before x: at most `SPAN`, and fewer than x.
 pub(crate) fn none_before(ups: &[u32], downs: &[u32], x: usize) -> usize
     requires ups { x ≤ length ups.now }
     requires downs { x ≤ length downs.now }

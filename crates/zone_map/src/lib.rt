@@ -1,4 +1,6 @@
-//! The zones of a row of samples.
+//! The zones of a row of samples, by scan-line filling of polygons: the crossings of a path's segments with the row are
+//! counted, upward and downward ones apart, and a sample is inside where they do not cancel out to its right (the
+//! nonzero winding number rule; PostScript Language Reference, third edition, section 4.5).
 #![tactic(auto)]
 
 mod crossings;

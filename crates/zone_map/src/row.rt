@@ -2,7 +2,7 @@ ghost use Rattle.std.specs.Prelude.{◌≡◌, ℕ, ◌<◌, ◌≤◌, ◌+◌,
 ghost use Rattle.page_model.specs.Limits.{scale};
 ghost use Rattle.page_model.specs.Page.{height, width};
 ghost use Rattle.page_model.specs.Zones.{AreZones, covers};
-ghost use Rattle.zone_map.specs.Spots.{furthest};
+ghost use Rattle.zone_map.specs.PagePoints.{furthest};
 
 use crate::spans::{SpanBuf, write_spans};
 use crate::tally::tally_path;
@@ -45,7 +45,8 @@ fn cover(page: &Page, z: u32, y: u32, out: &mut [u8], ups: &mut [u32], downs: &m
     }
 }
 
-/// Writes the zone of each sample of row y, from the left.
+/// Writes the zone of each sample of row y, from the left: the last zone whose path winds round the sample's middle,
+/// zone 0 where none does. `spans` is a buffer for rows of the page's width.
 pub fn zone_row(page: &Page, y: u32, out: &mut [u8], spans: &mut SpanBuf)
     requires row { y < height page.now }
     requires out { length out.old ≡ width page.now }

@@ -8,8 +8,9 @@ use page_model::parts::OutOfMemory;
 use std::alloc::Global;
 use std::marker::Model;
 
-/// Room for the work on a row: how many segments of a path cross it upwards, and how many downwards, with so many samples
-/// left of the crossing. Contracts see the width of the rows that it was made for, and how much memory it has.
+/// Buffers for a row: for each x the number of a path's segments that cross the row upwards, and of those that cross it
+/// downwards, with x samples left of the crossing. Contracts see the width of the rows that it was made for, and its
+/// capacity.
 #[derive(Drop)]
 pub struct SpanBuf {
     pub(crate) width: u32,
@@ -34,7 +35,7 @@ impl Model for SpanBuf {
 }
 
 impl SpanBuf {
-    /// Room for rows of so many samples.
+    /// Allocates the buffers for rows of `width` samples.
     pub fn new(alloc: Global, width: u32) -> Result<SpanBuf, OutOfMemory>
         ensures { IfOk result (λ spans. spans.wide ≡ width) }
     {
@@ -49,7 +50,7 @@ impl SpanBuf {
     }
 }
 
-/// Writes the zone for the samples from one on and before another.
+/// Writes the zone to `out[from..to]`.
 fn write_run(out: &mut [u8], from: usize, to: usize, zone: u8)
     requires order { from ≤ to }
     requires inside { to ≤ length out.old }
@@ -61,8 +62,8 @@ fn write_run(out: &mut [u8], from: usize, to: usize, zone: u8)
     out[from..to].fill(zone);
 }
 
-/// Writes the zone wherever the crossings to the right do not cancel out. Samples with no crossing between them are written
-/// at once.
+/// Writes the zone to all samples to the right of which the crossings do not cancel out. Samples with no crossing
+/// between them are written together.
 pub(crate) fn write_spans(out: &mut [u8], ups: &[u32], downs: &[u32], zone: u8)
     requires ups { length ups.now ≡ length out.old + 1 }
     requires downs { length downs.now ≡ length out.old + 1 }

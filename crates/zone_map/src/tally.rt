@@ -2,14 +2,14 @@ ghost use Rattle.std.specs.Prelude.{◌≡◌, ◌&&◌, int_le, int_lt, true, �
 ghost use Rattle.page_model.specs.Conditions.{IsVertex};
 ghost use Rattle.page_model.specs.Zones.{turn, winding};
 ghost use Rattle.page_model.specs.Limits.{most_resolution, most_vertices};
-ghost use Rattle.zone_map.specs.Spots.{middle, point, IsNear, furthest};
+ghost use Rattle.zone_map.specs.PagePoints.{middle, point, IsNear, furthest};
 ghost use Rattle.zone_map.specs.Subpaths.{segment_end, start_at};
 ghost use Rattle.zone_map.specs.Tallies.{left, past};
 
-use crate::crossings::{Spot, samples_left_of, spot_of};
+use crate::crossings::{PagePoint, point_of, samples_left_of};
 use page_model::parts::Vertex;
 
-/// Counts one crossing with n samples left of it.
+/// Counts a crossing with n samples left of it.
 fn add_at(counts: &mut [u32], n: u32)
     requires place { n < length counts.old }
     requires few { sum counts.old ≤ most_vertices }
@@ -22,15 +22,23 @@ fn add_at(counts: &mut [u32], n: u32)
 
 /// Whether the segment from a to b rises through the height y.
 #[tactic(auto, using(crate::proofs::TurnTests::risings))]
-fn rises_through(a: Spot, b: Spot, y: i64) -> bool
+fn rises_through(a: PagePoint, b: PagePoint, y: i64) -> bool
     ensures value { result ≡ (int_le a.y y && int_lt y b.y) }
     ensures rising { result ≡ true → int_lt a.y b.y ≡ true }
 {
     a.y <= y && y < b.y
 }
 
-/// Counts the segment from a to b where it crosses the row at height y, upwards or downwards. The answer is 1 where it does, else 0.
-fn note_segment(ups: &mut [u32], downs: &mut [u32], a: Spot, b: Spot, y: i64, width: u32) -> u32
+/// Counts the segment from a to b if it crosses the row at height y, upwards or downwards. Returns 1 if it does, else
+/// 0.
+fn note_segment(
+    ups: &mut [u32],
+    downs: &mut [u32],
+    a: PagePoint,
+    b: PagePoint,
+    y: i64,
+    width: u32,
+) -> u32
     requires a { IsNear a }
     requires b { IsNear b }
     requires y { nat_abs y ≤ furthest }
@@ -56,7 +64,7 @@ fn note_segment(ups: &mut [u32], downs: &mut [u32], a: Spot, b: Spot, y: i64, wi
     }
 }
 
-/// Where the segment from the vertex before v ends: at v, or at the subpath's start where v begins another.
+/// The end of the segment from the vertex before v: v, or the subpath's start where v begins another subpath.
 fn segment_end(start: Vertex, v: Vertex) -> Vertex
     ensures { result ≡ segment_end start v }
 {
@@ -70,7 +78,8 @@ fn start_at(start: Vertex, v: Vertex) -> Vertex
     if v.starts { v } else { start }
 }
 
-/// Counts where the segments of a path cross the row at height y, and tells how many do.
+/// Counts where the segments of a path, each subpath closed, cross the row at height y: in `ups[n]` the upward
+/// crossings with n samples left of them, in `downs[n]` the downward ones. Returns how many crossings there are.
 pub fn tally_path(
     ups: &mut [u32],
     downs: &mut [u32],
@@ -103,13 +112,13 @@ pub fn tally_path(
     let mut crossings = 0;
     for i in 1..path.len() {
         let v = path[i];
-        let a = spot_of(last, resolution);
-        let b = spot_of(segment_end(start, v), resolution);
+        let a = point_of(last, resolution);
+        let b = point_of(segment_end(start, v), resolution);
         crossings += note_segment(ups, downs, a, b, y, width);
         start = start_at(start, v);
         last = v;
     }
-    let a = spot_of(last, resolution);
-    let b = spot_of(start, resolution);
+    let a = point_of(last, resolution);
+    let b = point_of(start, resolution);
     crossings + note_segment(ups, downs, a, b, y, width)
 }

@@ -9,14 +9,7 @@ use Rattle.ps_tokens.specs.declared.faults.FaultKind.TheVariants.{NoCurrentPoint
 use Rattle.ps_tokens.specs.declared.faults.FaultKind.TheVariants.{TooManyVertices}
 use Rattle.zone_paths.specs.declared.pen.Point.{Point}
 use Rattle.zone_paths.specs.declared.pen.Pen.{Pen}
-
--- how many vertices a path may have
-abbrev pub most_path_vertices : ℕ
-most_path_vertices = 4096
-
--- how far a coordinate may be from the origin, in ten-thousandths of a point: a million points
-abbrev pub farthest : ℕ
-farthest = 10000000000
+use Rattle.page_model.specs.Limits.{most_coordinate, most_vertices}
 
 -- a path as its statements leave it: its vertices, and the pen at its current point, if it has one
 pub record Drawing : Type 0 where
@@ -29,7 +22,7 @@ nothing_drawn = record { vertices = []; pen = None }
 
 -- whether a point is no farther from the origin, in x and in y
 abbrev pub is_near : Point → Bool
-is_near p = nat_le (nat_abs p.x) farthest && nat_le (nat_abs p.y) farthest
+is_near p = nat_le (nat_abs p.x) most_coordinate && nat_le (nat_abs p.y) most_coordinate
 
 -- the vertex at a point; it begins a subpath or not
 abbrev pub vertex_at : Point → Bool → Vertex
@@ -42,7 +35,7 @@ offset_point p dx dy = record { x = p.x +ℤ dx; y = p.y +ℤ dy }
 -- these vertices more and the pen after them, unless these are too many
 abbrev pub with_vertices : List Vertex → List Vertex → Pen → Result Drawing FaultKind
 with_vertices vertices more pen =
-    if nat_le (length vertices + length more) most_path_vertices
+    if nat_le (length vertices + length more) most_vertices
     then Ok (record { vertices = vertices ++ more; pen = Some pen })
     else Err TooManyVertices
 

@@ -1,17 +1,16 @@
 ghost use Rattle.std.specs.Prelude.{◌≡◌, ◌≤◌, ◌++◌, ◌∷◌, [], length, MatchResult};
 ghost use Rattle.page_model.specs.Conditions.{IsPath};
-ghost use Rattle.zone_paths.specs.Paths.{most_path_vertices, nothing_drawn, moveto, lineto, rmoveto, rlineto, closepath, begun_at, lined_to};
+ghost use Rattle.zone_paths.specs.Paths.{nothing_drawn, moveto, lineto, rmoveto, rlineto, closepath, begun_at, lined_to};
 ghost use Rattle.zone_paths.specs.Refusals.{Draws, Extends};
+ghost use Rattle.page_model.specs.Limits.{most_vertices};
 
 use crate::pen::{Pen, Point, is_near, offset_point, vertex_at};
 use lists::list::List;
+use page_model::bounds::MOST_VERTICES;
 use page_model::parts::{OutOfMemory, Vertex, VertexList};
 use ps_tokens::faults::FaultKind;
 use std::alloc::Global;
 use std::marker::Model;
-
-/// How many vertices a path may have.
-pub const MOST_PATH_VERTICES: usize = 4_096;
 
 /// Why a path statement was not drawn.
 #[derive(Clone, Copy, Debug, Drop, PartialEq, Eq)]
@@ -20,7 +19,8 @@ pub enum PathRefusal {
     OutOfMemory,
 }
 
-/// The path that a job's statements draw. Contracts see its vertices and its pen.
+/// The current path (PLRM3, section 4.4): subpaths of straight lines, which `settrapzone` makes a zone of. Contracts
+/// see its vertices and its pen.
 #[derive(Drop)]
 pub struct Path {
     alloc: Global,
@@ -58,7 +58,7 @@ impl Path {
         self.vertices.len()
     }
 
-    /// Begins a subpath with one vertex, in ten-thousandths of a point.
+    /// `moveto`: begins a subpath with one vertex, in ten-thousandths of a point (PLRM3, section 8.2).
     ///
     /// `CoordinateRange` where a coordinate is more than a million points from the origin; then `TooManyVertices` where
     /// the path would have more than 4,096. A refusal leaves the path as it was.
@@ -74,7 +74,7 @@ impl Path {
         }
     }
 
-    /// Begins a subpath so far from the current point.
+    /// `rmoveto`: begins a subpath at the current point moved by `dx` and `dy` (PLRM3, section 8.2).
     ///
     /// `NoCurrentPoint` where the path has none, and then the faults of `moveto`.
     pub fn rmoveto(&mut self, dx: i64, dy: i64) -> Result<(), PathRefusal>
@@ -89,7 +89,8 @@ impl Path {
         }
     }
 
-    /// Adds a vertex, in ten-thousandths of a point; after `close` it first begins a subpath at the current point.
+    /// `lineto`: adds a vertex, in ten-thousandths of a point (PLRM3, section 8.2). After `close` it first begins a
+    /// subpath at the current point.
     ///
     /// `NoCurrentPoint` where the path has none, and then the faults of `moveto`.
     pub fn lineto(&mut self, x: i64, y: i64) -> Result<(), PathRefusal>
@@ -107,7 +108,8 @@ impl Path {
         }
     }
 
-    /// Adds a vertex so far from the current point; after `close` it first begins a subpath there.
+    /// `rlineto`: adds a vertex at the current point moved by `dx` and `dy` (PLRM3, section 8.2). After `close` it
+    /// first begins a subpath at the current point.
     ///
     /// `NoCurrentPoint` where the path has none, and then the faults of `moveto`.
     pub fn rlineto(&mut self, dx: i64, dy: i64) -> Result<(), PathRefusal>
@@ -122,7 +124,8 @@ impl Path {
         }
     }
 
-    /// Closes the subpath: the current point is its first one. Without a current point nothing changes.
+    /// `closepath`: closes the subpath; the current point is then its first point. Without a current point nothing
+    /// changes (PLRM3, section 8.2).
     pub fn close(&mut self)
         ensures { self.new ≡ closepath self.old }
     {
@@ -135,7 +138,7 @@ impl Path {
         }
     }
 
-    /// Empties the path.
+    /// `newpath`: empties the path (PLRM3, section 8.2).
     pub fn clear(&mut self)
         ensures { self.new ≡ nothing_drawn }
     {
@@ -143,7 +146,7 @@ impl Path {
         self.pen = None;
     }
 
-    /// Takes the vertices out, and leaves the path empty.
+    /// Returns the vertices, and leaves the path empty.
     pub fn take(&mut self) -> VertexList
         ensures vertices { result ≡ self.old.vertices }
         ensures path { IsPath result }
@@ -158,14 +161,14 @@ impl Path {
 // Begins a subpath at a point.
 #[tactic(auto, unfolding(crate::specs::Paths::begun_at))]
 fn begin(vertices: &mut Vec<Vertex>, point: Point) -> Result<Pen, PathRefusal>
-    requires { length vertices.old.items ≤ most_path_vertices }
+    requires { length vertices.old.items ≤ most_vertices }
     ensures { Extends result vertices.old.items vertices.new.items
         (begun_at vertices.old.items point) }
 {
     if !is_near(point) {
         return Err(PathRefusal::Fault(FaultKind::CoordinateRange));
     }
-    if vertices.len() + 1 > MOST_PATH_VERTICES {
+    if vertices.len() + 1 > MOST_VERTICES {
         return Err(PathRefusal::Fault(FaultKind::TooManyVertices));
     }
     match vertices.push(vertex_at(point, true)) {
@@ -181,7 +184,7 @@ fn begin(vertices: &mut Vec<Vertex>, point: Point) -> Result<Pen, PathRefusal>
 // Draws a line to a point.
 #[tactic(auto, unfolding(crate::specs::Paths::lined_to))]
 fn draw_line(vertices: &mut Vec<Vertex>, pen: Pen, point: Point) -> Result<Pen, PathRefusal>
-    requires { length vertices.old.items ≤ most_path_vertices }
+    requires { length vertices.old.items ≤ most_vertices }
     ensures { Extends result vertices.old.items vertices.new.items
         (lined_to vertices.old.items pen point) }
 {
@@ -189,7 +192,7 @@ fn draw_line(vertices: &mut Vec<Vertex>, pen: Pen, point: Point) -> Result<Pen, 
         return Err(PathRefusal::Fault(FaultKind::CoordinateRange));
     }
     let more = if pen.closed { 2 } else { 1 };
-    if vertices.len() + more > MOST_PATH_VERTICES {
+    if vertices.len() + more > MOST_VERTICES {
         return Err(PathRefusal::Fault(FaultKind::TooManyVertices));
     }
     let added = if pen.closed {

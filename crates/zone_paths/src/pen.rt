@@ -1,20 +1,18 @@
 ghost use Rattle.std.specs.Prelude.{◌≡◌, true, false, MatchOption};
 ghost use Rattle.zone_paths.specs.Paths.{is_near, vertex_at, offset_point};
 
+use page_model::bounds::MOST_COORDINATE;
 use page_model::parts::Vertex;
 
-/// How far a coordinate may be from the origin, in ten-thousandths of a point: a million points.
-const FARTHEST: u64 = 10_000_000_000;
-
-/// A point of the page, in ten-thousandths of a point from its lower left corner.
+/// A point of the page, in ten-thousandths of a point (1/72 inch) from its lower left corner.
 #[derive(Clone, Copy, Debug, Drop, PartialEq, Eq)]
 pub struct Point {
     pub x: i64,
     pub y: i64,
 }
 
-/// Where a path goes on: the first point of its last subpath, its current point, and whether the subpath is closed, so
-/// that the next line begins one.
+/// The state of a path that is drawn on: the first point of its last subpath, its current point, and whether the
+/// subpath is closed, so that the next line begins another.
 #[derive(Clone, Copy, Debug, Drop, PartialEq, Eq)]
 pub struct Pen {
     pub first: Point,
@@ -26,10 +24,10 @@ pub struct Pen {
 pub fn is_near(point: Point) -> bool
     ensures { result ≡ is_near point }
 {
-    point.x.unsigned_abs() <= FARTHEST && point.y.unsigned_abs() <= FARTHEST
+    point.x.unsigned_abs() <= MOST_COORDINATE && point.y.unsigned_abs() <= MOST_COORDINATE
 }
 
-/// The vertex at a point.
+/// The vertex at a point. `starts` says whether it begins a subpath.
 pub fn vertex_at(point: Point, starts: bool) -> Vertex
     ensures { result ≡ vertex_at point starts }
 {
@@ -40,13 +38,14 @@ pub fn vertex_at(point: Point, starts: bool) -> Vertex
     }
 }
 
-/// The point that lies so far away from a near one; none where it is so far that it is no near one.
+/// `point`, which is near by `is_near`, moved by `dx` and `dy`. `None` is answered only where the moved point is not
+/// near; whether one that is answered is near is left to the caller.
 pub fn offset_point(point: Point, dx: i64, dy: i64) -> Option<Point>
     requires { is_near point ≡ true }
     ensures { MatchOption result (is_near (offset_point point dx dy) ≡ false)
         (λ p. p ≡ offset_point point dx dy) }
 {
-    if dx.unsigned_abs() > 2 * FARTHEST || dy.unsigned_abs() > 2 * FARTHEST {
+    if dx.unsigned_abs() > 2 * MOST_COORDINATE || dy.unsigned_abs() > 2 * MOST_COORDINATE {
         return None;
     }
     Some(Point {

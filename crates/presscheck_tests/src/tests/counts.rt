@@ -2,6 +2,7 @@ ghost use Rattle.std.specs.Prelude.{◌≡◌, ◌+◌, ◌*◌, ◌<◌, ◌≤
 ghost use Rattle.page_model.specs.declared.parts.Plane.{Plane};
 ghost use Rattle.page_model.specs.Conditions.{IsPlane};
 ghost use Rattle.plane_shapes.specs.Shapes.{AreOneShape, wide, tall};
+ghost use Rattle.page_model.specs.Limits.{most_plates};
 
 use super::judge;
 use lists::list::List;
@@ -14,7 +15,7 @@ use std::marker::Brand;
 use std::process::Abort;
 use std::sync::ledger::{Blank, Ledger};
 
-/// Random samples, of eight so many without ink.
+/// Random samples, of which `bare` in eight are without ink.
 fn random_tints(alloc: Global, count: usize, seed: u32, bare: u32) -> Result<List<u16>, AllocError>
     ensures count { IfOk result (λ tints. length tints ≡ count) }
     ensures below { IfOk result (λ tints. All (λ tint. tint ≤ 255) tints) }
@@ -67,7 +68,7 @@ fn random_planes(
     requires some_height { 1 ≤ height }
     requires low { height ≤ 40 }
     requires some { 1 ≤ plates }
-    requires few { plates ≤ 16 }
+    requires few { plates ≤ most_plates }
     ensures shape { IfOk result AreOneShape }
     ensures wide { IfOk result (λ planes. wide planes ≡ width) }
     ensures tall { IfOk result (λ planes. tall planes ≡ height) }
@@ -100,7 +101,7 @@ fn bares(plane: &Plane, x: u32, y: u32, radius: u32) -> bool
 }
 
 /// Whether the sample has ink in some plane and a sample without ink in its window in each.
-fn endangered(planes: &PlaneList, x: u32, y: u32, radius: u32) -> bool
+fn is_at_risk(planes: &PlaneList, x: u32, y: u32, radius: u32) -> bool
     requires column { x < 40 }
     requires row { y < 40 }
     requires narrow { All (λ plane. plane.width ≤ 40) planes.now }
@@ -127,7 +128,7 @@ fn slow_count(planes: &PlaneList, width: u32, height: u32, radius: u32) -> u64
     let mut count = 0u64;
     for y in 0..height {
         for x in 0..width {
-            if endangered(planes, x, y, radius) {
+            if is_at_risk(planes, x, y, radius) {
                 count = count.wrapping_add(1);
             }
         }
@@ -135,7 +136,7 @@ fn slow_count(planes: &PlaneList, width: u32, height: u32, radius: u32) -> u64
     count
 }
 
-fn counted<L: Ledger>(
+fn count_at_risk<L: Ledger>(
     alloc: Global,
     planes: &PlaneList,
     width: u32,
@@ -225,7 +226,15 @@ fn first_difference(
 {
     for radius in 0..17 {
         let slow = slow_count(planes, width, height, radius);
-        let fast = counted::<Brand>(alloc, planes, width, height, plates, radius, Blank::new(1));
+        let fast = count_at_risk::<Brand>(
+            alloc,
+            planes,
+            width,
+            height,
+            plates,
+            radius,
+            Blank::new(1),
+        );
         if fast != Some(slow) {
             return Some(radius);
         }

@@ -2,15 +2,15 @@ use super::{Case, TRAPPED, UNTRAPPED, USUAL, WORDS, ends, judge};
 use std::alloc::Global;
 use std::process::Abort;
 
-// From which call of the tray on a failed one is told so: each file is begun by a call and read to its end by a last one. The
-// job takes five reads of a grain, each plate eleven for the bytes of its header and one for its samples.
+// From which call of the tray on a failed one prints this line: each file is begun by a call and read to its end by a
+// last one. The job takes five reads of a grain, each plate eleven for the bytes of its header and one for its samples.
 const LINES: [(u64, &str); 3] = [
     (0, "read fault: job\n"),
     (7, "read fault: plate 0\n"),
     (21, "read fault: plate 1\n"),
 ];
 
-// What is told where that call of the tray fails.
+// What is printed where that call of the tray fails.
 fn line_at(call: u64) -> &'static str {
     let mut line = LINES[0].1;
     for (first, later) in LINES {
@@ -46,7 +46,7 @@ fn each_read_fails_in_turn(rt: HostRuntime) {
     }
 }
 
-// The runs whose text cannot be told, and their statuses.
+// The runs whose text can't be printed, and their statuses.
 const UNTOLD: &[(&str, &[&[u8]], u8)] = &[
     (WORDS, TRAPPED, 6),
     (WORDS, UNTRAPPED, 6),

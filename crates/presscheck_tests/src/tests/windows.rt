@@ -2,8 +2,8 @@ use super::{Case, UNTRAPPED, USUAL, ends, judge};
 use std::alloc::Global;
 use std::process::Abort;
 
-// What is told where so many samples are at risk, before and after trapping.
-fn told(rt: &impl Abort, alloc: Global, radius: u32, count: u32) -> String {
+// The text that is printed if `count` samples are at risk, before and after trapping.
+fn printed_text(rt: &impl Abort, alloc: Global, radius: u32, count: u32) -> String {
     format!(in alloc; "press check\nradius {radius}\nbefore {count}\nafter {count}\nend\n").expect(
         rt,
         "no memory",
@@ -14,13 +14,13 @@ fn line_of(rt: &impl Abort, alloc: Global, radius: u32, names: &str) -> String {
     format!(in alloc; "{radius} job {names}").expect(rt, "no memory")
 }
 
-// Whether so many samples are told to be at risk, before and after.
+// Whether the program prints that `count` samples are at risk, before and after.
 fn tells(rt: &impl Abort, alloc: Global, case: Case<'_>, radius: u32, count: u32) -> bool {
-    let text = told(rt, alloc, radius, count);
+    let text = printed_text(rt, alloc, radius, count);
     ends(rt, alloc, case, 0, text.as_str())
 }
 
-// Whether so many samples of a page without trapping are.
+// Whether the program prints that for a page without trapping.
 fn plates_tell(
     rt: &impl Abort,
     alloc: Global,

@@ -2,7 +2,7 @@ use super::{CYAN, Case, MAGENTA, TRAPPED, UNTRAPPED, USAGE, USUAL, ends, judge};
 use std::alloc::Global;
 use std::process::Abort;
 
-// A check: its words, job and plates, and the status and the text told.
+// A check: its words, job and plates, and the status and the text printed.
 #[derive(Clone, Copy)]
 struct Checked {
     words: &'static str,

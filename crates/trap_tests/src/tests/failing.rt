@@ -1,4 +1,7 @@
-use super::{CYAN, Case, DISABLED, Look, MAGENTA, USUAL, ends, has, judge, run};
+use super::{
+    CYAN, Case, DISABLED, Look, MAGENTA, TRAPPED_CYAN, TRAPPED_MAGENTA, TRAPPED_REPORT, USUAL,
+    ends, has, judge, run,
+};
 use outside::mem_rack::MemRack;
 use std::alloc::Global;
 use std::process::Abort;
@@ -7,11 +10,7 @@ use std::thread::Threads;
 // what the usual case writes, in order
 const NAMES: [&str; 3] = ["out0", "out1", "report"];
 
-const TRAPPED: [&[u8]; 3] = [
-    b"P5\n6 1\n255\n\0\0\0\0\xFF\xFF",
-    b"P5\n6 1\n255\n\xFF\xFF\0\0\0\0",
-    b"trap report\npage 6 1 255 plates 2\nzone 0 samples 6 changed 2\nedges 1\nplate Cyan changed 1\nplate Magenta changed 1\nend\n",
-];
+const TRAPPED: [&[u8]; 3] = [TRAPPED_CYAN, TRAPPED_MAGENTA, TRAPPED_REPORT];
 
 const LINES: [&str; 3] = [
     "write fault: plate 0\n",
@@ -23,7 +22,7 @@ const LINES: [&str; 3] = [
 fn is_unread(
     rt: &(impl Abort + Threads + Sync),
     alloc: Global,
-    job: &[&str],
+    job: &[&[u8]],
     failing: (usize, u64),
     line: &str,
 ) -> bool {
@@ -63,7 +62,7 @@ fn a_plate_that_fails_is_told_of(rt: HostRuntime) {
     }
 }
 
-// What is told where Cyan's file is cut to so many bytes.
+// What is printed where Cyan's file is cut.
 fn cut_line(rt: &impl Abort, alloc: Global, count: usize) -> String {
     format!(in alloc; "plate 0: Truncated at {count}\n").expect(rt, "no memory")
 }
@@ -85,7 +84,7 @@ fn a_plate_that_is_cut_is_told_of(rt: HostRuntime) {
     }
 }
 
-// Whether the rack holds all files before that one, of it so many bytes, and no later one.
+// Whether the rack has all files before that one, the first bytes of it, and no later one.
 pub(super) fn holds_up_to(rack: &MemRack, broken: usize, count: usize) -> bool {
     holds_file(rack, 0, broken, count)
         && holds_file(rack, 1, broken, count)
@@ -99,7 +98,7 @@ fn holds_file(rack: &MemRack, number: usize, broken: usize, count: usize) -> boo
     }
 }
 
-// Of the bytes of that file those that stand where a file is broken to so many.
+// The bytes of that file that stand there where a file is broken off.
 fn part_of(bytes: &[u8], number: usize, broken: usize, count: usize) -> Option<&[u8]> {
     if number < broken {
         Some(bytes)

@@ -1,8 +1,7 @@
-use super::{bytes_of, file_of, put};
+use super::{DISABLED, file_of, put, tray_of};
 use lists::list::List;
 use lists::memory::push;
-use lists::names::{Name, NameList};
-use outside::distinct_names::have_distinct_names;
+use lists::names::{Name, NameList, copy_name};
 use outside::mem_file::FileList;
 use outside::mem_tray::MemTray;
 use page_gather::gather::gather;
@@ -13,51 +12,49 @@ use refusals::refusal::Refusal;
 use std::alloc::Global;
 use std::process::Abort;
 
-const JOB: &str = "<< /Enabled false >> settrapparams showpage";
+const CYAN: &[u8] = b"P5 1 1 255 .";
 
-const CYAN: &str = "P5 1 1 255 .";
-
-const BLACK: &str = "P5 1 1 255 \x03";
+const BLACK: &[u8] = b"P5 1 1 255 \x03";
 
 // The job, two plates, the file that cannot be read to its end (0 being the job), and the refusal.
-const CASES: &[([&str; 3], Option<usize>, Option<Refusal>)] = &[
-    ([JOB, CYAN, BLACK], None, None),
+const CASES: &[([&[u8]; 3], Option<usize>, Option<Refusal>)] = &[
+    ([DISABLED, CYAN, BLACK], None, None),
     (
-        ["", CYAN, BLACK],
+        [b"", CYAN, BLACK],
         None,
         Some(Refusal::Job(JobFault {
             kind: FaultKind::NoShowpage,
             at: 0,
         })),
     ),
-    ([JOB, CYAN, BLACK], Some(0), Some(Refusal::Read(None))),
+    ([DISABLED, CYAN, BLACK], Some(0), Some(Refusal::Read(None))),
     (
-        [JOB, "P5 1 1 255 ", BLACK],
+        [DISABLED, b"P5 1 1 255 ", BLACK],
         None,
         Some(Refusal::Plate(0, PlateFault::Truncated(11))),
     ),
     (
-        [JOB, "P5 1 1 255 ", BLACK],
+        [DISABLED, b"P5 1 1 255 ", BLACK],
         Some(1),
         Some(Refusal::Read(Some(0))),
     ),
     (
-        [JOB, CYAN, "P6 1 1 9 \x03"],
+        [DISABLED, CYAN, b"P6 1 1 9 \x03"],
         None,
         Some(Refusal::Plate(1, PlateFault::BadMagic(1))),
     ),
     (
-        [JOB, "P4", "P6"],
+        [DISABLED, b"P4", b"P6"],
         None,
         Some(Refusal::Plate(0, PlateFault::BadMagic(1))),
     ),
     (
-        [JOB, CYAN, "P5 1 1 9 "],
+        [DISABLED, CYAN, b"P5 1 1 9 "],
         Some(2),
         Some(Refusal::Read(Some(1))),
     ),
     (
-        [JOB, CYAN, "P5 1 2 255 \x03\x03"],
+        [DISABLED, CYAN, b"P5 1 2 255 \x03\x03"],
         None,
         Some(Refusal::Page(PageFault::SizeDiffers(1))),
     ),
@@ -67,7 +64,7 @@ const CASES: &[([&str; 3], Option<usize>, Option<Refusal>)] = &[
 const NAMES: [&str; 3] = ["job", "c", "k"];
 
 // Where a file of this text breaks off, if it is the broken one.
-fn end_of(text: &str, is_broken: bool) -> Option<u64> {
+fn end_of(text: &[u8], is_broken: bool) -> Option<u64> {
     if is_broken {
         Some(text.len() as u64)
     } else {
@@ -75,7 +72,7 @@ fn end_of(text: &str, is_broken: bool) -> Option<u64> {
     }
 }
 
-fn files_of(rt: &impl Abort, alloc: Global, texts: &[&str; 3], broken: Option<usize>) -> FileList {
+fn files_of(rt: &impl Abort, alloc: Global, texts: &[&[u8]; 3], broken: Option<usize>) -> FileList {
     let mut files = List::new(alloc);
     for place in 0..3usize {
         let text = texts[place];
@@ -83,10 +80,14 @@ fn files_of(rt: &impl Abort, alloc: Global, texts: &[&str; 3], broken: Option<us
         put(
             rt,
             &mut files,
-            file_of(rt, alloc, NAMES[place], text.as_bytes(), fails_at),
+            file_of(rt, alloc, NAMES[place], &[text], fails_at),
         );
     }
     files
+}
+
+fn bytes_of(rt: &impl Abort, alloc: Global, text: &[u8]) -> Name {
+    copy_name(alloc, text).expect(rt, "no memory")
 }
 
 fn names_of(rt: &impl Abort, alloc: Global) -> NameList {
@@ -116,15 +117,14 @@ fn refusal_on(
     files: FileList,
     names: &NameList,
 ) -> Option<Refusal> {
-    assert!(rt; have_distinct_names(files.as_slice()));
-    let mut tray = MemTray::new(alloc, files, 4096, List::new(alloc));
+    let mut tray = tray_of(alloc, files, 4096, None).expect(rt, "no tray");
     refusal_by(alloc, &mut tray, names)
 }
 
 fn refusal_of(
     rt: &impl Abort,
     alloc: Global,
-    texts: &[&str; 3],
+    texts: &[&[u8]; 3],
     broken: Option<usize>,
 ) -> Option<Refusal> {
     let names = names_of(rt, alloc);

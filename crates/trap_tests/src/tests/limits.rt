@@ -1,18 +1,16 @@
-use super::{Look, TWO_PLATES, add, file_of, looks, put, words_of};
+use super::{Look, TWO_PLATES, file_of, looks, put, rack_of, tray_of, words_of};
 use band_workers::OpenGate;
 use lists::list::List;
-use outside::distinct_names::have_distinct_names;
 use outside::endless_tray::EndlessTray;
 use outside::mem_file::FileList;
 use outside::mem_rack::MemRack;
-use outside::mem_tray::MemTray;
 use outside::tray::Tray;
 use std::alloc::Global;
 use std::process::Abort;
 use std::thread::Threads;
 use trap_cli::top::trap_main;
 
-// A job's beginning, the piece that it then repeats, how often, and the line told.
+// A job's beginning, the piece that it then repeats, how often, and the line printed.
 const LONG_JOBS: &[(&str, &str, usize, &str)] = &[
     ("", " ", 1_048_576, "job: NoShowpage at 1048576\n"),
     ("", " ", 1_048_577, "job: JobTooLong at 1048576\n"),
@@ -27,7 +25,11 @@ const LONG_JOBS: &[(&str, &str, usize, &str)] = &[
 
 const TOO_LONG: &str = "job: JobTooLong at 1048576\n";
 
-fn repeated(rt: &impl Abort, alloc: Global, head: &str, piece: &str, count: usize) -> Vec<u8> {
+fn add(rt: &impl Abort, bytes: &mut Vec<u8>, more: &[u8]) {
+    assert!(rt; bytes.extend_from_slice(more).is_ok(), "no memory");
+}
+
+fn repeat_piece(rt: &impl Abort, alloc: Global, head: &str, piece: &str, count: usize) -> Vec<u8> {
     let mut job = head.as_bytes().to_vec(alloc).expect(rt, "no memory");
     for _ in 0..count {
         add(rt, &mut job, piece.as_bytes());
@@ -38,12 +40,12 @@ fn repeated(rt: &impl Abort, alloc: Global, head: &str, piece: &str, count: usiz
 // The job alone.
 fn files_of(rt: &impl Abort, alloc: Global, job: &[u8]) -> FileList {
     let mut files = List::new(alloc);
-    put(rt, &mut files, file_of(rt, alloc, "job", job, None));
+    put(rt, &mut files, file_of(rt, alloc, "job", &[job], None));
     files
 }
 
 // Whether the job of the tray is refused with that line, and nothing is created.
-fn judged<H: Threads + Sync, T: Tray>(
+fn is_refused_with<H: Threads + Sync, T: Tray>(
     rt: &H,
     alloc: Global,
     words: &[String],
@@ -62,18 +64,13 @@ fn is_judged<H: Abort + Threads + Sync, T: Tray>(
     line: &str,
 ) -> bool {
     let words = words_of(alloc, TWO_PLATES).expect(rt, "no memory");
-    let mut rack = MemRack::new(alloc, 50, 1000, List::new(alloc));
-    judged(rt, alloc, &words, tray, &mut rack, line)
-}
-
-fn tray_of(rt: &impl Abort, alloc: Global, job: &[u8]) -> MemTray {
-    let files = files_of(rt, alloc, job);
-    assert!(rt; have_distinct_names(files.as_slice()));
-    MemTray::new(alloc, files, 4096, List::new(alloc))
+    let mut rack = rack_of(alloc, 50, 1000, None).expect(rt, "no memory");
+    is_refused_with(rt, alloc, &words, tray, &mut rack, line)
 }
 
 fn is_refused(rt: &(impl Abort + Threads + Sync), alloc: Global, job: &[u8], line: &str) -> bool {
-    let mut tray = tray_of(rt, alloc, job);
+    let files = files_of(rt, alloc, job);
+    let mut tray = tray_of(alloc, files, 4096, None).expect(rt, "no tray");
     is_judged(rt, alloc, &mut tray, line)
 }
 
@@ -82,7 +79,7 @@ fn is_too_long(
     alloc: Global,
     (head, piece, count, line): (&str, &str, usize, &str),
 ) -> bool {
-    let job = repeated(rt, alloc, head, piece, count);
+    let job = repeat_piece(rt, alloc, head, piece, count);
     is_refused(rt, alloc, &job, line)
 }
 

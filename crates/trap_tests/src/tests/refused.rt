@@ -1,15 +1,15 @@
 use super::{
-    CYAN, Case, END, HEAD, INKS, Look, MAGENTA, ONE_PLATE, SET, TWO_PLATES, USUAL, ends, judge,
+    CYAN, Case, END, INKS, Look, MAGENTA, ONE_PLATE, SET, TWO_PLATES, USUAL, WIDE, ends, judge,
 };
 use std::alloc::Global;
 use std::process::Abort;
 use std::thread::Threads;
 
-// A page that is refused: its words, job and plates, the file that fails and where, and the status and the line told.
+// A page that is refused: its words, job and plates, the file that fails and where, and the status and the line printed.
 #[derive(Clone, Copy)]
 struct Refused {
     words: &'static str,
-    job: &'static [&'static str],
+    job: &'static [&'static [u8]],
     plates: &'static [&'static [u8]],
     failing: Option<(usize, u64)>,
     status: u8,
@@ -19,7 +19,7 @@ struct Refused {
 const PAGES: &[Refused] = &[
     Refused {
         words: TWO_PLATES,
-        job: &[HEAD, INKS, SET, "/TrapWidth 2", END],
+        job: &[INKS, WIDE],
         plates: &[b"P5\n6 1\n255\n\0\0\0\xFF\xFF", MAGENTA],
         failing: None,
         status: 4,
@@ -27,7 +27,7 @@ const PAGES: &[Refused] = &[
     },
     Refused {
         words: TWO_PLATES,
-        job: &[HEAD, INKS, SET, "/TrapWidth 2", END],
+        job: &[INKS, WIDE],
         plates: &[b"P5\n6 1\n255\n\0\0\0\xFF\xFF\xFF\0", MAGENTA],
         failing: None,
         status: 4,
@@ -35,7 +35,7 @@ const PAGES: &[Refused] = &[
     },
     Refused {
         words: ONE_PLATE,
-        job: &[HEAD, INKS, SET, "/TrapWidth 2", END],
+        job: &[INKS, WIDE],
         plates: &[b"P5 1 1 100\ne"],
         failing: None,
         status: 4,
@@ -43,7 +43,7 @@ const PAGES: &[Refused] = &[
     },
     Refused {
         words: ONE_PLATE,
-        job: &[HEAD, INKS, SET, "/TrapWidth 2", END],
+        job: &[INKS, WIDE],
         plates: &[b"P5 1 1 256\n\0"],
         failing: None,
         status: 4,
@@ -51,7 +51,7 @@ const PAGES: &[Refused] = &[
     },
     Refused {
         words: ONE_PLATE,
-        job: &[HEAD, INKS, SET, "/TrapWidth 2", END],
+        job: &[INKS, WIDE],
         plates: &[b"P5 1 1 65536\n"],
         failing: None,
         status: 4,
@@ -59,7 +59,7 @@ const PAGES: &[Refused] = &[
     },
     Refused {
         words: ONE_PLATE,
-        job: &[HEAD, INKS, SET, "/TrapWidth 2", END],
+        job: &[INKS, WIDE],
         plates: &[b"P5 1 1 256\n\x01\x01"],
         failing: None,
         status: 4,
@@ -67,7 +67,7 @@ const PAGES: &[Refused] = &[
     },
     Refused {
         words: TWO_PLATES,
-        job: &[HEAD, INKS, SET, "/TrapWidth 2", END],
+        job: &[INKS, WIDE],
         plates: &[CYAN, b"P5\n5 1\n255\n\xFF\xFF\xFF\0\0"],
         failing: None,
         status: 4,
@@ -75,7 +75,7 @@ const PAGES: &[Refused] = &[
     },
     Refused {
         words: TWO_PLATES,
-        job: &[HEAD, INKS, SET, "/TrapWidth 100 /BlackWidth 2", END],
+        job: &[INKS, SET, b"/TrapWidth 100 /BlackWidth 2", END],
         plates: &[CYAN, MAGENTA],
         failing: None,
         status: 4,
@@ -83,7 +83,7 @@ const PAGES: &[Refused] = &[
     },
     Refused {
         words: TWO_PLATES,
-        job: &["<< /TrappingDetails << /Type 1000 >> >> setpagedevice showpage"],
+        job: &[b"<< /TrappingDetails << /Type 1000 >> >> setpagedevice showpage"],
         plates: &[CYAN, MAGENTA],
         failing: None,
         status: 3,
@@ -91,7 +91,7 @@ const PAGES: &[Refused] = &[
     },
     Refused {
         words: TWO_PLATES,
-        job: &["<< /TrapWidth 1e5 >> settrapparams showpage"],
+        job: &[b"<< /TrapWidth 1e5 >> settrapparams showpage"],
         plates: &[CYAN, MAGENTA],
         failing: None,
         status: 3,
@@ -99,7 +99,7 @@ const PAGES: &[Refused] = &[
     },
     Refused {
         words: TWO_PLATES,
-        job: &["<< /TrapWidth 0 >> settrapparams showpage"],
+        job: &[b"<< /TrapWidth 0 >> settrapparams showpage"],
         plates: &[CYAN, MAGENTA],
         failing: None,
         status: 3,
@@ -107,7 +107,7 @@ const PAGES: &[Refused] = &[
     },
     Refused {
         words: TWO_PLATES,
-        job: &["<< /TrapWidth 1"],
+        job: &[b"<< /TrapWidth 1"],
         plates: &[CYAN, MAGENTA],
         failing: None,
         status: 3,
@@ -115,7 +115,7 @@ const PAGES: &[Refused] = &[
     },
     Refused {
         words: TWO_PLATES,
-        job: &["10 10 lineto showpage"],
+        job: &[b"10 10 lineto showpage"],
         plates: &[CYAN, MAGENTA],
         failing: None,
         status: 3,
@@ -123,7 +123,7 @@ const PAGES: &[Refused] = &[
     },
     Refused {
         words: TWO_PLATES,
-        job: &["5 showpage"],
+        job: &[b"5 showpage"],
         plates: &[CYAN, MAGENTA],
         failing: None,
         status: 3,
@@ -131,7 +131,7 @@ const PAGES: &[Refused] = &[
     },
     Refused {
         words: TWO_PLATES,
-        job: &["showpage"],
+        job: &[b"showpage"],
         plates: &[CYAN, MAGENTA],
         failing: None,
         status: 3,
@@ -139,7 +139,7 @@ const PAGES: &[Refused] = &[
     },
     Refused {
         words: TWO_PLATES,
-        job: &[""],
+        job: &[b""],
         plates: &[CYAN, MAGENTA],
         failing: None,
         status: 3,
@@ -147,7 +147,7 @@ const PAGES: &[Refused] = &[
     },
     Refused {
         words: TWO_PLATES,
-        job: &["<< /Enabled false >> settrapparams"],
+        job: &[b"<< /Enabled false >> settrapparams"],
         plates: &[CYAN, MAGENTA],
         failing: None,
         status: 3,
@@ -155,7 +155,7 @@ const PAGES: &[Refused] = &[
     },
     Refused {
         words: TWO_PLATES,
-        job: &["<< /Enabled false >> settrapparams showpage 1"],
+        job: &[b"<< /Enabled false >> settrapparams showpage 1"],
         plates: &[CYAN, MAGENTA],
         failing: None,
         status: 3,
@@ -163,7 +163,7 @@ const PAGES: &[Refused] = &[
     },
     Refused {
         words: "page job report Orange:in0:out0 Magenta:in1:out1",
-        job: &[HEAD, INKS, SET, "/TrapWidth 2", END],
+        job: &[INKS, WIDE],
         plates: &[CYAN, MAGENTA],
         failing: None,
         status: 3,
@@ -171,7 +171,7 @@ const PAGES: &[Refused] = &[
     },
     Refused {
         words: TWO_PLATES,
-        job: &[HEAD, INKS, SET, "/TrapWidth 2", END],
+        job: &[INKS, WIDE],
         plates: &[CYAN, MAGENTA],
         failing: Some((2, 5)),
         status: 5,
@@ -179,7 +179,7 @@ const PAGES: &[Refused] = &[
     },
     Refused {
         words: TWO_PLATES,
-        job: &[HEAD, INKS, SET, "/TrapWidth 2", END],
+        job: &[INKS, WIDE],
         plates: &[CYAN],
         failing: None,
         status: 5,
@@ -187,7 +187,7 @@ const PAGES: &[Refused] = &[
     },
     Refused {
         words: TWO_PLATES,
-        job: &["<< /ColorantZoneDetails 5 >> settrapparams showpage"],
+        job: &[b"<< /ColorantZoneDetails 5 >> settrapparams showpage"],
         plates: &[CYAN, MAGENTA],
         failing: None,
         status: 3,
@@ -195,7 +195,7 @@ const PAGES: &[Refused] = &[
     },
     Refused {
         words: TWO_PLATES,
-        job: &["<< /ColorantZoneDetails << /Cyan << /StepLimit 2 >> >> >> settrapparams showpage"],
+        job: &[b"<< /ColorantZoneDetails << /Cyan << /StepLimit 2 >> >> >> settrapparams showpage"],
         plates: &[CYAN, MAGENTA],
         failing: None,
         status: 3,
@@ -203,7 +203,7 @@ const PAGES: &[Refused] = &[
     },
     Refused {
         words: TWO_PLATES,
-        job: &["[[[[[[[[[[[[[[[[]]]]]]]]]]]]]]]] showpage"],
+        job: &[b"[[[[[[[[[[[[[[[[]]]]]]]]]]]]]]]] showpage"],
         plates: &[CYAN, MAGENTA],
         failing: None,
         status: 3,
@@ -211,7 +211,7 @@ const PAGES: &[Refused] = &[
     },
     Refused {
         words: TWO_PLATES,
-        job: &["[[[[[[[[[[[[[[[[["],
+        job: &[b"[[[[[[[[[[[[[[[[["],
         plates: &[CYAN, MAGENTA],
         failing: None,
         status: 3,

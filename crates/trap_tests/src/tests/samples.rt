@@ -1,6 +1,6 @@
 use super::{Case, Look, USUAL, ends, judge};
 
-// The words of a sample page, the call of the rack that fails, the status, and the text that is told.
+// The words of a sample page, the call of the rack that fails, the status, and the text that is printed.
 const SAMPLES: &[(&str, Option<u64>, u8, &str)] = &[
     (
         "sample 0 16 8 2",

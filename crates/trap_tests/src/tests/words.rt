@@ -6,7 +6,7 @@ use std::thread::Threads;
 const USAGE: &str =
     "usage: trap page [--workers N] [--band B] JOB REPORT NAME:IN:OUT ... | trap sample NUMBER WIDTH HEIGHT WORKERS\n";
 
-// Words with single spaces between them, the status that they end with, and the text that is told. Two spaces stand round
+// Words with single spaces between them, the status that they end with, and the text that is printed. Two spaces stand round
 // an empty word.
 const WORDS: &[(&str, u8, &str)] = &[
     ("", 2, USAGE),
@@ -135,7 +135,7 @@ fn all_words() -> &'static [(&'static str, u8, &'static str)] {
     WORDS
 }
 
-// Whether a run of these words ends with the status and the text told, and writes a plate at status 0 alone.
+// Whether a run of these words ends with the status and the text printed, and writes a plate at status 0 alone.
 fn is_answered(
     rt: &(impl Abort + Threads + Sync),
     alloc: Global,

@@ -1,6 +1,7 @@
 use super::{
-    CYAN, Case, END, HEAD, INKS, Look, MAGENTA, ONE_PLATE, SET, TALL_CYAN, TALL_MAGENTA,
-    TWO_PLATES, USUAL, ends, judge,
+    CYAN, Case, DISABLED, END, INKS, Look, MAGENTA, ONE_PLATE, SET, TALL_CYAN, TALL_MAGENTA,
+    TRAPPED_CYAN, TRAPPED_MAGENTA, TRAPPED_REPORT, TWO_PLATES, UNSLID_CYAN, UNSLID_REPORT,
+    UNTRAPPED_REPORT, USUAL, WIDE, ends, judge,
 };
 use std::alloc::Global;
 use std::process::Abort;
@@ -10,10 +11,10 @@ use std::thread::Threads;
 #[derive(Clone, Copy)]
 struct Worked {
     words: &'static str,
-    job: &'static [&'static str],
+    job: &'static [&'static [u8]],
     plates: &'static [&'static [u8]],
     written: &'static [&'static [u8]],
-    report: &'static str,
+    report: &'static [u8],
 }
 
 // plates of two bytes a sample
@@ -21,31 +22,33 @@ const DEEP_CYAN: &[u8] = b"P5\n6 1\n65535\n\0\0\0\0\0\0\xFF\xFF\xFF\xFF\xFF\xFF"
 
 const DEEP_MAGENTA: &[u8] = b"P5\n6 1\n65535\n\xFF\xFF\xFF\xFF\xFF\xFF\0\0\0\0\0\0";
 
+// The beginning of a job with a Foil of the type that stands between these two.
+const FOIL: &[u8] =
+    b"<< /HWResolution [72 72] /TrappingDetails << /Type 1001 /ColorantDetails << /Cyan << /NeutralDensity 0.61 >> /Magenta << /NeutralDensity 0.76 >> /Foil << /NeutralDensity 1 /ColorantType ";
+
+const FOIL_END: &[u8] = b" >> >> >> >> setpagedevice ";
+
 const PAGES: &[Worked] = &[
     Worked {
         words: TWO_PLATES,
-        job: &[HEAD, INKS, SET, "/TrapWidth 2", END],
+        job: &[INKS, WIDE],
         plates: &[CYAN, MAGENTA],
-        written: &[
-            b"P5\n6 1\n255\n\0\0\0\0\xFF\xFF",
-            b"P5\n6 1\n255\n\xFF\xFF\0\0\0\0",
-        ],
-        report: "trap report\npage 6 1 255 plates 2\nzone 0 samples 6 changed 2\nedges 1\nplate Cyan changed 1\nplate Magenta changed 1\nend\n",
+        written: &[TRAPPED_CYAN, TRAPPED_MAGENTA],
+        report: TRAPPED_REPORT,
     },
     Worked {
         words: TWO_PLATES,
-        job: &[HEAD, INKS, SET, "/TrapWidth 2 /SlidingTrapLimit 1", END],
+        job: &[INKS, SET, b"/TrapWidth 2 /SlidingTrapLimit 1", END],
         plates: &[CYAN, MAGENTA],
-        written: &[b"P5\n6 1\n255\n\0\0\0\0\0\xFF", MAGENTA],
-        report: "trap report\npage 6 1 255 plates 2\nzone 0 samples 6 changed 2\nedges 1\nplate Cyan changed 2\nplate Magenta changed 0\nend\n",
+        written: &[UNSLID_CYAN, MAGENTA],
+        report: UNSLID_REPORT,
     },
     Worked {
         words: TWO_PLATES,
         job: &[
-            HEAD,
             INKS,
             SET,
-            "/TrapWidth 2 /SlidingTrapLimit 1 /TrapColorScaling 0",
+            b"/TrapWidth 2 /SlidingTrapLimit 1 /TrapColorScaling 0",
             END,
         ],
         plates: &[CYAN, MAGENTA],
@@ -53,25 +56,25 @@ const PAGES: &[Worked] = &[
             b"P5\n6 1\n255\n\0\0\0rr\xFF",
             b"P5\n6 1\n255\n\xFF\xFF\xFFrr\0",
         ],
-        report: "trap report\npage 6 1 255 plates 2\nzone 0 samples 6 changed 2\nedges 1\nplate Cyan changed 2\nplate Magenta changed 2\nend\n",
+        report: b"trap report\npage 6 1 255 plates 2\nzone 0 samples 6 changed 2\nedges 1\nplate Cyan changed 2\nplate Magenta changed 2\nend\n",
     },
     Worked {
         words: TWO_PLATES,
-        job: &[HEAD, INKS, SET, "/TrapWidth 0.25", END],
+        job: &[INKS, SET, b"/TrapWidth 0.25", END],
         plates: &[CYAN, MAGENTA],
         written: &[CYAN, MAGENTA],
-        report: "trap report\npage 6 1 255 plates 2\nzone 0 samples 6 changed 0\nedges 1\nplate Cyan changed 0\nplate Magenta changed 0\nend\n",
+        report: b"trap report\npage 6 1 255 plates 2\nzone 0 samples 6 changed 0\nedges 1\nplate Cyan changed 0\nplate Magenta changed 0\nend\n",
     },
     Worked {
         words: ONE_PLATE,
-        job: &[HEAD, INKS, SET, "/TrapWidth 2", END],
+        job: &[INKS, WIDE],
         plates: &[b"P5\n1 1\n255\n\0"],
         written: &[b"P5\n1 1\n255\n\0"],
-        report: "trap report\npage 1 1 255 plates 1\nzone 0 samples 1 changed 0\nedges 0\nplate Cyan changed 0\nend\n",
+        report: b"trap report\npage 1 1 255 plates 1\nzone 0 samples 1 changed 0\nedges 0\nplate Cyan changed 0\nend\n",
     },
     Worked {
         words: "page job report Cyan:in0:out0 Black:in1:out1 Yellow:in2:out2",
-        job: &[HEAD, INKS, SET, "/TrapWidth 1", END],
+        job: &[INKS, SET, b"/TrapWidth 1", END],
         plates: &[
             b"P5\n3 1\n255\n\0\xFF\xFF",
             b"P5\n3 1\n255\n\xFF\0\xFF",
@@ -82,11 +85,11 @@ const PAGES: &[Worked] = &[
             b"P5\n3 1\n255\n\xFF\0\xFF",
             b"P5\n3 1\n255\n\xFF\xFF\0",
         ],
-        report: "trap report\npage 3 1 255 plates 3\nzone 0 samples 3 changed 1\nedges 2\nplate Cyan changed 1\nplate Black changed 0\nplate Yellow changed 0\nend\n",
+        report: b"trap report\npage 3 1 255 plates 3\nzone 0 samples 3 changed 1\nedges 2\nplate Cyan changed 1\nplate Black changed 0\nplate Yellow changed 0\nend\n",
     },
     Worked {
         words: "page job report Cyan:in0:out0 Black:in1:out1 Yellow:in2:out2",
-        job: &[HEAD, INKS, SET, "/TrapWidth 1", END],
+        job: &[INKS, SET, b"/TrapWidth 1", END],
         plates: &[
             b"P5\n1 3\n255\n\0\xFF\xFF",
             b"P5\n1 3\n255\n\xFF\0\xFF",
@@ -97,25 +100,25 @@ const PAGES: &[Worked] = &[
             b"P5\n1 3\n255\n\xFF\0\xFF",
             b"P5\n1 3\n255\n\xFF\xFF\0",
         ],
-        report: "trap report\npage 1 3 255 plates 3\nzone 0 samples 3 changed 1\nedges 2\nplate Cyan changed 1\nplate Black changed 0\nplate Yellow changed 0\nend\n",
+        report: b"trap report\npage 1 3 255 plates 3\nzone 0 samples 3 changed 1\nedges 2\nplate Cyan changed 1\nplate Black changed 0\nplate Yellow changed 0\nend\n",
     },
     Worked {
         words: TWO_PLATES,
-        job: &[HEAD, INKS, SET, "/TrapWidth 2", END],
+        job: &[INKS, WIDE],
         plates: &[b"P5\n2 1\n100\nKd", b"P5\n2 1\n100\ndK"],
         written: &[b"P5\n2 1\n100\nKK", b"P5\n2 1\n100\nKK"],
-        report: "trap report\npage 2 1 100 plates 2\nzone 0 samples 2 changed 2\nedges 1\nplate Cyan changed 1\nplate Magenta changed 1\nend\n",
+        report: b"trap report\npage 2 1 100 plates 2\nzone 0 samples 2 changed 2\nedges 1\nplate Cyan changed 1\nplate Magenta changed 1\nend\n",
     },
     Worked {
         words: TWO_PLATES,
-        job: &[HEAD, INKS, SET, "/TrapWidth 2", END],
+        job: &[INKS, WIDE],
         plates: &[b"P5\n2 1\n100\nLd", b"P5\n2 1\n100\ndK"],
         written: &[b"P5\n2 1\n100\nLd", b"P5\n2 1\n100\ndK"],
-        report: "trap report\npage 2 1 100 plates 2\nzone 0 samples 2 changed 0\nedges 0\nplate Cyan changed 0\nplate Magenta changed 0\nend\n",
+        report: b"trap report\npage 2 1 100 plates 2\nzone 0 samples 2 changed 0\nedges 0\nplate Cyan changed 0\nplate Magenta changed 0\nend\n",
     },
     Worked {
         words: TWO_PLATES,
-        job: &[HEAD, INKS, SET, "/StepLimit 0 /TrapWidth 2", END],
+        job: &[INKS, SET, b"/StepLimit 0 /TrapWidth 2", END],
         plates: &[
             b"P5\n4 4\n255\n\x80\x80\x80\x80\x80\x80\x80\x80\x80\x80\x80\x80\x80\x80\x80\x80",
             b"P5\n4 4\n255\n@@@@@@@@@@@@@@@@",
@@ -124,106 +127,97 @@ const PAGES: &[Worked] = &[
             b"P5\n4 4\n255\n\x80\x80\x80\x80\x80\x80\x80\x80\x80\x80\x80\x80\x80\x80\x80\x80",
             b"P5\n4 4\n255\n@@@@@@@@@@@@@@@@",
         ],
-        report: "trap report\npage 4 4 255 plates 2\nzone 0 samples 16 changed 0\nedges 0\nplate Cyan changed 0\nplate Magenta changed 0\nend\n",
+        report: b"trap report\npage 4 4 255 plates 2\nzone 0 samples 16 changed 0\nedges 0\nplate Cyan changed 0\nplate Magenta changed 0\nend\n",
     },
     Worked {
         words: "page job report Cyan:in0:out0 Magenta:in1:out1 Foil:in2:out2",
-        job: &[
-            HEAD,
-            INKS,
-            " /Foil << /NeutralDensity 1 /ColorantType /OpaqueIgnore >>",
-            SET,
-            "/TrapWidth 2",
-            END,
-        ],
+        job: &[FOIL, b"/OpaqueIgnore", FOIL_END, WIDE],
         plates: &[CYAN, MAGENTA, b"P5\n6 1\n255\n\xFF\xFF\xFF\0\xFF\xFF"],
         written: &[CYAN, MAGENTA, b"P5\n6 1\n255\n\xFF\xFF\xFF\0\xFF\xFF"],
-        report: "trap report\npage 6 1 255 plates 3\nzone 0 samples 6 changed 0\nedges 0\nplate Cyan changed 0\nplate Magenta changed 0\nplate Foil changed 0\nend\n",
+        report: b"trap report\npage 6 1 255 plates 3\nzone 0 samples 6 changed 0\nedges 0\nplate Cyan changed 0\nplate Magenta changed 0\nplate Foil changed 0\nend\n",
     },
     Worked {
         words: "page job report Cyan:in0:out0 Magenta:in1:out1 Foil:in2:out2",
         job: &[
-            HEAD,
-            INKS,
-            " /Foil << /NeutralDensity 1 /ColorantType /Opaque >>",
+            FOIL,
+            b"/Opaque",
+            FOIL_END,
             SET,
-            "/TrapWidth 2 /SlidingTrapLimit 0",
+            b"/TrapWidth 2 /SlidingTrapLimit 0",
             END,
         ],
         plates: &[CYAN, MAGENTA, b"P5\n6 1\n255\n\xFF\xFF\xFF\0\xFF\xFF"],
         written: &[
-            b"P5\n6 1\n255\n\0\0\0\0\xFF\xFF",
-            b"P5\n6 1\n255\n\xFF\xFF\0\0\0\0",
+            TRAPPED_CYAN,
+            TRAPPED_MAGENTA,
             b"P5\n6 1\n255\n\xFF\xFF\xFF\0\xFF\xFF",
         ],
-        report: "trap report\npage 6 1 255 plates 3\nzone 0 samples 6 changed 2\nedges 1\nplate Cyan changed 1\nplate Magenta changed 1\nplate Foil changed 0\nend\n",
+        report: b"trap report\npage 6 1 255 plates 3\nzone 0 samples 6 changed 2\nedges 1\nplate Cyan changed 1\nplate Magenta changed 1\nplate Foil changed 0\nend\n",
     },
     Worked {
         words: TWO_PLATES,
-        job: &["<< /Enabled false >> settrapparams showpage"],
+        job: &[DISABLED],
         plates: &[CYAN, MAGENTA],
         written: &[CYAN, MAGENTA],
-        report: "trap report\npage 6 1 255 plates 2\nzone 0 samples 6 changed 0\nedges 0\nplate Cyan changed 0\nplate Magenta changed 0\nend\n",
+        report: UNTRAPPED_REPORT,
     },
     Worked {
         words: TWO_PLATES,
-        job: &["<< /Enabled false >> settrapparams showpage"],
+        job: &[DISABLED],
         plates: &[b"P5\n# made by hand\n6 1\n255\n\0\0\0\xFF\xFF\xFF", MAGENTA],
         written: &[CYAN, MAGENTA],
-        report: "trap report\npage 6 1 255 plates 2\nzone 0 samples 6 changed 0\nedges 0\nplate Cyan changed 0\nplate Magenta changed 0\nend\n",
+        report: UNTRAPPED_REPORT,
     },
     Worked {
         words: ONE_PLATE,
         job: &[
-            "<< /HWResolution [72 72] /TrappingDetails << /Type 1001 /ColorantDetails << /Cyan << /NeutralDensity .61 >> >> >> >> setpagedevice",
-            " .5 .5 moveto 2.5 .5 lineto 2.5 1.5 lineto .5 1.5 lineto settrapzone showpage",
+            b"<< /HWResolution [72 72] /TrappingDetails << /Type 1001 /ColorantDetails << /Cyan << /NeutralDensity .61 >> >> >> >> setpagedevice",
+            b" .5 .5 moveto 2.5 .5 lineto 2.5 1.5 lineto .5 1.5 lineto settrapzone showpage",
         ],
         plates: &[b"P5\n4 2\n255\n\0\0\0\0\0\0\0\0"],
         written: &[b"P5\n4 2\n255\n\0\0\0\0\0\0\0\0"],
-        report: "trap report\npage 4 2 255 plates 1\nzone 0 samples 6 changed 0\nzone 1 samples 2 changed 0\nedges 0\nplate Cyan changed 0\nend\n",
+        report: b"trap report\npage 4 2 255 plates 1\nzone 0 samples 6 changed 0\nzone 1 samples 2 changed 0\nedges 0\nplate Cyan changed 0\nend\n",
     },
     Worked {
         words: ONE_PLATE,
         job: &[
-            "<< /HWResolution [72 72] /TrappingDetails << /Type 1001 /ColorantDetails << /Cyan << /NeutralDensity .61 >> >> >> >> setpagedevice",
-            " .5 .5 moveto 0 0 rmoveto 2 0 rlineto 0 1 rlineto -2 0 rlineto settrapzone showpage",
+            b"<< /HWResolution [72 72] /TrappingDetails << /Type 1001 /ColorantDetails << /Cyan << /NeutralDensity .61 >> >> >> >> setpagedevice",
+            b" .5 .5 moveto 0 0 rmoveto 2 0 rlineto 0 1 rlineto -2 0 rlineto settrapzone showpage",
         ],
         plates: &[b"P5\n4 2\n255\n\0\0\0\0\0\0\0\0"],
         written: &[b"P5\n4 2\n255\n\0\0\0\0\0\0\0\0"],
-        report: "trap report\npage 4 2 255 plates 1\nzone 0 samples 6 changed 0\nzone 1 samples 2 changed 0\nedges 0\nplate Cyan changed 0\nend\n",
+        report: b"trap report\npage 4 2 255 plates 1\nzone 0 samples 6 changed 0\nzone 1 samples 2 changed 0\nedges 0\nplate Cyan changed 0\nend\n",
     },
     Worked {
         words: TWO_PLATES,
-        job: &[HEAD, INKS, SET, "/TrapWidth 5 /SlidingTrapLimit 1", END],
+        job: &[INKS, SET, b"/TrapWidth 5 /SlidingTrapLimit 1", END],
         plates: &[TALL_CYAN, TALL_MAGENTA],
         written: &[b"P5\n1 12\n255\n\0\0\0\0\0\0\0\0\0\0\0\xFF", TALL_MAGENTA],
-        report: "trap report\npage 1 12 255 plates 2\nzone 0 samples 12 changed 5\nedges 1\nplate Cyan changed 5\nplate Magenta changed 0\nend\n",
+        report: b"trap report\npage 1 12 255 plates 2\nzone 0 samples 12 changed 5\nedges 1\nplate Cyan changed 5\nplate Magenta changed 0\nend\n",
     },
     Worked {
         words: TWO_PLATES,
-        job: &[HEAD, INKS, SET, "/TrapWidth 100", END],
+        job: &[INKS, SET, b"/TrapWidth 100", END],
         plates: &[CYAN, MAGENTA],
         written: &[b"P5\n6 1\n255\n\0\0\0\0\0\0", b"P5\n6 1\n255\n\0\0\0\0\0\0"],
-        report: "trap report\npage 6 1 255 plates 2\nzone 0 samples 6 changed 6\nedges 1\nplate Cyan changed 3\nplate Magenta changed 3\nend\n",
+        report: b"trap report\npage 6 1 255 plates 2\nzone 0 samples 6 changed 6\nedges 1\nplate Cyan changed 3\nplate Magenta changed 3\nend\n",
     },
     Worked {
         words: TWO_PLATES,
-        job: &[HEAD, INKS, SET, "/TrapWidth 0 /TrapWidth 2", END],
+        job: &[INKS, SET, b"/TrapWidth 0 /TrapWidth 2", END],
         plates: &[CYAN, MAGENTA],
-        written: &[
-            b"P5\n6 1\n255\n\0\0\0\0\xFF\xFF",
-            b"P5\n6 1\n255\n\xFF\xFF\0\0\0\0",
-        ],
-        report: "trap report\npage 6 1 255 plates 2\nzone 0 samples 6 changed 2\nedges 1\nplate Cyan changed 1\nplate Magenta changed 1\nend\n",
+        written: &[TRAPPED_CYAN, TRAPPED_MAGENTA],
+        report: TRAPPED_REPORT,
     },
     Worked {
         words: "page job report Cyan:in0:out0 Magenta:in1:out1 Yellow:in2:out2 Black:in3:out3",
         job: &[
-            "%!PS\n<< /HWResolution [600 600] /Trapping true",
+            b"%!PS\n",
             INKS,
+            b"<< /HWResolution [600 600] /Trapping true >> setpagedevice ",
             SET,
-            "/TrapWidth 0.25 /BlackWidth 2",
-            " >> settrapparams 0 0 moveto 612 0 lineto 612 792 lineto 0 792 lineto closepath settrapzone << /Enabled false >> settrapparams 1.08 0 moveto 612 0 lineto 612 792 lineto 1.08 792 lineto closepath settrapzone showpage",
+            b"/TrapWidth 0.25 /BlackWidth 2",
+            b" >> settrapparams 0 0 moveto 612 0 lineto 612 792 lineto 0 792 lineto closepath settrapzone << /Enabled false >> settrapparams 1.08 0 moveto 612 0 lineto 612 792 lineto 1.08 792 lineto closepath settrapzone showpage",
         ],
         plates: &[
             b"P5\n12 2\n255\n\xFF\xFF\xFF\0\0\0\xFF\xFF\xFF\xFF\xFF\xFF\xFF\xFF\xFF\0\0\0\xFF\xFF\xFF\xFF\xFF\xFF",
@@ -237,25 +231,24 @@ const PAGES: &[Worked] = &[
             b"P5\n12 2\n255\n\xFF\xFF\xFF\xFF\xFF\0\0\0\0\xFF\xFF\xFF\xFF\xFF\xFF\xFF\xFF\0\0\0\0\xFF\xFF\xFF",
             b"P5\n12 2\n255\n\0\0\0\xFF\xFF\xFF\xFF\xFF\xFF\xFF\xFF\xFF\0\0\0\xFF\xFF\xFF\xFF\xFF\xFF\xFF\xFF\xFF",
         ],
-        report: "trap report\npage 12 2 255 plates 4\nzone 0 samples 0 changed 0\nzone 1 samples 18 changed 8\nzone 2 samples 6 changed 0\nedges 4\nplate Cyan changed 6\nplate Magenta changed 0\nplate Yellow changed 2\nplate Black changed 0\nend\n",
+        report: b"trap report\npage 12 2 255 plates 4\nzone 0 samples 0 changed 0\nzone 1 samples 18 changed 8\nzone 2 samples 6 changed 0\nedges 4\nplate Cyan changed 6\nplate Magenta changed 0\nplate Yellow changed 2\nplate Black changed 0\nend\n",
     },
     Worked {
         words: TWO_PLATES,
-        job: &[HEAD, INKS, SET, "/TrapWidth 2", END],
+        job: &[INKS, WIDE],
         plates: &[DEEP_CYAN, DEEP_MAGENTA],
         written: &[
             b"P5\n6 1\n65535\n\0\0\0\0\0\0\0\0\xFF\xFF\xFF\xFF",
             b"P5\n6 1\n65535\n\xFF\xFF\xFF\xFF\0\0\0\0\0\0\0\0",
         ],
-        report: "trap report\npage 6 1 65535 plates 2\nzone 0 samples 6 changed 2\nedges 1\nplate Cyan changed 1\nplate Magenta changed 1\nend\n",
+        report: b"trap report\npage 6 1 65535 plates 2\nzone 0 samples 6 changed 2\nedges 1\nplate Cyan changed 1\nplate Magenta changed 1\nend\n",
     },
     Worked {
         words: TWO_PLATES,
         job: &[
-            HEAD,
             INKS,
             SET,
-            "/TrapWidth 2 /SlidingTrapLimit 1 /TrapColorScaling 0",
+            b"/TrapWidth 2 /SlidingTrapLimit 1 /TrapColorScaling 0",
             END,
         ],
         plates: &[DEEP_CYAN, DEEP_MAGENTA],
@@ -263,33 +256,31 @@ const PAGES: &[Worked] = &[
             b"P5\n6 1\n65535\n\0\0\0\0\0\0q\xFCq\xFC\xFF\xFF",
             b"P5\n6 1\n65535\n\xFF\xFF\xFF\xFF\xFF\xFFq\xFCq\xFC\0\0",
         ],
-        report: "trap report\npage 6 1 65535 plates 2\nzone 0 samples 6 changed 2\nedges 1\nplate Cyan changed 2\nplate Magenta changed 2\nend\n",
+        report: b"trap report\npage 6 1 65535 plates 2\nzone 0 samples 6 changed 2\nedges 1\nplate Cyan changed 2\nplate Magenta changed 2\nend\n",
     },
     Worked {
         words: TWO_PLATES,
         job: &[
-            HEAD,
             INKS,
             SET,
-            "/TrapWidth 2 /ColorantZoneDetails << /Cyan << /StepLimit .3 >> >>",
+            b"/TrapWidth 2 /ColorantZoneDetails << /Cyan << /StepLimit .3 >> >>",
             END,
         ],
         plates: &[b"P5\n2 1\n100\nKd", b"P5\n2 1\n100\ndK"],
         written: &[b"P5\n2 1\n100\nKd", b"P5\n2 1\n100\ndK"],
-        report: "trap report\npage 2 1 100 plates 2\nzone 0 samples 2 changed 0\nedges 0\nplate Cyan changed 0\nplate Magenta changed 0\nend\n",
+        report: b"trap report\npage 2 1 100 plates 2\nzone 0 samples 2 changed 0\nedges 0\nplate Cyan changed 0\nplate Magenta changed 0\nend\n",
     },
     Worked {
         words: TWO_PLATES,
         job: &[
-            HEAD,
             INKS,
             SET,
-            "/TrapWidth 2 /ColorantZoneDetails << /Cyan << /StepLimit .2 >> >>",
+            b"/TrapWidth 2 /ColorantZoneDetails << /Cyan << /StepLimit .2 >> >>",
             END,
         ],
         plates: &[b"P5\n2 1\n100\nLd", b"P5\n2 1\n100\ndK"],
         written: &[b"P5\n2 1\n100\nLL", b"P5\n2 1\n100\nKK"],
-        report: "trap report\npage 2 1 100 plates 2\nzone 0 samples 2 changed 2\nedges 1\nplate Cyan changed 1\nplate Magenta changed 1\nend\n",
+        report: b"trap report\npage 2 1 100 plates 2\nzone 0 samples 2 changed 2\nedges 1\nplate Cyan changed 1\nplate Magenta changed 1\nend\n",
     },
 ];
 
@@ -303,7 +294,7 @@ const WORKERS: &[u32] = &[1, 2, 3, 7, 64];
 
 const BANDS: &[u32] = &[1, 2, 5, 64, 4096];
 
-// Whether the page of these words is trapped as it has to be, and nothing is told.
+// Whether the page of these words is trapped as it has to be, and nothing is printed.
 fn is_trapped(
     rt: &(impl Abort + Threads + Sync),
     alloc: Global,
@@ -337,7 +328,7 @@ fn words_by(rt: &impl Abort, alloc: Global, words: &str, workers: u32, band: u32
     format!(in alloc; "page --workers {workers} --band {band} {rest}").expect(rt, "no memory")
 }
 
-// Whether the page is trapped so by that many workers, in bands of so many rows.
+// Whether the page is trapped so by that many workers, in bands of that many rows.
 fn judge_by(
     rt: &(impl Abort + Threads + Sync),
     alloc: Global,

@@ -1,4 +1,4 @@
-use super::{Case, END, HEAD, INKS, Look, SET, TALL_CYAN, TALL_MAGENTA, USUAL, run_by};
+use super::{Case, END, INKS, Look, SET, TALL_CYAN, TALL_MAGENTA, USUAL, run_by};
 use band_claims::Pass;
 use band_workers::Gate;
 use std::sync::atomic::{AtomicU64, Ordering};
@@ -44,7 +44,7 @@ fn pair_gate(turns: u32) -> PairGate {
 fn case_of(words: &str) -> Case<'_> {
     Case {
         words,
-        job: &[HEAD, INKS, SET, "/TrapWidth 5 /SlidingTrapLimit 1", END],
+        job: &[INKS, SET, b"/TrapWidth 5 /SlidingTrapLimit 1", END],
         plates: &[TALL_CYAN, TALL_MAGENTA],
         ..USUAL
     }
@@ -53,10 +53,10 @@ fn case_of(words: &str) -> Case<'_> {
 // The page of one column, trapped as it has to be.
 const WHOLE: Look<'static> = Look::Written(
     &[b"P5\n1 12\n255\n\0\0\0\0\0\0\0\0\0\0\0\xFF", TALL_MAGENTA],
-    "trap report\npage 1 12 255 plates 2\nzone 0 samples 12 changed 5\nedges 1\nplate Cyan changed 5\nplate Magenta changed 0\nend\n",
+    b"trap report\npage 1 12 255 plates 2\nzone 0 samples 12 changed 5\nedges 1\nplate Cyan changed 5\nplate Magenta changed 0\nend\n",
 );
 
-fn met(gate: &PairGate) -> u64 {
+fn meetings(gate: &PairGate) -> u64 {
     gate.met.load(Ordering::SeqCst)
 }
 
@@ -66,7 +66,7 @@ fn two_workers_hold_both_pieces_of_each_pair_at_once(rt: HostRuntime) {
     let case = case_of("page --workers 2 --band 1 job report Cyan:in0:out0 Magenta:in1:out1");
     let is = run_by(&rt, rt.alloc(), case, &gate, WHOLE);
     assert!(rt; is == (0, true));
-    assert!(rt; met(&gate) == 0b1111_1111_1111);
+    assert!(rt; meetings(&gate) == 0b1111_1111_1111);
 }
 
 // The second piece of each pair is claimed when the call for the first one has given up.
@@ -76,5 +76,5 @@ fn one_worker_ends_without_a_meeting(rt: HostRuntime) {
     let case = case_of("page --workers 1 --band 1 job report Cyan:in0:out0 Magenta:in1:out1");
     let is = run_by(&rt, rt.alloc(), case, &gate, WHOLE);
     assert!(rt; is == (0, true));
-    assert!(rt; met(&gate) == 0b1010_1010_1010);
+    assert!(rt; meetings(&gate) == 0b1010_1010_1010);
 }

@@ -3,7 +3,7 @@ ghost use Rattle.std.specs.List.{All};
 ghost use Rattle.page_model.specs.Conditions.{IsPlane};
 ghost use Rattle.page_model.specs.Limits.{most_samples};
 
-use super::{calls_of, has, judge};
+use super::{has, judge, rack_of};
 use lists::list::List;
 use lists::memory::push;
 use outside::mem_rack::MemRack;
@@ -118,7 +118,7 @@ const CALLS: [(u64, Option<Refusal>, [Option<usize>; 3]); 24] = [
     (23, None, [Some(13), Some(15), Some(4)]),
 ];
 
-// The first bytes of a file that stand, so many.
+// The first `count` bytes of a file.
 fn part_of(whole: &str, count: Option<usize>) -> Option<&[u8]> {
     match count {
         Some(count) => whole.as_bytes().get(..count),
@@ -126,7 +126,7 @@ fn part_of(whole: &str, count: Option<usize>) -> Option<&[u8]> {
     }
 }
 
-// Whether the rack holds so many bytes of each file, and has told nothing.
+// Whether the rack has these numbers of bytes of the files, and has printed nothing.
 fn holds_prefixes(rack: &MemRack, counts: &[Option<usize>; 3]) -> bool {
     for ((name, whole), count) in FILES.iter().zip(counts) {
         if !has(rack, name, part_of(whole, *count)) {
@@ -171,7 +171,7 @@ fn is_written(
     counts: &[Option<usize>; 3],
 ) -> bool {
     let planes = two_planes(rt, alloc);
-    let mut rack = MemRack::new(alloc, 4096, room, calls_of(rt, alloc, Some(call)));
+    let mut rack = rack_of(alloc, 4096, room, Some(call)).expect(rt, "no memory");
     ends(&mut rack, planes, wanted, counts)
 }
 

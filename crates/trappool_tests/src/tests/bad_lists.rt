@@ -59,7 +59,7 @@ fn list_ends<H: Threads + Wait + Abort + Sync>(
     ends(rt, alloc, case, &OpenTakes, wanted)
 }
 
-fn told_of(rt: &impl Abort, alloc: Global, line: u32) -> String {
+fn line_of_bad(rt: &impl Abort, alloc: Global, line: u32) -> String {
     format!(in alloc; "list: BadLine {line}\n").expect(rt, "no memory")
 }
 
@@ -69,7 +69,7 @@ fn is_bad_at<H: Threads + Wait + Abort + Sync>(
     list: Pieces<'_>,
     line: u32,
 ) -> bool {
-    let told = told_of(rt, alloc, line);
+    let told = line_of_bad(rt, alloc, line);
     list_ends(rt, alloc, list, 3, told.as_str())
 }
 
@@ -81,12 +81,12 @@ fn the_first_bad_line_is_told(rt: HostRuntime) {
     }
 }
 
-// A line of a broken job, and what is told of it.
+// A line of a broken job, and what is printed for it.
 fn line_of(rt: &impl Abort, alloc: Global, number: u32) -> String {
     format!(in alloc; "broken r{number} Cyan:cyan:a{number}\n").expect(rt, "no memory")
 }
 
-fn broken_of(rt: &impl Abort, alloc: Global, number: u32) -> String {
+fn line_of_broken(rt: &impl Abort, alloc: Global, number: u32) -> String {
     format!(in alloc; "job {number}: job: NoPageDevice at 0\n").expect(rt, "no memory")
 }
 
@@ -94,7 +94,7 @@ fn add(rt: &impl Abort, text: &mut String, line: String) {
     assert!(rt; text.push_str(line.as_str()).is_ok(), "no memory");
 }
 
-// So many lines, each of a broken job.
+// `count` lines, each of a broken job.
 fn lines_of(rt: &impl Abort, alloc: Global, count: u32) -> String {
     let mut list = String::new(alloc);
     for number in 0..count {
@@ -103,16 +103,16 @@ fn lines_of(rt: &impl Abort, alloc: Global, count: u32) -> String {
     list
 }
 
-// What is told of so many broken jobs.
-fn all_broken_of(rt: &impl Abort, alloc: Global, count: u32) -> String {
+// What is printed for `count` broken jobs.
+fn lines_of_broken(rt: &impl Abort, alloc: Global, count: u32) -> String {
     let mut told = String::new(alloc);
     for number in 0..count {
-        add(rt, &mut told, broken_of(rt, alloc, number));
+        add(rt, &mut told, line_of_broken(rt, alloc, number));
     }
     told
 }
 
-// Whether a list of so many broken jobs ends so.
+// Whether a list of `count` broken jobs ends so.
 fn lines_end<H: Threads + Wait + Abort + Sync>(
     rt: &H,
     alloc: Global,
@@ -125,7 +125,7 @@ fn lines_end<H: Threads + Wait + Abort + Sync>(
 }
 
 fn are_told<H: Threads + Wait + Abort + Sync>(rt: &H, alloc: Global, count: u32) -> bool {
-    let told = all_broken_of(rt, alloc, count);
+    let told = lines_of_broken(rt, alloc, count);
     lines_end(rt, alloc, count, 9, told.as_str())
 }
 
@@ -139,13 +139,13 @@ fn a_list_has_256_lines_at_most(rt: HostRuntime) {
 
 const LONG_LINE: &[u8] = b"broken r1 Cyan:cyan:";
 
-// How long a name makes a list of so many bytes.
+// The length of a name with which a list has `bytes` bytes.
 fn name_length(bytes: usize) -> usize {
     let others = ONE.len().saturating_add(LONG_LINE.len()).saturating_add(1);
     bytes.saturating_sub(others)
 }
 
-// Whether a list of so many bytes, whose second line has one long name, is bad there.
+// Whether a list of `bytes` bytes, whose second line has one long name, is bad there.
 fn is_too_long<H: Threads + Wait + Abort + Sync>(rt: &H, alloc: Global, bytes: usize) -> bool {
     let name = b"a"
         .repeat(alloc, name_length(bytes))

@@ -8,8 +8,8 @@ use std::sync::Wait;
 use std::thread::Threads;
 use trap_pool::OpenTakes;
 
-// From which call of the tray on a failed one is told so: each file is begun by a call and read to its end by a last one. The
-// list and each job take one read, each plate eleven for the bytes of its header and one for its samples.
+// From which call of the tray on a failed one prints this line: each file is begun by a call and read to its end by a
+// last one. The list and each job take one read, each plate eleven for the bytes of its header and one for its samples.
 const READS: &[(u64, u8, &str)] = &[
     (0, 5, "read fault: list\n"),
     (3, 9, "job 0: read fault: job\njob 1: done\n"),
@@ -21,7 +21,7 @@ const READS: &[(u64, u8, &str)] = &[
     (65, 0, "job 0: done\njob 1: done\n"),
 ];
 
-// The status and the text told where that call of the tray fails.
+// The status and the text printed where that call of the tray fails.
 fn end_at(call: u64) -> (u8, &'static str) {
     let mut end = (0, "");
     for (first, status, told) in READS {
@@ -54,7 +54,7 @@ fn each_read_fails_in_turn(rt: HostRuntime) {
 }
 
 // How a run ends as the calls of the rack fail one after another: files before the failed one are whole, and no later file of
-// its line is there; after a line that could not be told, be it in part, no file is.
+// its line is there; after a line that could not be printed, be it in part, no file is.
 const WRITES: &[Wanted<'static>] = &[
     Wanted {
         status: 9,

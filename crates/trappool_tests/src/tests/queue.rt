@@ -57,7 +57,11 @@ fn sum_of(rooms: &[Room<u64>]) -> u64 {
 }
 
 // How many of two lines were pushed, and the sum of what two workers made of them.
-fn served<H: Threads + Wait + Abort + Sync>(rt: &H, alloc: Global, work: &Meeting) -> (usize, u64) {
+fn serve_two<H: Threads + Wait + Abort + Sync>(
+    rt: &H,
+    alloc: Global,
+    work: &Meeting,
+) -> (usize, u64) {
     let rooms = rooms_of::<u64>(alloc, 2, 4).expect(rt, "no memory");
     let (queue, mut pass) = open_queue(alloc, 4).expect(rt, "no memory");
     let pushed = push_lines(rt, &queue, &mut pass, &[6, 7]);
@@ -68,7 +72,7 @@ fn served<H: Threads + Wait + Abort + Sync>(rt: &H, alloc: Global, work: &Meetin
 #[test]
 fn two_workers_meet(rt: HostRuntime) {
     let work = new_meeting();
-    let is_made = served(&rt, rt.alloc(), &work) == (2, 85);
+    let is_made = serve_two(&rt, rt.alloc(), &work) == (2, 85);
     judge(&rt, is_made && has_met(&work), "workers", 2);
 }
 

@@ -5,7 +5,7 @@ use std::sync::Wait;
 use std::thread::Threads;
 use trap_pool::OpenTakes;
 
-// The kinds of lines: their job, both plates without the number of their output, and what is told.
+// The kinds of lines: their job, both plates without the number of their output, and what is printed.
 type Kind = (&'static str, &'static str, &'static str, &'static str);
 
 const KINDS: &[Kind] = &[
@@ -49,13 +49,13 @@ const KINDS: &[Kind] = &[
     ),
 ];
 
-// The line of a list, and the line that is told of it.
-fn listed(rt: &impl Abort, alloc: Global, number: usize) -> String {
+// The line of a list, and the line that is printed for it.
+fn list_line(rt: &impl Abort, alloc: Global, number: usize) -> String {
     let (job, cyan, magenta, _) = KINDS[number % 8];
     format!(in alloc; "{job} r{number} {cyan}{number} {magenta}{number}\n").expect(rt, "no memory")
 }
 
-fn told(rt: &impl Abort, alloc: Global, number: usize) -> String {
+fn printed_line(rt: &impl Abort, alloc: Global, number: usize) -> String {
     let (_, _, _, text) = KINDS[number % 8];
     format!(in alloc; "job {number}: {text}\n").expect(rt, "no memory")
 }
@@ -67,15 +67,15 @@ fn add(rt: &impl Abort, text: &mut String, line: String) {
 fn list_of(rt: &impl Abort, alloc: Global, count: usize) -> String {
     let mut list = String::new(alloc);
     for number in 0..count {
-        add(rt, &mut list, listed(rt, alloc, number));
+        add(rt, &mut list, list_line(rt, alloc, number));
     }
     list
 }
 
-fn told_of(rt: &impl Abort, alloc: Global, count: usize) -> String {
+fn printed_lines(rt: &impl Abort, alloc: Global, count: usize) -> String {
     let mut text = String::new(alloc);
     for number in 0..count {
-        add(rt, &mut text, told(rt, alloc, number));
+        add(rt, &mut text, printed_line(rt, alloc, number));
     }
     text
 }
@@ -102,7 +102,7 @@ fn forty_tell<H: Threads + Wait + Abort + Sync>(
 }
 
 fn forty_end<H: Threads + Wait + Abort + Sync>(rt: &H, alloc: Global, words: &str) -> bool {
-    let told = told_of(rt, alloc, 40);
+    let told = printed_lines(rt, alloc, 40);
     forty_tell(rt, alloc, words, told.as_str())
 }
 

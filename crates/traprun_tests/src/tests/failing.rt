@@ -51,7 +51,7 @@ fn whole(count: usize) -> &'static [&'static [u8]] {
     FILES.get(..count).unwrap_or(FILES)
 }
 
-// Whether so many files stand whole, and of the next one a prefix of its bytes or nothing, and no more.
+// Whether `count` files are whole, and of the next one there is a prefix or nothing, and no more.
 pub(super) fn holds_prefix(rack: &MemRack, count: usize) -> bool {
     for (place, name) in WRITTEN.iter().enumerate() {
         let wanted = FILES.get(place).copied();

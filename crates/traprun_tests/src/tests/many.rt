@@ -24,7 +24,7 @@ const PAGES: &[(&str, Option<&[u8]>)] = &[
 
 const NO_PAGES: &[(&str, Option<&[u8]>)] = &[("out0.0", None), ("report.0", None)];
 
-// A job's piece, how often it stands after the first page, the status, what is told, and files.
+// A job's piece, how often it stands after the first page, the status, what is printed, and files.
 type Job = (
     &'static [u8],
     usize,
@@ -33,8 +33,8 @@ type Job = (
     &'static [(&'static str, Option<&'static [u8]>)],
 );
 
-// How a job ends that has one of these pieces so many times after its first page, and which files stand then. The last ones are
-// as long as a job may be, and a byte longer.
+// How a job ends that repeats one of these pieces after its first page, and which files stand there then. The last ones
+// are as long as a job may be, and a byte longer.
 const JOBS: &[Job] = &[
     (SHOW, 255, 0, "", PAGES),
     (SHOW, 256, 3, "run: TooManyPages at 2339\n", NO_PAGES),

@@ -59,7 +59,7 @@ fn count_of(alloc: Global, job: &[u8]) -> Option<u32> {
     page_count(alloc, job).ok()
 }
 
-// Whether the job of these pieces has so many pages, and that page of it says this.
+// Whether the job of these pieces has that number of pages, and that page of it says this.
 fn says(
     rt: &impl Abort,
     alloc: Global,

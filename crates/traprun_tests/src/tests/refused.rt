@@ -11,7 +11,7 @@ const ALL_MAGENTA: Pieces<'static> = &[MAGENTA, MAGENTA, MAGENTA];
 // A job of three pages.
 const THREE: Pieces<'static> = &[DISABLED, SHOW, SHOW];
 
-// Jobs that are refused over these images, what is told, and how many pages were written whole before.
+// Jobs that are refused over these images, what is printed, and how many pages were written whole before.
 const JOBS: &[(Pieces<'static>, &str, usize)] = &[
     (
         &[b"5 showpage", SHOW],
@@ -179,7 +179,7 @@ const FILES: &[&[u8]] = &[
     UNTRAPPED_REPORT,
 ];
 
-// Those of the first so many pages.
+// The files of the first `pages` pages.
 fn whole(pages: usize) -> &'static [&'static [u8]] {
     FILES.get(..pages.saturating_mul(3)).unwrap_or(FILES)
 }

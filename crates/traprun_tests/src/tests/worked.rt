@@ -9,7 +9,7 @@ use std::thread::Threads;
 // The pieces of a run's job, and those of both plates' files.
 type Files = &'static [Pieces<'static>];
 
-// How a run ends: its status, what is told, and the files of all pages in their order.
+// How a run ends: its status, what is printed, and the files of all pages in their order.
 #[derive(Clone, Copy)]
 struct Wanted {
     status: u8,

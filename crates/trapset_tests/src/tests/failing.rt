@@ -11,8 +11,9 @@ const PATCHED: &[Option<&[u8]>] = &[None, Some(TRAPPED_CYAN), Some(TRAPPED_MAGEN
 
 const MADE: &[Option<&[u8]>] = &[Some(b"trap set\npage 6 1 255 plates 2\nend\n"), None, None];
 
-// From which call of the tray on a failed one is told so: each file is begun by a call and read to its end by a last one. The
-// job takes one read of a grain, each plate eleven for the bytes of its header and one for its samples, the set one.
+// From which call of the tray on a failed one prints this line: each file is begun by a call and read to its end by a
+// last one. The job takes one read of a grain, each plate eleven for the bytes of its header and one for its samples,
+// the set one.
 const READS: &[(&str, &[(u64, &str)], u64, &[Option<&[u8]>])] = &[
     (
         TRAPS,
@@ -36,7 +37,7 @@ const READS: &[(&str, &[(u64, &str)], u64, &[Option<&[u8]>])] = &[
     ),
 ];
 
-// What is told where that call of the tray fails.
+// What is printed where that call of the tray fails.
 fn line_at<'a>(lines: &[(u64, &'a str)], call: u64) -> &'a str {
     let mut line = "";
     for (first, later) in lines {
@@ -56,7 +57,7 @@ fn with_calls(words: &str, tray_fails: Option<u64>, rack_fails: Option<u64>) -> 
     }
 }
 
-// Whether a run in which that call of the tray fails tells the line of that call; the last one is never made.
+// Whether a run in which that call of the tray fails prints the line of that call; the last one is never made.
 fn ends_at_read(
     rt: &impl Abort,
     alloc: Global,
@@ -111,7 +112,7 @@ pub(super) fn is_broken(rack: &MemRack, files: &[Option<&[u8]>], lines: &[&str])
     is_later
 }
 
-// The words, what is written, and what is told of each file of WRITTEN that breaks.
+// The words, what is written, and what is printed for each file of WRITTEN that breaks.
 const WRITES: &[(&str, &[Option<&[u8]>], &[&str])] = &[
     (TRAPS, MADE, &["write fault: set\n", "", ""]),
     (
@@ -162,7 +163,7 @@ fn each_write_fails_in_turn(rt: HostRuntime) {
     }
 }
 
-// The runs whose line cannot be told, and their statuses.
+// The runs whose line can't be printed, and their statuses.
 const UNTOLD: &[(&str, u8)] = &[
     ("apply set", 2),
     ("traps in0 set Cyan:in0", 3),

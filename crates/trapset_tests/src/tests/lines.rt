@@ -217,7 +217,7 @@ fn the_first_bad_line_is_told(rt: HostRuntime) {
 }
 
 // How many lines end in the text.
-fn ended(text: &[u8]) -> u32 {
+fn line_count(text: &[u8]) -> u32 {
     let mut count = 0u32;
     for byte in text {
         if *byte == b'\n' {
@@ -229,7 +229,7 @@ fn ended(text: &[u8]) -> u32 {
 
 fn is_bad_where_cut(rt: &impl Abort, alloc: Global, count: usize) -> bool {
     let prefix = SET.get(..count).unwrap_or(SET);
-    is_bad_at(rt, alloc, &[prefix], ended(prefix).saturating_add(1))
+    is_bad_at(rt, alloc, &[prefix], line_count(prefix).saturating_add(1))
 }
 
 // A line that is cut is bad, and so is one that is missing.
@@ -241,7 +241,7 @@ fn a_set_that_is_cut_lacks_a_line(rt: HostRuntime) {
     }
 }
 
-// Whether a third line of so many bytes is bad.
+// Whether a third line of `count` bytes is bad.
 fn is_long_line_bad(rt: &impl Abort, alloc: Global, count: usize) -> bool {
     let zeros = b"0"
         .repeat(alloc, count.saturating_sub(1))

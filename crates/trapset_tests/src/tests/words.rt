@@ -59,7 +59,7 @@ fn other_words_are_answered_by_the_usage(rt: HostRuntime) {
     }
 }
 
-// Words of files that are not there, and what is told of the first of them.
+// Words of files that are not there, and what is printed for the first of them.
 const MISSING: &[(&str, &str)] = &[
     ("traps none set Cyan:in0", "read fault: job\n"),
     ("traps  set Cyan:in0", "read fault: job\n"),

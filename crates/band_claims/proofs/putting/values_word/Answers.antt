@@ -13,11 +13,11 @@ part_of-requires g c = let cut = c.cut_of-cut.ensures in omega (arith, cut.insid
 pub pack-requires-clause-small : goal.pack-requires-clause-small
 pack-requires-clause-small g c k d l =
     let cut = c.cut_of-cut.ensures in let made = c.cut_of-cut.result in let all : List ℕ = g.V.CellValue.numbers c.args.values.now in let here : List ℕ = g.V.CellValue.numbers c.part_of.result.now in
-    let are : AreCellValues c.args.sheet.now c.args.piece c.args.o c.args.phase made.first made.count all here = record { piece = c.requires.piece; cell = c.requires.cell; cut = cut; all = c.requires.values; long = as_many g.met.V.CellValue.each c.part_of.result.now ∙ c.part_of.ensures.len; each = (λ q m. c.part_of.ensures.each q (omega (arith, m, as_many g.met.V.CellValue.each c.part_of.result.now, c.part_of.ensures.len))) } in
-    small c.args.sheet.now c.requires.fit c.args.piece c.args.o c.args.phase made.first made.count c.bits.result all here are c.bits.ensures.value k d l
+    let are : AreCellValues c.args.table_key.now c.args.piece c.args.o c.args.phase made.first made.count all here = record { piece = c.requires.piece; cell = c.requires.cell; cut = cut; all = c.requires.values; long = as_many g.met.V.CellValue.each c.part_of.result.now ∙ c.part_of.ensures.len; each = (λ q m. c.part_of.ensures.each q (omega (arith, m, as_many g.met.V.CellValue.each c.part_of.result.now, c.part_of.ensures.len))) } in
+    small c.args.table_key.now c.requires.fit c.args.piece c.args.o c.args.phase made.first made.count c.bits.result all here are c.bits.ensures.value k d l
 
 pub returns : goal.returns
 returns g c =
     let cut = c.cut_of-cut.ensures in let made = c.cut_of-cut.result in let all : List ℕ = g.V.CellValue.numbers c.args.values.now in let here : List ℕ = g.V.CellValue.numbers c.part_of.result.now in
-    let are : AreCellValues c.args.sheet.now c.args.piece c.args.o c.args.phase made.first made.count all here = record { piece = c.requires.piece; cell = c.requires.cell; cut = cut; all = c.requires.values; long = as_many g.met.V.CellValue.each c.part_of.result.now ∙ c.part_of.ensures.len; each = (λ q m. c.part_of.ensures.each q (omega (arith, m, as_many g.met.V.CellValue.each c.part_of.result.now, c.part_of.ensures.len))) } in
-    c.pack.ensures ∙ packs c.args.sheet.now c.args.piece c.args.o c.args.phase made.first made.count c.bits.result all here are c.bits.ensures.value
+    let are : AreCellValues c.args.table_key.now c.args.piece c.args.o c.args.phase made.first made.count all here = record { piece = c.requires.piece; cell = c.requires.cell; cut = cut; all = c.requires.values; long = as_many g.met.V.CellValue.each c.part_of.result.now ∙ c.part_of.ensures.len; each = (λ q m. c.part_of.ensures.each q (omega (arith, m, as_many g.met.V.CellValue.each c.part_of.result.now, c.part_of.ensures.len))) } in
+    c.pack.ensures ∙ packs c.args.table_key.now c.args.piece c.args.o c.args.phase made.first made.count c.bits.result all here are c.bits.ensures.value

@@ -5,29 +5,29 @@ use Rattle.page_model.specs.Bands.{AreBands, pieces_of}
 use Rattle.std.specs.Prelude.{◌==◌}
 use Rattle.band_claims.specs.Rule.{piece_word}
 use Rattle.band_claims.specs.Views.{one_if}
-use Rattle.band_claims.specs.declared.sheet.Sheet.{Sheet}
+use Rattle.band_claims.specs.declared.table_key.TableKey.{TableKey}
 use Rattle.band_pieces.specs.Room.{Memory}
 use Rattle.band_pieces.proofs.Finishing.{alone_once, cells_all, finished_more, finished_none}
 use Rattle.band_pieces.proofs.alone.finish_alone.Goals as goal
 
 pub pieces-count-requires : goal.pieces-count-requires
-pieces-count-requires c = record { bands = subst AreBands (sym c.bands.ensures) c.sheet-whole.ensures.fits.made.bands }
+pieces-count-requires c = record { bands = subst AreBands (sym c.bands.ensures) c.table_key-whole.ensures.fits.made.bands }
 
 pub loop-piece-init : goal.loop-piece-init
 loop-piece-init c = record {
   end = c.pieces-count.ensures.value ∙ ap pieces_of c.bands.ensures;
   scratch = refl;
-  closed = finished_none c.args.closed.now c.sheet-whole.ensures.fits c.requires.words c.requires.sound c.requires.alone;
+  closed = finished_none c.args.closed.now c.table_key-whole.ensures.fits c.requires.words c.requires.sound c.requires.alone;
 }
 
 pub finish_piece-requires-clause-page : goal.finish_piece-requires-clause-page
-finish_piece-requires-clause-page c = let e = c.loop-piece.invariant.closed.sheet in subst (λ (z : Sheet). c.args.page.now ≡ z.page.value) (sym e) c.requires.page
+finish_piece-requires-clause-page c = let e = c.loop-piece.invariant.closed.table_key in subst (λ (z : TableKey). c.args.page.now ≡ z.page.value) (sym e) c.requires.page
 
 pub finish_piece-requires-clause-scratch : goal.finish_piece-requires-clause-scratch
-finish_piece-requires-clause-scratch c = let e = c.loop-piece.invariant.closed.sheet in ap (λ (s : Memory). s.layout) c.loop-piece.invariant.scratch ∙ (c.requires.scratch ∙ ap (λ z. z.layout) (sym e))
+finish_piece-requires-clause-scratch c = let e = c.loop-piece.invariant.closed.table_key in ap (λ (s : Memory). s.layout) c.loop-piece.invariant.scratch ∙ (c.requires.scratch ∙ ap (λ z. z.layout) (sym e))
 
 pub finish_piece-requires-clause-piece : goal.finish_piece-requires-clause-piece
-finish_piece-requires-clause-piece c = let e = c.loop-piece.invariant.closed.sheet in subst (λ (z : Sheet). c.loop-piece.piece < pieces_of z.layout.bands) (sym e) (omega (arith, c.loop-piece-test.true, c.loop-piece.invariant.end))
+finish_piece-requires-clause-piece c = let e = c.loop-piece.invariant.closed.table_key in subst (λ (z : TableKey). c.loop-piece.piece < pieces_of z.layout.bands) (sym e) (omega (arith, c.loop-piece-test.true, c.loop-piece.invariant.end))
 
 pub finish_piece-requires-clause-earlier : goal.finish_piece-requires-clause-earlier
 finish_piece-requires-clause-earlier c = c.loop-piece.invariant.closed.done
@@ -42,16 +42,16 @@ loop-piece-preserved c = record {
   closed = finished_more c.args.closed.now c.loop-piece.closed c.finish_piece.new.closed c.loop-piece.piece (omega (arith, c.loop-piece-test.true, c.loop-piece.invariant.end)) c.loop-piece.invariant.closed c.finish_piece.ensures.finished;
 }
 
-pub returns-clause-sheet : goal.returns-clause-sheet
-returns-clause-sheet c = c.loop-piece.invariant.closed.sheet
+pub returns-clause-table_key : goal.returns-clause-table_key
+returns-clause-table_key c = c.loop-piece.invariant.closed.table_key
 
 pub returns-clause-done : goal.returns-clause-done
 returns-clause-done c i l =
-    let e = c.loop-piece.invariant.closed.sheet in
-    c.loop-piece.invariant.closed.done i (omega (arith, l, ap (λ (z : Sheet). pieces_of z.layout.bands) e, c.loop-piece-test.false, c.loop-piece.invariant.end))
+    let e = c.loop-piece.invariant.closed.table_key in
+    c.loop-piece.invariant.closed.done i (omega (arith, l, ap (λ (z : TableKey). pieces_of z.layout.bands) e, c.loop-piece-test.false, c.loop-piece.invariant.end))
 
 pub returns-clause-cells : goal.returns-clause-cells
-returns-clause-cells c = cells_all c.args.closed.now c.loop-piece.closed c.loop-piece.piece c.sheet-whole.ensures.fits (omega (arith, c.loop-piece-test.false, c.loop-piece.invariant.end)) c.loop-piece.invariant.closed
+returns-clause-cells c = cells_all c.args.closed.now c.loop-piece.closed c.loop-piece.piece c.table_key-whole.ensures.fits (omega (arith, c.loop-piece-test.false, c.loop-piece.invariant.end)) c.loop-piece.invariant.closed
 
 pub returns-clause-once : goal.returns-clause-once
 returns-clause-once c i = alone_once c.args.closed.now c.loop-piece.closed c.loop-piece.piece i c.requires.published c.requires.once c.loop-piece.invariant.closed

@@ -7,7 +7,7 @@ use Rattle.band_pieces.proofs.alone.finish_alone.Given as goal
 
 abbrev pub invariant-loop-piece : goal.invariant-loop-piece
 invariant-loop-piece l = record {
-  end : l.count ≡ pieces_of l.initial.closed.sheet.layout.bands;
+  end : l.count ≡ pieces_of l.initial.closed.table_key.layout.bands;
   scratch : l.scratch ≡ l.initial.scratch;
   closed : FinishesTo l.initial.closed l.closed l.piece;
 }

@@ -6,7 +6,7 @@ use Rattle.row_values.specs.declared.rows.Rows.{Rows}
 use Rattle.row_cells.specs.Places.{per_row}
 use Rattle.band_core.specs.Values.{row_value}
 use Rattle.row_values.specs.Rows.{HoldsRows}
-use Rattle.band_claims.specs.declared.sheet.Sheet.{Sheet}
+use Rattle.band_claims.specs.declared.table_key.TableKey.{TableKey}
 use Rattle.band_pieces.specs.Spans.{rows_of_piece}
 use Rattle.std.proofs.Common.{refl}
 use Rattle.row_cells.specs.Layouts.{Layout}
@@ -17,7 +17,7 @@ use Rattle.band_pieces.proofs.fills.fill_marks.Goals as goal
 
 pub read_rows-requires-clause-known : goal.read_rows-requires-clause-known
 read_rows-requires-clause-known g c y from below =
-    let layout = c.args.layout.now in let i : ℕ = c.args.piece in let key : Sheet = g.C.CellSource.sheet c.args.table.now c.args.seat.now in
+    let layout = c.args.layout.now in let i : ℕ = c.args.piece in let key : TableKey = g.C.CellSource.table_key c.args.table.now c.args.seat.now in
     let rows : c.rows_of-rows.result ≡ rows_of_piece layout.bands i = c.rows_of-rows.ensures.value ∙ ap (λ (z : Bands). rows_of_piece z i) c.bands.ensures.value in
     let tall = ap (λ (z : Bands). z.rows) c.bands-2.ensures.value in let low = ap (λ (z : Bands). z.height) c.bands.ensures.value in
     let held = c.rows_below-held.ensures in let first = ap (λ (z : Rows). z.first) rows in
@@ -29,7 +29,7 @@ make_marks-requires-clause-zones g c =
 
 pub put_values-requires-clause-values : goal.put_values-requires-clause-values
 put_values-requires-clause-values g c =
-    let layout = c.args.layout.now in let i : ℕ = c.args.piece in let key : Sheet = g.C.CellSource.sheet c.args.table.now c.args.seat.now in
+    let layout = c.args.layout.now in let i : ℕ = c.args.piece in let key : TableKey = g.C.CellSource.table_key c.args.table.now c.args.seat.now in
     let rows : c.rows_of-rows.result ≡ rows_of_piece layout.bands i = c.rows_of-rows.ensures.value ∙ ap (λ (z : Bands). rows_of_piece z i) c.bands.ensures.value in
     rw c.read_rows.ensures.seat (made_values key c.args.page.now layout i c.rows_of-rows.result c.make_marks.new.out c.requires.layout c.requires.page rows (marks_to c.args.page.now layout _ c.rows_of-rows.result c.make_marks.new.out c.requires.lies.wide c.requires.phase c.make_marks.ensures.marks))
 

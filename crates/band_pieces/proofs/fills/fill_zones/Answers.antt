@@ -1,13 +1,13 @@
 -- fill_zones: the zones of a band, from the page alone.
 use Rattle.std.proofs.Common.{◌≡◌, ℕ, ap, ◌∙◌}
 use Rattle.page_model.specs.declared.bands.Bands.{Bands}
-use Rattle.band_claims.specs.declared.sheet.Sheet.{Sheet}
+use Rattle.band_claims.specs.declared.table_key.TableKey.{TableKey}
 use Rattle.band_pieces.specs.Spans.{rows_of_piece}
 use Rattle.band_pieces.proofs.Held.{made_values, zones_to}
 use Rattle.band_pieces.proofs.fills.fill_zones.Goals as goal
 
 pub put_values-requires-clause-values : goal.put_values-requires-clause-values
 put_values-requires-clause-values g c =
-    let layout = c.args.layout.now in let i : ℕ = c.args.piece in let key : Sheet = g.C.CellSource.sheet c.args.table.now c.args.seat.now in
+    let layout = c.args.layout.now in let i : ℕ = c.args.piece in let key : TableKey = g.C.CellSource.table_key c.args.table.now c.args.seat.now in
     let rows : c.rows_of-rows.result ≡ rows_of_piece layout.bands i = c.rows_of-rows.ensures.value ∙ ap (λ (z : Bands). rows_of_piece z i) c.bands.ensures.value in
     made_values key c.args.page.now layout i c.rows_of-rows.result c.make_zones.new.out c.requires.layout c.requires.page rows (zones_to c.args.page.now layout _ c.rows_of-rows.result c.make_zones.new.out c.requires.lies.wide c.requires.phase c.make_zones.ensures.zones)

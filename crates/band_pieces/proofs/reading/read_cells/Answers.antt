@@ -1,7 +1,7 @@
 -- read_cells: unpacks all values of whole cells.
 use Rattle.std.proofs.Common.{◌≡◌, ℕ, ◌+◌, ◌*◌, ◌≤◌, sym, ap, ◌∙◌, subst, arith}
 use Rattle.band_core.specs.Values.{value}
-use Rattle.band_claims.specs.declared.sheet.Sheet.{Sheet}
+use Rattle.band_claims.specs.declared.table_key.TableKey.{TableKey}
 use Rattle.page_model.specs.Bands.{phase_of}
 use Rattle.row_cells.specs.Layouts.{IsLayout, Layout}
 use Rattle.row_cells.specs.Places.{lanes_of, value_total}
@@ -42,10 +42,10 @@ read_part-requires-clause-out g c =
 pub loop-o-preserved : goal.loop-o-preserved
 loop-o-preserved g c =
     let layout = c.args.layout.now in let cells = c.args.cells in let v = c.loop-o.invariant in let n : ℕ = g.row.LANES in let o : ℕ = c.loop-o.o in
-    let key : Sheet = g.C.CellSource.sheet c.args.source.now c.args.seat.now in let m : ℕ = lanes_of (phase_of layout.bands cells.piece) in
+    let key : TableKey = g.C.CellSource.table_key c.args.source.now c.args.seat.now in let m : ℕ = lanes_of (phase_of layout.bands cells.piece) in
     let next : (o + 1) * n ≡ o * n + n = grind arith in
     let more = values_more cells.place (o * n) n (g.V.CellValue.numbers c.loop-o.out) (g.V.CellValue.numbers c.read_part.new.out) (λ j. value key.page.value layout cells.piece (cells.cell * n + j)) c.read_part.ensures.kept
-    (λ j l. c.read_part.ensures.here j l ∙ (λ i. value (g.C.CellSource.sheet c.args.source.now (v.seat i)).page.value layout cells.piece ((cells.cell + o) * m + 0 + j)) ∙ ap (λ (z : ℕ). value key.page.value layout cells.piece z) (place_of cells.cell o n m j c.requires.lanes)) v.here in
+    (λ j l. c.read_part.ensures.here j l ∙ (λ i. value (g.C.CellSource.table_key c.args.source.now (v.seat i)).page.value layout cells.piece ((cells.cell + o) * m + 0 + j)) ∙ ap (λ (z : ℕ). value key.page.value layout cells.piece z) (place_of cells.cell o n m j c.requires.lanes)) v.here in
     record {
       seat = c.read_part.ensures.seat ∙ v.seat;
       long = c.read_part.ensures.len ∙ v.long;

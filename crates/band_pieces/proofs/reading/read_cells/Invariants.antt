@@ -7,6 +7,6 @@ abbrev pub invariant-loop-o : goal.invariant-loop-o
 invariant-loop-o g l = record {
   seat : l.seat ≡ l.initial.seat;
   long : length l.out ≡ length l.initial.out;
-  here : (j : ℕ) → j < l.o * g.row.LANES → slice_index (g.V.CellValue.numbers l.out) (l.cells.place + j) ≡ value (g.C.CellSource.sheet l.source l.initial.seat).page.value l.layout l.cells.piece (l.cells.cell * g.row.LANES + j);
+  here : (j : ℕ) → j < l.o * g.row.LANES → slice_index (g.V.CellValue.numbers l.out) (l.cells.place + j) ≡ value (g.C.CellSource.table_key l.source l.initial.seat).page.value l.layout l.cells.piece (l.cells.cell * g.row.LANES + j);
   kept : (k : ℕ) → k < l.cells.place → slice_index (g.V.CellValue.numbers l.out) k ≡ slice_index (g.V.CellValue.numbers l.initial.out) k;
 }

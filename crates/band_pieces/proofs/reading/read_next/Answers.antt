@@ -5,7 +5,7 @@ use Rattle.page_model.specs.Bands.{phase_of}
 use Rattle.row_cells.specs.Places.{lanes_of, value_total}
 use Rattle.band_core.specs.Values.{value}
 use Rattle.band_claims.proofs.Cutting.{few_values}
-use Rattle.band_claims.specs.declared.sheet.Sheet.{Sheet}
+use Rattle.band_claims.specs.declared.table_key.TableKey.{TableKey}
 use Rattle.band_pieces.proofs.Runs.{begins_at, whole_cells}
 use Rattle.band_pieces.proofs.reading.read_next.Goals as goal
 
@@ -24,7 +24,7 @@ overflow_cast-cells g c =
 pub returns-then-whole-gt0-clause-here : goal.returns-then-whole-gt0-clause-here
 returns-then-whole-gt0-clause-here g c j l =
     let run = c.args.run in let layout = c.args.layout.now in let n : ℕ = c.lanes-lanes.result in let same = c.lanes-lanes.ensures.value in
-    let key : Sheet = g.C.CellSource.sheet c.args.source.now c.args.seat.now in
+    let key : TableKey = g.C.CellSource.table_key c.args.source.now c.args.seat.now in
     let w = whole_cells run.from run.count n (value_total layout run.piece) c.lanes-lanes.ensures.some c.if-lane-eq0.true c.requires.inside in
     c.read_whole.ensures.here j (omega (arith, l, ap (λ (z : ℕ). run.count / n * z) same))
     ∙ ap (λ (z : ℕ). value key.page.value layout run.piece z) (omega (arith, w.begins, ap (λ (z : ℕ). run.from / n * z) same))
@@ -32,6 +32,6 @@ returns-then-whole-gt0-clause-here g c j l =
 pub returns-clause-here : goal.returns-clause-here
 returns-clause-here g c j l =
     let run = c.args.run in let layout = c.args.layout.now in let n : ℕ = c.lanes-lanes.result in
-    let key : Sheet = g.C.CellSource.sheet c.args.source.now c.args.seat.now in
+    let key : TableKey = g.C.CellSource.table_key c.args.source.now c.args.seat.now in
     let same : n ≡ lanes_of (phase_of layout.bands run.piece) = c.lanes-lanes.ensures.value ∙ ap (λ (z : Bands). lanes_of (phase_of z run.piece)) c.bands.ensures.value in
     c.read_part.ensures.here j l ∙ ap (λ (z : ℕ). value key.page.value layout run.piece z) (omega (arith, begins_at run.from n c.lanes-lanes.ensures.some, ap (λ (z : ℕ). run.from / n * z) same))

@@ -8,7 +8,7 @@ invariant-loop-done g l = record {
   seat : l.seat ≡ l.initial.seat;
   long : length l.out ≡ length l.initial.out;
   within : l.done ≤ l.run.count;
-  here : (j : ℕ) → j < l.done → slice_index (g.V.CellValue.numbers l.out) (l.run.place + j) ≡ value (g.C.CellSource.sheet l.source l.initial.seat).page.value l.layout l.run.piece (l.run.from + j);
+  here : (j : ℕ) → j < l.done → slice_index (g.V.CellValue.numbers l.out) (l.run.place + j) ≡ value (g.C.CellSource.table_key l.source l.initial.seat).page.value l.layout l.run.piece (l.run.from + j);
   kept : (k : ℕ) → k < l.run.place → slice_index (g.V.CellValue.numbers l.out) k ≡ slice_index (g.V.CellValue.numbers l.initial.out) k;
 }
 

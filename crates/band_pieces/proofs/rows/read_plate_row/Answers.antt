@@ -3,13 +3,13 @@ use Rattle.std.proofs.Common.{◌≡◌, ℕ, ◌+◌, ◌*◌, ◌/◌, ◌%◌
 use Rattle.std.specs.Prelude.{slice_index}
 use Rattle.page_model.specs.Bands.{band_of_row, piece_of}
 use Rattle.band_core.specs.Values.{value}
-use Rattle.band_claims.specs.declared.sheet.Sheet.{Sheet}
+use Rattle.band_claims.specs.declared.table_key.TableKey.{TableKey}
 use Rattle.band_pieces.proofs.RowPieces.{Row, plate_ends, plate_inside, row_band, row_values_are}
 use Rattle.band_pieces.proofs.rows.read_plate_row.Goals as goal
 
 pub piece-number-requires-clause-band : goal.piece-number-requires-clause-band
 piece-number-requires-clause-band g c =
-    let layout = c.args.layout.now in let key : Sheet = g.C.CellSource.sheet c.args.source.now c.args.seat.now in
+    let layout = c.args.layout.now in let key : TableKey = g.C.CellSource.table_key c.args.source.now c.args.seat.now in
     let r : Row key layout 3 c.args.y = record { same = c.requires.layout; fit = c.requires.fit; inside = c.requires.row } in
     rw c.bands-bands.ensures.value (row_band key layout 3 c.args.y r)
 
@@ -25,7 +25,7 @@ read_values-requires-clause-known g c =
 
 pub read_values-requires-clause-inside : goal.read_values-requires-clause-inside
 read_values-requires-clause-inside g c =
-    let layout = c.args.layout.now in let y : ℕ = c.args.y in let key : Sheet = g.C.CellSource.sheet c.args.source.now c.args.seat.now in
+    let layout = c.args.layout.now in let y : ℕ = c.args.y in let key : TableKey = g.C.CellSource.table_key c.args.source.now c.args.seat.now in
     let r : Row key layout 3 y = record { same = c.requires.layout; fit = c.requires.fit; inside = c.requires.row } in
     let b = c.bands-bands.ensures.value in
     let n : c.piece-number.result ≡ piece_of layout.bands 3 (band_of_row layout.bands y) = c.piece-number.ensures.value ∙ (λ i. piece_of (b i) 3 (y / (b i).height)) in
@@ -35,7 +35,7 @@ read_values-requires-clause-inside g c =
 
 pub returns-clause-here : goal.returns-clause-here
 returns-clause-here g c x l =
-    let layout = c.args.layout.now in let y : ℕ = c.args.y in let key : Sheet = g.C.CellSource.sheet c.args.source.now c.args.seat.now in
+    let layout = c.args.layout.now in let y : ℕ = c.args.y in let key : TableKey = g.C.CellSource.table_key c.args.source.now c.args.seat.now in
     let r : Row key layout 3 y = record { same = c.requires.layout; fit = c.requires.fit; inside = c.requires.row } in
     let b = c.bands-bands.ensures.value in
     let n : c.piece-number.result ≡ piece_of layout.bands 3 (band_of_row layout.bands y) = c.piece-number.ensures.value ∙ (λ i. piece_of (b i) 3 (y / (b i).height)) in

@@ -5,13 +5,13 @@ use Rattle.page_model.specs.Bands.{band_of_row, phase_of, piece_of}
 use Rattle.page_model.proofs.BandLemmas.{phase_of_piece}
 use Rattle.row_cells.specs.Places.{bits_of}
 use Rattle.band_core.specs.Values.{value}
-use Rattle.band_claims.specs.declared.sheet.Sheet.{Sheet}
+use Rattle.band_claims.specs.declared.table_key.TableKey.{TableKey}
 use Rattle.band_pieces.proofs.RowPieces.{Row, row_band, row_ends, row_values_are, some_per_row}
 use Rattle.band_pieces.proofs.rows.read_row.Goals as goal
 
 pub piece-number-requires-clause-band : goal.piece-number-requires-clause-band
 piece-number-requires-clause-band g c =
-    let layout = c.args.layout.now in let y : ℕ = c.args.rows.first + c.args.k in let key : Sheet = g.C.CellSource.sheet c.args.source.now c.args.seat.now in
+    let layout = c.args.layout.now in let y : ℕ = c.args.rows.first + c.args.k in let key : TableKey = g.C.CellSource.table_key c.args.source.now c.args.seat.now in
     let r : Row key layout c.args.phase y = record { same = c.requires.layout; fit = c.requires.fit; inside = omega (arith, c.requires.row, c.requires.inside) } in
     rw c.bands-bands.ensures.value (row_band key layout c.args.phase y r)
 
@@ -20,7 +20,7 @@ read_values-requires-clause-piece g c = rw (sym c.bands-bands.ensures.value) c.p
 
 pub read_values-requires-clause-fits : goal.read_values-requires-clause-fits
 read_values-requires-clause-fits g c =
-    let layout = c.args.layout.now in let phase : ℕ = c.args.phase in let y : ℕ = c.args.rows.first + c.args.k in let key : Sheet = g.C.CellSource.sheet c.args.source.now c.args.seat.now in
+    let layout = c.args.layout.now in let phase : ℕ = c.args.phase in let y : ℕ = c.args.rows.first + c.args.k in let key : TableKey = g.C.CellSource.table_key c.args.source.now c.args.seat.now in
     let r : Row key layout phase y = record { same = c.requires.layout; fit = c.requires.fit; inside = omega (arith, c.requires.row, c.requires.inside) } in
     let b = c.bands-bands.ensures.value in
     let n : c.piece-number.result ≡ piece_of layout.bands phase (band_of_row layout.bands y) = c.piece-number.ensures.value ∙ (λ i. piece_of (b i) phase (y / (b i).height)) in
@@ -29,7 +29,7 @@ read_values-requires-clause-fits g c =
 
 pub read_values-requires-clause-known : goal.read_values-requires-clause-known
 read_values-requires-clause-known g c =
-    let layout = c.args.layout.now in let phase : ℕ = c.args.phase in let y : ℕ = c.args.rows.first + c.args.k in let key : Sheet = g.C.CellSource.sheet c.args.source.now c.args.seat.now in
+    let layout = c.args.layout.now in let phase : ℕ = c.args.phase in let y : ℕ = c.args.rows.first + c.args.k in let key : TableKey = g.C.CellSource.table_key c.args.source.now c.args.seat.now in
     let r : Row key layout phase y = record { same = c.requires.layout; fit = c.requires.fit; inside = omega (arith, c.requires.row, c.requires.inside) } in
     let b = c.bands-bands.ensures.value in
     let n : c.piece-number.result ≡ piece_of layout.bands phase (band_of_row layout.bands y) = c.piece-number.ensures.value ∙ (λ i. piece_of (b i) phase (y / (b i).height)) in
@@ -38,7 +38,7 @@ read_values-requires-clause-known g c =
 
 pub read_values-requires-clause-inside : goal.read_values-requires-clause-inside
 read_values-requires-clause-inside g c =
-    let layout = c.args.layout.now in let phase : ℕ = c.args.phase in let y : ℕ = c.args.rows.first + c.args.k in let key : Sheet = g.C.CellSource.sheet c.args.source.now c.args.seat.now in
+    let layout = c.args.layout.now in let phase : ℕ = c.args.phase in let y : ℕ = c.args.rows.first + c.args.k in let key : TableKey = g.C.CellSource.table_key c.args.source.now c.args.seat.now in
     let r : Row key layout phase y = record { same = c.requires.layout; fit = c.requires.fit; inside = omega (arith, c.requires.row, c.requires.inside) } in
     let b = c.bands-bands.ensures.value in
     let n : c.piece-number.result ≡ piece_of layout.bands phase (band_of_row layout.bands y) = c.piece-number.ensures.value ∙ (λ i. piece_of (b i) phase (y / (b i).height)) in
@@ -48,7 +48,7 @@ read_values-requires-clause-inside g c =
 
 pub returns-clause-here : goal.returns-clause-here
 returns-clause-here g c o l =
-    let layout = c.args.layout.now in let phase : ℕ = c.args.phase in let y : ℕ = c.args.rows.first + c.args.k in let key : Sheet = g.C.CellSource.sheet c.args.source.now c.args.seat.now in
+    let layout = c.args.layout.now in let phase : ℕ = c.args.phase in let y : ℕ = c.args.rows.first + c.args.k in let key : TableKey = g.C.CellSource.table_key c.args.source.now c.args.seat.now in
     let r : Row key layout phase y = record { same = c.requires.layout; fit = c.requires.fit; inside = omega (arith, c.requires.row, c.requires.inside) } in
     let b = c.bands-bands.ensures.value in
     let n : c.piece-number.result ≡ piece_of layout.bands phase (band_of_row layout.bands y) = c.piece-number.ensures.value ∙ (λ i. piece_of (b i) phase (y / (b i).height)) in

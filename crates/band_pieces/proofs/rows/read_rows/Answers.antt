@@ -21,6 +21,6 @@ loop-k-preserved g c =
       end = v.end;
       seat = c.read_row.ensures.seat ∙ s;
       long = c.read_row.ensures.len ∙ v.long;
-      done = rows_more (per_row c.args.layout.now c.args.phase) c.loop-k.k (λ (j : ℕ). row_value (g.C.CellSource.sheet c.args.source.now c.args.seat.now).page.value c.args.phase (c.args.rows.first + j)) (g.V.CellValue.numbers c.loop-k.out) (g.V.CellValue.numbers c.read_row.new.out) c.read_row.ensures.kept
-          (λ o l. c.read_row.ensures.here o l ∙ (λ i. row_value (g.C.CellSource.sheet c.args.source.now (s i)).page.value c.args.phase (c.args.rows.first + c.loop-k.k) o)) v.done;
+      done = rows_more (per_row c.args.layout.now c.args.phase) c.loop-k.k (λ (j : ℕ). row_value (g.C.CellSource.table_key c.args.source.now c.args.seat.now).page.value c.args.phase (c.args.rows.first + j)) (g.V.CellValue.numbers c.loop-k.out) (g.V.CellValue.numbers c.read_row.new.out) c.read_row.ensures.kept
+          (λ o l. c.read_row.ensures.here o l ∙ (λ i. row_value (g.C.CellSource.table_key c.args.source.now (s i)).page.value c.args.phase (c.args.rows.first + c.loop-k.k) o)) v.done;
     }

@@ -10,5 +10,5 @@ invariant-loop-k g l = record {
   end : l.k-end ≡ l.rows.count;
   seat : l.seat ≡ l.initial.seat;
   long : length l.out ≡ l.rows.count * per_row l.layout l.phase;
-  done : (j o : ℕ) → j < l.k → o < per_row l.layout l.phase → slice_index (g.V.CellValue.numbers l.out) (j * per_row l.layout l.phase + o) ≡ row_value (g.C.CellSource.sheet l.source l.initial.seat).page.value l.phase (l.rows.first + j) o;
+  done : (j o : ℕ) → j < l.k → o < per_row l.layout l.phase → slice_index (g.V.CellValue.numbers l.out) (j * per_row l.layout l.phase + o) ≡ row_value (g.C.CellSource.table_key l.source l.initial.seat).page.value l.phase (l.rows.first + j) o;
 }

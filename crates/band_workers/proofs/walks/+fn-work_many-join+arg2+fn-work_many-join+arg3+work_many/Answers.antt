@@ -15,7 +15,7 @@ join-one-requires-send-F g t c κs within = search (sendable, shared_sync, pass_
 
 pub returns-clause-accounted : goal.returns-clause-accounted
 returns-clause-accounted g t c i l =
-    rw c.join.ensures.joined (accounted_joined c.args.shared.now.sheet.layout.bands c.join-one.result.0.view c.join-one.result.1.view i (c.join-one.ensures.first.1.1.1.1.1 i l))
+    rw c.join.ensures.joined (accounted_joined c.args.shared.now.table_key.layout.bands c.join-one.result.0.view c.join-one.result.1.view i (c.join-one.ensures.first.1.1.1.1.1 i l))
 
 pub returns-clause-published : goal.returns-clause-published
 returns-clause-published g t c =

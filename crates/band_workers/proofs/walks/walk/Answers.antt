@@ -11,11 +11,11 @@ use Rattle.band_workers.proofs.walks.walk.Goals as goal
 pub loop-piece-preserved : goal.loop-piece-preserved
 loop-piece-preserved g c =
     let i = c.loop-piece.invariant in
-    let n : ℕ = pieces_of c.args.shared.now.sheet.layout.bands in
+    let n : ℕ = pieces_of c.args.shared.now.table_key.layout.bands in
     let u = c.args.pass.now.view in
     let v = c.loop-piece.pass.view in
     let x = c.visit.new.pass.view in
-    let bands = c.args.shared.now.sheet.layout.bands in elim c.if-visit.branch [
+    let bands = c.args.shared.now.table_key.layout.bands in elim c.if-visit.branch [
       | then-visit w ↦ (let t = c.visit.ensures.made w.if-visit.true in record {
         maker = c.visit.ensures.maker;
         pass = c.visit.ensures.pass;

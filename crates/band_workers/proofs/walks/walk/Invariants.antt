@@ -7,13 +7,13 @@ use Rattle.band_workers.proofs.walks.walk.Given as goal
 
 abbrev pub invariant-loop-piece : goal.invariant-loop-piece
 invariant-loop-piece g l = record {
-  maker : g.M.Maker.serves l.maker l.shared.sheet;
+  maker : g.M.Maker.serves l.maker l.shared.table_key;
   pass : Seats l.shared l.pass;
   idle : l.pass.view.held ≡ None;
   published : Publishes l.initial.pass.view l.pass.view;
   told : Recalls l.initial.pass.view l.pass.view;
   share : l.pass.view.share ≡ l.initial.pass.view.share;
-  few : l.won ≡ true → length l.pass.view.published ≤ pieces_of l.shared.sheet.layout.bands;
+  few : l.won ≡ true → length l.pass.view.published ≤ pieces_of l.shared.table_key.layout.bands;
   more : l.won ≡ true → length l.initial.pass.view.published + 1 ≤ length l.pass.view.published;
-  accounted : l.won ≡ false → (i : ℕ) → i < l.piece → IsAccounted l.shared.sheet.layout.bands l.pass.view i;
+  accounted : l.won ≡ false → (i : ℕ) → i < l.piece → IsAccounted l.shared.table_key.layout.bands l.pass.view i;
 }

@@ -8,14 +8,14 @@ use Rattle.band_workers.proofs.walks.work.Given as goal
 
 abbrev pub invariant-loop-won : goal.invariant-loop-won
 invariant-loop-won g l = record {
-  maker : g.M.Maker.serves l.maker l.shared.sheet;
+  maker : g.M.Maker.serves l.maker l.shared.table_key;
   pass : Seats l.shared l.pass;
   idle : l.pass.view.held ≡ None;
   published : Publishes l.initial.pass.view l.pass.view;
   told : Recalls l.initial.pass.view l.pass.view;
   share : l.pass.view.share ≡ l.initial.pass.view.share;
-  accounted : l.won ≡ false → (i : ℕ) → i < pieces_of l.shared.sheet.layout.bands → IsAccounted l.shared.sheet.layout.bands l.pass.view i;
+  accounted : l.won ≡ false → (i : ℕ) → i < pieces_of l.shared.table_key.layout.bands → IsAccounted l.shared.table_key.layout.bands l.pass.view i;
 }
 
 abbrev pub decreases-loop-won : goal.decreases-loop-won
-decreases-loop-won g l = if l.won then pieces_of l.shared.sheet.layout.bands - length l.pass.view.published + 1 else 0
+decreases-loop-won g l = if l.won then pieces_of l.shared.table_key.layout.bands - length l.pass.view.published + 1 else 0

@@ -9,4 +9,4 @@ returns-clause-code g c =
     let m = c.args.marks.now in
     let x2 = c.args.x2 in
     let reach = c.args.reach2 in
-    c.stepped.ensures ∙ ap (λ (b : Bool). above_step x2 reach b c.args.code) c.decides-seen.ensures.decides ∙ ap (above_step x2 reach (passes m x2 (c.args.r + x2 % 2))) c.requires.code ∙ above_next m x2 reach c.args.r c.requires.reach
+    c.step_code.ensures ∙ ap (λ (b : Bool). above_step x2 reach b c.args.code) c.decides-seen.ensures.decides ∙ ap (above_step x2 reach (passes m x2 (c.args.r + x2 % 2))) c.requires.code ∙ above_next m x2 reach c.args.r c.requires.reach

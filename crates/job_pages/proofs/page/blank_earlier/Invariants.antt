@@ -6,5 +6,5 @@ use Rattle.job_pages.specs.PageText.{blanked, is_left_after}
 use Rattle.job_pages.proofs.page.blank_earlier.Given as goal
 
 -- the statements so far are blanked where they are left after
-abbrev pub invariant-loop-passage : goal.invariant-loop-passage
-invariant-loop-passage l = l.text ≡ fold blanked l.initial.text (filter (is_left_after l.start) (take l.passage-index l.passages))
+abbrev pub invariant-loop-span : goal.invariant-loop-span
+invariant-loop-span l = l.text ≡ fold blanked l.initial.text (filter (is_left_after l.start) (take l.span-index l.spans))

@@ -11,5 +11,5 @@ returns-in-Ok c =
     let prefix : c.as_mut_slice.result.now ≡ take (min c.bound-end.result (length c.args.bytes.now)) c.args.bytes.now = search rules in
     ap (λ (n : ℕ). take n (made ++ drop (length made) c.in-Ok.text.items)) (sym long)
     ∙ take-append_seam made (drop (length made) c.in-Ok.text.items)
-    ∙ text_made c.args.run.now.passages c.as_slice-shown.result.now c.args.bytes.now made c.as_mut_slice.result.now c.bound-start.result c.bound-end.result c.args.k
+    ∙ text_made c.args.run.now.spans c.as_slice-shown.result.now c.args.bytes.now made c.as_mut_slice.result.now c.bound-start.result c.bound-end.result c.args.k
     (search rules) c.bound-start.ensures c.bound-end.ensures prefix (search rules)

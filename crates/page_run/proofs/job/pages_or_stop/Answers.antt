@@ -1,6 +1,6 @@
 -- pages_or_stop: the pages of a job of these bytes, or its first refusal.
 use Rattle.std.proofs.Common.{ℕ, ◌≤◌, length, Result, Ok, Err, List, refl, ap, ◌∙◌, arith}
-use Rattle.job_pages.specs.declared.passages.Passage.{Passage}
+use Rattle.job_pages.specs.declared.statement_spans.StatementSpan.{StatementSpan}
 use Rattle.job_pages.specs.declared.run.RunRefusal.{RunRefusal}
 use Rattle.job_pages.specs.declared.run.RunRefusal.TheVariants.{Fault, TooManyPages}
 use Rattle.job_pages.specs.Runs.{IsManyPages, count_from}
@@ -21,10 +21,10 @@ pub returns-in-Err-Fault : goal.returns-in-Err-Fault
 returns-in-Err-Fault c =
     let short : length c.args.bytes ≤ 1048576 = omega arith in
     let refused : IsManyPages c.args.bytes (Err (Fault c.in-Err-Fault.fault)) = rw c.in-Err-Fault.field-0-is at c.in-Err-Fault.ensures in
-    judges.refused c.in-Err-Fault.fault refl (not_long c.args.bytes short ∙ ap (λ (r : Result (List Passage) RunRefusal). count_from r) refused)
+    judges.refused c.in-Err-Fault.fault refl (not_long c.args.bytes short ∙ ap (λ (r : Result (List StatementSpan) RunRefusal). count_from r) refused)
 
 pub returns-in-Err-TooManyPages : goal.returns-in-Err-TooManyPages
 returns-in-Err-TooManyPages c =
     let short : length c.args.bytes ≤ 1048576 = omega arith in
     let refused : IsManyPages c.args.bytes (Err (TooManyPages c.in-Err-TooManyPages.at)) = rw c.in-Err-TooManyPages.field-0-is at c.in-Err-TooManyPages.ensures in
-    judges.too_many c.in-Err-TooManyPages.at refl (not_long c.args.bytes short ∙ ap (λ (r : Result (List Passage) RunRefusal). count_from r) refused)
+    judges.too_many c.in-Err-TooManyPages.at refl (not_long c.args.bytes short ∙ ap (λ (r : Result (List StatementSpan) RunRefusal). count_from r) refused)

@@ -18,7 +18,7 @@ loop-preserved g c =
 
 pub returns-in-Err-clause-answer : goal.returns-in-Err-clause-answer
 returns-in-Err-clause-answer g c =
-    subst (λ (r : PlateRefusal). PageAnswers c.args.page (g.T.Tray.state c.args.tray.now) (g.T.Tray.state c.read_image.new.tray) (Err r)) (sym c.further_refused.ensures)
+    subst (λ (r : PlateRefusal). PageAnswers c.args.page (g.T.Tray.state c.args.tray.now) (g.T.Tray.state c.read_image.new.tray) (Err r)) (sym c.further_refusal.ensures)
     (page_refused (g.T.Tray.state c.args.tray.now) (g.T.Tray.state c.loop.tray) (g.T.Tray.state c.read_image.new.tray) c.args.page c.loop.counter c.loop.start c.in-Err.refusal
     (omega arith) c.loop.invariant c.in-Err.ensures.answer c.in-Err.ensures.near c.in-Err.ensures.some)
 
@@ -29,6 +29,6 @@ returns-in-Ok-Some-read_image-clause-answer g c =
 
 pub returns-in-Err-read_image-clause-answer : goal.returns-in-Err-read_image-clause-answer
 returns-in-Err-read_image-clause-answer g c =
-    subst (λ (r : PlateRefusal). PageAnswers c.args.page (g.T.Tray.state c.args.tray.now) (g.T.Tray.state c.read_image-2.new.tray) (Err r)) (sym c.further_refused-in-Err-read_image.ensures)
+    subst (λ (r : PlateRefusal). PageAnswers c.args.page (g.T.Tray.state c.args.tray.now) (g.T.Tray.state c.read_image-2.new.tray) (Err r)) (sym c.further_refusal-in-Err-read_image.ensures)
     (page_refused (g.T.Tray.state c.args.tray.now) (g.T.Tray.state c.loop.tray) (g.T.Tray.state c.read_image-2.new.tray) c.args.page c.loop.counter c.loop.start c.in-Err-read_image.refusal
     (omega arith) c.loop.invariant c.in-Err-read_image.ensures.answer c.in-Err-read_image.ensures.near c.in-Err-read_image.ensures.some)

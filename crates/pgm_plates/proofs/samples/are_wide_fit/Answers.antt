@@ -4,5 +4,5 @@ use Rattle.pgm_plates.specs.Readers.{Fit, wide_samples}
 use Rattle.pgm_plates.proofs.Spelled.{wide_below}
 use Rattle.pgm_plates.proofs.samples.are_wide_fit.Goals as goal
 
-pub returns-then-maxval-eq65535 : goal.returns-then-maxval-eq65535
-returns-then-maxval-eq65535 c = λ is. subst (λ (m : ℕ). Fit m (wide_samples c.args.bytes.now)) (sym c.if-maxval-eq65535.true) (wide_below c.args.bytes.now c.are_bytes.ensures)
+pub returns-then-maxval-eq-MOST_MAXVAL : goal.returns-then-maxval-eq-MOST_MAXVAL
+returns-then-maxval-eq-MOST_MAXVAL c = λ is. subst (λ (m : ℕ). Fit m (wide_samples c.args.bytes.now)) (sym c.if-maxval-eq-MOST_MAXVAL.true) (wide_below c.args.bytes.now c.are_bytes.ensures)

@@ -19,7 +19,7 @@ loop-done-preserved g c =
     record {
       wrote = writes_as (raster m (take done xs) ++ raster m (take (end - done) (drop done xs))) (raster m (take end xs)) (raster_more m xs done end le) (g.R.Rack.state c.args.rack.now) (g.R.Rack.state c.write_on.new.rack) (Ok tt)
           (writes_then (raster m (take done xs)) (raster m (take (end - done) (drop done xs))) (g.R.Rack.state c.args.rack.now) (g.R.Rack.state c.loop-done.rack) (g.R.Rack.state c.write_on.new.rack) tt (Ok tt) c.loop-done.invariant.wrote
-          (writes_as (take c.spell-count.result c.spell-count.new.bytes) (raster m (take (end - done) (drop done xs))) (c.spell-count.ensures.spelled ∙ ap (raster m) (samples_of_piece c.args.image.now vs done (end - done))) (g.R.Rack.state c.loop-done.rack) (g.R.Rack.state c.write_on.new.rack) (Ok tt) c.in-Ok.ensures));
+          (writes_as (take c.encode-count.result c.encode-count.new.bytes) (raster m (take (end - done) (drop done xs))) (c.encode-count.ensures.spelled ∙ ap (raster m) (samples_of_piece c.args.image.now vs done (end - done))) (g.R.Rack.state c.loop-done.rack) (g.R.Rack.state c.write_on.new.rack) (Ok tt) c.in-Ok.ensures));
       within = omega arith;
     }
 
@@ -35,7 +35,7 @@ returns-in-Err g c =
     (writes_stopped (raster m (take end xs)) (raster m (drop end xs)) (g.R.Rack.state c.args.rack.now) (g.R.Rack.state c.write_on.new.rack) c.in-Err.field-0 _
     (writes_as (raster m (take done xs) ++ raster m (take (end - done) (drop done xs))) (raster m (take end xs)) (raster_more m xs done end le) (g.R.Rack.state c.args.rack.now) (g.R.Rack.state c.write_on.new.rack) (Err c.in-Err.field-0)
     (writes_then (raster m (take done xs)) (raster m (take (end - done) (drop done xs))) (g.R.Rack.state c.args.rack.now) (g.R.Rack.state c.loop-done.rack) (g.R.Rack.state c.write_on.new.rack) tt (Err c.in-Err.field-0) c.loop-done.invariant.wrote
-    (writes_as (take c.spell-count.result c.spell-count.new.bytes) (raster m (take (end - done) (drop done xs))) (c.spell-count.ensures.spelled ∙ ap (raster m) (samples_of_piece c.args.image.now vs done (end - done))) (g.R.Rack.state c.loop-done.rack) (g.R.Rack.state c.write_on.new.rack) (Err c.in-Err.field-0) c.in-Err.ensures))))
+    (writes_as (take c.encode-count.result c.encode-count.new.bytes) (raster m (take (end - done) (drop done xs))) (c.encode-count.ensures.spelled ∙ ap (raster m) (samples_of_piece c.args.image.now vs done (end - done))) (g.R.Rack.state c.loop-done.rack) (g.R.Rack.state c.write_on.new.rack) (Err c.in-Err.field-0) c.in-Err.ensures))))
 
 pub returns : goal.returns
 returns g c =

@@ -1,8 +1,8 @@
 -- input_files: the files that plates are read from, of words NAME:IN.
-use Rattle.std.proofs.Common.{◌≡◌, ℕ, List, IfOk, map, string_bytes, sym, subst}
+use Rattle.std.proofs.Common.{◌≡◌, ℕ, List, IfOk, map, sym, subst}
 use Rattle.std.proofs.lemmas.Simd.{map-map}
 use Rattle.plain_words.specs.Parts.{InputNames, input_of}
 use Rattle.plain_words.proofs.files.input_files.Goals as goal
 
 pub returns : goal.returns
-returns c = subst (λ (named : List (List ℕ)). IfOk c.files_at.result (λ files. map (λ file. file.now) files.items ≡ named)) (sym (map-map (λ (p : InputNames). p.input) input_of (map string_bytes c.args.words.now))) c.files_at.ensures
+returns g c = subst (λ (named : List (List ℕ)). IfOk c.files_at.result (λ files. map (λ file. file.now) files.items ≡ named)) (sym (map-map (λ (p : InputNames). p.input) input_of (map g.S.AsStr.text c.args.words.now))) c.files_at.ensures

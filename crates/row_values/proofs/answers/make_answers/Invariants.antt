@@ -2,5 +2,5 @@
 -- by row from doubled column 0 on.
 use Rattle.row_values.proofs.answers.make_answers.Given as goal
 
-abbrev pub ghosts-scan_counted : goal.ghosts-scan_counted
-ghosts-scan_counted a = record { name = a.blank.name; parts = a.blank.parts }
+abbrev pub ghosts-scan_with_counter : goal.ghosts-scan_with_counter
+ghosts-scan_with_counter a = record { name = a.blank.name; parts = a.blank.parts }

@@ -10,6 +10,6 @@ pub join_mut-result-requires-after_bounds : goal.join_mut-result-requires-after_
 join_mut-result-requires-after_bounds g c κs within =
     let trays = map g.T.Tray.state c.args.trays.now in
     let room = c.args.room.now in
-    let may = subst (λ (p : Progress). CanReadRow c.args.bare.now c.args.plan.now c.args.plates.now p c.args.next.now trays c.parts-parts.result.now room.ahead) (sym c.gone_on_by.ensures.value)
+    let may = subst (λ (p : Progress). CanReadRow c.args.bare.now c.args.plan.now c.args.plates.now p c.args.next.now trays c.parts-parts.result.now room.ahead) (sym c.progress_after.ensures.value)
     (subst (λ (s : PageParts). CanReadRow c.args.bare.now c.args.plan.now c.args.plates.now (gone_on c.args.row.now) c.args.next.now trays s room.ahead) (sym c.parts-parts.ensures.value) c.requires.can) in
     ((c.requires.trap, record { shared = c.type_bounds.sync-H.shared }), (may, (c.requires.trays, c.requires.pieces)))

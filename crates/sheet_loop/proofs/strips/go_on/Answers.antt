@@ -10,8 +10,8 @@ loop-progress-init g c = record {
   trays_same = refl;
   racks_same = refl;
   hand = c.requires.second;
-  progress_is = c.gone_on_by-progress.ensures.value;
-  progress_valid = c.gone_on_by-progress.ensures.is;
+  progress_is = c.progress_after-progress.ensures.value;
+  progress_valid = c.progress_after-progress.ensures.is;
   room_is = c.requires.room;
   waiting = c.requires.waiting;
   awaits = λ course none awaits. awaits;
@@ -38,8 +38,8 @@ loop-progress-preserved g c =
       trays_same = (let same = c.stream_strip.auto.trays in let b = before.trays_same in omega (arith, same, b));
       racks_same = (let same = c.stream_strip.auto.racks in let b = before.racks_same in omega (arith, same, b));
       hand = c.next_row-next.ensures.strip;
-      progress_is = c.gone_on_by-progress-in-Ok.ensures.value;
-      progress_valid = c.gone_on_by-progress-in-Ok.ensures.is;
+      progress_is = c.progress_after-progress-in-Ok.ensures.value;
+      progress_valid = c.progress_after-progress-in-Ok.ensures.is;
       room_is = c.in-Ok.ensures.room;
       waiting = c.in-Ok.ensures.waiting;
       awaits = λ course none awaits. c.in-Ok.ensures.goes course none (before.awaits course none awaits);

@@ -7,7 +7,7 @@ use Rattle.sheet_loop.proofs.strips.reach_last.Goals as goal
 
 pub trap_first-requires-clause-next : goal.trap_first-requires-clause-next
 trap_first-requires-clause-next g c κs within =
-    subst (λ (p : Progress). IsNextRow c.args.plan.now.down p c.next_row-second.result) c.gone_on_by-progress.ensures.value c.next_row-second.ensures.next
+    subst (λ (p : Progress). IsNextRow c.args.plan.now.down p c.next_row-second.result) c.progress_after-progress.ensures.value c.next_row-second.ensures.next
 
 pub trap_first-requires-clause-way : goal.trap_first-requires-clause-way
 trap_first-requires-clause-way g c κs within =

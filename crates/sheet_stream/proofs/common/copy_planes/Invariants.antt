@@ -1,5 +1,6 @@
--- The loops of copy_planes: copies so many tints of each plane, those behind the first `by`, to the
--- front of the plane of its number of the next strip; what stands behind them there is to be read.
+-- The loops of copy_planes: copies `kept` tints of each plane, those after the first `by`, to the
+-- beginning of the plane of its number of the next strip; what stands after them there is to be
+-- read.
 use Rattle.std.proofs.Common.{◌≡◌, ℕ, ◌<◌, ◌≤◌, length}
 use Rattle.page_model.specs.Planes.{plane_at}
 use Rattle.sheet_stream.specs.Holding.{HasForm, IsCopied}

@@ -1,13 +1,13 @@
 -- The loops of trap_rows: traps these rows, whose column answers these are.
 use Rattle.std.proofs.Common.{◌≡◌, ◌+◌}
-use Rattle.strip_engine.specs.Bench.{IsBench}
+use Rattle.strip_engine.specs.StripBuffers.{AreBuffers}
 use Rattle.strip_engine.specs.Taken.{IsTaken}
 use Rattle.strip_engine.proofs.strips.trap_rows.Given as goal
 
 abbrev pub invariant-loop-k : goal.invariant-loop-k
 invariant-loop-k l = record {
   end : l.k-end ≡ l.rows.count;
-  bench : IsBench l.page l.bench;
+  buffers : AreBuffers l.page l.buffers;
   room : l.room ≡ l.initial.room;
   outcome : IsTaken l.page (l.rows.first + l.k) l.counted l.outcome;
 }

@@ -1,7 +1,7 @@
 -- The loops of trap_strips: traps the page, strip by strip, and counts its rows if that is asked.
 use Rattle.std.proofs.Common.{◌≡◌, ◌≤◌, ◌-◌, length}
 use Rattle.page_model.specs.Page.{height}
-use Rattle.strip_engine.specs.Bench.{IsBench}
+use Rattle.strip_engine.specs.StripBuffers.{AreBuffers}
 use Rattle.strip_engine.specs.Taken.{IsTaken}
 use Rattle.strip_engine.proofs.strips.trap_strips.Given as goal
 
@@ -9,7 +9,7 @@ abbrev pub invariant-loop-first : goal.invariant-loop-first
 invariant-loop-first l = record {
   inside : l.first ≤ height l.page;
   codes : length l.codes ≡ length l.initial.codes;
-  bench : IsBench l.page l.bench;
+  buffers : AreBuffers l.page l.buffers;
   room : l.room ≡ l.initial.room;
   outcome : IsTaken l.page l.first l.counted l.outcome;
 }

@@ -11,7 +11,7 @@ use Rattle.strip_tiles.specs.declared.room.WindowRoom.{WindowRoom}
 use Rattle.strip_tiles.specs.Rooms.{columns_in}
 use Rattle.strip_tiles.specs.Strips.{planes_of}
 use Rattle.strip_tiles.proofs.CoreRows.{row_more}
-use Rattle.strip_tiles.proofs.RoomLemmas.{column_at, core_long, next_window, put_front, put_long, tile_at}
+use Rattle.strip_tiles.proofs.RoomLemmas.{column_at, core_long, next_window, put_prefix, put_long, tile_at}
 use Rattle.strip_tiles.proofs.Walking.{spans_order}
 use Rattle.strip_tiles.proofs.Wholes.{some_span}
 use Rattle.strip_tiles.proofs.rows.put_strip_row.Goals as goal
@@ -86,7 +86,7 @@ loop-j-preserved c =
       spans = next.1;
       long = put_long out run after left room c.put_run.ensures ∙ c.loop-j.invariant.long;
       done = ap (λ (n : ℕ). take n after) all
-          ∙ put_front out run after left room c.put_run.ensures
+          ∙ put_prefix out run after left room c.put_run.ensures
           ∙ (λ i. c.loop-j.invariant.done i ++ c.row_of_core-run.ensures i)
           ∙ sym (row_more c.args.c strip c.args.k (λ (column : Span). tile_of column row) columns j w.column many ∙ ap (λ (s : Span). strip_row c.args.c strip c.args.k (map (λ (column : Span). tile_of column row) (take j columns)) ++ core_row c.args.c strip c.args.k (tile_of s row)) column);
     }

@@ -1,6 +1,5 @@
 -- write_out: traps the page and writes its files, and gives the receipt.
 use Rattle.std.proofs.Common.{ℕ, List, Bor, length, map, ap, sym, ◌∙◌, subst}
-use Rattle.plain_words.specs.declared.parts.PlateWord.{PlateWord}
 use Rattle.trap_words.specs.Held.{page_in, plates_in}
 use Rattle.plain_words.specs.Plates.{outputs_of}
 use Rattle.trap_cli.specs.Commands.{targets_of}
@@ -19,5 +18,5 @@ put_out-requires-clause-count g c κs lives =
 
 pub returns : goal.returns
 returns g c =
-    let named = ap (λ (fs : List (Bor (List ℕ))). map (λ (f : Bor (List ℕ)). f.now) fs) c.as_slice-2.ensures.value ∙ c.in-Ok.ensures ∙ ap (λ (ws : List PlateWord). outputs_of (plates_in ws)) c.as_slice.ensures.value in
+    let named = ap (λ (fs : List (Bor (List ℕ))). map (λ (f : Bor (List ℕ)). f.now) fs) c.as_slice-2.ensures.value ∙ c.in-Ok.ensures ∙ ap (λ (ws : List (Bor (List ℕ))). outputs_of (plates_in ws)) c.as_slice.ensures.value in
     subst (λ (o : List (List ℕ)). PutsOut c.args.command.now.band (targets o c.args.command.now.report.now) c.args.page.now (g.R.Rack.state c.args.rack.now) (g.R.Rack.state c.put_out.new.rack) c.put_out.result) named c.put_out.ensures

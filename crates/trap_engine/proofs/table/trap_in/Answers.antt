@@ -1,7 +1,7 @@
 -- trap_in: traps the page that the room was made for, by the workers that it has memory for.
 use Rattle.std.proofs.Common.{◌≡◌, ◌∙◌, ap, arith, sym}
 use Rattle.std.proofs.lemmas.List.{with_items_is}
-use Rattle.band_claims.specs.declared.sheet.Sheet.{Sheet}
+use Rattle.band_claims.specs.declared.table_key.TableKey.{TableKey}
 use Rattle.band_claims.proofs.ShareLemmas.{same_whole}
 use Rattle.trap_engine.specs.Parts.{AreParts}
 use Rattle.trap_engine.specs.Room.{RoomView}
@@ -10,7 +10,7 @@ use Rattle.trap_engine.proofs.table.trap_in.Goals as goal
 
 pub take_rest-requires-clause-parts : goal.take_rest-requires-clause-parts
 take_rest-requires-clause-parts g c =
-    let page : c.args.page.now ≡ c.room.inside.shared.sheet.page.value = c.requires.page ∙ sym (ap (λ (r : RoomView). r.page.value) c.room.view_is) in
+    let page : c.args.page.now ≡ c.room.inside.shared.table_key.page.value = c.requires.page ∙ sym (ap (λ (r : RoomView). r.page.value) c.room.view_is) in
     let parts : AreParts c.args.page.now c.room.inside.parts.items = rw page c.room.invariant.row_parts in
     rw c.deref_mut-2.ensures.value (elim c.if-len-gt1.branch [
       | then-len-gt1 w ↦ rw (w.parts-is, with_items_is c.room.inside.parts w.take_side_by_side-left.new.parts (omega (arith, w.take_side_by_side-left.auto.parts, c.room.inside.parts.ok))) w.take_side_by_side-left.ensures.parts
@@ -20,7 +20,7 @@ take_rest-requires-clause-parts g c =
 pub returns-clause-receipt : goal.returns-clause-receipt
 returns-clause-receipt g c = record {
   finished = c.finish_table-closed.ensures.finished;
-  low = ap (λ (s : Sheet). s.layout.bands.height) c.finish_table-closed.ensures.sheet ∙ ap (λ (r : RoomView). r.layout.bands.height) c.room.view_is;
+  low = ap (λ (s : TableKey). s.layout.bands.height) c.finish_table-closed.ensures.table_key ∙ ap (λ (r : RoomView). r.layout.bands.height) c.room.view_is;
 }
 
 pub finish_table-closed-requires-clause-whole : goal.finish_table-closed-requires-clause-whole

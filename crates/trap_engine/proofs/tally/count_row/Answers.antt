@@ -11,7 +11,7 @@ returns-clause-tally c =
     record {
       zones = old.zones;
       marks = old.marks;
-      changes = rw (with_items_is tally.changes c.note_taken.new.changes (omega (arith, c.note_taken.ensures.len, old.changes, tally.changes.ok))) c.note_taken.ensures.len;
+      changes = rw (with_items_is tally.changes c.note_changes.new.changes (omega (arith, c.note_changes.ensures.len, old.changes, tally.changes.ok))) c.note_changes.ensures.len;
       counted = record {
         zone_samples = rw (with_items_is tally.zone_samples c.count_zones.new.counts (omega (arith, c.count_zones.ensures.long, old.counted.zone_samples.long, tally.zone_samples.ok))) c.count_zones.ensures;
         zone_changed = rw (with_items_is tally.zone_changed c.count_changed.new.counts (omega (arith, c.count_changed.ensures.long, old.counted.zone_changed.long, tally.zone_changed.ok))) c.count_changed.ensures;

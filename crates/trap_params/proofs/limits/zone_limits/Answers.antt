@@ -2,9 +2,9 @@
 use Rattle.std.proofs.Common.{List}
 use Rattle.page_model.specs.declared.parts.Limit.{Limit}
 use Rattle.ps_tokens.specs.Dictionaries.{last_keys_of}
-use Rattle.ps_tokens.specs.Misfits.{unless}
+use Rattle.ps_tokens.specs.EntryErrors.{unless}
 use Rattle.ps_tokens.proofs.Giving.{IfOk-given}
-use Rattle.trap_params.specs.Limits.{AscendByName, first_misfit, limits_of}
+use Rattle.trap_params.specs.Limits.{AscendByName, first_error, limits_of}
 use Rattle.trap_params.proofs.Ascending.{limits-ascend, unless-ascend}
 use Rattle.trap_params.proofs.limits.zone_limits.Goals as goal
 
@@ -12,5 +12,5 @@ pub returns-then-is_dict-clause-ascending : goal.returns-then-is_dict-clause-asc
 returns-then-is_dict-clause-ascending c =
     let objects = c.args.objects.now in
     let keys = last_keys_of objects c.in-Some.place in
-    λ now. IfOk-given (λ (limits : List Limit). AscendByName limits) (unless (first_misfit objects keys) (limits_of objects keys)) c.limits_in.result c.limits_in.ensures
-    (λ limits is. unless-ascend (first_misfit objects keys) (limits_of objects keys) limits (limits-ascend objects c.in-Some.place) is)
+    λ now. IfOk-given (λ (limits : List Limit). AscendByName limits) (unless (first_error objects keys) (limits_of objects keys)) c.limits_in.result c.limits_in.ensures
+    (λ limits is. unless-ascend (first_error objects keys) (limits_of objects keys) limits (limits-ascend objects c.in-Some.place) is)

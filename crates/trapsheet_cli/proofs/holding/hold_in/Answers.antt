@@ -8,4 +8,4 @@ pub returns-in-Ok : goal.returns-in-Ok
 returns-in-Ok g c = HoldsAll.held c.hold_sheet.new.sheet refl c.in-Ok.ensures
 
 pub returns-in-Err : goal.returns-in-Err
-returns-in-Err g c = HoldsAll.stopped c.in-Err.stop (ap (λ (e : TrapsheetError). Err e) c.told_stop.ensures) c.in-Err.ensures
+returns-in-Err g c = HoldsAll.stopped c.in-Err.stop (ap (λ (e : TrapsheetError). Err e) c.error_of.ensures) c.in-Err.ensures

@@ -2,7 +2,7 @@
 use Rattle.std.proofs.Common.{Err, map, sym, subst}
 use Rattle.sheet_gather.specs.declared.stop.TrapsheetError.{TrapsheetError}
 use Rattle.sheet_loop.specs.Second.{StreamsSheet, course_of}
-use Rattle.sheet_loop.specs.declared.stop.StreamStop.{StreamStop}
+use Rattle.sheet_loop.specs.declared.stop.StreamError.{StreamError}
 use Rattle.trapsheet_cli.specs.Streaming.{StreamsOut}
 use Rattle.trapsheet_cli.proofs.StreamingLemmas.{some_counted, was_done, was_unread, was_unwritten}
 use Rattle.trapsheet_cli.proofs.streaming.stream_in.Goals as goal
@@ -23,9 +23,9 @@ returns-in-Err-Unread g c =
     let course = course_of (map g.S.AsStr.text c.args.inputs.now) (map g.S.AsStr.text c.args.outputs.now) (map g.T.Tray.state c.args.trays.now) (map g.R.Rack.state c.args.racks.now) in
     let trays = map g.T.Tray.state c.stream_sheet.new.trays in
     let racks = map g.R.Rack.state c.stream_sheet.new.racks in
-    subst (λ (e : TrapsheetError). StreamsOut course c.args.report.now c.args.bare.now trays racks (Err e)) (sym c.told_stop.ensures)
+    subst (λ (e : TrapsheetError). StreamsOut course c.args.report.now c.args.bare.now trays racks (Err e)) (sym c.error_of.ensures)
     (was_unread course c.args.report.now c.args.bare.now c.args.plan.now.header c.requires.header c.stream_sheet.new.room.counts trays racks c.in-Err-Unread.stop
-    (subst (λ (s : StreamStop). StreamsSheet course c.args.bare.now c.args.plan.now.header c.stream_sheet.new.room.counts trays racks (Err s)) c.in-Err-Unread.field-0-is c.in-Err-Unread.ensures))
+    (subst (λ (s : StreamError). StreamsSheet course c.args.bare.now c.args.plan.now.header c.stream_sheet.new.room.counts trays racks (Err s)) c.in-Err-Unread.field-0-is c.in-Err-Unread.ensures))
 
 pub returns : goal.returns
 returns g c =
@@ -33,4 +33,4 @@ returns g c =
     let trays = map g.T.Tray.state c.stream_sheet.new.trays in
     let racks = map g.R.Rack.state c.stream_sheet.new.racks in
     was_unwritten course c.args.report.now c.args.bare.now c.args.plan.now.header c.requires.header c.stream_sheet.new.room.counts trays racks c.in-Err-Unwritten.refusal
-    (subst (λ (s : StreamStop). StreamsSheet course c.args.bare.now c.args.plan.now.header c.stream_sheet.new.room.counts trays racks (Err s)) c.in-Err-Unwritten.field-0-is c.in-Err-Unwritten.ensures)
+    (subst (λ (s : StreamError). StreamsSheet course c.args.bare.now c.args.plan.now.header c.stream_sheet.new.room.counts trays racks (Err s)) c.in-Err-Unwritten.field-0-is c.in-Err-Unwritten.ensures)

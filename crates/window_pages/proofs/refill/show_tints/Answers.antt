@@ -1,6 +1,6 @@
 -- show_tints: puts the tints that a window shows in the place of as many others.
 use Rattle.std.proofs.Common.{◌≡◌, ◌+◌, ◌*◌, ◌++◌, ◌≤◌, List, ℕ, ap, ◌∙◌, arith, length, take}
-use Rattle.window_pages.proofs.Showing.{put_front, put_long, row_inside, shown_next}
+use Rattle.window_pages.proofs.Showing.{put_prefix, put_long, row_inside, shown_next}
 use Rattle.window_pages.proofs.refill.show_tints.Goals as goal
 
 pub loop-y-preserved : goal.loop-y-preserved
@@ -15,7 +15,7 @@ loop-y-preserved c =
     record {
       long = put_long shown run c.put_run.new.tints (y * w) inside c.put_run.ensures ∙ c.loop-y.invariant.long;
       done = ap (λ (n : ℕ). take n c.put_run.new.tints) all
-          ∙ put_front shown run c.put_run.new.tints (y * w) inside c.put_run.ensures
+          ∙ put_prefix shown run c.put_run.new.tints (y * w) inside c.put_run.ensures
           ∙ ap (λ (xs : List ℕ). xs ++ run) c.loop-y.invariant.done
           ∙ shown_next c.args.wide c.args.cut.now c.args.tints.now run y ((c.args.cut.now.top + y) * c.args.wide + c.args.cut.now.left) (omega arith) long c.run_of-run.ensures.each;
     }

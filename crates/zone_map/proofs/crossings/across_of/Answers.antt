@@ -8,7 +8,7 @@ overflow_add-result c = sum_fits c.product-along.result c.product-aside.result c
 
 pub returns-clause-value : goal.returns-clause-value
 returns-clause-value c = whole_sum_is c.product-along.result c.product-aside.result c.product-along.ensures.bound c.product-aside.ensures.bound ∙ same_sum c.product-along.result c.product-aside.result _ _ _ _ _ _ _ _ c.product-along.ensures.value c.product-aside.ensures.value
-    (way_is c.way.result c.args.a.x c.args.b.x c.requires.a.x_near c.requires.b.x_near c.way.ensures.value)
-    (way_is c.way-2.result c.args.a.y c.args.y c.requires.a.y_near c.requires.y c.way-2.ensures.value)
+    (way_is c.difference.result c.args.a.x c.args.b.x c.requires.a.x_near c.requires.b.x_near c.difference.ensures.value)
+    (way_is c.difference-2.result c.args.a.y c.args.y c.requires.a.y_near c.requires.y c.difference-2.ensures.value)
     (near_64 c.args.a.x c.requires.a.x_near)
-    (way_is c.way-3.result c.args.a.y c.args.b.y c.requires.a.y_near c.requires.b.y_near c.way-3.ensures.value)
+    (way_is c.difference-3.result c.args.a.y c.args.b.y c.requires.a.y_near c.requires.b.y_near c.difference-3.ensures.value)

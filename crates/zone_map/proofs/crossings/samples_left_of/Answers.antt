@@ -2,7 +2,7 @@
 -- crosses the row at height y.
 use Rattle.std.proofs.Common.{◌≡◌, ◌∙◌, refl, sym, ap, ◌+◌, ◌*◌}
 use Rattle.std.specs.Prelude.{nat_abs, ◌-ℤ◌, ℤ}
-use Rattle.zone_map.specs.Spots.{point}
+use Rattle.zone_map.specs.PagePoints.{point}
 use Rattle.zone_map.proofs.Leans.{left-none, left-below, rise_is, none_at, rising_parts}
 use Rattle.zone_map.proofs.Widths.{near_64, near_128}
 use Rattle.zone_map.proofs.crossings.samples_left_of.Goals as goal
@@ -23,6 +23,6 @@ returns-else-across-lt0-clause-left c = λ x l.
     let e = near_128 c.across_of-across.result c.across_of-across.ensures.bound in
     let value = c.across_of-across.ensures.value ∙ rw (near_64 c.args.y c.requires.y) refl in
     let below = rw e at c.if-across-lt0.false in
-    let rise : c.unsigned_abs-rise.result ≡ nat_abs (b.py -ℤ a.py) = c.unsigned_abs-rise.ensures.value ∙ ap (λ (z : ℤ). nat_abs z) (rising_parts c.way.result a.py b.py c.requires.a.y_near c.requires.b.y_near c.way.ensures.value) in
+    let rise : c.unsigned_abs-rise.result ≡ nat_abs (b.py -ℤ a.py) = c.unsigned_abs-rise.ensures.value ∙ ap (λ (z : ℤ). nat_abs z) (rising_parts c.difference.result a.py b.py c.requires.a.y_near c.requires.b.y_near c.difference.ensures.value) in
     let across : c.unsigned_abs.result ≡ nat_abs c.across_of-across.result = c.unsigned_abs.ensures.value ∙ ap (λ (z : ℤ). nat_abs z) e in
     c.samples_below.ensures.left x l ∙ rw (rise, across) (sym (left-below a b c.args.y c.across_of-across.result ((2 * x + 1) * 360000) (nat_abs (b.py -ℤ a.py)) value (rise_is a.py b.py c.requires.rising) below))

@@ -2,7 +2,7 @@
 -- downwards.
 use Rattle.std.proofs.Common.{◌∙◌, sym, ap, pos, ℕ, if◌then◌else◌, Bool}
 use Rattle.std.specs.Prelude.{◌-ℤ◌, nat_lt}
-use Rattle.zone_map.specs.Spots.{middle, point}
+use Rattle.zone_map.specs.PagePoints.{middle, point}
 use Rattle.zone_map.specs.Tallies.{past}
 use Rattle.zone_map.proofs.Leans.{left-turned}
 use Rattle.zone_map.proofs.TallyLemmas.{up-noted, down-noted, none-noted}

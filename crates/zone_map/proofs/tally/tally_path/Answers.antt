@@ -3,7 +3,7 @@ use Rattle.std.proofs.Common.{◌≡◌, ◌∙◌, ◌<◌, ◌+◌, length, sy
 use Rattle.std.specs.Prelude.{slice_index_or}
 use Rattle.page_model.specs.declared.parts.Vertex.{Vertex}
 use Rattle.page_model.specs.Zones.{corner}
-use Rattle.zone_map.specs.Spots.{middle, point}
+use Rattle.zone_map.specs.PagePoints.{middle, point}
 use Rattle.zone_map.specs.Tallies.{left}
 use Rattle.zone_map.proofs.TallyLemmas.{left-none}
 use Rattle.zone_map.proofs.TurnLemmas.{turns-on, turns-done, begun, start_at-near, winding-none}
@@ -41,7 +41,7 @@ loop-i-preserved c =
     let inv = c.loop-i.invariant in
     let note = c.note_segment-crossings.ensures in
     record {
-      done = λ x l. turns-on r (middle x (to_z w64 (of_z w64 c.args.y))) start c.loop-i.last zero_vertex c.start_at-start.result path c.loop-i.i (left c.loop-i.ups c.loop-i.downs x) _ (point c.spot_of-a.result) (point c.spot_of-b.result) c.loop-i-test.true (note.turned x l) c.spot_of-a.ensures.value (c.spot_of-b.ensures.value ∙ ap (λ (u : Vertex). corner r u) c.segment_end.ensures) c.start_at-start.ensures (inv.done x l);
+      done = λ x l. turns-on r (middle x (to_z w64 (of_z w64 c.args.y))) start c.loop-i.last zero_vertex c.start_at-start.result path c.loop-i.i (left c.loop-i.ups c.loop-i.downs x) _ (point c.point_of-a.result) (point c.point_of-b.result) c.loop-i-test.true (note.turned x l) c.point_of-a.ensures.value (c.point_of-b.ensures.value ∙ ap (λ (u : Vertex). corner r u) c.segment_end.ensures) c.start_at-start.ensures (inv.done x l);
       count = note.count ∙ ap (λ (n : ℕ). n + c.note_segment-crossings.result) inv.count;
       few = omega (arith, inv.few, note.one);
       ups = note.ups;
@@ -52,6 +52,6 @@ loop-i-preserved c =
 
 pub returns-clause-turns : goal.returns-clause-turns
 returns-clause-turns c = λ x l.
-    turns-done c.args.resolution (middle x c.args.y) c.loop-i.start c.loop-i.last c.args.path.now c.loop-i.i (left c.loop-i.ups c.loop-i.downs x) _ (point c.spot_of-a-2.result) (point c.spot_of-b-2.result) c.loop-i-test.false
-    (rw (near_64 c.args.y c.requires.y) at (c.note_segment.ensures.turned x l)) c.spot_of-a-2.ensures.value c.spot_of-b-2.ensures.value
+    turns-done c.args.resolution (middle x c.args.y) c.loop-i.start c.loop-i.last c.args.path.now c.loop-i.i (left c.loop-i.ups c.loop-i.downs x) _ (point c.point_of-a-2.result) (point c.point_of-b-2.result) c.loop-i-test.false
+    (rw (near_64 c.args.y c.requires.y) at (c.note_segment.ensures.turned x l)) c.point_of-a-2.ensures.value c.point_of-b-2.ensures.value
     (rw (near_64 c.args.y c.requires.y) at (c.loop-i.invariant.done x l))

@@ -4,7 +4,7 @@ use Rattle.std.proofs.Common.{◌≡◌, ◌≤◌, ◌<◌, ◌+◌, ℕ, drop,
 use Rattle.std.specs.Prelude.{◌+ℤ◌, sum}
 use Rattle.page_model.specs.Conditions.{IsVertex}
 use Rattle.page_model.specs.Zones.{turns, winding}
-use Rattle.zone_map.specs.Spots.{middle}
+use Rattle.zone_map.specs.PagePoints.{middle}
 use Rattle.zone_map.specs.Tallies.{left}
 use Rattle.zone_map.proofs.tally.tally_path.Given as goal
 

@@ -6,7 +6,7 @@ use Rattle.lists.specs.Words.{count_below}
 use Rattle.page_model.specs.declared.bands.Bands.{Bands}
 use Rattle.page_model.specs.Bands.{AreBands, pieces_of}
 use Rattle.band_graph.specs.Needs.{is_need}
-use Rattle.band_claims.specs.declared.sheet.Sheet.{Sheet}
+use Rattle.band_claims.specs.declared.table_key.TableKey.{TableKey}
 use Rattle.band_claims.proofs.Looking.{looks_more, knows_next, lost_exchange, won_by, all_known}
 use Rattle.band_claims.proofs.shared.Shared.claim.Goals as goal
 
@@ -25,8 +25,8 @@ loop-k-preserved c =
     let d = c.is_done.ensures.answer in
     let w = c.loop-k.pass.view in
     let i : ℕ = c.need_at-need.result in
-    let bands = c.args.self.now.sheet.layout.bands in
-    let same : c.bands-bands.result.now ≡ bands = c.bands-bands.ensures.value ∙ (ap (λ z. z.layout.bands) c.self.invariant.same_sheet ∙ ap (λ z. z.sheet.layout.bands) c.self.view_is) in
+    let bands = c.args.self.now.table_key.layout.bands in
+    let same : c.bands-bands.result.now ≡ bands = c.bands-bands.ensures.value ∙ (ap (λ z. z.layout.bands) c.self.invariant.same_table_key ∙ ap (λ z. z.table_key.layout.bands) c.self.view_is) in
     let two : d.0 ≡ 2 = d.2.0 c.if-not-is_done.false in
     let need = same_need c.bands-bands.result.now bands c.args.piece i c.loop-k.k same c.need_at-need.ensures.need c.need_at-need.ensures.order in record {
       pass = c.is_done.ensures.pass;
@@ -42,17 +42,17 @@ returns-clause-lost c no_win =
 
 pub take-requires-clause-known : goal.take-requires-clause-known
 take-requires-clause-known c =
-    let bands = c.args.self.now.sheet.layout.bands in
-    let same : c.bands-bands.result.now ≡ bands = c.bands-bands.ensures.value ∙ (ap (λ z. z.layout.bands) c.self.invariant.same_sheet ∙ ap (λ z. z.sheet.layout.bands) c.self.view_is) in
-    let is : AreBands bands = subst (λ (z : Sheet). AreBands z.layout.bands) (ap (λ z. z.sheet) c.self.view_is) c.self.invariant.fit.made.bands in
+    let bands = c.args.self.now.table_key.layout.bands in
+    let same : c.bands-bands.result.now ≡ bands = c.bands-bands.ensures.value ∙ (ap (λ z. z.layout.bands) c.self.invariant.same_table_key ∙ ap (λ z. z.table_key.layout.bands) c.self.view_is) in
+    let is : AreBands bands = subst (λ (z : TableKey). AreBands z.layout.bands) (ap (λ z. z.table_key) c.self.view_is) c.self.invariant.fit.made.bands in
     let all = same_count c.bands-bands.result.now bands c.args.piece c.need_count-count.result same c.need_count-count.ensures.value in
     all_known bands c.args.piece c.loop-k.k c.loop-k.pass.view is c.requires.piece (omega (arith, all, c.loop-k-test.false)) c.loop-k.invariant.known
 
 pub returns-clause-won : goal.returns-clause-won
 returns-clause-won c win =
-    let bands = c.args.self.now.sheet.layout.bands in
-    let same : c.bands-bands.result.now ≡ bands = c.bands-bands.ensures.value ∙ (ap (λ z. z.layout.bands) c.self.invariant.same_sheet ∙ ap (λ z. z.sheet.layout.bands) c.self.view_is) in
-    let is : AreBands bands = subst (λ (z : Sheet). AreBands z.layout.bands) (ap (λ z. z.sheet) c.self.view_is) c.self.invariant.fit.made.bands in
+    let bands = c.args.self.now.table_key.layout.bands in
+    let same : c.bands-bands.result.now ≡ bands = c.bands-bands.ensures.value ∙ (ap (λ z. z.layout.bands) c.self.invariant.same_table_key ∙ ap (λ z. z.table_key.layout.bands) c.self.view_is) in
+    let is : AreBands bands = subst (λ (z : TableKey). AreBands z.layout.bands) (ap (λ z. z.table_key) c.self.view_is) c.self.invariant.fit.made.bands in
     let all = same_count c.bands-bands.result.now bands c.args.piece c.need_count-count.result same c.need_count-count.ensures.value in
     let d = c.take.ensures.answer in
     rw d.1 (won_by bands c.args.piece c.args.pass.now.view c.loop-k.pass.view d.0 c.loop-k.invariant.looks (all_known bands c.args.piece c.loop-k.k c.loop-k.pass.view is c.requires.piece (omega (arith, all, c.loop-k-test.false)) c.loop-k.invariant.known) (d.2.0 win))

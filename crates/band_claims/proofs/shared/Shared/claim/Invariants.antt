@@ -8,5 +8,5 @@ abbrev pub invariant-loop-k : goal.invariant-loop-k
 invariant-loop-k l = record {
   pass : Seats l.self l.pass;
   looks : Looks l.initial.pass.view l.pass.view;
-  known : KnowsBefore l.self.sheet.layout.bands l.piece l.k l.pass.view;
+  known : KnowsBefore l.self.table_key.layout.bands l.piece l.k l.pass.view;
 }

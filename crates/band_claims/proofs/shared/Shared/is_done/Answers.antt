@@ -7,7 +7,7 @@ use Rattle.band_claims.proofs.shared.Shared.is_done.Goals as goal
 pub load-found-requires : goal.load-found-requires
 load-found-requires c =
     let key = c.self.inside.table.shared.key in
-    let within : c.args.piece < pieces_of key.layout.bands = rw (ap (λ z. z.sheet) c.self.view_is) c.requires.piece in (
+    let within : c.args.piece < pieces_of key.layout.bands = rw (ap (λ z. z.table_key) c.self.view_is) c.requires.piece in (
       ap (λ z. z.table) c.pass.view_is ∙ (c.requires.pass.table ∙ sym (ap (λ z. z.table) c.self.view_is)),
       omega (arith, within, c.self.invariant.wide),
       looks key c.self.invariant.fit _ _ _ _ within,

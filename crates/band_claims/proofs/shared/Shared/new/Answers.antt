@@ -4,5 +4,5 @@ use Rattle.page_model.specs.declared.parts.PageParts.{PageParts}
 use Rattle.band_core.specs.Values.{IsFor}
 use Rattle.band_claims.proofs.shared.Shared.new.Goals as goal
 
-pub opened-requires : goal.opened-requires
-opened-requires c = record { fit = subst (λ (p : PageParts). IsFor p c.args.layout.now) (sym c.of.ensures) c.requires.layout }
+pub open_table-requires : goal.open_table-requires
+open_table-requires c = record { fit = subst (λ (p : PageParts). IsFor p c.args.layout.now) (sym c.of.ensures) c.requires.layout }

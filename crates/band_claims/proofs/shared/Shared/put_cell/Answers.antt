@@ -1,6 +1,6 @@
 -- Shared::put_cell: fills the next cell of the held piece with its defined value.
 use Rattle.std.proofs.Common.{ap, ◌∙◌, sym, arith, ◌<◌, ◌≡◌, ℕ, ◌+◌, Some}
-use Rattle.band_claims.specs.Sheets.{shape_of, cell}
+use Rattle.band_claims.specs.TableKeys.{shape_of, cell}
 use Rattle.band_claims.proofs.Carrying.{carried}
 use Rattle.band_board.specs.Shapes.{Has}
 use Rattle.band_claims.proofs.Steps.{puts, small_word, fit_shape}
@@ -14,9 +14,9 @@ store-requires c =
     let h = c.requires.next in
     let p : ℕ = h.0 in
     let same_view = ap (λ z. z.view) c.pass.view_is in
-    let same_key = ap (λ z. z.sheet) c.self.view_is in
+    let same_key = ap (λ z. z.table_key) c.self.view_is in
     let held : v.held ≡ Some p = ap (λ z. z.held) same_view ∙ h.1 in
-    let page : v.sheet ≡ Some key = ap (λ z. z.sheet) same_view ∙ (c.requires.pass.page ∙ ap (λ z. Some z) (sym same_key)) in
+    let page : v.table_key ≡ Some key = ap (λ z. z.table_key) same_view ∙ (c.requires.pass.page ∙ ap (λ z. Some z) (sym same_key)) in
     let room : v.filled < k.size p = rw (same_view, same_key) h.2 in
     let value : c.args.value ≡ cell key (k.start p + v.filled) = rw (same_view, same_key) h.3 in
     let t = carried key v p c.pass.inside.piece c.pass.inside.next held page c.pass.invariant.1 in
@@ -34,9 +34,9 @@ overflow_add-pass c =
     let h = c.requires.next in
     let p : ℕ = h.0 in
     let same_view = ap (λ z. z.view) c.pass.view_is in
-    let same_key = ap (λ z. z.sheet) c.self.view_is in
+    let same_key = ap (λ z. z.table_key) c.self.view_is in
     let held : v.held ≡ Some p = ap (λ z. z.held) same_view ∙ h.1 in
-    let page : v.sheet ≡ Some key = ap (λ z. z.sheet) same_view ∙ (c.requires.pass.page ∙ ap (λ z. Some z) (sym same_key)) in
+    let page : v.table_key ≡ Some key = ap (λ z. z.table_key) same_view ∙ (c.requires.pass.page ∙ ap (λ z. Some z) (sym same_key)) in
     let room : v.filled < k.size p = rw (same_view, same_key) h.2 in
     let t = carried key v p c.pass.inside.piece c.pass.inside.next held page c.pass.invariant.1 in
     let here : Has k p (k.start p + v.filled) = record { piece = t.in_range; from = omega arith; below = omega (arith, room) } in

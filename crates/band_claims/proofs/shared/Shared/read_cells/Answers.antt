@@ -1,7 +1,7 @@
 -- Shared::read_cells: the words of cells, from number `first` on, of pieces that the pass saw done
 -- or published.
 use Rattle.std.proofs.Common.{ap, arith, ◌+◌}
-use Rattle.band_claims.specs.Sheets.{shape_of}
+use Rattle.band_claims.specs.TableKeys.{shape_of}
 use Rattle.band_board.specs.Shapes.{Has}
 use Rattle.band_claims.proofs.Steps.{small_word}
 use Rattle.band_claims.proofs.shared.Shared.read_cells.Goals as goal
@@ -13,12 +13,12 @@ pub overflow_cast-o : goal.overflow_cast-o
 overflow_cast-o c =
     let key = c.self.inside.table.shared.key in
     let h = c.requires.known c.loop-o.o (omega (arith, c.loop-o-test.true)) in
-    let here : Has (shape_of key) h.0 (c.args.first + c.loop-o.o) = rw (ap (λ z. z.sheet) c.self.view_is) h.1 in
+    let here : Has (shape_of key) h.0 (c.args.first + c.loop-o.o) = rw (ap (λ z. z.table_key) c.self.view_is) h.1 in
     omega (arith, (small_word key c.self.invariant.fit h.0 _ here).1)
 
 pub overflow_add-first : goal.overflow_add-first
 overflow_add-first c =
     let key = c.self.inside.table.shared.key in
     let h = c.requires.known c.loop-o.o (omega (arith, c.loop-o-test.true)) in
-    let here : Has (shape_of key) h.0 (c.args.first + c.loop-o.o) = rw (ap (λ z. z.sheet) c.self.view_is) h.1 in
+    let here : Has (shape_of key) h.0 (c.args.first + c.loop-o.o) = rw (ap (λ z. z.table_key) c.self.view_is) h.1 in
     omega (arith, (small_word key c.self.invariant.fit h.0 _ here).1)

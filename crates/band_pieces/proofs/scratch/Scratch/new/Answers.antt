@@ -24,8 +24,8 @@ invariant_of-result c =
       made = c.new-layout.ensures.valid;
       wide = c.in_ok-new.ensures.wide ∙ (sym c.width.ensures.value ∙ sym (ap (λ (z : Layout). z.width) value));
       deep = c.in_ok-new.ensures.deep ∙ (sym c.plates.ensures.value ∙ sym (ap (λ (z : Layout). z.plates) value));
-      for_zones = enough (most_rows layout 1) c.min-below.result (per_row layout 0) c.row_values.result _ (omega (arith, c.min-below.ensures, h, r)) c.row_values.ensures.value c.in_ok-filled.ensures;
-      for_marks = enough (most_rows layout (2 * halo layout.bands.reach2)) c.min-near.result (per_row layout 1) c.row_values-2.result _ (omega (arith, c.min-near.ensures, h, r, d)) c.row_values-2.ensures.value c.in_ok-filled-2.ensures;
-      for_answers = enough (most_rows layout 0) c.min-band.result (per_row layout 2) c.row_values-3.result _ (omega (arith, c.min-band.ensures, h, r)) c.row_values-3.ensures.value c.in_ok-filled-3.ensures;
-      for_tints = enough (most_rows layout 0) c.min-band.result (per_row layout 3) c.row_values-4.result _ (omega (arith, c.min-band.ensures, h, r)) c.row_values-4.ensures.value c.in_ok-filled-4.ensures;
+      for_zones = enough (most_rows layout 1) c.min-below.result (per_row layout 0) c.row_values.result _ (omega (arith, c.min-below.ensures, h, r)) c.row_values.ensures.value c.in_ok-vec_of.ensures;
+      for_marks = enough (most_rows layout (2 * halo layout.bands.reach2)) c.min-near.result (per_row layout 1) c.row_values-2.result _ (omega (arith, c.min-near.ensures, h, r, d)) c.row_values-2.ensures.value c.in_ok-vec_of-2.ensures;
+      for_answers = enough (most_rows layout 0) c.min-band.result (per_row layout 2) c.row_values-3.result _ (omega (arith, c.min-band.ensures, h, r)) c.row_values-3.ensures.value c.in_ok-vec_of-3.ensures;
+      for_tints = enough (most_rows layout 0) c.min-band.result (per_row layout 3) c.row_values-4.result _ (omega (arith, c.min-band.ensures, h, r)) c.row_values-4.ensures.value c.in_ok-vec_of-4.ensures;
     }

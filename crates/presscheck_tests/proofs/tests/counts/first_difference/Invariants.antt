@@ -2,5 +2,5 @@
 -- differ.
 use Rattle.presscheck_tests.proofs.tests.counts.first_difference.Given as goal
 
-abbrev pub ghosts-counted : goal.ghosts-counted
-ghosts-counted a = record { name = a.blank.name; parts = a.blank.parts }
+abbrev pub ghosts-count_at_risk : goal.ghosts-count_at_risk
+ghosts-count_at_risk a = record { name = a.blank.name; parts = a.blank.parts }

@@ -7,7 +7,7 @@ pub returns-clause-room : goal.returns-clause-room
 returns-clause-room c = record {
   wide = c.in_ok-new.ensures.wide;
   deep = c.in_ok-new.ensures.deep;
-  codes = omega (arith, c.in_ok-filled.field-0.ok, c.in_ok-filled.ensures, c.width.ensures.value);
-  bench = c.in_ok-new_bench.ensures;
+  codes = omega (arith, c.in_ok-vec_of.field-0.ok, c.in_ok-vec_of.ensures, c.width.ensures.value);
+  buffers = c.in_ok-new_buffers.ensures;
   outcome = outcome_shape c.args.page.now 0 c.in_ok-new-2.field-0 c.in_ok-new-2.ensures;
 }

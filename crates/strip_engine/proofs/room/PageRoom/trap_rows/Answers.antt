@@ -3,19 +3,19 @@ use Rattle.std.proofs.Common.{◌∙◌, ap, arith, length, List, ℕ}
 use Rattle.std.proofs.lemmas.List.{with_items_is}
 use Rattle.row_values.specs.Room.{Room}
 use Rattle.page_tally.proofs.StandingLemmas.{trapped_whole}
-use Rattle.strip_engine.proofs.RoomLemmas.{bench_shape}
+use Rattle.strip_engine.proofs.RoomLemmas.{buffers_shape}
 use Rattle.strip_engine.proofs.room.PageRoom.trap_rows.Goals as goal
 
 pub returns-clause-room : goal.returns-clause-room
 returns-clause-room c =
     let page = c.args.page.now in
-    let work = c.trap_strips.ensures.room ∙ c.fill_bench.ensures.room in
+    let work = c.trap_strips.ensures.room ∙ c.fill_buffers.ensures.room in
     let codes = c.trap_strips.ensures.codes ∙ ap (λ (xs : List ℕ). length xs) c.deref_mut.ensures.value in
     record {
       wide = ap (λ (r : Room). r.wide) work ∙ c.requires.room.wide;
       deep = ap (λ (r : Room). r.deep) work ∙ c.requires.room.deep;
       codes = ap (λ (xs : List ℕ). length xs) (with_items_is c.args.self.now.codes c.trap_strips.new.codes (omega (arith, codes, c.args.self.now.codes.ok))) ∙ codes ∙ c.requires.room.codes;
-      bench = bench_shape page c.trap_strips.new.bench c.trap_strips.ensures.bench;
+      buffers = buffers_shape page c.trap_strips.new.buffers c.trap_strips.ensures.buffers;
       outcome = c.trap_strips.ensures.outcome.tints.shape;
     }
 

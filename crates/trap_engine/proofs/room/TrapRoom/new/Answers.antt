@@ -10,10 +10,10 @@ invariant_of-result-3 c =
     rw (c.shared.view_is, same) (record {
       seat = c.in_ok-shared.ensures.pass;
       idle = ap (λ (v : View). v.held) c.in_ok-shared.ensures.new;
-      whole = newcomer_whole c.in_ok-shared.shared.sheet c.in_ok-shared.pass.view c.in_ok-shared.ensures.new;
-      served = served_by c.in_ok-shared.shared.sheet.layout c.new-bands.result c.width.result c.plates.result _ _ c.in_ok-scratches_of.field-0.items (c.in_ok-shared.ensures.layout ∙ c.new-layout.ensures.value) c.width.ensures.value c.plates.ensures.value c.in_ok-scratches_of.ensures.made;
+      whole = newcomer_whole c.in_ok-shared.shared.table_key c.in_ok-shared.pass.view c.in_ok-shared.ensures.new;
+      served = served_by c.in_ok-shared.shared.table_key.layout c.new-bands.result c.width.result c.plates.result _ _ c.in_ok-scratches_of.field-0.items (c.in_ok-shared.ensures.layout ∙ c.new-layout.ensures.value) c.width.ensures.value c.plates.ensures.value c.in_ok-scratches_of.ensures.made;
       some = omega (arith, c.in_ok-scratches_of.ensures.count, c.in_ok-scratches_of.field-0.ok, c.workers_for-count.ensures.some);
-      spare_served = one_served_by c.in_ok-shared.shared.sheet.layout c.in_ok-new.field-0.layout c.new-bands.result c.width.result c.plates.result _ _ (c.in_ok-shared.ensures.layout ∙ c.new-layout.ensures.value) c.width.ensures.value c.plates.ensures.value c.in_ok-new.ensures;
+      alone_scratch_served = one_served_by c.in_ok-shared.shared.table_key.layout c.in_ok-new.field-0.layout c.new-bands.result c.width.result c.plates.result _ _ (c.in_ok-shared.ensures.layout ∙ c.new-layout.ensures.value) c.width.ensures.value c.plates.ensures.value c.in_ok-new.ensures;
       work_seats = c.in_ok-works.ensures.seats;
       plate_works = rw c.in_ok-shared.ensures.page c.in_ok-works.ensures.works;
       part_seats = c.in_ok-parts.ensures.seats;

@@ -1,0 +1,11 @@
+// What the table is given when it is made.
+use page_model::page::Page;
+use row_cells::layout::Layout;
+use std::snapshot::Snapshot;
+
+/// The page, as clauses see it, with the layout of its cells in its bands.
+#[derive(Drop)]
+pub struct TableKey {
+    pub page: Snapshot<Page>,
+    pub layout: Layout,
+}

@@ -1,0 +1,14 @@
+-- are_all_done: whether all pieces are done.
+use Rattle.band_claims.proofs.Looking.{looks_more}
+use Rattle.band_pieces.proofs.Looked.{known_before}
+use Rattle.band_pieces.proofs.pages.are_all_done.Goals as goal
+
+pub loop-piece-preserved : goal.loop-piece-preserved
+loop-piece-preserved c =
+    let v = c.loop-piece.invariant in let d = c.sees_done.ensures.answer in
+    record {
+      end = v.end;
+      reader = c.sees_done.ensures.reader;
+      looks = rw d.1 (looks_more c.args.reader.now.view c.loop-piece.reader.view c.loop-piece.piece d.0 v.looks);
+      known = rw d.1 (known_before c.loop-piece.reader.view c.loop-piece.piece d.0 v.known (d.2.0 c.if-not-sees_done.false));
+    }

@@ -1,0 +1,6 @@
+-- How far the loops of `copies_of` have come.
+use Rattle.std.proofs.Common.{◌≡◌, map, take, string_bytes}
+use Rattle.job_list.proofs.words.copies_of.Given as goal
+
+abbrev pub invariant-loop-text : goal.invariant-loop-text
+invariant-loop-text l = map string_bytes l.copies.items ≡ map (λ t. t.now) (take l.text-index l.texts)
