@@ -5,6 +5,7 @@ ghost use Rattle.page_model.specs.Limits.{most_plates};
 use crate::looks::{Look, look_through};
 use outside::tray::Tray;
 use page_model::parts::{Plane, PlaneList};
+use pgm_plates::converter::Converter;
 use pgm_plates::laws::{file_fault, file_plate};
 use pgm_plates::plate::PlateRefusal;
 use pgm_plates::reading::read_plane;
@@ -13,22 +14,27 @@ use std::alloc::Global;
 use std::convert::AsStr;
 
 /// Reads the plates of these files in order, each as its plane, up to the first that is refused: by a read that fails,
-/// by a fault of the plate's file, or because memory runs out. No file is begun after it.
-pub fn read_plates<T: Tray, S: AsStr>(
+/// by a fault of the plate's file, or because memory runs out. No file is begun after it. The converter makes tints of
+/// the samples.
+pub fn read_plates<T: Tray, S: AsStr, C: Converter>(
     alloc: Global,
     tray: &mut T,
     inputs: &[S],
+    converter: &C,
 ) -> Result<PlaneList, Refusal>
     requires { length inputs.now ≤ most_plates }
     ensures { ReadsPlates (map S.text inputs.now) (T.state tray.old) (T.state tray.new) result }
 {
-    look_through(alloc, tray, inputs, &Plates)
+    look_through(alloc, tray, inputs, &Plates { converter })
 }
 
-// The plane of each file.
-struct Plates;
+// The plane of each file, made by this converter.
+#[derive(Drop)]
+struct Plates<'a, C> {
+    converter: &'a C,
+}
 
-impl Look for Plates {
+impl<'a, C: Converter> Look for Plates<'a, C> {
     type Found = Plane;
 
     type Refusal = Refusal;
@@ -42,7 +48,7 @@ impl Look for Plates {
         number: u32,
         name: &str,
     ) -> Result<Plane, Refusal> {
-        match read_plane(alloc, tray, name) {
+        match read_plane(alloc, tray, name, self.converter) {
             Ok(read) => {
                 file_plate();
                 Ok(read)

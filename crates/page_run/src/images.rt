@@ -5,6 +5,7 @@ ghost use Rattle.page_model.specs.Limits.{most_plates};
 use outside::tray::Tray;
 use page_gather::looks::{Look, look_through};
 use page_model::parts::{Plane, PlaneList};
+use pgm_plates::converter::Converter;
 use pgm_plates::pages::{read_page, read_page_plane};
 use pgm_plates::plate::PlateRefusal;
 use refusals::refusal::Refusal;
@@ -12,33 +13,35 @@ use std::alloc::Global;
 use traprun_verdicts::stop::TraprunError;
 
 /// Reads the plane of that page's image from each of these files in order, up to the first that is refused. No file is
-/// begun after it.
-pub(crate) fn read_images<T: Tray>(
+/// begun after it. The converter makes tints of the samples.
+pub(crate) fn read_images<T: Tray, C: Converter>(
     alloc: Global,
     tray: &mut T,
     page: u32,
     inputs: &[&str],
+    converter: &C,
 ) -> Result<PlaneList, TraprunError>
     requires { length inputs.now ≤ most_plates }
     ensures { ReadsImages page (map (λ file. file.now) inputs.now) (T.state tray.old)
         (T.state tray.new) result }
 {
-    look_through(alloc, tray, inputs, &Images { page })
+    look_through(alloc, tray, inputs, &Images { page, converter })
 }
 
 /// Checks that each of these files ends after as many images as the job has pages, in order, up to the first that does
-/// not.
-pub(crate) fn expect_end<T: Tray>(
+/// not. The converter decodes the images before the end.
+pub(crate) fn expect_end<T: Tray, C: Converter>(
     alloc: Global,
     tray: &mut T,
     pages: u32,
     inputs: &[&str],
+    converter: &C,
 ) -> Result<(), TraprunError>
     requires { length inputs.now ≤ most_plates }
     ensures { ExpectsEnd pages (map (λ file. file.now) inputs.now) (T.state tray.old)
         (T.state tray.new) result }
 {
-    match look_through(alloc, tray, inputs, &Ends { pages }) {
+    match look_through(alloc, tray, inputs, &Ends { pages, converter }) {
         Ok(_) => Ok(()),
         Err(stop) => Err(stop),
     }
@@ -46,11 +49,12 @@ pub(crate) fn expect_end<T: Tray>(
 
 // Reads the plane of a page's image in each file.
 #[derive(Drop)]
-struct Images {
+struct Images<'a, C> {
     page: u32,
+    converter: &'a C,
 }
 
-impl Look for Images {
+impl<'a, C: Converter> Look for Images<'a, C> {
     type Found = Plane;
 
     type Refusal = TraprunError;
@@ -64,7 +68,7 @@ impl Look for Images {
         number: u32,
         name: &str,
     ) -> Result<Plane, TraprunError> {
-        match read_page_plane(alloc, tray, name, self.page) {
+        match read_page_plane(alloc, tray, name, self.page, self.converter) {
             Ok(Some(plane)) => Ok(plane),
             Ok(None) => Err(TraprunError::Ends(self.page, number)),
             Err(PlateRefusal::Fault(fault)) => {
@@ -84,11 +88,12 @@ impl Look for Images {
 
 // Checks the end of each file after the images of all pages.
 #[derive(Drop)]
-struct Ends {
+struct Ends<'a, C> {
     pages: u32,
+    converter: &'a C,
 }
 
-impl Look for Ends {
+impl<'a, C: Converter> Look for Ends<'a, C> {
     type Found = ();
 
     type Refusal = TraprunError;
@@ -102,7 +107,7 @@ impl Look for Ends {
         number: u32,
         name: &str,
     ) -> Result<(), TraprunError> {
-        match read_page(alloc, tray, name, self.pages) {
+        match read_page(alloc, tray, name, self.pages, self.converter) {
             Ok(None) => Ok(()),
             Ok(Some(_)) => Err(TraprunError::Extra(number)),
             Err(PlateRefusal::Fault(fault)) => {

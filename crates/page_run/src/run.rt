@@ -70,7 +70,16 @@ fn trap_job<H: Threads + Sync, T: Tray, R: Rack, G: Gate + Sync>(
         (T.state tray.new) (R.state rack.old) (R.state rack.new) result }
 {
     match trap_pages(rt, alloc, opened, tray, rack, gate) {
-        Ok(()) => expect_end(alloc, tray, opened.job.count(), opened.inputs.as_slice()),
+        Ok(()) => {
+            let pages = opened.job.count();
+            expect_end(
+                alloc,
+                tray,
+                pages,
+                opened.inputs.as_slice(),
+                &opened.workers(rt),
+            )
+        }
         Err(stop) => Err(stop),
     }
 }

@@ -14,6 +14,7 @@ use outside::tray::{Failed, Tray};
 use page_gather::gather::gather;
 use page_model::page::Page;
 use page_model::parts::{Name, OutOfMemory};
+use pgm_plates::converter::OneThread;
 use plain_words::files::{input_files, input_names};
 use refusals::refusal::Refusal;
 use refusals::statuses::{DONE, NOT_WRITTEN};
@@ -76,7 +77,16 @@ fn read_page<T: Tray>(
         input_names(alloc, check.plates),
         input_files(alloc, check.plates),
     ) {
-        (Ok(names), Ok(inputs)) => gather(alloc, tray, check.job, &names, inputs.as_slice()),
+        (Ok(names), Ok(inputs)) => {
+            gather(
+                alloc,
+                tray,
+                check.job,
+                &names,
+                inputs.as_slice(),
+                &OneThread,
+            )
+        }
         _ => Err(Refusal::Memory),
     }
 }

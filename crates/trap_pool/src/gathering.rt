@@ -10,6 +10,7 @@ use job_list::line::{LineList, ListLine};
 use outside::tray::Tray;
 use page_gather::gather::gather;
 use page_model::page::Page;
+use pgm_plates::converter::Converter;
 use std::alloc::Global;
 
 /// The lines of a list, and beside each of them its page, if it waits to be trapped.
@@ -20,12 +21,13 @@ pub(crate) struct Gathering {
 }
 
 // Reads the page of each line in order into `room`, which has a place for each. Later pages may be too large together
-// with those that were accepted before.
-pub(crate) fn gather_lines<T: Tray>(
+// with those that were accepted before. The converter makes tints of the samples.
+pub(crate) fn gather_lines<T: Tray, C: Converter>(
     alloc: Global,
     tray: &mut T,
     lines: &LineList,
     room: Gathering,
+    converter: &C,
 ) -> Gathering
     requires numbered { length lines.now < 2 ^ 32 }
     requires room { IsRoomOf (length lines.now) room }
@@ -38,7 +40,8 @@ pub(crate) fn gather_lines<T: Tray>(
     } = room;
     let mut used = 0u64;
     for number in 0..lines.len() {
-        let (line, page) = gather_line(alloc, tray, &lines.as_slice()[number], number as u32, used);
+        let line = &lines.as_slice()[number];
+        let (line, page) = gather_line(alloc, tray, line, number as u32, used, converter);
         used += line.accepted_samples();
         let Ok(()) = gathered.push(line) else {
             unreachable!()
@@ -54,12 +57,13 @@ pub(crate) fn gather_lines<T: Tray>(
 }
 
 // The line with what was read for it, and its page, if it waits to be trapped.
-fn gather_line<T: Tray>(
+fn gather_line<T: Tray, C: Converter>(
     alloc: Global,
     tray: &mut T,
     line: &ListLine,
     number: u32,
     used: u64,
+    converter: &C,
 ) -> (Gathered, Option<Page>)
     requires { used ≤ most_in_all }
     ensures answer { AnswersLine number used line.now (T.state tray.old) (T.state tray.new)
@@ -68,7 +72,7 @@ fn gather_line<T: Tray>(
     ensures waits { result.1 ≡ waiting_of result.0 }
 {
     let job = line.job();
-    match gather(alloc, tray, job, line.names(), line.inputs()) {
+    match gather(alloc, tray, job, line.names(), line.inputs(), converter) {
         Ok(page) => Gathered::of_page(number, used, page),
         Err(refusal) => (Gathered::of_refusal(number, refusal), None),
     }

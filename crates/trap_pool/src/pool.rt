@@ -17,6 +17,7 @@ use lists::list::List;
 use outside::tray::Tray;
 use page_model::page::Page;
 use page_model::parts::OutOfMemory;
+use plate_workers::Workers;
 use std::alloc::{AllocError, Global};
 use std::marker::Brand;
 use std::sync::Wait;
@@ -55,7 +56,11 @@ pub fn pool_run<H: Threads + Wait + Sync, T: Tray, G: TakeGate + Sync>(
         numbers,
         opening,
     } = room;
-    let gathering = gather_lines(alloc, tray, lines, gathering);
+    let threads = Workers {
+        rt,
+        threads: workers,
+    };
+    let gathering = gather_lines(alloc, tray, lines, gathering, &threads);
     let numbers = waiting_lines(gathering.pages.as_slice(), numbers);
     let gathered = trap_lines::<Brand, H, G>(rt, alloc, gathering, numbers, opening, gate);
     Ok(List::from_vec(replies_of(gathered, replies)))

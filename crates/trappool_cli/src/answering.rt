@@ -14,6 +14,7 @@ use outside::rack::Rack;
 use outside::tray::Failed;
 use page_model::parts::{Name, PlaneList};
 use page_writing::writing::write_page;
+use pgm_plates::converter::Converter;
 use refusals::refusal::Refusal;
 use refusals::statuses::{DONE, LINES_REFUSED, NOT_WRITTEN};
 use trap_pool::outcome::Outcome;
@@ -28,8 +29,14 @@ pub(crate) enum LineStatus {
     TooLarge,
 }
 
-// Writes line by line the files of what is done, and prints what became of it. It stops if that can't be printed.
-pub(crate) fn answer_all<R: Rack>(rack: &mut R, lines: &LineList, replies: ReplyList) -> u8
+// Writes line by line the files of what is done, whose samples the converter encodes, and prints what became of it. It
+// stops if that can't be printed.
+pub(crate) fn answer_all<R: Rack, C: Converter>(
+    rack: &mut R,
+    lines: &LineList,
+    replies: ReplyList,
+    converter: &C,
+) -> u8
     requires numbered { length lines.now < 2 ^ 32 }
     requires outs { AllHaveOuts lines.now replies }
     ensures { AnswersAll 0 0 lines.now replies (R.state rack.old) (R.state rack.new) result }
@@ -38,7 +45,7 @@ pub(crate) fn answer_all<R: Rack>(rack: &mut R, lines: &LineList, replies: Reply
     let mut number = 0usize;
     for reply in replies.into_vec() {
         let line = &lines.as_slice()[number];
-        match answer_line(rack, number as u32, line, reply) {
+        match answer_line(rack, number as u32, line, reply, converter) {
             Some(LineStatus::Done) => number += 1,
             Some(_) => {
                 status = LINES_REFUSED;
@@ -51,16 +58,17 @@ pub(crate) fn answer_all<R: Rack>(rack: &mut R, lines: &LineList, replies: Reply
 }
 
 // Writes the files of a line, and prints what became of it; `None` if that can't be printed.
-fn answer_line<R: Rack>(
+fn answer_line<R: Rack, C: Converter>(
     rack: &mut R,
     number: u32,
     line: &ListLine,
     reply: Reply,
+    converter: &C,
 ) -> Option<LineStatus>
     requires { HasOuts line.now reply }
     ensures { AnswersOne number line.now reply (R.state rack.old) (R.state rack.new) result }
 {
-    let said = write_reply(rack, line, reply);
+    let said = write_reply(rack, line, reply, converter);
     match tell_job(rack, number, &said) {
         Ok(()) => Some(said),
         Err(Failed) => None,
@@ -68,7 +76,12 @@ fn answer_line<R: Rack>(
 }
 
 // Writes the files of a line whose page is done, and returns what became of it.
-fn write_reply<R: Rack>(rack: &mut R, line: &ListLine, reply: Reply) -> LineStatus
+fn write_reply<R: Rack, C: Converter>(
+    rack: &mut R,
+    line: &ListLine,
+    reply: Reply,
+    converter: &C,
+) -> LineStatus
     requires { HasOuts line.now reply }
     ensures { WritesReply line.now reply (R.state rack.old) (R.state rack.new) result }
 {
@@ -80,7 +93,7 @@ fn write_reply<R: Rack>(rack: &mut R, line: &ListLine, reply: Reply) -> LineStat
     } = reply.into_parts();
     match outcome {
         Outcome::Done(trapped) => match report {
-            Some(text) => write_done(rack, line, trapped.planes, &text),
+            Some(text) => write_done(rack, line, trapped.planes, &text, converter),
             None => unreachable!(),
         },
         Outcome::Refused(refusal) => LineStatus::Refused(refusal),
@@ -88,7 +101,13 @@ fn write_reply<R: Rack>(rack: &mut R, line: &ListLine, reply: Reply) -> LineStat
     }
 }
 
-fn write_done<R: Rack>(rack: &mut R, line: &ListLine, planes: PlaneList, text: &Name) -> LineStatus
+fn write_done<R: Rack, C: Converter>(
+    rack: &mut R,
+    line: &ListLine,
+    planes: PlaneList,
+    text: &Name,
+    converter: &C,
+) -> LineStatus
     requires few { length planes ≤ most_plates }
     requires outs { length planes ≡ length line.now.outs }
     requires planes { All IsPlane planes }
@@ -97,7 +116,14 @@ fn write_done<R: Rack>(rack: &mut R, line: &ListLine, planes: PlaneList, text: &
         → text.now ≡ report_of page (page_counts page)
         → WritesDone line.now page (R.state rack.old) (R.state rack.new) result }
 {
-    match write_page(rack, line.outs(), planes, line.report(), text.as_slice()) {
+    match write_page(
+        rack,
+        line.outs(),
+        planes,
+        line.report(),
+        text.as_slice(),
+        converter,
+    ) {
         Ok(()) => LineStatus::Done,
         Err(refusal) => LineStatus::Refused(refusal),
     }
