@@ -1,6 +1,6 @@
 ghost use Rattle.std.specs.Prelude.{◌≡◌, ◌<◌, ◌≤◌, IfOk, length};
 
-use std::io;
+use crate::tray::Failed;
 use std::io::{ErrorKind, Read};
 
 // How often an interrupted read is tried again.
@@ -37,7 +37,7 @@ impl Ahead {
     }
 
     // Reads on in the file, a whole piece where less is asked for.
-    pub(crate) fn read<F: Read>(&mut self, file: &mut F, buf: &mut [u8]) -> io::Result<usize>
+    pub(crate) fn read<F: Read>(&mut self, file: &mut F, buf: &mut [u8]) -> Result<usize, Failed>
         ensures within { IfOk result (λ n. n ≤ length buf.new) }
     {
         if self.start == self.end {
@@ -45,25 +45,36 @@ impl Ahead {
                 return read_once(file, buf);
             }
             self.forget();
-            self.end = read_once(file, &mut self.bytes)?;
+            match read_once(file, &mut self.bytes) {
+                Ok(count) => self.end = count,
+                Err(Failed) => return Err(Failed),
+            }
         }
+        Ok(self.give(buf))
+    }
+
+    // Gives bytes that were read, and returns how many.
+    fn give(&mut self, buf: &mut [u8]) -> usize
+        ensures { result ≤ length buf.new }
+    {
         let count = buf.len().min(self.end - self.start);
         buf[..count].copy_from_slice(&self.bytes[self.start..self.start + count]);
         self.start += count;
-        Ok(count)
+        count
     }
 }
 
 // Reads, and tries again where the read is interrupted.
-pub(crate) fn read_once<F: Read>(file: &mut F, buf: &mut [u8]) -> io::Result<usize>
+pub(crate) fn read_once<F: Read>(file: &mut F, buf: &mut [u8]) -> Result<usize, Failed>
     ensures within { IfOk result (λ n. n ≤ length buf.new) }
     ensures same { length buf.new ≡ length buf.old }
 {
     for _ in 0..TRIES {
         match file.read(buf) {
+            Ok(count) => return Ok(count),
             Err(error) if error.kind() == ErrorKind::Interrupted => {}
-            answer => return answer,
+            Err(_) => return Err(Failed),
         }
     }
-    Err(io::Error::from(ErrorKind::Interrupted))
+    Err(Failed)
 }

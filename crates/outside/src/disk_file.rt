@@ -1,6 +1,8 @@
 ghost use Rattle.std.specs.Prelude.{◌<◌, ◌≤◌, IfOk, length};
 
+use crate::tray::Failed;
 use arrayvec::ArrayString;
+use std::alloc::Allocator;
 use std::fmt::InlineText;
 use std::fs::{Metadata, OpenFile, OpenOptions, Permissions};
 use std::io::{ErrorKind, Write};
@@ -38,7 +40,7 @@ enum Place {
 
 // A file that is written. Until it is whole it stands beside its place, under a name of its own, and is removed if it
 // is dropped before it is finished. What is no regular file is written in place, as standard output is.
-pub(crate) struct DiskFile<'a, R: Files + Alloc + Print> {
+pub(crate) struct DiskFile<'a, R: Files> {
     files: &'a R,
     file: R::File,
     is_output: bool,
@@ -53,7 +55,7 @@ struct Beside {
     name: PathText,
 }
 
-impl<R: Files + Alloc + Print> Drop for DiskFile<'_, R> {
+impl<R: Files> Drop for DiskFile<'_, R> {
     fn drop(self) {
         if let Some(beside) = &self.beside {
             let _gone = fs::remove_file(self.files, beside.written.as_str());
@@ -68,19 +70,24 @@ impl<R: Files + Alloc + Print> Drop for DiskFile<'_, R> {
     }
 }
 
-impl<'a, R: Files + Alloc + Print> DiskFile<'a, R> {
+impl<'a, R: Files> DiskFile<'a, R> {
     // Begins an empty file for that name. A file that stands there is left as it is, and has to be writable; a link is
     // followed.
-    pub(crate) fn create(files: &'a R, name: &str) -> io::Result<DiskFile<'a, R>> {
+    pub(crate) fn create(files: &'a R, name: &str) -> Result<DiskFile<'a, R>, Failed>
+    where
+        R: Alloc,
+    {
         match place_of(files, name)? {
             Place::Disk(place) => create_at(files, place),
-            Place::StandardOutput => Ok(in_place(files, open_at_end(files, name)?, true)),
-            Place::Open => Ok(in_place(files, open_at_end(files, name)?, false)),
+            Place::StandardOutput => open_at_end(files, name, true),
+            Place::Open => open_at_end(files, name, false),
         }
     }
 
     // Writes a prefix of the piece, and returns its length, which is 0 only for an empty piece.
-    pub(crate) fn write(&mut self, piece: &[u8]) -> io::Result<usize>
+    pub(crate) fn write(&mut self, piece: &[u8]) -> Result<usize, Failed>
+    where
+        R: Print,
         ensures within { IfOk result (λ n. n ≤ length piece.now) }
         ensures some { IfOk result (λ n. 0 < length piece.now → 0 < n) }
     {
@@ -97,30 +104,43 @@ impl<'a, R: Files + Alloc + Print> DiskFile<'a, R> {
             }
         }
         self.is_broken = true;
-        Err(io::Error::from(ErrorKind::WriteZero))
+        Err(Failed)
     }
 
     // Writes the file through to the disk, and renames it to its place. It fails if any call of this file failed.
-    pub(crate) fn finish(&mut self) -> io::Result<()> {
+    pub(crate) fn finish(&mut self) -> Result<(), Failed> {
         if self.is_broken {
-            return Err(io::Error::from(ErrorKind::WriteZero));
+            return Err(Failed);
         }
         self.is_broken = true;
         write_through(&self.file)?;
         if let Some(beside) = &self.beside {
-            fs::rename(self.files, beside.written.as_str(), beside.name.as_str())?;
+            plain(fs::rename(self.files, beside.written.as_str(), beside.name.as_str()))?;
         }
         self.beside = None;
         Ok(())
     }
 }
 
+// What a call of the system gave, without the reason of a failure.
+fn plain<T>(answer: io::Result<T>) -> Result<T, Failed> {
+    match answer {
+        Ok(value) => Ok(value),
+        Err(_) => Err(Failed),
+    }
+}
+
+// The same, with `None` where it failed for that reason.
+fn unless<T>(answer: io::Result<T>, reason: ErrorKind) -> Result<Option<T>, Failed> {
+    match answer {
+        Ok(value) => Ok(Some(value)),
+        Err(error) if error.kind() == reason => Ok(None),
+        Err(_) => Err(Failed),
+    }
+}
+
 // A file that is written in place.
-fn in_place<R: Files + Alloc + Print>(
-    files: &R,
-    file: R::File,
-    is_output: bool,
-) -> DiskFile<'_, R> {
+fn in_place<R: Files>(files: &R, file: R::File, is_output: bool) -> DiskFile<'_, R> {
     DiskFile {
         files,
         file,
@@ -131,96 +151,137 @@ fn in_place<R: Files + Alloc + Print>(
 }
 
 // A file that is open already may have something in it, which stays: bytes are appended.
-fn open_at_end<R: Files>(files: &R, name: &str) -> io::Result<R::File> {
-    OpenOptions::new().append(true).open(files, name)
+fn open_at_end<'a, R: Files>(
+    files: &'a R,
+    name: &str,
+    is_output: bool,
+) -> Result<DiskFile<'a, R>, Failed> {
+    match OpenOptions::new().append(true).open(files, name) {
+        Ok(file) => Ok(in_place(files, file, is_output)),
+        Err(_) => Err(Failed),
+    }
 }
 
 // Begins a file at its place, if what stands there may be written.
-fn create_at<R: Files + Alloc + Print>(files: &R, place: PathText) -> io::Result<DiskFile<'_, R>> {
-    match OpenOptions::new().write(true).open(files, place.as_str()) {
-        Ok(old) => {
-            let metadata = old.metadata()?;
-            if metadata.is_file() {
-                begin_beside(files, place, Some(metadata))
-            } else {
-                Ok(in_place(files, old, false))
-            }
-        }
-        Err(error) if error.kind() == ErrorKind::NotFound => begin_beside(files, place, None),
-        Err(error) => Err(error),
+fn create_at<R: Files>(files: &R, place: PathText) -> Result<DiskFile<'_, R>, Failed> {
+    let old = OpenOptions::new().write(true).open(files, place.as_str());
+    match unless(old, ErrorKind::NotFound)? {
+        Some(old) => create_over(files, place, old),
+        None => begin_beside(files, place, None),
+    }
+}
+
+// Begins a file at the place of one that is open: what is no regular file is written in place.
+fn create_over<R: Files>(
+    files: &R,
+    place: PathText,
+    old: R::File,
+) -> Result<DiskFile<'_, R>, Failed> {
+    match old.metadata() {
+        Ok(metadata) if metadata.is_file() => begin_beside(files, place, Some(metadata)),
+        Ok(_) => Ok(in_place(files, old, false)),
+        Err(_) => Err(Failed),
     }
 }
 
 // Finds where the name leads. It allocates only for a link.
-fn place_of<R: Files + Alloc>(files: &R, name: &str) -> io::Result<Place> {
+fn place_of<R: Files + Alloc>(files: &R, name: &str) -> Result<Place, Failed> {
     let mut place = path_text(name)?;
     for _ in 0..MOST_LINKS {
-        let text = place.as_str();
-        if text == "/proc/self/fd/1" || text == "/dev/fd/1" {
+        if is_output(place.as_str()) {
             return Ok(Place::StandardOutput);
         }
-        if text.starts_with("/proc/") || text.starts_with("/dev/fd/") {
+        if is_open(place.as_str()) {
             return Ok(Place::Open);
         }
-        match fs::symlink_metadata(files, text) {
-            Ok(metadata) if metadata.is_symlink() => {}
-            Ok(_) => return Ok(Place::Disk(place)),
-            Err(error) if error.kind() == ErrorKind::NotFound => {
-                return Ok(Place::Disk(place));
-            }
-            Err(error) => return Err(error),
+        if !is_link(files, place.as_str())? {
+            return Ok(Place::Disk(place));
         }
-        place = link_of(files, text)?;
+        place = link_of(files, place.as_str())?;
     }
-    Err(io::Error::from(ErrorKind::FilesystemLoop))
+    Err(Failed)
 }
 
-fn link_of<R: Files + Alloc>(files: &R, place: &str) -> io::Result<PathText> {
-    let link = fs::read_link(files, place)?;
-    match Path::new(place).parent() {
-        Some(folder) => path_text(folder.join(files.alloc(), &link)?.as_str()),
-        None => path_text(link.as_str()),
+fn is_output(place: &str) -> bool {
+    place == "/proc/self/fd/1" || place == "/dev/fd/1"
+}
+
+fn is_open(place: &str) -> bool {
+    place.starts_with("/proc/") || place.starts_with("/dev/fd/")
+}
+
+// Whether a link stands at that place, and not a file or nothing.
+fn is_link<R: Files>(files: &R, place: &str) -> Result<bool, Failed> {
+    match fs::symlink_metadata(files, place) {
+        Ok(metadata) => Ok(metadata.is_symlink()),
+        Err(error) if error.kind() == ErrorKind::NotFound => Ok(false),
+        Err(_) => Err(Failed),
     }
 }
 
-fn path_text(text: &str) -> io::Result<PathText> {
+// Where the link at that place leads.
+fn link_of<R: Files + Alloc>(files: &R, place: &str) -> Result<PathText, Failed> {
+    match fs::read_link(files, place) {
+        Ok(link) => match Path::new(place).parent() {
+            Some(folder) => within(files.alloc(), folder, link.as_str()),
+            None => path_text(link.as_str()),
+        },
+        Err(_) => Err(Failed),
+    }
+}
+
+// A path that is seen from that folder.
+fn within<A: Allocator>(alloc: A, folder: Path, path: &str) -> Result<PathText, Failed> {
+    match folder.join(alloc, path) {
+        Ok(whole) => path_text(whole.as_str()),
+        Err(_) => Err(Failed),
+    }
+}
+
+fn path_text(text: &str) -> Result<PathText, Failed> {
     match PathText::from(text) {
         Ok(path) => Ok(path),
-        Err(_) => Err(io::Error::from(ErrorKind::InvalidFilename)),
+        Err(_) => Err(Failed),
     }
 }
 
 // Begins a file beside its place, under the first name that is free.
-fn begin_beside<R: Files + Alloc + Print>(
+fn begin_beside<R: Files>(
     files: &R,
     name: PathText,
     old: Option<Metadata>,
-) -> io::Result<DiskFile<'_, R>> {
+) -> Result<DiskFile<'_, R>, Failed> {
     for number in 0..MOST_NAMES {
         let written = name_beside(name.as_str(), number)?;
-        match OpenOptions::new()
+        let file = OpenOptions::new()
             .write(true)
             .create_new(true)
-            .open(files, written.as_str())
-        {
-            Ok(file) => {
-                let begun = DiskFile {
-                    files,
-                    file,
-                    is_output: false,
-                    beside: Some(Beside { written, name }),
-                    is_broken: false,
-                };
-                if let Some(old) = old {
-                    keep_rights(files, &begun.file, written.as_str(), &old)?;
-                }
-                return Ok(begun);
-            }
-            Err(error) if error.kind() == ErrorKind::AlreadyExists => {}
-            Err(error) => return Err(error),
+            .open(files, written.as_str());
+        if let Some(file) = unless(file, ErrorKind::AlreadyExists)? {
+            return in_place_of(files, file, Beside { written, name }, old);
         }
     }
-    Err(io::Error::from(ErrorKind::AlreadyExists))
+    Err(Failed)
+}
+
+// A temporary file that was just created, with the rights of the file that it replaces.
+fn in_place_of<R: Files>(
+    files: &R,
+    file: R::File,
+    beside: Beside,
+    old: Option<Metadata>,
+) -> Result<DiskFile<'_, R>, Failed> {
+    let begun = DiskFile {
+        files,
+        file,
+        is_output: false,
+        beside: Some(beside),
+        is_broken: false,
+    };
+    if let Some(old) = old {
+        keep_rights(files, &begun.file, beside.written.as_str(), &old)?;
+    }
+    Ok(begun)
 }
 
 // Gives the temporary file the owner, the group and the rights of the file that it replaces. Where the owner may not be
@@ -230,58 +291,66 @@ fn keep_rights<R: Files>(
     file: &R::File,
     written: &str,
     old: &Metadata,
-) -> io::Result<()> {
-    let new = file.metadata()?;
+) -> Result<(), Failed> {
+    let new = plain(file.metadata())?;
     let mut mode = old.permissions().mode();
     let is_other = new.uid() != old.uid() || new.gid() != old.gid();
     if is_other && lchown(files, written, Some(old.uid()), Some(old.gid())).is_err() {
         let _group = lchown(files, written, None, Some(old.gid()));
         mode &= PLAIN_RIGHTS;
     }
-    file.set_permissions(Permissions::from_mode(mode))
+    plain(file.set_permissions(Permissions::from_mode(mode)))
 }
 
 // The name of the temporary file of that number, in the same folder.
-fn name_beside(name: &str, number: u32) -> io::Result<PathText> {
+fn name_beside(name: &str, number: u32) -> Result<PathText, Failed> {
     let path = Path::new(name);
     let Some(last) = path.file_name() else {
-        return Err(io::Error::from(ErrorKind::InvalidInput));
+        return Err(Failed);
     };
-    let folder = match path.parent() {
-        Some(folder) => folder.as_str(),
-        None => "",
+    let mut text = match path.parent() {
+        Some(folder) => folder_text(folder.as_str())?,
+        None => PathText::new(),
     };
-    let number = InlineText::<10>::of(number);
+    push_name(&mut text, last, number)?;
+    Ok(text)
+}
+
+// A folder, with a slash at its end unless it is empty.
+fn folder_text(folder: &str) -> Result<PathText, Failed> {
     let mut text = path_text(folder)?;
-    for part in [
-        if folder.is_empty() || folder.ends_with("/") {
-            ""
-        } else {
-            "/"
-        },
-        ".",
-        if last.len() <= LONG_NAME { last } else { "" },
-        ".trap-",
-        number.as_str(),
-    ] {
-        if text.try_push_str(part).is_err() {
-            return Err(io::Error::from(ErrorKind::InvalidFilename));
-        }
+    if !folder.is_empty() && !folder.ends_with("/") {
+        push(&mut text, "/")?;
     }
     Ok(text)
 }
 
+// Appends the name of the temporary file of that number, beside a file of that name.
+fn push_name(text: &mut PathText, name: &str, number: u32) -> Result<(), Failed> {
+    push(text, ".")?;
+    push(text, if name.len() <= LONG_NAME { name } else { "" })?;
+    push(text, ".trap-")?;
+    push(text, InlineText::<10>::of(number).as_str())
+}
+
+fn push(text: &mut PathText, part: &str) -> Result<(), Failed> {
+    match text.try_push_str(part) {
+        Ok(()) => Ok(()),
+        Err(_) => Err(Failed),
+    }
+}
+
 // A file that cannot be synced, as a pipe, is no error.
-fn write_through<F: OpenFile>(file: &F) -> io::Result<()> {
+fn write_through<F: OpenFile>(file: &F) -> Result<(), Failed> {
     for _ in 0..TRIES {
         match file.sync_data() {
             Ok(()) => return Ok(()),
             Err(error) => match error.kind() {
                 ErrorKind::InvalidInput | ErrorKind::Unsupported => return Ok(()),
                 ErrorKind::Interrupted => {}
-                _ => return Err(error),
+                _ => return Err(Failed),
             },
         }
     }
-    Err(io::Error::from(ErrorKind::Interrupted))
+    Err(Failed)
 }

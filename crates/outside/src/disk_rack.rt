@@ -51,12 +51,10 @@ impl<R: Files + Alloc + Print> Rack for DiskRack<'_, R> {
 
     fn create(&mut self, name: &str) -> Result<(), Failed> {
         self.current = None;
-        match DiskFile::create(self.files, name) {
-            Ok(file) => {
-                self.current = Some(file);
-                Ok(())
-            }
-            Err(_) => Err(fault(&mut self.faults)),
+        self.current = DiskFile::create(self.files, name).ok();
+        match &self.current {
+            Some(_) => Ok(()),
+            None => Err(fault(&mut self.faults)),
         }
     }
 
@@ -64,7 +62,7 @@ impl<R: Files + Alloc + Print> Rack for DiskRack<'_, R> {
         match &mut self.current {
             Some(file) => match file.write(piece) {
                 Ok(count) => Ok(count),
-                Err(_) => Err(fault(&mut self.faults)),
+                Err(Failed) => Err(fault(&mut self.faults)),
             },
             None => Err(fault(&mut self.faults)),
         }
@@ -77,7 +75,7 @@ impl<R: Files + Alloc + Print> Rack for DiskRack<'_, R> {
                     self.current = None;
                     Ok(())
                 }
-                Err(_) => Err(fault(&mut self.faults)),
+                Err(Failed) => Err(fault(&mut self.faults)),
             },
             None => Err(fault(&mut self.faults)),
         }
