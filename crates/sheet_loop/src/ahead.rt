@@ -20,6 +20,9 @@ use std::thread;
 use std::thread::Threads;
 use strip_rows::parts::StripPlan;
 use strip_rows::strip::trap_row;
+use strip_tiles::room::StripRoom;
+use tile_counts::counts::SheetCounts;
+use window_pages::sheet::Sheet;
 
 /// Moves the next strip to these rows, copies those of them that the current strip has too from it, and reads the
 /// others, plate k by tray k. It allocates nothing.
@@ -94,17 +97,13 @@ pub fn trap_and_read<H: Threads + Sync, T: Tray>(
     let counts = &mut room.counts;
     let ahead = &mut room.ahead;
     let pieces = &mut room.pieces;
-    if plan.workers == 1 {
-        trap_row(rt, plan, row, strip, windows, counts);
-        return read_row(
-            alloc, trays, bare, plan, plates, progress, next, parts, ahead, pieces,
-        );
-    }
-    let (_, result) = thread::join_mut(
+    trap_while(
         rt,
-        &mut ||
-            requires { IsTrappable plan.now row.now strip.now windows.now counts.now }
-        { trap_row(rt, plan, row, strip, windows, counts) },
+        plan,
+        row,
+        strip,
+        windows,
+        counts,
         &mut || -> Result<(), RereadError>
             requires can { CanReadRow bare.now plan.now plates.now progress.now next.now
                 (map T.state trays.now) parts.now ahead.now }
@@ -115,6 +114,36 @@ pub fn trap_and_read<H: Threads + Sync, T: Tray>(
                 alloc, trays, bare, plan, plates, progress, next, parts, ahead, pieces,
             )
         },
+    )
+}
+
+/// Traps a strip and counts its core, and does some other work: side by side, with the other work in the caller's
+/// thread; or with one worker one after the other. It allocates nothing but what threads take.
+pub fn trap_while<H: Threads + Sync, W: FnMut() -> A, A: Send>(
+    rt: &H,
+    plan: &StripPlan,
+    row: &Span,
+    strip: &Sheet,
+    windows: &mut StripRoom,
+    counts: &mut SheetCounts,
+    work: &mut W,
+) -> A
+    requires trap { IsTrappable plan.now row.now strip.now windows.old counts.old }
+    requires work { W.pre work.old }
+    ensures trapped { TrapsRow plan.now row.now strip.now windows.old windows.new counts.old
+        counts.new }
+    ensures work { W.step work.old result work.new }
+{
+    if plan.workers == 1 {
+        trap_row(rt, plan, row, strip, windows, counts);
+        return work();
+    }
+    let (_, result) = thread::join_mut(
+        rt,
+        &mut ||
+            requires { IsTrappable plan.now row.now strip.now windows.now counts.now }
+        { trap_row(rt, plan, row, strip, windows, counts) },
+        work,
     );
     result
 }

@@ -9,7 +9,7 @@ ghost use Rattle.strip_rows.specs.Cores.{WritesCore};
 ghost use Rattle.strip_rows.specs.OnSheet.{strip_cut};
 ghost use Rattle.strip_rows.specs.Ready.{IsTrappable, TrapsRow};
 
-use crate::ahead::read_row;
+use crate::ahead::{read_row, trap_while};
 use crate::room::{StreamRoom, no_parts};
 use crate::rows::{Progress, progress_after};
 use crate::stop::StreamError;
@@ -20,10 +20,9 @@ use pgm_plates::rows::OpenPlate;
 use refusals::refusal::Refusal;
 use sheet_windows::spans::Span;
 use std::alloc::Global;
-use std::thread;
 use std::thread::Threads;
 use strip_rows::parts::StripPlan;
-use strip_rows::strip::{CoreRoom, trap_row, write_row};
+use strip_rows::strip::{CoreRoom, write_row};
 use window_pages::sheet::Sheet;
 
 /// Writes the rows of the core of a strip that was trapped and not written yet, plate k by rack k. It allocates
@@ -151,18 +150,13 @@ pub fn trap_beside<H: Threads + Sync, T: Tray, R: Rack>(
     let ahead = &mut room.ahead;
     let core = &mut room.core;
     let pieces = &mut room.pieces;
-    if plan.workers == 1 {
-        trap_row(rt, plan, row, strip, windows, counts);
-        return write_and_read(
-            alloc, trays, racks, bare, plan, plates, progress, last, next, parts, ahead, core,
-            pieces,
-        );
-    }
-    let (_, result) = thread::join_mut(
+    trap_while(
         rt,
-        &mut ||
-            requires { IsTrappable plan.now row.now strip.now windows.now counts.now }
-        { trap_row(rt, plan, row, strip, windows, counts) },
+        plan,
+        row,
+        strip,
+        windows,
+        counts,
         &mut || -> Result<(), StreamError>
             requires opened { PlatesOpen plan.now ahead.now (map R.state racks.now) }
             requires waiting { IsWaiting plan.now last.now ahead.now core.now }
@@ -178,6 +172,5 @@ pub fn trap_beside<H: Threads + Sync, T: Tray, R: Rack>(
                 pieces,
             )
         },
-    );
-    result
+    )
 }
