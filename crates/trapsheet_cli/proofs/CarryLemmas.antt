@@ -1,5 +1,5 @@
 -- How a command ends, from how its sheet was judged and put out.
-use Rattle.std.proofs.Common.{◌≡◌, ℕ, ◌<◌, ◌≤◌, List, length, Some, None, Result, Ok, Err, inl, inr, refl, sym, ap, ◌∙◌, subst, arith}
+use Rattle.std.proofs.Common.{◌≡◌, ℕ, ◌<◌, ◌≤◌, List, Bor, length, map, Some, None, Result, Ok, Err, inl, inr, refl, sym, ap, ◌∙◌, subst, arith}
 use Rattle.std.proofs.lemmas.Bool.{cases_lt}
 use Rattle.std.proofs.lemmas.List.{length-map}
 use Rattle.bare_sheets.specs.Bare.{bare_sheet}
@@ -84,6 +84,10 @@ ready source budget a b judged judges = ready_by source budget a b judged judges
 -- as many plates as files
 pub inputs_count : (source : Sources) (budget : Budget) (a b : List TrayState) (judged : PlannedSheet) → Ready source budget a b judged → length source.inputs ≡ plates judged.bare
 inputs_count source budget a b judged read = sym read.is.made.count ∙ sym (plates_is read.is.sheet) ∙ ap plates read.is.same
+
+pub as_many_files : (source : Sources) (budget : Budget) (a b : List TrayState) (judged : PlannedSheet) → Ready source budget a b judged → (files : List (Bor (List ℕ))) → map (λ (f : Bor (List ℕ)). f.now) files ≡ source.inputs → length files ≡ plates judged.bare
+as_many_files source budget a b judged read files named =
+    sym (length-map files (λ (f : Bor (List ℕ)). f.now)) ∙ ap (λ (l : List (List ℕ)). length l) named ∙ inputs_count source budget a b judged read
 
 -- Plates that were read whole once more.
 module _ (inputs : List (List ℕ)) (count : ℕ) (bare : PageParts) (samples : ℕ → List ℕ) (b c : List TrayState) (whole : EachTray count (λ k before after. ReadsPlateWithin Sheet (name_at inputs k) before after (Ok (plate_with (sheet_header bare) (samples k)))) b c) where

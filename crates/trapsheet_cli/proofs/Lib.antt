@@ -1,5 +1,6 @@
 pub mod OutcomeLemmas
 pub mod RackLemmas
+pub mod NameLemmas
 pub mod EndLemmas
 pub mod LocalityLemmas
 pub mod ClauseLemmas

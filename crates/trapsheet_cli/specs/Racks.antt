@@ -2,12 +2,14 @@
 -- its plate.
 use Rattle.std.specs.Prelude.{◌≡◌, ◌≢◌, ◌⊎◌, ℕ, zero, suc, ◌<◌, ◌≤◌, IsTrue, List, [], ◌∷◌}
 use Rattle.std.specs.Prelude.{length, take, Option, Some, None, Result, Ok, Err}
+use Rattle.std.specs.List.{All}
 use Rattle.outside.specs.Causes.{Asks, AsksPrefix, RoseOnce}
 use Rattle.outside.specs.Rack.{RackState, KeepsRack, put}
 use Rattle.outside.specs.Writing.{WritesFile}
 use Rattle.outside.specs.declared.tray.Failed.{Failed}
 use Rattle.page_gather.specs.Inputs.{name_at}
 use Rattle.page_model.specs.declared.parts.Plane.{Plane}
+use Rattle.page_model.specs.Limits.{most_maxval}
 use Rattle.page_model.specs.Planes.{plane_at}
 use Rattle.page_writing.specs.Files.{Written}
 use Rattle.page_writing.specs.Format.{encoded}
@@ -78,6 +80,11 @@ pub record BreaksSheet (target : Targets) (planes : List Plane) (text : List ℕ
   pub others : (k : ℕ) → k ≢ tray_of file → (rack_at after k ≡ rack_at before k)
       ⊎ HoldsPart (plate_file target planes k) (rack_at before k) (rack_at after k)
       ⊎ WritesAll (plate_file target planes k ∷ []) (rack_at before k) (rack_at after k)
+
+-- Planes that can be written as plates.
+pub record CanWrite (planes : List Plane) : Type 0 where
+  pub maxvals : All (λ plane. plane.maxval ≤ most_maxval) planes
+  pub fits : All (λ plane. All (λ t. t ≤ plane.maxval) plane.tints) planes
 
 -- Each plane is written as a plate by its own rack, and then the text as the report by the first.
 pub data WritesSheet (target : Targets) (planes : List Plane) (text : List ℕ)

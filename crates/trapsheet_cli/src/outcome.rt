@@ -44,10 +44,35 @@ pub fn outcome_of<H: Threads + Sync>(
     ensures report { IfOk result (λ o. o.report ≡ report_of parts (page_counts parts)) }
 {
     match plan {
-        Plan::Strips(rulers) => sheet_outcome(rt, alloc, &Sheet::of(parts), &rulers, workers),
-        Plan::Windows(rulers) => sheet_outcome(rt, alloc, &Sheet::of(parts), &rulers, workers),
-        Plan::Page => page_outcome(alloc, &page_of(parts)),
+        Plan::Strips(rulers) => cut_outcome(rt, alloc, parts, &rulers, workers),
+        Plan::Windows(rulers) => cut_outcome(rt, alloc, parts, &rulers, workers),
+        Plan::Page => whole_outcome(alloc, parts),
     }
+}
+
+// A page after trapping by one thread, which frees the page.
+fn whole_outcome(alloc: Global, parts: PageParts) -> Result<SheetOutcome, OutOfMemory>
+    requires { IsPage parts }
+    ensures planes { IfOk result (λ o. o.planes ≡ trapped_planes parts) }
+    ensures report { IfOk result (λ o. o.report ≡ report_of parts (page_counts parts)) }
+{
+    page_outcome(alloc, &page_of(parts))
+}
+
+// A sheet after trapping, window by window, which frees the sheet.
+fn cut_outcome<H: Threads + Sync>(
+    rt: &H,
+    alloc: Global,
+    parts: PageParts,
+    rulers: &Rulers,
+    workers: u32,
+) -> Result<SheetOutcome, OutOfMemory>
+    requires some_workers { 1 ≤ workers }
+    requires can { CanCut parts rulers.now }
+    ensures planes { IfOk result (λ o. o.planes ≡ trapped_planes parts) }
+    ensures report { IfOk result (λ o. o.report ≡ report_of parts (page_counts parts)) }
+{
+    sheet_outcome(rt, alloc, &Sheet::of(parts), rulers, workers)
 }
 
 // The page that a sheet is.

@@ -1,20 +1,24 @@
 ghost use Rattle.std.specs.Prelude.{◌≡◌, ◌≤◌, length, map};
 ghost use Rattle.bare_sheets.specs.Bare.{IsBareSheet, bare_sheet};
 ghost use Rattle.bare_sheets.specs.Planned.{IsPlan};
+ghost use Rattle.page_model.specs.declared.parts.PageParts.{PageParts};
 ghost use Rattle.page_model.specs.Page.{plates};
+ghost use Rattle.page_model.specs.Tints.{trapped_planes};
+ghost use Rattle.sheet_gather.specs.Judging.{JudgesSheet};
 ghost use Rattle.sheet_loop.specs.Second.{course_of};
-ghost use Rattle.trapsheet_cli.specs.Endings.{CarriesOut, EndsSheet, PutsOut, RefusesFirst};
-ghost use Rattle.trapsheet_cli.specs.Held.{IsWithin, order_in};
+ghost use Rattle.trapsheet_cli.specs.Endings.{CarriesOut, EndsSheet, PutsOut, RefusesFirst, sheet_report};
+ghost use Rattle.trapsheet_cli.specs.Held.{AreInputs, IsWithin, order_in};
 ghost use Rattle.trapsheet_cli.specs.Planned.{PutsPlanned, PutsWhole};
 ghost use Rattle.trapsheet_cli.specs.Streaming.{StreamsBy, StreamsOut};
 ghost use Rattle.trapsheet_cli.specs.Holding.{CanHold};
+ghost use Rattle.trapsheet_cli.specs.Racks.{CanWrite};
 ghost use Rattle.trapsheet_cli.specs.Trapping.{CanTrap};
-ghost use Rattle.trapsheet_cli.specs.Words.{targets_of};
+ghost use Rattle.trapsheet_cli.specs.Words.{sources_of, targets_of};
 ghost use Rattle.sheet_windows.specs.Sheets.{IsSheet};
 ghost use Rattle.page_model.specs.Limits.{most_plates};
 
 use crate::holding::hold;
-use crate::outcome::outcome_of;
+use crate::outcome::{SheetOutcome, outcome_of};
 use crate::streaming::stream;
 use crate::windows::rulers_for;
 use crate::words::SheetArgs;
@@ -80,36 +84,65 @@ fn carry_out<H: Threads + Sync, T: Tray + Send, R: Rack>(
     ensures { CarriesOut (order_in order.now) (map T.state trays.old) (map T.state trays.new)
         (map R.state racks.old) (map R.state racks.new) result }
 {
-    no_change();
-    sheet_is_reread();
-    let (Ok(names), Ok(inputs)) = (
-        plate_names(alloc, order.plates),
-        plate_inputs(alloc, order.plates),
-    ) else {
+    let Ok(inputs) = plate_inputs(alloc, order.plates) else {
         return Err(TrapsheetError::Common(Refusal::Memory));
     };
-    match judge_sheet(
+    carry_on(rt, alloc, order, budget, inputs.as_slice(), trays, racks)
+}
+
+// Does so with the names of the plates' files.
+fn carry_on<H: Threads + Sync, T: Tray + Send, R: Rack>(
+    rt: &H,
+    alloc: Global,
+    order: &SheetArgs<'_>,
+    budget: &Budget,
+    inputs: &[&str],
+    trays: &mut [T],
+    racks: &mut [R],
+) -> Result<(), TrapsheetError>
+    requires within { IsWithin order.now }
+    requires trays { most_plates ≤ length trays.old }
+    requires racks { most_plates ≤ length racks.old }
+    requires inputs { AreInputs order.now inputs.now }
+    ensures { CarriesOut (order_in order.now) (map T.state trays.old) (map T.state trays.new)
+        (map R.state racks.old) (map R.state racks.new) result }
+{
+    no_change();
+    sheet_is_reread();
+    match judge(rt, alloc, order, budget, inputs, trays) {
+        Ok(planned) => put_planned(rt, alloc, order, budget, &planned, inputs, trays, racks),
+        Err(stop) => Err(stop),
+    }
+}
+
+// Checks the sheet, and decides how it is trapped.
+fn judge<H: Threads + Sync, T: Tray + Send>(
+    rt: &H,
+    alloc: Global,
+    order: &SheetArgs<'_>,
+    budget: &Budget,
+    inputs: &[&str],
+    trays: &mut [T],
+) -> Result<PlannedSheet, TrapsheetError>
+    requires within { IsWithin order.now }
+    requires trays { most_plates ≤ length trays.old }
+    requires inputs { AreInputs order.now inputs.now }
+    ensures { JudgesSheet (sources_of (order_in order.now)) budget.now (map T.state trays.old)
+        (map T.state trays.new) result }
+{
+    let Ok(names) = plate_names(alloc, order.plates) else {
+        return Err(TrapsheetError::Common(Refusal::Memory));
+    };
+    judge_sheet(
         rt,
         alloc,
         order.workers,
         trays,
         order.job,
         &names,
-        inputs.as_slice(),
+        inputs,
         budget,
-    ) {
-        Ok(planned) => put_planned(
-            rt,
-            alloc,
-            order,
-            budget,
-            &planned,
-            inputs.as_slice(),
-            trays,
-            racks,
-        ),
-        Err(stop) => Err(stop),
-    }
+    )
 }
 
 // Reads a sheet that was checked once more, traps it and writes its files, strip by strip if it can be cut so.
@@ -230,10 +263,28 @@ fn put_out<H: Threads + Sync, R: Rack>(
     ensures { PutsOut (targets_of (order_in order.now)) parts
         (map R.state racks.old) (map R.state racks.new) result }
 {
-    let Ok(outputs) = plate_outputs(alloc, order.plates) else {
+    let Ok(outcome) = outcome_of(rt, alloc, parts, plan, order.workers) else {
         return Err(TrapsheetError::Common(Refusal::Memory));
     };
-    let Ok(outcome) = outcome_of(rt, alloc, parts, plan, order.workers) else {
+    put_outcome(alloc, order, &outcome, racks)
+}
+
+// Writes the files of a sheet that was trapped. All memory is allocated before the first of them is created.
+fn put_outcome<R: Rack>(
+    alloc: Global,
+    order: &SheetArgs<'_>,
+    outcome: &SheetOutcome,
+    racks: &mut [R],
+) -> Result<(), TrapsheetError>
+    requires within { IsWithin order.now }
+    requires racks { most_plates ≤ length racks.old }
+    requires can { CanWrite outcome.now.planes }
+    requires count { length outcome.now.planes ≡ length order.now.plates.now }
+    ensures { (sheet : PageParts) → outcome.now.planes ≡ trapped_planes sheet
+        → outcome.now.report ≡ sheet_report sheet → PutsOut (targets_of (order_in order.now)) sheet
+        (map R.state racks.old) (map R.state racks.new) result }
+{
+    let Ok(outputs) = plate_outputs(alloc, order.plates) else {
         return Err(TrapsheetError::Common(Refusal::Memory));
     };
     write_sheet(
