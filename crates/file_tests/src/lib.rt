@@ -22,6 +22,4 @@ mod rows_read;
 #[cfg(test)]
 mod rows_written;
 #[cfg(test)]
-mod shared_pieces;
-#[cfg(test)]
 mod trays;

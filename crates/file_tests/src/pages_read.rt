@@ -1,6 +1,5 @@
 use crate::fixtures::{Way, by, judge, tray_of};
 use outside::mem_tray::MemTray;
-use pgm_plates::converter::OneThread;
 use pgm_plates::pages::read_page;
 use pgm_plates::plate::{PlateFault, PlateRefusal};
 use std::alloc::Global;
@@ -8,7 +7,7 @@ use std::process::Abort;
 
 // The width of the plate of that number, none where there is none, or why it is refused.
 fn width_by(alloc: Global, tray: &mut MemTray, page: u32) -> Result<Option<u32>, PlateRefusal> {
-    match read_page(alloc, tray, "one", page, &OneThread) {
+    match read_page(alloc, tray, "one", page) {
         Ok(Some(plate)) => Ok(Some(plate.width)),
         Ok(None) => Ok(None),
         Err(refusal) => Err(refusal),

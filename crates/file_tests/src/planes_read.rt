@@ -1,7 +1,6 @@
 use crate::fixtures::{by, judge, tray_of};
 use outside::mem_tray::MemTray;
 use page_model::parts::Plane;
-use pgm_plates::converter::OneThread;
 use pgm_plates::pages::read_page_plane;
 use pgm_plates::plate::{PlateFault, PlateRefusal};
 use pgm_plates::reading::read_plane;
@@ -21,7 +20,7 @@ fn ends_of(plane: &Plane) -> Option<(u16, u16)> {
 type Ends = Result<Option<(u16, u16)>, PlateFault>;
 
 fn plane_by(alloc: Global, tray: &mut MemTray) -> Result<Option<(u16, u16)>, PlateRefusal> {
-    match read_plane(alloc, tray, "one", &OneThread) {
+    match read_plane(alloc, tray, "one") {
         Ok(plane) => Ok(ends_of(&plane)),
         Err(refusal) => Err(refusal),
     }
@@ -32,7 +31,7 @@ fn page_by(
     tray: &mut MemTray,
     page: u32,
 ) -> Result<Option<(u16, u16)>, PlateRefusal> {
-    match read_page_plane(alloc, tray, "one", page, &OneThread) {
+    match read_page_plane(alloc, tray, "one", page) {
         Ok(Some(plane)) => Ok(ends_of(&plane)),
         Ok(None) => Ok(None),
         Err(refusal) => Err(refusal),

@@ -5,7 +5,6 @@ ghost use Rattle.page_model.specs.Limits.{most_plates};
 use crate::looks::{Look, look_through};
 use outside::tray::Tray;
 use page_model::parts::{Plane, PlaneList};
-use pgm_plates::converter::Converter;
 use pgm_plates::laws::{file_fault, file_plate};
 use pgm_plates::plate::PlateRefusal;
 use pgm_plates::reading::read_plane;
@@ -14,27 +13,22 @@ use std::alloc::Global;
 use std::convert::AsStr;
 
 /// Reads the plates of these files in order, each as its plane, up to the first that is refused: by a read that fails,
-/// by a fault of the plate's file, or because memory runs out. No file is begun after it. The converter makes tints of
-/// the samples.
-pub fn read_plates<T: Tray, S: AsStr, C: Converter>(
+/// by a fault of the plate's file, or because memory runs out. No file is begun after it.
+pub fn read_plates<T: Tray, S: AsStr>(
     alloc: Global,
     tray: &mut T,
     inputs: &[S],
-    converter: &C,
 ) -> Result<PlaneList, Refusal>
     requires { length inputs.now ≤ most_plates }
     ensures { ReadsPlates (map S.text inputs.now) (T.state tray.old) (T.state tray.new) result }
 {
-    look_through(alloc, tray, inputs, &Plates { converter })
+    look_through(alloc, tray, inputs, &Plates)
 }
 
-// The plane of each file, made by this converter.
-#[derive(Drop)]
-struct Plates<'a, C> {
-    converter: &'a C,
-}
+// The plane of each file.
+struct Plates;
 
-impl<'a, C: Converter> Look for Plates<'a, C> {
+impl Look for Plates {
     type Found = Plane;
 
     type Refusal = Refusal;
@@ -48,7 +42,7 @@ impl<'a, C: Converter> Look for Plates<'a, C> {
         number: u32,
         name: &str,
     ) -> Result<Plane, Refusal> {
-        match read_plane(alloc, tray, name, self.converter) {
+        match read_plane(alloc, tray, name) {
             Ok(read) => {
                 file_plate();
                 Ok(read)

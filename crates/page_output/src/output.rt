@@ -10,7 +10,6 @@ use outside::rack::Rack;
 use page_model::laws::trapped_planes_law;
 use page_model::page::Page;
 use page_writing::writing::write_page;
-use plate_workers::Workers;
 use refusals::refusal::Refusal;
 use std::alloc::Global;
 use std::convert::AsStr;
@@ -50,17 +49,12 @@ pub fn put_out<H: Threads + Sync, S: AsStr, R: Rack, G: Gate + Sync>(
         return Err(Refusal::Memory);
     };
     trapped_planes_law(page);
-    let workers = Workers {
-        rt,
-        threads: order.workers,
-    };
     match write_page(
         rack,
         order.outputs,
         outcome.planes,
         order.report,
         outcome.report.as_slice(),
-        &workers,
     ) {
         Ok(()) => Ok(outcome.receipt),
         Err(refusal) => Err(refusal),

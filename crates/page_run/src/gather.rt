@@ -14,9 +14,7 @@ use lists::names::NameList;
 use outside::tray::Tray;
 use page_gather::assemble::assemble_planes;
 use page_model::page::Page;
-use pgm_plates::converter::Converter;
 use plain_words::files::{plate_inputs, plate_names};
-use plate_workers::Workers;
 use ps_tokens::faults::JobRefusal;
 use refusals::refusal::Refusal;
 use std::alloc::Global;
@@ -29,16 +27,6 @@ pub struct OpenJob<'a> {
     pub names: NameList,
     pub inputs: Vec<&'a str>,
     pub job: ManyPages,
-}
-
-impl<'a> OpenJob<'a> {
-    // Converts samples by as many threads as the run has workers.
-    pub(crate) fn workers<'h, H>(&self, rt: &'h H) -> Workers<'h, H> {
-        Workers {
-            rt,
-            threads: self.order.workers,
-        }
-    }
 }
 
 /// Reads the job of a run. Memory for the names of its plates is allocated first.
@@ -70,16 +58,14 @@ pub fn open_job<'a, T: Tray>(
 
 /// Reads the page of that number, counted from 0: its job, and the image of each plate; and makes a page of them.
 ///
-/// The converter makes tints of the samples. It stops at the first refusal: the job's fault, a read that fails, a plate
-/// whose file has no image for the page or a
+/// It stops at the first refusal: the job's fault, a read that fails, a plate whose file has no image for the page or a
 /// fault, a plate without details, a fault of the page, or out of memory. No file is begun after the one that is
 /// refused.
-pub fn gather_page<T: Tray, C: Converter>(
+pub fn gather_page<T: Tray>(
     alloc: Global,
     opened: &OpenJob<'_>,
     page: u32,
     tray: &mut T,
-    converter: &C,
 ) -> Result<Page, TraprunError>
     requires opened { IsOpenJob opened.now }
     requires page { HasPage opened.now.job page }
@@ -88,7 +74,7 @@ pub fn gather_page<T: Tray, C: Converter>(
         result }
 {
     match opened.job.job(alloc, page) {
-        Ok(job) => gather_images(alloc, job, opened, page, tray, converter),
+        Ok(job) => gather_images(alloc, job, opened, page, tray),
         Err(refusal) => Err(job_stop(page, refusal)),
     }
 }
@@ -104,13 +90,12 @@ fn job_stop(page: u32, refusal: JobRefusal) -> TraprunError
 }
 
 // Reads the images of the page after its job, and makes a page of both.
-fn gather_images<T: Tray, C: Converter>(
+fn gather_images<T: Tray>(
     alloc: Global,
     job: Job,
     opened: &OpenJob<'_>,
     page: u32,
     tray: &mut T,
-    converter: &C,
 ) -> Result<Page, TraprunError>
     requires opened { IsOpenJob opened.now }
     requires job { IsJob job }
@@ -119,7 +104,7 @@ fn gather_images<T: Tray, C: Converter>(
         GathersPage (sources_of order) opened.now.job page (T.state tray.old) (T.state tray.new)
         result }
 {
-    match read_images(alloc, tray, page, opened.inputs.as_slice(), converter) {
+    match read_images(alloc, tray, page, opened.inputs.as_slice()) {
         Ok(planes) => match assemble_planes(alloc, job, planes, &opened.names) {
             Ok(made) => Ok(made),
             Err(refusal) => Err(stop_at(page, refusal)),

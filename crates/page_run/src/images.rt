@@ -5,7 +5,6 @@ ghost use Rattle.page_model.specs.Limits.{most_plates};
 use outside::tray::Tray;
 use page_gather::looks::{Look, look_through};
 use page_model::parts::{Plane, PlaneList};
-use pgm_plates::converter::Converter;
 use pgm_plates::pages::{read_page, read_page_plane};
 use pgm_plates::plate::PlateRefusal;
 use refusals::refusal::Refusal;
@@ -13,35 +12,33 @@ use std::alloc::Global;
 use traprun_verdicts::stop::TraprunError;
 
 /// Reads the plane of that page's image from each of these files in order, up to the first that is refused. No file is
-/// begun after it. The converter makes tints of the samples.
-pub(crate) fn read_images<T: Tray, C: Converter>(
+/// begun after it.
+pub(crate) fn read_images<T: Tray>(
     alloc: Global,
     tray: &mut T,
     page: u32,
     inputs: &[&str],
-    converter: &C,
 ) -> Result<PlaneList, TraprunError>
     requires { length inputs.now ≤ most_plates }
     ensures { ReadsImages page (map (λ file. file.now) inputs.now) (T.state tray.old)
         (T.state tray.new) result }
 {
-    look_through(alloc, tray, inputs, &Images { page, converter })
+    look_through(alloc, tray, inputs, &Images { page })
 }
 
 /// Checks that each of these files ends after as many images as the job has pages, in order, up to the first that does
-/// not. The converter decodes the images before the end.
-pub(crate) fn expect_end<T: Tray, C: Converter>(
+/// not.
+pub(crate) fn expect_end<T: Tray>(
     alloc: Global,
     tray: &mut T,
     pages: u32,
     inputs: &[&str],
-    converter: &C,
 ) -> Result<(), TraprunError>
     requires { length inputs.now ≤ most_plates }
     ensures { ExpectsEnd pages (map (λ file. file.now) inputs.now) (T.state tray.old)
         (T.state tray.new) result }
 {
-    match look_through(alloc, tray, inputs, &Ends { pages, converter }) {
+    match look_through(alloc, tray, inputs, &Ends { pages }) {
         Ok(_) => Ok(()),
         Err(stop) => Err(stop),
     }
@@ -49,12 +46,11 @@ pub(crate) fn expect_end<T: Tray, C: Converter>(
 
 // Reads the plane of a page's image in each file.
 #[derive(Drop)]
-struct Images<'a, C> {
+struct Images {
     page: u32,
-    converter: &'a C,
 }
 
-impl<'a, C: Converter> Look for Images<'a, C> {
+impl Look for Images {
     type Found = Plane;
 
     type Refusal = TraprunError;
@@ -68,7 +64,7 @@ impl<'a, C: Converter> Look for Images<'a, C> {
         number: u32,
         name: &str,
     ) -> Result<Plane, TraprunError> {
-        match read_page_plane(alloc, tray, name, self.page, self.converter) {
+        match read_page_plane(alloc, tray, name, self.page) {
             Ok(Some(plane)) => Ok(plane),
             Ok(None) => Err(TraprunError::Ends(self.page, number)),
             Err(PlateRefusal::Fault(fault)) => {
@@ -88,12 +84,11 @@ impl<'a, C: Converter> Look for Images<'a, C> {
 
 // Checks the end of each file after the images of all pages.
 #[derive(Drop)]
-struct Ends<'a, C> {
+struct Ends {
     pages: u32,
-    converter: &'a C,
 }
 
-impl<'a, C: Converter> Look for Ends<'a, C> {
+impl Look for Ends {
     type Found = ();
 
     type Refusal = TraprunError;
@@ -107,7 +102,7 @@ impl<'a, C: Converter> Look for Ends<'a, C> {
         number: u32,
         name: &str,
     ) -> Result<(), TraprunError> {
-        match read_page(alloc, tray, name, self.pages, self.converter) {
+        match read_page(alloc, tray, name, self.pages) {
             Ok(None) => Ok(()),
             Ok(Some(_)) => Err(TraprunError::Extra(number)),
             Err(PlateRefusal::Fault(fault)) => {

@@ -34,7 +34,7 @@ pub(crate) fn trap_one<H: Threads + Sync, T: Tray, R: Rack, G: Gate + Sync>(
         StepsPage (sources_of order) (targets_of order) opened.now.job page (T.state tray.old)
         (T.state tray.new) (R.state rack.old) (R.state rack.new) result }
 {
-    match gather_page(alloc, opened, page, tray, &opened.workers(rt)) {
+    match gather_page(alloc, opened, page, tray) {
         Ok(made) => put_page(rt, alloc, opened.order, page, &made, rack, gate),
         Err(stop) => Err(stop),
     }

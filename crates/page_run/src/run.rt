@@ -70,16 +70,7 @@ fn trap_job<H: Threads + Sync, T: Tray, R: Rack, G: Gate + Sync>(
         (T.state tray.new) (R.state rack.old) (R.state rack.new) result }
 {
     match trap_pages(rt, alloc, opened, tray, rack, gate) {
-        Ok(()) => {
-            let pages = opened.job.count();
-            expect_end(
-                alloc,
-                tray,
-                pages,
-                opened.inputs.as_slice(),
-                &opened.workers(rt),
-            )
-        }
+        Ok(()) => expect_end(alloc, tray, opened.job.count(), opened.inputs.as_slice()),
         Err(stop) => Err(stop),
     }
 }

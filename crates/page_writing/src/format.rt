@@ -10,21 +10,15 @@ ghost use Rattle.page_writing.specs.Format.{encoded};
 use outside::rack::Rack;
 use outside::tray::Failed;
 use page_model::parts::Plane;
-use pgm_plates::converter::Converter;
 use pgm_plates::writing::write_plane;
 
-/// Writes a plane of any sides to the file `name`, as a plate, whose samples the converter encodes. It allocates nothing. Where a call of the rack fails, a
+/// Writes a plane of any sides to the file `name`, as a plate. It allocates nothing. Where a call of the rack fails, a
 /// prefix of the bytes stands under the name, or, where the file could not be created, everything is as it was.
-pub fn write_encoded<R: Rack, C: Converter>(
-    rack: &mut R,
-    name: &str,
-    plane: &Plane,
-    converter: &C,
-) -> Result<(), Failed>
+pub fn write_encoded<R: Rack>(rack: &mut R, name: &str, plane: &Plane) -> Result<(), Failed>
     requires maxval { plane.now.maxval ≤ most_maxval }
     requires fits { All (λ t. t ≤ plane.now.maxval) plane.now.tints }
     ensures { let bytes = encoded plane.now in
         WritesFile name.now bytes (R.state rack.old) (R.state rack.new) result }
 {
-    write_plane(rack, name, plane, converter)
+    write_plane(rack, name, plane)
 }

@@ -28,9 +28,9 @@ from_fit Tints m xs fit = turned_fit m xs
 from_fit Samples m xs fit = fit
 
 -- a piece, whose samples these values are
-pub taken_from : (t : Form) (m n : ℕ) (a b : TrayState) (xs ys : List ℕ) → samples_from t m ys ≡ xs → RasterTaken m n a b xs → RasterTaken m (length ys) a b (samples_from t m ys)
-taken_from t m n a b xs ys is taken =
-    let same = subst (λ (l : List ℕ). RasterTaken m n a b l) (sym is) taken in
+pub taken_from : (t : Form) (m : ℕ) (a b : TrayState) (xs ys : List ℕ) → samples_from t m ys ≡ xs → RasterTaken m (length xs) a b xs → RasterTaken m (length ys) a b (samples_from t m ys)
+taken_from t m a b xs ys is taken =
+    let same = subst (λ (l : List ℕ). RasterTaken m (length xs) a b l) (sym is) taken in
     record { takes = same.takes; fit = same.fit; all = from_size t m ys }
 
 -- all pieces

@@ -8,7 +8,6 @@ ghost use Rattle.pgm_plates.specs.Reading.{KeepsCount};
 ghost use Rattle.pgm_plates.specs.Sequences.{ReadsPage, further as further_on};
 
 use crate::bounds::Bounds;
-use crate::converter::Converter;
 use crate::plate::{Plate, PlateFault, PlateRefusal};
 use crate::raster::read_raster;
 use crate::reading::read_header;
@@ -19,36 +18,34 @@ use page_model::parts::Plane;
 use std::alloc::Global;
 
 /// Reads plate number `page`, counted from 0, of the file `name`, in which plate files stand one directly after the
-/// other (pgm(5), section THE FORMAT). `None` where the file ends before it. The converter decodes the samples.
+/// other (pgm(5), section THE FORMAT). `None` where the file ends before it.
 ///
 /// The refusal is the first fault of an image that is no plate file, at its place in the file, a read that failed
 /// before there was one, or out of memory.
-pub fn read_page<T: Tray, C: Converter>(
+pub fn read_page<T: Tray>(
     alloc: Global,
     tray: &mut T,
     name: &str,
     page: u32,
-    converter: &C,
 ) -> Result<Option<Plate>, PlateRefusal>
     ensures { ReadsPage name.now page (T.state tray.old) (T.state tray.new) result }
 {
-    match read_named(alloc, tray, name, page, Form::Samples, converter) {
+    match read_named(alloc, tray, name, page, Form::Samples) {
         Ok(Some(read)) => Ok(Some(read.into_plate())),
         Ok(None) => Ok(None),
         Err(refusal) => Err(refusal),
     }
 }
 
-/// Reads plate number `page` of the file `name` as a plane: each sample is turned into its tint, `maxval - sample`, by
-/// the converter, as soon as it is read.
+/// Reads plate number `page` of the file `name` as a plane: each sample is turned into its tint, `maxval - sample`, as
+/// soon as it is read.
 ///
 /// It answers what `read_page` does, with `Plate::into_plane` after it.
-pub fn read_page_plane<T: Tray, C: Converter>(
+pub fn read_page_plane<T: Tray>(
     alloc: Global,
     tray: &mut T,
     name: &str,
     page: u32,
-    converter: &C,
 ) -> Result<Option<Plane>, PlateRefusal>
     ensures plate { ReadsPage name.now page (T.state tray.old) (T.state tray.new)
         (map_ok (map_some plate_of) result) }
@@ -56,7 +53,7 @@ pub fn read_page_plane<T: Tray, C: Converter>(
     ensures few { IfOk result (λ read. IfSome read
         (λ plane. plane.width * plane.height ≤ most_samples)) }
 {
-    match read_named(alloc, tray, name, page, Form::Tints, converter) {
+    match read_named(alloc, tray, name, page, Form::Tints) {
         Ok(Some(read)) => Ok(Some(read.into_plane())),
         Ok(None) => Ok(None),
         Err(refusal) => Err(refusal),
@@ -64,31 +61,29 @@ pub fn read_page_plane<T: Tray, C: Converter>(
 }
 
 // Reads the image of that number from the file of that name, and keeps its samples in that form.
-fn read_named<T: Tray, C: Converter>(
+fn read_named<T: Tray>(
     alloc: Global,
     tray: &mut T,
     name: &str,
     page: u32,
     form: Form,
-    converter: &C,
 ) -> Result<Option<Values>, PlateRefusal>
     ensures answer { ReadsPage name.now page (T.state tray.old) (T.state tray.new)
         (map_ok (map_some (plate_from form)) result) }
     ensures below { IfOk result (λ read. IfSome read (λ r. Fit r.header.maxval r.values)) }
 {
     match tray.begin(name) {
-        Ok(()) => read_images(alloc, tray, page, form, converter),
+        Ok(()) => read_images(alloc, tray, page, form),
         Err(Failed) => Err(PlateRefusal::ReadFault),
     }
 }
 
 // Reads on to the image of that number.
-fn read_images<T: Tray, C: Converter>(
+fn read_images<T: Tray>(
     alloc: Global,
     tray: &mut T,
     page: u32,
     form: Form,
-    converter: &C,
 ) -> Result<Option<Values>, PlateRefusal>
     requires { IsTrue (T.state tray.old).begun }
     ensures answer { PageAnswers page (T.state tray.old) (T.state tray.new)
@@ -99,13 +94,13 @@ fn read_images<T: Tray, C: Converter>(
 {
     let mut start = 0u64;
     for _ in 0..page {
-        match read_image(alloc, tray, form, converter) {
+        match read_image(alloc, tray, form) {
             Ok(Some((_, size))) => start += size,
             Ok(None) => return Ok(None),
             Err(refusal) => return Err(further_refusal(refusal, start)),
         }
     }
-    match read_image(alloc, tray, form, converter) {
+    match read_image(alloc, tray, form) {
         Ok(Some((read, _))) => Ok(Some(read)),
         Ok(None) => Ok(None),
         Err(refusal) => Err(further_refusal(refusal, start)),
@@ -113,11 +108,10 @@ fn read_images<T: Tray, C: Converter>(
 }
 
 // Reads one image from what is left of the file, and says how many bytes it has. There is none where nothing is left.
-fn read_image<T: Tray, C: Converter>(
+fn read_image<T: Tray>(
     alloc: Global,
     tray: &mut T,
     form: Form,
-    converter: &C,
 ) -> Result<Option<(Values, u64)>, PlateRefusal>
     requires { IsTrue (T.state tray.old).begun }
     ensures answer { ReadsImage (T.state tray.old) (T.state tray.new)
@@ -134,7 +128,7 @@ fn read_image<T: Tray, C: Converter>(
         Err(refusal) => return Err(refusal),
     };
     let count = header.width as usize * header.height as usize;
-    match read_raster(alloc, tray, count, header.maxval, start, form, converter) {
+    match read_raster(alloc, tray, count, header.maxval, start, form) {
         Ok(values) => {
             let size = start + (count * sample_size(header.maxval)) as u64;
             Ok(Some((Values { header, values }, size)))

@@ -9,25 +9,27 @@ ghost use Rattle.pgm_plates.specs.Images.{IsNearRefusal};
 ghost use Rattle.pgm_plates.specs.Reading.{KeepsCount};
 ghost use Rattle.pgm_plates.specs.Readers.{Fit, JudgesPiece, ReadsPiece, ReadsRaster, samples_from};
 
-use crate::converter::Converter;
 use crate::plate::{PlateFault, PlateRefusal};
 use crate::samples::{decode, first_above, sample_size};
+use crate::turning::turn;
 use crate::values::Form;
 use lists::list::List;
 use outside::tray::{Failed, Tray};
 use page_model::parts::Tints;
 use std::alloc::{AllocError, Global};
 
+// How many samples are read in one go at most.
+const PIECE: usize = 65_536;
+
 /// Reads `count` samples of a raster (pgm(5), section THE FORMAT), whose first byte is at `start` in the file, and
-/// keeps them as samples or as tints, which the converter makes.
-pub fn read_raster<T: Tray, C: Converter>(
+/// keeps them as samples or as tints.
+pub fn read_raster<T: Tray>(
     alloc: Global,
     tray: &mut T,
     count: usize,
     maxval: u32,
     start: u64,
     form: Form,
-    converter: &C,
 ) -> Result<Tints, PlateRefusal>
     requires begun { IsTrue (T.state tray.old).begun }
     requires start { start ≤ most_header }
@@ -42,7 +44,7 @@ pub fn read_raster<T: Tray, C: Converter>(
     ensures near { IfErr result IsNearRefusal }
     ensures uncut { result ≢ Err (PlateRefusal.Fault (PlateFault.Truncated 0)) }
 {
-    let most = count.min(converter.piece());
+    let most = count.min(PIECE);
     let Ok(mut piece) = no_samples(alloc, most) else {
         return Err(PlateRefusal::OutOfMemory);
     };
@@ -61,7 +63,6 @@ pub fn read_raster<T: Tray, C: Converter>(
         maxval,
         start,
         form,
-        converter,
     ) {
         Ok(()) => Ok(List::from_vec(values)),
         Err(refusal) => Err(refusal),
@@ -82,7 +83,7 @@ fn no_bytes(alloc: Global, len: usize) -> Result<Vec<u8>, AllocError>
 }
 
 // Reads samples after the ones that are there, until there are that many. Each piece has its form before it is appended.
-fn read_pieces<T: Tray, C: Converter>(
+fn read_pieces<T: Tray>(
     tray: &mut T,
     values: &mut Vec<u16>,
     piece: &mut [u16],
@@ -91,7 +92,6 @@ fn read_pieces<T: Tray, C: Converter>(
     maxval: u32,
     start: u64,
     form: Form,
-    converter: &C,
 ) -> Result<(), PlateRefusal>
     requires begun { IsTrue (T.state tray.old).begun }
     requires start { start ≤ most_header }
@@ -119,7 +119,6 @@ fn read_pieces<T: Tray, C: Converter>(
             maxval,
             start + (done * size) as u64,
             form,
-            converter,
         ) {
             Ok(()) => match values.extend_from_slice(&piece[..want]) {
                 Ok(()) => {}
@@ -132,14 +131,13 @@ fn read_pieces<T: Tray, C: Converter>(
 }
 
 // Reads as many samples as there is room for, and leaves them in that form.
-fn read_values<T: Tray, C: Converter>(
+fn read_values<T: Tray>(
     tray: &mut T,
     values: &mut [u16],
     bytes: &mut [u8],
     maxval: u32,
     start: u64,
     form: Form,
-    converter: &C,
 ) -> Result<(), PlateRefusal>
     requires begun { IsTrue (T.state tray.old).begun }
     requires start { start < 2 ^ 40 }
@@ -156,12 +154,25 @@ fn read_values<T: Tray, C: Converter>(
     ensures uncut { 0 < start → result ≢ Err (PlateRefusal.Fault (PlateFault.Truncated 0)) }
     ensures memory { result ≢ Err PlateRefusal.OutOfMemory }
 {
-    match judge_piece(tray, bytes, maxval, start) {
+    match read_piece(tray, values, bytes, maxval, start) {
         Ok(()) => {
-            converter.decode(bytes, maxval, form, values);
+            turn_to(form, values, maxval);
             Ok(())
         }
         Err(refusal) => Err(refusal),
+    }
+}
+
+// Turns samples into that form.
+fn turn_to(form: Form, values: &mut [u16], maxval: u32)
+    requires maxval { maxval ≤ most_maxval }
+    requires below { Fit maxval values.old }
+    ensures samples { samples_from form maxval values.new ≡ values.old }
+    ensures below { Fit maxval values.new }
+{
+    match form {
+        Form::Samples => {}
+        Form::Tints => turn(values, maxval),
     }
 }
 

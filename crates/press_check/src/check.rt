@@ -14,7 +14,6 @@ use outside::tray::{Failed, Tray};
 use page_gather::gather::gather;
 use page_model::page::Page;
 use page_model::parts::{Name, OutOfMemory};
-use pgm_plates::converter::OneThread;
 use plain_words::files::{input_files, input_names};
 use refusals::refusal::Refusal;
 use refusals::statuses::{DONE, NOT_WRITTEN};
@@ -77,16 +76,7 @@ fn read_page<T: Tray>(
         input_names(alloc, check.plates),
         input_files(alloc, check.plates),
     ) {
-        (Ok(names), Ok(inputs)) => {
-            gather(
-                alloc,
-                tray,
-                check.job,
-                &names,
-                inputs.as_slice(),
-                &OneThread,
-            )
-        }
+        (Ok(names), Ok(inputs)) => gather(alloc, tray, check.job, &names, inputs.as_slice()),
         _ => Err(Refusal::Memory),
     }
 }

@@ -16,7 +16,6 @@ use page_model::page::Page;
 use page_model::parts::OutOfMemory;
 use page_output::output::{OutputArgs, put_out};
 use plain_words::files::{plate_inputs, plate_names, plate_outputs};
-use plate_workers::Workers;
 use refusals::refusal::Refusal;
 use refusals::statuses::DONE;
 use std::alloc::Global;
@@ -60,39 +59,21 @@ fn carry_out<H: Threads + Sync, T: Tray, R: Rack, G: Gate + Sync>(
         CarriesOut page.band (sources_of page) (targets_of page) (T.state tray.old)
         (T.state tray.new) (R.state rack.old) (R.state rack.new) result }
 {
-    match read_page(rt, alloc, command, tray) {
+    match read_page(alloc, command, tray) {
         Ok(page) => write_out(rt, alloc, command, &page, rack, gate),
         Err(refusal) => Err(refusal),
     }
 }
 
 // Reads the page of the command's job and plates.
-fn read_page<H: Threads + Sync, T: Tray>(
-    rt: &H,
-    alloc: Global,
-    command: &PageArgs<'_>,
-    tray: &mut T,
-) -> Result<Page, Refusal>
+fn read_page<T: Tray>(alloc: Global, command: &PageArgs<'_>, tray: &mut T) -> Result<Page, Refusal>
     requires { IsPageWithin command.now }
     ensures { let source = sources_of (page_in command.now) in
         ReadsPage source (T.state tray.old) (T.state tray.new) result }
 {
     let words = command.plates.as_slice();
-    let workers = Workers {
-        rt,
-        threads: command.workers,
-    };
     match (plate_names(alloc, words), plate_inputs(alloc, words)) {
-        (Ok(names), Ok(inputs)) => {
-            gather(
-                alloc,
-                tray,
-                command.job,
-                &names,
-                inputs.as_slice(),
-                &workers,
-            )
-        }
+        (Ok(names), Ok(inputs)) => gather(alloc, tray, command.job, &names, inputs.as_slice()),
         _ => Err(Refusal::Memory),
     }
 }

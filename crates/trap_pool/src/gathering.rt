@@ -10,7 +10,6 @@ use job_list::line::{LineList, ListLine};
 use outside::tray::Tray;
 use page_gather::gather::gather;
 use page_model::page::Page;
-use pgm_plates::converter::Converter;
 use std::alloc::Global;
 
 /// The lines of a list, and beside each of them its page, if it waits to be trapped.
@@ -21,13 +20,12 @@ pub(crate) struct Gathering {
 }
 
 // Reads the page of each line in order into `room`, which has a place for each. Later pages may be too large together
-// with those that were accepted before. The converter makes tints of the samples.
-pub(crate) fn gather_lines<T: Tray, C: Converter>(
+// with those that were accepted before.
+pub(crate) fn gather_lines<T: Tray>(
     alloc: Global,
     tray: &mut T,
     lines: &LineList,
     room: Gathering,
-    converter: &C,
 ) -> Gathering
     requires numbered { length lines.now < 2 ^ 32 }
     requires room { IsRoomOf (length lines.now) room }
@@ -40,8 +38,7 @@ pub(crate) fn gather_lines<T: Tray, C: Converter>(
     } = room;
     let mut used = 0u64;
     for number in 0..lines.len() {
-        let line = &lines.as_slice()[number];
-        let (line, page) = gather_line(alloc, tray, line, number as u32, used, converter);
+        let (line, page) = gather_line(alloc, tray, &lines.as_slice()[number], number as u32, used);
         used += line.accepted_samples();
         let Ok(()) = gathered.push(line) else {
             unreachable!()
@@ -57,13 +54,12 @@ pub(crate) fn gather_lines<T: Tray, C: Converter>(
 }
 
 // The line with what was read for it, and its page, if it waits to be trapped.
-fn gather_line<T: Tray, C: Converter>(
+fn gather_line<T: Tray>(
     alloc: Global,
     tray: &mut T,
     line: &ListLine,
     number: u32,
     used: u64,
-    converter: &C,
 ) -> (Gathered, Option<Page>)
     requires { used ≤ most_in_all }
     ensures answer { AnswersLine number used line.now (T.state tray.old) (T.state tray.new)
@@ -72,7 +68,7 @@ fn gather_line<T: Tray, C: Converter>(
     ensures waits { result.1 ≡ waiting_of result.0 }
 {
     let job = line.job();
-    match gather(alloc, tray, job, line.names(), line.inputs(), converter) {
+    match gather(alloc, tray, job, line.names(), line.inputs()) {
         Ok(page) => Gathered::of_page(number, used, page),
         Err(refusal) => (Gathered::of_refusal(number, refusal), None),
     }

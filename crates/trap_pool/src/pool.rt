@@ -17,7 +17,6 @@ use lists::list::List;
 use outside::tray::Tray;
 use page_model::page::Page;
 use page_model::parts::OutOfMemory;
-use plate_workers::Workers;
 use std::alloc::{AllocError, Global};
 use std::marker::Brand;
 use std::sync::Wait;
@@ -56,11 +55,7 @@ pub fn pool_run<H: Threads + Wait + Sync, T: Tray, G: TakeGate + Sync>(
         numbers,
         opening,
     } = room;
-    let threads = Workers {
-        rt,
-        threads: workers,
-    };
-    let gathering = gather_lines(alloc, tray, lines, gathering, &threads);
+    let gathering = gather_lines(alloc, tray, lines, gathering);
     let numbers = waiting_lines(gathering.pages.as_slice(), numbers);
     let gathered = trap_lines::<Brand, H, G>(rt, alloc, gathering, numbers, opening, gate);
     Ok(List::from_vec(replies_of(gathered, replies)))

@@ -14,7 +14,6 @@ use outside::rack::Rack;
 use outside::tray::Failed;
 use page_model::parts::{Name, PlaneList};
 use page_writing::writing::write_page;
-use pgm_plates::converter::Converter;
 use refusals::refusal::Refusal;
 use refusals::statuses::{DONE, LINES_REFUSED, NOT_WRITTEN};
 use trap_pool::outcome::Outcome;
@@ -29,14 +28,8 @@ pub(crate) enum LineStatus {
     TooLarge,
 }
 
-// Writes line by line the files of what is done, whose samples the converter encodes, and prints what became of it. It
-// stops if that can't be printed.
-pub(crate) fn answer_all<R: Rack, C: Converter>(
-    rack: &mut R,
-    lines: &LineList,
-    replies: ReplyList,
-    converter: &C,
-) -> u8
+// Writes line by line the files of what is done, and prints what became of it. It stops if that can't be printed.
+pub(crate) fn answer_all<R: Rack>(rack: &mut R, lines: &LineList, replies: ReplyList) -> u8
     requires numbered { length lines.now < 2 ^ 32 }
     requires outs { AllHaveOuts lines.now replies }
     ensures { AnswersAll 0 0 lines.now replies (R.state rack.old) (R.state rack.new) result }
@@ -45,7 +38,7 @@ pub(crate) fn answer_all<R: Rack, C: Converter>(
     let mut number = 0usize;
     for reply in replies.into_vec() {
         let line = &lines.as_slice()[number];
-        match answer_line(rack, number as u32, line, reply, converter) {
+        match answer_line(rack, number as u32, line, reply) {
             Some(LineStatus::Done) => number += 1,
             Some(_) => {
                 status = LINES_REFUSED;
@@ -58,17 +51,16 @@ pub(crate) fn answer_all<R: Rack, C: Converter>(
 }
 
 // Writes the files of a line, and prints what became of it; `None` if that can't be printed.
-fn answer_line<R: Rack, C: Converter>(
+fn answer_line<R: Rack>(
     rack: &mut R,
     number: u32,
     line: &ListLine,
     reply: Reply,
-    converter: &C,
 ) -> Option<LineStatus>
     requires { HasOuts line.now reply }
     ensures { AnswersOne number line.now reply (R.state rack.old) (R.state rack.new) result }
 {
-    let said = write_reply(rack, line, reply, converter);
+    let said = write_reply(rack, line, reply);
     match tell_job(rack, number, &said) {
         Ok(()) => Some(said),
         Err(Failed) => None,
@@ -76,12 +68,7 @@ fn answer_line<R: Rack, C: Converter>(
 }
 
 // Writes the files of a line whose page is done, and returns what became of it.
-fn write_reply<R: Rack, C: Converter>(
-    rack: &mut R,
-    line: &ListLine,
-    reply: Reply,
-    converter: &C,
-) -> LineStatus
+fn write_reply<R: Rack>(rack: &mut R, line: &ListLine, reply: Reply) -> LineStatus
     requires { HasOuts line.now reply }
     ensures { WritesReply line.now reply (R.state rack.old) (R.state rack.new) result }
 {
@@ -93,7 +80,7 @@ fn write_reply<R: Rack, C: Converter>(
     } = reply.into_parts();
     match outcome {
         Outcome::Done(trapped) => match report {
-            Some(text) => write_done(rack, line, trapped.planes, &text, converter),
+            Some(text) => write_done(rack, line, trapped.planes, &text),
             None => unreachable!(),
         },
         Outcome::Refused(refusal) => LineStatus::Refused(refusal),
@@ -101,13 +88,7 @@ fn write_reply<R: Rack, C: Converter>(
     }
 }
 
-fn write_done<R: Rack, C: Converter>(
-    rack: &mut R,
-    line: &ListLine,
-    planes: PlaneList,
-    text: &Name,
-    converter: &C,
-) -> LineStatus
+fn write_done<R: Rack>(rack: &mut R, line: &ListLine, planes: PlaneList, text: &Name) -> LineStatus
     requires few { length planes ≤ most_plates }
     requires outs { length planes ≡ length line.now.outs }
     requires planes { All IsPlane planes }
@@ -116,14 +97,7 @@ fn write_done<R: Rack, C: Converter>(
         → text.now ≡ report_of page (page_counts page)
         → WritesDone line.now page (R.state rack.old) (R.state rack.new) result }
 {
-    match write_page(
-        rack,
-        line.outs(),
-        planes,
-        line.report(),
-        text.as_slice(),
-        converter,
-    ) {
+    match write_page(rack, line.outs(), planes, line.report(), text.as_slice()) {
         Ok(()) => LineStatus::Done,
         Err(refusal) => LineStatus::Refused(refusal),
     }

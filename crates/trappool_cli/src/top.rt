@@ -8,7 +8,6 @@ use crate::words::read_words;
 use job_list::laws::one_reading;
 use outside::rack::Rack;
 use outside::tray::Tray;
-use plate_workers::Workers;
 use std::alloc::Global;
 use std::sync::Wait;
 use std::thread::Threads;
@@ -76,12 +75,8 @@ fn run<H: Threads + Wait + Sync, T: Tray, R: Rack, G: TakeGate + Sync>(
     let Some(asked) = read_words(words) else {
         return refuse_words(rack);
     };
-    let workers = Workers {
-        rt,
-        threads: asked.workers,
-    };
     match make_replies(rt, alloc, asked, tray, gate) {
-        Ok((lines, replies)) => answer_all(rack, &lines, replies, &workers),
+        Ok((lines, replies)) => answer_all(rack, &lines, replies),
         Err(fault) => refuse_list(rack, fault),
     }
 }

@@ -13,7 +13,6 @@ use outside::rack::Rack;
 use outside::tray::Tray;
 use page_model::parts::PlaneList;
 use page_writing::writing::write_plates;
-use pgm_plates::converter::OneThread;
 use plain_words::files::copy_outputs;
 use refusals::refusal::Refusal;
 use std::alloc::Global;
@@ -49,7 +48,7 @@ fn put_plates<R: Rack>(
     ensures { PutsPlates (map (λ file. file.now) outputs.now) planes (R.state rack.old)
         (R.state rack.new) result }
 {
-    match write_plates(rack, outputs, planes, &OneThread) {
+    match write_plates(rack, outputs, planes) {
         Ok(()) => Ok(()),
         Err(refusal) => Err(TrapsetError::Page(refusal)),
     }

@@ -11,7 +11,6 @@ use crate::command::ApplyArgs;
 use outside::tray::Tray;
 use page_gather::plates::read_plates;
 use page_model::parts::PlaneList;
-use pgm_plates::converter::OneThread;
 use pgm_plates::laws::plane_turns_back;
 use plain_words::files::copy_inputs;
 use refusals::refusal::Refusal;
@@ -30,7 +29,7 @@ pub(crate) fn patched_planes<T: Tray>(
     let Ok(inputs) = copy_inputs(alloc, command.plates) else {
         return Err(TrapsetError::Page(Refusal::Memory));
     };
-    match read_plates(alloc, tray, inputs.as_slice(), &OneThread) {
+    match read_plates(alloc, tray, inputs.as_slice()) {
         Ok(planes) => {
             plane_turns_back();
             patch_planes(tray, command.set, planes)

@@ -13,7 +13,6 @@ use outside::rack::Rack;
 use outside::tray::{Failed, Tray};
 use page_gather::gather::gather;
 use page_model::page::Page;
-use pgm_plates::converter::OneThread;
 use plain_words::files::{input_files, input_names};
 use plane_shapes::laws::page_planes_law;
 use refusals::refusal::Refusal;
@@ -48,16 +47,7 @@ fn read_page<T: Tray>(alloc: Global, command: &TrapsArgs<'_>, tray: &mut T) -> R
         input_names(alloc, command.plates),
         input_files(alloc, command.plates),
     ) {
-        (Ok(names), Ok(inputs)) => {
-            gather(
-                alloc,
-                tray,
-                command.job,
-                &names,
-                inputs.as_slice(),
-                &OneThread,
-            )
-        }
+        (Ok(names), Ok(inputs)) => gather(alloc, tray, command.job, &names, inputs.as_slice()),
         _ => Err(Refusal::Memory),
     }
 }

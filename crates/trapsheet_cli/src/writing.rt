@@ -11,7 +11,6 @@ use outside::tray::Failed;
 use outside::writing::write_file;
 use page_model::parts::Plane;
 use page_writing::format::write_encoded;
-use pgm_plates::converter::OneThread;
 use refusals::refusal::Refusal;
 use sheet_gather::stop::TrapsheetError;
 use std::convert::AsStr;
@@ -81,7 +80,7 @@ fn write_at<R: Rack>(racks: &mut [R], plate: u32, name: &str, plane: &Plane) -> 
     ensures others { (k : ℕ) → k ≢ plate
         → rack_at (map R.state racks.new) k ≡ rack_at (map R.state racks.old) k }
 {
-    write_encoded(&mut racks[plate as usize], name, plane, &OneThread)
+    write_encoded(&mut racks[plate as usize], name, plane)
 }
 
 // Writes the report by the first rack.

@@ -6,7 +6,6 @@ use outside::mem_file::FileList;
 use outside::mem_tray::MemTray;
 use page_gather::gather::gather;
 use page_model::page::PageFault;
-use pgm_plates::converter::OneThread;
 use pgm_plates::plate::PlateFault;
 use ps_tokens::faults::{FaultKind, JobFault};
 use refusals::refusal::Refusal;
@@ -106,7 +105,7 @@ fn refusal_by(alloc: Global, tray: &mut MemTray, names: &NameList) -> Option<Ref
     if names.len() != 2 {
         return None;
     }
-    match gather(alloc, tray, "job", names, &["c", "k"], &OneThread) {
+    match gather(alloc, tray, "job", names, &["c", "k"]) {
         Ok(_) => None,
         Err(refusal) => Some(refusal),
     }

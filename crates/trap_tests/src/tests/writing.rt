@@ -9,7 +9,6 @@ use lists::memory::push;
 use outside::mem_rack::MemRack;
 use page_model::parts::{OutOfMemory, Plane, PlaneList};
 use page_writing::writing::write_page;
-use pgm_plates::converter::OneThread;
 use refusals::refusal::Refusal;
 use std::alloc::Global;
 use std::process::Abort;
@@ -143,7 +142,7 @@ fn refusal_of(rack: &mut MemRack, planes: PlaneList) -> Option<Refusal>
     requires planes { All IsPlane planes }
     requires samples { All (λ p. p.width * p.height ≤ most_samples) planes }
 {
-    match write_page(rack, &NAMES, planes, "page.txt", b"end\n", &OneThread) {
+    match write_page(rack, &NAMES, planes, "page.txt", b"end\n") {
         Ok(_) => None,
         Err(refusal) => Some(refusal),
     }

@@ -3,7 +3,7 @@ use Rattle.std.proofs.Common.{◌≡◌, sym, subst}
 use Rattle.pgm_plates.specs.declared.values.Form.{Form}
 use Rattle.pgm_plates.specs.Readers.{samples_from}
 use Rattle.pgm_plates.proofs.ReadValues.{turned_from}
-use Rattle.pgm_plates.proofs.converter.turn_to.Goals as goal
+use Rattle.pgm_plates.proofs.raster.turn_to.Goals as goal
 
 pub returns-in-Tints-clause-samples : goal.returns-in-Tints-clause-samples
 returns-in-Tints-clause-samples c =
