@@ -1,9 +1,10 @@
 -- Rows that are written one after another, and what stands in a row that was written.
-use Rattle.std.proofs.Common.{◌≡◌, ℕ, ◌+◌, ◌*◌, ◌/◌, ◌%◌, ◌<◌, ◌≤◌, inl, inr, sym, ◌∙◌, ap, arith, List, length, slice_index, slice_set}
+use Rattle.std.proofs.Common.{◌≡◌, ℕ, ◌+◌, ◌*◌, ◌/◌, ◌%◌, ◌<◌, ◌≤◌, ◌-◌, ◌++◌, take, drop, inl, inr, sym, ◌∙◌, ap, arith, List, length, slice_index, slice_set}
 use Rattle.std.proofs.Math.Nat.{div-lt_iff_lt-mul}
 use Rattle.std.proofs.lemmas.Bool.{cases_eq, cases_lt}
-use Rattle.std.proofs.lemmas.List.{get_or-set_same, get_or-set_other, length-set}
-use Rattle.std.proofs.lemmas.Nat.{div-mul-add, mod-mul-add, mul-add-lt}
+use Rattle.std.proofs.lemmas.List.{get_or-append_right, get_or-set_same, get_or-set_other, get_or-take, get_or_append_left, length-drop, length-set, length-take-le}
+use Rattle.std.proofs.lemmas.Nat.{div-mul-add, mod-mul-add, mul-add-lt, rows}
+use borrow.Rule.Slice.PartMut.{post_of, put_mid, same_len_mid}
 use Rattle.page_model.specs.declared.parts.PageParts.{PageParts}
 use Rattle.page_model.specs.Conditions.{IsPage}
 use Rattle.page_model.specs.Page.{height, plates, width}
@@ -17,6 +18,29 @@ some_width page valid = (plane_of page 0 valid valid.parts.some_plates).some_wid
 
 pub plane_long : (page : PageParts) (c : ℕ) → IsPage page → c < plates page → length (plane_at page.planes c).tints ≡ width page * height page
 plane_long page c valid l = (plane_of page c valid l).full ∙ ap (λ (w : ℕ). w * (plane_at page.planes c).height) (valid.agree c l).wide ∙ ap (λ (h : ℕ). width page * h) (valid.agree c l).tall
+
+-- a row of w numbers that is written into a list of n rows: what it has, and what lies above it
+row_fits : (n k w long : ℕ) → k < n → long ≡ n * w → k * w + w ≤ long
+row_fits n k w long l e = grind (arith, rows)
+
+pub row_part : (n k w v : ℕ) (xs : List ℕ) → k < n → length xs ≡ n * w → v ≡ w → length (take (k * v + v - k * v) (drop (k * v) xs)) ≡ v
+row_part n k w v xs l long e =
+    let back : k * w + w - k * w ≡ w = omega arith in
+    rw (e, back) (length-take-le w (drop (k * w) xs) (omega (arith, length-drop (k * w) xs, row_fits n k w (length xs) l long)))
+
+pub row_long : (n k w v : ℕ) (xs ys : List ℕ) → k < n → length xs ≡ n * w → v ≡ w → length ys ≡ v → length (put_mid (k * v) (k * v + v - k * v) xs ys) ≡ length xs
+row_long n k w v xs ys l long e all = same_len_mid (k * v) (k * v + v - k * v) xs ys (all ∙ sym (row_part n k w v xs l long e))
+
+pub row_there : (n k w v a o : ℕ) (xs ys : List ℕ) → k < n → length xs ≡ n * w → v ≡ w → length ys ≡ v → o < w → slice_index (put_mid (k * v) a xs ys) (k * w + o) ≡ slice_index ys o
+row_there n k w v a o xs ys l long e all lo =
+    let le : k * w ≤ length xs = omega (arith, row_fits n k w (length xs) l long) in
+    let back : k * w + o - k * w ≡ o = omega arith in
+    rw e (get_or-append_right (take (k * w) xs) (ys ++ post_of (k * w) a xs) (k * w) (k * w + o) 0 (length-take-le (k * w) xs le) (omega arith) ∙ rw back (get_or_append_left ys (post_of (k * w) a xs) 0 o (omega arith)))
+
+pub row_above : (n k w v a i : ℕ) (xs ys : List ℕ) → k < n → length xs ≡ n * w → v ≡ w → i < k * w → slice_index (put_mid (k * v) a xs ys) i ≡ slice_index xs i
+row_above n k w v a i xs ys l long e li =
+    let le : k * w ≤ length xs = omega (arith, row_fits n k w (length xs) l long) in
+    rw e (get_or_append_left (take (k * w) xs) (ys ++ post_of (k * w) a xs) 0 i (omega (arith, length-take-le (k * w) xs le)) ∙ get_or-take (k * w) xs i 0 li)
 
 -- one more row is written
 pub rows_more : (w k : ℕ) (value : ℕ → ℕ → ℕ) (old later : List ℕ) → ((i : ℕ) → i < k * w → slice_index later i ≡ slice_index old i) → ((o : ℕ) → o < w → slice_index later (k * w + o) ≡ value k o) → ((j o : ℕ) → j < k → o < w → slice_index old (j * w + o) ≡ value j o) → (j o : ℕ) → j < k + 1 → o < w → slice_index later (j * w + o) ≡ value j o
