@@ -1,7 +1,7 @@
 -- That products and sums of coordinates fit 128 bits.
 use Rattle.std.proofs.Common.{◌≡◌, refl, ℕ, ◌*◌, ◌≤◌, arith, w64}
 use Rattle.std.specs.Int.{w128}
-use Rattle.std.specs.Prelude.{ℤ, ◌+ℤ◌, ◌-ℤ◌, ◌*ℤ◌, nat_abs}
+use Rattle.std.specs.Prelude.{ℤ, ◌+ℤ◌, ◌-ℤ◌, ◌*ℤ◌, nat_abs, pos}
 use Rattle.std.proofs.Math.Nat.{mul-le-mul}
 use Rattle.std.proofs.lemmas.Int.{ints, unsigned_abs-mul}
 use mir.Val.{SFits, to_z, of_z}
@@ -12,6 +12,9 @@ widened r z f e = omega (arith, ints)
 
 pub product_at_most : (a b : ℤ) (m : ℕ) → nat_abs a ≤ m → nat_abs b ≤ m → nat_abs (a *ℤ b) ≤ m * m
 product_at_most a b m h k = rw (unsigned_abs-mul a b) (mul-le-mul h k)
+
+pub scaled_at_most : (z : ℤ) (n : ℕ) → nat_abs z ≤ 10000000000 → n ≤ 10000 → nat_abs (z *ℤ pos n) ≤ 100000000000000
+scaled_at_most z n h k = rw (unsigned_abs-mul z (pos n)) (mul-le-mul h k)
 
 -- a sum of two products fits
 pub sum_fits : (a b : ℤ) → nat_abs a ≤ 40000000000000000000000000000 → nat_abs b ≤ 40000000000000000000000000000 → SFits w128 (to_z w128 (of_z w128 a) +ℤ to_z w128 (of_z w128 b))
@@ -29,6 +32,9 @@ same_sum m n a b x c a' b' x' c' e f g h i k = rw (e, f, g, h, i, k) refl
 
 pub near_64 : (z : ℤ) → nat_abs z ≤ 100000000000000 → to_z w64 (of_z w64 z) ≡ z
 near_64 z h = omega (arith, ints)
+
+pub pos_64 : (r : ℤ) (n : ℕ) → r ≡ pos n → n ≤ 10000 → to_z w64 (of_z w64 r) ≡ pos n
+pos_64 r n e h = omega (arith, ints)
 
 pub near_128 : (z : ℤ) → nat_abs z ≤ 80000000000000000000000000000 → to_z w128 (of_z w128 z) ≡ z
 near_128 z h = omega (arith, ints)

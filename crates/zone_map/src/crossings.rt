@@ -1,7 +1,7 @@
 ghost use Rattle.std.specs.Prelude.{◌≡◌, ℕ, ◌<◌, ◌≤◌, ◌+◌, ◌*◌, ◌+ℤ◌, ◌*ℤ◌, ◌-ℤ◌, int_lt, nat_abs, nat_lt, pos, true};
 ghost use Rattle.page_model.specs.Conditions.{IsVertex};
 ghost use Rattle.page_model.specs.Zones.{corner, lean};
-ghost use Rattle.page_model.specs.Limits.{most_resolution, scale};
+ghost use Rattle.page_model.specs.Limits.{most_coordinate, most_resolution, scale};
 ghost use Rattle.zone_map.specs.PagePoints.{middle, point, IsNear, furthest};
 
 use page_model::parts::Vertex;
@@ -13,6 +13,16 @@ pub struct PagePoint {
     pub y: i64,
 }
 
+/// A coordinate of a vertex, in the units of a point.
+fn scaled(coordinate: i64, resolution: u32) -> i64
+    requires coordinate { nat_abs coordinate ≤ most_coordinate }
+    requires resolution { resolution ≤ most_resolution }
+    ensures value { result ≡ coordinate *ℤ pos resolution }
+    ensures bound { nat_abs result ≤ furthest }
+{
+    coordinate * i64::from(resolution)
+}
+
 /// The point of a vertex.
 pub fn point_of(v: Vertex, resolution: u32) -> PagePoint
     requires vertex { IsVertex v }
@@ -21,8 +31,8 @@ pub fn point_of(v: Vertex, resolution: u32) -> PagePoint
     ensures near { IsNear result }
 {
     PagePoint {
-        x: v.x * i64::from(resolution),
-        y: v.y * i64::from(resolution),
+        x: scaled(v.x, resolution),
+        y: scaled(v.y, resolution),
     }
 }
 
