@@ -1,16 +1,19 @@
 -- An edge by its samples on both sides of a third one, and the tests of a trap in the order of what they cost.
-use Rattle.std.proofs.Common.{◌≡◌, ℕ, ◌*◌, ◌≤◌, Bool, true, false, ◌&&◌, ◌||◌, ◌==◌, not, nat_le, nat_lt, min, max, refl, arith, if◌then◌else◌}
+use Rattle.std.proofs.Common.{◌≡◌, ℕ, ◌*◌, ◌<◌, ◌≤◌, Bool, true, false, ◌&&◌, ◌||◌, ◌==◌, not, nat_le, nat_lt, min, max, length, refl, sym, arith, if◌then◌else◌}
 use Rattle.std.proofs.lemmas.Bool.{false_from_ne_true, le-leb, leb-true, false≢true}
 use Rattle.std.proofs.Math.Bool.{or_comm}
 use Rattle.std.proofs.Math.Nat.{max_comm, min_comm, mul-le-mul_left}
+use mathlib.Core.Bool.{beq}
 use Rattle.page_model.specs.declared.parts.At.{At}
 use Rattle.page_model.specs.declared.parts.EdgeAt.{EdgeAt}
 use Rattle.page_model.specs.declared.parts.PageParts.{PageParts}
 use Rattle.page_model.specs.declared.parts.TrapParams.{TrapParams}
 use Rattle.page_model.specs.Apart.{apart}
+use Rattle.page_model.specs.Conditions.{IsPage}
 use Rattle.page_model.specs.Density.{density, shut}
 use Rattle.page_model.specs.Edges.{across, d2, on_first_side, own}
 use Rattle.page_model.specs.Page.{params_at}
+use Rattle.page_model.specs.Parameters.{InRange}
 use Rattle.page_model.specs.Trapped.{trapped_in}
 use Rattle.page_model.specs.Within.{black, black_sample, edge_slid, slid, within_in}
 use Rattle.page_model.proofs.ReachLemmas.{square_at_most}
@@ -56,6 +59,30 @@ not_reached d tw bw res black slid far = false_from_ne_true _ (λ t. go black sl
 pub beyond : (page : PageParts) (z : ℕ) (p : At) (e : EdgeAt) → nat_le (d2 p e * square (3600000000 * 1)) (square ((params_at page z).trap_width * max (params_at page z).black_width 10000 * page.resolution)) ≡ false → within_in page z p e ≡ false
 unfolding within_in
 beyond page z p e far = (let params = params_at page z in not_reached (d2 p e) params.trap_width params.black_width page.resolution (black page params e) (edge_slid page params e) far)
+
+-- by the plain width and by the black one, whichever the edge has
+pub within_either : (page : PageParts) (z : ℕ) (p : At) (e : EdgeAt) (d res : ℕ) (slid plain wide : Bool) (params : TrapParams) → params ≡ params_at page z → d ≡ d2 p e → res ≡ page.resolution → slid ≡ edge_slid page (params_at page z) e → plain ≡ nat_le (d * square (3600000000 * (if slid then 2 else 1))) (square (params.trap_width * 10000 * res)) → wide ≡ nat_le (d * square (3600000000 * (if slid then 2 else 1))) (square (params.trap_width * params.black_width * res)) → within_in page z p e ≡ (if black page (params_at page z) e then wide else plain)
+unfolding within_in
+within_either page z p e d res slid plain wide params same ed er es one two = rw (one, two, same, ed, er, es) (go (black page (params_at page z) e)) where
+  parts : ℕ
+  parts = if edge_slid page (params_at page z) e then 2 else 1
+
+  near : ℕ → Bool
+  near factor = nat_le (d2 p e * square (3600000000 * parts)) (square ((params_at page z).trap_width * factor * page.resolution))
+
+  go : (b : Bool) → near (if b then (params_at page z).black_width else 10000) ≡ (if b then near (params_at page z).black_width else near 10000)
+  go true = refl
+  go false = refl
+
+pub same_either : (b x y : Bool) → beq x y ≡ true → x ≡ (if b then y else x)
+same_either false x y e = refl
+same_either true false false e = refl
+same_either true false true e = e
+same_either true true false e = sym e
+same_either true true true e = refl
+
+pub zone_params : (page : PageParts) (z : ℕ) → IsPage page → z < length page.zones → InRange (params_at page z)
+zone_params page z valid l = (valid.parts.zones_in_range z _ l).params
 
 five_tests : (a b c d e : Bool) → (a && b && c && d && e) ≡ (b && (e && (c && (d && a))))
 five_tests false false c d e = refl

@@ -83,7 +83,6 @@ fn may_reach(page: &Page, zone: u32, p: At, e: EdgeAt) -> bool
 
 /// Whether the edge is near enough to trap p. If the black width and the plain one give the same answer, the edge is
 /// not tested for black.
-#[tactic(auto, unfolding(page_model::specs::Within::within_in))]
 fn is_within(page: &Page, zone: u32, p: At, e: EdgeAt, sides: Sides, slid: bool) -> bool
     requires sample { InPage page.now p }
     requires edge { IsEdge page.now e }
