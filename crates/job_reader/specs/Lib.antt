@@ -8,3 +8,4 @@ pub mod Operators
 pub mod Performing
 pub mod Starts
 pub mod Statements
+pub mod OtherOperators

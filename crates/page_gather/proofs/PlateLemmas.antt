@@ -1,16 +1,18 @@
 -- Plates that are read one after another.
-use Rattle.std.proofs.Common.{◌≡◌, ℕ, false, List, Err, refl, sym, subst}
+use Rattle.std.proofs.Common.{◌≡◌, ℕ, false, List, Ok, Err, refl, sym, subst}
 use Rattle.outside.specs.Tray.{TrayState}
+use Rattle.page_model.specs.declared.parts.Plane.{Plane}
 use Rattle.pgm_plates.specs.declared.plate.Plate.{Plate as PlateRead}
 use Rattle.pgm_plates.specs.declared.plate.PlateFault.{PlateFault}
 use Rattle.pgm_plates.specs.declared.plate.PlateFault.TheVariants.{BadMagic, BadHeader, SideRange, TooManySamples, MaxvalRange, SampleAboveMaxval, Truncated, TrailingBytes}
 use Rattle.pgm_plates.specs.declared.plate.PlateRefusal.TheVariants.{Fault}
-use Rattle.pgm_plates.specs.Laws.{FileFault}
+use Rattle.pgm_plates.specs.Laws.{FilePlate, FileFault}
+use Rattle.pgm_plates.specs.Planes.{plate_of}
 use Rattle.pgm_plates.specs.Reading.{ReadsPlate, KeepsCount}
 use Rattle.refusals.specs.declared.refusal.Refusal.{Refusal}
 use Rattle.refusals.specs.declared.refusal.Refusal.TheVariants.{Plate}
 use Rattle.page_gather.specs.Looks.{LooksAt, Refuses}
-use Rattle.page_gather.specs.Steps.{PassesNoFault, may_hide, plates_sought}
+use Rattle.page_gather.specs.Steps.{IsPlaneOfPage, PassesNoFault, may_hide, plates_sought}
 
 -- the count of faults behind a fault that hides none
 pub kept_count : (T : Type 0) (a b : TrayState) (fault : PlateFault) → KeepsCount {T = T} a b (Err (Fault fault)) → may_hide fault ≡ false → b.faults ≡ a.faults
@@ -39,6 +41,14 @@ one_refused law k name a b fault reads = record {
   asked = reads.asked;
   takes = record { bytes = reads.bytes; taken = reads.taken; few = reads.few };
   answer = Refuses.refused fault refl (kept_count PlateRead a b fault reads.count) (law name a b fault reads);
+}
+
+pub one_read : FilePlate → (k : ℕ) (name : List ℕ) (a b : TrayState) (plane : Plane) → ReadsPlate name a b (Ok (plate_of plane)) → IsPlaneOfPage plane → LooksAt plates_sought k name a b (Ok plane)
+one_read law k name a b plane reads fine = record {
+  keeps = reads.keeps;
+  asked = reads.asked;
+  takes = record { bytes = reads.bytes; taken = reads.taken; few = reads.few };
+  answer = (fine, reads.count, law name a b (plate_of plane) reads);
 }
 
 -- no fault of the tray is passed over where a plate is refused

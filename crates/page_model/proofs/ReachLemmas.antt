@@ -1,5 +1,5 @@
 -- An edge that is farther than the reach of the page is not within, whatever the zone.
-use Rattle.std.proofs.Common.{◌≡◌, ℕ, zero, suc, ◌+◌, ◌*◌, ◌/◌, ◌<◌, ◌≤◌, Bool, true, false, nat_le, max, ◌&&◌, inl, inr, refl, arith, if◌then◌else◌}
+use Rattle.std.proofs.Common.{◌≡◌, ℕ, zero, suc, ◌+◌, ◌*◌, ◌/◌, ◌<◌, ◌≤◌, Bool, true, false, nat_le, max, ◌&&◌, add-one, inl, inr, refl, arith, if◌then◌else◌}
 use Rattle.std.proofs.lemmas.Bool.{cases_lt, cases_eq, leb-true, false_from_ne_true}
 use Rattle.std.proofs.Math.Nat.{mul-le-mul_left, lt-div-mul-add}
 use Rattle.lists.specs.Words.{square, greatest_below}
@@ -7,6 +7,14 @@ use Rattle.lists.specs.Words.{square, greatest_below}
 pub at_most_greatest : (f : ℕ → ℕ) (n k : ℕ) → k < n → f k ≤ greatest_below f n
 at_most_greatest f zero k l = omega (arith, l)
 at_most_greatest f (suc n) k l = elim (cases_eq k n) [ inl e ↦ rw e (omega arith) | inr ne ↦ omega (arith, at_most_greatest f n k (omega (arith, ne))) ]
+
+-- the greatest value so far, after one more value
+pub greatest_more : (f : ℕ → ℕ) (n so_far value greatest : ℕ) → so_far ≡ greatest_below f n → value ≡ f n → greatest ≡ max value so_far → greatest ≡ greatest_below f (n + 1)
+greatest_more f n so_far value greatest before same is = rw add-one (omega arith)
+
+-- it stays small
+pub greatest_within : (most here so_far value greatest : ℕ) → so_far ≤ most → value ≡ here → here ≤ most → greatest ≡ max value so_far → greatest ≤ most
+greatest_within most here so_far value greatest before same near is = omega arith
 
 pub square_at_most : (a b : ℕ) → a ≤ b → square a ≤ square b
 square_at_most a b le = omega (arith, mul-le-mul_left a le, mul-le-mul_left b le)

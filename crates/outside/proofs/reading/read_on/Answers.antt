@@ -1,0 +1,24 @@
+-- read_on: reads on in the file that is begun.
+use Rattle.std.proofs.Common.{take, arith, rules}
+use Rattle.std.proofs.lemmas.Grind.{common_steps}
+use Rattle.outside.proofs.Taken.{few_taken, few_and_piece, taken_more}
+use Rattle.outside.proofs.reading.read_on.Goals as goal
+
+pub returns-clause-few : goal.returns-clause-few
+returns-clause-few g c = λ tells. few_taken _ _ c.loop-piece.bytes.items _ (c.loop-piece.invariant.taken tells) c.loop-piece.invariant.size
+
+pub returns-in-Ok-eq0-clause-few : goal.returns-in-Ok-eq0-clause-few
+returns-in-Ok-eq0-clause-few g c = λ tells. few_taken _ _ c.loop-piece.bytes.items _ (search rules) c.loop-piece.invariant.size
+
+pub returns-in-Err-extend_from_slice-clause-few : goal.returns-in-Err-extend_from_slice-clause-few
+returns-in-Err-extend_from_slice-clause-few g c = λ tells. few_and_piece _ c.in-Ok.count _ c.loop-piece.bytes.items _ c.read.new.buf _ (c.loop-piece.invariant.taken tells) (search rules) (grind (arith, common_steps))
+
+pub loop-piece-preserved : goal.loop-piece-preserved
+loop-piece-preserved g c = record {
+  keeps = search rules;
+  asked = search rules;
+  begun = search rules;
+  taken = λ tells. taken_more _ c.loop-piece.bytes.items _ (take c.in-Ok.count c.read.new.buf) _ (g.T.Tray.state c.read.new.self) (c.loop-piece.invariant.taken tells) (search rules) (grind (arith, common_steps));
+  well = search rules;
+  size = grind (arith, common_steps);
+}

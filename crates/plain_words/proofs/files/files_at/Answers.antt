@@ -1,0 +1,7 @@
+-- files_at: the file at that place of each word.
+use Rattle.std.proofs.Common.{arith}
+use Rattle.std.proofs.lemmas.Grind.{common_steps}
+use Rattle.plain_words.proofs.files.files_at.Goals as goal
+
+pub loop-word-preserved : goal.loop-word-preserved
+loop-word-preserved g c = grind (arith, common_steps)

@@ -1,0 +1,7 @@
+-- copy_of: a copy of limits.
+use Rattle.std.proofs.Common.{arith}
+use Rattle.std.proofs.lemmas.Grind.{common_steps}
+use Rattle.trap_params.proofs.limits.copy_of.Goals as goal
+
+pub loop-limit-preserved : goal.loop-limit-preserved
+loop-limit-preserved c = grind (arith, common_steps)
