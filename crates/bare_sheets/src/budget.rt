@@ -7,7 +7,7 @@ use page_model::bounds::{MOST_SAMPLES, MOST_SIDE};
 
 /// How large a window may be: its rows, and its samples in all plates together. A window has at least a halo on each
 /// side and a step between them, even where that is more.
-#[derive(Clone, Copy, Debug, Drop, PartialEq, Eq)]
+#[derive(Clone, Copy, Drop)]
 pub struct Budget {
     pub rows: u32,
     pub samples: u64,

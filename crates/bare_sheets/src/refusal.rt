@@ -1,7 +1,7 @@
 use page_model::page::PageFault;
 
 /// Why a sheet can't be trapped. Zones are numbered from 0.
-#[derive(Clone, Copy, Debug, Drop, PartialEq, Eq)]
+#[derive(Clone, Copy, Drop)]
 pub enum SheetRefusal {
     /// A fault that the sheet would have as a page, apart from the number of samples.
     Fault(PageFault),

@@ -19,7 +19,7 @@ use std::convert::AsStr;
 
 /// Which rows of plates are read next: those after the first `done` samples of each, to each plane after its first
 /// `kept` tints.
-#[derive(Clone, Copy, Debug, Drop, PartialEq, Eq)]
+#[derive(Clone, Copy, Drop)]
 pub struct NextRows {
     pub done: u64,
     pub kept: usize,

@@ -6,7 +6,7 @@ use refusals::refusal::{Refusal, status};
 use refusals::statuses::PAGE_REFUSED;
 
 /// Why a command of a sheet did not do its work.
-#[derive(Clone, Copy, Debug, Drop, PartialEq, Eq)]
+#[derive(Clone, Copy, Drop)]
 pub enum TrapsheetError {
     /// A refusal that a page can have as well: the words, a file, memory, or a plate without details.
     Common(Refusal),

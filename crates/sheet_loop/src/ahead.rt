@@ -119,7 +119,7 @@ pub fn trap_and_read<H: Threads + Sync, T: Tray>(
 
 /// Traps a strip and counts its core, and does some other work: side by side, with the other work in the caller's
 /// thread; or with one worker one after the other. It allocates nothing but what threads take.
-pub fn trap_while<H: Threads + Sync, W: FnMut() -> A, A: Send>(
+pub(crate) fn trap_while<H: Threads + Sync, W: FnMut() -> A, A: Send>(
     rt: &H,
     plan: &StripPlan,
     row: &Span,
@@ -142,6 +142,8 @@ pub fn trap_while<H: Threads + Sync, W: FnMut() -> A, A: Send>(
         rt,
         &mut ||
             requires { IsTrappable plan.now row.now strip.now windows.now counts.now }
+            ensures { TrapsRow plan.entry.now row.entry.now strip.entry.now windows.entry.now
+                windows.exit.now counts.entry.now counts.exit.now }
         { trap_row(rt, plan, row, strip, windows, counts) },
         work,
     );

@@ -2,7 +2,7 @@ use plate_rows::stop::RereadError;
 use refusals::refusal::Refusal;
 
 /// Why a sheet that streams stopped.
-#[derive(Clone, Copy, Debug, Drop, PartialEq, Eq)]
+#[derive(Clone, Copy, Drop)]
 pub enum StreamError {
     /// A plate is not the same any more, or a read of it failed.
     Unread(RereadError),

@@ -10,7 +10,7 @@ use std::alloc::Global;
 /// How a side is cut, all in samples: the length of the side; the halo, by which a window goes on beyond its core; the
 /// step, of which the places of windows are multiples, counted from the side's end where `from_end` is true; and the
 /// most samples of a window.
-#[derive(Clone, Copy, Debug, Drop, PartialEq, Eq)]
+#[derive(Clone, Copy, Drop)]
 pub struct Ruler {
     pub side: u32,
     pub halo: u32,
@@ -21,7 +21,7 @@ pub struct Ruler {
 
 /// The samples of a window along a side: the first of them on the side, and their number; and of its core, how many of
 /// the window's samples are before it, and its number.
-#[derive(Clone, Copy, Debug, Drop, PartialEq, Eq)]
+#[derive(Clone, Copy, Drop)]
 pub struct Span {
     pub from: u32,
     pub wide: u32,
