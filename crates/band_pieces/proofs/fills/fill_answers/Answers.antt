@@ -60,12 +60,6 @@ put_values-requires-clause-may g c = rw c.read_rows.ensures.seat c.requires.may
 pub returns-clause-filled : goal.returns-clause-filled
 returns-clause-filled g c = rw (sym c.read_rows.ensures.seat) c.put_values.ensures
 
-pub overflow_cast-marks : goal.overflow_cast-marks
-overflow_cast-marks g c = grind (arith, common_steps)
-
-pub overflow_cast-marks-2 : goal.overflow_cast-marks-2
-overflow_cast-marks-2 g c = grind (arith, common_steps)
-
 pub overflow_mul-marks : goal.overflow_mul-marks
 overflow_mul-marks g c = grind (arith, common_steps)
 
@@ -75,23 +69,8 @@ slice_bounds-marks-end g c = grind (arith, common_steps)
 pub slice_bounds-marks-end-2 : goal.slice_bounds-marks-end-2
 slice_bounds-marks-end-2 g c = grind (arith, common_steps)
 
-pub read_rows-requires-clause-phase : goal.read_rows-requires-clause-phase
-read_rows-requires-clause-phase g c = grind (arith, common_steps)
-
-pub read_rows-requires-clause-fits : goal.read_rows-requires-clause-fits
-read_rows-requires-clause-fits g c = grind (arith, common_steps)
-
-pub read_rows-requires-clause-inside : goal.read_rows-requires-clause-inside
-read_rows-requires-clause-inside g c = grind (arith, common_steps)
-
 pub read_rows-requires-clause-out : goal.read_rows-requires-clause-out
 read_rows-requires-clause-out g c = grind (arith, common_steps)
-
-pub overflow_cast-answers : goal.overflow_cast-answers
-overflow_cast-answers g c = grind (arith, common_steps)
-
-pub overflow_cast-answers-2 : goal.overflow_cast-answers-2
-overflow_cast-answers-2 g c = grind (arith, common_steps)
 
 pub overflow_mul-answers : goal.overflow_mul-answers
 overflow_mul-answers g c = grind (arith, common_steps)
@@ -102,23 +81,5 @@ slice_bounds-answers-end g c = grind (arith, common_steps)
 pub slice_bounds-answers-end-2 : goal.slice_bounds-answers-end-2
 slice_bounds-answers-end-2 g c = grind (arith, common_steps)
 
-pub make_answers-requires-clause-inside : goal.make_answers-requires-clause-inside
-make_answers-requires-clause-inside g c = grind (arith, common_steps)
-
-pub make_answers-requires-clause-held : goal.make_answers-requires-clause-held
-make_answers-requires-clause-held g c = grind (arith, common_steps)
-
-pub make_answers-requires-clause-above : goal.make_answers-requires-clause-above
-make_answers-requires-clause-above g c = grind (arith, common_steps)
-
-pub make_answers-requires-clause-under : goal.make_answers-requires-clause-under
-make_answers-requires-clause-under g c = grind (arith, common_steps)
-
 pub make_answers-requires-clause-out : goal.make_answers-requires-clause-out
 make_answers-requires-clause-out g c = grind (arith, common_steps)
-
-pub returns-clause-marks : goal.returns-clause-marks
-returns-clause-marks g c = grind (arith, common_steps)
-
-pub returns-clause-answers : goal.returns-clause-answers
-returns-clause-answers g c = grind (arith, common_steps)

@@ -46,12 +46,6 @@ put_values-requires-clause-may g c = rw c.read_rows.ensures.seat c.requires.may
 pub returns-clause-filled : goal.returns-clause-filled
 returns-clause-filled g c = rw (sym c.read_rows.ensures.seat) c.put_values.ensures
 
-pub overflow_cast-wide : goal.overflow_cast-wide
-overflow_cast-wide g c = grind (arith, common_steps)
-
-pub overflow_cast-zones : goal.overflow_cast-zones
-overflow_cast-zones g c = grind (arith, common_steps)
-
 pub overflow_mul-zones : goal.overflow_mul-zones
 overflow_mul-zones g c = grind (arith, common_steps)
 
@@ -61,20 +55,8 @@ slice_bounds-zones-end g c = grind (arith, common_steps)
 pub slice_bounds-zones-end-2 : goal.slice_bounds-zones-end-2
 slice_bounds-zones-end-2 g c = grind (arith, common_steps)
 
-pub read_rows-requires-clause-phase : goal.read_rows-requires-clause-phase
-read_rows-requires-clause-phase g c = grind (arith, common_steps)
-
-pub read_rows-requires-clause-fits : goal.read_rows-requires-clause-fits
-read_rows-requires-clause-fits g c = grind (arith, common_steps)
-
-pub read_rows-requires-clause-inside : goal.read_rows-requires-clause-inside
-read_rows-requires-clause-inside g c = grind (arith, common_steps)
-
 pub read_rows-requires-clause-out : goal.read_rows-requires-clause-out
 read_rows-requires-clause-out g c = grind (arith, common_steps)
-
-pub overflow_cast-marks : goal.overflow_cast-marks
-overflow_cast-marks g c = grind (arith, common_steps)
 
 pub overflow_mul-marks : goal.overflow_mul-marks
 overflow_mul-marks g c = grind (arith, common_steps)
@@ -85,26 +67,5 @@ slice_bounds-marks-end g c = grind (arith, common_steps)
 pub slice_bounds-marks-end-2 : goal.slice_bounds-marks-end-2
 slice_bounds-marks-end-2 g c = grind (arith, common_steps)
 
-pub make_marks-requires-clause-same : goal.make_marks-requires-clause-same
-make_marks-requires-clause-same g c = grind (arith, common_steps)
-
-pub make_marks-requires-clause-below : goal.make_marks-requires-clause-below
-make_marks-requires-clause-below g c = grind (arith, common_steps)
-
-pub make_marks-requires-clause-here : goal.make_marks-requires-clause-here
-make_marks-requires-clause-here g c = grind (arith, common_steps)
-
-pub make_marks-requires-clause-held : goal.make_marks-requires-clause-held
-make_marks-requires-clause-held g c = grind (arith, common_steps)
-
-pub make_marks-requires-clause-inside : goal.make_marks-requires-clause-inside
-make_marks-requires-clause-inside g c = grind (arith, common_steps)
-
 pub make_marks-requires-clause-out : goal.make_marks-requires-clause-out
 make_marks-requires-clause-out g c = grind (arith, common_steps)
-
-pub returns-clause-zones : goal.returns-clause-zones
-returns-clause-zones g c = grind (arith, common_steps)
-
-pub returns-clause-marks : goal.returns-clause-marks
-returns-clause-marks g c = grind (arith, common_steps)

@@ -65,12 +65,6 @@ put_values-requires-clause-may g c = rw (c.read_rows-2.ensures.seat ∙ c.read_r
 pub returns-clause-filled : goal.returns-clause-filled
 returns-clause-filled g c = rw (sym (c.read_rows-2.ensures.seat ∙ c.read_rows.ensures.seat)) c.put_values.ensures
 
-pub overflow_cast-count : goal.overflow_cast-count
-overflow_cast-count g c = grind (arith, common_steps)
-
-pub overflow_cast-zones : goal.overflow_cast-zones
-overflow_cast-zones g c = grind (arith, common_steps)
-
 pub overflow_mul-zones : goal.overflow_mul-zones
 overflow_mul-zones g c = grind (arith, common_steps)
 
@@ -80,20 +74,8 @@ slice_bounds-zones-end g c = grind (arith, common_steps)
 pub slice_bounds-zones-end-2 : goal.slice_bounds-zones-end-2
 slice_bounds-zones-end-2 g c = grind (arith, common_steps)
 
-pub read_rows-requires-clause-phase : goal.read_rows-requires-clause-phase
-read_rows-requires-clause-phase g c = grind (arith, common_steps)
-
-pub read_rows-requires-clause-fits : goal.read_rows-requires-clause-fits
-read_rows-requires-clause-fits g c = grind (arith, common_steps)
-
-pub read_rows-requires-clause-inside : goal.read_rows-requires-clause-inside
-read_rows-requires-clause-inside g c = grind (arith, common_steps)
-
 pub read_rows-requires-clause-out : goal.read_rows-requires-clause-out
 read_rows-requires-clause-out g c = grind (arith, common_steps)
-
-pub overflow_cast-answers : goal.overflow_cast-answers
-overflow_cast-answers g c = grind (arith, common_steps)
 
 pub overflow_mul-answers : goal.overflow_mul-answers
 overflow_mul-answers g c = grind (arith, common_steps)
@@ -104,20 +86,8 @@ slice_bounds-answers-end g c = grind (arith, common_steps)
 pub slice_bounds-answers-end-2 : goal.slice_bounds-answers-end-2
 slice_bounds-answers-end-2 g c = grind (arith, common_steps)
 
-pub read_rows-requires-2-clause-phase : goal.read_rows-requires-2-clause-phase
-read_rows-requires-2-clause-phase g c = grind (arith, common_steps)
-
-pub read_rows-requires-2-clause-fits : goal.read_rows-requires-2-clause-fits
-read_rows-requires-2-clause-fits g c = grind (arith, common_steps)
-
-pub read_rows-requires-2-clause-inside : goal.read_rows-requires-2-clause-inside
-read_rows-requires-2-clause-inside g c = grind (arith, common_steps)
-
 pub read_rows-requires-2-clause-out : goal.read_rows-requires-2-clause-out
 read_rows-requires-2-clause-out g c = grind (arith, common_steps)
-
-pub overflow_cast-tints : goal.overflow_cast-tints
-overflow_cast-tints g c = grind (arith, common_steps)
 
 pub overflow_mul-tints : goal.overflow_mul-tints
 overflow_mul-tints g c = grind (arith, common_steps)
@@ -128,17 +98,5 @@ slice_bounds-tints-end g c = grind (arith, common_steps)
 pub slice_bounds-tints-end-2 : goal.slice_bounds-tints-end-2
 slice_bounds-tints-end-2 g c = grind (arith, common_steps)
 
-pub make_tints-requires-clause-inside : goal.make_tints-requires-clause-inside
-make_tints-requires-clause-inside g c = grind (arith, common_steps)
-
 pub make_tints-requires-clause-out : goal.make_tints-requires-clause-out
 make_tints-requires-clause-out g c = grind (arith, common_steps)
-
-pub returns-clause-zones : goal.returns-clause-zones
-returns-clause-zones g c = grind (arith, common_steps)
-
-pub returns-clause-answers : goal.returns-clause-answers
-returns-clause-answers g c = grind (arith, common_steps)
-
-pub returns-clause-tints : goal.returns-clause-tints
-returns-clause-tints g c = grind (arith, common_steps)

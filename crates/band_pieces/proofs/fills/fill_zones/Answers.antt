@@ -13,12 +13,6 @@ put_values-requires-clause-values g c =
     let rows : c.rows_of-rows.result ≡ rows_of_piece layout.bands i = c.rows_of-rows.ensures.value ∙ ap (λ (z : Bands). rows_of_piece z i) c.bands.ensures.value in
     made_values key c.args.page.now layout i c.rows_of-rows.result c.make_zones.new.out c.requires.layout c.requires.page rows (zones_to c.args.page.now layout _ c.rows_of-rows.result c.make_zones.new.out c.requires.lies.wide c.requires.phase c.make_zones.ensures.zones)
 
-pub overflow_cast-count : goal.overflow_cast-count
-overflow_cast-count g c = grind (arith, common_steps)
-
-pub overflow_cast-count-2 : goal.overflow_cast-count-2
-overflow_cast-count-2 g c = grind (arith, common_steps)
-
 pub overflow_mul-count : goal.overflow_mul-count
 overflow_mul-count g c = grind (arith, common_steps)
 
@@ -28,11 +22,5 @@ slice_bounds-zones-end g c = grind (arith, common_steps)
 pub slice_bounds-zones-end-2 : goal.slice_bounds-zones-end-2
 slice_bounds-zones-end-2 g c = grind (arith, common_steps)
 
-pub make_zones-requires-clause-inside : goal.make_zones-requires-clause-inside
-make_zones-requires-clause-inside g c = grind (arith, common_steps)
-
 pub make_zones-requires-clause-out : goal.make_zones-requires-clause-out
 make_zones-requires-clause-out g c = grind (arith, common_steps)
-
-pub returns-clause-zones : goal.returns-clause-zones
-returns-clause-zones g c = grind (arith, common_steps)
