@@ -9,6 +9,7 @@ use Rattle.band_core.specs.Values.{row_value}
 use Rattle.row_values.specs.Rows.{HoldsRows}
 use Rattle.band_claims.specs.declared.table_key.TableKey.{TableKey}
 use Rattle.band_pieces.specs.Spans.{rows_of_piece}
+use Rattle.std.proofs.lemmas.Grind.{common_steps}
 use Rattle.std.proofs.Common.{refl}
 use Rattle.row_cells.specs.Layouts.{Layout}
 use Rattle.page_model.specs.Bands.{pieces_of}
@@ -58,3 +59,27 @@ put_values-requires-clause-may g c = rw c.read_rows.ensures.seat c.requires.may
 
 pub returns-clause-filled : goal.returns-clause-filled
 returns-clause-filled g c = rw (sym c.read_rows.ensures.seat) c.put_values.ensures
+
+pub overflow_mul-marks : goal.overflow_mul-marks
+overflow_mul-marks g c = grind (arith, common_steps)
+
+pub slice_bounds-marks-end : goal.slice_bounds-marks-end
+slice_bounds-marks-end g c = grind (arith, common_steps)
+
+pub slice_bounds-marks-end-2 : goal.slice_bounds-marks-end-2
+slice_bounds-marks-end-2 g c = grind (arith, common_steps)
+
+pub read_rows-requires-clause-out : goal.read_rows-requires-clause-out
+read_rows-requires-clause-out g c = grind (arith, common_steps)
+
+pub overflow_mul-answers : goal.overflow_mul-answers
+overflow_mul-answers g c = grind (arith, common_steps)
+
+pub slice_bounds-answers-end : goal.slice_bounds-answers-end
+slice_bounds-answers-end g c = grind (arith, common_steps)
+
+pub slice_bounds-answers-end-2 : goal.slice_bounds-answers-end-2
+slice_bounds-answers-end-2 g c = grind (arith, common_steps)
+
+pub make_answers-requires-clause-out : goal.make_answers-requires-clause-out
+make_answers-requires-clause-out g c = grind (arith, common_steps)

@@ -8,6 +8,7 @@ use Rattle.band_core.specs.Values.{row_value}
 use Rattle.row_values.specs.Rows.{HoldsRows}
 use Rattle.band_claims.specs.declared.table_key.TableKey.{TableKey}
 use Rattle.band_pieces.specs.Spans.{rows_of_piece}
+use Rattle.std.proofs.lemmas.Grind.{common_steps}
 use Rattle.std.proofs.Common.{refl}
 use Rattle.row_cells.specs.Layouts.{Layout}
 use Rattle.page_model.specs.Bands.{pieces_of}
@@ -44,3 +45,27 @@ put_values-requires-clause-may g c = rw c.read_rows.ensures.seat c.requires.may
 
 pub returns-clause-filled : goal.returns-clause-filled
 returns-clause-filled g c = rw (sym c.read_rows.ensures.seat) c.put_values.ensures
+
+pub overflow_mul-zones : goal.overflow_mul-zones
+overflow_mul-zones g c = grind (arith, common_steps)
+
+pub slice_bounds-zones-end : goal.slice_bounds-zones-end
+slice_bounds-zones-end g c = grind (arith, common_steps)
+
+pub slice_bounds-zones-end-2 : goal.slice_bounds-zones-end-2
+slice_bounds-zones-end-2 g c = grind (arith, common_steps)
+
+pub read_rows-requires-clause-out : goal.read_rows-requires-clause-out
+read_rows-requires-clause-out g c = grind (arith, common_steps)
+
+pub overflow_mul-marks : goal.overflow_mul-marks
+overflow_mul-marks g c = grind (arith, common_steps)
+
+pub slice_bounds-marks-end : goal.slice_bounds-marks-end
+slice_bounds-marks-end g c = grind (arith, common_steps)
+
+pub slice_bounds-marks-end-2 : goal.slice_bounds-marks-end-2
+slice_bounds-marks-end-2 g c = grind (arith, common_steps)
+
+pub make_marks-requires-clause-out : goal.make_marks-requires-clause-out
+make_marks-requires-clause-out g c = grind (arith, common_steps)

@@ -8,6 +8,7 @@ use Rattle.band_core.specs.Values.{row_value}
 use Rattle.row_values.specs.Rows.{HoldsRows}
 use Rattle.band_claims.specs.declared.table_key.TableKey.{TableKey}
 use Rattle.band_pieces.specs.Spans.{rows_of_piece}
+use Rattle.std.proofs.lemmas.Grind.{common_steps}
 use Rattle.std.proofs.Common.{refl}
 use Rattle.row_cells.specs.Layouts.{Layout}
 use Rattle.page_model.specs.Bands.{pieces_of}
@@ -63,3 +64,39 @@ put_values-requires-clause-may g c = rw (c.read_rows-2.ensures.seat ∙ c.read_r
 
 pub returns-clause-filled : goal.returns-clause-filled
 returns-clause-filled g c = rw (sym (c.read_rows-2.ensures.seat ∙ c.read_rows.ensures.seat)) c.put_values.ensures
+
+pub overflow_mul-zones : goal.overflow_mul-zones
+overflow_mul-zones g c = grind (arith, common_steps)
+
+pub slice_bounds-zones-end : goal.slice_bounds-zones-end
+slice_bounds-zones-end g c = grind (arith, common_steps)
+
+pub slice_bounds-zones-end-2 : goal.slice_bounds-zones-end-2
+slice_bounds-zones-end-2 g c = grind (arith, common_steps)
+
+pub read_rows-requires-clause-out : goal.read_rows-requires-clause-out
+read_rows-requires-clause-out g c = grind (arith, common_steps)
+
+pub overflow_mul-answers : goal.overflow_mul-answers
+overflow_mul-answers g c = grind (arith, common_steps)
+
+pub slice_bounds-answers-end : goal.slice_bounds-answers-end
+slice_bounds-answers-end g c = grind (arith, common_steps)
+
+pub slice_bounds-answers-end-2 : goal.slice_bounds-answers-end-2
+slice_bounds-answers-end-2 g c = grind (arith, common_steps)
+
+pub read_rows-requires-2-clause-out : goal.read_rows-requires-2-clause-out
+read_rows-requires-2-clause-out g c = grind (arith, common_steps)
+
+pub overflow_mul-tints : goal.overflow_mul-tints
+overflow_mul-tints g c = grind (arith, common_steps)
+
+pub slice_bounds-tints-end : goal.slice_bounds-tints-end
+slice_bounds-tints-end g c = grind (arith, common_steps)
+
+pub slice_bounds-tints-end-2 : goal.slice_bounds-tints-end-2
+slice_bounds-tints-end-2 g c = grind (arith, common_steps)
+
+pub make_tints-requires-clause-out : goal.make_tints-requires-clause-out
+make_tints-requires-clause-out g c = grind (arith, common_steps)

@@ -1,5 +1,6 @@
 -- read_next: unpacks the first values of a run, of which there are some, and gives how many.
 use Rattle.std.proofs.Common.{◌≡◌, ℕ, ◌*◌, ◌/◌, sym, ap, ◌∙◌, arith}
+use Rattle.std.proofs.lemmas.Grind.{common_steps}
 use Rattle.page_model.specs.declared.bands.Bands.{Bands}
 use Rattle.page_model.specs.Bands.{phase_of}
 use Rattle.row_cells.specs.Places.{lanes_of, value_total}
@@ -35,3 +36,27 @@ returns-clause-here g c j l =
     let key : TableKey = g.C.CellSource.table_key c.args.source.now c.args.seat.now in
     let same : n ≡ lanes_of (phase_of layout.bands run.piece) = c.lanes-lanes.ensures.value ∙ ap (λ (z : Bands). lanes_of (phase_of z run.piece)) c.bands.ensures.value in
     c.read_part.ensures.here j l ∙ ap (λ (z : ℕ). value key.page.value layout run.piece z) (omega (arith, begins_at run.from n c.lanes-lanes.ensures.some, ap (λ (z : ℕ). run.from / n * z) same))
+
+pub read_whole-requires-clause-out : goal.read_whole-requires-clause-out
+read_whole-requires-clause-out g c = grind (arith, common_steps)
+
+pub overflow_mul-result : goal.overflow_mul-result
+overflow_mul-result g c = grind (arith, common_steps)
+
+pub overflow_cast-result : goal.overflow_cast-result
+overflow_cast-result g c = grind (arith, common_steps)
+
+pub returns-then-whole-gt0-clause-some : goal.returns-then-whole-gt0-clause-some
+returns-then-whole-gt0-clause-some g c = grind (arith, common_steps)
+
+pub returns-then-whole-gt0-clause-few : goal.returns-then-whole-gt0-clause-few
+returns-then-whole-gt0-clause-few g c = grind (arith, common_steps)
+
+pub read_part-requires-clause-few : goal.read_part-requires-clause-few
+read_part-requires-clause-few g c = grind (arith, common_steps)
+
+pub read_part-requires-clause-inside : goal.read_part-requires-clause-inside
+read_part-requires-clause-inside g c = grind (arith, common_steps)
+
+pub read_part-requires-clause-out : goal.read_part-requires-clause-out
+read_part-requires-clause-out g c = grind (arith, common_steps)

@@ -1,5 +1,6 @@
 -- read_row: the values of a phase of row k of these rows.
 use Rattle.std.proofs.Common.{◌≡◌, ℕ, ◌+◌, ◌*◌, ◌/◌, ◌%◌, ◌≤◌, sym, ap, ◌∙◌, subst, arith}
+use Rattle.std.proofs.lemmas.Grind.{common_steps}
 use Rattle.std.specs.Prelude.{slice_index}
 use Rattle.page_model.specs.Bands.{band_of_row, phase_of, piece_of}
 use Rattle.page_model.proofs.BandLemmas.{phase_of_piece}
@@ -58,3 +59,18 @@ returns-clause-here g c o l =
 
 pub returns-clause-kept : goal.returns-clause-kept
 returns-clause-kept g c i l = c.read_values.ensures.kept i (rw c.row_values-wide.ensures.value l)
+
+pub overflow_mul-run : goal.overflow_mul-run
+overflow_mul-run g c = grind (arith, common_steps)
+
+pub overflow_cast-run-2 : goal.overflow_cast-run-2
+overflow_cast-run-2 g c = grind (arith, common_steps)
+
+pub overflow_mul-run-2 : goal.overflow_mul-run-2
+overflow_mul-run-2 g c = grind (arith, common_steps)
+
+pub overflow_cast-run-3 : goal.overflow_cast-run-3
+overflow_cast-run-3 g c = grind (arith, common_steps)
+
+pub read_values-requires-clause-out : goal.read_values-requires-clause-out
+read_values-requires-clause-out g c = grind (arith, common_steps)
