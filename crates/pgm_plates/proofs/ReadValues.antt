@@ -1,8 +1,10 @@
 -- What is read as samples or as tints: the samples that it is, piece after piece, and the plate.
-use Rattle.std.proofs.Common.{◌≡◌, ℕ, ◌≤◌, ◌+◌, ◌*◌, ◌-◌, List, length, map, Some, Ok, refl, sym, ap, ◌∙◌, subst, arith}
-use Rattle.std.proofs.lemmas.List.{length-map}
+use Rattle.std.proofs.Common.{◌≡◌, ℕ, ◌≤◌, ◌+◌, ◌*◌, ◌-◌, List, length, map, ◌++◌, Some, Ok, refl, sym, ap, ◌∙◌, subst, arith}
+use Rattle.std.proofs.lemmas.List.{length-map, map-append}
+use Rattle.std.proofs.lemmas.List.Elements.{All-append}
 use Rattle.outside.specs.Tray.{TrayState}
 use Rattle.outside.specs.Reading.{Takes}
+use Rattle.outside.proofs.Steps.{takes_as}
 use Rattle.page_model.specs.Conditions.{IsPlane}
 use Rattle.page_model.specs.Limits.{most_samples}
 use Rattle.page_model.specs.declared.parts.Plane.{Plane}
@@ -16,7 +18,7 @@ use Rattle.pgm_plates.specs.Readers.{Fit, RasterRefused, RasterTaken, samples_fr
 use Rattle.pgm_plates.specs.Reading.{ReadsPlate}
 use Rattle.pgm_plates.specs.Sequences.{ReadsPage}
 use Rattle.pgm_plates.proofs.Facts.{turned_back}
-use Rattle.pgm_plates.proofs.Pieces.{refused_on, room_refused}
+use Rattle.pgm_plates.proofs.Pieces.{refused_on, room_refused, taken_on}
 use Rattle.pgm_plates.proofs.Turned.{turned_fit}
 
 pub from_size : (t : Form) (m : ℕ) (xs : List ℕ) → length (samples_from t m xs) ≡ length xs
@@ -32,6 +34,17 @@ pub taken_from : (t : Form) (m : ℕ) (a b : TrayState) (xs ys : List ℕ) → s
 taken_from t m a b xs ys is taken =
     let same = subst (λ (l : List ℕ). RasterTaken m (length xs) a b l) (sym is) taken in
     record { takes = same.takes; fit = same.fit; all = from_size t m ys }
+
+from_both : (t : Form) (m : ℕ) (xs ys : List ℕ) → samples_from t m xs ++ samples_from t m ys ≡ samples_from t m (xs ++ ys)
+from_both Tints m xs ys = sym (map-append (λ (v : ℕ). m - v) xs ys)
+from_both Samples m xs ys = refl
+
+-- a piece more
+pub values_more : (t : Form) (m want : ℕ) (a b c : TrayState) (xs ys all : List ℕ) → all ≡ xs ++ ys → Takes (raster m (samples_from t m xs)) a b → Fit m xs → RasterTaken m want b c (samples_from t m ys) → Fit m ys → Takes (raster m (samples_from t m all)) a c × Fit m all
+values_more t m want a b c xs ys all is took fit taken more = (
+  takes_as (raster m (samples_from t m xs ++ samples_from t m ys)) (raster m (samples_from t m all)) a c (ap (raster m) (from_both t m xs ys ∙ ap (samples_from t m) (sym is))) (taken_on m want a b c (samples_from t m xs) (samples_from t m ys) took taken),
+  subst (Fit m) (sym is) (All-append (λ (s : ℕ). s ≤ m) xs ys fit more),
+)
 
 -- all pieces
 pub values_all : (t : Form) (m count : ℕ) (a b : TrayState) (xs : List ℕ) → Takes (raster m (samples_from t m xs)) a b → Fit m xs → length xs ≡ count → RasterTaken m count a b (samples_from t m xs)

@@ -9,34 +9,20 @@ use Rattle.outside.specs.Reading.{Takes}
 use Rattle.outside.proofs.Steps.{takes_as, filled_more}
 use Rattle.pgm_plates.specs.declared.bounds.Bounds.{Bounds}
 use Rattle.pgm_plates.specs.declared.plate.Plate.{Plate}
-use Rattle.pgm_plates.specs.declared.plate.PlateFault.TheVariants.{BadMagic, BadHeader, SideRange, TooManySamples, MaxvalRange, SampleAboveMaxval, Truncated, TrailingBytes}
 use Rattle.pgm_plates.specs.declared.plate.PlateRefusal.{PlateRefusal}
-use Rattle.pgm_plates.specs.declared.plate.PlateRefusal.TheVariants.{Fault, ReadFault, OutOfMemory}
 use Rattle.pgm_plates.specs.declared.rows.OpenPlate.{OpenPlate}
 use Rattle.pgm_plates.specs.Laws.{TopOfFileWithin}
 use Rattle.pgm_plates.specs.Plates.{sample_bytes, sample_size, raster}
 use Rattle.pgm_plates.specs.Reading.{KeepsCount, ReadsPlateWithin}
 use Rattle.pgm_plates.specs.Readers.{Answers, EndsFile, Fit, HeaderRead, OpensPlate, RasterRefused, RasterTaken, ReadsPiece, ReadsUnkept}
 use Rattle.pgm_plates.specs.Rows.{BeginsPlate, EndsPlate, HasRead, ReadsRows, ReadsSome, plate_with, samples_of}
+use Rattle.pgm_plates.proofs.Counts.{refused_count}
 use Rattle.pgm_plates.proofs.Decisions.{one_sample}
 use Rattle.pgm_plates.proofs.Headers.{takes_none}
 use Rattle.pgm_plates.proofs.Pieces.{refused_on, taken_as, taken_on}
 use Rattle.pgm_plates.proofs.Prefixes.{clean_header}
 use Rattle.pgm_plates.proofs.Shapes.{one_header}
 use Rattle.pgm_plates.proofs.Wholes.{begun_then, end_refused, kept_count, plate_read, raster_refused}
-
--- a count that a refusal keeps, whatever it refuses
-pub same_count : (S T : Type 0) (a b : TrayState) (refusal : PlateRefusal) → KeepsCount {T = S} a b (Err refusal) → KeepsCount {T = T} a b (Err refusal)
-same_count S T a b ReadFault count = tt
-same_count S T a b OutOfMemory count = count
-same_count S T a b (Fault (SampleAboveMaxval at)) count = tt
-same_count S T a b (Fault (BadMagic at)) count = count
-same_count S T a b (Fault (BadHeader at)) count = count
-same_count S T a b (Fault (SideRange at)) count = count
-same_count S T a b (Fault (TooManySamples at)) count = count
-same_count S T a b (Fault (MaxvalRange at)) count = count
-same_count S T a b (Fault (Truncated at)) count = count
-same_count S T a b (Fault (TrailingBytes at)) count = count
 
 -- one piece more in the buffer
 pub filled_on : (buf part : List ℕ) (done k want : ℕ) → done ≤ length buf → length part ≡ want → take done buf ++ part ≡ take (done + want) (put_mid done k buf part)
@@ -104,7 +90,7 @@ module _ (bounds : Bounds) where
   reads_whole : (name : List ℕ) (a b c : TrayState) (plate : OpenPlate) (samples : List ℕ) (has : HasRead bounds name a b plate samples) (refusal : PlateRefusal) → Answers bounds has.begun c (Err refusal) → KeepsCount {T = Unit {0}} b c (Err refusal) → ReadsPlateWithin bounds name a c (Err refusal)
   reads_whole name a b c plate samples has refusal answers count =
       begun_then bounds name a has.begun c tt (Err refusal) has.begins answers
-      (kept_count {T = Plate} has.begun b c (Err refusal) (has.count ∙ sym has.begins.well) (same_count (Unit {0}) Plate b c refusal count))
+      (kept_count {T = Plate} has.begun b c (Err refusal) (has.count ∙ sym has.begins.well) (refused_count (Unit {0}) Plate b b c refusal refl count))
 
   pub header_begun : (name : List ℕ) (a b c : TrayState) (plate : OpenPlate) → Begins {T = Unit {0}} {E = Failed} name a b (Ok tt) → HeaderRead bounds b c plate.header plate.size → c.faults ≡ b.faults → HasRead bounds name a c plate []
   header_begun name a b c plate begins read count = record {
@@ -124,7 +110,7 @@ module _ (bounds : Bounds) where
   }
 
   pub header_refused : (name : List ℕ) (a b c : TrayState) (refusal : PlateRefusal) → Begins {T = Unit {0}} {E = Failed} name a b (Ok tt) → Answers bounds b c (Err refusal) → KeepsCount {T = OpenPlate} b c (Err refusal) → ReadsPlateWithin bounds name a c (Err refusal)
-  header_refused name a b c refusal begins answers count = begun_then bounds name a b c tt (Err refusal) begins answers (same_count OpenPlate Plate b c refusal count)
+  header_refused name a b c refusal begins answers count = begun_then bounds name a b c tt (Err refusal) begins answers (refused_count OpenPlate Plate b b c refusal refl count)
 
   pub plate_begun : (name : List ℕ) (a b c : TrayState) (result : Result OpenPlate PlateRefusal) → Begins {T = Unit {0}} {E = Failed} name a b (Ok tt) → OpensPlate bounds b c result → KeepsCount b c result → BeginsPlate bounds name a c result
   plate_begun name a b c (Ok plate) begins read count = header_begun name a b c plate begins read count

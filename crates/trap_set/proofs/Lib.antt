@@ -10,4 +10,5 @@ pub mod EndLemmas
 pub mod SetLines
 pub mod PlaneLemmas
 pub mod NextLemmas
+pub mod LineReading
 pub mod StandLemmas

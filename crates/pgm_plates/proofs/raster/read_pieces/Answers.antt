@@ -2,8 +2,24 @@
 use Rattle.std.proofs.Common.{rules, arith, ◌≡◌, ◌≤◌, ◌*◌, ◌+◌, length, ap, ℕ, ◌∙◌}
 use Rattle.std.proofs.lemmas.Grind.{common_steps}
 use Rattle.pgm_plates.specs.Plates.{sample_size}
-use Rattle.pgm_plates.proofs.ReadValues.{values_all, values_no_room, values_refused}
+use Rattle.pgm_plates.proofs.Counts.{refused_count}
+use Rattle.pgm_plates.proofs.ReadValues.{values_all, values_more, values_no_room, values_refused}
 use Rattle.pgm_plates.proofs.raster.read_pieces.Goals as goal
+
+pub loop-form-preserved : goal.loop-form-preserved
+loop-form-preserved g c =
+    let more = values_more c.args.form c.args.maxval (length c.read_values.new.values) (g.T.Tray.state c.args.tray.now) (g.T.Tray.state c.loop-form.tray) (g.T.Tray.state c.read_values.new.tray)
+    c.loop-form.values.items c.read_values.new.values c.extend_from_slice.new.self.items (grind (arith, common_steps)) c.loop-form.invariant.takes c.loop-form.invariant.fit c.in-Ok.ensures.answer c.in-Ok.ensures.below in
+    record {
+      takes = more.0;
+      count = c.in-Ok.ensures.count ∙ c.loop-form.invariant.count;
+      fit = more.1;
+      within = grind (arith, common_steps);
+    }
+
+pub returns-in-Err-clause-count : goal.returns-in-Err-clause-count
+returns-in-Err-clause-count g c =
+    refused_count (Unit {0}) (Unit {0}) (g.T.Tray.state c.args.tray.now) (g.T.Tray.state c.loop-form.tray) (g.T.Tray.state c.read_values.new.tray) c.in-Err.refusal c.loop-form.invariant.count c.in-Err.ensures.count
 
 pub returns-in-Err-extend_from_slice-clause-answer : goal.returns-in-Err-extend_from_slice-clause-answer
 returns-in-Err-extend_from_slice-clause-answer g c =

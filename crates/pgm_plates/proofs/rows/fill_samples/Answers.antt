@@ -2,6 +2,7 @@
 use Rattle.std.proofs.Common.{arith, ◌≡◌, ◌≤◌, ◌*◌, ◌+◌, ◌-◌, length, ap, ℕ, ◌∙◌}
 use Rattle.std.proofs.lemmas.Grind.{common_steps}
 use borrow.Rule.Slice.PartMut.{put_mid}
+use Rattle.pgm_plates.proofs.Counts.{refused_count}
 use Rattle.pgm_plates.proofs.RowLemmas.{filled_takes, filled_fit, filled_refused}
 use Rattle.pgm_plates.proofs.rows.fill_samples.Goals as goal
 
@@ -36,3 +37,7 @@ returns-in-Err-clause-answer g c =
     let few : done + length part ≤ count = grind (arith, common_steps) in
     filled_refused m count c.args.start (c.args.start + done * c.sample_size-size.result) done (length part) (g.T.Tray.state c.args.tray.now) (g.T.Tray.state c.loop-done.tray) (g.T.Tray.state c.read_piece.new.tray) buf c.in-Err.refusal
     c.loop-done.invariant.within few (ap (λ (n : ℕ). c.args.start + done * n) c.sample_size-size.ensures) c.loop-done.invariant.takes c.loop-done.invariant.fit c.in-Err.ensures.answer
+
+pub returns-in-Err-clause-count : goal.returns-in-Err-clause-count
+returns-in-Err-clause-count g c =
+    refused_count (Unit {0}) (Unit {0}) (g.T.Tray.state c.args.tray.now) (g.T.Tray.state c.loop-done.tray) (g.T.Tray.state c.read_piece.new.tray) c.in-Err.refusal c.loop-done.invariant.count c.in-Err.ensures.count

@@ -2,6 +2,7 @@
 use Rattle.std.proofs.Common.{rules, arith, ◌≡◌, ◌*◌, ◌+◌, [], length, refl, ap, ℕ, ◌∙◌}
 use Rattle.pgm_plates.specs.Plates.{sample_size}
 use Rattle.pgm_plates.specs.Readers.{samples_spelled}
+use Rattle.pgm_plates.proofs.Counts.{refused_count}
 use Rattle.pgm_plates.proofs.RowLemmas.{unkept_none, unkept_more, unkept_refused}
 use Rattle.pgm_plates.proofs.rows.judge_samples.Goals as goal
 
@@ -31,3 +32,7 @@ returns-in-Err-clause-answer g c =
       unkept_refused m c.args.count done want c.args.start (c.args.start + done * c.sample_size-size.result) (g.T.Tray.state c.args.tray.now) (g.T.Tray.state c.loop-done.tray) (g.T.Tray.state c.judge_piece.new.tray) c.in-Err.refusal
           (omega arith) (ap (λ (n : ℕ). c.args.start + done * n) c.sample_size-size.ensures) c.loop-done.invariant.taken (c.in-Err.ensures.answer want room),
     )
+
+pub returns-in-Err-clause-count : goal.returns-in-Err-clause-count
+returns-in-Err-clause-count g c =
+    refused_count (Unit {0}) (Unit {0}) (g.T.Tray.state c.args.tray.now) (g.T.Tray.state c.loop-done.tray) (g.T.Tray.state c.judge_piece.new.tray) c.in-Err.refusal c.loop-done.invariant.count c.in-Err.ensures.count
