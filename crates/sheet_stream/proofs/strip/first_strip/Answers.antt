@@ -1,7 +1,9 @@
 -- first_strip: the strip of these rows of a sheet but its tints, whose planes have room for them.
-use Rattle.std.proofs.Common.{◌≡◌, ◌+◌, ◌-◌, map, refl, sym, ap, ◌∙◌}
+use Rattle.std.proofs.Common.{◌≡◌, ◌+◌, ◌-◌, map, refl, sym, ap, ◌∙◌, arith}
+use Rattle.std.proofs.lemmas.List.{get_or_default}
 use Rattle.page_model.specs.declared.parts.Plane.{Plane}
 use Rattle.page_model.specs.Page.{height}
+use Rattle.page_model.specs.Planes.{no_plane}
 use Rattle.sheet_stream.specs.Strips.{blank_plane}
 use Rattle.sheet_windows.specs.Windows.{moved_zone, points_of}
 use Rattle.sheet_stream.proofs.HoldLemmas.{blank_room, first_plane}
@@ -23,3 +25,10 @@ returns-clause-strip c =
 
 pub returns-clause-blank : goal.returns-clause-blank
 returns-clause-blank c = c.in_ok-blank_planes.ensures ∙ ap (map (blank_plane c.args.row.now.wide)) c.as_slice-planes.ensures
+
+pub blank_planes-requires-clause-narrow : goal.blank_planes-requires-clause-narrow
+blank_planes-requires-clause-narrow c = rw c.as_slice-planes.ensures (λ k d l.
+    (let same = ap (λ (plane : Plane). plane.width) (get_or_default c.args.bare.now.planes k d no_plane l) in
+    let wide = (c.requires.bare.agree k l).wide in
+    let narrow = c.requires.narrow in
+    omega (arith, same, wide, narrow)))

@@ -88,3 +88,18 @@ returns g c names tints start have =
     let strip = c.args.strip.now in
     let end : c.loop-k.k ≡ c.args.cut.now.row.core = (let inside = c.loop-k.invariant.inside in omega (arith, inside)) in
     subst (λ (n : ℕ). HaveWritten names c.args.header (plates strip) (λ j. tints j ++ core_rows_of strip c.args.cut.now n j) start (map g.R.Rack.state c.loop-k.racks)) end (c.loop-k.invariant.written names tints start have)
+
+pub put_rows-requires-clause-line : goal.put_rows-requires-clause-line
+put_rows-requires-clause-line g c =
+    let strip = c.args.strip.now in
+    let n : ℕ = c.rows_at_once-n.result in
+    let fit : n * (plates strip * width strip) ≤ length c.loop-k.line = rw (c.width-wide.ensures.value, c.plates-count.ensures.value) at c.rows_at_once-n.ensures.fits in
+    let here : c.plates-count.result * (n * c.width-wide.result) ≡ plates strip * (n * width strip) = (λ i. c.plates-count.ensures.value i * (n * c.width-wide.ensures.value i)) in
+    let part = length-take (c.plates-count.result * (n * c.width-wide.result)) c.loop-k.line in
+    omega (arith, fit, here, part)
+
+pub put_rows-requires-clause-rows : goal.put_rows-requires-clause-rows
+put_rows-requires-clause-rows g c = (let test = c.loop-k-test.true in let few = c.rows_at_once-n.ensures.few in omega (arith, test, few))
+
+pub rows_at_once-n-requires-clause-room : goal.rows_at_once-n-requires-clause-room
+rows_at_once-n-requires-clause-room g c = rw (c.plates-count.ensures.value, c.width-wide.ensures.value) (let long = c.loop-k.invariant.line_long in let room = c.requires.line in omega (arith, long, room))

@@ -2,6 +2,7 @@
 use Rattle.std.proofs.Common.{◌+◌, ◌*◌, ap, sym, subst, ◌∙◌, Some}
 use Rattle.page_model.specs.declared.parts.PageParts.{PageParts}
 use Rattle.page_tally.specs.Shapes.{Shape}
+use Rattle.sheet_windows.specs.declared.cuts.Cut.{Cut}
 use Rattle.sheet_windows.specs.Plans.{tile_of}
 use Rattle.sheet_windows.specs.Sheets.{IsSmall}
 use Rattle.sheet_windows.specs.Windows.{IsCut, window}
@@ -75,3 +76,15 @@ returns-in-Some-clause-trapped c =
       room = subst (λ (s : Shape). IsRoomFor s c.trap_tile_in.new.room) (shape_is sheet row column page tile.cut e) c.trap_tile_in.ensures.shape;
       counts = grown_counts (form_of sheet) page column.skip row.skip column.core row.core c.clear.new.counts c.trap_tile_in.new.counts (none_counts sheet c.clear.new.counts c.clear.ensures) c.trap_tile_in.ensures.counts;
     })
+
+pub refill-page-requires-clause-form : goal.refill-page-requires-clause-form
+refill-page-requires-clause-form c = let has = rw (sym c.take.ensures.value ∙ c.in-Some.is) at c.requires.room.page in has.form_is
+
+pub refill-page-requires-clause-wide : goal.refill-page-requires-clause-wide
+refill-page-requires-clause-wide c = let has = rw (sym c.take.ensures.value ∙ c.in-Some.is) at c.requires.room.page in has.wide ∙ sym (ap (λ (it : Cut). it.width) c.cut_of-cut.ensures)
+
+pub refill-page-requires-clause-tall : goal.refill-page-requires-clause-tall
+refill-page-requires-clause-tall c = let has = rw (sym c.take.ensures.value ∙ c.in-Some.is) at c.requires.room.page in has.height_is ∙ sym (ap (λ (it : Cut). it.height) c.cut_of-cut.ensures)
+
+pub returns-in_default-clause-trapped : goal.returns-in_default-clause-trapped
+returns-in_default-clause-trapped c = let has = rw (sym c.take.ensures.value ∙ c.in_default.is) at c.requires.room.page in absurd has

@@ -31,3 +31,15 @@ returns-clause-tints g c =
 
 pub returns-clause-counts : goal.returns-clause-counts
 returns-clause-counts g c = c.trap_strip_in.ensures.counts
+
+pub trap_strip_in-requires-clause-windows : goal.trap_strip_in-requires-clause-windows
+trap_strip_in-requires-clause-windows g c = λ κs alive. c.in_ok-room.ensures.room
+
+pub add_strip-requires-clause-row : goal.add_strip-requires-clause-row
+add_strip-requires-clause-row g c = c.requires.some_row
+
+pub add_strip-requires-clause-line : goal.add_strip-requires-clause-line
+add_strip-requires-clause-line g c = c.requires.line
+
+pub add_strip-requires-clause-plates : goal.add_strip-requires-clause-plates
+add_strip-requires-clause-plates g c = c.requires.plates

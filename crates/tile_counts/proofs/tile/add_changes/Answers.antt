@@ -2,6 +2,7 @@
 use Rattle.std.proofs.Common.{◌≡◌, ◌∙◌, ℕ, zero, suc, ◌+◌, ◌<◌, ◌&&◌, ◌||◌, Bool, true, false, ap, arith, inl, inr, refl, sym, List}
 use Rattle.std.specs.Prelude.{◌==◌}
 use Rattle.std.proofs.lemmas.Bool.{cases_eq}
+use Rattle.std.proofs.lemmas.Grind.{common_steps}
 use Rattle.lists.specs.Words.{any_below}
 use Rattle.page_model.specs.declared.parts.PageParts.{PageParts}
 use Rattle.page_model.specs.Counts.{plate_changes, sample_changes}
@@ -47,3 +48,12 @@ pub returns-then-are_clear-clause-plate_changed : goal.returns-then-are_clear-cl
 returns-then-are_clear-clause-plate_changed c =
     let kept = λ (k : ℕ) (l : k < c.args.wide). sym (c.requires.each (c.args.left + k) (omega (arith, c.requires.inside, l))) ∙ c.are_clear.ensures.clear c.if-are_clear.true k l in
     grown_none _ _ _ (λ z l. no_plate c.args.page.now c.args.y c.args.left c.args.wide kept z l)
+
+pub returns-clause-zone_changed : goal.returns-clause-zone_changed
+returns-clause-zone_changed c = grind (arith, common_steps)
+
+pub returns-clause-plate_changed : goal.returns-clause-plate_changed
+returns-clause-plate_changed c = grind (arith, common_steps)
+
+pub add_plates-requires-clause-room : goal.add_plates-requires-clause-room
+add_plates-requires-clause-room c = rw c.deref_mut-2.ensures.value c.requires.plate_room

@@ -1,0 +1,8 @@
+-- trap_planned_in: traps the window of a strip by the plan of its rows.
+use Rattle.strip_tiles.proofs.room.trap_planned_in.Goals as goal
+
+pub trap_window_in-requires-clause-room : goal.trap_window_in-requires-clause-room
+trap_window_in-requires-clause-room c = c.requires.room
+
+pub returns-clause-trapped : goal.returns-clause-trapped
+returns-clause-trapped c = c.trap_window_in.ensures.trapped
