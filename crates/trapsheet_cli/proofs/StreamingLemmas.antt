@@ -14,12 +14,13 @@ use Rattle.sheet_gather.specs.declared.stop.TrapsheetError.{TrapsheetError}
 use Rattle.sheet_gather.specs.declared.stop.TrapsheetError.TheVariants.{Common}
 use Rattle.sheet_loop.specs.Courses.{Course}
 use Rattle.sheet_loop.specs.Second.{IsDone, StreamsSheet, sheet_header}
+use Rattle.sheet_loop.specs.declared.stop.StreamError.{StreamError}
 use Rattle.sheet_loop.specs.declared.stop.StreamError.TheVariants.{Unread, Unwritten}
 use Rattle.sheet_loop.proofs.OnSheets.{may_begin}
 use Rattle.sheet_stream.specs.Reading.{tints_for}
 use Rattle.tile_counts.specs.declared.counts.SheetCounts.{SheetCounts}
 use Rattle.trapsheet_cli.specs.Reporting.{CountSome}
-use Rattle.trapsheet_cli.specs.Streaming.{EndsReport, StreamsOut, error_of}
+use Rattle.trapsheet_cli.specs.Streaming.{EndsReport, StreamsOut, error_of, stream_error}
 
 -- some sheet has these counts
 pub some_counted : (course : Course) (bare : PageParts) (header : Header) (counts : SheetCounts) (trays : List TrayState) (racks : List RackState) → IsBareSheet bare → bare_sheet bare ≡ bare → IsDone course bare header counts trays racks → CountSome bare counts
@@ -40,7 +41,7 @@ module _ (course : Course) (report : List ℕ) (bare : PageParts) (header : Head
   was_done done after result ends = StreamsOut.done counts racks (subst (λ (h : Header). IsDone course bare h counts trays racks) same done) ends
 
   -- the reading stops
-  pub was_unread : (stop : RereadError) → StreamsSheet course bare header counts trays racks (Err (Unread stop)) → StreamsOut course report bare trays racks (Err (error_of stop))
+  was_unread : (stop : RereadError) → StreamsSheet course bare header counts trays racks (Err (Unread stop)) → StreamsOut course report bare trays racks (Err (error_of stop))
   was_unread stop ends = elim (subst (λ (h : Header). StreamsSheet course bare h counts trays racks (Err (Unread stop))) same ends) [
     | inl before ↦ StreamsOut.not_begun stop refl before.0 before.1
     | inr later ↦ StreamsOut.unread stop refl later
@@ -58,5 +59,10 @@ module _ (course : Course) (report : List ℕ) (bare : PageParts) (header : Head
   broke_of Usage ends = absurd ends
   broke_of Memory ends = absurd ends
 
-  pub was_unwritten : (refusal : Refusal) → StreamsSheet course bare header counts trays racks (Err (Unwritten refusal)) → StreamsOut course report bare trays racks (Err (Common refusal))
+  was_unwritten : (refusal : Refusal) → StreamsSheet course bare header counts trays racks (Err (Unwritten refusal)) → StreamsOut course report bare trays racks (Err (Common refusal))
   was_unwritten refusal ends = broke_of refusal (subst (λ (h : Header). StreamsSheet course bare h counts trays racks (Err (Unwritten refusal))) same ends)
+
+  -- something stops the sheet
+  pub was_stopped : (stop : StreamError) → StreamsSheet course bare header counts trays racks (Err stop) → StreamsOut course report bare trays racks (Err (stream_error stop))
+  was_stopped (Unread stop) ends = was_unread stop ends
+  was_stopped (Unwritten refusal) ends = was_unwritten refusal ends

@@ -10,7 +10,8 @@ use Rattle.page_model.specs.declared.parts.PageParts.{PageParts}
 use Rattle.page_model.specs.Page.{height, plates, width}
 use Rattle.plate_rows.specs.Rereading.{StopsReading}
 use Rattle.plate_rows.specs.declared.stop.RereadError.{RereadError}
-use Rattle.plate_rows.specs.declared.stop.RereadError.TheVariants.{Changed, Unread}
+use Rattle.plate_rows.specs.declared.stop.RereadError.TheVariants.{Changed}
+use Rattle.plate_rows.specs.declared.stop.RereadError.TheVariants.{Unread as NotRead}
 use Rattle.refusals.specs.declared.refusal.Refusal.TheVariants.{Memory, Read, Write}
 use Rattle.bare_sheets.specs.Refusals.{cut_fault}
 use Rattle.sheet_gather.specs.declared.stop.TrapsheetError.{TrapsheetError}
@@ -18,6 +19,8 @@ use Rattle.sheet_gather.specs.declared.stop.TrapsheetError.TheVariants.{Changed 
 use Rattle.sheet_gather.specs.declared.stop.TrapsheetError.TheVariants.{Common}
 use Rattle.sheet_loop.specs.Courses.{Course}
 use Rattle.sheet_loop.specs.Second.{IsDone, IsUnread, IsUnwritten, sheet_header}
+use Rattle.sheet_loop.specs.declared.stop.StreamError.{StreamError}
+use Rattle.sheet_loop.specs.declared.stop.StreamError.TheVariants.{Unread, Unwritten}
 use Rattle.sheet_windows.specs.Plans.{AreRulers, AreSmall}
 use Rattle.sheet_windows.specs.Spans.{IsEvenRuler, IsRuler}
 use Rattle.strip_tiles.specs.Whole.{IsCounted}
@@ -28,7 +31,12 @@ use Rattle.plate_rows.specs.Racks.{rack_at}
 -- what the program tells where a second reading stops
 abbrev pub error_of : RereadError → TrapsheetError
 error_of (Changed plate) = HasChanged plate
-error_of (Unread plate) = Common (Read (Some plate))
+error_of (NotRead plate) = Common (Read (Some plate))
+
+-- what it tells where something stops a sheet that streams
+abbrev pub stream_error : StreamError → TrapsheetError
+stream_error (Unread stop) = error_of stop
+stream_error (Unwritten refusal) = Common refusal
 
 -- A sheet that streams in strips by these rulers.
 pub record StreamsBy (bare : PageParts) (rulers : Rulers) : Type 0 where

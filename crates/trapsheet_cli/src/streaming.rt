@@ -6,7 +6,7 @@ ghost use Rattle.sheet_loop.specs.Rooms.{CanStream, IsStreamRoom};
 ghost use Rattle.sheet_loop.specs.Second.{course_of, sheet_header};
 ghost use Rattle.strip_tiles.specs.Works.{AreNone};
 ghost use Rattle.trapsheet_cli.specs.Reporting.{CountSome};
-ghost use Rattle.trapsheet_cli.specs.Streaming.{EndsReport, StreamsBy, StreamsOut, error_of};
+ghost use Rattle.trapsheet_cli.specs.Streaming.{EndsReport, StreamsBy, StreamsOut, error_of, stream_error};
 
 use crate::reporting::report_counts;
 use bare_sheets::plan::Rulers;
@@ -24,6 +24,7 @@ use std::alloc::Global;
 use std::convert::AsStr;
 use std::thread::Threads;
 use strip_rows::parts::StripPlan;
+use tile_counts::counts::SheetCounts;
 
 // The program's error for what stopped a second reading.
 pub(crate) fn error_of(stop: RereadError) -> TrapsheetError
@@ -32,6 +33,16 @@ pub(crate) fn error_of(stop: RereadError) -> TrapsheetError
     match stop {
         RereadError::Changed(plate) => TrapsheetError::Changed(plate),
         RereadError::Unread(plate) => TrapsheetError::Common(Refusal::Read(Some(plate))),
+    }
+}
+
+// The program's error for what stopped a sheet that streams.
+fn stream_error(stop: StreamError) -> TrapsheetError
+    ensures { result ≡ stream_error stop }
+{
+    match stop {
+        StreamError::Unread(stop) => error_of(stop),
+        StreamError::Unwritten(refusal) => TrapsheetError::Common(refusal),
     }
 }
 
@@ -112,28 +123,19 @@ fn stream_in<H: Threads + Sync, T: Tray, R: Rack, S: AsStr>(
         result }
 {
     let mut used = room;
-    match stream_sheet(
+    let ended = stream_sheet(
         rt, alloc, trays, racks, inputs, outputs, bare, plan, &mut used,
-    ) {
-        Ok(()) => report_room(racks, report, bare, used),
-        Err(StreamError::Unread(stop)) => Err(error_of(stop)),
-        Err(StreamError::Unwritten(refusal)) => Err(TrapsheetError::Common(refusal)),
+    );
+    let counts = counts_in(used);
+    match ended {
+        Ok(()) => write_counts(racks, report, bare, counts),
+        Err(stop) => Err(stream_error(stop)),
     }
 }
 
-// Writes the report of the counts.
-fn report_room<R: Rack>(
-    racks: &mut [R],
-    report: &str,
-    bare: &PageParts,
-    room: StreamRoom,
-) -> Result<(), TrapsheetError>
-    requires racks { 1 ≤ length racks.old }
-    requires some { 1 ≤ plates bare.now }
-    requires inks { length bare.now.inks ≡ plates bare.now }
-    requires counts { CountSome bare.now room.counts }
-    ensures { EndsReport report.now bare.now room.counts (map R.state racks.old)
-        (map R.state racks.new) result }
+// The counts of a sheet that was streamed; all else of its memory is freed.
+fn counts_in(room: StreamRoom) -> SheetCounts
+    ensures { result ≡ room.counts }
 {
     let StreamRoom {
         strip: _strip,
@@ -143,6 +145,23 @@ fn report_room<R: Rack>(
         counts,
         pieces: _pieces,
     } = room;
+    counts
+}
+
+// Writes the report of the counts.
+fn write_counts<R: Rack>(
+    racks: &mut [R],
+    report: &str,
+    bare: &PageParts,
+    counts: SheetCounts,
+) -> Result<(), TrapsheetError>
+    requires racks { 1 ≤ length racks.old }
+    requires some { 1 ≤ plates bare.now }
+    requires inks { length bare.now.inks ≡ plates bare.now }
+    requires counts { CountSome bare.now counts }
+    ensures { EndsReport report.now bare.now counts (map R.state racks.old)
+        (map R.state racks.new) result }
+{
     match report_counts(racks, report, bare, counts) {
         Ok(()) => Ok(()),
         Err(Failed) => Err(TrapsheetError::Common(Refusal::Write(None))),
