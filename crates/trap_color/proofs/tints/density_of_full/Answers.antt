@@ -1,20 +1,10 @@
 -- density_of_full: the neutral density of the full tints, summed term by term.
-use Rattle.std.proofs.Common.{◌≡◌, ◌≤◌, ◌+◌, ◌*◌, ℕ, add-one, arith, refl}
-use Rattle.std.proofs.Math.Nat.{mul-le-mul}
-use Rattle.lists.specs.Words.{sum_below}
+use Rattle.std.proofs.Common.{◌≡◌, ◌*◌, ℕ, arith, refl}
+use Rattle.neutral_density.proofs.SumLemmas.{most_next, sum_next, term_most}
 use Rattle.page_model.specs.Density.{weight}
 use Rattle.page_model.specs.Page.{plates}
 use Rattle.page_model.specs.Tints.{full}
 use Rattle.trap_color.proofs.tints.density_of_full.Goals as goal
-
-sum_next : (f : ℕ → ℕ) (n total term : ℕ) → total ≡ sum_below f n → term ≡ f n → total + term ≡ sum_below f (n + 1)
-sum_next f n total term e h = rw (e, h, add-one) refl
-
-term_most : (w t : ℕ) → w ≤ 100000 → t ≤ 65535 → w * t ≤ 6553500000
-term_most w t h k = mul-le-mul h k
-
-most_next : (n total w t : ℕ) → total ≤ n * 6553500000 → w ≤ 100000 → t ≤ 65535 → total + w * t ≤ (n + 1) * 6553500000
-most_next n total w t le h k = omega (arith, term_most w t h k)
 
 pub overflow_mul-total : goal.overflow_mul-total
 overflow_mul-total c = omega (arith, term_most c.from.result c.from-in-loop-c.result (omega arith) (omega arith))
