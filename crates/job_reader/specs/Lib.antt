@@ -8,4 +8,3 @@ pub mod Operators
 pub mod Performing
 pub mod Starts
 pub mod Statements
-pub mod OtherOperators
