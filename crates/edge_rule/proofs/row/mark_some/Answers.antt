@@ -4,6 +4,7 @@ use Rattle.std.proofs.Common.{◌≡◌, ◌+◌, ◌-◌, ◌<◌, ◌≤◌, �
 use Rattle.std.proofs.lemmas.List.{get_or_append_left, get_or-append_right, length-take}
 use borrow.Rule.Slice.PartMut.{post_of}
 use Rattle.page_model.specs.Deciding.{mark}
+use Rattle.std.proofs.lemmas.Grind.{common_steps}
 use Rattle.edge_rule.specs.Pairs.{LieIn}
 use Rattle.edge_rule.proofs.PairLemmas.{lies}
 use Rattle.edge_rule.proofs.row.mark_some.Goals as goal
@@ -29,3 +30,9 @@ returns-else-count-eq0-clause-marks c = λ k low high.
     ∙ get_or_append_left new (post_of x (x + count - x) out) 0 (k - x) (omega (arith, inside, long, c.mark_plain.ensures.len))
     ∙ c.mark_plain.ensures.each (k - x) (omega (arith, inside, long))
     ∙ ap (λ (n : ℕ). mark c.args.page.now c.args.y n) (let back : x + (k - x) ≡ k = omega (arith, low) in back)
+
+pub returns-then-count-eq0-clause-marks : goal.returns-then-count-eq0-clause-marks
+returns-then-count-eq0-clause-marks c = grind (arith, common_steps)
+
+pub returns-else-count-eq0-clause-kept : goal.returns-else-count-eq0-clause-kept
+returns-else-count-eq0-clause-kept c = grind (arith, common_steps)

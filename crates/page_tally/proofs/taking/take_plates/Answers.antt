@@ -3,6 +3,7 @@ use Rattle.std.proofs.Common.{◌≡◌, ◌∙◌, ◌||◌, Bool, ℕ, add-one
 use Rattle.lists.specs.Words.{any_below}
 use Rattle.page_model.specs.Counts.{plate_changes}
 use Rattle.page_model.specs.Page.{plates}
+use Rattle.std.proofs.lemmas.Grind.{common_steps}
 use Rattle.page_tally.proofs.CountLemmas.{counting_fits, counting_next}
 use Rattle.page_tally.proofs.StandingLemmas.{trapping_all, trapping_put}
 use Rattle.page_tally.proofs.taking.take_plates.Goals as goal
@@ -26,3 +27,6 @@ pub returns-clause-each : goal.returns-clause-each
 returns-clause-each c x l =
     let all : c.loop-c.c ≡ plates c.args.page.now = omega arith in
     c.loop-c.invariant.each x l ∙ ap (λ (n : ℕ). any_below (λ j. plate_changes c.args.page.now j (record { x = x; y = c.args.y })) n) all
+
+pub loop-c-init : goal.loop-c-init
+loop-c-init c = grind (arith, common_steps)

@@ -1,8 +1,9 @@
 -- read_row: turns the next strip to these rows, copies those of them that the strip at hand has too
 -- out of it, and reads the others, each plate by the tray of its number.
-use Rattle.std.proofs.Common.{◌≡◌, ◌*◌, List, map, get_or, sym, ap, ◌∙◌, subst}
+use Rattle.std.proofs.Common.{◌≡◌, ◌*◌, List, map, get_or, sym, ap, ◌∙◌, subst, arith}
 use Rattle.page_model.specs.declared.parts.Plane.{Plane}
 use Rattle.page_model.specs.Page.{width}
+use Rattle.std.proofs.lemmas.Grind.{common_steps}
 use Rattle.sheet_loop.proofs.StepLemmas.{alike, common_within, read_there}
 use Rattle.sheet_stream.specs.Holding.{AreAlike}
 use Rattle.sheet_stream.proofs.HoldLemmas.{first_plane}
@@ -36,3 +37,6 @@ read_ahead-requires-clause-read g c =
     let wide : (get_or c.as_slice.result.now 0 plane).width ≡ width bare = ap (λ (p : Plane). p.width) (sym c.index-as_slice-0.is ∙ first) in
     read_there bare c.args.plan.now c.args.plates.now c.args.progress.now c.args.row.now may.can may.headers may.next c.args.strip.now may.at_hand (map g.T.Tray.state c.args.trays.now) may.there.inputs may.there.start may.there.holds (get_or c.as_slice.result.now 0 plane).width wide
     (c.from.result * c.from-2.result) (λ i. c.from.ensures i * c.from-2.ensures i)
+
+pub returns-clause-bytes : goal.returns-clause-bytes
+returns-clause-bytes g c = grind (arith, common_steps)

@@ -4,6 +4,7 @@
 use Rattle.std.proofs.Common.{◌≡◌, ℕ, ◌≤◌, length, map, inl, refl, sym, ◌∙◌, arith}
 use Rattle.std.specs.Prelude.{replicate}
 use Rattle.std.proofs.lemmas.List.{length-map}
+use Rattle.std.proofs.lemmas.Grind.{common_steps}
 use Rattle.sheet_loop.specs.Second.{course_of}
 use Rattle.sheet_loop.proofs.SecondLemmas.{are_begun, have_headers, not_begun_again, sixteen, streams_from}
 use Rattle.sheet_loop.proofs.sheet.stream_sheet.Goals as goal
@@ -61,3 +62,9 @@ returns-in-Err g c =
           (λ k l. sixteen header k (omega (arith, l, few, n_is))) (sym n_is ∙ c.requires.inputs) n n_is c.in-Err.stop c.in-Err.ensures,
       refl,
     )
+
+pub write_sheet-requires-clause-outputs : goal.write_sheet-requires-clause-outputs
+write_sheet-requires-clause-outputs g c = grind (arith, common_steps)
+
+pub slice_bounds-begun-end : goal.slice_bounds-begun-end
+slice_bounds-begun-end g c = grind (arith, common_steps)

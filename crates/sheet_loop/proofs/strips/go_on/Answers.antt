@@ -1,5 +1,6 @@
 -- What `go_on` has to show.
 use Rattle.std.proofs.Common.{◌≤◌, map, refl, sym, subst, arith}
+use Rattle.std.proofs.lemmas.Grind.{common_steps}
 use Rattle.sheet_loop.specs.declared.rows.Progress.{Progress}
 use Rattle.sheet_loop.specs.Going.{IsNextRow}
 use Rattle.sheet_loop.specs.Rooms.{CanHoldStrip, IsSomeStrip}
@@ -94,3 +95,15 @@ returns-in-Ok-write_waiting-clause-reaches g c course none awaits =
 pub returns-in-Err-write_waiting-clause-reaches : goal.returns-in-Err-write_waiting-clause-reaches
 returns-in-Err-write_waiting-clause-reaches g c course none awaits =
     (c.loop-progress.invariant.awaits course none awaits).unwritten (map g.R.Rack.state c.write_waiting.new.racks) c.in-Err-write_waiting.refusal c.in-Err-write_waiting.ensures.written
+
+pub loop-progress-smaller : goal.loop-progress-smaller
+loop-progress-smaller g c = grind (arith, common_steps)
+
+pub progress_after-progress-requires-in-Ok : goal.progress_after-progress-requires-in-Ok
+progress_after-progress-requires-in-Ok g c = grind (arith, common_steps)
+
+pub next_row-next-requires-clause-ruler : goal.next_row-next-requires-clause-ruler
+next_row-next-requires-clause-ruler g c = grind (arith, common_steps)
+
+pub next_row-next-requires-clause-progress : goal.next_row-next-requires-clause-progress
+next_row-next-requires-clause-progress g c = grind (arith, common_steps)

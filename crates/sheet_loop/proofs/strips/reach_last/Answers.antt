@@ -1,5 +1,6 @@
 -- reach_last: puts all strips but the last, which is at hand then.
-use Rattle.std.proofs.Common.{map, subst}
+use Rattle.std.proofs.Common.{map, subst, arith}
+use Rattle.std.proofs.lemmas.Grind.{common_steps}
 use Rattle.sheet_loop.specs.declared.rows.Progress.{Progress}
 use Rattle.sheet_loop.specs.Going.{IsNextRow}
 use Rattle.sheet_loop.proofs.StreamLemmas.{reached}
@@ -32,3 +33,6 @@ returns-in-Ok-clause-reaches g c =
 
 pub returns-in-Err-clause-reaches : goal.returns-in-Err-clause-reaches
 returns-in-Err-clause-reaches g c course none stands = c.in-Err.ensures.goes course none (map g.R.Rack.state c.args.racks.now) stands
+
+pub go_on-requires-clause-second : goal.go_on-requires-clause-second
+go_on-requires-clause-second g c = grind (arith, common_steps)

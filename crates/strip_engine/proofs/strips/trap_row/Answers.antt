@@ -8,3 +8,6 @@ returns-clause-buffers c = record { zones = c.requires.buffers.zones; marks = c.
 
 pub take_row-requires-clause-tints : goal.take_row-requires-clause-tints
 take_row-requires-clause-tints c = grind (arith, common_steps)
+
+pub take_row-requires-2-clause-tints : goal.take_row-requires-2-clause-tints
+take_row-requires-2-clause-tints c = grind (arith, common_steps)

@@ -1,5 +1,5 @@
 -- trap_rows: traps these rows, whose column answers these are.
-use Rattle.std.proofs.Common.{◌≡◌, ℕ, ◌+◌, arith, subst, ◌-◌, ◌*◌, ◌<◌, ◌≤◌, ◌∙◌, ap, sym, slice_index}
+use Rattle.std.proofs.Common.{◌≡◌, ℕ, ◌+◌, arith, subst, ◌-◌, ◌*◌, ◌<◌, ◌≤◌, ◌∙◌, ap, sym, slice_index, refl}
 use Rattle.std.proofs.lemmas.Grind.{common_steps}
 use Rattle.strip_engine.specs.Taken.{IsTaken}
 use Rattle.std.proofs.Math.Nat.{mul-le-mul}
@@ -26,3 +26,11 @@ loop-k-preserved c = grind (arith, common_steps)
 
 pub row_of-answers-requires-clause-inside : goal.row_of-answers-requires-clause-inside
 row_of-answers-requires-clause-inside c = row_inside c.loop-k.k c.args.rows.count _ _ _ c.loop-k-test.true (ap (λ (w : ℕ). 2 * w - 1) c.width.ensures.value) c.requires.codes.long
+
+pub loop-k-init : goal.loop-k-init
+loop-k-init c = record {
+  end = refl;
+  buffers = c.requires.buffers;
+  room = refl;
+  outcome = subst (λ (n : ℕ). IsTaken c.args.page.now n c.args.counted c.args.outcome.now) (let same : c.args.rows.first ≡ c.args.rows.first + 0 = omega arith in same) c.requires.outcome;
+}

@@ -23,3 +23,9 @@ slice_bounds-codes-end c = part_fits c.min-count.result _ _ _ (omega (arith, c.m
 
 pub loop-first-preserved : goal.loop-first-preserved
 loop-first-preserved c = grind (arith, common_steps)
+
+pub overflow_mul-codes : goal.overflow_mul-codes
+overflow_mul-codes c = grind (arith, common_steps)
+
+pub slice_bounds-codes-end-in-loop-first : goal.slice_bounds-codes-end-in-loop-first
+slice_bounds-codes-end-in-loop-first c = grind (arith, common_steps)

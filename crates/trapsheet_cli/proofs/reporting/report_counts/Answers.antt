@@ -4,6 +4,7 @@ use Rattle.std.proofs.Common.{ℕ, ◌<◌, List, length, map, sym, subst, arith
 use Rattle.outside.specs.Rack.{RackState}
 use Rattle.outside.specs.Writing.{WritesFile}
 use Rattle.trap_report.specs.Report.{report_of}
+use Rattle.std.proofs.lemmas.Grind.{common_steps}
 use Rattle.trapsheet_cli.specs.Endings.{sheet_report}
 use Rattle.plate_rows.specs.Racks.{no_rack, rack_at}
 use Rattle.trapsheet_cli.proofs.RackLemmas.{state_before, state_here}
@@ -23,3 +24,9 @@ returns-clause-here g c sheet same counted =
     subst (λ (r : RackState). WritesFile c.args.name.now (sheet_report sheet) (rack_at (map g.R.Rack.state racks) 0) r c.write_report.result) (sym after)
     (subst (λ (t : List ℕ). WritesFile c.args.name.now t (rack_at (map g.R.Rack.state racks) 0) (g.R.Rack.state new) c.write_report.result) is
     (subst (λ (r : RackState). WritesFile c.args.name.now text r (g.R.Rack.state new) c.write_report.result) (sym before) c.write_report.ensures))
+
+pub returns-clause-others : goal.returns-clause-others
+returns-clause-others g c = grind (arith, common_steps)
+
+pub write_report-requires-clause-counts : goal.write_report-requires-clause-counts
+write_report-requires-clause-counts g c = grind (arith, common_steps)

@@ -2,6 +2,7 @@
 use Rattle.std.proofs.Common.{◌∙◌, ◌+◌, ◌*◌, ℕ, List, ap, arith, length}
 use Rattle.std.proofs.lemmas.List.{with_items_is}
 use Rattle.page_model.specs.Page.{width}
+use Rattle.std.proofs.lemmas.Grind.{common_steps}
 use Rattle.page_tally.proofs.AddedRows.{changes_added, changes_fit, rows_few, samples_added, samples_fit}
 use Rattle.page_tally.proofs.outcome.Outcome.add.Goals as goal
 
@@ -38,3 +39,6 @@ returns-clause-plates c =
         changes = before.changes;
       };
     }
+
+pub overflow_add-self : goal.overflow_add-self
+overflow_add-self c = grind (arith, common_steps)

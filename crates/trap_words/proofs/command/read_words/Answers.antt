@@ -1,0 +1,7 @@
+-- read_words: goals that the search finds slowly.
+use Rattle.std.proofs.Common.{arith}
+use Rattle.std.proofs.lemmas.Grind.{common_steps}
+use Rattle.trap_words.proofs.command.read_words.Goals as goal
+
+pub returns-then-eq-2-clause-meaning : goal.returns-then-eq-2-clause-meaning
+returns-then-eq-2-clause-meaning c = grind (arith, common_steps)

@@ -1,0 +1,7 @@
+-- judge: goals that the search finds slowly.
+use Rattle.std.proofs.Common.{arith}
+use Rattle.std.proofs.lemmas.Grind.{common_steps}
+use Rattle.trapsheet_cli.proofs.run.judge.Goals as goal
+
+pub judge_sheet-requires-clause-named : goal.judge_sheet-requires-clause-named
+judge_sheet-requires-clause-named g c = grind (arith, common_steps)
