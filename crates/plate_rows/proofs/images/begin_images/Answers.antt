@@ -3,6 +3,7 @@
 use Rattle.std.proofs.Common.{◌<◌, ℕ, List, Ok, Err, length, map, get_or, arith, ap, sym, subst, ◌∙◌}
 use Rattle.std.proofs.lemmas.List.{length-map}
 use Rattle.pgm_plates.specs.Rows.{BeginsImage}
+use Rattle.std.proofs.lemmas.Grind.{common_steps}
 use Rattle.plate_rows.proofs.JudgeLemmas.{named}
 use Rattle.plate_rows.proofs.WriteLemmas.{created, not_created}
 use Rattle.plate_rows.proofs.images.begin_images.Goals as goal
@@ -35,3 +36,6 @@ returns-in-Err g c =
     let known : k < length (map text outputs) = omega (arith, length-map outputs text) in
     not_created state (map state c.args.racks.now) racks k (length outputs) old new held within (map text outputs) c.args.header c.in-Err.field-0 known c.loop-place.invariant
     (subst (λ (n : List ℕ). BeginsImage n c.args.header (state (get_or racks k old)) (state new) (Err c.in-Err.field-0)) (c.as_str.ensures ∙ ap text c.index-outputs-place.is ∙ sym (named text outputs k c.index-outputs-place.result within)) c.in-Err.ensures)
+
+pub returns : goal.returns
+returns g c = grind (arith, common_steps)

@@ -2,6 +2,7 @@
 -- number.
 use Rattle.std.proofs.Common.{◌≡◌, ◌<◌, ◌+◌, ◌-◌, ◌*◌, ℕ, Ok, Err, length, map, get_or, take, drop, arith, subst}
 use Rattle.pgm_plates.specs.Rows.{WritesRows}
+use Rattle.std.proofs.lemmas.Grind.{common_steps}
 use Rattle.plate_rows.specs.Images.{part_at}
 use Rattle.plate_rows.proofs.WriteLemmas.{not_written, written}
 use Rattle.plate_rows.proofs.images.write_next.Goals as goal
@@ -31,3 +32,6 @@ returns-in-Err g c =
     let size : k * each + each - k * each ≡ each = omega arith in
     not_written state (map state c.args.racks.now) racks k c.args.count old c.write_rows.new.rack held known c.args.header (part_at each c.args.tints.now) c.in-Err.field-0 c.loop-place.invariant
     (subst (λ (n : ℕ). WritesRows c.args.header (take n (drop (k * each) c.args.tints.now)) (state (get_or racks k old)) (state c.write_rows.new.rack) (Err c.in-Err.field-0)) size c.in-Err.ensures.rows)
+
+pub write_rows-requires-clause-fits : goal.write_rows-requires-clause-fits
+write_rows-requires-clause-fits g c = grind (arith, common_steps)

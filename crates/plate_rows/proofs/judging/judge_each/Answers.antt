@@ -1,6 +1,7 @@
 -- What `judge_each` has to show.
 use Rattle.std.proofs.Common.{◌<◌, ℕ, List, Ok, Err, length, map, get_or, arith, ap, sym, subst, ◌∙◌}
 use Rattle.std.proofs.lemmas.List.{length-map}
+use Rattle.std.proofs.lemmas.Grind.{common_steps}
 use Rattle.plate_rows.specs.Judging.{JudgesPlate}
 use Rattle.plate_rows.proofs.JudgeLemmas.{named, one_judged, one_refused}
 use Rattle.plate_rows.proofs.judging.judge_each.Goals as goal
@@ -34,3 +35,6 @@ returns-in-Err g c =
     let known : k < length (map text inputs) = omega (arith, length-map inputs text) in
     one_refused state (map text inputs) c.loop-place.headers (map state c.args.trays.now) trays k old new held c.loop-place.invariant c.in-Err.refusal known c.in-Err.ensures.memory
     (subst (λ (n : List ℕ). JudgesPlate n (state (get_or trays k old)) (state new) (Err c.in-Err.refusal)) (c.as_str.ensures ∙ ap text c.index-inputs-place.is ∙ sym (named text inputs k c.index-inputs-place.result within)) c.in-Err.ensures.answer)
+
+pub returns : goal.returns
+returns g c = grind (arith, common_steps)

@@ -2,6 +2,7 @@
 -- gives in `plates` how they were begun.
 use Rattle.std.proofs.Common.{◌<◌, ℕ, List, Ok, Err, length, map, get_or, arith, ap, sym, subst, ◌∙◌}
 use Rattle.std.proofs.lemmas.List.{length-map}
+use Rattle.std.proofs.lemmas.Grind.{common_steps}
 use Rattle.plate_rows.specs.Rereading.{BeginsOne}
 use Rattle.plate_rows.specs.Trays.{header_at}
 use Rattle.plate_rows.proofs.JudgeLemmas.{named}
@@ -39,3 +40,6 @@ returns-in-Err g c =
     let known : k < length (map text inputs) = omega (arith, length-map inputs text) in
     begun_stops state (map text inputs) headers c.loop-place.plates (map state c.args.trays.now) trays k old new held c.loop-place.invariant c.in-Err.stop known
     (subst (λ (n : List ℕ). BeginsOne n (header_at headers k) k (state (get_or trays k old)) (state new) (Err c.in-Err.stop)) (c.as_str.ensures ∙ ap text c.index-inputs-place.is ∙ sym (named text inputs k c.index-inputs-place.result within)) c.in-Err.ensures)
+
+pub returns : goal.returns
+returns g c = grind (arith, common_steps)

@@ -19,3 +19,6 @@ returns-clause-answer g c =
     plane_read c.args.plate c.args.next c.args.plane.now c.from_vec.result before after result
     (subst (λ (l : List ℕ). ReadsAfter c.args.plate c.args.next c.args.plane.now.tints l before after result) (sym put)
     (subst (λ (l : List ℕ). ReadsAfter c.args.plate c.args.next l new before after result) old c.read_after-result.ensures.answer))
+
+pub read_after-result-requires-clause-read : goal.read_after-result-requires-clause-read
+read_after-result-requires-clause-read g c = grind (arith, common_steps)

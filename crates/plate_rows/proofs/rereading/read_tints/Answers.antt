@@ -63,3 +63,6 @@ returns-clause-answer g c =
     let buf = c.loop-filled.tints in
     let whole : length buf ≤ filled = omega arith in
     subst (λ (l : List ℕ). ReadsTints c.args.plate c.args.done l (g.T.Tray.state c.args.tray.now) (g.T.Tray.state c.loop-filled.tray) (Ok tt)) (take_all filled buf whole) c.loop-filled.invariant.read
+
+pub loop-filled-init : goal.loop-filled-init
+loop-filled-init g c = grind (arith, common_steps)

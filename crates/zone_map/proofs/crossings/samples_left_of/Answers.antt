@@ -1,7 +1,8 @@
 -- samples_left_of: how many samples have their middles left of where the rising segment from a to b
 -- crosses the row at height y.
-use Rattle.std.proofs.Common.{◌≡◌, ◌∙◌, refl, sym, ap, ◌+◌, ◌*◌}
+use Rattle.std.proofs.Common.{◌≡◌, ◌∙◌, refl, sym, ap, ◌+◌, ◌*◌, arith}
 use Rattle.std.specs.Prelude.{nat_abs, ◌-ℤ◌, ℤ}
+use Rattle.std.proofs.lemmas.Grind.{common_steps}
 use Rattle.zone_map.specs.PagePoints.{point}
 use Rattle.zone_map.proofs.Leans.{left-none, left-below, rise_is, none_at, rising_parts}
 use Rattle.zone_map.proofs.Widths.{near_64, near_128}
@@ -26,3 +27,6 @@ returns-else-across-lt0-clause-left c = λ x l.
     let rise : c.unsigned_abs-rise.result ≡ nat_abs (b.py -ℤ a.py) = c.unsigned_abs-rise.ensures.value ∙ ap (λ (z : ℤ). nat_abs z) (rising_parts c.difference.result a.py b.py c.requires.a.y_near c.requires.b.y_near c.difference.ensures.value) in
     let across : c.unsigned_abs.result ≡ nat_abs c.across_of-across.result = c.unsigned_abs.ensures.value ∙ ap (λ (z : ℤ). nat_abs z) e in
     c.samples_below.ensures.left x l ∙ rw (rise, across) (sym (left-below a b c.args.y c.across_of-across.result ((2 * x + 1) * 360000) (nat_abs (b.py -ℤ a.py)) value (rise_is a.py b.py c.requires.rising) below))
+
+pub samples_below-requires-clause-rises : goal.samples_below-requires-clause-rises
+samples_below-requires-clause-rises c = grind (arith, common_steps)

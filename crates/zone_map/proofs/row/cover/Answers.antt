@@ -4,6 +4,7 @@ use Rattle.std.specs.Prelude.{slice_index, sum}
 use Rattle.page_model.specs.declared.parts.At.{At}
 use Rattle.page_model.specs.Page.{path_at}
 use Rattle.page_model.specs.Zones.{centre, winding}
+use Rattle.std.proofs.lemmas.Grind.{common_steps}
 use Rattle.zone_map.specs.Tallies.{left}
 use Rattle.zone_map.proofs.CoverLemmas.{covered, uncovered}
 use Rattle.zone_map.proofs.TallyLemmas.{left-none}
@@ -31,3 +32,9 @@ returns-else-tally_path-gt0-clause-each c = λ x l.
     let no_downs : sum c.tally_path.new.downs ≡ 0 = omega (arith, c.tally_path.ensures.count, c.if-tally_path-gt0.false) in
     let none : winding page.resolution (centre page p) (path_at page c.args.z) ≡ pos 0 = sym turns ∙ left-none c.tally_path.new.ups c.tally_path.new.downs (x + 1) no_ups no_downs
     in rw (uncovered page p c.args.z none) refl
+
+pub returns-then-tally_path-gt0-clause-no_ups : goal.returns-then-tally_path-gt0-clause-no_ups
+returns-then-tally_path-gt0-clause-no_ups c = grind (arith, common_steps)
+
+pub returns-then-tally_path-gt0-clause-no_downs : goal.returns-then-tally_path-gt0-clause-no_downs
+returns-then-tally_path-gt0-clause-no_downs c = grind (arith, common_steps)

@@ -12,3 +12,9 @@ returns-clause-zones c =
 
 pub loop-n-init : goal.loop-n-init
 loop-n-init c = grind (arith, common_steps)
+
+pub invariant_of-spans : goal.invariant_of-spans
+invariant_of-spans c = grind (arith, common_steps)
+
+pub loop-n-preserved : goal.loop-n-preserved
+loop-n-preserved c = grind (arith, common_steps)

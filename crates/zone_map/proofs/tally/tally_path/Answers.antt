@@ -3,6 +3,7 @@ use Rattle.std.proofs.Common.{◌≡◌, ◌∙◌, ◌<◌, ◌+◌, length, sy
 use Rattle.std.specs.Prelude.{slice_index_or}
 use Rattle.page_model.specs.declared.parts.Vertex.{Vertex}
 use Rattle.page_model.specs.Zones.{corner}
+use Rattle.std.proofs.lemmas.Grind.{common_steps}
 use Rattle.zone_map.specs.PagePoints.{middle, point}
 use Rattle.zone_map.specs.Tallies.{left}
 use Rattle.zone_map.proofs.TallyLemmas.{left-none}
@@ -55,3 +56,6 @@ returns-clause-turns c = λ x l.
     turns-done c.args.resolution (middle x c.args.y) c.loop-i.start c.loop-i.last c.args.path.now c.loop-i.i (left c.loop-i.ups c.loop-i.downs x) _ (point c.point_of-a-2.result) (point c.point_of-b-2.result) c.loop-i-test.false
     (rw (near_64 c.args.y c.requires.y) at (c.note_segment.ensures.turned x l)) c.point_of-a-2.ensures.value c.point_of-b-2.ensures.value
     (rw (near_64 c.args.y c.requires.y) at (c.loop-i.invariant.done x l))
+
+pub point_of-b-requires-clause-vertex : goal.point_of-b-requires-clause-vertex
+point_of-b-requires-clause-vertex c = grind (arith, common_steps)
