@@ -2,6 +2,7 @@
 use Rattle.std.proofs.Common.{◌≡◌, ℕ, ◌+◌, drop, subst, arith}
 use Rattle.std.specs.Prelude.{map}
 use Rattle.page_model.specs.Page.{width}
+use Rattle.std.proofs.lemmas.Grind.{common_steps}
 use Rattle.strip_tiles.specs.declared.room.WindowRoom.{WindowRoom}
 use Rattle.strip_tiles.proofs.Adding.{columns_add}
 use Rattle.strip_tiles.proofs.RoomLemmas.{next_window, window_at}
@@ -44,3 +45,6 @@ loop-k-preserved c =
       counts = columns_add sheet 0 c.args.at c.loop-k.left w.column.core c.args.row.now.core c.args.counts.now c.loop-k.counts c.add_window.new.counts c.loop-k.invariant.counts
           (subst (λ (n : ℕ). AddsArea sheet n c.args.at w.column.core c.args.row.now.core c.loop-k.counts c.add_window.new.counts) left c.add_window.ensures);
     }
+
+pub returns : goal.returns
+returns c = grind (arith, common_steps)

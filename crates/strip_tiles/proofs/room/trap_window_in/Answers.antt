@@ -1,5 +1,5 @@
 -- trap_window_in: traps the window of a strip in its room.
-use Rattle.std.proofs.Common.{◌+◌, ◌*◌, ap, sym, subst, ◌∙◌, Some}
+use Rattle.std.proofs.Common.{◌+◌, ◌*◌, ap, sym, subst, ◌∙◌, Some, arith}
 use Rattle.page_model.specs.declared.parts.PageParts.{PageParts}
 use Rattle.page_tally.specs.Shapes.{Shape}
 use Rattle.sheet_windows.specs.declared.cuts.Cut.{Cut}
@@ -8,6 +8,7 @@ use Rattle.sheet_windows.specs.Sheets.{IsSmall}
 use Rattle.sheet_windows.specs.Windows.{IsCut, window}
 use Rattle.sheet_windows.proofs.PlanLemmas.{plan_law}
 use Rattle.strip_engine.specs.Rooms.{IsRoomFor}
+use Rattle.std.proofs.lemmas.Grind.{common_steps}
 use Rattle.strip_tiles.proofs.Adding.{rooms_same}
 use Rattle.strip_tiles.proofs.RoomLemmas.{form_is, grown_counts, none_counts, plates_many, shape_is, trapped_is, zones_many}
 use Rattle.strip_tiles.proofs.WorkLemmas.{window_room}
@@ -88,3 +89,6 @@ refill-page-requires-clause-tall c = let has = rw (sym c.take.ensures.value ∙ 
 
 pub returns-in_default-clause-trapped : goal.returns-in_default-clause-trapped
 returns-in_default-clause-trapped c = let has = rw (sym c.take.ensures.value ∙ c.in_default.is) at c.requires.room.page in absurd has
+
+pub trap_tile_in-requires-clause-core : goal.trap_tile_in-requires-clause-core
+trap_tile_in-requires-clause-core c = grind (arith, common_steps)
