@@ -3,6 +3,7 @@ use Rattle.std.proofs.Common.{◌<◌, ◌∙◌, ap, arith, inl, inr, length, r
 use Rattle.std.specs.Prelude.{slice_set}
 use Rattle.std.proofs.lemmas.Bool.{cases_eq}
 use Rattle.std.proofs.lemmas.List.{get_or-set_other, get_or-set_same, get_or_read, length-set}
+use Rattle.std.proofs.lemmas.Grind.{common_steps}
 use Rattle.trap_engine.proofs.PartLemmas.{cover_kept, one_kept}
 use Rattle.trap_engine.specs.declared.parts.Part.{Part}
 use Rattle.trap_engine.specs.Memory.{KeepsTally}
@@ -25,3 +26,12 @@ loop-i-preserved c =
       ];
       rest = λ j d a l. rw (get_or-set_other parts k j one d (λ e. omega (arith, e, a))) (v.rest j d (omega (arith, a)) (omega (arith, l, length-set parts k one)));
     }
+
+pub loop-i-init : goal.loop-i-init
+loop-i-init c = grind (arith, common_steps)
+
+pub count_left-requires-clause-part : goal.count_left-requires-clause-part
+count_left-requires-clause-part c = grind (arith, common_steps)
+
+pub returns-clause-parts : goal.returns-clause-parts
+returns-clause-parts c = grind (arith, common_steps)

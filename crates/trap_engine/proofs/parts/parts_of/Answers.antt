@@ -5,6 +5,7 @@ use Rattle.std.proofs.Common.{◌≡◌, ◌∙◌, ◌+◌, ◌/◌, ◌≤◌,
 use Rattle.std.proofs.lemmas.Bool.{false≢true}
 use Rattle.std.proofs.lemmas.List.Elements.{All-append, All-cons}
 use Rattle.band_claims.specs.Seating.{Seats}
+use Rattle.std.proofs.lemmas.Grind.{common_steps}
 use Rattle.trap_engine.proofs.PartLemmas.{at_most, one_even, one_few, one_laid, one_of_size}
 use Rattle.trap_engine.specs.Parts.{IsPart}
 use Rattle.trap_engine.specs.declared.parts.Part.{Part}
@@ -36,3 +37,9 @@ loop-first-preserved c =
 
 pub returns-clause-few : goal.returns-clause-few
 returns-clause-few c = rw c.into_vec.ensures (at_most (length c.loop-first.parts) c.args.most (c.height-height.result / c.args.most + 1) c.height-height.result c.requires.some refl c.loop-first.invariant.few)
+
+pub returns-clause-parts : goal.returns-clause-parts
+returns-clause-parts c = grind (arith, common_steps)
+
+pub returns-clause-size : goal.returns-clause-size
+returns-clause-size c = grind (arith, common_steps)

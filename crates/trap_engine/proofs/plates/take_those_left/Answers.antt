@@ -3,6 +3,7 @@ use Rattle.std.proofs.Common.{◌<◌, ◌∙◌, ap, arith, inl, inr, length, s
 use Rattle.std.specs.Prelude.{vec_capacity}
 use Rattle.std.proofs.lemmas.Bool.{cases_eq}
 use Rattle.std.proofs.lemmas.List.{get_or-set_other, get_or-set_same, get_or_read, length-set}
+use Rattle.std.proofs.lemmas.Grind.{common_steps}
 use Rattle.trap_engine.specs.declared.plates.PlateWork.{PlateWork}
 use Rattle.trap_engine.proofs.TakeLemmas.{work_kept}
 use Rattle.trap_engine.proofs.plates.take_those_left.Goals as goal
@@ -21,3 +22,9 @@ loop-c-preserved c =
       ];
       rest = λ j d a l. rw (get_or-set_other works k j one d (λ e. omega (arith, e, a))) (v.rest j d (omega (arith, a)) l);
     }
+
+pub returns-clause-works : goal.returns-clause-works
+returns-clause-works c = grind (arith, common_steps)
+
+pub take_left-requires-clause-work : goal.take_left-requires-clause-work
+take_left-requires-clause-work c = grind (arith, common_steps)

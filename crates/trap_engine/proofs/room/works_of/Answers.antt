@@ -3,6 +3,7 @@ use Rattle.std.proofs.Common.{◌∙◌, ◌∷◌, [], arith, ap, List, length,
 use Rattle.std.proofs.lemmas.Bool.{cases_eq, false≢true}
 use Rattle.std.proofs.lemmas.List.{get_or_append_left, get_or_push, length-append}
 use Rattle.std.proofs.lemmas.List.Elements.{All-append, All-cons}
+use Rattle.std.proofs.lemmas.Grind.{common_steps}
 use Rattle.trap_engine.specs.declared.plates.PlateWork.{PlateWork}
 use Rattle.band_claims.specs.Seating.{Seats}
 use Rattle.trap_engine.specs.Taking.{IsPlateWork}
@@ -28,3 +29,6 @@ loop-preserved c =
       ]);
       seats = rw e (All-append (λ (w : PlateWork). Seats c.args.shared.now w.reader) works (one ∷ []) v.seats (All-cons (λ (w : PlateWork). Seats c.args.shared.now w.reader) one [] (rw made.reader c.reader-reader.ensures.reader) (λ j d none. absurd (omega arith))));
     }
+
+pub returns-clause-works : goal.returns-clause-works
+returns-clause-works c = grind (arith, common_steps)

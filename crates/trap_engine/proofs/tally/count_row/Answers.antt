@@ -2,6 +2,7 @@
 -- from `first` on.
 use Rattle.std.proofs.Common.{arith, length}
 use Rattle.std.proofs.lemmas.List.{with_items_is}
+use Rattle.std.proofs.lemmas.Grind.{common_steps}
 use Rattle.trap_engine.proofs.TakeLemmas.{part_edges, part_few}
 use Rattle.trap_engine.proofs.tally.count_row.Goals as goal
 
@@ -19,3 +20,6 @@ returns-clause-tally c =
         few_edges = part_few c.args.page.now c.args.first c.args.y tally.edges c.edges_in.result (length tally.marks.items) old.marks old.counted.few_edges (rw c.deref.ensures.value at c.edges_in.ensures.few);
       };
     }
+
+pub count_changed-requires-clause-each : goal.count_changed-requires-clause-each
+count_changed-requires-clause-each c = grind (arith, common_steps)

@@ -1,6 +1,7 @@
 -- TrapRoom::new: the room for trapping this page by so many workers, in bands of so many rows.
 use Rattle.std.proofs.Common.{◌∙◌, ap, arith}
 use Rattle.band_claims.specs.declared.view.View.{View}
+use Rattle.std.proofs.lemmas.Grind.{common_steps}
 use Rattle.trap_engine.proofs.RoomLemmas.{newcomer_whole, one_served_by, served_by}
 use Rattle.trap_engine.proofs.room.TrapRoom.new.Goals as goal
 
@@ -21,3 +22,18 @@ invariant_of-result-3 c =
       few_parts = omega (arith, c.in_ok-parts.ensures.few, c.in_ok-scratches_of.ensures.count, c.in_ok-scratches_of.field-0.ok);
       begun = rw c.in_ok-shared.ensures.page c.in_ok-no_outcome.ensures;
     })
+
+pub returns-clause-few_parts : goal.returns-clause-few_parts
+returns-clause-few_parts c = grind (arith, common_steps)
+
+pub returns-clause-band : goal.returns-clause-band
+returns-clause-band c = grind (arith, common_steps)
+
+pub new-requires-clause-layout : goal.new-requires-clause-layout
+new-requires-clause-layout c = grind (arith, common_steps)
+
+pub returns-clause-page : goal.returns-clause-page
+returns-clause-page c = grind (arith, common_steps)
+
+pub returns-clause-workers : goal.returns-clause-workers
+returns-clause-workers c = grind (arith, common_steps)

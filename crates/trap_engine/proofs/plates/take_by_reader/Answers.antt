@@ -1,0 +1,7 @@
+-- take_by_reader: goals that the search finds slowly.
+use Rattle.std.proofs.Common.{arith}
+use Rattle.std.proofs.lemmas.Grind.{common_steps}
+use Rattle.trap_engine.proofs.plates.take_by_reader.Goals as goal
+
+pub returns-clause-work : goal.returns-clause-work
+returns-clause-work c = grind (arith, common_steps)
