@@ -3,9 +3,10 @@
 
 goals.py CRATE [COUNT]     the COUNT dearest (20): the steps of each, in millions, the function, and the goal
 
-A million steps are about a second of a processor. A goal that stands in `Answers` is answered in a file; one in `Proof` was left to
-the search, and naming `grind (arith, common_steps)` as its answer is the first thing to try. The counts stand in the files that the
-toolchain keeps between checks; their form is its own and may change.
+A million steps are about a second of a processor. A goal under `Answers` is answered in a file; one under `Proof` was left to the
+search, and naming `grind (arith, common_steps)` as its answer is the first thing to try. The counts stand in the files that the
+toolchain keeps between checks. Their form is its own and may change, and goals of earlier texts may be among them: for the goals of
+this text alone remove the crate's out/incremental and run `rt check` once.
 """
 import json
 import os
@@ -27,25 +28,37 @@ def entries(file):
             continue
 
 
+def answered(crate, function):
+    """The goals that the function's file of answers answers."""
+    file = os.path.join(CRATES, crate, "proofs", *function.split("."), "Answers.antt")
+    if not os.path.isfile(file):
+        return set()
+    with open(file, encoding="utf-8") as text:
+        return set(re.findall(r"^(?:pub )?(\S+) :", text.read(), re.MULTILINE))
+
+
 def goals(crate):
-    """Each goal of the crate's functions, with its steps, where it is answered, and its function."""
+    """The steps of each goal of the crate's functions, by its function, where it is answered, and its name."""
+    steps = {}
     for folder, _, names in os.walk(os.path.join(CRATES, crate, "out", "incremental")):
         for name in names:
             place = KEPT.fullmatch(name)
             for entry in entries(os.path.join(folder, name)) if place else ():
-                steps = sum(it or 0 for it in entry.get("steps") or ())
-                yield steps, place["part"], place["function"], entry["name"]
+                # of a goal that was proved more than once the last one stands
+                steps[place["function"], place["part"], entry["name"]] = sum(it or 0 for it in entry.get("steps") or ())
+    by_hand = {function: answered(crate, function) for function, _, _ in steps}
+    return {key: count for key, count in steps.items() if (key[2] in by_hand[key[0]]) == (key[1] == "Answers")}
 
 
 def main():
     if not 2 <= len(sys.argv) <= 3:
         sys.exit(__doc__)
-    found = sorted(set(goals(sys.argv[1])), reverse=True)
+    found = sorted(goals(sys.argv[1]).items(), key=lambda it: -it[1])
     if not found:
         sys.exit(f"goals.py: nothing is kept of {sys.argv[1]}: run rt check in its folder first")
-    for steps, part, function, goal in found[: int(sys.argv[2]) if len(sys.argv) == 3 else 20]:
+    for (function, part, goal), steps in found[: int(sys.argv[2]) if len(sys.argv) == 3 else 20]:
         print(f"{steps / 1e6:6.1f}  {part:8} {function}  {goal}")
-    print(f"{sum(it[0] for it in found) / 1e6:6.1f}  in all, {len(found)} goals")
+    print(f"{sum(steps for _, steps in found) / 1e6:6.1f}  in all, {len(found)} goals")
 
 
 main()
