@@ -146,7 +146,8 @@ fn no_cut_changes_a_byte(rt: HostRuntime) -> Result<(), Fail> {
                 *windows,
                 &mut dice,
             )?;
-            assert!(rt; well, "{windows:?}");
+            let Budget { rows, samples } = *windows;
+            assert!(rt; well, "{rows} rows, {samples} samples");
         }
     }
     Ok(())
