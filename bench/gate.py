@@ -1,7 +1,7 @@
 #!/usr/bin/env python3
 """What a run of the gate costs: runs `rt ci` and keeps, for each crate, the seconds of a processor that went into its proof,
-into the proof of its tests and into its wrong bodies. The table is written anew every minute, so that a run that is ended
-leaves what it saw, and it is printed at the end.
+into the proof of its tests and into its wrong bodies, and for each wrong body its own. The tables are written anew every
+minute, so that a run that is ended leaves what it saw, and they are printed at the end.
 
 gate.py [--to FILE] [WORD ..]     (WORDs go to rt ci; FILE is bench/out/gate.md where none is named)
 
@@ -47,15 +47,32 @@ def seconds_of(pid):
     return int(fields[1]), (int(fields[11]) + int(fields[12])) / TICK
 
 
+def body_of(words, crate):
+    """Which wrong body a check tries, by the folder that it goes on from: seed for the crate as it stands, else a number. One
+    that goes on from none is the crate's only one, or is tried once more."""
+    start = words[words.index("--incremental") + 1] if "--incremental" in words else ""
+    number = os.path.basename(start)
+    if number == "seed":
+        return "(as it stands)"
+    folder = os.path.join("crates", crate, "must-fail")
+    names = sorted(name for name in os.listdir(folder) if name.endswith(".edit")) if os.path.isdir(folder) else []
+    if not number and len(names) == 1:
+        number = "0"
+    return names[int(number)][: -len(".edit")] if number.isdigit() and int(number) < len(names) else "(from nothing)"
+
+
 def kind_of(pid):
-    """Which crate a process of the toolchain works for, and at what. A wrong body is checked in a copy of its crate."""
+    """Which crate a process of the toolchain works for, at what, and which wrong body it tries. Such a body is checked in a
+    copy of its crate."""
     words = words_of(pid)
     if "--crate-name" not in words:
-        return "(rt)", "other"
+        return "(rt)", "other", ""
     crate = words[words.index("--crate-name") + 1]
     if "--test" in words or "--tests" in words:
-        return crate, "tests"
-    return crate, "edits" if "/rt-edit" in folder_of(pid) else "proof"
+        return crate, "tests", ""
+    if "/rt-edit" in folder_of(pid):
+        return crate, "edits", body_of(words, crate)
+    return crate, "proof", ""
 
 
 def look(root, taken, known):
@@ -75,15 +92,20 @@ def look(root, taken, known):
 
 
 def table_of(taken, minutes):
-    """The table in Markdown, the dearest crate first."""
+    """The tables in Markdown, the dearest crate and the dearest wrong body first."""
     rows = collections.defaultdict(lambda: dict.fromkeys(KINDS, 0.0))
-    for (_, crate, kind), seconds in taken.items():
+    bodies = collections.Counter()
+    for (_, crate, kind, body), seconds in taken.items():
         rows[crate][kind] += seconds
+        if kind == "edits":
+            bodies[crate, body] += seconds
     whole = {kind: sum(row[kind] for row in rows.values()) for kind in KINDS}
     lines = ["| Crate | Proof | Tests | Wrong bodies | Other | Sum |", "|---|---|---|---|---|---|"]
     for crate, row in [*sorted(rows.items(), key=lambda it: -sum(it[1].values())), ("all", whole)]:
         lines.append(f"| {crate} | " + " | ".join(f"{row[kind]:.0f}" for kind in KINDS) + f" | {sum(row.values()):.0f} |")
-    lines.append(f"\n{sum(whole.values()) / 60:.0f} minutes of a processor, {minutes:.0f} by the clock")
+    lines.append(f"\n{sum(whole.values()) / 60:.0f} minutes of a processor, {minutes:.0f} by the clock\n")
+    lines += ["| Crate | Wrong body | Seconds |", "|---|---|---|"]
+    lines += [f"| {crate} | {body} | {seconds:.0f} |" for (crate, body), seconds in bodies.most_common()]
     return "\n".join(lines) + "\n"
 
 
