@@ -4,5 +4,3 @@
 pub mod list;
 pub mod memory;
 pub mod names;
-#[cfg(test)]
-mod tests;

@@ -1,6 +1,9 @@
 -- The line and the status of what stops a command of a sheet.
-use Rattle.std.specs.Prelude.{◌≡◌, ℕ, List, ◌++◌, codes, decimal}
+use Rattle.std.specs.Prelude.{◌≡◌, ℕ, List, ◌++◌, Some, codes, decimal}
 use Rattle.outside.specs.Rack.{RackState}
+use Rattle.plate_rows.specs.declared.stop.RereadError.{RereadError}
+use Rattle.plate_rows.specs.declared.stop.RereadError.TheVariants.{Changed as NowOther, Unread}
+use Rattle.refusals.specs.declared.refusal.Refusal.TheVariants.{Read}
 use Rattle.refusals.specs.Lines.{line}
 use Rattle.refusals.specs.Refusals.{line_of, page_fault_line, status_of}
 use Rattle.refusals.specs.Statuses.{page_refused}
@@ -9,6 +12,11 @@ use Rattle.bare_sheets.specs.declared.refusal.SheetRefusal.{SheetRefusal}
 use Rattle.bare_sheets.specs.declared.refusal.SheetRefusal.TheVariants.{Far, Fault, Uncut}
 use Rattle.sheet_gather.specs.declared.stop.TrapsheetError.{TrapsheetError}
 use Rattle.sheet_gather.specs.declared.stop.TrapsheetError.TheVariants.{Changed, Common, OfSheet}
+
+-- what the program tells where a second reading stops
+abbrev pub error_of : RereadError → TrapsheetError
+error_of (NowOther plate) = Changed plate
+error_of (Unread plate) = Common (Read (Some plate))
 
 -- the line of what a sheet is refused for
 abbrev pub sheet_line : SheetRefusal → List ℕ

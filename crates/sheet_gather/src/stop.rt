@@ -1,7 +1,8 @@
 ghost use Rattle.std.specs.Prelude.{◌≡◌};
-ghost use Rattle.sheet_gather.specs.Stops.{status_of_stop};
+ghost use Rattle.sheet_gather.specs.Stops.{error_of, status_of_stop};
 
 use bare_sheets::refusal::SheetRefusal;
+use plate_rows::stop::RereadError;
 use refusals::refusal::{Refusal, status};
 use refusals::statuses::PAGE_REFUSED;
 
@@ -14,6 +15,16 @@ pub enum TrapsheetError {
     OfSheet(SheetRefusal),
     /// This plate, from 0, is not the same as when it was checked: it has another header, or a fault now.
     Changed(u32),
+}
+
+/// The program's error for what stopped a second reading.
+pub fn error_of(stop: RereadError) -> TrapsheetError
+    ensures { result ≡ error_of stop }
+{
+    match stop {
+        RereadError::Changed(plate) => TrapsheetError::Changed(plate),
+        RereadError::Unread(plate) => TrapsheetError::Common(Refusal::Read(Some(plate))),
+    }
 }
 
 /// The status that the program exits with, one of `refusals::statuses`.

@@ -6,12 +6,15 @@ use Rattle.page_model.specs.declared.parts.PageParts.{PageParts}
 use Rattle.pgm_plates.specs.declared.rows.OpenPlate.{OpenPlate}
 use Rattle.sheet_loop.specs.declared.room.StreamRoom.{StreamRoom}
 use Rattle.sheet_loop.specs.Courses.{AwaitsCore, Course, HoldsAt, OfEach, RowsCount, RowsStand}
-use Rattle.sheet_loop.specs.Going.{IsNextRow, IsStripRow, core_top, gone_on}
-use Rattle.sheet_loop.specs.Reading.{ReadsRow}
-use Rattle.sheet_loop.specs.Rooms.{CanHoldStrip, CanStream, IsSomeStrip, IsStreamRoom}
-use Rattle.sheet_loop.specs.Waiting.{IsWaiting, PlatesOpen, WritesRow}
-use Rattle.sheet_loop.proofs.StepLemmas.{are_open, before, can_hold_still, counted_on, deep_is}
-use Rattle.sheet_loop.proofs.StepLemmas.{hand_cuttable, holds_then, line_long, new_some, now}
+use Rattle.strip_steps.specs.Going.{IsNextRow, IsStripRow, core_top, gone_on}
+use Rattle.strip_steps.specs.Reading.{ReadsRow}
+use Rattle.strip_steps.specs.Strips.{CanStream, IsSomeStrip}
+use Rattle.sheet_loop.specs.Rooms.{CanHoldStrip, IsStreamRoom}
+use Rattle.strip_steps.specs.Waiting.{IsWaiting, PlatesOpen, WritesRow}
+use Rattle.sheet_loop.proofs.StepLemmas.{are_open, can_hold_still, counted_on, deep_is}
+use Rattle.strip_steps.proofs.ReadLemmas.{before}
+use Rattle.sheet_loop.proofs.StepLemmas.{hand_cuttable, holds_then, line_long}
+use Rattle.strip_steps.proofs.ReadLemmas.{new_some, now}
 use Rattle.sheet_loop.proofs.StepLemmas.{unwritten, written_on, written_then}
 use Rattle.sheet_stream.specs.Reading.{HaveHeader}
 use Rattle.sheet_windows.specs.declared.spans.Span.{Span}

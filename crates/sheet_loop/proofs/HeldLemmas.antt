@@ -16,12 +16,12 @@ use Rattle.plate_rows.specs.declared.stop.RereadError.{RereadError}
 use Rattle.plate_rows.specs.Rereading.{EndsPlates, HaveRead, IsReadTo, StopsReading}
 use Rattle.plate_rows.specs.Trays.{name_at, open_at, tray_at}
 use Rattle.plate_rows.proofs.StopLemmas.{ends_stop, reading_ends}
-use Rattle.sheet_loop.specs.Going.{not_begun}
-use Rattle.sheet_loop.specs.Reading.{HoldsTo, rows_then}
+use Rattle.strip_steps.specs.Going.{not_begun}
+use Rattle.strip_steps.specs.Reading.{HoldsTo, rows_then}
 use Rattle.sheet_loop.specs.Second.{CanEnd, sheet_header}
 use Rattle.sheet_loop.specs.Whole.{HoldsSheet, all_rows}
-use Rattle.sheet_loop.proofs.OnSheets.{height_same}
-use Rattle.sheet_loop.proofs.RowReads.{stopped}
+use Rattle.strip_steps.proofs.OnSheets.{height_same}
+use Rattle.strip_steps.proofs.RowReads.{stopped}
 use Rattle.sheet_loop.proofs.SecondLemmas.{stops_same}
 use Rattle.sheet_stream.specs.Holding.{HaveRoomFor}
 use Rattle.sheet_stream.specs.Reading.{HaveHeader, HoldsRead, ReadsStrip, tints_for}

@@ -1,7 +1,3 @@
-pub mod GoingLemmas
-pub mod RowReads
-pub mod OnSheets
-pub mod AtHand
 pub mod StepLemmas
 pub mod AwaitLemmas
 pub mod StreamLemmas

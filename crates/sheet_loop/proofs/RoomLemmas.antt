@@ -9,10 +9,11 @@ use Rattle.page_model.specs.declared.parts.PageParts.{PageParts}
 use Rattle.page_model.specs.declared.parts.Plane.{Plane}
 use Rattle.page_model.specs.Page.{height, maxval, plates, width}
 use Rattle.page_model.specs.Planes.{no_plane, tints_of}
-use Rattle.sheet_loop.specs.Going.{IsNextRow, IsStripRow, not_begun}
-use Rattle.sheet_loop.specs.Rooms.{CanBeCut, CanHoldStrip, CanStream, IsBlankStrip, IsSomeStrip}
-use Rattle.sheet_loop.proofs.AtHand.{can_be_cut, strip_cuttable, strip_form}
-use Rattle.sheet_loop.proofs.GoingLemmas.{hand_of}
+use Rattle.strip_steps.specs.Going.{IsNextRow, IsStripRow, not_begun}
+use Rattle.strip_steps.specs.Strips.{CanBeCut, CanStream, IsSomeStrip}
+use Rattle.sheet_loop.specs.Rooms.{CanHoldStrip, IsBlankStrip}
+use Rattle.strip_steps.proofs.AtHand.{can_be_cut, strip_cuttable, strip_form}
+use Rattle.strip_steps.proofs.GoingLemmas.{hand_of}
 use Rattle.sheet_stream.specs.Holding.{HoldRowsFrom}
 use Rattle.sheet_stream.specs.Strips.{blank_plane}
 use Rattle.sheet_stream.proofs.TurnLemmas.{have_form}

@@ -33,12 +33,12 @@ use Rattle.plate_rows.proofs.StopLemmas.{ends_stop, reading_ends, reading_stops,
 use Rattle.plate_rows.proofs.WriteLemmas.{writing_ends, writing_leaves}
 use Rattle.refusals.specs.declared.refusal.Refusal.{Refusal}
 use Rattle.refusals.specs.declared.refusal.Refusal.TheVariants.{Job as JobFails, Memory, NoDetails, Page, Plate, Read, Usage, Write}
-use Rattle.sheet_loop.specs.declared.stop.StreamError.{StreamError}
-use Rattle.sheet_loop.specs.declared.stop.StreamError.TheVariants.{Unread, Unwritten}
+use Rattle.strip_steps.specs.declared.stop.StreamError.{StreamError}
+use Rattle.strip_steps.specs.declared.stop.StreamError.TheVariants.{Unread, Unwritten}
 use Rattle.sheet_loop.specs.Courses.{Course, HasStreamed, Starts, Stops, StopsUnread, StopsUnwritten}
-use Rattle.sheet_loop.specs.Rooms.{CanStream}
+use Rattle.strip_steps.specs.Strips.{CanStream}
 use Rattle.sheet_loop.specs.Second.{CanEnd, ComesTo, EndsBoth, IsDone, IsUnread, IsUnwritten, MayStand, PartsStand, PlateBreaks, StreamsSheet, WasRead, sheet_header}
-use Rattle.sheet_loop.proofs.OnSheets.{height_same, may_begin, none_same}
+use Rattle.strip_steps.proofs.OnSheets.{height_same, may_begin, none_same}
 use Rattle.sheet_stream.specs.Growing.{new_rows}
 use Rattle.sheet_stream.specs.Reading.{HaveHeader, tints_for}
 use Rattle.sheet_stream.specs.Writing.{StandsInPart}

@@ -1,40 +1,34 @@
 -- One step of a sheet that streams: the next strip is read, and the strip at hand is put.
-use Rattle.std.proofs.Common.{◌≡◌, ◌⊎◌, ℕ, ◌+◌, ◌*◌, ◌-◌, ◌<◌, ◌≤◌, List, length, Some, None, Ok, Err, inl, inr, sym, ap, ◌∙◌, subst, arith, length-drop}
+use Rattle.std.proofs.Common.{◌≡◌, ℕ, ◌+◌, ◌*◌, ◌-◌, ◌<◌, ◌≤◌, List, length, Some, None, Ok, Err, inl, inr, sym, ◌∙◌, subst, arith}
 use Rattle.std.proofs.Math.Nat.{mul-le-mul}
-use Rattle.std.proofs.lemmas.List.{length-map}
 use Rattle.bare_sheets.specs.Begun.{BeginsWith, MayBegin}
 use Rattle.outside.specs.Rack.{RackState}
 use Rattle.outside.specs.Tray.{TrayState}
 use Rattle.page_model.specs.declared.parts.PageParts.{PageParts}
-use Rattle.page_model.specs.declared.parts.Plane.{Plane}
 use Rattle.page_model.specs.Page.{height, maxval, plates, width}
-use Rattle.page_model.specs.Planes.{tints_of}
 use Rattle.pgm_plates.specs.declared.rows.OpenPlate.{OpenPlate}
 use Rattle.plate_rows.specs.Images.{HaveWritten}
-use Rattle.plate_rows.specs.Laws.{header_of}
-use Rattle.plate_rows.specs.Rereading.{HaveRead, IsReadTo, StopsReading}
-use Rattle.plate_rows.specs.Trays.{open_at, tray_at}
-use Rattle.plate_rows.specs.declared.stop.RereadError.{RereadError}
+use Rattle.plate_rows.specs.Rereading.{HaveRead}
 use Rattle.refusals.specs.declared.refusal.Refusal.{Refusal}
 use Rattle.refusals.specs.declared.refusal.Refusal.TheVariants.{Job as JobFails, Memory, NoDetails, Page, Plate, Read, Usage, Write}
 use Rattle.sheet_loop.specs.declared.room.StreamRoom.{StreamRoom}
-use Rattle.sheet_loop.specs.declared.rows.Progress.{Progress}
-use Rattle.sheet_loop.specs.declared.stop.StreamError.{StreamError}
-use Rattle.sheet_loop.specs.declared.stop.StreamError.TheVariants.{Unread, Unwritten}
+use Rattle.strip_steps.specs.declared.rows.Progress.{Progress}
+use Rattle.strip_steps.specs.declared.stop.StreamError.{StreamError}
+use Rattle.strip_steps.specs.declared.stop.StreamError.TheVariants.{Unread, Unwritten}
 use Rattle.sheet_loop.specs.Courses.{AwaitsCore, Course, HoldsAt, OfEach, RowBreaks, RowsCount, RowsStand, Stops}
-use Rattle.sheet_loop.specs.Going.{IsNextRow, IsStripRow, core_top, gone_on}
-use Rattle.sheet_loop.specs.Reading.{HoldsTo, ReadsRow}
-use Rattle.sheet_loop.specs.Rooms.{CanHoldStrip, CanStream, IsSomeStrip}
-use Rattle.sheet_loop.specs.Waiting.{WritesAndReads}
-use Rattle.sheet_loop.proofs.AtHand.{begins, core_inside, cut_is, made, rulers, sheet, small, strip_cuttable, strip_form, strip_wide}
-use Rattle.sheet_loop.proofs.GoingLemmas.{hand_of}
-use Rattle.sheet_loop.proofs.OnSheets.{cuttable, earlier, height_same, may_begin, none_same, rulers_same, width_same}
-use Rattle.sheet_loop.proofs.RowReads.{GoOnTo, both_fit, holds_on, read_on, read_to, stopped}
+use Rattle.strip_steps.specs.Going.{IsNextRow, IsStripRow, core_top, gone_on}
+use Rattle.strip_steps.specs.Reading.{HoldsTo, ReadsRow}
+use Rattle.strip_steps.specs.Strips.{CanStream, IsSomeStrip}
+use Rattle.sheet_loop.specs.Rooms.{CanHoldStrip}
+use Rattle.strip_steps.specs.Waiting.{WritesAndReads}
+use Rattle.strip_steps.proofs.AtHand.{begins, core_inside, cut_is, made, rulers, sheet, small, strip_cuttable, strip_form, strip_wide}
+use Rattle.strip_steps.proofs.OnSheets.{cuttable, height_same, may_begin, none_same, rulers_same, width_same}
+use Rattle.strip_steps.proofs.ReadLemmas.{before, new_is, now, reading_stops}
+use Rattle.strip_steps.proofs.RowReads.{holds_on}
 use Rattle.sheet_stream.specs.Growing.{new_rows}
-use Rattle.sheet_stream.specs.Holding.{AreAlike, HaveRoomFor, HoldRowsFrom}
+use Rattle.sheet_stream.specs.Holding.{HoldRowsFrom}
 use Rattle.sheet_stream.specs.Reading.{HaveHeader, HoldsRead, tints_for}
 use Rattle.sheet_stream.specs.Strips.{IsStripOf}
-use Rattle.sheet_stream.proofs.TurnLemmas.{turned_is}
 use Rattle.sheet_windows.specs.declared.spans.Span.{Span}
 use Rattle.sheet_windows.specs.Spans.{AreSpans, even_wide}
 use Rattle.sheet_windows.specs.Strips.{strip_parts, strip_tile}
@@ -53,131 +47,28 @@ use Rattle.tile_counts.specs.declared.counts.SheetCounts.{SheetCounts}
 use Rattle.window_pages.specs.Forms.{Form, form_of}
 use Rattle.window_pages.specs.Sheets.{IsCuttable}
 
--- the room of a strip, whatever rows it shows
-pub room_of_strip : (bare : PageParts) (plan : StripPlan) (strip : PageParts) → IsSomeStrip bare plan strip → HaveRoomFor bare (even_wide plan.down) strip.planes
-room_of_strip bare plan strip is = subst (λ (n : ℕ). HaveRoomFor bare n strip.planes) is.tall is.is_strip.planes
+-- The next strip, of these rows, is at hand once it was read, of a course.
+module _ (bare : PageParts) (plan : StripPlan) (begun : List OpenPlate) (p : Progress) (row : Span) (can : CanStream bare plan) (headers : HaveHeader bare begun) (next : IsNextRow plan.down p row) (strip : PageParts) (at_hand : IsSomeStrip bare plan strip)
+    (course : Course) (none : SheetCounts) (trays trays' : List TrayState) (new : PageParts) (holds : HoldsTo course.inputs bare begun (even_wide plan.down) p course.trays trays strip) (reads : ReadsRow bare begun p row strip new trays trays' (Ok tt)) where
+  abbrev read : HoldsRead course.inputs bare begun row.from (even_wide plan.down) course.trays trays' new.planes
+  read = now bare plan begun p row can headers next strip at_hand trays trays' new course.inputs course.trays holds reads
 
--- The next strip, of these rows, is read behind those of the strip at hand.
-module _ (bare : PageParts) (plan : StripPlan) (begun : List OpenPlate) (p : Progress) (row : Span) (can : CanStream bare plan) (headers : HaveHeader bare begun) (next : IsNextRow plan.down p row) (strip : PageParts) (at_hand : IsSomeStrip bare plan strip) where
-  next_inside : row.from + row.wide ≤ height bare
-  next_inside = (let a = next.span.inside in let t = can.rulers.tall in omega (arith, a, t))
+  abbrev as_before : (sheet : PageParts) → BeginsWith bare (tints_for bare read.samples) sheet → BeginsWith bare (tints_for bare holds.samples) sheet
+  as_before = before bare plan begun p row can headers next strip at_hand trays trays' new course.inputs course.trays holds reads
 
-  hand : IsStripRow plan.down row
-  hand = hand_of plan.down p row next
-
-  strip_room_is : HaveRoomFor bare (even_wide plan.down) strip.planes
-  strip_room_is = room_of_strip bare plan strip at_hand
-
-  -- what was read, wherever that began, of the strip at hand as if it were turned
-  abbrev pub turned_holds : (turned : PageParts) (inputs : List (List ℕ)) (start now : List TrayState) → turned.planes ≡ strip.planes → HoldsTo inputs bare begun (even_wide plan.down) p start now strip → HoldsTo inputs bare begun (even_wide plan.down) p start now turned
-  turned_holds turned inputs start now same holds = record {
-    samples = holds.samples;
-    read = holds.read;
-    count = holds.count;
-    held = subst (λ (planes : List Plane). (p.read ≡ 0) ⊎ ((p.read ≡ p.from + even_wide plan.down) × HoldRowsFrom bare p.from (even_wide plan.down) (tints_for bare holds.samples) planes)) (sym same) holds.held;
-  }
-
-  turned_room : (turned : PageParts) → turned.planes ≡ strip.planes → HaveRoomFor bare (even_wide plan.down) turned.planes
-  turned_room turned same = subst (HaveRoomFor bare (even_wide plan.down)) (sym same) strip_room_is
-
-  -- what the next rows are read by
-  module _ (trays : List TrayState) (inputs : List (List ℕ)) (start : List TrayState) (holds : HoldsTo inputs bare begun (even_wide plan.down) p start trays strip) (wide : ℕ) (wide_is : wide ≡ width bare) where
-    long : (k : ℕ) → k < length begun → length (tints_of strip.planes k) ≡ even_wide plan.down * width bare
-    long k l = strip_room_is.room k (let e = headers.count in omega (arith, e, l))
-
-    pub common_within : (k : ℕ) → k < length begun → (row.from - p.from) * wide + (p.read - row.from) * wide ≤ length (tints_of strip.planes k)
-    common_within k l = subst (λ (n : ℕ). (row.from - p.from) * wide + (p.read - row.from) * wide ≤ n) (sym (long k l)) (subst (λ (n : ℕ). (row.from - p.from) * n + (p.read - row.from) * n ≤ even_wide plan.down * width bare) (sym wide_is)
-        (both_fit bare begun (even_wide plan.down) p row inputs start trays strip headers holds next.wide next.below next.above next_inside strip_room_is))
-
-    pub read_there : (done : ℕ) → done ≡ p.read * wide → (k : ℕ) → k < length begun → IsReadTo (open_at begun k) done (length (tints_of strip.planes k) - (p.read - row.from) * wide) (tray_at trays k)
-    read_there done done_is k l = subst (λ (n : ℕ). IsReadTo (open_at begun k) n (length (tints_of strip.planes k) - (p.read - row.from) * wide) (tray_at trays k)) (sym done_is)
-        (subst (λ (n : ℕ). IsReadTo (open_at begun k) (p.read * n) (length (tints_of strip.planes k) - (p.read - row.from) * n) (tray_at trays k)) (sym wide_is)
-        (read_to bare begun (even_wide plan.down) p row inputs start trays strip headers holds next.wide next.below next.above next_inside strip_room_is k l))
-
-  -- two strips have planes of the same forms
-  pub alike : (ahead : PageParts) → IsSomeStrip bare plan ahead → AreAlike strip.planes ahead.planes
-  alike ahead is =
-      let one = strip_room_is in
-      let two = room_of_strip bare plan ahead is in
+  abbrev pub holds_then : (end : StreamRoom) → end.strip ≡ new → OfEach bare holds.samples (RowsCount none end.counts p.at) → HoldsAt course bare plan begun none row trays' end
+  holds_then end same counted =
+      let top : p.at ≡ core_top row = sym next.span.begins in
       record {
-        count = two.count ∙ sym one.count;
-        each = λ c l. (let here : c < plates bare = (let e = one.count in omega (arith, e, l)) in record {
-          width = two.wide c here ∙ sym (one.wide c here);
-          height = two.tall c here ∙ sym (one.tall c here);
-          maxval = two.deep c here ∙ sym (one.deep c here);
-          full = two.room c here ∙ sym (one.room c here);
-        });
+        at_hand = subst (IsStripOf bare row) (sym same) (new_is bare plan begun p row can headers next strip at_hand trays trays' new course.inputs course.trays holds reads);
+        holds = holds_on course.inputs bare begun (even_wide plan.down) row course.trays trays' end.strip next.wide
+            (record { samples = read.samples; read = read.read; held = subst (λ (s : PageParts). HoldRowsFrom bare row.from (even_wide plan.down) (tints_for bare read.samples) s.planes) (sym same) read.held });
+        counted = λ sheet begins. subst (λ (n : ℕ). RowsCount none end.counts n sheet) top (counted sheet (as_before sheet begins));
       }
 
-  module _ (trays trays' : List TrayState) (new : PageParts) (inputs : List (List ℕ)) (start : List TrayState) (holds : HoldsTo inputs bare begun (even_wide plan.down) p start trays strip) where
-    -- the reading stops
-    pub reading_stops : (stop : RereadError) → ReadsRow bare begun p row strip new trays trays' (Err stop) → StopsReading inputs (header_of begun) (length begun) start trays' stop
-    reading_stops stop reads =
-        stopped bare begun (even_wide plan.down) p row inputs start trays reads.turned headers (turned_holds reads.turned inputs start trays reads.turns.planes holds) next.wide next.below next.above next_inside (turned_room reads.turned reads.turns.planes) new trays' stop reads.reads
-
-    module _ (reads : ReadsRow bare begun p row strip new trays trays' (Ok tt)) where
-      pub went : (now : HoldsRead inputs bare begun row.from (even_wide plan.down) start trays' new.planes) × GoOnTo (plates bare) holds.samples now.samples
-      went = read_on bare begun (even_wide plan.down) p row inputs start trays reads.turned headers (turned_holds reads.turned inputs start trays reads.turns.planes holds) next.wide next.below next.above next_inside (turned_room reads.turned reads.turns.planes) new trays' reads.reads
-
-      abbrev pub now : HoldsRead inputs bare begun row.from (even_wide plan.down) start trays' new.planes
-      now = went.0
-
-      now_held : HoldRowsFrom bare row.from row.wide (tints_for bare now.samples) new.planes
-      now_held = subst (λ (n : ℕ). HoldRowsFrom bare row.from n (tints_for bare now.samples) new.planes) (sym next.wide) now.held
-
-      now_room : HaveRoomFor bare row.wide new.planes
-      now_room = record {
-        count = now_held.count;
-        wide = now_held.wide;
-        tall = now_held.tall;
-        deep = now_held.deep;
-        room = λ c l. (let e = ap length (now_held.held c l) in let d = length-drop (row.from * width bare) (tints_for bare now.samples c) in let r = now_held.read c l in omega (arith, e, d, r));
-      }
-
-      pub new_is : IsStripOf bare row new
-      new_is =
-          let turned_strip = turned_is bare at_hand.last row strip reads.turned at_hand.is_strip (at_hand.tall ∙ sym next.wide) reads.turns in
-          record {
-            resolution = reads.reads.resolution ∙ turned_strip.resolution;
-            inks = reads.reads.inks ∙ turned_strip.inks;
-            zones = reads.reads.zones ∙ turned_strip.zones;
-            planes = now_room;
-          }
-
-      few : (c : ℕ) → c < plates bare → length (now.samples c) ≤ width bare * height bare
-      few c l =
-          let e = length-map (now.samples c) (λ (v : ℕ). maxval bare - v) in
-          let r = now_held.read c l in
-          let i = next_inside in
-          let m : (row.from + row.wide) * width bare ≤ height bare * width bare = mul-le-mul i (omega arith) in
-          omega (arith, e, r, m)
-
-      pub new_cuttable : IsCuttable new
-      new_cuttable = strip_cuttable bare plan row new can hand new_is (tints_for bare now.samples) now_held (may_begin bare now.samples few)
-
-      pub new_some : IsSomeStrip bare plan new
-      new_some = record { last = row; tall = next.wide; is_strip = new_is }
-
-      -- a sheet that begins with all that was read begins with what was read before
-      pub before : (sheet : PageParts) → BeginsWith bare (tints_for bare now.samples) sheet → BeginsWith bare (tints_for bare holds.samples) sheet
-      before sheet begins = earlier bare sheet holds.samples now.samples went.1 begins
-
-  -- of a course: the next strip is at hand then
-  module _ (course : Course) (none : SheetCounts) (trays trays' : List TrayState) (new : PageParts) (holds : HoldsTo course.inputs bare begun (even_wide plan.down) p course.trays trays strip) (reads : ReadsRow bare begun p row strip new trays trays' (Ok tt)) where
-    abbrev pub holds_then : (end : StreamRoom) → end.strip ≡ new → OfEach bare holds.samples (RowsCount none end.counts p.at) → HoldsAt course bare plan begun none row trays' end
-    holds_then end same counted =
-        let read = now trays trays' new course.inputs course.trays holds reads in
-        let top : p.at ≡ core_top row = sym next.span.begins in
-        record {
-          at_hand = subst (IsStripOf bare row) (sym same) (new_is trays trays' new course.inputs course.trays holds reads);
-          holds = holds_on course.inputs bare begun (even_wide plan.down) row course.trays trays' end.strip next.wide
-              (record { samples = read.samples; read = read.read; held = subst (λ (s : PageParts). HoldRowsFrom bare row.from (even_wide plan.down) (tints_for bare read.samples) s.planes) (sym same) read.held });
-          counted = λ sheet begins. subst (λ (n : ℕ). RowsCount none end.counts n sheet) top (counted sheet (before trays trays' new course.inputs course.trays holds reads sheet begins));
-        }
-
-    -- what is written of the rows above it before is so of each sheet that begins with what is read now
-    pub written_then : (racks : List RackState) → OfEach bare holds.samples (RowsStand course bare plan p.at racks) → OfEach bare (now trays trays' new course.inputs course.trays holds reads).samples (RowsStand course bare plan (core_top row) racks)
-    written_then racks written = λ sheet begins. subst (λ (n : ℕ). RowsStand course bare plan n racks sheet) (sym next.span.begins) (written sheet (before trays trays' new course.inputs course.trays holds reads sheet begins))
+  -- what is written of the rows above it before is so of each sheet that begins with what is read now
+  pub written_then : (racks : List RackState) → OfEach bare holds.samples (RowsStand course bare plan p.at racks) → OfEach bare read.samples (RowsStand course bare plan (core_top row) racks)
+  written_then racks written = λ sheet begins. subst (λ (n : ℕ). RowsStand course bare plan n racks sheet) (sym next.span.begins) (written sheet (as_before sheet begins))
 
 -- The strip at hand is put.
 module _ (bare : PageParts) (plan : StripPlan) (begun : List OpenPlate) (row : Span) (can : CanStream bare plan) (is : IsStripRow plan.down row) (old : StreamRoom) (trays : List TrayState) (course : Course) (none : SheetCounts) (stands : HoldsAt course bare plan begun none row trays old) where

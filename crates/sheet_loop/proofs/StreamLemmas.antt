@@ -13,12 +13,13 @@ use Rattle.plate_rows.specs.Rereading.{HaveRead}
 use Rattle.plate_rows.specs.Trays.{name_at}
 use Rattle.plate_rows.specs.declared.stop.RereadError.{RereadError}
 use Rattle.sheet_loop.specs.declared.room.StreamRoom.{StreamRoom}
-use Rattle.sheet_loop.specs.declared.stop.StreamError.{StreamError}
+use Rattle.strip_steps.specs.declared.stop.StreamError.{StreamError}
 use Rattle.sheet_loop.specs.Courses.{AwaitsCore, BeginsAt, Course, Finishes, HasStreamed, OfEach, Reaches, ReachesLast, RowsCount, RowsStand, StandsAt, Starts, Streams}
-use Rattle.sheet_loop.specs.Going.{IsNextRow, IsStripRow, core_top, not_begun}
-use Rattle.sheet_loop.specs.Reading.{HoldsTo, ReadsRow}
-use Rattle.sheet_loop.specs.Rooms.{CanStream, IsSomeStrip}
-use Rattle.sheet_loop.proofs.StepLemmas.{holds_then, reading_stops, written_then}
+use Rattle.strip_steps.specs.Going.{IsNextRow, IsStripRow, core_top, not_begun}
+use Rattle.strip_steps.specs.Reading.{HoldsTo, ReadsRow}
+use Rattle.strip_steps.specs.Strips.{CanStream, IsSomeStrip}
+use Rattle.sheet_loop.proofs.StepLemmas.{holds_then, written_then}
+use Rattle.strip_steps.proofs.ReadLemmas.{reading_stops}
 use Rattle.sheet_stream.specs.Growing.{new_rows}
 use Rattle.sheet_windows.specs.declared.spans.Span.{Span}
 use Rattle.sheet_windows.specs.Spans.{even_wide}

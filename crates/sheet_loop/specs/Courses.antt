@@ -16,11 +16,11 @@ use Rattle.plate_rows.specs.declared.stop.RereadError.{RereadError}
 use Rattle.refusals.specs.declared.refusal.Refusal.{Refusal}
 use Rattle.refusals.specs.declared.refusal.Refusal.TheVariants.{Write}
 use Rattle.sheet_loop.specs.declared.room.StreamRoom.{StreamRoom}
-use Rattle.sheet_loop.specs.declared.stop.StreamError.{StreamError}
-use Rattle.sheet_loop.specs.declared.stop.StreamError.TheVariants.{Unread, Unwritten}
-use Rattle.sheet_loop.specs.Going.{IsStripRow, core_top, gone_on}
-use Rattle.sheet_loop.specs.Reading.{HoldsTo}
-use Rattle.sheet_loop.specs.Waiting.{PlatesOpen, WritesRow}
+use Rattle.strip_steps.specs.declared.stop.StreamError.{StreamError}
+use Rattle.strip_steps.specs.declared.stop.StreamError.TheVariants.{Unread, Unwritten}
+use Rattle.strip_steps.specs.Going.{IsStripRow, core_top, gone_on}
+use Rattle.strip_steps.specs.Reading.{HoldsTo}
+use Rattle.strip_steps.specs.Waiting.{PlatesOpen, WritesRow}
 use Rattle.sheet_stream.specs.Growing.{new_rows}
 use Rattle.sheet_stream.specs.Reading.{tints_for}
 use Rattle.sheet_stream.specs.Strips.{IsStripOf}

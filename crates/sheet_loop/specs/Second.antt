@@ -20,8 +20,8 @@ use Rattle.plate_rows.specs.Rereading.{EndsPlates, HaveRead, StopsReading}
 use Rattle.plate_rows.specs.Trays.{EachTray, IsCalm, TakesFiles, name_at}
 use Rattle.plate_rows.specs.declared.stop.RereadError.{RereadError}
 use Rattle.refusals.specs.declared.refusal.Refusal.TheVariants.{Write}
-use Rattle.sheet_loop.specs.declared.stop.StreamError.{StreamError}
-use Rattle.sheet_loop.specs.declared.stop.StreamError.TheVariants.{Unread, Unwritten}
+use Rattle.strip_steps.specs.declared.stop.StreamError.{StreamError}
+use Rattle.strip_steps.specs.declared.stop.StreamError.TheVariants.{Unread, Unwritten}
 use Rattle.sheet_loop.specs.Courses.{Course, OfEach, Starts}
 use Rattle.sheet_stream.specs.Reading.{HaveHeader}
 use Rattle.sheet_stream.specs.Writing.{StandsInPart}

@@ -2,12 +2,9 @@
 //! sheet.
 #![tactic(auto)]
 
-pub mod ahead;
-pub mod beside;
+pub mod pipeline;
 pub mod room;
-pub mod rows;
 pub mod sheet;
 pub mod step;
-pub mod stop;
 pub mod strips;
 pub mod whole;

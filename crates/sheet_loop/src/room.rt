@@ -3,16 +3,15 @@
 ghost use Rattle.std.specs.Prelude.{◌≡◌, ◌*◌, ◌<◌, ◌≤◌, ◌^◌, All, IfOk, length};
 ghost use Rattle.bare_sheets.specs.Bare.{IsBareSheet};
 ghost use Rattle.page_model.specs.Page.{plates, width};
-ghost use Rattle.sheet_loop.specs.Going.{IsNextRow, not_begun};
-ghost use Rattle.sheet_loop.specs.Rooms.{CanBeCut, CanStream, IsBlankStrip, IsRoomFor, IsStreamRoom};
+ghost use Rattle.strip_steps.specs.Going.{IsNextRow, not_begun};
+ghost use Rattle.strip_steps.specs.Strips.{CanBeCut, CanStream};
+ghost use Rattle.sheet_loop.specs.Rooms.{IsBlankStrip, IsRoomFor, IsStreamRoom};
 ghost use Rattle.sheet_windows.specs.Spans.{AreSpans, IsRuler};
 ghost use Rattle.strip_rows.specs.OnSheet.{strip_cut};
 ghost use Rattle.strip_tiles.specs.Strips.{IsSomeSpan};
 ghost use Rattle.strip_tiles.specs.Works.{AreNone};
 ghost use Rattle.window_pages.specs.Sheets.{IsCuttable};
 
-use crate::rows::{Progress, next_row};
-use lists::list::List;
 use lists::memory::vec_of;
 use page_model::parts::{OutOfMemory, PageParts};
 use sheet_stream::strip::first_strip;
@@ -20,6 +19,8 @@ use sheet_windows::spans::{Span, spans_of};
 use std::alloc::Global;
 use strip_rows::parts::{StripPlan, cut_of};
 use strip_rows::strip::CoreRoom;
+use strip_steps::beside::no_parts;
+use strip_steps::rows::{Progress, next_row};
 use strip_tiles::counting::no_sheet_counts;
 use strip_tiles::room::StripRoom;
 use tile_counts::counts::SheetCounts;
@@ -215,14 +216,4 @@ pub fn change_places(alloc: Global, room: &mut StreamRoom)
     let last = std::mem::replace(&mut room.strip, next);
     room.ahead = last.into_parts();
     std::mem::swap(&mut room.windows, &mut room.core.windows);
-}
-
-/// No plates, as a placeholder for a strip. It allocates nothing.
-pub fn no_parts(alloc: Global) -> PageParts {
-    PageParts {
-        resolution: 0,
-        planes: List::new(alloc),
-        inks: List::new(alloc),
-        zones: List::new(alloc),
-    }
 }

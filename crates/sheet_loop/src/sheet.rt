@@ -3,7 +3,8 @@
 ghost use Rattle.std.specs.Prelude.{◌≡◌, ◌<◌, ◌≤◌, ℕ, IsTrue, length, map};
 ghost use Rattle.page_model.specs.Page.{plates};
 ghost use Rattle.sheet_loop.specs.Courses.{IsStarted};
-ghost use Rattle.sheet_loop.specs.Rooms.{CanStream, IsStreamRoom};
+ghost use Rattle.strip_steps.specs.Strips.{CanStream};
+ghost use Rattle.sheet_loop.specs.Rooms.{IsStreamRoom};
 ghost use Rattle.plate_rows.specs.Racks.{rack_at};
 ghost use Rattle.plate_rows.specs.Trays.{open_at, tray_at};
 ghost use Rattle.sheet_loop.specs.Second.{CanEnd, EndsBoth, EndsCourse, IsBegun, StreamsSheet, WritesBegun, course_of, sheet_header};
@@ -12,7 +13,6 @@ ghost use Rattle.strip_tiles.specs.Works.{AreNone};
 ghost use Rattle.page_model.specs.Limits.{most_plates};
 
 use crate::room::StreamRoom;
-use crate::stop::StreamError;
 use crate::strips::stream_strips;
 use outside::rack::Rack;
 use outside::tray::Tray;
@@ -25,6 +25,7 @@ use std::alloc::Global;
 use std::convert::AsStr;
 use std::thread::Threads;
 use strip_rows::parts::StripPlan;
+use strip_steps::stop::StreamError;
 
 /// Reads the plates of a sheet that was checked once more, plate k by tray k, and traps it strip by strip; the new
 /// plates are written to the files of their names, plate k by rack k. It allocates nothing.

@@ -4,20 +4,18 @@
 ghost use Rattle.std.specs.Prelude.{◌≡◌, ◌*◌, ◌≤◌, OnOk, length, map};
 ghost use Rattle.page_model.specs.Page.{maxval, plates, width};
 ghost use Rattle.sheet_loop.specs.Courses.{BeginsAt, GoesFirst, GoesOn, IsAwaiting, IsHeld};
-ghost use Rattle.sheet_loop.specs.Going.{IsNextRow, IsStripRow, gone_on, not_begun};
-ghost use Rattle.sheet_loop.specs.Rooms.{CanStream, IsStreamRoom};
+ghost use Rattle.strip_steps.specs.Going.{IsNextRow, IsStripRow, gone_on, not_begun};
+ghost use Rattle.strip_steps.specs.Strips.{CanStream};
+ghost use Rattle.sheet_loop.specs.Rooms.{IsStreamRoom};
 ghost use Rattle.sheet_loop.specs.Second.{IsBegun};
-ghost use Rattle.sheet_loop.specs.Waiting.{IsWaiting};
+ghost use Rattle.strip_steps.specs.Waiting.{IsWaiting};
 ghost use Rattle.sheet_stream.specs.Reading.{HaveHeader};
 ghost use Rattle.strip_rows.specs.Cores.{AreOpen, WritesCore};
 ghost use Rattle.strip_rows.specs.OnSheet.{strip_cut};
 ghost use Rattle.strip_rows.specs.Ready.{IsTrappable, TrapsRow};
 
-use crate::ahead::{read_row, trap_and_read};
-use crate::beside::trap_beside;
+use crate::pipeline::{trap_and_read, trap_beside};
 use crate::room::{StreamRoom, change_places};
-use crate::rows::Progress;
-use crate::stop::StreamError;
 use outside::rack::Rack;
 use outside::tray::Tray;
 use page_model::parts::PageParts;
@@ -29,6 +27,9 @@ use std::alloc::Global;
 use std::thread::Threads;
 use strip_rows::parts::StripPlan;
 use strip_rows::strip::{trap_row, write_row};
+use strip_steps::ahead::read_row;
+use strip_steps::rows::Progress;
+use strip_steps::stop::StreamError;
 
 /// Reads the rows of the first strip, which becomes the current one, plate k by tray k. It allocates nothing.
 ///

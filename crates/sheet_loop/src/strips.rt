@@ -3,17 +3,15 @@
 ghost use Rattle.std.specs.Prelude.{◌≤◌, IfOk, OnOk, length, map};
 ghost use Rattle.sheet_loop.specs.Courses.{Finishes, IsAwaiting, IsLastRow, IsStarted, IsUnderWay};
 ghost use Rattle.sheet_loop.specs.Courses.{Reaches, ReachesLast, Streams};
-ghost use Rattle.sheet_loop.specs.Going.{IsStripRow};
-ghost use Rattle.sheet_loop.specs.Rooms.{CanStream, IsStreamRoom};
-ghost use Rattle.sheet_loop.specs.Waiting.{IsWaiting};
+ghost use Rattle.strip_steps.specs.Going.{IsStripRow};
+ghost use Rattle.strip_steps.specs.Strips.{CanStream};
+ghost use Rattle.sheet_loop.specs.Rooms.{IsStreamRoom};
+ghost use Rattle.strip_steps.specs.Waiting.{IsWaiting};
 ghost use Rattle.sheet_stream.specs.Reading.{HaveHeader};
 ghost use Rattle.strip_tiles.specs.Works.{AreNone};
 
-use crate::beside::write_waiting;
 use crate::room::StreamRoom;
-use crate::rows::{Progress, next_row, progress_after};
 use crate::step::{put_last, read_first, stream_strip, trap_first};
-use crate::stop::StreamError;
 use outside::rack::Rack;
 use outside::tray::Tray;
 use page_model::parts::PageParts;
@@ -22,6 +20,9 @@ use sheet_windows::spans::Span;
 use std::alloc::Global;
 use std::thread::Threads;
 use strip_rows::parts::StripPlan;
+use strip_steps::beside::write_waiting;
+use strip_steps::rows::{Progress, next_row, progress_after};
+use strip_steps::stop::StreamError;
 
 /// Streams a sheet whose plates and files are begun: strip after strip, from the top, its rows are read, it is trapped
 /// by the workers, and the rows of its core are written; plate k is read by tray k and written by rack k. With several

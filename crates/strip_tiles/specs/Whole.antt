@@ -9,10 +9,7 @@ use Rattle.page_model.specs.Tints.{new}
 use Rattle.sheet_windows.specs.declared.spans.Span.{Span}
 use Rattle.sheet_windows.specs.Plans.{tile_of}
 use Rattle.sheet_windows.specs.Tiles.{strip_rows}
-use Rattle.strip_tiles.specs.declared.whole.KeptRoom.{KeptRoom}
-use Rattle.strip_tiles.specs.Rooms.{IsStripRoom, columns_in}
 use Rattle.tile_counts.specs.declared.counts.SheetCounts.{SheetCounts}
-use Rattle.window_pages.specs.Forms.{Form}
 
 -- each plate has its new tints in the first rows
 pub record AreTintsTo (sheet : PageParts) (rows : ℕ) (out : List (List ℕ)) : Type 0 where
@@ -39,8 +36,3 @@ pub record IsCounted (sheet : PageParts) (counts : SheetCounts) : Type 0 where
   pub plate_changed : (c : ℕ) → c < plates sheet
       → slice_index counts.plate_changed.items c ≡ plate_changed sheet c
   pub edges : counts.edges ≡ deciding_edges sheet
-
--- a room that was made for strips of that form, cut into these columns
-pub record IsKept (form : Form) (columns : List Span) (kept : KeptRoom) : Type 0 where
-  pub columns_are : columns_in kept.room ≡ columns
-  pub room : IsStripRoom form kept.tall kept.room

@@ -1,4 +1,4 @@
-//! A sheet of any sides trapped strip by strip, tile by tile: each window as a page of its own, with the counts of its
+//! A strip of a sheet of any sides trapped tile by tile: each window as a page of its own, with the counts of its
 //! core added to the sheet's.
 #![tactic(auto)]
 
@@ -6,4 +6,3 @@ pub mod counting;
 pub mod room;
 pub mod rows;
 pub mod tints;
-pub mod whole;

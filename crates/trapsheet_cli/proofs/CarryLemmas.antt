@@ -37,16 +37,18 @@ use Rattle.sheet_stream.specs.Reading.{HaveHeader}
 use Rattle.strip_tiles.specs.Whole.{IsCounted}
 use Rattle.tile_counts.specs.declared.counts.SheetCounts.{SheetCounts}
 use Rattle.verdicts.specs.Verdicts.{Targets}
-use Rattle.trapsheet_cli.specs.Endings.{Carries, CarriesOut, PutsOut, sheet_report}
+use Rattle.trapsheet_cli.specs.Endings.{Carries, CarriesOut, PutsOut}
+use Rattle.sheet_output.specs.Reporting.{sheet_report}
 use Rattle.trapsheet_cli.specs.Planned.{PutsPlanned, PutsWhole}
 use Rattle.plate_rows.specs.Racks.{rack_at}
-use Rattle.trapsheet_cli.specs.Racks.{HoldParts, KeepsRacks, WritesFirst}
-use Rattle.trapsheet_cli.specs.Streaming.{EndsReport, StreamsOut, error_of}
+use Rattle.sheet_output.specs.Racks.{HoldParts, KeepsRacks, WritesFirst}
+use Rattle.sheet_output.specs.Streaming.{EndsReport, StreamsOut}
+use Rattle.sheet_gather.specs.Stops.{error_of}
 use Rattle.trapsheet_cli.specs.Strips.{HasNoStrips}
 use Rattle.trapsheet_cli.specs.Words.{SheetWords, sources_of, targets_of}
 use Rattle.trapsheet_cli.proofs.AgainLemmas.{fails_again, has_changed, once_or_twice, takes_once, takes_to, takes_twice, twice}
 use Rattle.trapsheet_cli.proofs.PartLemmas.{breaks_keep, hold_parts, parts_keep, plate_breaks, writes_first}
-use Rattle.trapsheet_cli.proofs.RackLemmas.{all_keeps, all_wrote, racks_same, report_broke}
+use Rattle.sheet_output.proofs.RackLemmas.{all_keeps, all_wrote, racks_same, report_broke}
 
 -- The sheet was not judged.
 module _ (order : SheetWords) (budget : Budget) (a b : List TrayState) (r : List RackState) where

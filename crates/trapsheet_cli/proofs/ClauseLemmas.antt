@@ -21,9 +21,10 @@ use Rattle.sheet_gather.specs.Verdicts.SheetVerdict.{Accepted, Refused}
 use Rattle.sheet_gather.specs.declared.stop.TrapsheetError.{TrapsheetError}
 use Rattle.sheet_gather.specs.declared.stop.TrapsheetError.TheVariants.{Changed, Common, OfSheet}
 use Rattle.trapsheet_cli.specs.Clauses.{Changes, Completeness, FailsAtFirst, FailsLater, FailsToWrite, FaultLine, LeavesFiles, Mean, NoRackRose, NoTrayRose, ReadFault, RefusedInput, RefusesInput, StopsInParts, Success, Tell, Usage as UsageClause, WriteFault, Writes}
-use Rattle.trapsheet_cli.specs.Endings.{Carries, Closes, EndsSheet, EndsWords, RefusesFirst, RefusesWords, sheet_files, sheet_report}
+use Rattle.trapsheet_cli.specs.Endings.{Carries, Closes, EndsSheet, EndsWords, RefusesFirst, RefusesWords, sheet_files}
+use Rattle.sheet_output.specs.Reporting.{sheet_report}
 use Rattle.plate_rows.specs.Racks.{rack_at}
-use Rattle.trapsheet_cli.specs.Racks.{BreaksSheet, HoldParts, HoldsPart, KeepsRacks, plate_file, rack_names}
+use Rattle.sheet_output.specs.Racks.{BreaksSheet, HoldParts, HoldsPart, KeepsRacks, plate_file, rack_names}
 use Rattle.trapsheet_cli.specs.Strips.{IsWhole}
 use Rattle.trapsheet_cli.specs.Words.{SheetWords, order_of, sources_of, targets_of}
 

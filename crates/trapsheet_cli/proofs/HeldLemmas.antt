@@ -12,13 +12,13 @@ use Rattle.refusals.specs.declared.refusal.Refusal.TheVariants.{Memory}
 use Rattle.sheet_gather.specs.declared.stop.TrapsheetError.{TrapsheetError}
 use Rattle.sheet_gather.specs.declared.stop.TrapsheetError.TheVariants.{Common}
 use Rattle.sheet_loop.specs.Whole.{IsHeld}
-use Rattle.sheet_loop.proofs.OnSheets.{may_begin}
+use Rattle.strip_steps.proofs.OnSheets.{may_begin}
 use Rattle.sheet_stream.specs.Reading.{tints_for}
 use Rattle.sheet_windows.specs.Sheets.{IsSheet}
 use Rattle.verdicts.specs.Verdicts.{Targets}
-use Rattle.trapsheet_cli.specs.Holding.{HoldsAll}
+use Rattle.sheet_output.specs.Holding.{HoldsAll}
 use Rattle.trapsheet_cli.specs.Planned.{PutsWhole}
-use Rattle.trapsheet_cli.specs.Streaming.{error_of}
+use Rattle.sheet_gather.specs.Stops.{error_of}
 
 pub held_in : (inputs : List (List ℕ)) (bare parts : PageParts) (b c : List TrayState) → HoldsAll inputs bare b c (Ok parts) → IsHeld inputs bare parts b c
 held_in inputs bare parts b c (HoldsAll.held sheet is held) =

@@ -1,13 +1,9 @@
-pub mod OutcomeLemmas
-pub mod RackLemmas
 pub mod NameLemmas
 pub mod EndLemmas
 pub mod LocalityLemmas
 pub mod ClauseLemmas
 pub mod AgainLemmas
-pub mod ReportingLemmas
 pub mod PartLemmas
-pub mod StreamingLemmas
 pub mod PlanLemmas
 pub mod HeldLemmas
 pub mod CarryLemmas

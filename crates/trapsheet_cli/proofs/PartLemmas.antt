@@ -24,10 +24,10 @@ use Rattle.sheet_loop.specs.Courses.{Course}
 use Rattle.sheet_loop.specs.Second.{MayStand, PartsStand, PlateBreaks, course_of, plate_bytes, sheet_header}
 use Rattle.sheet_stream.specs.Writing.{StandsInPart}
 use Rattle.verdicts.specs.Verdicts.{Targets}
-use Rattle.trapsheet_cli.specs.Endings.{sheet_report}
+use Rattle.sheet_output.specs.Reporting.{sheet_report}
 use Rattle.plate_rows.specs.Racks.{rack_at}
-use Rattle.trapsheet_cli.specs.Racks.{BreaksSheet, HoldParts, HoldsPart, KeepsRacks, WritesFirst, plate_file, rack_files, rack_names, targets}
-use Rattle.trapsheet_cli.proofs.RackLemmas.{RackKept, keeps_same, kept_file, kept_is, wrote_one}
+use Rattle.sheet_output.specs.Racks.{BreaksSheet, HoldParts, HoldsPart, KeepsRacks, WritesFirst, plate_file, rack_files, rack_names, targets}
+use Rattle.sheet_output.proofs.RackLemmas.{RackKept, keeps_same, kept_file, kept_is, wrote_one}
 
 header_is : (bare sheet : PageParts) → bare_sheet sheet ≡ bare → sheet_header bare ≡ sheet_header sheet
 header_is bare sheet same =

@@ -15,8 +15,8 @@ use Rattle.page_model.specs.Page.{height, plates, width}
 use Rattle.bare_sheets.specs.declared.budget.Budget.{Budget}
 use Rattle.sheet_windows.specs.Sheets.{IsSheet}
 use Rattle.sheet_windows.proofs.Pages.{sheet_is_page}
-use Rattle.trapsheet_cli.specs.Holding.{CanHold}
-use Rattle.trapsheet_cli.specs.Trapping.{CanCut}
+use Rattle.sheet_output.specs.Holding.{CanHold}
+use Rattle.sheet_output.specs.Trapping.{CanCut}
 use Rattle.trapsheet_cli.specs.Strips.{HasNoStrips}
 
 -- A sheet that is planned otherwise has no strips of one height.

@@ -24,10 +24,11 @@ use Rattle.sheet_gather.specs.Trays.{AllTell}
 use Rattle.sheet_gather.specs.Verdicts.{IsSheetVerdict, Accepted, Refused}
 use Rattle.sheet_gather.specs.declared.stop.TrapsheetError.{TrapsheetError}
 use Rattle.sheet_gather.specs.declared.stop.TrapsheetError.TheVariants.{Changed, Common}
-use Rattle.trapsheet_cli.specs.Endings.{sheet_files, sheet_report}
+use Rattle.trapsheet_cli.specs.Endings.{sheet_files}
+use Rattle.sheet_output.specs.Reporting.{sheet_report}
 use Rattle.verdicts.specs.Locality.{ChangesNearEdges}
 use Rattle.plate_rows.specs.Racks.{rack_at}
-use Rattle.trapsheet_cli.specs.Racks.{BreaksSheet, HoldParts, KeepsRacks, rack_names}
+use Rattle.sheet_output.specs.Racks.{BreaksSheet, HoldParts, KeepsRacks, rack_names}
 use Rattle.trapsheet_cli.specs.Strips.{IsWhole}
 use Rattle.trapsheet_cli.specs.Text.{usage_line}
 use Rattle.trapsheet_cli.specs.Words.{SheetWords, order_of, sources_of, targets_of}

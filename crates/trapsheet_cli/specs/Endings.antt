@@ -4,7 +4,6 @@ use Rattle.std.specs.Prelude.{Ok, Err}
 use Rattle.outside.specs.Tray.{TrayState}
 use Rattle.outside.specs.Rack.{RackState}
 use Rattle.page_gather.specs.Inputs.{Sources}
-use Rattle.page_model.specs.Counts.{page_counts}
 use Rattle.page_model.specs.Tints.{trapped_planes}
 use Rattle.page_model.specs.declared.parts.PageParts.{PageParts}
 use Rattle.page_writing.specs.Files.{Written}
@@ -18,17 +17,13 @@ use Rattle.sheet_gather.specs.Stops.{RefusesSheet}
 use Rattle.plate_rows.specs.Trays.{IsCalm}
 use Rattle.sheet_gather.specs.declared.stop.TrapsheetError.{TrapsheetError}
 use Rattle.sheet_gather.specs.declared.stop.TrapsheetError.TheVariants.{Changed, Common}
-use Rattle.trap_report.specs.Report.{report_of}
 use Rattle.plate_rows.specs.Racks.{rack_at}
-use Rattle.trapsheet_cli.specs.Racks.{BreaksSheet, HoldParts, KeepsRacks, rack_files}
+use Rattle.sheet_output.specs.Reporting.{sheet_report}
+use Rattle.sheet_output.specs.Racks.{BreaksSheet, HoldParts, KeepsRacks, rack_files}
 use Rattle.trapsheet_cli.specs.Strips.{IsWhole}
 use Rattle.trapsheet_cli.specs.Text.{usage_line}
 use Rattle.trapsheet_cli.specs.Words.{SheetWords, order_of, sources_of, targets_of}
 use Rattle.verdicts.specs.Verdicts.{Targets}
-
--- the report of a sheet
-abbrev pub sheet_report : PageParts → List ℕ
-sheet_report sheet = report_of sheet (page_counts sheet)
 
 -- the files that rack k writes of a sheet, in their order: its plate after trapping, and by the
 -- first rack the report

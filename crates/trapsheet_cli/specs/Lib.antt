@@ -1,12 +1,7 @@
 pub mod Words
 pub mod Text
 pub mod Held
-pub mod Racks
-pub mod Trapping
 pub mod Strips
 pub mod Endings
-pub mod Reporting
-pub mod Streaming
-pub mod Holding
 pub mod Planned
 pub mod Clauses

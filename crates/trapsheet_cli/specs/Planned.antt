@@ -12,7 +12,8 @@ use Rattle.sheet_gather.specs.declared.stop.TrapsheetError.TheVariants.{Common}
 use Rattle.sheet_loop.specs.Second.{course_of, sheet_header}
 use Rattle.sheet_loop.specs.Whole.{IsHeld}
 use Rattle.trapsheet_cli.specs.Endings.{PutsOut}
-use Rattle.trapsheet_cli.specs.Streaming.{StreamsOut, error_of}
+use Rattle.sheet_output.specs.Streaming.{StreamsOut}
+use Rattle.sheet_gather.specs.Stops.{error_of}
 use Rattle.trapsheet_cli.specs.Strips.{HasNoStrips}
 use Rattle.verdicts.specs.Verdicts.{Targets}
 

@@ -1,10 +1,9 @@
-ghost use Rattle.std.specs.Prelude.{◌≡◌, ◌≤◌, length, map, string_bytes};
+ghost use Rattle.std.specs.Prelude.{◌≤◌, length, map, string_bytes};
 ghost use Rattle.trapsheet_cli.specs.Clauses.{Completeness, FaultLine, LeavesFiles, Locality, ReadFault, RefusedInput, Success, Usage, WriteFault};
 ghost use Rattle.trapsheet_cli.specs.Endings.{EndsWords, RefusesWords, TellsUsage};
 ghost use Rattle.page_model.specs.Limits.{most_plates};
 
 use crate::run::run_order;
-use crate::windows::WINDOW;
 use crate::words::read_words;
 use bare_sheets::budget::Budget;
 use outside::rack::Rack;
@@ -13,6 +12,7 @@ use refusals::line::Line;
 use refusals::statuses::USAGE;
 use refusals::telling::tell_line;
 use sheet_gather::laws::one_sheet_verdict;
+use sheet_output::windows::WINDOW;
 use std::alloc::Global;
 use std::thread::Threads;
 

@@ -2,10 +2,11 @@
 -- its number.
 use Rattle.std.proofs.Common.{Ok, Err, map, sym, subst, arith}
 use Rattle.page_model.specs.declared.parts.PageParts.{PageParts}
-use Rattle.sheet_loop.specs.Going.{not_begun}
-use Rattle.sheet_loop.specs.Reading.{ReadsRow}
-use Rattle.sheet_loop.specs.Rooms.{CanHoldStrip, IsSomeStrip}
-use Rattle.sheet_loop.proofs.StepLemmas.{new_cuttable, new_some}
+use Rattle.strip_steps.specs.Going.{not_begun}
+use Rattle.strip_steps.specs.Reading.{ReadsRow}
+use Rattle.strip_steps.specs.Strips.{IsSomeStrip}
+use Rattle.sheet_loop.specs.Rooms.{CanHoldStrip}
+use Rattle.strip_steps.proofs.ReadLemmas.{new_cuttable, new_some}
 use Rattle.sheet_loop.proofs.StreamLemmas.{begins_badly, begins_well, holds_none}
 use Rattle.sheet_windows.specs.Spans.{even_wide}
 use Rattle.sheet_loop.proofs.step.read_first.Goals as goal

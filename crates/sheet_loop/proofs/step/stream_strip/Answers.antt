@@ -1,8 +1,9 @@
 -- A strip is trapped while the one before it is written and the next one is read.
 use Rattle.std.proofs.Common.{◌∙◌, map, sym}
-use Rattle.sheet_loop.specs.Going.{gone_on}
+use Rattle.strip_steps.specs.Going.{gone_on}
 use Rattle.sheet_loop.proofs.AwaitLemmas.{awaits, still_room, waits}
-use Rattle.sheet_loop.proofs.StepLemmas.{new_cuttable, stopped_beside, trappable}
+use Rattle.sheet_loop.proofs.StepLemmas.{stopped_beside, trappable}
+use Rattle.strip_steps.proofs.ReadLemmas.{new_cuttable}
 use Rattle.sheet_loop.proofs.step.stream_strip.Goals as goal
 
 pub trap_beside-requires-clause-trap : goal.trap_beside-requires-clause-trap

@@ -1,8 +1,9 @@
 -- The first strip is trapped while the second one is read.
 use Rattle.std.proofs.Common.{◌∙◌, length, map, ap, arith}
-use Rattle.sheet_loop.specs.Going.{core_top, gone_on}
+use Rattle.strip_steps.specs.Going.{core_top, gone_on}
 use Rattle.sheet_loop.proofs.AwaitLemmas.{awaits, still_room, waits}
-use Rattle.sheet_loop.proofs.StepLemmas.{new_cuttable, reading_stops, trappable}
+use Rattle.sheet_loop.proofs.StepLemmas.{trappable}
+use Rattle.strip_steps.proofs.ReadLemmas.{new_cuttable, reading_stops}
 use Rattle.strip_rows.specs.declared.strip.CoreRoom.{CoreRoom}
 use Rattle.sheet_loop.proofs.step.trap_first.Goals as goal
 

@@ -1,9 +1,10 @@
 -- What `go_on` has to show.
 use Rattle.std.proofs.Common.{◌≤◌, map, refl, sym, subst, arith}
 use Rattle.std.proofs.lemmas.Grind.{common_steps}
-use Rattle.sheet_loop.specs.declared.rows.Progress.{Progress}
-use Rattle.sheet_loop.specs.Going.{IsNextRow}
-use Rattle.sheet_loop.specs.Rooms.{CanHoldStrip, IsSomeStrip}
+use Rattle.strip_steps.specs.declared.rows.Progress.{Progress}
+use Rattle.strip_steps.specs.Going.{IsNextRow}
+use Rattle.strip_steps.specs.Strips.{IsSomeStrip}
+use Rattle.sheet_loop.specs.Rooms.{CanHoldStrip}
 use Rattle.sheet_loop.proofs.strips.go_on.Goals as goal
 
 pub loop-progress-init : goal.loop-progress-init

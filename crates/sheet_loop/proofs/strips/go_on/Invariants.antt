@@ -1,9 +1,9 @@
 -- How far the loops of `go_on` have come.
 use Rattle.std.proofs.Common.{◌≡◌, ◌-◌, length, map}
 use Rattle.sheet_loop.specs.Courses.{AwaitsCore, Course}
-use Rattle.sheet_loop.specs.Going.{IsProgress, IsStripRow, gone_on}
+use Rattle.strip_steps.specs.Going.{IsProgress, IsStripRow, gone_on}
 use Rattle.sheet_loop.specs.Rooms.{IsStreamRoom}
-use Rattle.sheet_loop.specs.Waiting.{IsWaiting}
+use Rattle.strip_steps.specs.Waiting.{IsWaiting}
 use Rattle.tile_counts.specs.declared.counts.SheetCounts.{SheetCounts}
 use Rattle.sheet_loop.proofs.strips.go_on.Given as goal
 

@@ -1,8 +1,8 @@
 -- reach_last: puts all strips but the last, which is at hand then.
 use Rattle.std.proofs.Common.{map, subst, arith}
 use Rattle.std.proofs.lemmas.Grind.{common_steps}
-use Rattle.sheet_loop.specs.declared.rows.Progress.{Progress}
-use Rattle.sheet_loop.specs.Going.{IsNextRow}
+use Rattle.strip_steps.specs.declared.rows.Progress.{Progress}
+use Rattle.strip_steps.specs.Going.{IsNextRow}
 use Rattle.sheet_loop.proofs.StreamLemmas.{reached}
 use Rattle.sheet_loop.proofs.strips.reach_last.Goals as goal
 

@@ -2,7 +2,7 @@
 -- strip where it can be cut so.
 use Rattle.std.proofs.Common.{subst, sym}
 use Rattle.bare_sheets.specs.Planned.{IsPlan}
-use Rattle.trapsheet_cli.specs.Holding.{CanHold}
+use Rattle.sheet_output.specs.Holding.{CanHold}
 use Rattle.trapsheet_cli.specs.Planned.{PutsPlanned}
 use Rattle.trapsheet_cli.proofs.PlanLemmas.{hold_page, hold_windows, no_cut, no_strips_by}
 use Rattle.trapsheet_cli.proofs.run.put_planned.Goals as goal

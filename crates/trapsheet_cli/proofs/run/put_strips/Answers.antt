@@ -1,7 +1,7 @@
 -- What `put_strips` has to show.
 use Rattle.std.proofs.Common.{ℕ, List, Bor, map, ap, ◌∙◌, subst}
 use Rattle.sheet_loop.specs.Second.{course_of}
-use Rattle.trapsheet_cli.specs.Streaming.{StreamsOut}
+use Rattle.sheet_output.specs.Streaming.{StreamsOut}
 use Rattle.trapsheet_cli.proofs.run.put_strips.Goals as goal
 
 pub returns : goal.returns

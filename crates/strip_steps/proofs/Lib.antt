@@ -1,0 +1,5 @@
+pub mod GoingLemmas
+pub mod RowReads
+pub mod OnSheets
+pub mod AtHand
+pub mod ReadLemmas

@@ -1,0 +1,4 @@
+pub mod Going
+pub mod Strips
+pub mod Reading
+pub mod Waiting

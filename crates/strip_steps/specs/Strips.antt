@@ -1,0 +1,38 @@
+-- A sheet that can be streamed, and its strips.
+use Rattle.std.specs.Prelude.{◌≡◌, ◌<◌, ◌≤◌, ◌^◌, None}
+use Rattle.bare_sheets.specs.Bare.{IsBareSheet, bare_sheet}
+use Rattle.page_model.specs.declared.parts.PageParts.{PageParts}
+use Rattle.page_model.specs.Page.{height, maxval, width}
+use Rattle.bare_sheets.specs.Refusals.{cut_fault}
+use Rattle.sheet_stream.specs.Strips.{IsStripOf}
+use Rattle.sheet_windows.specs.declared.spans.Span.{Span}
+use Rattle.sheet_windows.specs.Plans.{AreRulers, AreSmall}
+use Rattle.sheet_windows.specs.Spans.{IsEvenRuler, even_wide}
+use Rattle.strip_rows.specs.declared.core_rows.StripCut.{StripCut}
+use Rattle.strip_rows.specs.declared.parts.StripPlan.{StripPlan}
+use Rattle.strip_tiles.specs.Strips.{IsSomeSpan}
+
+-- A sheet that can be cut, and rulers for it that give strips of one height.
+pub record CanStream (bare : PageParts) (plan : StripPlan) : Type 0 where
+  pub valid : IsBareSheet bare
+  pub blank : bare_sheet bare ≡ bare
+  pub cut : cut_fault bare ≡ None
+  pub narrow : width bare < 2 ^ 30
+  pub low : height bare < 2 ^ 30
+  pub rulers : AreRulers bare plan.across plan.down
+  pub small : AreSmall bare plan.across plan.down
+  pub even : IsEvenRuler plan.down
+  pub some_workers : 1 ≤ plan.workers
+  pub deep : plan.header.maxval ≡ maxval bare
+
+-- A strip of the sheet, or room for one, whatever rows it shows.
+pub record IsSomeStrip (bare : PageParts) (plan : StripPlan) (strip : PageParts) : Type 0 where
+  pub last : Span
+  pub tall : last.wide ≡ even_wide plan.down
+  pub is_strip : IsStripOf bare last strip
+
+-- a strip that can be cut so, as a sheet of its own
+pub record CanBeCut (strip : PageParts) (cut : StripCut) : Type 0 where
+  pub rulers : AreRulers strip cut.across cut.down
+  pub small : AreSmall strip cut.across cut.down
+  pub row : IsSomeSpan cut.down cut.row
