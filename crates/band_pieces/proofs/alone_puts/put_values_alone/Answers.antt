@@ -1,4 +1,5 @@
 -- put_values_alone: packs the values of a piece into its cells.
+use Rattle.std.proofs.lemmas.Grind.{common_steps}
 use Rattle.std.proofs.Common.{◌+◌, ◌<◌, sym, ap, ◌∙◌, subst, arith}
 use Rattle.page_model.specs.Bands.{pieces_of}
 use Rattle.row_cells.specs.Layouts.{Layout}
@@ -48,3 +49,6 @@ pub returns : goal.returns
 returns g c =
     let count = c.cell_count-o-end.ensures.value ∙ ap (λ (z : Layout). cell_total z c.args.piece) c.layout.ensures.same in
     filled_all c.args.closed.now c.loop-o.closed c.args.piece c.loop-o.o c.layout.ensures.fits c.requires.piece (omega (arith, count, c.loop-o-test.false)) c.loop-o.invariant
+
+pub word_of_values-word-requires-clause-fit : goal.word_of_values-word-requires-clause-fit
+word_of_values-word-requires-clause-fit g c = grind (arith, common_steps)

@@ -1,6 +1,6 @@
 -- fill_answers: the column answers of a band, from the marks of its rows and of those that the
 -- reach touches.
-use Rattle.std.proofs.Common.{◌≡◌, ℕ, ◌+◌, ◌<◌, ◌≤◌, sym, ap, ◌∙◌, subst, arith}
+use Rattle.std.proofs.Common.{rules, ◌≡◌, ℕ, ◌+◌, ◌<◌, ◌≤◌, sym, ap, ◌∙◌, subst, arith}
 use Rattle.page_model.specs.declared.bands.Bands.{Bands}
 use Rattle.page_model.specs.declared.parts.PageParts.{PageParts}
 use Rattle.row_values.specs.declared.rows.Rows.{Rows}
@@ -83,3 +83,12 @@ slice_bounds-answers-end-2 g c = grind (arith, common_steps)
 
 pub make_answers-requires-clause-out : goal.make_answers-requires-clause-out
 make_answers-requires-clause-out g c = grind (arith, common_steps)
+
+pub make_answers-requires-clause-inside : goal.make_answers-requires-clause-inside
+make_answers-requires-clause-inside g c = grind (arith, common_steps)
+
+pub make_answers-requires-clause-held : goal.make_answers-requires-clause-held
+make_answers-requires-clause-held g c = grind (arith, common_steps)
+
+pub read_rows-requires-clause-inside : goal.read_rows-requires-clause-inside
+read_rows-requires-clause-inside g c = search rules

@@ -1,5 +1,5 @@
 -- fill_marks: the marks of a band, from the zones of its rows and of the row below it.
-use Rattle.std.proofs.Common.{◌≡◌, ℕ, ◌<◌, sym, ap, ◌∙◌, subst, arith}
+use Rattle.std.proofs.Common.{rules, ◌≡◌, ℕ, ◌<◌, sym, ap, ◌∙◌, subst, arith}
 use Rattle.page_model.specs.declared.bands.Bands.{Bands}
 use Rattle.page_model.specs.declared.parts.PageParts.{PageParts}
 use Rattle.row_values.specs.declared.rows.Rows.{Rows}
@@ -69,3 +69,15 @@ slice_bounds-marks-end-2 g c = grind (arith, common_steps)
 
 pub make_marks-requires-clause-out : goal.make_marks-requires-clause-out
 make_marks-requires-clause-out g c = grind (arith, common_steps)
+
+pub make_marks-requires-clause-inside : goal.make_marks-requires-clause-inside
+make_marks-requires-clause-inside g c = grind (arith, common_steps)
+
+pub make_marks-requires-clause-below : goal.make_marks-requires-clause-below
+make_marks-requires-clause-below g c = grind (arith, common_steps)
+
+pub make_marks-requires-clause-held : goal.make_marks-requires-clause-held
+make_marks-requires-clause-held g c = grind (arith, common_steps)
+
+pub read_rows-requires-clause-inside : goal.read_rows-requires-clause-inside
+read_rows-requires-clause-inside g c = search rules

@@ -1,5 +1,5 @@
 -- fill_tints: the new tints of a band, from its zones and its column answers.
-use Rattle.std.proofs.Common.{◌≡◌, ℕ, ◌<◌, sym, ap, ◌∙◌, subst, arith}
+use Rattle.std.proofs.Common.{rules, ◌≡◌, ℕ, ◌<◌, sym, ap, ◌∙◌, subst, arith}
 use Rattle.page_model.specs.declared.bands.Bands.{Bands}
 use Rattle.page_model.specs.declared.parts.PageParts.{PageParts}
 use Rattle.row_values.specs.declared.rows.Rows.{Rows}
@@ -100,3 +100,12 @@ slice_bounds-tints-end-2 g c = grind (arith, common_steps)
 
 pub make_tints-requires-clause-out : goal.make_tints-requires-clause-out
 make_tints-requires-clause-out g c = grind (arith, common_steps)
+
+pub make_tints-requires-clause-inside : goal.make_tints-requires-clause-inside
+make_tints-requires-clause-inside g c = grind (arith, common_steps)
+
+pub read_rows-requires-2-clause-inside : goal.read_rows-requires-2-clause-inside
+read_rows-requires-2-clause-inside g c = grind (arith, common_steps)
+
+pub read_rows-requires-clause-inside : goal.read_rows-requires-clause-inside
+read_rows-requires-clause-inside g c = search rules

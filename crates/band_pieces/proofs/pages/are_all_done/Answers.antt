@@ -1,4 +1,6 @@
 -- are_all_done: whether all pieces are done.
+use Rattle.std.proofs.Common.{arith}
+use Rattle.std.proofs.lemmas.Grind.{common_steps}
 use Rattle.band_claims.proofs.Looking.{looks_more}
 use Rattle.band_pieces.proofs.Looked.{known_before}
 use Rattle.band_pieces.proofs.pages.are_all_done.Goals as goal
@@ -12,3 +14,6 @@ loop-piece-preserved c =
       looks = rw d.1 (looks_more c.args.reader.now.view c.loop-piece.reader.view c.loop-piece.piece d.0 v.looks);
       known = rw d.1 (known_before c.loop-piece.reader.view c.loop-piece.piece d.0 v.known (d.2.0 c.if-not-sees_done.false));
     }
+
+pub returns-then-not-sees_done-clause-looks : goal.returns-then-not-sees_done-clause-looks
+returns-then-not-sees_done-clause-looks c = grind (arith, common_steps)

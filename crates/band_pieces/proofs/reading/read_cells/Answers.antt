@@ -1,4 +1,5 @@
 -- read_cells: unpacks all values of whole cells.
+use Rattle.std.proofs.lemmas.Grind.{common_steps}
 use Rattle.std.proofs.Common.{◌≡◌, ℕ, ◌+◌, ◌*◌, ◌≤◌, sym, ap, ◌∙◌, subst, arith}
 use Rattle.band_core.specs.Values.{value}
 use Rattle.band_claims.specs.declared.table_key.TableKey.{TableKey}
@@ -52,3 +53,6 @@ loop-o-preserved g c =
       here = λ j l. more j (omega (arith, l, next));
       kept = λ k l. c.read_part.ensures.kept k (omega (arith, l)) ∙ v.kept k l;
     }
+
+pub returns-clause-here : goal.returns-clause-here
+returns-clause-here g c = grind (arith, common_steps)

@@ -1,5 +1,5 @@
 -- read_part: unpacks values from one cell.
-use Rattle.std.proofs.Common.{ℕ, ◌+◌, ◌-◌, sym, ap, ◌∙◌, subst, arith}
+use Rattle.std.proofs.Common.{rules, ℕ, ◌+◌, ◌-◌, sym, ap, ◌∙◌, subst, arith}
 use Rattle.row_cells.specs.Packing.{lane}
 use Rattle.row_cells.specs.Places.{first_cell_of}
 use Rattle.band_board.specs.Shapes.{Has}
@@ -34,3 +34,6 @@ returns-clause-here g c j l =
     let r : Reads key c.args.layout.now part.piece part.cell part.lane part.count = record { same = c.requires.layout; fit = c.requires.fit; piece = c.requires.piece; some = c.requires.some; few = c.requires.few; inside = c.requires.inside } in
     let e = c.word-word.ensures.word ∙ ap (λ (z : ℕ). cell key (z + part.cell)) c.requires.first in
     c.unpack_at.ensures.here j l ∙ (c.without_lanes-rest.ensures.rest j ∙ ((λ i. lane (c.requires.bits i) (e i - 1) (part.lane + j)) ∙ reads_value _ _ _ _ _ _ j r l))
+
+pub unpack_at-requires-clause-some : goal.unpack_at-requires-clause-some
+unpack_at-requires-clause-some g c = search rules

@@ -1,4 +1,5 @@
 -- read_plate_row: the new tints of one plate in row y, where the piece of its band is known.
+use Rattle.std.proofs.lemmas.Grind.{common_steps}
 use Rattle.std.proofs.Common.{◌≡◌, ℕ, ◌+◌, ◌*◌, ◌/◌, ◌%◌, sym, ap, ◌∙◌, arith}
 use Rattle.std.specs.Prelude.{slice_index}
 use Rattle.page_model.specs.Bands.{band_of_row, piece_of}
@@ -51,3 +52,6 @@ returns-clause-here g c x l =
 
       plate_place : (a b x : ℕ) → a + b + x ≡ a + (b + x)
       plate_place a b x = omega arith
+
+pub overflow_mul-run : goal.overflow_mul-run
+overflow_mul-run g c = grind (arith, common_steps)

@@ -1,5 +1,6 @@
 -- read_rows: the values of a phase of these rows, row by row, where the pieces of their bands are
 -- known.
+use Rattle.std.proofs.lemmas.Grind.{common_steps}
 use Rattle.std.proofs.Common.{ℕ, ◌+◌, ◌∙◌, arith}
 use Rattle.row_cells.specs.Places.{per_row}
 use Rattle.band_core.specs.Values.{row_value}
@@ -24,3 +25,6 @@ loop-k-preserved g c =
       done = rows_more (per_row c.args.layout.now c.args.phase) c.loop-k.k (λ (j : ℕ). row_value (g.C.CellSource.table_key c.args.source.now c.args.seat.now).page.value c.args.phase (c.args.rows.first + j)) (g.V.CellValue.numbers c.loop-k.out) (g.V.CellValue.numbers c.read_row.new.out) c.read_row.ensures.kept
           (λ o l. c.read_row.ensures.here o l ∙ (λ i. row_value (g.C.CellSource.table_key c.args.source.now (s i)).page.value c.args.phase (c.args.rows.first + c.loop-k.k) o)) v.done;
     }
+
+pub returns-clause-rows : goal.returns-clause-rows
+returns-clause-rows g c = grind (arith, common_steps)

@@ -1,9 +1,10 @@
 -- work_many: runs `work` once for each maker, on threads of their own, and joins their passes.
+use Rattle.std.proofs.lemmas.Grind.{common_steps}
 use denote.Param.Send.{sendable}
 use Rattle.band_claims.proofs.Crosses.{shared_sync, pass_send}
 use Rattle.page_model.proofs.page.Page.TheSendSync as page
 use Rattle.band_workers.proofs.Accounting.{accounted_joined, publishes_joined}
-use Rattle.std.proofs.Common.{subst, List, ℕ}
+use Rattle.std.proofs.Common.{arith, subst, List, ℕ}
 use Rattle.band_claims.specs.Shares.{SameShare, halved}
 use Rattle.band_claims.proofs.ShareLemmas.{halves_joined, same_share}
 use Rattle.band_claims.specs.declared.view.View.{View}
@@ -34,3 +35,9 @@ returns-clause-share g t c =
 
 pub returns-then-count-eq1-clause-share : goal.returns-then-count-eq1-clause-share
 returns-then-count-eq1-clause-share g t c = same_share c.args.pass.view.share c.work.result.view.share c.work.ensures.share
+
+pub fn::work_many::join+arg3+FnOnce::call_once-join+arg3-requires : goal.fn::work_many::join+arg3+FnOnce::call_once-join+arg3-requires
+fn::work_many::join+arg3+FnOnce::call_once-join+arg3-requires c = grind (arith, common_steps)
+
+pub fn::work_many::join+arg2+FnOnce::call_once-join+arg2-requires : goal.fn::work_many::join+arg2+FnOnce::call_once-join+arg2-requires
+fn::work_many::join+arg2+FnOnce::call_once-join+arg2-requires c = grind (arith, common_steps)

@@ -1,4 +1,5 @@
 -- walk: one walk over the pieces in order.
+use Rattle.std.proofs.lemmas.Grind.{common_steps}
 use Rattle.std.proofs.Common.{ℕ, sym, ◌∙◌, arith, inl, inr, subst}
 use Rattle.std.proofs.lemmas.Bool.{cases_eq, false≢true}
 use Rattle.page_model.specs.Bands.{pieces_of}
@@ -42,3 +43,6 @@ loop-piece-preserved g c =
         ];
       })
     ]
+
+pub returns-clause-accounted : goal.returns-clause-accounted
+returns-clause-accounted g c = grind (arith, common_steps)

@@ -1,4 +1,5 @@
 -- What `plan_by` has to show.
+use Rattle.std.proofs.lemmas.Grind.{common_steps}
 use Rattle.std.proofs.Common.{arith}
 use Rattle.page_model.specs.Page.{plates}
 use Rattle.bare_sheets.proofs.SizeLemmas.{least_few}
@@ -11,3 +12,9 @@ rulers_of-requires-else-samples-le-MOST_SAMPLES-clause-few_samples c =
     let near = least.near in
     let short = least.short in
     least_few c.args.least.columns (plates c.args.sheet.now) (omega (arith, columns, near, short)) c.requires.sheet.parts.few_plates
+
+pub returns-else-samples-le-MOST_SAMPLES : goal.returns-else-samples-le-MOST_SAMPLES
+returns-else-samples-le-MOST_SAMPLES c = grind (arith, common_steps)
+
+pub returns-then-samples-le-MOST_SAMPLES : goal.returns-then-samples-le-MOST_SAMPLES
+returns-then-samples-le-MOST_SAMPLES c = grind (arith, common_steps)

@@ -1,4 +1,5 @@
 -- read_list: the jobs of a list.
+use Rattle.std.proofs.lemmas.Grind.{common_steps}
 use Rattle.std.proofs.Common.{◌≡◌, ◌∙◌, ◌-◌, List, length, Some, [], ◌∷◌, ◌++◌, ◌+◌, ap, sym, subst, arith, length-append}
 use Rattle.job_list.specs.Apart.{NextLine, Stands, next_in}
 use Rattle.job_list.specs.Lines.{LineParts}
@@ -29,3 +30,6 @@ unreachable-requires c =
     let most = at_most c.args.bytes.now c.loop-number.lines c.loop-number.rest.now c.loop-number.invariant.stands in
     let count = c.loop-number.invariant.count in
     omega arith
+
+pub next_line-requires : goal.next_line-requires
+next_line-requires c = grind (arith, common_steps)

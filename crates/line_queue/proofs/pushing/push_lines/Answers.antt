@@ -1,6 +1,7 @@
 -- push_lines: pushes lines in order, up to the first that finds the queue full, and says how many
 -- it pushed.
-use Rattle.std.proofs.Common.{slice_index_or, rules, sym, ap, subst}
+use Rattle.std.proofs.lemmas.Grind.{common_steps}
+use Rattle.std.proofs.Common.{arith, slice_index_or, rules, sym, ap, subst}
 use Rattle.line_queue.specs.declared.rule.PassView.{PassView}
 use Rattle.line_queue.specs.Rule.{IsAbove}
 use Rattle.line_queue.proofs.Pushes.{above_next}
@@ -9,3 +10,9 @@ use Rattle.line_queue.proofs.pushing.push_lines.Goals as goal
 pub push_line-requires-clause-above : goal.push_line-requires-clause-above
 push_line-requires-clause-above g c = subst (IsAbove (slice_index_or c.args.lines.now c.loop.next 0)) (sym (ap (λ (v : PassView). v.pushed) c.loop.invariant.1))
     (above_next c.args.lines.now c.loop.next 0 c.requires.ascends (search rules))
+
+pub returns-in-Err-clause-full : goal.returns-in-Err-clause-full
+returns-in-Err-clause-full g c = grind (arith, common_steps)
+
+pub loop-preserved : goal.loop-preserved
+loop-preserved g c = grind (arith, common_steps)

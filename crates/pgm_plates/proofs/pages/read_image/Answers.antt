@@ -1,5 +1,6 @@
 -- read_image: reads one image from what is left of the file, and says how many bytes it has.
-use Rattle.std.proofs.Common.{◌*◌, ◌+◌, ap, ℕ}
+use Rattle.std.proofs.lemmas.Grind.{common_steps}
+use Rattle.std.proofs.Common.{arith, ◌*◌, ◌+◌, ap, ℕ}
 use Rattle.pgm_plates.specs.declared.bounds.Bounds.TheVariants.{Page}
 use Rattle.pgm_plates.specs.Readers.{samples_from}
 use Rattle.pgm_plates.proofs.Sequences.{image_read}
@@ -17,3 +18,9 @@ pub returns-in-Err-read_raster-clause-answer : goal.returns-in-Err-read_raster-c
 returns-in-Err-read_raster-clause-answer g c =
     raster_refused Page (g.T.Tray.state c.args.tray.now) (g.T.Tray.state c.read_header.new.tray) (g.T.Tray.state c.read_raster.new.tray)
     c.in-Ok.read.0 c.in-Ok.read.1 c.in-Err-read_raster.refusal c.in-Ok.ensures.answer c.in-Err-read_raster.ensures.answer
+
+pub overflow_add-size : goal.overflow_add-size
+overflow_add-size g c = grind (arith, common_steps)
+
+pub overflow_mul-size : goal.overflow_mul-size
+overflow_mul-size g c = grind (arith, common_steps)

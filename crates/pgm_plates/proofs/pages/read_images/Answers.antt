@@ -1,4 +1,5 @@
 -- read_images: reads on to the image of that number.
+use Rattle.std.proofs.lemmas.Grind.{common_steps}
 use Rattle.std.proofs.Common.{ℕ, Option, Ok, Err, IfSome, sym, subst, ◌∙◌, rules, arith}
 use Rattle.pgm_plates.specs.declared.plate.Plate.{Plate}
 use Rattle.pgm_plates.specs.declared.plate.PlateRefusal.{PlateRefusal}
@@ -65,3 +66,9 @@ returns-in-Err-read_image-clause-answer g c =
     subst (λ (r : PlateRefusal). PageAnswers c.args.page (g.T.Tray.state c.args.tray.now) (g.T.Tray.state c.read_image-2.new.tray) (Err r)) (sym c.further_refusal-in-Err-read_image.ensures)
     (page_refused (g.T.Tray.state c.args.tray.now) (g.T.Tray.state c.loop.tray) (g.T.Tray.state c.read_image-2.new.tray) c.args.page c.loop.counter c.loop.start c.in-Err-read_image.refusal
     (omega arith) c.loop.invariant c.in-Err-read_image.ensures.answer c.in-Err-read_image.ensures.near c.in-Err-read_image.ensures.some)
+
+pub returns-in-Ok-None-read_image-clause-answer : goal.returns-in-Ok-None-read_image-clause-answer
+returns-in-Ok-None-read_image-clause-answer g c = grind (arith, common_steps)
+
+pub returns-in-Ok-None-clause-answer : goal.returns-in-Ok-None-clause-answer
+returns-in-Ok-None-clause-answer g c = grind (arith, common_steps)

@@ -1,6 +1,7 @@
 -- fill: reads until the buffer is full, the file ends or a read fails, and says how many bytes are
 -- there.
-use Rattle.std.proofs.Common.{◌∙◌, ◌+◌, ◌-◌, ◌++◌, take, length, rules}
+use Rattle.std.proofs.lemmas.Grind.{common_steps}
+use Rattle.std.proofs.Common.{arith, ◌∙◌, ◌+◌, ◌-◌, ◌++◌, take, length, rules}
 use borrow.Rule.Slice.PartMut.{put_mid}
 use Rattle.outside.proofs.Steps.{takes_then, takes_as, takes_read, filled_more}
 use Rattle.pgm_plates.proofs.raster.fill.Goals as goal
@@ -20,3 +21,6 @@ loop-done-preserved g c =
       count = c.in-Ok.ensures.well ∙ c.loop-done.invariant.count;
       within = search rules;
     }
+
+pub returns-in-Ok-eq0-clause-takes : goal.returns-in-Ok-eq0-clause-takes
+returns-in-Ok-eq0-clause-takes g c = grind (arith, common_steps)

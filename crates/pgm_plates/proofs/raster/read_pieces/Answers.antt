@@ -45,3 +45,9 @@ returns-clause-answer g c =
     let xs = c.loop-form.values.items in
     let all : length xs ≡ c.args.count = grind (arith, common_steps) in
     values_all c.args.form c.args.maxval c.args.count (g.T.Tray.state c.args.tray.now) (g.T.Tray.state c.loop-form.tray) xs c.loop-form.invariant.takes c.loop-form.invariant.fit all
+
+pub slice_bounds-extend_from_slice-end-in-Ok : goal.slice_bounds-extend_from_slice-end-in-Ok
+slice_bounds-extend_from_slice-end-in-Ok g c = grind (arith, common_steps)
+
+pub loop-form-smaller : goal.loop-form-smaller
+loop-form-smaller g c = grind (arith, common_steps)

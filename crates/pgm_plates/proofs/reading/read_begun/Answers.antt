@@ -1,5 +1,6 @@
 -- read_begun: reads a plate from the file that is begun.
-use Rattle.std.proofs.Common.{◌*◌, ◌+◌, ◌∙◌, List, ap, ℕ}
+use Rattle.std.proofs.lemmas.Grind.{common_steps}
+use Rattle.std.proofs.Common.{arith, ◌*◌, ◌+◌, ◌∙◌, List, ap, ℕ}
 use Rattle.pgm_plates.specs.declared.plate.Plate.{Plate}
 use Rattle.pgm_plates.specs.Readers.{samples_from}
 use Rattle.pgm_plates.proofs.Counts.{refused_count}
@@ -36,3 +37,9 @@ returns-in-Err-end_of_file-clause-answer g c =
     end_refused c.args.bounds (g.T.Tray.state c.args.tray.now) (g.T.Tray.state c.read_header.new.tray) (g.T.Tray.state c.read_raster.new.tray) (g.T.Tray.state c.end_of_file.new.tray)
     header c.in-Ok.read.1 (c.in-Ok.read.1 + header.width * header.height * c.sample_size.result) samples c.in-Err-end_of_file.refusal c.in-Ok.ensures.answer c.in-Ok-read_raster.ensures.answer
     (ap (λ (n : ℕ). c.in-Ok.read.1 + header.width * header.height * n) c.sample_size.ensures) c.in-Err-end_of_file.ensures.answer
+
+pub overflow_add-start : goal.overflow_add-start
+overflow_add-start g c = grind (arith, common_steps)
+
+pub overflow_mul-count-2 : goal.overflow_mul-count-2
+overflow_mul-count-2 g c = grind (arith, common_steps)

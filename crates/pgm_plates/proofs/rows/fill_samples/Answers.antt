@@ -41,3 +41,6 @@ returns-in-Err-clause-answer g c =
 pub returns-in-Err-clause-count : goal.returns-in-Err-clause-count
 returns-in-Err-clause-count g c =
     refused_count (Unit {0}) (Unit {0}) (g.T.Tray.state c.args.tray.now) (g.T.Tray.state c.loop-done.tray) (g.T.Tray.state c.read_piece.new.tray) c.in-Err.refusal c.loop-done.invariant.count c.in-Err.ensures.count
+
+pub overflow_mul-want : goal.overflow_mul-want
+overflow_mul-want g c = grind (arith, common_steps)

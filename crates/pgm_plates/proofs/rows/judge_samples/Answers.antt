@@ -1,4 +1,5 @@
 -- judge_samples: judges so many samples.
+use Rattle.std.proofs.lemmas.Grind.{common_steps}
 use Rattle.std.proofs.Common.{rules, arith, ◌≡◌, ◌*◌, ◌+◌, [], length, refl, ap, ℕ, ◌∙◌}
 use Rattle.pgm_plates.specs.Plates.{sample_size}
 use Rattle.pgm_plates.specs.Readers.{samples_spelled}
@@ -36,3 +37,6 @@ returns-in-Err-clause-answer g c =
 pub returns-in-Err-clause-count : goal.returns-in-Err-clause-count
 returns-in-Err-clause-count g c =
     refused_count (Unit {0}) (Unit {0}) (g.T.Tray.state c.args.tray.now) (g.T.Tray.state c.loop-done.tray) (g.T.Tray.state c.judge_piece.new.tray) c.in-Err.refusal c.loop-done.invariant.count c.in-Err.ensures.count
+
+pub loop-done-smaller : goal.loop-done-smaller
+loop-done-smaller g c = grind (arith, common_steps)

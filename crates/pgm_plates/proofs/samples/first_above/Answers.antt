@@ -1,5 +1,6 @@
 -- first_above: the place of the first sample above the maxval among the whole samples that these
 -- bytes spell.
+use Rattle.std.proofs.lemmas.Grind.{common_steps}
 use Rattle.std.proofs.Common.{◌≡◌, ◌<◌, ◌≤◌, ◌/◌, length, get_or, ℕ, sym, ap, ◌∙◌, arith}
 use Rattle.pgm_plates.specs.Readers.{samples_spelled}
 use Rattle.pgm_plates.proofs.Pieces.{fit_more, fit_end}
@@ -31,3 +32,6 @@ returns-then-sample_at-maxval-clause-decoded c = all_spelled c.args.maxval c.arg
 
 pub returns-clause-decoded : goal.returns-clause-decoded
 returns-clause-decoded c = all_spelled c.args.maxval c.args.bytes.now c.are_bytes.ensures
+
+pub returns-then-sample_at-maxval-clause-above : goal.returns-then-sample_at-maxval-clause-above
+returns-then-sample_at-maxval-clause-above c = grind (arith, common_steps)

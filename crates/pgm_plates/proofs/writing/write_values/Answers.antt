@@ -1,4 +1,5 @@
 -- write_values: writes the samples of an image by pieces of as many bytes as there is room for.
+use Rattle.std.proofs.lemmas.Grind.{common_steps}
 use Rattle.std.proofs.Common.{◌+◌, ◌-◌, ◌++◌, ◌∙◌, arith, take, drop, ap, Ok, Err, ◌≤◌}
 use Rattle.std.proofs.lemmas.List.{take_all, length-map}
 use Rattle.outside.proofs.Steps.{writes_then, writes_stopped, writes_as}
@@ -43,3 +44,6 @@ returns g c =
     let vs = c.args.image.now.values.now in
     let xs = samples_in c.args.image.now vs in
     writes_as (raster m (take c.loop-done.done xs)) (raster m xs) (ap (raster m) (take_all c.loop-done.done xs (omega (arith, length-map vs (sample_in c.args.image.now))))) (g.R.Rack.state c.args.rack.now) (g.R.Rack.state c.loop-done.rack) _ c.loop-done.invariant.wrote
+
+pub encode-count-requires-clause-fits : goal.encode-count-requires-clause-fits
+encode-count-requires-clause-fits g c = grind (arith, common_steps)

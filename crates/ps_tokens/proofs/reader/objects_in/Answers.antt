@@ -19,3 +19,6 @@ loop-left-preserved c = record {
   so_far = grind (arith, common_steps);
   ends_so_far = grind (arith, common_steps);
 }
+
+pub returns : goal.returns
+returns c = grind (arith, common_steps)

@@ -1,4 +1,5 @@
 -- cut_whole: cuts the values of a whole cell out of their number.
+use Rattle.std.proofs.lemmas.Grind.{common_steps}
 use Rattle.std.proofs.Common.{ℕ, ◌/◌, ◌%◌, List, slice_index, ap, ◌∙◌, arith}
 use Rattle.row_cells.proofs.Lanes.{lane_fits, lane_next, one_written}
 use Rattle.row_cells.proofs.Numbers.{as_many, one_set}
@@ -15,3 +16,6 @@ loop-j-preserved g c =
       written = λ h l. ap (λ (ns : List ℕ). slice_index ns h) (one_set met c.loop-j.out c.loop-j.j c.from_u64.result)
           ∙ one_written (g.V.CellValue.numbers c.loop-j.out) g.row.BITS c.args.packed c.loop-j.j _ (omega (arith, c.loop-j-test.true, c.loop-j.auto.out, as_many met c.loop-j.out, c.requires.whole)) (c.from_u64.ensures ∙ (λ i. v.left i % v.base i)) v.written h l;
     }
+
+pub returns-then-packed-eq0 : goal.returns-then-packed-eq0
+returns-then-packed-eq0 g c = grind (arith, common_steps)

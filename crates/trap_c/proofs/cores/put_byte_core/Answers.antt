@@ -1,4 +1,5 @@
 -- Goals of put_byte_core that want a lemma by name.
+use Rattle.std.proofs.lemmas.Grind.{common_steps}
 use Rattle.std.proofs.Common.{◌≡◌, ℕ, ◌+◌, ◌*◌, length, subst, arith}
 use Rattle.trap_c.specs.Cores.{core_run, tint_run}
 use Rattle.trap_c.proofs.Runs.{low_run, none_put, put, row_put, run_fits}
@@ -20,3 +21,6 @@ put_bytes_row-requires-clause-inside c = run_fits c.args.layout c.args.core.now 
 
 pub put_bytes_row-requires-clause-narrow : goal.put_bytes_row-requires-clause-narrow
 put_bytes_row-requires-clause-narrow c = low_run 255 c.args.tints.now c.core_row-row.result.now (tint_run c.args.layout c.args.core.now c.loop-y.y) c.args.core.now.width c.core_row-row.ensures c.requires.narrow
+
+pub overflow_add-first-in-loop-y-2 : goal.overflow_add-first-in-loop-y-2
+overflow_add-first-in-loop-y-2 c = grind (arith, common_steps)

@@ -1,4 +1,5 @@
 -- Goals of put_word_core that want a lemma by name.
+use Rattle.std.proofs.lemmas.Grind.{common_steps}
 use Rattle.std.proofs.Common.{◌≡◌, ℕ, ◌+◌, ◌*◌, length, subst, arith}
 use Rattle.trap_c.specs.Cores.{core_run}
 use Rattle.trap_c.proofs.Runs.{none_put, put, row_put, run_fits}
@@ -17,3 +18,6 @@ loop-y-preserved c =
 
 pub put_words_row-requires : goal.put_words_row-requires
 put_words_row-requires c = run_fits c.args.layout c.args.core.now c.args.c c.loop-y.y (length c.loop-y.samples) (length c.core_row-row.result.now) c.requires.layout c.requires.core (omega arith) (omega (arith, c.requires.inside)) c.core_row-row.ensures.long
+
+pub overflow_add-first-in-loop-y-2 : goal.overflow_add-first-in-loop-y-2
+overflow_add-first-in-loop-y-2 c = grind (arith, common_steps)

@@ -1,4 +1,5 @@
 -- Goals of put_plane_bytes that want a lemma by name.
+use Rattle.std.proofs.lemmas.Grind.{common_steps}
 use Rattle.std.proofs.Common.{◌+◌, ◌*◌, refl, arith}
 use Rattle.std.specs.Prelude.{slice_range}
 use Rattle.trap_c.proofs.Rows.{put_more, tint_row}
@@ -8,3 +9,9 @@ pub loop-y-preserved : goal.loop-y-preserved
 loop-y-preserved c =
     let from = c.loop-y.y * c.args.layout.width in
     put_more c.args.layout c.args.tints.now c.args.samples.now c.loop-y.samples c.put_bytes_row.new.samples (slice_range c.args.tints.now from (from + c.args.layout.width)) c.args.c c.loop-y.y c.requires.layout (omega arith) (omega (arith, c.requires.inside)) (tint_row c.args.layout c.args.tints.now c.loop-y.y (omega arith) c.requires.full) refl c.put_bytes_row.ensures c.loop-y.invariant
+
+pub put_bytes_row-requires-clause-narrow : goal.put_bytes_row-requires-clause-narrow
+put_bytes_row-requires-clause-narrow c = grind (arith, common_steps)
+
+pub overflow_mul-first-in-loop-y : goal.overflow_mul-first-in-loop-y
+overflow_mul-first-in-loop-y c = grind (arith, common_steps)

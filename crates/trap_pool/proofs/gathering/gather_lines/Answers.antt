@@ -1,4 +1,5 @@
 -- One line more is gathered.
+use Rattle.std.proofs.lemmas.Grind.{common_steps}
 use Rattle.std.proofs.Common.{◌≡◌, ◌∙◌, ◌+◌, ℕ, List, [], ◌∷◌, ◌++◌, get_or, length, take, sym, ap, subst, arith, length-append}
 use Rattle.job_list.specs.Lines.{LineParts}
 use Rattle.trap_pool.specs.Pools.{InTurn}
@@ -29,3 +30,9 @@ loop-number-preserved g c =
       pages = c.in-Ok-push.ensures.items ∙ (λ i. before.pages i ++ c.gather_line-line.ensures.waits i ∷ []) ∙ sym (ap pages_of pushed ∙ map-append waiting_of c.loop-number.gathered.items (reply ∷ []));
       page_room = let kept = c.in-Ok-push.ensures.capacity in let room = before.page_room in omega arith;
     }
+
+pub returns-clause-turn : goal.returns-clause-turn
+returns-clause-turn g c = grind (arith, common_steps)
+
+pub unreachable-requires-in_default-push : goal.unreachable-requires-in_default-push
+unreachable-requires-in_default-push g c = grind (arith, common_steps)

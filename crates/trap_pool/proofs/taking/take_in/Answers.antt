@@ -1,4 +1,5 @@
 -- What is made of one line more is put in.
+use Rattle.std.proofs.Common.{rules}
 use Rattle.trap_pool.proofs.Settling.{all_then}
 use Rattle.trap_pool.proofs.taking.take_in.Goals as goal
 
@@ -6,3 +7,6 @@ pub loop-slot-preserved-in_default-Some : goal.loop-slot-preserved-in_default-So
 loop-slot-preserved-in_default-Some g c =
     all_then c.args.gathered.now.items c.loop-slot.gathered.items c.settle_at.new.gathered.items
     c.loop-slot.invariant c.settle_at.ensures
+
+pub returns : goal.returns
+returns g c = search rules

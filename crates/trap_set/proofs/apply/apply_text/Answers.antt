@@ -1,5 +1,6 @@
 -- apply_text: applies the set of the file that is begun.
-use Rattle.std.proofs.Common.{◌≡◌, ℕ, List, [], ◌∷◌, refl}
+use Rattle.std.proofs.lemmas.Grind.{common_steps}
+use Rattle.std.proofs.Common.{arith, ◌≡◌, ℕ, List, [], ◌∷◌, refl}
 use Rattle.std.proofs.lemmas.Bool.{both_ways}
 use Rattle.trap_set.specs.Bytes.{held_in}
 use Rattle.trap_set.specs.Reading.{head_in}
@@ -49,3 +50,9 @@ returns g c =
     let one = reached_line (λ (l : List ℕ). l ≡ title_line) [] title_line start start mid [] held (reached_none start) (rw c.in-Ok-true.field-0-test at c.in-Ok-true.ensures.line) in
     let two = reached_line IsPageLine (title_line ∷ []) (page_line head) start mid last held (held_in c.read_page.new.buf c.read_page.new.unread) one (rw c.in-Ok-Some.field-0-is at c.in-Ok-Some.ensures.line) in
     c.apply_runs.ensures start two
+
+pub apply_runs-requires-clause-full : goal.apply_runs-requires-clause-full
+apply_runs-requires-clause-full g c = grind (arith, common_steps)
+
+pub apply_runs-requires-clause-many : goal.apply_runs-requires-clause-many
+apply_runs-requires-clause-many g c = grind (arith, common_steps)

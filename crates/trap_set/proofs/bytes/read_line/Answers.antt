@@ -24,3 +24,6 @@ pub returns-clause-line : goal.returns-clause-line
 returns-clause-line g c =
     line_long (g.T.Tray.state c.args.tray.now) (g.T.Tray.state c.loop-tray.tray) (held_in c.args.buf.now c.args.unread.now) (held_in c.loop-tray.buf c.loop-tray.unread) c.loop-tray.line.items c.loop-tray.invariant.so
     (let long : most_line ≤ length c.loop-tray.line.items = grind (arith, common_steps) in long)
+
+pub loop-tray-preserved : goal.loop-tray-preserved
+loop-tray-preserved g c = grind (arith, common_steps)

@@ -1,5 +1,6 @@
 -- take_digits: the number that the text begins with, and what stands after it.
-use Rattle.std.proofs.Common.{◌-◌, sym, subst, take, drop, length}
+use Rattle.std.proofs.lemmas.Grind.{common_steps}
+use Rattle.std.proofs.Common.{arith, ◌-◌, sym, subst, take, drop, length}
 use Rattle.std.specs.Str.Parse.{digits_value}
 use Rattle.std.proofs.lemmas.Bool.{both_ways}
 use Rattle.std.proofs.lemmas.List.{take_rest}
@@ -25,3 +26,6 @@ returns-clause-some c =
     let plain = c.is_plain.ensures.0 c.if-not-is_plain.false in
     let begins = begins_digits text count c.count_digits-count.ensures plain in
     subst (λ n. BeginsDigits text n (take (length text - count) (drop count text))) (sym c.value_of.ensures) (subst (BeginsDigits text (digits_value 10 (take count text))) (sym (take_rest text count)) begins)
+
+pub value_of-requires-clause-few : goal.value_of-requires-clause-few
+value_of-requires-clause-few c = grind (arith, common_steps)

@@ -1,4 +1,6 @@
 -- read_next: reads a later line, and puts the numbers of a run into the list.
+use Rattle.std.proofs.Common.{arith}
+use Rattle.std.proofs.lemmas.Grind.{common_steps}
 use Rattle.trap_set.specs.Reading.{head_in}
 use Rattle.trap_set.specs.Standing.{MayCome}
 use Rattle.trap_set.proofs.NextLemmas.{next_none, run_found, short_next}
@@ -10,3 +12,9 @@ returns-in-Ok-true-clause-line g c = run_found (g.T.Tray.state c.args.tray.now) 
 
 pub returns-in-Ok-false-clause-line : goal.returns-in-Ok-false-clause-line
 returns-in-Ok-false-clause-line g c = next_none (MayCome (head_in c.args.head) c.args.place) (g.T.Tray.state c.args.tray.now) (g.T.Tray.state c.read_line.new.tray) _ _ (short_next (head_in c.args.head) c.args.place c.requires.head) (rw c.in-Ok-false.field-0-test at c.in-Ok-false.ensures.line)
+
+pub returns-in-Ok-true-clause-run : goal.returns-in-Ok-true-clause-run
+returns-in-Ok-true-clause-run g c = grind (arith, common_steps)
+
+pub returns-in-Ok-false-clause-run : goal.returns-in-Ok-false-clause-run
+returns-in-Ok-false-clause-run g c = grind (arith, common_steps)

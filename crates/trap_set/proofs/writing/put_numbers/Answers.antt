@@ -1,5 +1,6 @@
 -- put_numbers: puts a space and a number, for each of some.
-use Rattle.std.proofs.Common.{◌++◌, get_or, take, drop, Err, ◌+◌}
+use Rattle.std.proofs.lemmas.Grind.{common_steps}
+use Rattle.std.proofs.Common.{arith, ◌++◌, get_or, take, drop, Err, ◌+◌}
 use Rattle.std.specs.List.{flat_map}
 use Rattle.trap_set.specs.SetText.{number}
 use Rattle.trap_set.proofs.HoldingLemmas.{puts_prefix, puts_then}
@@ -14,3 +15,6 @@ returns-in-Err g c =
     puts_prefix c.in-Err.field-0 _ (prefix ++ number (get_or xs i 0)) (flat_map number (drop (i + 1) xs)) (flat_map number xs) c.args.held.now.items c.put_number.new.held.items c.put_number.new.held.items
     (g.R.Rack.state c.args.rack.now) (g.R.Rack.state c.put_number.new.rack) (numbers_rest xs i c.loop-n-test.true)
     (puts_then tt (Err c.in-Err.field-0) prefix (number (get_or xs i 0)) c.args.held.now.items c.loop-n.held.items c.put_number.new.held.items (g.R.Rack.state c.args.rack.now) (g.R.Rack.state c.loop-n.rack) (g.R.Rack.state c.put_number.new.rack) c.loop-n.invariant c.in-Err.ensures)
+
+pub loop-n-preserved : goal.loop-n-preserved
+loop-n-preserved g c = grind (arith, common_steps)

@@ -1,4 +1,5 @@
 -- answer_all: line by line writes the files of what is done, and tells what became of it.
+use Rattle.std.proofs.lemmas.Grind.{common_steps}
 use Rattle.std.proofs.Common.{◌≡◌, ◌∙◌, ◌+◌, ◌<◌, List, [], ◌∷◌, drop, get_or, length, rules, refl, sym, ap, subst, arith}
 use Rattle.std.proofs.lemmas.List.{nil_from_length}
 use Rattle.std.specs.Vec.Iter.{into_iter_items}
@@ -30,3 +31,27 @@ returns g c =
     let none : into_iter_items left ≡ [] = nil_from_length (into_iter_items left) (omega (arith, left.rest.ok, c.in-None.ensures.steps)) in
     c.loop-reply.invariant.goes_on rack c.loop-reply.status (subst (λ (r : List ReplyParts). AnswersAll n c.loop-reply.status (drop n lines) r rack rack c.loop-reply.status) (sym none)
     (all_answered n c.loop-reply.status (drop n lines) rack (subst (AllHaveOuts (drop n lines)) none c.loop-reply.invariant.outs)))
+
+pub overflow_add-number : goal.overflow_add-number
+overflow_add-number g c = grind (arith, common_steps)
+
+pub offset_bounds-as_slice-number : goal.offset_bounds-as_slice-number
+offset_bounds-as_slice-number g c = grind (arith, common_steps)
+
+pub loop-reply-preserved : goal.loop-reply-preserved
+loop-reply-preserved g c = grind (arith, common_steps)
+
+pub loop-reply-preserved-in-Some-Done : goal.loop-reply-preserved-in-Some-Done
+loop-reply-preserved-in-Some-Done g c = grind (arith, common_steps)
+
+pub overflow_cast-number : goal.overflow_cast-number
+overflow_cast-number g c = grind (arith, common_steps)
+
+pub answer_line-requires : goal.answer_line-requires
+answer_line-requires g c = grind (arith, common_steps)
+
+pub bounds-as_slice-number : goal.bounds-as_slice-number
+bounds-as_slice-number g c = grind (arith, common_steps)
+
+pub overflow_add-number-in-Some-answer_line : goal.overflow_add-number-in-Some-answer_line
+overflow_add-number-in-Some-answer_line g c = grind (arith, common_steps)

@@ -1,4 +1,5 @@
 -- Shared::claim: claims a piece.
+use Rattle.std.proofs.lemmas.Grind.{common_steps}
 use Rattle.std.proofs.Common.{ap, ◌∙◌, sym, arith, ◌≡◌, ◌≢◌, ℕ, subst, Bool, true, false}
 use Rattle.std.proofs.lemmas.Bool.{false≢true}
 use Rattle.std.specs.Prelude.{IsTrue}
@@ -56,3 +57,6 @@ returns-clause-won c win =
     let all = same_count c.bands-bands.result.now bands c.args.piece c.need_count-count.result same c.need_count-count.ensures.value in
     let d = c.take.ensures.answer in
     rw d.1 (won_by bands c.args.piece c.args.pass.now.view c.loop-k.pass.view d.0 c.loop-k.invariant.looks (all_known bands c.args.piece c.loop-k.k c.loop-k.pass.view is c.requires.piece (omega (arith, all, c.loop-k-test.false)) c.loop-k.invariant.known) (d.2.0 win))
+
+pub returns-then-not-is_done-clause-lost : goal.returns-then-not-is_done-clause-lost
+returns-then-not-is_done-clause-lost c = grind (arith, common_steps)

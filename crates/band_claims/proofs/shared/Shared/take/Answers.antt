@@ -1,4 +1,5 @@
 -- Shared::take: the exchange of a claim.
+use Rattle.std.proofs.lemmas.Grind.{common_steps}
 use Rattle.std.proofs.Common.{ap, ◌∙◌, sym, arith, ◌<◌, ◌≡◌, ℕ, None, true}
 use Rattle.page_model.specs.Bands.{pieces_of}
 use Rattle.band_graph.specs.Needs.{is_need}
@@ -17,3 +18,6 @@ compare_exchange-found-requires c =
       omega (arith, within, c.self.invariant.wide),
       claims key c.self.invariant.fit _ _ _ _ within idle c.pass.invariant.2 known,
     )
+
+pub returns-clause-answer : goal.returns-clause-answer
+returns-clause-answer c = grind (arith, common_steps)

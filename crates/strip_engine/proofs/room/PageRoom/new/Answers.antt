@@ -1,5 +1,5 @@
 -- PageRoom::new: the room for pages of this page's shape.
-use Rattle.std.proofs.Common.{arith}
+use Rattle.std.proofs.Common.{rules, arith}
 use Rattle.strip_engine.proofs.RoomLemmas.{outcome_shape}
 use Rattle.strip_engine.proofs.room.PageRoom.new.Goals as goal
 
@@ -11,3 +11,6 @@ returns-clause-room c = record {
   buffers = c.in_ok-new_buffers.ensures;
   outcome = outcome_shape c.args.page.now 0 c.in_ok-new-2.field-0 c.in_ok-new-2.ensures;
 }
+
+pub returns-clause-rows : goal.returns-clause-rows
+returns-clause-rows c = search rules

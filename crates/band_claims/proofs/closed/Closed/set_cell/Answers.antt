@@ -1,0 +1,7 @@
+-- set_cell: goals that the search finds slowly.
+use Rattle.std.proofs.Common.{arith}
+use Rattle.std.proofs.lemmas.Grind.{common_steps}
+use Rattle.band_claims.proofs.closed.Closed.set_cell.Goals as goal
+
+pub invariant_of-self : goal.invariant_of-self
+invariant_of-self c = grind (arith, common_steps)

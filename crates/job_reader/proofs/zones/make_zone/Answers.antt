@@ -1,0 +1,7 @@
+-- make_zone: goals that the search finds slowly.
+use Rattle.std.proofs.Common.{arith}
+use Rattle.std.proofs.lemmas.Grind.{common_steps}
+use Rattle.job_reader.proofs.zones.make_zone.Goals as goal
+
+pub returns-then-vertices-gt-MOST_VERTICES_IN_ALL : goal.returns-then-vertices-gt-MOST_VERTICES_IN_ALL
+returns-then-vertices-gt-MOST_VERTICES_IN_ALL c = grind (arith, common_steps)

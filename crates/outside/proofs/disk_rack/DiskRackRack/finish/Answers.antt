@@ -1,0 +1,13 @@
+-- finish: goals that the search finds slowly.
+use Rattle.std.proofs.Common.{rules, arith}
+use Rattle.std.proofs.lemmas.Grind.{common_steps}
+use Rattle.outside.proofs.disk_rack.DiskRackRack.finish.Goals as goal
+
+pub returns-in-None : goal.returns-in-None
+returns-in-None c = grind (arith, common_steps)
+
+pub returns-in-Err : goal.returns-in-Err
+returns-in-Err c = grind (arith, common_steps)
+
+pub returns-in-Ok : goal.returns-in-Ok
+returns-in-Ok c = search rules

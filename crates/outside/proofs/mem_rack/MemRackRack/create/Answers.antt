@@ -1,0 +1,13 @@
+-- create: goals that the search finds slowly.
+use Rattle.std.proofs.Common.{arith}
+use Rattle.std.proofs.lemmas.Grind.{common_steps}
+use Rattle.outside.proofs.mem_rack.MemRackRack.create.Goals as goal
+
+pub returns-then-is_failing-clause-rack : goal.returns-then-is_failing-clause-rack
+returns-then-is_failing-clause-rack c = grind (arith, common_steps)
+
+pub returns-then-not-begin_file-clause-rack : goal.returns-then-not-begin_file-clause-rack
+returns-then-not-begin_file-clause-rack c = grind (arith, common_steps)
+
+pub returns-clause-rack : goal.returns-clause-rack
+returns-clause-rack c = grind (arith, common_steps)

@@ -1,0 +1,7 @@
+-- finish: goals that the search finds slowly.
+use Rattle.std.proofs.Common.{arith}
+use Rattle.std.proofs.lemmas.Grind.{common_steps}
+use Rattle.outside.proofs.mem_rack.MemRackRack.finish.Goals as goal
+
+pub returns-then-is_failing-clause-rack : goal.returns-then-is_failing-clause-rack
+returns-then-is_failing-clause-rack c = grind (arith, common_steps)

@@ -1,0 +1,10 @@
+-- tell: goals that the search finds slowly.
+use Rattle.std.proofs.Common.{arith}
+use Rattle.std.proofs.lemmas.Grind.{common_steps}
+use Rattle.outside.proofs.mem_rack.MemRackRack.tell.Goals as goal
+
+pub returns-then-is_failing-clause-rack : goal.returns-then-is_failing-clause-rack
+returns-then-is_failing-clause-rack c = grind (arith, common_steps)
+
+pub returns-then-not-append-clause-rack : goal.returns-then-not-append-clause-rack
+returns-then-not-append-clause-rack c = grind (arith, common_steps)

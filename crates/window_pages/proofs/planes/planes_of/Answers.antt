@@ -1,0 +1,7 @@
+-- planes_of: goals that the search finds slowly.
+use Rattle.std.proofs.Common.{arith}
+use Rattle.std.proofs.lemmas.Grind.{common_steps}
+use Rattle.window_pages.proofs.planes.planes_of.Goals as goal
+
+pub loop-plane-preserved : goal.loop-plane-preserved
+loop-plane-preserved c = grind (arith, common_steps)
