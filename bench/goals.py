@@ -61,4 +61,5 @@ def main():
     print(f"{sum(steps for _, steps in found) / 1e6:6.1f}  in all, {len(found)} goals")
 
 
-main()
+if __name__ == "__main__":
+    main()
