@@ -8,12 +8,13 @@ fn append_two(list: &mut List<u16>) -> bool {
     list.push(3).is_ok() && list.push(5).is_ok()
 }
 
-// What stands at the places 1 and 2, what the last item was, and how many are left without it.
-fn take_last(list: &mut List<u16>) -> (Option<u16>, Option<u16>, Option<u16>, usize) {
+// What stands at the first three places, what the last item was, and how many are left without it.
+fn take_last(list: &mut List<u16>) -> ([Option<u16>; 3], Option<u16>, usize) {
+    let first = list.get(0).copied();
     let second = list.get(1).copied();
     let third = list.get(2).copied();
     let last = list.pop();
-    (second, third, last, list.len())
+    ([first, second, third], last, list.len())
 }
 
 // Whether the list has one item, which is that once it is put there.
@@ -31,7 +32,7 @@ fn lists_are_appended_to_and_taken_from(rt: HostRuntime) -> Result<(), Fail> {
     let appended = append_two(&mut list);
     let taken = take_last(&mut list);
     let changed = is_changed_to(&mut list, 7);
-    assert!(rt; appended && taken == (Some(5), None, Some(5), 1) && changed);
+    assert!(rt; appended && taken == ([Some(3), Some(5), None], Some(5), 1) && changed);
     Ok(())
 }
 
