@@ -7,6 +7,7 @@ answers.py CRATE [LEAST]     (LEAST is 0.9)
 It goes by what `rt check` kept of the crate (goals.py), so run that first, with the crate's out/incremental removed where the
 crate has changed since. It runs `rt check` three or four times, and writes files proofs/../Answers.antt.
 """
+import contextlib
 import os
 import re
 import subprocess
@@ -73,7 +74,9 @@ class Answers:
                 file.write(self.old)
         elif os.path.isfile(self.path):
             os.remove(self.path)
-            os.removedirs(os.path.dirname(self.path))
+            # a folder that has other files stays
+            with contextlib.suppress(OSError):
+                os.removedirs(os.path.dirname(self.path))
 
     def refuse(self, line, why, turned):
         """Takes an answer away; or, once, gives it the other arguments, where it was given too few or too many."""
