@@ -12,7 +12,7 @@ ghost use Rattle.sheet_windows.specs.Windows.{points_of};
 use crate::refusal::SheetRefusal;
 use page_model::bounds::MOST_COORDINATE;
 use page_model::parts::{PageParts, Vertex};
-use window_pages::sheet::points;
+use sheet_windows::corners::points;
 
 /// Returns `found`, or `later` where that is `None`.
 pub fn earlier(found: Option<SheetRefusal>, later: Option<SheetRefusal>) -> Option<SheetRefusal>

@@ -4,4 +4,3 @@ pub mod ReadLemmas
 pub mod StopLemmas
 pub mod WriteLemmas
 pub mod JudgedLemmas
-pub mod ShareLemmas

@@ -15,7 +15,7 @@ use page_model::bounds::MOST_PLATES;
 use pgm_plates::bounds::Bounds;
 use pgm_plates::laws::file_fault_within;
 use pgm_plates::rows::Header;
-use plate_rows::judging::judge_plates;
+use plate_judging::sharing::judge_plates;
 use plate_rows::laws::plates_judged;
 use std::alloc::Global;
 use std::convert::AsStr;

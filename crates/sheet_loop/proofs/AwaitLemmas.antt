@@ -18,10 +18,10 @@ use Rattle.strip_steps.proofs.ReadLemmas.{new_some, now}
 use Rattle.sheet_loop.proofs.StepLemmas.{unwritten, written_on, written_then}
 use Rattle.sheet_stream.specs.Reading.{HaveHeader}
 use Rattle.sheet_windows.specs.declared.spans.Span.{Span}
-use Rattle.strip_rows.specs.declared.parts.StripPlan.{StripPlan}
-use Rattle.strip_rows.specs.Cores.{IsCutStrip}
-use Rattle.strip_rows.specs.OnSheet.{strip_cut}
-use Rattle.strip_rows.specs.Ready.{TrapsRow}
+use Rattle.strip_steps.specs.declared.parts.StripPlan.{StripPlan}
+use Rattle.strip_steps.specs.Cores.{IsCutStrip}
+use Rattle.strip_steps.specs.OnSheet.{strip_cut}
+use Rattle.strip_steps.specs.Ready.{TrapsRow}
 use Rattle.tile_counts.specs.declared.counts.SheetCounts.{SheetCounts}
 
 -- The strip at hand is trapped, the next one is read, and they change places.

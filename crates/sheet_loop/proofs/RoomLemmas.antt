@@ -19,8 +19,8 @@ use Rattle.sheet_stream.specs.Strips.{blank_plane}
 use Rattle.sheet_stream.proofs.TurnLemmas.{have_form}
 use Rattle.sheet_windows.specs.declared.spans.Span.{Span}
 use Rattle.sheet_windows.specs.Spans.{AreSpans}
-use Rattle.strip_rows.specs.declared.parts.StripPlan.{StripPlan}
-use Rattle.strip_rows.specs.OnSheet.{strip_cut}
+use Rattle.strip_steps.specs.declared.parts.StripPlan.{StripPlan}
+use Rattle.strip_steps.specs.OnSheet.{strip_cut}
 use Rattle.strip_tiles.specs.declared.room.StripRoom.{StripRoom}
 use Rattle.strip_tiles.specs.Rooms.{IsStripRoom, columns_in}
 use Rattle.strip_tiles.specs.Works.{AreNone}

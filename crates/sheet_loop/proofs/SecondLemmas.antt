@@ -44,7 +44,7 @@ use Rattle.sheet_stream.specs.Reading.{HaveHeader, tints_for}
 use Rattle.sheet_stream.specs.Writing.{StandsInPart}
 use Rattle.sheet_stream.proofs.GrowLemmas.{all_new}
 use Rattle.sheet_stream.proofs.WriteLemmas.{part_stands}
-use Rattle.strip_rows.specs.declared.parts.StripPlan.{StripPlan}
+use Rattle.strip_steps.specs.declared.parts.StripPlan.{StripPlan}
 use Rattle.strip_tiles.specs.Works.{AreNone}
 use Rattle.strip_tiles.proofs.Wholes.{all_counted}
 use Rattle.tile_counts.specs.Growth.{AddsArea}

@@ -32,11 +32,11 @@ use Rattle.sheet_stream.specs.Strips.{IsStripOf}
 use Rattle.sheet_windows.specs.declared.spans.Span.{Span}
 use Rattle.sheet_windows.specs.Spans.{AreSpans, even_wide}
 use Rattle.sheet_windows.specs.Strips.{strip_parts, strip_tile}
-use Rattle.strip_rows.specs.declared.parts.StripPlan.{StripPlan}
-use Rattle.strip_rows.specs.Cores.{AreOpen, WritesCore}
-use Rattle.strip_rows.specs.OnSheet.{strip_cut}
-use Rattle.strip_rows.specs.Ready.{IsTrappable, TrapsRow}
-use Rattle.strip_rows.proofs.OnSheetLemmas.{strip_broken, strip_counted, strip_written}
+use Rattle.strip_steps.specs.declared.parts.StripPlan.{StripPlan}
+use Rattle.strip_steps.specs.Cores.{AreOpen, WritesCore}
+use Rattle.strip_steps.specs.OnSheet.{strip_cut}
+use Rattle.strip_steps.specs.Ready.{IsTrappable, TrapsRow}
+use Rattle.strip_steps.proofs.OnSheetLemmas.{strip_broken, strip_counted, strip_written}
 use Rattle.strip_tiles.specs.declared.room.StripRoom.{StripRoom}
 use Rattle.strip_tiles.specs.Rooms.{IsStripRoom, columns_in}
 use Rattle.strip_tiles.specs.Works.{AreNone}

@@ -24,7 +24,7 @@ use Rattle.sheet_stream.specs.Growing.{new_rows}
 use Rattle.sheet_windows.specs.declared.spans.Span.{Span}
 use Rattle.sheet_windows.specs.Spans.{even_wide}
 use Rattle.sheet_stream.specs.Reading.{HaveHeader}
-use Rattle.strip_rows.specs.declared.parts.StripPlan.{StripPlan}
+use Rattle.strip_steps.specs.declared.parts.StripPlan.{StripPlan}
 use Rattle.tile_counts.specs.declared.counts.SheetCounts.{SheetCounts}
 use Rattle.tile_counts.proofs.Growing.{area_none}
 

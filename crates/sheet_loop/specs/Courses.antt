@@ -27,7 +27,7 @@ use Rattle.sheet_stream.specs.Strips.{IsStripOf}
 use Rattle.sheet_stream.specs.Writing.{RowsAreWritten}
 use Rattle.sheet_windows.specs.declared.spans.Span.{Span}
 use Rattle.sheet_windows.specs.Spans.{even_wide}
-use Rattle.strip_rows.specs.declared.parts.StripPlan.{StripPlan}
+use Rattle.strip_steps.specs.declared.parts.StripPlan.{StripPlan}
 use Rattle.strip_tiles.specs.Works.{AreNone}
 use Rattle.tile_counts.specs.Growth.{AddsArea}
 use Rattle.tile_counts.specs.declared.counts.SheetCounts.{SheetCounts}

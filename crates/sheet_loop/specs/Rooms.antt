@@ -6,7 +6,7 @@ use Rattle.sheet_loop.specs.declared.room.StreamRoom.{StreamRoom}
 use Rattle.sheet_stream.specs.Strips.{IsStripOf, blank_plane}
 use Rattle.sheet_windows.specs.declared.spans.Span.{Span}
 use Rattle.sheet_windows.specs.Spans.{AreSpans, even_wide}
-use Rattle.strip_rows.specs.declared.parts.StripPlan.{StripPlan}
+use Rattle.strip_steps.specs.declared.parts.StripPlan.{StripPlan}
 use Rattle.strip_tiles.specs.declared.room.StripRoom.{StripRoom}
 use Rattle.strip_tiles.specs.Rooms.{IsStripRoom, columns_in}
 use Rattle.window_pages.specs.Forms.{form_of}

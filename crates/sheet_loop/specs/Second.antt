@@ -25,7 +25,7 @@ use Rattle.strip_steps.specs.declared.stop.StreamError.TheVariants.{Unread, Unwr
 use Rattle.sheet_loop.specs.Courses.{Course, OfEach, Starts}
 use Rattle.sheet_stream.specs.Reading.{HaveHeader}
 use Rattle.sheet_stream.specs.Writing.{StandsInPart}
-use Rattle.strip_rows.specs.declared.parts.StripPlan.{StripPlan}
+use Rattle.strip_steps.specs.declared.parts.StripPlan.{StripPlan}
 use Rattle.strip_tiles.specs.Whole.{IsCounted}
 use Rattle.tile_counts.specs.declared.counts.SheetCounts.{SheetCounts}
 

@@ -1,7 +1,7 @@
 // A strip is trapped while the next one is read and, but for the first, the one before it is written.
 
 ghost use Rattle.std.specs.Prelude.{◌≡◌, ◌≤◌, length, map};
-ghost use Rattle.strip_rows.specs.Ready.{IsTrappable, TrapsRow};
+ghost use Rattle.strip_steps.specs.Ready.{IsTrappable, TrapsRow};
 ghost use Rattle.strip_steps.specs.Going.{IsStripRow, gone_on};
 ghost use Rattle.strip_steps.specs.Reading.{CanReadRow, ReadsRow};
 ghost use Rattle.strip_steps.specs.Waiting.{IsWaiting, PlatesOpen, WritesAndReads};
@@ -15,9 +15,9 @@ use plate_rows::stop::RereadError;
 use sheet_windows::spans::Span;
 use std::alloc::Global;
 use std::thread::Threads;
-use strip_rows::parts::StripPlan;
 use strip_steps::ahead::{read_row, trap_while};
 use strip_steps::beside::write_and_read;
+use strip_steps::parts::StripPlan;
 use strip_steps::rows::progress_after;
 use strip_steps::stop::StreamError;
 

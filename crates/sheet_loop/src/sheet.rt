@@ -24,7 +24,7 @@ use plate_rows::rereading::{begin_plates, end_plates};
 use std::alloc::Global;
 use std::convert::AsStr;
 use std::thread::Threads;
-use strip_rows::parts::StripPlan;
+use strip_steps::parts::StripPlan;
 use strip_steps::stop::StreamError;
 
 /// Reads the plates of a sheet that was checked once more, plate k by tray k, and traps it strip by strip; the new

@@ -10,9 +10,9 @@ ghost use Rattle.sheet_loop.specs.Rooms.{IsStreamRoom};
 ghost use Rattle.sheet_loop.specs.Second.{IsBegun};
 ghost use Rattle.strip_steps.specs.Waiting.{IsWaiting};
 ghost use Rattle.sheet_stream.specs.Reading.{HaveHeader};
-ghost use Rattle.strip_rows.specs.Cores.{AreOpen, WritesCore};
-ghost use Rattle.strip_rows.specs.OnSheet.{strip_cut};
-ghost use Rattle.strip_rows.specs.Ready.{IsTrappable, TrapsRow};
+ghost use Rattle.strip_steps.specs.Cores.{AreOpen, WritesCore};
+ghost use Rattle.strip_steps.specs.OnSheet.{strip_cut};
+ghost use Rattle.strip_steps.specs.Ready.{IsTrappable, TrapsRow};
 
 use crate::pipeline::{trap_and_read, trap_beside};
 use crate::room::{StreamRoom, change_places};
@@ -25,11 +25,11 @@ use refusals::refusal::Refusal;
 use sheet_windows::spans::Span;
 use std::alloc::Global;
 use std::thread::Threads;
-use strip_rows::parts::StripPlan;
-use strip_rows::strip::{trap_row, write_row};
 use strip_steps::ahead::read_row;
+use strip_steps::parts::StripPlan;
 use strip_steps::rows::Progress;
 use strip_steps::stop::StreamError;
+use strip_steps::strip::{trap_row, write_row};
 
 /// Reads the rows of the first strip, which becomes the current one, plate k by tray k. It allocates nothing.
 ///

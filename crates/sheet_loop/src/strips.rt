@@ -19,8 +19,8 @@ use pgm_plates::rows::OpenPlate;
 use sheet_windows::spans::Span;
 use std::alloc::Global;
 use std::thread::Threads;
-use strip_rows::parts::StripPlan;
 use strip_steps::beside::write_waiting;
+use strip_steps::parts::StripPlan;
 use strip_steps::rows::{Progress, next_row, progress_after};
 use strip_steps::stop::StreamError;
 

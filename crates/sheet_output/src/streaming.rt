@@ -23,7 +23,7 @@ use sheet_loop::sheet::stream_sheet;
 use std::alloc::Global;
 use std::convert::AsStr;
 use std::thread::Threads;
-use strip_rows::parts::StripPlan;
+use strip_steps::parts::StripPlan;
 use strip_steps::stop::StreamError;
 use tile_counts::counts::SheetCounts;
 

@@ -9,10 +9,10 @@ ghost use Rattle.sheet_stream.specs.Strips.{IsStripOf, blank_plane};
 use lists::list::List;
 use lists::memory::push;
 use page_model::parts::{OutOfMemory, PageParts, Plane, PlaneList, Tints};
+use sheet_windows::corners::points;
 use sheet_windows::spans::Span;
 use std::alloc::Global;
 use window_pages::copies::{inks_of, zones_of};
-use window_pages::sheet::points;
 
 /// Allocates a strip of these rows of a sheet, given without its tints. The memory does for all strips of the sheet
 /// with as many rows. Until rows are read all tints are 0. It fails only where memory runs out.

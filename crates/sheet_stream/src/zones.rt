@@ -7,9 +7,9 @@ ghost use Rattle.sheet_stream.specs.Strips.{TurnsTo};
 ghost use Rattle.window_pages.specs.Forms.{zone_form};
 
 use page_model::parts::PageParts;
+use sheet_windows::corners::points;
 use sheet_windows::spans::Span;
 use window_pages::refill::move_zones;
-use window_pages::sheet::points;
 
 /// Moves a strip of a sheet to other rows: its zones become those of the sheet as seen from the new corner. Nothing
 /// else of it is read or changed, and nothing is allocated.

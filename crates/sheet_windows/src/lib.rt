@@ -2,6 +2,7 @@
 //! undivided sheet gives, wherever it is cut.
 #![tactic(auto)]
 
+pub mod corners;
 pub mod cuts;
 pub mod laws;
 pub mod spans;

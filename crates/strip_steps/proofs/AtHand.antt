@@ -20,8 +20,8 @@ use Rattle.sheet_windows.specs.Spans.{IsSpan}
 use Rattle.sheet_windows.specs.Strips.{StripLaw, strip_parts, strip_tile}
 use Rattle.sheet_windows.proofs.Parts.{height-is, width-is}
 use Rattle.sheet_windows.proofs.StripLemmas.{strip_law}
-use Rattle.strip_rows.specs.declared.parts.StripPlan.{StripPlan}
-use Rattle.strip_rows.specs.OnSheet.{strip_cut}
+use Rattle.strip_steps.specs.declared.parts.StripPlan.{StripPlan}
+use Rattle.strip_steps.specs.OnSheet.{strip_cut}
 use Rattle.window_pages.specs.Forms.{form_of, zone_form}
 use Rattle.window_pages.specs.Sheets.{IsCuttable}
 

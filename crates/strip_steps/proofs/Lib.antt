@@ -1,3 +1,7 @@
+pub mod RowLemmas
+pub mod SheetTints
+pub mod OnSheetLemmas
+pub mod ReadyLemmas
 pub mod GoingLemmas
 pub mod RowReads
 pub mod OnSheets

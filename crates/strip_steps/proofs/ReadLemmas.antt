@@ -27,7 +27,7 @@ use Rattle.sheet_stream.specs.Strips.{IsStripOf}
 use Rattle.sheet_stream.proofs.TurnLemmas.{turned_is}
 use Rattle.sheet_windows.specs.declared.spans.Span.{Span}
 use Rattle.sheet_windows.specs.Spans.{even_wide}
-use Rattle.strip_rows.specs.declared.parts.StripPlan.{StripPlan}
+use Rattle.strip_steps.specs.declared.parts.StripPlan.{StripPlan}
 use Rattle.window_pages.specs.Sheets.{IsCuttable}
 
 -- the room of a strip, whatever rows it shows

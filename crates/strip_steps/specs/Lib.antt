@@ -1,3 +1,6 @@
+pub mod Cores
+pub mod OnSheet
+pub mod Ready
 pub mod Going
 pub mod Strips
 pub mod Reading

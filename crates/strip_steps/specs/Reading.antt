@@ -15,7 +15,7 @@ use Rattle.sheet_stream.specs.Reading.{HaveHeader, ReadsStrip, tints_for}
 use Rattle.sheet_stream.specs.Strips.{TurnsTo}
 use Rattle.sheet_windows.specs.declared.spans.Span.{Span}
 use Rattle.sheet_windows.specs.Spans.{even_wide}
-use Rattle.strip_rows.specs.declared.parts.StripPlan.{StripPlan}
+use Rattle.strip_steps.specs.declared.parts.StripPlan.{StripPlan}
 
 -- Of what was read of the plates since a second reading began, the last rows are held: as many as a
 -- strip has, unless none was read.

@@ -8,8 +8,8 @@ use Rattle.sheet_stream.specs.Strips.{IsStripOf}
 use Rattle.sheet_windows.specs.declared.spans.Span.{Span}
 use Rattle.sheet_windows.specs.Plans.{AreRulers, AreSmall}
 use Rattle.sheet_windows.specs.Spans.{IsEvenRuler, even_wide}
-use Rattle.strip_rows.specs.declared.core_rows.StripCut.{StripCut}
-use Rattle.strip_rows.specs.declared.parts.StripPlan.{StripPlan}
+use Rattle.strip_steps.specs.declared.core_rows.StripCut.{StripCut}
+use Rattle.strip_steps.specs.declared.parts.StripPlan.{StripPlan}
 use Rattle.strip_tiles.specs.Strips.{IsSomeSpan}
 
 -- A sheet that can be cut, and rulers for it that give strips of one height.

@@ -11,10 +11,10 @@ use Rattle.strip_steps.specs.declared.stop.StreamError.{StreamError}
 use Rattle.strip_steps.specs.declared.stop.StreamError.TheVariants.{Unread, Unwritten}
 use Rattle.strip_steps.specs.Reading.{ReadsRow}
 use Rattle.sheet_windows.specs.declared.spans.Span.{Span}
-use Rattle.strip_rows.specs.declared.parts.StripPlan.{StripPlan}
-use Rattle.strip_rows.specs.declared.strip.CoreRoom.{CoreRoom}
-use Rattle.strip_rows.specs.Cores.{AreOpen, IsCutStrip, WritesCore}
-use Rattle.strip_rows.specs.OnSheet.{strip_cut}
+use Rattle.strip_steps.specs.declared.parts.StripPlan.{StripPlan}
+use Rattle.strip_steps.specs.declared.strip.CoreRoom.{CoreRoom}
+use Rattle.strip_steps.specs.Cores.{AreOpen, IsCutStrip, WritesCore}
+use Rattle.strip_steps.specs.OnSheet.{strip_cut}
 use Rattle.window_pages.specs.Sheets.{IsCuttable}
 
 -- The strip of these rows was trapped in the room last, which its core can be written through.

@@ -2,9 +2,11 @@
 
 ghost use Rattle.std.specs.Prelude.{◌≡◌, ◌≤◌, length, map};
 ghost use Rattle.strip_steps.specs.Reading.{CanReadRow, ReadsRow};
-ghost use Rattle.strip_rows.specs.Ready.{IsTrappable, TrapsRow};
+ghost use Rattle.strip_steps.specs.Ready.{IsTrappable, TrapsRow};
 
+use crate::parts::StripPlan;
 use crate::rows::Progress;
+use crate::strip::trap_row;
 use outside::tray::Tray;
 use page_model::parts::PageParts;
 use pgm_plates::rows::OpenPlate;
@@ -16,8 +18,6 @@ use sheet_windows::spans::Span;
 use std::alloc::Global;
 use std::thread;
 use std::thread::Threads;
-use strip_rows::parts::StripPlan;
-use strip_rows::strip::trap_row;
 use strip_tiles::room::StripRoom;
 use tile_counts::counts::SheetCounts;
 use window_pages::sheet::Sheet;

@@ -4,12 +4,14 @@ ghost use Rattle.std.specs.Prelude.{◌≡◌, ◌≤◌, length, map};
 ghost use Rattle.page_model.specs.Page.{plates};
 ghost use Rattle.strip_steps.specs.Reading.{CanReadRow};
 ghost use Rattle.strip_steps.specs.Waiting.{IsWaiting, PlatesOpen, WritesAndReads};
-ghost use Rattle.strip_rows.specs.Cores.{WritesCore};
-ghost use Rattle.strip_rows.specs.OnSheet.{strip_cut};
+ghost use Rattle.strip_steps.specs.Cores.{WritesCore};
+ghost use Rattle.strip_steps.specs.OnSheet.{strip_cut};
 
 use crate::ahead::read_row;
+use crate::parts::StripPlan;
 use crate::rows::Progress;
 use crate::stop::StreamError;
+use crate::strip::{CoreRoom, write_row};
 use lists::list::List;
 use outside::rack::Rack;
 use outside::tray::Tray;
@@ -18,8 +20,6 @@ use pgm_plates::rows::OpenPlate;
 use refusals::refusal::Refusal;
 use sheet_windows::spans::Span;
 use std::alloc::Global;
-use strip_rows::parts::StripPlan;
-use strip_rows::strip::{CoreRoom, write_row};
 use window_pages::sheet::Sheet;
 
 /// Writes the rows of the core of a strip that was trapped and not written yet, plate k by rack k. It allocates

@@ -45,7 +45,8 @@ use Rattle.sheet_output.specs.Racks.{HoldParts, KeepsRacks, WritesFirst}
 use Rattle.sheet_output.specs.Streaming.{EndsReport, StreamsOut}
 use Rattle.sheet_gather.specs.Stops.{error_of}
 use Rattle.trapsheet_cli.specs.Strips.{HasNoStrips}
-use Rattle.trapsheet_cli.specs.Words.{SheetWords, sources_of, targets_of}
+use Rattle.trapsheet_cli.specs.Files.{sources_of, targets_of}
+use Rattle.trapsheet_words.specs.Words.{SheetWords}
 use Rattle.trapsheet_cli.proofs.AgainLemmas.{fails_again, has_changed, once_or_twice, takes_once, takes_to, takes_twice, twice}
 use Rattle.trapsheet_cli.proofs.PartLemmas.{breaks_keep, hold_parts, parts_keep, plate_breaks, writes_first}
 use Rattle.sheet_output.proofs.RackLemmas.{all_keeps, all_wrote, racks_same, report_broke}

@@ -26,7 +26,8 @@ use Rattle.sheet_output.specs.Reporting.{sheet_report}
 use Rattle.plate_rows.specs.Racks.{rack_at}
 use Rattle.sheet_output.specs.Racks.{BreaksSheet, HoldParts, HoldsPart, KeepsRacks, plate_file, rack_names}
 use Rattle.trapsheet_cli.specs.Strips.{IsWhole}
-use Rattle.trapsheet_cli.specs.Words.{SheetWords, order_of, sources_of, targets_of}
+use Rattle.trapsheet_cli.specs.Files.{sources_of, targets_of}
+use Rattle.trapsheet_words.specs.Words.{SheetWords, order_of}
 
 files_same : (a : RackState) → KeepsFiles a a
 files_same a = record { keeps = record { tells = refl; faults = omega arith }; asked = refl; finished = refl; is_open = refl; files = λ tells. refl }

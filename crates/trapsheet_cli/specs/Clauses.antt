@@ -31,7 +31,8 @@ use Rattle.plate_rows.specs.Racks.{rack_at}
 use Rattle.sheet_output.specs.Racks.{BreaksSheet, HoldParts, KeepsRacks, rack_names}
 use Rattle.trapsheet_cli.specs.Strips.{IsWhole}
 use Rattle.trapsheet_cli.specs.Text.{usage_line}
-use Rattle.trapsheet_cli.specs.Words.{SheetWords, order_of, sources_of, targets_of}
+use Rattle.trapsheet_cli.specs.Files.{sources_of, targets_of}
+use Rattle.trapsheet_words.specs.Words.{SheetWords, order_of}
 
 -- The words mean this sheet.
 abbrev pub Mean : List (List ℕ) → SheetWords → Type 0

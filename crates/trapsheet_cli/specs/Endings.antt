@@ -22,7 +22,8 @@ use Rattle.sheet_output.specs.Reporting.{sheet_report}
 use Rattle.sheet_output.specs.Racks.{BreaksSheet, HoldParts, KeepsRacks, rack_files}
 use Rattle.trapsheet_cli.specs.Strips.{IsWhole}
 use Rattle.trapsheet_cli.specs.Text.{usage_line}
-use Rattle.trapsheet_cli.specs.Words.{SheetWords, order_of, sources_of, targets_of}
+use Rattle.trapsheet_cli.specs.Files.{sources_of, targets_of}
+use Rattle.trapsheet_words.specs.Words.{SheetWords, order_of}
 use Rattle.verdicts.specs.Verdicts.{Targets}
 
 -- the files that rack k writes of a sheet, in their order: its plate after trapping, and by the

@@ -1,6 +1,5 @@
-pub mod Words
+pub mod Files
 pub mod Text
-pub mod Held
 pub mod Strips
 pub mod Endings
 pub mod Planned

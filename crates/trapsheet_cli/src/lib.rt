@@ -3,4 +3,3 @@
 
 mod run;
 pub mod top;
-mod words;

@@ -8,17 +8,16 @@ ghost use Rattle.sheet_gather.specs.Judging.{JudgesSheet};
 ghost use Rattle.sheet_loop.specs.Second.{course_of};
 ghost use Rattle.trapsheet_cli.specs.Endings.{CarriesOut, EndsSheet, PutsOut, RefusesFirst};
 ghost use Rattle.sheet_output.specs.Reporting.{sheet_report};
-ghost use Rattle.trapsheet_cli.specs.Held.{AreInputs, IsWithin, order_in};
+ghost use Rattle.trapsheet_words.specs.Held.{AreInputs, IsWithin, order_in};
 ghost use Rattle.trapsheet_cli.specs.Planned.{PutsPlanned, PutsWhole};
 ghost use Rattle.sheet_output.specs.Streaming.{StreamsBy, StreamsOut};
 ghost use Rattle.sheet_output.specs.Holding.{CanHold};
 ghost use Rattle.sheet_output.specs.Racks.{CanWrite};
 ghost use Rattle.sheet_output.specs.Trapping.{CanTrap};
-ghost use Rattle.trapsheet_cli.specs.Words.{sources_of, targets_of};
+ghost use Rattle.trapsheet_cli.specs.Files.{sources_of, targets_of};
 ghost use Rattle.sheet_windows.specs.Sheets.{IsSheet};
 ghost use Rattle.page_model.specs.Limits.{most_plates};
 
-use crate::words::SheetArgs;
 use bare_sheets::budget::Budget;
 use bare_sheets::plan::{Plan, Rulers};
 use outside::rack::Rack;
@@ -40,6 +39,7 @@ use sheet_output::windows::rulers_for;
 use sheet_output::writing::write_sheet;
 use std::alloc::Global;
 use std::thread::Threads;
+use trapsheet_words::words::SheetArgs;
 
 // Runs the command on a sheet, and returns the status that it ends with.
 pub(crate) fn run_order<H: Threads + Sync, T: Tray + Send, R: Rack>(

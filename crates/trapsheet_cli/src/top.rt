@@ -4,7 +4,6 @@ ghost use Rattle.trapsheet_cli.specs.Endings.{EndsWords, RefusesWords, TellsUsag
 ghost use Rattle.page_model.specs.Limits.{most_plates};
 
 use crate::run::run_order;
-use crate::words::read_words;
 use bare_sheets::budget::Budget;
 use outside::rack::Rack;
 use outside::tray::Tray;
@@ -15,6 +14,7 @@ use sheet_gather::laws::one_sheet_verdict;
 use sheet_output::windows::WINDOW;
 use std::alloc::Global;
 use std::thread::Threads;
+use trapsheet_words::words::read_words;
 
 /// Traps a sheet of any size, and returns the status that the program exits with.
 ///

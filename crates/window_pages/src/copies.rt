@@ -10,6 +10,7 @@ use lists::names::copy_name;
 use page_model::parts::{
     Ink, InkList, Limit, LimitList, OutOfMemory, Vertex, VertexList, Zone, ZoneList,
 };
+use sheet_windows::corners::vertex_of;
 use std::alloc::Global;
 
 /// Adds the item at the end.
@@ -60,20 +61,6 @@ fn limits_of(alloc: Global, limits: &[Limit]) -> Result<LimitList, OutOfMemory>
         push(&mut copies, limit_of(alloc, limit)?)?;
     }
     Ok(copies)
-}
-
-/// The vertex as seen from a corner that is `right` and `up` away, in ten-thousandths of a point.
-pub fn vertex_of(vertex: &Vertex, right: u64, up: u64) -> Vertex
-    requires vertex { IsVertex vertex.now }
-    requires right { right < 2 ^ 50 }
-    requires up { up < 2 ^ 50 }
-    ensures { result ≡ moved_vertex right up vertex.now }
-{
-    Vertex {
-        x: vertex.x - right as i64,
-        y: vertex.y - up as i64,
-        starts: vertex.starts,
-    }
 }
 
 fn path_of(alloc: Global, path: &[Vertex], right: u64, up: u64) -> Result<VertexList, OutOfMemory>

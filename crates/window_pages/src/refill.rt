@@ -10,10 +10,10 @@ ghost use Rattle.sheet_windows.specs.Windows.{moved_vertex, moved_zone, shown_pl
 ghost use Rattle.window_pages.specs.Forms.{zone_form};
 ghost use Rattle.window_pages.specs.Shown.{Covers, shown_tints};
 
-use crate::copies::vertex_of;
 use crate::planes::run_of;
 use lists::list::List;
 use page_model::parts::{Plane, PlaneList, Vertex, VertexList, Zone, ZoneList};
+use sheet_windows::corners::vertex_of;
 use sheet_windows::cuts::Cut;
 use std::alloc::Global;
 

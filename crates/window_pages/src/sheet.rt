@@ -3,7 +3,7 @@ ghost use Rattle.page_model.specs.Conditions.{IsPage};
 ghost use Rattle.page_model.specs.Limits.{most_resolution};
 ghost use Rattle.page_model.specs.Page.{height, maxval, plates, width};
 ghost use Rattle.sheet_windows.specs.Sheets.{IsNearSheet, IsSheet, IsSmall};
-ghost use Rattle.sheet_windows.specs.Windows.{IsCut, points_of, right_of, up_of, window};
+ghost use Rattle.sheet_windows.specs.Windows.{IsCut, right_of, up_of, window};
 ghost use Rattle.window_pages.specs.Forms.{form_of};
 ghost use Rattle.window_pages.specs.Sheets.{IsCuttable};
 
@@ -12,6 +12,7 @@ use crate::planes::planes_of;
 use crate::refill::{move_zones, show_planes};
 use page_model::page::Page;
 use page_model::parts::{OutOfMemory, PageParts};
+use sheet_windows::corners::{Corner, corner_of};
 use sheet_windows::cuts::Cut;
 use std::alloc::Global;
 use std::marker::Model;
@@ -33,26 +34,6 @@ impl Model for Sheet {
     ghost view = { λ a. a.parts };
 
     ghost invariant = { λ a. IsCuttable a.parts };
-}
-
-/// A length in samples, in ten-thousandths of a point, rounded down; 0 at resolution 0.
-pub fn points(resolution: u32, samples: u32) -> u64
-    requires { samples < 2 ^ 30 }
-    ensures value { result ≡ points_of resolution samples }
-    ensures few { result < 2 ^ 50 }
-{
-    let length = 720_000 * u64::from(samples);
-    if resolution == 0 {
-        0
-    } else {
-        length / u64::from(resolution)
-    }
-}
-
-/// How far to the right of its sheet's lower left corner a window's is, and how far up, in ten-thousandths of a point.
-struct Corner {
-    right: u64,
-    up: u64,
 }
 
 impl Sheet {
@@ -132,11 +113,7 @@ impl Sheet {
         ensures few_up { result.up < 2 ^ 50 }
     {
         let _valid = self.width();
-        let below = self.height() - (cut.top + cut.height);
-        Corner {
-            right: points(self.parts.resolution, cut.left),
-            up: points(self.parts.resolution, below),
-        }
+        corner_of(self.parts.resolution, self.height(), cut)
     }
 
     /// The parts of a window of the sheet.

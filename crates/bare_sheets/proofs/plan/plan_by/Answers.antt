@@ -18,3 +18,12 @@ returns-else-samples-le-MOST_SAMPLES c = grind (arith, common_steps)
 
 pub returns-then-samples-le-MOST_SAMPLES : goal.returns-then-samples-le-MOST_SAMPLES
 returns-then-samples-le-MOST_SAMPLES c = grind (arith, common_steps)
+
+pub rulers_of-requires-else-samples-le-MOST_SAMPLES-clause-least : goal.rulers_of-requires-else-samples-le-MOST_SAMPLES-clause-least
+rulers_of-requires-else-samples-le-MOST_SAMPLES-clause-least c = grind (arith, common_steps)
+
+pub rulers_of-requires-clause-least : goal.rulers_of-requires-clause-least
+rulers_of-requires-clause-least c = grind (arith, common_steps)
+
+pub rulers_of-requires-clause-few_samples : goal.rulers_of-requires-clause-few_samples
+rulers_of-requires-clause-few_samples c = grind (arith, common_steps)

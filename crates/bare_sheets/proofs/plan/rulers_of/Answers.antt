@@ -5,3 +5,15 @@ use Rattle.bare_sheets.proofs.plan.rulers_of.Goals as goal
 
 pub returns : goal.returns
 returns c = grind (arith, common_steps)
+
+pub bounds-planes-0-3 : goal.bounds-planes-0-3
+bounds-planes-0-3 c = grind (arith, common_steps)
+
+pub bounds-planes-0-4 : goal.bounds-planes-0-4
+bounds-planes-0-4 c = grind (arith, common_steps)
+
+pub bounds-planes-0-5 : goal.bounds-planes-0-5
+bounds-planes-0-5 c = grind (arith, common_steps)
+
+pub bounds-planes-0-6 : goal.bounds-planes-0-6
+bounds-planes-0-6 c = grind (arith, common_steps)

@@ -39,3 +39,6 @@ returns-in-Err g c =
 
 pub returns : goal.returns
 returns g c = grind (arith, common_steps)
+
+pub loop-place-init : goal.loop-place-init
+loop-place-init g c = grind (arith, common_steps)

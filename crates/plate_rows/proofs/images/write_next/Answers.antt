@@ -35,3 +35,21 @@ returns-in-Err g c =
 
 pub write_rows-requires-clause-fits : goal.write_rows-requires-clause-fits
 write_rows-requires-clause-fits g c = grind (arith, common_steps)
+
+pub loop-place-init : goal.loop-place-init
+loop-place-init g c = grind (arith, common_steps)
+
+pub offset_bounds-tints-from : goal.offset_bounds-tints-from
+offset_bounds-tints-from g c = grind (arith, common_steps)
+
+pub overflow_add-part : goal.overflow_add-part
+overflow_add-part g c = grind (arith, common_steps)
+
+pub offset_bounds-racks-place : goal.offset_bounds-racks-place
+offset_bounds-racks-place g c = grind (arith, common_steps)
+
+pub overflow_mul-from : goal.overflow_mul-from
+overflow_mul-from g c = grind (arith, common_steps)
+
+pub returns : goal.returns
+returns g c = grind (arith, common_steps)

@@ -38,3 +38,9 @@ returns-in-Err g c =
 
 pub returns : goal.returns
 returns g c = grind (arith, common_steps)
+
+pub bounds-headers-place : goal.bounds-headers-place
+bounds-headers-place g c = grind (arith, common_steps)
+
+pub loop-place-init : goal.loop-place-init
+loop-place-init g c = grind (arith, common_steps)

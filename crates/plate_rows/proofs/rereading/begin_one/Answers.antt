@@ -5,3 +5,6 @@ use Rattle.plate_rows.proofs.rereading.begin_one.Goals as goal
 
 pub returns-then-eq : goal.returns-then-eq
 returns-then-eq g c = grind (arith, common_steps)
+
+pub returns-in-Err : goal.returns-in-Err
+returns-in-Err g c = grind (arith, common_steps)

@@ -43,3 +43,9 @@ returns-in-Err g c =
 
 pub returns : goal.returns
 returns g c = grind (arith, common_steps)
+
+pub loop-place-init : goal.loop-place-init
+loop-place-init g c = grind (arith, common_steps)
+
+pub bounds-plates-place : goal.bounds-plates-place
+bounds-plates-place g c = grind (arith, common_steps)

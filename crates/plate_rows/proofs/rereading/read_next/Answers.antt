@@ -1,5 +1,6 @@
 -- read_next: reads the next rows of each plate by the tray of its number, and turns their samples
 -- into tints of the plane of its number.
+use Rattle.std.proofs.lemmas.Grind.{common_steps}
 use Rattle.std.proofs.Common.{◌<◌, Ok, Err, length, map, get_or, arith, sym, subst, ◌∙◌}
 use Rattle.std.specs.Prelude.{slice_set}
 use Rattle.page_model.specs.declared.parts.Plane.{Plane}
@@ -41,3 +42,6 @@ returns-in-Err g c =
     subst (λ (s : RereadError). ReadsNext plates c.args.next c.args.planes.now (slice_set planes k plane) a (map state (slice_set trays k tray)) (Err s)) (sym c.stop_of.ensures)
     (next_stops state plates c.args.next c.args.planes.now planes a trays k old tray held c.loop-place.invariant (slice_set planes k plane) c.in-Err.refusal c.in-Err.ensures.memory known
     (subst (λ (p : Plane). ReadsPlane (open_at plates k) c.args.next p plane (state (get_or trays k old)) (state tray) (Err c.in-Err.refusal)) (plane_there planes k c.index-planes-place.result filled ∙ c.loop-place.invariant.rest k (omega arith)) c.in-Err.ensures.answer))
+
+pub loop-place-init : goal.loop-place-init
+loop-place-init g c = grind (arith, common_steps)

@@ -66,3 +66,6 @@ returns-clause-answer g c =
 
 pub loop-filled-init : goal.loop-filled-init
 loop-filled-init g c = grind (arith, common_steps)
+
+pub returns-in-Err-clause-memory : goal.returns-in-Err-clause-memory
+returns-in-Err-clause-memory g c = grind (arith, common_steps)

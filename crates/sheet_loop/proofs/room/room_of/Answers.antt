@@ -4,7 +4,7 @@ use Rattle.page_model.specs.declared.parts.PageParts.{PageParts}
 use Rattle.page_model.specs.Page.{width}
 use Rattle.strip_steps.specs.Strips.{CanBeCut, IsSomeStrip}
 use Rattle.sheet_loop.proofs.RoomLemmas.{blank_cut, blank_cuttable, can_hold, none_counted, some_strip}
-use Rattle.strip_rows.specs.OnSheet.{strip_cut}
+use Rattle.strip_steps.specs.OnSheet.{strip_cut}
 use Rattle.sheet_windows.specs.declared.spans.Span.{Span}
 use Rattle.sheet_windows.specs.Spans.{AreSpans}
 use Rattle.strip_tiles.specs.Rooms.{IsStripRoom}

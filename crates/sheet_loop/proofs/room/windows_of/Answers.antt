@@ -5,3 +5,6 @@ use Rattle.sheet_loop.proofs.room.windows_of.Goals as goal
 
 pub returns : goal.returns
 returns c = grind (arith, common_steps)
+
+pub new-requires-clause-columns : goal.new-requires-clause-columns
+new-requires-clause-columns c = grind (arith, common_steps)

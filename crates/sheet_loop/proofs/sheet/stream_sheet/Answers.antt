@@ -68,3 +68,9 @@ write_sheet-requires-clause-outputs g c = grind (arith, common_steps)
 
 pub slice_bounds-begun-end : goal.slice_bounds-begun-end
 slice_bounds-begun-end g c = grind (arith, common_steps)
+
+pub write_sheet-requires-clause-racks : goal.write_sheet-requires-clause-racks
+write_sheet-requires-clause-racks g c = grind (arith, common_steps)
+
+pub write_sheet-requires-clause-trays : goal.write_sheet-requires-clause-trays
+write_sheet-requires-clause-trays g c = grind (arith, common_steps)

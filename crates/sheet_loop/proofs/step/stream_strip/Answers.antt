@@ -1,5 +1,6 @@
 -- A strip is trapped while the one before it is written and the next one is read.
-use Rattle.std.proofs.Common.{◌∙◌, map, sym}
+use Rattle.std.proofs.lemmas.Grind.{common_steps}
+use Rattle.std.proofs.Common.{arith, ◌∙◌, map, sym}
 use Rattle.strip_steps.specs.Going.{gone_on}
 use Rattle.sheet_loop.proofs.AwaitLemmas.{awaits, still_room, waits}
 use Rattle.sheet_loop.proofs.StepLemmas.{stopped_beside, trappable}
@@ -101,3 +102,6 @@ returns-in-Err-clause-goes g c course none stands =
     let racks = map g.R.Rack.state c.args.racks.now in
     let racks' = map g.R.Rack.state c.trap_beside.new.racks in
     stopped_beside bare plan begun last row next ask.can ask.headers ask.row ask.next old ask.room.strip mid.ahead trays trays' racks racks' course none stands c.in-Err.stop c.in-Err.ensures.does
+
+pub trap_beside-requires-clause-row : goal.trap_beside-requires-clause-row
+trap_beside-requires-clause-row g c = grind (arith, common_steps)

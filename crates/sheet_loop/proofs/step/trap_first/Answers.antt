@@ -1,10 +1,11 @@
 -- The first strip is trapped while the second one is read.
+use Rattle.std.proofs.lemmas.Grind.{common_steps}
 use Rattle.std.proofs.Common.{◌∙◌, length, map, ap, arith}
 use Rattle.strip_steps.specs.Going.{core_top, gone_on}
 use Rattle.sheet_loop.proofs.AwaitLemmas.{awaits, still_room, waits}
 use Rattle.sheet_loop.proofs.StepLemmas.{trappable}
 use Rattle.strip_steps.proofs.ReadLemmas.{new_cuttable, reading_stops}
-use Rattle.strip_rows.specs.declared.strip.CoreRoom.{CoreRoom}
+use Rattle.strip_steps.specs.declared.strip.CoreRoom.{CoreRoom}
 use Rattle.sheet_loop.proofs.step.trap_first.Goals as goal
 
 pub trap_and_read-requires-clause-trap : goal.trap_and_read-requires-clause-trap
@@ -100,3 +101,6 @@ returns-in-Err-clause-goes g c course none racks stands =
       few = (let a = ask.row.span.core in let i = ask.row.span.inside in let t = ask.can.rulers.tall in omega (arith, a, i, t));
       written = stands.written;
     }
+
+pub trap_and_read-requires-clause-row : goal.trap_and_read-requires-clause-row
+trap_and_read-requires-clause-row g c = grind (arith, common_steps)

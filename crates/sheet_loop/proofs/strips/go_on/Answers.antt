@@ -108,3 +108,18 @@ next_row-next-requires-clause-ruler g c = grind (arith, common_steps)
 
 pub next_row-next-requires-clause-progress : goal.next_row-next-requires-clause-progress
 next_row-next-requires-clause-progress g c = grind (arith, common_steps)
+
+pub stream_strip-requires-clause-headers : goal.stream_strip-requires-clause-headers
+stream_strip-requires-clause-headers g c = grind (arith, common_steps)
+
+pub stream_strip-requires-clause-racks : goal.stream_strip-requires-clause-racks
+stream_strip-requires-clause-racks g c = grind (arith, common_steps)
+
+pub stream_strip-requires-clause-trays : goal.stream_strip-requires-clause-trays
+stream_strip-requires-clause-trays g c = grind (arith, common_steps)
+
+pub progress_after-progress-requires : goal.progress_after-progress-requires
+progress_after-progress-requires g c = grind (arith, common_steps)
+
+pub stream_strip-requires-clause-row : goal.stream_strip-requires-clause-row
+stream_strip-requires-clause-row g c = grind (arith, common_steps)

@@ -36,3 +36,24 @@ returns-in-Err-clause-reaches g c course none stands = c.in-Err.ensures.goes cou
 
 pub go_on-requires-clause-second : goal.go_on-requires-clause-second
 go_on-requires-clause-second g c = grind (arith, common_steps)
+
+pub progress_after-progress-requires : goal.progress_after-progress-requires
+progress_after-progress-requires g c = grind (arith, common_steps)
+
+pub next_row-second-requires-clause-ruler : goal.next_row-second-requires-clause-ruler
+next_row-second-requires-clause-ruler g c = grind (arith, common_steps)
+
+pub go_on-requires-clause-headers : goal.go_on-requires-clause-headers
+go_on-requires-clause-headers g c = grind (arith, common_steps)
+
+pub go_on-requires-clause-trays : goal.go_on-requires-clause-trays
+go_on-requires-clause-trays g c = grind (arith, common_steps)
+
+pub go_on-requires-clause-racks : goal.go_on-requires-clause-racks
+go_on-requires-clause-racks g c = grind (arith, common_steps)
+
+pub trap_first-requires-clause-row : goal.trap_first-requires-clause-row
+trap_first-requires-clause-row g c = grind (arith, common_steps)
+
+pub next_row-second-requires-clause-progress : goal.next_row-second-requires-clause-progress
+next_row-second-requires-clause-progress g c = grind (arith, common_steps)

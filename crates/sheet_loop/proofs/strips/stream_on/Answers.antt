@@ -1,4 +1,5 @@
 -- All strips from the first one on, the last of which is put.
+use Rattle.std.proofs.lemmas.Grind.{common_steps}
 use Rattle.std.proofs.Common.{length, map, arith}
 use Rattle.sheet_loop.proofs.StepLemmas.{are_open, counted_on, deep_is, line_long, plates_are, trappable, unwritten, written_on}
 use Rattle.sheet_loop.proofs.StreamLemmas.{ends}
@@ -87,3 +88,6 @@ returns-in-Err-put_last g c course none stands =
 
 pub returns-in-Err : goal.returns-in-Err
 returns-in-Err g c course none stands = c.in-Err.ensures.reaches course none stands
+
+pub reach_last-requires-clause-first : goal.reach_last-requires-clause-first
+reach_last-requires-clause-first g c = grind (arith, common_steps)

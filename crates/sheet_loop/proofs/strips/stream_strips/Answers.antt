@@ -1,5 +1,6 @@
 -- stream_strips: streams a sheet whose plates and files are begun.
-use Rattle.std.proofs.Common.{map}
+use Rattle.std.proofs.lemmas.Grind.{common_steps}
+use Rattle.std.proofs.Common.{arith, map}
 use Rattle.sheet_loop.proofs.StreamLemmas.{finished}
 use Rattle.sheet_loop.proofs.strips.stream_strips.Goals as goal
 
@@ -26,3 +27,21 @@ returns-in-Ok g c =
 
 pub returns-in-Err : goal.returns-in-Err
 returns-in-Err g c course starts = c.in-Err.ensures.begins course (map g.R.Rack.state c.args.racks.now) starts
+
+pub stream_on-requires-clause-racks : goal.stream_on-requires-clause-racks
+stream_on-requires-clause-racks g c = grind (arith, common_steps)
+
+pub stream_on-requires-clause-trays : goal.stream_on-requires-clause-trays
+stream_on-requires-clause-trays g c = grind (arith, common_steps)
+
+pub stream_on-requires-clause-headers : goal.stream_on-requires-clause-headers
+stream_on-requires-clause-headers g c = grind (arith, common_steps)
+
+pub next_row-first-requires-clause-ruler : goal.next_row-first-requires-clause-ruler
+next_row-first-requires-clause-ruler g c = grind (arith, common_steps)
+
+pub read_first-requires-clause-row : goal.read_first-requires-clause-row
+read_first-requires-clause-row g c = grind (arith, common_steps)
+
+pub stream_on-requires-clause-first : goal.stream_on-requires-clause-first
+stream_on-requires-clause-first g c = grind (arith, common_steps)

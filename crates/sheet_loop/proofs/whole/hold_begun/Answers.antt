@@ -1,5 +1,6 @@
 -- What `hold_begun` has to show.
-use Rattle.std.proofs.Common.{map}
+use Rattle.std.proofs.lemmas.Grind.{common_steps}
+use Rattle.std.proofs.Common.{arith, map}
 use Rattle.sheet_loop.proofs.HeldLemmas.{all_to_read, held_end, reading_stopped, rows_can_end}
 use Rattle.sheet_loop.proofs.whole.hold_begun.Goals as goal
 
@@ -21,3 +22,9 @@ pub end_plates-requires-clause-begun : goal.end_plates-requires-clause-begun
 end_plates-requires-clause-begun g c k l =
     let there = c.requires.read in
     (rows_can_end there.inputs c.args.bare.now c.args.plates.now c.requires.headers there.start (map g.T.Tray.state c.args.trays.now) (map g.T.Tray.state c.read_strip.new.trays) c.args.sheet.now c.read_strip.new.strip c.requires.room there.read c.in-Ok.ensures k l).is_begun
+
+pub end_plates-requires-clause-counts : goal.end_plates-requires-clause-counts
+end_plates-requires-clause-counts g c = grind (arith, common_steps)
+
+pub end_plates-requires-clause-headers : goal.end_plates-requires-clause-headers
+end_plates-requires-clause-headers g c = grind (arith, common_steps)

@@ -1,5 +1,6 @@
 -- hold_sheet: reads the plates of a sheet that was judged once more, each by the tray of its
 -- number, with all their rows into the room that is made for them, which is the sheet then.
+use Rattle.std.proofs.lemmas.Grind.{common_steps}
 use Rattle.std.proofs.Common.{◌≡◌, ℕ, ◌≤◌, length, map, sym, ◌∙◌, arith}
 use Rattle.std.specs.Prelude.{replicate}
 use Rattle.std.proofs.lemmas.List.{length-map}
@@ -56,3 +57,9 @@ returns-in-Err g c =
     let start = map g.T.Tray.state c.args.trays.now in
     not_begun_again inputs c.args.bare.now header (replicate 16 header) c.begin_plates.new.plates start (map g.T.Tray.state c.begin_plates.new.trays) c.requires.header
     (λ k l. sixteen header k (omega (arith, l, few, n_is))) (sym n_is ∙ c.requires.inputs) n n_is c.in-Err.stop c.in-Err.ensures
+
+pub hold_begun-requires-clause-trays : goal.hold_begun-requires-clause-trays
+hold_begun-requires-clause-trays g c = grind (arith, common_steps)
+
+pub slice_bounds-hold_begun-end : goal.slice_bounds-hold_begun-end
+slice_bounds-hold_begun-end g c = grind (arith, common_steps)

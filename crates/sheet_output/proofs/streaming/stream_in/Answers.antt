@@ -1,5 +1,6 @@
 -- What `stream_in` has to show.
-use Rattle.std.proofs.Common.{Err, map, sym, subst}
+use Rattle.std.proofs.lemmas.Grind.{common_steps}
+use Rattle.std.proofs.Common.{arith, Err, map, sym, subst}
 use Rattle.sheet_gather.specs.declared.stop.TrapsheetError.{TrapsheetError}
 use Rattle.sheet_loop.specs.Second.{course_of}
 use Rattle.tile_counts.specs.declared.counts.SheetCounts.{SheetCounts}
@@ -28,3 +29,27 @@ returns-in-Err g c =
     let racks = map g.R.Rack.state c.stream_sheet-ended.new.racks in
     subst (λ (e : TrapsheetError). StreamsOut course c.args.report.now c.args.bare.now trays racks (Err e)) (sym c.stream_error.ensures)
     (was_stopped course c.args.report.now c.args.bare.now c.args.plan.now.header c.requires.header c.stream_sheet-ended.new.room.counts trays racks c.in-Err.stop c.in-Err.ensures)
+
+pub stream_sheet-ended-requires-clause-outputs : goal.stream_sheet-ended-requires-clause-outputs
+stream_sheet-ended-requires-clause-outputs g c = grind (arith, common_steps)
+
+pub stream_sheet-ended-requires-clause-trays : goal.stream_sheet-ended-requires-clause-trays
+stream_sheet-ended-requires-clause-trays g c = grind (arith, common_steps)
+
+pub stream_sheet-ended-requires-clause-inputs : goal.stream_sheet-ended-requires-clause-inputs
+stream_sheet-ended-requires-clause-inputs g c = grind (arith, common_steps)
+
+pub write_counts-requires-clause-some : goal.write_counts-requires-clause-some
+write_counts-requires-clause-some g c = grind (arith, common_steps)
+
+pub stream_sheet-ended-requires-clause-racks : goal.stream_sheet-ended-requires-clause-racks
+stream_sheet-ended-requires-clause-racks g c = grind (arith, common_steps)
+
+pub write_counts-requires-clause-inks : goal.write_counts-requires-clause-inks
+write_counts-requires-clause-inks g c = grind (arith, common_steps)
+
+pub write_counts-requires-clause-racks : goal.write_counts-requires-clause-racks
+write_counts-requires-clause-racks g c = grind (arith, common_steps)
+
+pub stream_sheet-ended-requires-clause-counts : goal.stream_sheet-ended-requires-clause-counts
+stream_sheet-ended-requires-clause-counts g c = grind (arith, common_steps)

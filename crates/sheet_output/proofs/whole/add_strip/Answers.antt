@@ -1,5 +1,6 @@
 -- add_strip: adds the new tints of the strip that was trapped in the room last after those of the
 -- strips above it, plate by plate.
+use Rattle.std.proofs.lemmas.Grind.{common_steps}
 use Rattle.std.proofs.Common.{◌≡◌, ℕ, ◌+◌, ◌<◌, List, sym, ◌∙◌, subst, arith}
 use Rattle.std.specs.Prelude.{map}
 use Rattle.page_model.specs.Page.{plates}
@@ -30,3 +31,6 @@ returns-clause-out c = record {
   count = c.loop-c.invariant.out.long;
   each = λ j l. c.loop-c.invariant.out.done j (let a = c.loop-c-test.false in let b = c.plates-c-end.ensures.value in omega (arith, l, a, b)) l;
 }
+
+pub strip_tints-requires-clause-row : goal.strip_tints-requires-clause-row
+strip_tints-requires-clause-row c = grind (arith, common_steps)

@@ -8,3 +8,6 @@ returns-then-before-row-clause-room c = grind (arith, common_steps)
 
 pub returns-then-before-row-clause-columns : goal.returns-then-before-row-clause-columns
 returns-then-before-row-clause-columns c = grind (arith, common_steps)
+
+pub new-requires-clause-row : goal.new-requires-clause-row
+new-requires-clause-row c = grind (arith, common_steps)

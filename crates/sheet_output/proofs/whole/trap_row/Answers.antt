@@ -1,5 +1,6 @@
 -- trap_row: traps a strip, and adds its new tints after those of the strips above it.
-use Rattle.std.proofs.Common.{List, ap, subst, sym, ◌∙◌}
+use Rattle.std.proofs.lemmas.Grind.{common_steps}
+use Rattle.std.proofs.Common.{arith, List, ap, subst, sym, ◌∙◌}
 use Rattle.std.specs.Prelude.{map}
 use Rattle.page_model.specs.Page.{width}
 use Rattle.sheet_windows.specs.declared.spans.Span.{Span}
@@ -43,3 +44,12 @@ add_strip-requires-clause-line g c = c.requires.line
 
 pub add_strip-requires-clause-plates : goal.add_strip-requires-clause-plates
 add_strip-requires-clause-plates g c = c.requires.plates
+
+pub fit_room-requires-clause-row : goal.fit_room-requires-clause-row
+fit_room-requires-clause-row g c = grind (arith, common_steps)
+
+pub returns-clause-line : goal.returns-clause-line
+returns-clause-line g c = grind (arith, common_steps)
+
+pub trap_strip_in-requires-clause-row : goal.trap_strip_in-requires-clause-row
+trap_strip_in-requires-clause-row g c = grind (arith, common_steps)

@@ -1,4 +1,5 @@
 -- write_plates: writes the planes, each by the rack of its number.
+use Rattle.std.proofs.lemmas.Grind.{common_steps}
 use Rattle.std.proofs.Common.{◌≡◌, ◌<◌, ℕ, List, Ok, Err, length, get_or, map, refl, arith, ap, ◌∙◌, subst}
 use Rattle.std.proofs.lemmas.List.{length-map}
 use Rattle.outside.specs.Writing.{WritesFile}
@@ -50,3 +51,9 @@ pub returns : goal.returns
 returns g c =
     let same : c.loop-place.place ≡ length (map g.S.AsStr.text c.args.names.now) = omega (arith, length-map c.args.names.now g.S.AsStr.text) in
     WritesPlates.wrote refl (subst (λ n. WritesFirst (map g.S.AsStr.text c.args.names.now) c.args.planes.now n (map g.R.Rack.state c.args.racks.now) (map g.R.Rack.state c.loop-place.racks)) same c.loop-place.invariant)
+
+pub write_at-requires-clause-fits : goal.write_at-requires-clause-fits
+write_at-requires-clause-fits g c = grind (arith, common_steps)
+
+pub write_at-requires-clause-maxval : goal.write_at-requires-clause-maxval
+write_at-requires-clause-maxval g c = grind (arith, common_steps)

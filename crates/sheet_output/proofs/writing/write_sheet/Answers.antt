@@ -1,5 +1,6 @@
 -- write_sheet: writes each plane, turned into a plate, into the file of its name, plane k by rack
 -- k, and then the text into the report by the first rack.
+use Rattle.std.proofs.lemmas.Grind.{common_steps}
 use Rattle.std.proofs.Common.{◌≤◌, length, map, arith}
 use Rattle.std.proofs.lemmas.List.{length-map}
 use Rattle.sheet_output.proofs.RackLemmas.{plates_failed, report_failed, sheet_wrote}
@@ -20,3 +21,6 @@ returns-in-Err-write_report g c =
 pub returns-in-Err : goal.returns-in-Err
 returns-in-Err g c =
     plates_failed (map g.S.AsStr.text c.args.names.now) c.args.report.now c.args.planes.now c.args.text.now (map g.R.Rack.state c.args.racks.now) (map g.R.Rack.state c.write_plates.new.racks) c.in-Err.stop c.in-Err.ensures
+
+pub write_plates-requires-clause-fits : goal.write_plates-requires-clause-fits
+write_plates-requires-clause-fits g c = grind (arith, common_steps)

@@ -14,3 +14,6 @@ returns-clause-read g c = grind (arith, common_steps)
 
 pub returns-clause-count : goal.returns-clause-count
 returns-clause-count g c = grind (arith, common_steps)
+
+pub read_next-result-requires-clause-planes : goal.read_next-result-requires-clause-planes
+read_next-result-requires-clause-planes g c = grind (arith, common_steps)

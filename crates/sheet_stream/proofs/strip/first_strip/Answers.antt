@@ -1,4 +1,5 @@
 -- first_strip: the strip of these rows of a sheet but its tints, whose planes have room for them.
+use Rattle.std.proofs.lemmas.Grind.{common_steps}
 use Rattle.std.proofs.Common.{◌≡◌, ◌+◌, ◌-◌, map, refl, sym, ap, ◌∙◌, arith}
 use Rattle.std.proofs.lemmas.List.{get_or_default}
 use Rattle.page_model.specs.declared.parts.Plane.{Plane}
@@ -32,3 +33,9 @@ blank_planes-requires-clause-narrow c = rw c.as_slice-planes.ensures (λ k d l.
     let wide = (c.requires.bare.agree k l).wide in
     let narrow = c.requires.narrow in
     omega (arith, same, wide, narrow)))
+
+pub overflow_sub-below : goal.overflow_sub-below
+overflow_sub-below c = grind (arith, common_steps)
+
+pub zones_of-requires-clause-vertices : goal.zones_of-requires-clause-vertices
+zones_of-requires-clause-vertices c = grind (arith, common_steps)

@@ -40,3 +40,18 @@ read_ahead-requires-clause-read g c =
 
 pub returns-clause-bytes : goal.returns-clause-bytes
 returns-clause-bytes g c = grind (arith, common_steps)
+
+pub read_ahead-requires-clause-room : goal.read_ahead-requires-clause-room
+read_ahead-requires-clause-room g c = grind (arith, common_steps)
+
+pub bounds-as_slice-0-2 : goal.bounds-as_slice-0-2
+bounds-as_slice-0-2 g c = grind (arith, common_steps)
+
+pub read_ahead-requires-clause-planes : goal.read_ahead-requires-clause-planes
+read_ahead-requires-clause-planes g c = grind (arith, common_steps)
+
+pub read_ahead-requires-clause-trays : goal.read_ahead-requires-clause-trays
+read_ahead-requires-clause-trays g c = grind (arith, common_steps)
+
+pub bounds-as_slice-0 : goal.bounds-as_slice-0
+bounds-as_slice-0 g c = grind (arith, common_steps)

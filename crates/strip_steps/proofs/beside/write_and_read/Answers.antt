@@ -1,6 +1,7 @@
 -- write_and_read: writes the core of the strip that waits for it, each plate by the rack of its
 -- number, and makes it the next strip, each plate by the tray of its number.
-use Rattle.std.proofs.Common.{map, refl, sym, subst}
+use Rattle.std.proofs.lemmas.Grind.{common_steps}
+use Rattle.std.proofs.Common.{arith, map, refl, sym, subst}
 use Rattle.strip_steps.specs.Reading.{CanReadRow}
 use Rattle.strip_steps.proofs.beside.write_and_read.Goals as goal
 
@@ -19,3 +20,21 @@ returns-in-Err-read_row-clause-does g c = (c.in-Ok.ensures.written, c.in-Err-rea
 
 pub returns-in-Err-clause-does : goal.returns-in-Err-clause-does
 returns-in-Err-clause-does g c = (c.in-Err.ensures.written, refl)
+
+pub returns-in-Ok-read_row-clause-bytes : goal.returns-in-Ok-read_row-clause-bytes
+returns-in-Ok-read_row-clause-bytes g c = grind (arith, common_steps)
+
+pub returns-in-Err-read_row-clause-bytes : goal.returns-in-Err-read_row-clause-bytes
+returns-in-Err-read_row-clause-bytes g c = grind (arith, common_steps)
+
+pub returns-in-Err-read_row-clause-line : goal.returns-in-Err-read_row-clause-line
+returns-in-Err-read_row-clause-line g c = grind (arith, common_steps)
+
+pub returns-in-Ok-read_row-clause-spelled : goal.returns-in-Ok-read_row-clause-spelled
+returns-in-Ok-read_row-clause-spelled g c = grind (arith, common_steps)
+
+pub returns-in-Err-read_row-clause-spelled : goal.returns-in-Err-read_row-clause-spelled
+returns-in-Err-read_row-clause-spelled g c = grind (arith, common_steps)
+
+pub returns-in-Ok-read_row-clause-line : goal.returns-in-Ok-read_row-clause-line
+returns-in-Ok-read_row-clause-line g c = grind (arith, common_steps)

@@ -1,11 +1,12 @@
 -- write_waiting: writes the rows of the core of a strip that waits for it, each plate by the rack
 -- of its number.
+use Rattle.std.proofs.lemmas.Grind.{common_steps}
 use Rattle.std.proofs.Common.{◌≤◌, ◌*◌, ◌∙◌, length, map, sym, ap, subst, arith}
 use Rattle.page_model.specs.declared.parts.PageParts.{PageParts}
 use Rattle.page_model.specs.Page.{maxval, plates, width}
 use Rattle.strip_steps.specs.Waiting.{WritesRow}
-use Rattle.strip_rows.specs.Cores.{AreOpen, IsCutStrip}
-use Rattle.strip_rows.specs.OnSheet.{strip_cut}
+use Rattle.strip_steps.specs.Cores.{AreOpen, IsCutStrip}
+use Rattle.strip_steps.specs.OnSheet.{strip_cut}
 use Rattle.window_pages.specs.Sheets.{IsCuttable}
 use Rattle.strip_steps.proofs.beside.write_waiting.Goals as goal
 
@@ -41,3 +42,9 @@ write_row-result-requires-clause-maxval g c = c.requires.waiting.deep ∙ ap max
 pub returns-clause-written : goal.returns-clause-written
 returns-clause-written g c =
     subst (λ (s : PageParts). WritesRow c.args.plan.now c.args.row.now s (map g.R.Rack.state c.args.racks.now) (map g.R.Rack.state c.write_row-result.new.racks) c.write_row-result.result) (c.of-sheet.ensures ∙ c.replace.ensures.value) c.write_row-result.ensures.written
+
+pub returns-clause-bytes : goal.returns-clause-bytes
+returns-clause-bytes g c = grind (arith, common_steps)
+
+pub returns-clause-line : goal.returns-clause-line
+returns-clause-line g c = grind (arith, common_steps)

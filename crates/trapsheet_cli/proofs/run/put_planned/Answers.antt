@@ -1,6 +1,7 @@
 -- put_planned: reads a sheet that was judged once more, traps it and writes its files, strip by
 -- strip where it can be cut so.
-use Rattle.std.proofs.Common.{subst, sym}
+use Rattle.std.proofs.lemmas.Grind.{common_steps}
+use Rattle.std.proofs.Common.{arith, subst, sym}
 use Rattle.bare_sheets.specs.Planned.{IsPlan}
 use Rattle.sheet_output.specs.Holding.{CanHold}
 use Rattle.trapsheet_cli.specs.Planned.{PutsPlanned}
@@ -21,3 +22,6 @@ returns-in-Windows g c = PutsPlanned.whole (no_strips_by c.args.planned.now.bare
 
 pub returns-in-Page : goal.returns-in-Page
 returns-in-Page g c = PutsPlanned.whole (no_cut c.args.planned.now.bare c.args.budget.now (subst (IsPlan c.args.planned.now.bare c.args.budget.now) c.in-Page.is c.requires.plan)) c.put_whole-in-Page.ensures
+
+pub rulers_for-rulers-requires : goal.rulers_for-rulers-requires
+rulers_for-rulers-requires g c = grind (arith, common_steps)

@@ -5,3 +5,6 @@ use Rattle.window_pages.proofs.copies.zones_of.Goals as goal
 
 pub loop-zone-preserved : goal.loop-zone-preserved
 loop-zone-preserved c = grind (arith, common_steps)
+
+pub returns : goal.returns
+returns c = grind (arith, common_steps)

@@ -5,3 +5,6 @@ use Rattle.window_pages.proofs.planes.planes_of.Goals as goal
 
 pub loop-plane-preserved : goal.loop-plane-preserved
 loop-plane-preserved c = grind (arith, common_steps)
+
+pub returns : goal.returns
+returns c = grind (arith, common_steps)

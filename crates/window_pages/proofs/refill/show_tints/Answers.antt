@@ -1,4 +1,5 @@
 -- show_tints: puts the tints that a window shows in the place of as many others.
+use Rattle.std.proofs.lemmas.Grind.{common_steps}
 use Rattle.std.proofs.Common.{◌≡◌, ◌+◌, ◌*◌, ◌++◌, ◌≤◌, List, ℕ, ap, ◌∙◌, arith, length, take}
 use Rattle.window_pages.proofs.Showing.{put_prefix, put_long, row_inside, shown_next}
 use Rattle.window_pages.proofs.refill.show_tints.Goals as goal
@@ -19,3 +20,12 @@ loop-y-preserved c =
           ∙ ap (λ (xs : List ℕ). xs ++ run) c.loop-y.invariant.done
           ∙ shown_next c.args.wide c.args.cut.now c.args.tints.now run y ((c.args.cut.now.top + y) * c.args.wide + c.args.cut.now.left) (omega arith) long c.run_of-run.ensures.each;
     }
+
+pub returns : goal.returns
+returns c = grind (arith, common_steps)
+
+pub run_of-run-requires : goal.run_of-run-requires
+run_of-run-requires c = grind (arith, common_steps)
+
+pub put_run-requires : goal.put_run-requires
+put_run-requires c = grind (arith, common_steps)

@@ -1,5 +1,6 @@
 -- Sheet::put_parts: what a window is made of, in the place of the parts of such a page.
-use Rattle.std.proofs.Common.{◌∙◌, ap, length, sym}
+use Rattle.std.proofs.lemmas.Grind.{common_steps}
+use Rattle.std.proofs.Common.{arith, ◌∙◌, ap, length, sym}
 use Rattle.std.specs.Prelude.{map}
 use Rattle.page_model.specs.declared.parts.PageParts.{PageParts}
 use Rattle.sheet_windows.specs.Windows.{moved_zone, shown_plane}
@@ -26,3 +27,6 @@ returns c =
     (c.show_planes.ensures ∙ (λ i. map (shown_plane (c.width-wide.ensures.value i) c.args.cut.now) (planes i)))
     (form_inks c.args.parts c.args.self.now c.requires.form)
     (c.move_zones.ensures ∙ (λ i. map (moved_zone (c.corner_of-right.ensures.right i) (c.corner_of-right.ensures.up i)) (zones i)))
+
+pub move_zones-requires-clause-vertices : goal.move_zones-requires-clause-vertices
+move_zones-requires-clause-vertices c = grind (arith, common_steps)

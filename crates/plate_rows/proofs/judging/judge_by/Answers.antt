@@ -1,0 +1,7 @@
+-- judge_by: goals that the search finds slowly.
+use Rattle.std.proofs.lemmas.Grind.{common_steps}
+use Rattle.std.proofs.Common.{arith}
+use Rattle.plate_rows.proofs.judging.judge_by.Goals as goal
+
+pub judge_each-requires-clause-room : goal.judge_each-requires-clause-room
+judge_each-requires-clause-room c = grind (arith, common_steps)

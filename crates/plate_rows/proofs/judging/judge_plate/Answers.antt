@@ -1,0 +1,10 @@
+-- judge_plate: goals that the search finds slowly.
+use Rattle.std.proofs.lemmas.Grind.{common_steps}
+use Rattle.std.proofs.Common.{arith}
+use Rattle.plate_rows.proofs.judging.judge_plate.Goals as goal
+
+pub returns-in-Ok-judge_rest-clause-answer : goal.returns-in-Ok-judge_rest-clause-answer
+returns-in-Ok-judge_rest-clause-answer c = grind (arith, common_steps)
+
+pub returns-in-Err-judge_rest-clause-memory : goal.returns-in-Err-judge_rest-clause-memory
+returns-in-Err-judge_rest-clause-memory c = grind (arith, common_steps)

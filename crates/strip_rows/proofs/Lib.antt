@@ -1,4 +1,0 @@
-pub mod RowLemmas
-pub mod SheetTints
-pub mod OnSheetLemmas
-pub mod ReadyLemmas

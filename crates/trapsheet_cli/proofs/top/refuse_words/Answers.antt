@@ -1,0 +1,7 @@
+-- refuse_words: goals that the search finds slowly.
+use Rattle.std.proofs.lemmas.Grind.{common_steps}
+use Rattle.std.proofs.Common.{arith}
+use Rattle.trapsheet_cli.proofs.top.refuse_words.Goals as goal
+
+pub returns : goal.returns
+returns c = grind (arith, common_steps)

@@ -1,0 +1,4 @@
+//! The words of the program `trapsheet`.
+#![tactic(auto)]
+
+pub mod words;
