@@ -1,4 +1,5 @@
 -- make_words: the words of so many cells of a piece of that phase, from cell `first` on.
+use Rattle.std.proofs.lemmas.Grind.{common_steps}
 use Rattle.std.proofs.Common.{◌≡◌, ℕ, ◌+◌, ◌-◌, ◌*◌, ◌<◌, ◌≤◌, List, length, slice_index, sym, ap, ◌∙◌, subst, arith}
 use Rattle.row_cells.specs.Places.{lanes_of}
 use Rattle.row_cells.proofs.Numbers.{as_many}
@@ -34,3 +35,9 @@ returns-then-are_zero-clause-words g c k l =
     let e : first * n + (j - first * n) ≡ j = omega (arith, w.0) in
     ap (slice_index all) (sym e) ∙ (sym (c.part_of.ensures.each (j - first * n) size) ∙ c.are_zero.ensures c.if-are_zero.true (j - first * n) (omega (arith, size, c.part_of.ensures.len))) in
     c.put_ones.ensures.each k (omega (arith, l, c.put_ones.ensures.len)) ∙ sym (zero_cell table_key c.args.piece (first + k) g.row.PHASE all c.requires.piece (omega (arith, l, c.put_ones.ensures.len, c.requires.cells)) c.requires.phase (omega (arith, c.lanes-per_cell.ensures.few, lanes_are)) c.requires.values (subst (λ (z : ℕ). (j : ℕ) → (first + k) * z ≤ j → j < (first + k) * z + z → j < length all → slice_index all j ≡ 0) lanes_are zeros))
+
+pub pack_words-requires-clause-values : goal.pack_words-requires-clause-values
+pack_words-requires-clause-values g c = grind (arith, common_steps)
+
+pub returns-clause-words : goal.returns-clause-words
+returns-clause-words g c = grind (arith, common_steps)

@@ -8,3 +8,6 @@ returns-clause-words g c = grind (arith, common_steps)
 
 pub loop-k-preserved : goal.loop-k-preserved
 loop-k-preserved g c = grind (arith, common_steps)
+
+pub values_word-requires-clause-values : goal.values_word-requires-clause-values
+values_word-requires-clause-values g c = grind (arith, common_steps)

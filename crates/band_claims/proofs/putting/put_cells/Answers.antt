@@ -14,3 +14,27 @@ put_words-requires-clause-words g c = grind (arith, common_steps)
 
 pub make_words-requires-clause-fit : goal.make_words-requires-clause-fit
 make_words-requires-clause-fit g c = grind (arith, common_steps)
+
+pub loop-done-preserved : goal.loop-done-preserved
+loop-done-preserved g c = grind (arith, common_steps)
+
+pub make_words-requires-clause-some : goal.make_words-requires-clause-some
+make_words-requires-clause-some g c = grind (arith, common_steps)
+
+pub make_words-requires-clause-cells : goal.make_words-requires-clause-cells
+make_words-requires-clause-cells g c = grind (arith, common_steps)
+
+pub make_words-requires-clause-phase : goal.make_words-requires-clause-phase
+make_words-requires-clause-phase g c = grind (arith, common_steps)
+
+pub make_words-requires-clause-bound : goal.make_words-requires-clause-bound
+make_words-requires-clause-bound g c = grind (arith, common_steps)
+
+pub make_words-requires-clause-few : goal.make_words-requires-clause-few
+make_words-requires-clause-few g c = grind (arith, common_steps)
+
+pub make_words-requires-clause-piece : goal.make_words-requires-clause-piece
+make_words-requires-clause-piece g c = grind (arith, common_steps)
+
+pub returns-clause-filled : goal.returns-clause-filled
+returns-clause-filled g c = grind (arith, common_steps)

@@ -1,4 +1,5 @@
 -- any_lacks: whether some need of a piece is not done.
+use Rattle.std.proofs.lemmas.Grind.{common_steps}
 use Rattle.std.proofs.Common.{arith}
 use Rattle.band_core.proofs.LookLemmas.{lacks_is, lacks_next, same_count, same_need}
 use Rattle.band_core.proofs.looks.any_lacks.Goals as goal
@@ -15,3 +16,6 @@ loop-k-preserved c =
 
 pub returns : goal.returns
 returns c = lacks_is c.args.layout.now c.args.states.now c.args.piece c.loop-k.k c.loop-k.any c.bands-bands.ensures.valid c.requires.piece (omega (arith, c.loop-k-test.false, c.loop-k.auto.k-end, c.loop-k.invariant.end)) c.loop-k.invariant.some c.loop-k.invariant.all
+
+pub loop-k-init : goal.loop-k-init
+loop-k-init c = grind (arith, common_steps)

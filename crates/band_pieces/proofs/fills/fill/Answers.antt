@@ -26,3 +26,21 @@ fill_zones-requires-clause-zones g c = grind (arith, common_steps)
 
 pub fill_tints-requires-clause-phase : goal.fill_tints-requires-clause-phase
 fill_tints-requires-clause-phase g c = grind (arith, common_steps)
+
+pub fill_marks-requires-clause-phase : goal.fill_marks-requires-clause-phase
+fill_marks-requires-clause-phase g c = grind (arith, common_steps)
+
+pub fill_answers-requires-clause-phase : goal.fill_answers-requires-clause-phase
+fill_answers-requires-clause-phase g c = grind (arith, common_steps)
+
+pub fill_tints-requires-clause-room : goal.fill_tints-requires-clause-room
+fill_tints-requires-clause-room g c = grind (arith, common_steps)
+
+pub fill_zones-requires-clause-phase : goal.fill_zones-requires-clause-phase
+fill_zones-requires-clause-phase g c = grind (arith, common_steps)
+
+pub fill_zones-requires-clause-room : goal.fill_zones-requires-clause-room
+fill_zones-requires-clause-room g c = grind (arith, common_steps)
+
+pub nonzero_div-piece : goal.nonzero_div-piece
+nonzero_div-piece g c = grind (arith, common_steps)

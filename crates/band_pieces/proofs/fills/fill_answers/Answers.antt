@@ -92,3 +92,21 @@ make_answers-requires-clause-held g c = grind (arith, common_steps)
 
 pub read_rows-requires-clause-inside : goal.read_rows-requires-clause-inside
 read_rows-requires-clause-inside g c = search rules
+
+pub returns-clause-marks : goal.returns-clause-marks
+returns-clause-marks g c = grind (arith, common_steps)
+
+pub returns-clause-answers : goal.returns-clause-answers
+returns-clause-answers g c = grind (arith, common_steps)
+
+pub rows_of-rows-requires-clause-piece : goal.rows_of-rows-requires-clause-piece
+rows_of-rows-requires-clause-piece g c = grind (arith, common_steps)
+
+pub rows_near-held-requires-clause-inside : goal.rows_near-held-requires-clause-inside
+rows_near-held-requires-clause-inside g c = grind (arith, common_steps)
+
+pub rows_of-rows-requires-clause-bands : goal.rows_of-rows-requires-clause-bands
+rows_of-rows-requires-clause-bands g c = grind (arith, common_steps)
+
+pub rows_near-held-requires-clause-bands : goal.rows_near-held-requires-clause-bands
+rows_near-held-requires-clause-bands g c = grind (arith, common_steps)

@@ -81,3 +81,21 @@ make_marks-requires-clause-held g c = grind (arith, common_steps)
 
 pub read_rows-requires-clause-inside : goal.read_rows-requires-clause-inside
 read_rows-requires-clause-inside g c = search rules
+
+pub rows_of-rows-requires-clause-piece : goal.rows_of-rows-requires-clause-piece
+rows_of-rows-requires-clause-piece g c = grind (arith, common_steps)
+
+pub rows_below-held-requires-clause-bands : goal.rows_below-held-requires-clause-bands
+rows_below-held-requires-clause-bands g c = grind (arith, common_steps)
+
+pub rows_below-held-requires-clause-inside : goal.rows_below-held-requires-clause-inside
+rows_below-held-requires-clause-inside g c = grind (arith, common_steps)
+
+pub rows_of-rows-requires-clause-bands : goal.rows_of-rows-requires-clause-bands
+rows_of-rows-requires-clause-bands g c = grind (arith, common_steps)
+
+pub returns-clause-marks : goal.returns-clause-marks
+returns-clause-marks g c = grind (arith, common_steps)
+
+pub returns-clause-zones : goal.returns-clause-zones
+returns-clause-zones g c = grind (arith, common_steps)

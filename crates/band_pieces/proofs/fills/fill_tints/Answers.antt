@@ -109,3 +109,18 @@ read_rows-requires-2-clause-inside g c = grind (arith, common_steps)
 
 pub read_rows-requires-clause-inside : goal.read_rows-requires-clause-inside
 read_rows-requires-clause-inside g c = search rules
+
+pub rows_of-rows-requires-clause-piece : goal.rows_of-rows-requires-clause-piece
+rows_of-rows-requires-clause-piece g c = grind (arith, common_steps)
+
+pub returns-clause-zones : goal.returns-clause-zones
+returns-clause-zones g c = grind (arith, common_steps)
+
+pub rows_of-rows-requires-clause-bands : goal.rows_of-rows-requires-clause-bands
+rows_of-rows-requires-clause-bands g c = grind (arith, common_steps)
+
+pub returns-clause-answers : goal.returns-clause-answers
+returns-clause-answers g c = grind (arith, common_steps)
+
+pub returns-clause-tints : goal.returns-clause-tints
+returns-clause-tints g c = grind (arith, common_steps)

@@ -24,3 +24,15 @@ slice_bounds-zones-end-2 g c = grind (arith, common_steps)
 
 pub make_zones-requires-clause-out : goal.make_zones-requires-clause-out
 make_zones-requires-clause-out g c = grind (arith, common_steps)
+
+pub rows_of-rows-requires-clause-piece : goal.rows_of-rows-requires-clause-piece
+rows_of-rows-requires-clause-piece g c = grind (arith, common_steps)
+
+pub make_zones-requires-clause-inside : goal.make_zones-requires-clause-inside
+make_zones-requires-clause-inside g c = grind (arith, common_steps)
+
+pub put_values-requires-clause-piece : goal.put_values-requires-clause-piece
+put_values-requires-clause-piece g c = grind (arith, common_steps)
+
+pub rows_of-rows-requires-clause-bands : goal.rows_of-rows-requires-clause-bands
+rows_of-rows-requires-clause-bands g c = grind (arith, common_steps)

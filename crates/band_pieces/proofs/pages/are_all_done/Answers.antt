@@ -17,3 +17,9 @@ loop-piece-preserved c =
 
 pub returns-then-not-sees_done-clause-looks : goal.returns-then-not-sees_done-clause-looks
 returns-then-not-sees_done-clause-looks c = grind (arith, common_steps)
+
+pub loop-piece-init : goal.loop-piece-init
+loop-piece-init c = grind (arith, common_steps)
+
+pub returns-then-not-sees_done-clause-undone : goal.returns-then-not-sees_done-clause-undone
+returns-then-not-sees_done-clause-undone c = grind (arith, common_steps)

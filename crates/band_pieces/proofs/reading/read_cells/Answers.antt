@@ -56,3 +56,15 @@ loop-o-preserved g c =
 
 pub returns-clause-here : goal.returns-clause-here
 returns-clause-here g c = grind (arith, common_steps)
+
+pub overflow_add-part-in-loop-o : goal.overflow_add-part-in-loop-o
+overflow_add-part-in-loop-o g c = grind (arith, common_steps)
+
+pub returns-clause-kept : goal.returns-clause-kept
+returns-clause-kept g c = grind (arith, common_steps)
+
+pub overflow_mul-part : goal.overflow_mul-part
+overflow_mul-part g c = grind (arith, common_steps)
+
+pub loop-o-init : goal.loop-o-init
+loop-o-init g c = grind (arith, common_steps)

@@ -60,3 +60,21 @@ read_part-requires-clause-inside g c = grind (arith, common_steps)
 
 pub read_part-requires-clause-out : goal.read_part-requires-clause-out
 read_part-requires-clause-out g c = grind (arith, common_steps)
+
+pub returns-then-whole-gt0-clause-kept : goal.returns-then-whole-gt0-clause-kept
+returns-then-whole-gt0-clause-kept g c = grind (arith, common_steps)
+
+pub read_whole-requires-clause-phase : goal.read_whole-requires-clause-phase
+read_whole-requires-clause-phase g c = grind (arith, common_steps)
+
+pub read_part-requires-clause-fits : goal.read_part-requires-clause-fits
+read_part-requires-clause-fits g c = grind (arith, common_steps)
+
+pub read_part-requires-clause-bits : goal.read_part-requires-clause-bits
+read_part-requires-clause-bits g c = grind (arith, common_steps)
+
+pub read_whole-requires-clause-fits : goal.read_whole-requires-clause-fits
+read_whole-requires-clause-fits g c = grind (arith, common_steps)
+
+pub returns-clause-kept : goal.returns-clause-kept
+returns-clause-kept g c = grind (arith, common_steps)

@@ -1,4 +1,5 @@
 -- read_part: unpacks values from one cell.
+use Rattle.std.proofs.lemmas.Grind.{common_steps}
 use Rattle.std.proofs.Common.{rules, ℕ, ◌+◌, ◌-◌, sym, ap, ◌∙◌, subst, arith}
 use Rattle.row_cells.specs.Packing.{lane}
 use Rattle.row_cells.specs.Places.{first_cell_of}
@@ -37,3 +38,12 @@ returns-clause-here g c j l =
 
 pub unpack_at-requires-clause-some : goal.unpack_at-requires-clause-some
 unpack_at-requires-clause-some g c = search rules
+
+pub unpack_at-requires-clause-few : goal.unpack_at-requires-clause-few
+unpack_at-requires-clause-few g c = grind (arith, common_steps)
+
+pub returns-clause-kept : goal.returns-clause-kept
+returns-clause-kept g c = grind (arith, common_steps)
+
+pub without_lanes-rest-requires-clause-few : goal.without_lanes-rest-requires-clause-few
+without_lanes-rest-requires-clause-few g c = grind (arith, common_steps)

@@ -1,4 +1,5 @@
 -- read_values: unpacks values of a piece.
+use Rattle.std.proofs.lemmas.Grind.{common_steps}
 use Rattle.std.proofs.Common.{◌≡◌, ℕ, ◌+◌, ap, ◌∙◌, arith}
 use Rattle.band_core.specs.Values.{value}
 use Rattle.band_claims.proofs.Cutting.{few_values}
@@ -36,3 +37,6 @@ loop-done-preserved g c =
 
 pub returns-clause-here : goal.returns-clause-here
 returns-clause-here g c j l = c.loop-done.invariant.here j (omega (arith, l, c.loop-done-test.false))
+
+pub returns-clause-kept : goal.returns-clause-kept
+returns-clause-kept g c = grind (arith, common_steps)

@@ -55,3 +55,6 @@ returns-clause-here g c x l =
 
 pub overflow_mul-run : goal.overflow_mul-run
 overflow_mul-run g c = grind (arith, common_steps)
+
+pub read_values-requires-clause-fits : goal.read_values-requires-clause-fits
+read_values-requires-clause-fits g c = grind (arith, common_steps)

@@ -74,3 +74,6 @@ overflow_cast-run-3 g c = grind (arith, common_steps)
 
 pub read_values-requires-clause-out : goal.read_values-requires-clause-out
 read_values-requires-clause-out g c = grind (arith, common_steps)
+
+pub nonzero_rem-run : goal.nonzero_rem-run
+nonzero_rem-run g c = grind (arith, common_steps)

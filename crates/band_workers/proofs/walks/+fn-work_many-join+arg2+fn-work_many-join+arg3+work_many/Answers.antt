@@ -41,3 +41,15 @@ fn::work_many::join+arg3+FnOnce::call_once-join+arg3-requires c = grind (arith, 
 
 pub fn::work_many::join+arg2+FnOnce::call_once-join+arg2-requires : goal.fn::work_many::join+arg2+FnOnce::call_once-join+arg2-requires
 fn::work_many::join+arg2+FnOnce::call_once-join+arg2-requires c = grind (arith, common_steps)
+
+pub join+arg2-returns : goal.join+arg2-returns
+join+arg2-returns c = grind (arith, common_steps)
+
+pub join+arg3-work_many-requires : goal.join+arg3-work_many-requires
+join+arg3-work_many-requires c = grind (arith, common_steps)
+
+pub join+arg2-work_many-requires : goal.join+arg2-work_many-requires
+join+arg2-work_many-requires c = grind (arith, common_steps)
+
+pub fn::work_many::join+arg2+FnOnce::call_once-returns : goal.fn::work_many::join+arg2+FnOnce::call_once-returns
+fn::work_many::join+arg2+FnOnce::call_once-returns c = grind (arith, common_steps)

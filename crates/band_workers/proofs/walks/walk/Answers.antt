@@ -46,3 +46,12 @@ loop-piece-preserved g c =
 
 pub returns-clause-accounted : goal.returns-clause-accounted
 returns-clause-accounted g c = grind (arith, common_steps)
+
+pub loop-piece-init : goal.loop-piece-init
+loop-piece-init g c = grind (arith, common_steps)
+
+pub returns-clause-more : goal.returns-clause-more
+returns-clause-more g c = grind (arith, common_steps)
+
+pub returns-clause-few : goal.returns-clause-few
+returns-clause-few g c = grind (arith, common_steps)

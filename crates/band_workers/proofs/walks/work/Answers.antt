@@ -5,3 +5,6 @@ use Rattle.band_workers.proofs.walks.work.Goals as goal
 
 pub loop-won-preserved : goal.loop-won-preserved
 loop-won-preserved g c = grind (arith, common_steps)
+
+pub loop-won-init : goal.loop-won-init
+loop-won-init g c = grind (arith, common_steps)

@@ -5,3 +5,6 @@ use Rattle.column_scan.proofs.lifts.lift_span.Goals as goal
 
 pub get-requires-in-loop-j-clause-place : goal.get-requires-in-loop-j-clause-place
 get-requires-in-loop-j-clause-place c = grind (arith, common_steps)
+
+pub put-requires-clause-place : goal.put-requires-clause-place
+put-requires-clause-place c = grind (arith, common_steps)

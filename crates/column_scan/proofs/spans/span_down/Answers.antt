@@ -5,3 +5,21 @@ use Rattle.column_scan.proofs.spans.span_down.Goals as goal
 
 pub put_codes-requires-clause-inside : goal.put_codes-requires-clause-inside
 put_codes-requires-clause-inside g c = grind (arith, common_steps)
+
+pub pairs_down-requires-clause-long : goal.pairs_down-requires-clause-long
+pairs_down-requires-clause-long g c = grind (arith, common_steps)
+
+pub returns-clause-after : goal.returns-clause-after
+returns-clause-after g c = grind (arith, common_steps)
+
+pub returns-clause-before : goal.returns-clause-before
+returns-clause-before g c = grind (arith, common_steps)
+
+pub returns-clause-each : goal.returns-clause-each
+returns-clause-each g c = grind (arith, common_steps)
+
+pub codes_of-requires-clause-inside : goal.codes_of-requires-clause-inside
+codes_of-requires-clause-inside g c = grind (arith, common_steps)
+
+pub pairs_down-requires-clause-above : goal.pairs_down-requires-clause-above
+pairs_down-requires-clause-above g c = grind (arith, common_steps)

@@ -1,6 +1,7 @@
 -- columns: writes, row by row from `first_row` on, for each of the `2 * width - 1` doubled columns
 -- 0 where no deciding edge is within `reach2` half-samples above or below the row's middle, else
 -- the offset `Y - 2y` of the nearest one, the upper one where two are as near, plus 257.
+use Rattle.std.proofs.lemmas.Grind.{common_steps}
 use Rattle.std.proofs.Common.{arith, ◌∙◌, ◌+◌, ◌-◌}
 use Rattle.column_scan.proofs.ColumnLemmas.{column-meets}
 use Rattle.column_scan.proofs.RowLemmas.{all_steps}
@@ -23,3 +24,12 @@ returns-clause-steps g c =
     let to = c.requires.to in
     let some = c.requires.some in
     all_steps _ _ _ _ _ _ _ c.rows_down.ensures.steps c.last_row_of.ensures.steps (omega (arith, from, to, top, some)) (omega (arith, from, to, top, some))
+
+pub rows_up-requires-clause-above : goal.rows_up-requires-clause-above
+rows_up-requires-clause-above g c = grind (arith, common_steps)
+
+pub rows_up-requires-clause-last : goal.rows_up-requires-clause-last
+rows_up-requires-clause-last g c = grind (arith, common_steps)
+
+pub last_row_of-requires-clause-above : goal.last_row_of-requires-clause-above
+last_row_of-requires-clause-above g c = grind (arith, common_steps)

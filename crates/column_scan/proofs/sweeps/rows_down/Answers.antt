@@ -1,4 +1,5 @@
 -- rows_down: goes down over the asked rows.
+use Rattle.std.proofs.lemmas.Grind.{common_steps}
 use Rattle.std.proofs.Common.{arith, ◌+◌, ◌∙◌, ◌≡◌, ap, refl, inl, inr}
 use Rattle.std.proofs.lemmas.Bool.{cases_eq}
 use Rattle.column_scan.specs.Sweep.{above_of}
@@ -32,3 +33,6 @@ returns-clause-above g c = λ k x2 lk l. c.loop-k.invariant.above k x2 (omega ar
 
 pub returns-clause-steps : goal.returns-clause-steps
 returns-clause-steps g c = down_steps _ _ _ _ _ c.loop-k.k _ c.first_row_of.ensures.steps c.loop-k.invariant.steps (omega arith)
+
+pub first_row_of-requires-clause-out : goal.first_row_of-requires-clause-out
+first_row_of-requires-clause-out g c = grind (arith, common_steps)

@@ -36,3 +36,6 @@ returns-then-count-eq0-clause-marks c = grind (arith, common_steps)
 
 pub returns-else-count-eq0-clause-kept : goal.returns-else-count-eq0-clause-kept
 returns-else-count-eq0-clause-kept c = grind (arith, common_steps)
+
+pub overflow_add-result-else-count-eq0 : goal.overflow_add-result-else-count-eq0
+overflow_add-result-else-count-eq0 c = grind (arith, common_steps)

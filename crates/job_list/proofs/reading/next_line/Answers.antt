@@ -1,5 +1,6 @@
 -- next_line: the line that comes next after so many bytes and these lines, and what is after it;
 -- `None` where it is a bad one.
+use Rattle.std.proofs.lemmas.Grind.{common_steps}
 use Rattle.std.proofs.Common.{◌≡◌, ◌∙◌, ℕ, List, Option, Some, sym, subst, arith}
 use Rattle.job_list.specs.Apart.{NextLine}
 use Rattle.job_list.specs.Lines.{LineParts, line_of}
@@ -17,3 +18,6 @@ returns-in-Some-2 c =
 
 pub returns-in-None : goal.returns-in-None
 returns-in-None c = no_line c.args.seen c.args.lines.now c.args.rest.now c.in-Some.text.now c.in-Some.suffix.now c.in-Some.ensures (sym c.in-None.is ∙ c.in_ok-line.ensures)
+
+pub overflow_add-seen : goal.overflow_add-seen
+overflow_add-seen c = grind (arith, common_steps)

@@ -33,3 +33,6 @@ unreachable-requires c =
 
 pub next_line-requires : goal.next_line-requires
 next_line-requires c = grind (arith, common_steps)
+
+pub overflow_sub-bytes : goal.overflow_sub-bytes
+overflow_sub-bytes c = grind (arith, common_steps)

@@ -16,3 +16,15 @@ returns-in-Err-clause-full g c = grind (arith, common_steps)
 
 pub loop-preserved : goal.loop-preserved
 loop-preserved g c = grind (arith, common_steps)
+
+pub returns-in-Err-clause-count : goal.returns-in-Err-clause-count
+returns-in-Err-clause-count g c = grind (arith, common_steps)
+
+pub returns-clause-full : goal.returns-clause-full
+returns-clause-full g c = grind (arith, common_steps)
+
+pub returns-in-Err-clause-pushed : goal.returns-in-Err-clause-pushed
+returns-in-Err-clause-pushed g c = grind (arith, common_steps)
+
+pub returns-in-Err-clause-queue : goal.returns-in-Err-clause-queue
+returns-in-Err-clause-queue g c = grind (arith, common_steps)

@@ -16,3 +16,39 @@ fn::serve_rooms::join+arg3+FnOnce::call_once-join+arg3-requires c = grind (arith
 
 pub join-worker-requires-after_bounds : goal.join-worker-requires-after_bounds
 join-worker-requires-after_bounds c = grind (arith, common_steps)
+
+pub returns-in_default-clause-served : goal.returns-in_default-clause-served
+returns-in_default-clause-served c = grind (arith, common_steps)
+
+pub returns-in_default-clause-taken : goal.returns-in_default-clause-taken
+returns-in_default-clause-taken c = grind (arith, common_steps)
+
+pub join+arg3-returns : goal.join+arg3-returns
+join+arg3-returns c = grind (arith, common_steps)
+
+pub join+arg3-serve_rooms-requires : goal.join+arg3-serve_rooms-requires
+join+arg3-serve_rooms-requires c = grind (arith, common_steps)
+
+pub returns-clause-queue : goal.returns-clause-queue
+returns-clause-queue c = grind (arith, common_steps)
+
+pub unreachable-requires : goal.unreachable-requires
+unreachable-requires c = grind (arith, common_steps)
+
+pub returns-in_default-clause-rooms : goal.returns-in_default-clause-rooms
+returns-in_default-clause-rooms c = grind (arith, common_steps)
+
+pub split_pass-worker-requires-clause-parts : goal.split_pass-worker-requires-clause-parts
+split_pass-worker-requires-clause-parts c = grind (arith, common_steps)
+
+pub returns-in_default-clause-made : goal.returns-in_default-clause-made
+returns-in_default-clause-made c = grind (arith, common_steps)
+
+pub fn::serve_rooms::join+arg3+FnOnce::call_once-returns : goal.fn::serve_rooms::join+arg3+FnOnce::call_once-returns
+fn::serve_rooms::join+arg3+FnOnce::call_once-returns c = grind (arith, common_steps)
+
+pub unreachable-unreachable : goal.unreachable-unreachable
+unreachable-unreachable c = grind (arith, common_steps)
+
+pub returns-clause-rooms : goal.returns-clause-rooms
+returns-clause-rooms c = grind (arith, common_steps)

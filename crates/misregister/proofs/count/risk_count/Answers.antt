@@ -1,5 +1,6 @@
 -- risk_count: how many samples of the sheet are at risk where each plate shifts by at most `radius`
 -- samples to each side.
+use Rattle.std.proofs.lemmas.Grind.{common_steps}
 use Rattle.std.proofs.Common.{◌≡◌, ℕ, suc, ◌+◌, ◌*◌, min, List, length, ap, ◌∙◌, arith, count_by, nat_eq}
 use Rattle.std.proofs.Math.Nat.{add-mul}
 use Rattle.page_model.specs.declared.parts.Plane.{Plane}
@@ -33,3 +34,6 @@ returns-clause-risk g c =
     let all : c.loop-c.c ≡ length planes = omega arith in
     c.at_risk.ensures ∙ ap (count_by (λ (s : ℕ). nat_eq s 1)) c.as_slice.ensures.value
     ∙ risk_by planes c.args.radius shades (omega arith) (omega arith) (λ x y l m. c.loop-c.invariant.shades x y l m ∙ ap (least_shade planes c.args.radius x y) all)
+
+pub loop-c-init : goal.loop-c-init
+loop-c-init g c = grind (arith, common_steps)

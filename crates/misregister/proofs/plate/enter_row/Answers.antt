@@ -1,4 +1,5 @@
 -- enter_row: asks plate c for row y, and notes where it has no ink and which columns the row bares.
+use Rattle.std.proofs.lemmas.Grind.{common_steps}
 use Rattle.std.proofs.Common.{List, ℕ, slice_index, ap, ◌∙◌, arith}
 use Rattle.std.specs.Vec.{with_items}
 use Rattle.std.proofs.lemmas.List.{with_items_is}
@@ -15,3 +16,6 @@ returns-clause-entered g c = λ older left before way.
     (with_items_is room.until c.put_near.new.until (omega arith)) (with_items_is room.shades c.darken_row.new.shades (omega arith))
     (λ x l. ap (λ (xs : List ℕ). slice_index xs x) (c.as_slice-row.ensures.value ∙ with_items_is room.row c.bare_row.new.row (omega arith)) ∙ c.bare_row.ensures.noted x l)
     c.put_near.ensures c.darken_row.ensures way)
+
+pub darken_row-requires : goal.darken_row-requires
+darken_row-requires g c = grind (arith, common_steps)

@@ -1,4 +1,5 @@
 -- shade_plate: darkens the samples by plate c, each of which is asked for once.
+use Rattle.std.proofs.lemmas.Grind.{common_steps}
 use Rattle.std.proofs.Common.{List, ℕ, min, slice_index, ap, ◌∙◌, refl, arith}
 use Rattle.std.specs.Vec.{with_items}
 use Rattle.std.proofs.lemmas.List.{with_items_is}
@@ -17,3 +18,6 @@ returns-clause-shades g c = λ x y l m.
     let passed = c.pass_rows.ensures.passed room.shades.items entered in
     let left = c.leave_rows.ensures.left r c.args.c room.shades.items (omega arith) (omega arith) passed in
     way_done planes r c.args.c room.shades.items c.leave_rows.new.room left x y l m)
+
+pub returns-clause-steps : goal.returns-clause-steps
+returns-clause-steps g c = grind (arith, common_steps)

@@ -22,3 +22,24 @@ loop-piece-preserved g c = record {
   well = search rules;
   size = grind (arith, common_steps);
 }
+
+pub returns-in-Err-extend_from_slice-clause-once : goal.returns-in-Err-extend_from_slice-clause-once
+returns-in-Err-extend_from_slice-clause-once g c = grind (arith, common_steps)
+
+pub returns-in-Ok-eq0-clause-taken : goal.returns-in-Ok-eq0-clause-taken
+returns-in-Ok-eq0-clause-taken g c = grind (arith, common_steps)
+
+pub loop-piece-smaller : goal.loop-piece-smaller
+loop-piece-smaller g c = grind (arith, common_steps)
+
+pub slice_bounds-extend_from_slice-end : goal.slice_bounds-extend_from_slice-end
+slice_bounds-extend_from_slice-end g c = grind (arith, common_steps)
+
+pub returns-in-Err-extend_from_slice-clause-cause : goal.returns-in-Err-extend_from_slice-clause-cause
+returns-in-Err-extend_from_slice-clause-cause g c = grind (arith, common_steps)
+
+pub returns-in-Ok-eq0-clause-left : goal.returns-in-Ok-eq0-clause-left
+returns-in-Ok-eq0-clause-left g c = grind (arith, common_steps)
+
+pub returns-in-Err-clause-few : goal.returns-in-Err-clause-few
+returns-in-Err-clause-few g c = grind (arith, common_steps)

@@ -5,3 +5,6 @@ use Rattle.page_model.proofs.reach.reach_of.Goals as goal
 
 pub overflow_cast-result : goal.overflow_cast-result
 overflow_cast-result c = grind (arith, common_steps)
+
+pub overflow_mul-width-2 : goal.overflow_mul-width-2
+overflow_mul-width-2 c = grind (arith, common_steps)

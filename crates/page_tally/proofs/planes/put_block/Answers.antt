@@ -1,5 +1,6 @@
 -- put_block: puts the new tints of some samples of plate c into row y of its plane, from sample x
 -- on, where they are not those of the page.
+use Rattle.std.proofs.lemmas.Grind.{common_steps}
 use Rattle.std.proofs.Common.{◌≡◌, ◌∙◌, true, arith, rules, ap, sym, List, ℕ}
 use Rattle.std.specs.Prelude.{slice_index}
 use Rattle.page_tally.proofs.StandingLemmas.{row_kept}
@@ -17,3 +18,6 @@ returns-clause-plane c = elim c.if-not-are_same.branch [
       ∙ (sym (c.part_of-2.ensures.each k l) ∙ (ap (λ (xs : List ℕ). slice_index xs k) (sym e) ∙ (c.part_of.ensures.each k l ∙ c.requires.before.each _ (omega (arith, l, c.min-count.ensures, c.requires.after.long, c.requires.column))))))
       c.requires.plane)
 ]
+
+pub put_samples-requires-clause-plane : goal.put_samples-requires-clause-plane
+put_samples-requires-clause-plane c = grind (arith, common_steps)

@@ -30,3 +30,6 @@ returns-clause-each c x l =
 
 pub loop-c-init : goal.loop-c-init
 loop-c-init c = grind (arith, common_steps)
+
+pub take_plate-requires-clause-row : goal.take_plate-requires-clause-row
+take_plate-requires-clause-row c = grind (arith, common_steps)

@@ -1,5 +1,6 @@
 -- write_plates: writes each plane as a plate into the file of its name, in order, as far as
 -- `write_page` goes before the report.
+use Rattle.std.proofs.lemmas.Grind.{common_steps}
 use Rattle.std.proofs.Common.{map, List, subst, rules, ◌≡◌, ◌++◌, [], ◌∷◌, ◌∙◌, sym, ap, arith}
 use Rattle.std.proofs.lemmas.List.{append_assoc, append-nil, length-append, length-map, nil_from_length}
 use Rattle.std.specs.Vec.Iter.{into_iter_items}
@@ -52,3 +53,18 @@ returns g c =
     let whole : c.loop-plane.yielded ≡ c.args.planes = sym (so_far.left ∙ ap (λ (ps : List Plane). c.loop-plane.yielded ++ ps) none ∙ append-nil c.loop-plane.yielded) in
     plates_written outputs c.args.planes before after tt (c.requires.count ∙ sym (length-map c.args.names.now g.S.AsStr.text)) so_far.keeps so_far.told
     (subst (λ (ps : List Plane). WritesAll (plate_files outputs ps) before after) whole so_far.wrote)
+
+pub loop-plane-preserved-derived : goal.loop-plane-preserved-derived
+loop-plane-preserved-derived g c = grind (arith, common_steps)
+
+pub offset_bounds-names-place : goal.offset_bounds-names-place
+offset_bounds-names-place g c = grind (arith, common_steps)
+
+pub overflow_add-place : goal.overflow_add-place
+overflow_add-place g c = grind (arith, common_steps)
+
+pub bounds-names-place : goal.bounds-names-place
+bounds-names-place g c = grind (arith, common_steps)
+
+pub overflow_cast-result : goal.overflow_cast-result
+overflow_cast-result g c = grind (arith, common_steps)

@@ -24,3 +24,12 @@ overflow_add-size g c = grind (arith, common_steps)
 
 pub overflow_mul-size : goal.overflow_mul-size
 overflow_mul-size g c = grind (arith, common_steps)
+
+pub returns-in-Err-Fault-Truncated-eq0-clause-answer : goal.returns-in-Err-Fault-Truncated-eq0-clause-answer
+returns-in-Err-Fault-Truncated-eq0-clause-answer g c = grind (arith, common_steps)
+
+pub returns-in-Ok-read_raster-clause-small : goal.returns-in-Ok-read_raster-clause-small
+returns-in-Ok-read_raster-clause-small g c = grind (arith, common_steps)
+
+pub returns-in-Ok-read_raster-clause-below : goal.returns-in-Ok-read_raster-clause-below
+returns-in-Ok-read_raster-clause-below g c = grind (arith, common_steps)

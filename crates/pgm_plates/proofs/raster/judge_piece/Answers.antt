@@ -1,4 +1,5 @@
 -- judge_piece: reads as many bytes as there is room for, and judges the samples that they spell.
+use Rattle.std.proofs.lemmas.Grind.{common_steps}
 use Rattle.std.proofs.Common.{◌≡◌, ◌*◌, ◌+◌, List, length, take, ap, sym, subst, ◌∙◌, ℕ, arith}
 use Rattle.std.proofs.lemmas.List.{length-take-le, take_all}
 use Rattle.pgm_plates.specs.Plates.{sample_size}
@@ -57,3 +58,12 @@ returns-in-Broken-clause-answer g c = λ count room.
       piece_part m count bytes (samples_spelled m bytes) c.first_above.ensures.decoded c.in-None.ensures.fit (within_room buf filled count (sample_size m) c.fill-filled.ensures.within room),
       c.fill-filled.ensures.broken c.in-Broken.is,
     )
+
+pub overflow_mul-result : goal.overflow_mul-result
+overflow_mul-result g c = grind (arith, common_steps)
+
+pub returns-in-Some-clause-near : goal.returns-in-Some-clause-near
+returns-in-Some-clause-near g c = grind (arith, common_steps)
+
+pub overflow_add-result : goal.overflow_add-result
+overflow_add-result g c = grind (arith, common_steps)

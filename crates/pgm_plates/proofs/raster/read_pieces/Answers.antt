@@ -51,3 +51,21 @@ slice_bounds-extend_from_slice-end-in-Ok g c = grind (arith, common_steps)
 
 pub loop-form-smaller : goal.loop-form-smaller
 loop-form-smaller g c = grind (arith, common_steps)
+
+pub read_values-requires-clause-start : goal.read_values-requires-clause-start
+read_values-requires-clause-start g c = grind (arith, common_steps)
+
+pub overflow_mul-done : goal.overflow_mul-done
+overflow_mul-done g c = grind (arith, common_steps)
+
+pub overflow_add-start : goal.overflow_add-start
+overflow_add-start g c = grind (arith, common_steps)
+
+pub returns-in-Err-clause-uncut : goal.returns-in-Err-clause-uncut
+returns-in-Err-clause-uncut g c = grind (arith, common_steps)
+
+pub overflow_mul-want : goal.overflow_mul-want
+overflow_mul-want g c = grind (arith, common_steps)
+
+pub returns-in-Err-extend_from_slice-clause-uncut : goal.returns-in-Err-extend_from_slice-clause-uncut
+returns-in-Err-extend_from_slice-clause-uncut g c = grind (arith, common_steps)

@@ -43,3 +43,6 @@ overflow_add-start g c = grind (arith, common_steps)
 
 pub overflow_mul-count-2 : goal.overflow_mul-count-2
 overflow_mul-count-2 g c = grind (arith, common_steps)
+
+pub returns-in-Ok-end_of_file-clause-below : goal.returns-in-Ok-end_of_file-clause-below
+returns-in-Ok-end_of_file-clause-below g c = grind (arith, common_steps)

@@ -44,3 +44,15 @@ returns-in-Err-clause-count g c =
 
 pub overflow_mul-want : goal.overflow_mul-want
 overflow_mul-want g c = grind (arith, common_steps)
+
+pub returns-clause-answer : goal.returns-clause-answer
+returns-clause-answer g c = grind (arith, common_steps)
+
+pub loop-done-smaller : goal.loop-done-smaller
+loop-done-smaller g c = grind (arith, common_steps)
+
+pub read_piece-requires-clause-room : goal.read_piece-requires-clause-room
+read_piece-requires-clause-room g c = grind (arith, common_steps)
+
+pub returns-in-Err-clause-memory : goal.returns-in-Err-clause-memory
+returns-in-Err-clause-memory g c = grind (arith, common_steps)

@@ -40,3 +40,6 @@ returns-in-Err-clause-count g c =
 
 pub loop-done-smaller : goal.loop-done-smaller
 loop-done-smaller g c = grind (arith, common_steps)
+
+pub overflow_mul-want : goal.overflow_mul-want
+overflow_mul-want g c = grind (arith, common_steps)

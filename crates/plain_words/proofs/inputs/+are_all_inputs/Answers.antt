@@ -8,3 +8,6 @@ returns-then-is_input_word c = grind (arith, common_steps)
 
 pub returns-else-is_input_word : goal.returns-else-is_input_word
 returns-else-is_input_word c = grind (arith, common_steps)
+
+pub returns-in-empty : goal.returns-in-empty
+returns-in-empty c = grind (arith, common_steps)

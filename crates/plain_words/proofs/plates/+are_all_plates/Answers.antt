@@ -8,3 +8,6 @@ returns-then-is_plate g c = grind (arith, common_steps)
 
 pub returns-else-is_plate : goal.returns-else-is_plate
 returns-else-is_plate g c = grind (arith, common_steps)
+
+pub returns-in-empty : goal.returns-in-empty
+returns-in-empty g c = grind (arith, common_steps)

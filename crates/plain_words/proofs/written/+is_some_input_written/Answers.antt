@@ -8,3 +8,6 @@ returns-then-is_written g c = grind (arith, common_steps)
 
 pub returns-else-is_written : goal.returns-else-is_written
 returns-else-is_written g c = grind (arith, common_steps)
+
+pub returns-in-empty : goal.returns-in-empty
+returns-in-empty g c = grind (arith, common_steps)

@@ -5,3 +5,9 @@ use Rattle.press_check.proofs.check.read_page.Goals as goal
 
 pub gather-requires-clause-named : goal.gather-requires-clause-named
 gather-requires-clause-named g c = grind (arith, common_steps)
+
+pub gather-requires-clause-some : goal.gather-requires-clause-some
+gather-requires-clause-some g c = grind (arith, common_steps)
+
+pub gather-requires-clause-few : goal.gather-requires-clause-few
+gather-requires-clause-few g c = grind (arith, common_steps)

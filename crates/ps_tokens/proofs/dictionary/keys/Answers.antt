@@ -1,4 +1,5 @@
 -- keys: the places of the keys of the dictionary at a place, in order.
+use Rattle.std.proofs.lemmas.Grind.{common_steps}
 use Rattle.std.proofs.Common.{◌≡◌, ◌<◌, ◌-◌, ◌+◌, ◌++◌, ◌∷◌, [], length, false-eqb, sym, ap, ◌∙◌, append_assoc, arith, rules}
 use Rattle.ps_tokens.specs.Dictionaries.{keys_from}
 use Rattle.ps_tokens.proofs.Entries.{keys_from-entry, length-objects}
@@ -25,3 +26,6 @@ entries-preserved c =
       left = omega (arith, c.after_entry-rest.ensures.less, c.entries.invariant.left);
       fits = λ more. c.entries.invariant.fits some;
     }
+
+pub returns : goal.returns
+returns c = grind (arith, common_steps)

@@ -1,5 +1,6 @@
 -- by_name: the names of keys, each with the last of its places.
-use Rattle.std.proofs.Common.{[], get_or, take, fold, sym, ap, ◌∙◌}
+use Rattle.std.proofs.lemmas.Grind.{common_steps}
+use Rattle.std.proofs.Common.{arith, [], get_or, take, fold, sym, ap, ◌∙◌}
 use Rattle.std.specs.Prelude.{map}
 use Rattle.std.specs.Ordering.{nat_cmp}
 use Rattle.std.specs.BTreeMap.{insert_entry}
@@ -18,3 +19,6 @@ loop-key-preserved c =
     ∙ ap (λ es. insert_entry (slice_cmp nat_cmp) es c.name_at.result.now (get_or keys i 0)) c.loop-key.invariant
     ∙ ap (λ n. insert_entry (slice_cmp nat_cmp) (fold (put_key c.args.objects.now) [] (take i keys)) n (get_or keys i 0)) c.name_at.ensures
     ∙ sym (fold_more (put_key c.args.objects.now) [] keys i 0 c.loop-key-test.true)
+
+pub returns : goal.returns
+returns c = grind (arith, common_steps)

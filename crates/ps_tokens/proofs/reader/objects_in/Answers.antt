@@ -22,3 +22,6 @@ loop-left-preserved c = record {
 
 pub returns : goal.returns
 returns c = grind (arith, common_steps)
+
+pub loop-left-init : goal.loop-left-init
+loop-left-init c = grind (arith, common_steps)

@@ -19,3 +19,6 @@ loop-j-preserved g c =
 
 pub returns-then-packed-eq0 : goal.returns-then-packed-eq0
 returns-then-packed-eq0 g c = grind (arith, common_steps)
+
+pub returns : goal.returns
+returns g c = grind (arith, common_steps)

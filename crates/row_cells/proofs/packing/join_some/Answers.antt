@@ -1,4 +1,5 @@
 -- What `join_some` has to show.
+use Rattle.std.proofs.lemmas.Grind.{common_steps}
 use Rattle.std.proofs.Common.{ℕ, ◌-◌, List, ◌∙◌, arith}
 use Rattle.row_cells.proofs.Lanes.{next_small, next_sum, under, drop_le}
 use Rattle.row_cells.proofs.Numbers.{as_many, number_read}
@@ -29,3 +30,6 @@ pub returns-clause-bound : goal.returns-clause-bound
 returns-clause-bound g c =
     let vs : List ℕ = g.V.CellValue.numbers c.args.values.now in let same = as_many g.met.V.CellValue.each c.args.values.now in
     omega (arith, c.loop-j.invariant.so_far, drop_le c.args.bits c.loop-j.j vs, under c.args.bits vs c.requires.bits (omega (arith, same, c.requires.few)) c.requires.small)
+
+pub loop-j-init : goal.loop-j-init
+loop-j-init g c = grind (arith, common_steps)

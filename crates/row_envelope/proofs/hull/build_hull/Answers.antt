@@ -1,4 +1,5 @@
 -- build_hull: the hull of all arms, and how many entries it has.
+use Rattle.std.proofs.lemmas.Grind.{common_steps}
 use Rattle.std.proofs.Common.{arith, refl}
 use Rattle.std.proofs.lemmas.List.{length-set}
 use Rattle.row_envelope.proofs.HullLemmas.{joined}
@@ -15,3 +16,6 @@ loop-i-preserved g c =
       cost = omega (arith, c.settle-joint.ensures.cost, c.loop-i.invariant.cost);
       hull = joined _ _ _ _ _ _ _ _ c.loop-i.invariant.hull fewer (omega arith) (omega arith) c.settle-joint.ensures.settled;
     }
+
+pub settle-joint-requires-clause-order : goal.settle-joint-requires-clause-order
+settle-joint-requires-clause-order g c = grind (arith, common_steps)

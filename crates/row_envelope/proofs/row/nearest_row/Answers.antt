@@ -1,5 +1,6 @@
 -- nearest_row: writes for each sample of a row the place in `arms` of the arm with the least `((X -
 -- 2x)^2 + offset^2, X)`.
+use Rattle.std.proofs.lemmas.Grind.{common_steps}
 use Rattle.std.proofs.Common.{ap, arith, ◌∙◌, sym}
 use Rattle.std.proofs.lemmas.Bool.{eqb-true}
 use Rattle.row_envelope.specs.Room.{Room}
@@ -26,3 +27,15 @@ spread-requires-clause-starts g c = (let few = few_arms c.args.arms.now c.args.w
 
 pub returns-clause-cost : goal.returns-clause-cost
 returns-clause-cost g c = omega (arith, c.build_hull-held.ensures.cost, few_arms c.args.arms.now c.args.width c.requires.some c.requires.order c.requires.inside)
+
+pub returns-clause-len : goal.returns-clause-len
+returns-clause-len g c = grind (arith, common_steps)
+
+pub build_hull-held-requires-clause-order : goal.build_hull-held-requires-clause-order
+build_hull-held-requires-clause-order g c = grind (arith, common_steps)
+
+pub returns-clause-nearest : goal.returns-clause-nearest
+returns-clause-nearest g c = grind (arith, common_steps)
+
+pub spread-requires-clause-some : goal.spread-requires-clause-some
+spread-requires-clause-some g c = grind (arith, common_steps)

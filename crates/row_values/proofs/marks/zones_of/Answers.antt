@@ -5,3 +5,6 @@ use Rattle.row_values.proofs.marks.zones_of.Goals as goal
 
 pub returns-then-y-height-clause-zones : goal.returns-then-y-height-clause-zones
 returns-then-y-height-clause-zones c = grind (arith, common_steps)
+
+pub row_of_bytes-requires-clause-inside : goal.row_of_bytes-requires-clause-inside
+row_of_bytes-requires-clause-inside c = grind (arith, common_steps)

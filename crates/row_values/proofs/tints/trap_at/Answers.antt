@@ -1,5 +1,6 @@
 -- trap_at: puts the new tints of p, whose deciding edge the row's columns give, into the row.
-use Rattle.std.proofs.Common.{◌∙◌, sym}
+use Rattle.std.proofs.lemmas.Grind.{common_steps}
+use Rattle.std.proofs.Common.{arith, ◌∙◌, sym}
 use Rattle.row_values.proofs.QuietLemmas.{edge_is, edge_small, keeps_far, keeps_here, new_by_columns}
 use Rattle.row_values.proofs.RowLemmas.{kept_further}
 use Rattle.row_values.proofs.tints.trap_at.Goals as goal
@@ -18,3 +19,9 @@ put_tints-requires-clause-tints c = λ k l. new_by_columns c.args.page.now c.arg
 
 pub returns-else-trap_sample-clause-out : goal.returns-else-trap_sample-clause-out
 returns-else-trap_sample-clause-out c = kept_further c.args.page.now c.args.p.y c.args.p.x c.args.out.now (keeps_here c.args.page.now c.args.p c.args.nearest c.plates-valid.ensures.valid c.requires.edge (sym c.trap_sample.ensures.trapped ∙ c.if-trap_sample.false)) c.requires.out
+
+pub put_tints-requires-clause-out : goal.put_tints-requires-clause-out
+put_tints-requires-clause-out c = grind (arith, common_steps)
+
+pub returns-then-trap_sample-clause-out : goal.returns-then-trap_sample-clause-out
+returns-then-trap_sample-clause-out c = grind (arith, common_steps)

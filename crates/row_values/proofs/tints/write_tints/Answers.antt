@@ -27,3 +27,15 @@ returns-clause-kept c = λ i l. row_above c.args.rows.count c.args.k _ _ _ i c.a
 
 pub returns-clause-len : goal.returns-clause-len
 returns-clause-len c = row_long c.args.rows.count c.args.k _ _ c.args.out.now _ c.requires.row c.requires.out (cc) (c.make_row.ensures.len ∙ row_part c.args.rows.count c.args.k _ _ c.args.out.now c.requires.row c.requires.out (cc))
+
+pub offset_bounds-out-start : goal.offset_bounds-out-start
+offset_bounds-out-start c = grind (arith, common_steps)
+
+pub row_of_bytes-here-requires-clause-inside : goal.row_of_bytes-here-requires-clause-inside
+row_of_bytes-here-requires-clause-inside c = grind (arith, common_steps)
+
+pub overflow_add-start : goal.overflow_add-start
+overflow_add-start c = grind (arith, common_steps)
+
+pub make_row-requires-clause-out : goal.make_row-requires-clause-out
+make_row-requires-clause-out c = grind (arith, common_steps)

@@ -5,3 +5,6 @@ use Rattle.strip_engine.proofs.strips.new_buffers.Goals as goal
 
 pub returns : goal.returns
 returns c = grind (arith, common_steps)
+
+pub overflow_mul-plates : goal.overflow_mul-plates
+overflow_mul-plates c = grind (arith, common_steps)

@@ -34,3 +34,6 @@ loop-k-init c = record {
   room = refl;
   outcome = subst (λ (n : ℕ). IsTaken c.args.page.now n c.args.counted c.args.outcome.now) (let same : c.args.rows.first ≡ c.args.rows.first + 0 = omega arith in same) c.requires.outcome;
 }
+
+pub trap_row-requires-clause-outcome : goal.trap_row-requires-clause-outcome
+trap_row-requires-clause-outcome c = grind (arith, common_steps)

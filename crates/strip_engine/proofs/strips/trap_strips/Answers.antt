@@ -29,3 +29,6 @@ overflow_mul-codes c = grind (arith, common_steps)
 
 pub slice_bounds-codes-end-in-loop-first : goal.slice_bounds-codes-end-in-loop-first
 slice_bounds-codes-end-in-loop-first c = grind (arith, common_steps)
+
+pub trap_strip-requires-clause-outcome : goal.trap_strip-requires-clause-outcome
+trap_strip-requires-clause-outcome c = grind (arith, common_steps)

@@ -5,3 +5,9 @@ use Rattle.strip_tiles.proofs.counting.add_sheet_counts.Goals as goal
 
 pub returns : goal.returns
 returns c = grind (arith, common_steps)
+
+pub add_counts-requires-2-clause-few : goal.add_counts-requires-2-clause-few
+add_counts-requires-2-clause-few c = grind (arith, common_steps)
+
+pub add_counts-requires-3-clause-few : goal.add_counts-requires-3-clause-few
+add_counts-requires-3-clause-few c = grind (arith, common_steps)

@@ -1,5 +1,6 @@
 -- trap_strip_in: traps the windows of a strip side by side, by so many workers, in a room for
 -- strips of its form and number of rows, and adds what is counted in the strip.
+use Rattle.std.proofs.lemmas.Grind.{common_steps}
 use Rattle.std.proofs.Common.{List, ap, arith, length, subst, sym, ◌∙◌}
 use Rattle.std.specs.Prelude.{map}
 use Rattle.std.specs.List.{All}
@@ -64,3 +65,6 @@ returns-clause-planes g c =
     let same = maps_same (λ (w : WindowRoom). w.column) c.deref_mut.result.now ws c.trap_each_in.ensures.count (λ k d l. c.trap_each_in.ensures.columns k d l) ∙ ap (map (λ (w : WindowRoom). w.column)) value in
     let items = with_items_is c.args.room.now.windows ws (omega (arith, c.trap_each_in.ensures.count, ap length value, c.args.room.now.windows.ok)) in
     ap (map (λ (w : WindowRoom). w.room.outcome.planes)) items ∙ tiles_are c.args.strip.now c.args.row.now c.args.at ws c.trap_each_in.ensures.trapped ∙ ap (map (planes_of c.args.strip.now c.args.row.now)) same
+
+pub trap_each_in-requires-clause-row : goal.trap_each_in-requires-clause-row
+trap_each_in-requires-clause-row g c = grind (arith, common_steps)

@@ -1,5 +1,6 @@
 -- put_strip_row: puts row k of the new tints of plate c of the strip that was trapped in the room
 -- last.
+use Rattle.std.proofs.lemmas.Grind.{common_steps}
 use Rattle.std.proofs.Common.{◌≡◌, ℕ, ◌+◌, ◌++◌, ◌<◌, ◌≤◌, List, ap, arith, drop, length, sym, take, ◌∙◌}
 use Rattle.std.specs.Prelude.{map, slice_index_or}
 use Rattle.std.proofs.lemmas.List.{length-map}
@@ -90,3 +91,9 @@ loop-j-preserved c =
           ∙ (λ i. c.loop-j.invariant.done i ++ c.row_of_core-run.ensures i)
           ∙ sym (row_more c.args.c strip c.args.k (λ (column : Span). tile_of column row) columns j w.column many ∙ ap (λ (s : Span). strip_row c.args.c strip c.args.k (map (λ (column : Span). tile_of column row) (take j columns)) ++ core_row c.args.c strip c.args.k (tile_of s row)) column);
     }
+
+pub row_of_core-run-requires-clause-row : goal.row_of_core-run-requires-clause-row
+row_of_core-run-requires-clause-row c = grind (arith, common_steps)
+
+pub returns : goal.returns
+returns c = grind (arith, common_steps)

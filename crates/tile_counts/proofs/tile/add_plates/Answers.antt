@@ -8,3 +8,6 @@ loop-c-init c = grind (arith, common_steps)
 
 pub loop-c-preserved : goal.loop-c-preserved
 loop-c-preserved c = grind (arith, common_steps)
+
+pub overflow_add-counts : goal.overflow_add-counts
+overflow_add-counts c = grind (arith, common_steps)

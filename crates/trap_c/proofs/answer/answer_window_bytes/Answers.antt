@@ -1,5 +1,6 @@
 -- Goals of answer_window_bytes that want a lemma by name.
-use Rattle.std.proofs.Common.{ℕ, List, length, subst}
+use Rattle.std.proofs.lemmas.Grind.{common_steps}
+use Rattle.std.proofs.Common.{arith, ℕ, List, length, subst}
 use Rattle.sheet_windows.specs.declared.cuts.Cut.{Cut}
 use Rattle.trap_c.specs.Calls.{Tells}
 use Rattle.trap_c.specs.Cores.{HaveCores}
@@ -23,3 +24,6 @@ returns-in-Ok c = window_done 255 (asked c.args.request.now) c.args.place.now c.
 
 pub put_byte_cores-requires-clause-narrow : goal.put_byte_cores-requires-clause-narrow
 put_byte_cores-requires-clause-narrow c = each_narrow c.args.request.now.layout c.args.samples.now c.in-Ok.ensures.0 (core_report c.args.place.now c.in-Ok.ensures.0) c.in-Ok.done c.in-Ok.ensures.2
+
+pub put_byte_cores-requires-clause-core : goal.put_byte_cores-requires-clause-core
+put_byte_cores-requires-clause-core c = grind (arith, common_steps)

@@ -1,5 +1,6 @@
 -- Goals of answer_window_words that want a lemma by name.
-use Rattle.std.proofs.Common.{ℕ, List, length, subst}
+use Rattle.std.proofs.lemmas.Grind.{common_steps}
+use Rattle.std.proofs.Common.{arith, ℕ, List, length, subst}
 use Rattle.sheet_windows.specs.declared.cuts.Cut.{Cut}
 use Rattle.trap_c.specs.Calls.{Tells}
 use Rattle.trap_c.specs.Cores.{HaveCores}
@@ -20,3 +21,6 @@ put_word_cores-requires-clause-few c = few_lie 65535 c.args.request.now.layout c
 
 pub returns-in-Ok : goal.returns-in-Ok
 returns-in-Ok c = window_done 65535 (asked c.args.request.now) c.args.place.now c.args.samples.now c.put_word_cores.new.samples c.args.text.now c.put_text.new.text c.put_text.new.text_len c.in-Ok.done c.in-Ok.ensures (subst (λ (core : Cut). HaveCores c.args.request.now.layout core c.in-Ok.done.planes c.args.samples.now c.put_word_cores.new.samples (length c.in-Ok.done.planes)) c.core_of.ensures c.put_word_cores.ensures) (subst (λ (t : List ℕ). Tells t c.args.text.now c.put_text.new.text c.put_text.new.text_len) c.as_slice.ensures c.put_text.ensures) c.window_law.ensures c.tile_law.ensures
+
+pub put_word_cores-requires-clause-core : goal.put_word_cores-requires-clause-core
+put_word_cores-requires-clause-core c = grind (arith, common_steps)

@@ -24,3 +24,6 @@ put_bytes_row-requires-clause-narrow c = low_run 255 c.args.tints.now c.core_row
 
 pub overflow_add-first-in-loop-y-2 : goal.overflow_add-first-in-loop-y-2
 overflow_add-first-in-loop-y-2 c = grind (arith, common_steps)
+
+pub overflow_mul-first-in-loop-y : goal.overflow_mul-first-in-loop-y
+overflow_mul-first-in-loop-y c = grind (arith, common_steps)

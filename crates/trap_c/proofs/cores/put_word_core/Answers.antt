@@ -21,3 +21,6 @@ put_words_row-requires c = run_fits c.args.layout c.args.core.now c.args.c c.loo
 
 pub overflow_add-first-in-loop-y-2 : goal.overflow_add-first-in-loop-y-2
 overflow_add-first-in-loop-y-2 c = grind (arith, common_steps)
+
+pub overflow_mul-first-in-loop-y : goal.overflow_mul-first-in-loop-y
+overflow_mul-first-in-loop-y c = grind (arith, common_steps)

@@ -15,3 +15,15 @@ put_bytes_row-requires-clause-narrow c = grind (arith, common_steps)
 
 pub overflow_mul-first-in-loop-y : goal.overflow_mul-first-in-loop-y
 overflow_mul-first-in-loop-y c = grind (arith, common_steps)
+
+pub returns-clause-here : goal.returns-clause-here
+returns-clause-here c = grind (arith, common_steps)
+
+pub offset_bounds-tints-y : goal.offset_bounds-tints-y
+offset_bounds-tints-y c = grind (arith, common_steps)
+
+pub slice_bounds-put_bytes_row-end : goal.slice_bounds-put_bytes_row-end
+slice_bounds-put_bytes_row-end c = grind (arith, common_steps)
+
+pub put_bytes_row-requires-clause-inside : goal.put_bytes_row-requires-clause-inside
+put_bytes_row-requires-clause-inside c = grind (arith, common_steps)

@@ -12,3 +12,15 @@ loop-y-preserved c =
 
 pub overflow_mul-first-in-loop-y : goal.overflow_mul-first-in-loop-y
 overflow_mul-first-in-loop-y c = grind (arith, common_steps)
+
+pub returns-clause-here : goal.returns-clause-here
+returns-clause-here c = grind (arith, common_steps)
+
+pub slice_bounds-put_words_row-end : goal.slice_bounds-put_words_row-end
+slice_bounds-put_words_row-end c = grind (arith, common_steps)
+
+pub put_words_row-requires : goal.put_words_row-requires
+put_words_row-requires c = grind (arith, common_steps)
+
+pub offset_bounds-tints-y : goal.offset_bounds-tints-y
+offset_bounds-tints-y c = grind (arith, common_steps)

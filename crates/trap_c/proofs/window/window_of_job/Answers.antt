@@ -1,4 +1,5 @@
 -- Goals of window_of_job that want a lemma by name.
+use Rattle.std.proofs.lemmas.Grind.{common_steps}
 use Rattle.std.proofs.Common.{◌≡◌, Bool, true, length, sym, subst, rules, arith}
 use Rattle.std.proofs.lemmas.Bool.Decides.{nat_tests}
 use Rattle.job_reader.specs.declared.job.Job.{Job}
@@ -18,3 +19,6 @@ returns-in-Ok-clause-gives c =
     let right : suits c.args.job c.args.layout c.args.place.now ≡ true = first_of (cc, first_of (search rules, grind (arith, nat_tests))) in
     subst (λ (b : Bool). GivesWindow (placed b (near_window (moved_job c.args.layout c.args.place.now c.args.job) c.args.names.now planes)) c.window_of_moved.result) (sym right)
     (subst (λ (j : Job). GivesWindow (near_window j c.args.names.now planes) c.window_of_moved.result) c.in-Ok.ensures c.window_of_moved.ensures.gives)
+
+pub returns-then-not-suits-clause-gives : goal.returns-then-not-suits-clause-gives
+returns-then-not-suits-clause-gives c = grind (arith, common_steps)

@@ -1,4 +1,6 @@
 -- carry_out: reads the page, traps it, and only then writes.
+use Rattle.std.proofs.lemmas.Grind.{common_steps}
+use Rattle.std.proofs.Common.{arith}
 use Rattle.page_gather.proofs.GatherLemmas.{gathered}
 use Rattle.trap_words.specs.Held.{page_in}
 use Rattle.trap_cli.specs.Commands.{sources_of, targets_of}
@@ -10,3 +12,6 @@ returns-in-Ok g c = read_and_put (page_in c.args.command.now).band (sources_of (
 
 pub returns-in-Err : goal.returns-in-Err
 returns-in-Err g c = refused_first (page_in c.args.command.now).band (sources_of (page_in c.args.command.now)) (targets_of (page_in c.args.command.now)) (g.T.Tray.state c.args.tray.now) (g.T.Tray.state c.read_page.new.tray) (g.R.Rack.state c.args.rack.now) c.in-Err.refusal c.in-Err.ensures
+
+pub write_out-requires-clause-count : goal.write_out-requires-clause-count
+write_out-requires-clause-count g c = grind (arith, common_steps)

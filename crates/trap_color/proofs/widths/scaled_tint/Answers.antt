@@ -8,3 +8,9 @@ overflow_mul-value c = grind (arith, common_steps)
 
 pub overflow_mul-value-2 : goal.overflow_mul-value-2
 overflow_mul-value-2 c = grind (arith, common_steps)
+
+pub overflow_cast-result : goal.overflow_cast-result
+overflow_cast-result c = grind (arith, common_steps)
+
+pub overflow_cast-result-2 : goal.overflow_cast-result-2
+overflow_cast-result-2 c = grind (arith, common_steps)

@@ -43,3 +43,9 @@ returns-clause-parts c = grind (arith, common_steps)
 
 pub returns-clause-size : goal.returns-clause-size
 returns-clause-size c = grind (arith, common_steps)
+
+pub returns-clause-seats : goal.returns-clause-seats
+returns-clause-seats c = grind (arith, common_steps)
+
+pub loop-first-init : goal.loop-first-init
+loop-first-init c = grind (arith, common_steps)

@@ -1,5 +1,6 @@
 -- put_works: puts the plates, which are all taken, into the outcome, and how many samples of each
 -- change.
+use Rattle.std.proofs.lemmas.Grind.{common_steps}
 use Rattle.std.proofs.Common.{◌≡◌, ◌∙◌, ◌∷◌, ◌++◌, ◌<◌, ◌+◌, ℕ, [], List, ap, arith, length, subst, inl, inr}
 use Rattle.std.specs.Prelude.{slice_index_or, vec_len}
 use Rattle.std.proofs.lemmas.Bool.{cases_eq}
@@ -49,3 +50,6 @@ loop-work-preserved c =
         | inr ne ↦ rw (get_or-set_other old.plate_changed.items n j work.changed 0 ne) (v.changed j (omega (arith, a, ne, one_more, c.len.ensures)) l)
       ]);
     }
+
+pub loop-work-init : goal.loop-work-init
+loop-work-init c = grind (arith, common_steps)

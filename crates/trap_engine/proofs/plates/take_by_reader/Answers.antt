@@ -5,3 +5,9 @@ use Rattle.trap_engine.proofs.plates.take_by_reader.Goals as goal
 
 pub returns-clause-work : goal.returns-clause-work
 returns-clause-work c = grind (arith, common_steps)
+
+pub take_plate-work-requires-clause-known : goal.take_plate-work-requires-clause-known
+take_plate-work-requires-clause-known c = grind (arith, common_steps)
+
+pub take_plate-work-requires-clause-room : goal.take_plate-work-requires-clause-room
+take_plate-work-requires-clause-room c = grind (arith, common_steps)

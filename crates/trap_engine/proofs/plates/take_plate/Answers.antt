@@ -1,5 +1,6 @@
 -- take_plate: takes plate c out of the cells of a table whose pieces are done, row by row, and
 -- tells how many of its samples change.
+use Rattle.std.proofs.lemmas.Grind.{common_steps}
 use Rattle.std.proofs.Common.{◌∙◌, arith, refl}
 use Rattle.page_tally.proofs.CountLemmas.{row_counted}
 use Rattle.trap_engine.proofs.TakeLemmas.{changed_fits, none_changed, none_held, plate_all}
@@ -48,3 +49,6 @@ loop-y-preserved g c = record {
 
 pub returns-clause-taken : goal.returns-clause-taken
 returns-clause-taken g c = plate_all c.args.page.now c.args.c c.loop-y.y c.loop-y.tints.items c.loop-y.changed (omega (arith, c.loop-y.invariant.end, c.loop-y-test.false, c.loop-y.auto.y-end)) c.loop-y.invariant.tints c.loop-y.invariant.changed
+
+pub add_row-changed-requires-clause-tints : goal.add_row-changed-requires-clause-tints
+add_row-changed-requires-clause-tints g c = grind (arith, common_steps)

@@ -32,3 +32,9 @@ loop-preserved c =
 
 pub returns-clause-works : goal.returns-clause-works
 returns-clause-works c = grind (arith, common_steps)
+
+pub returns-clause-seats : goal.returns-clause-seats
+returns-clause-seats c = grind (arith, common_steps)
+
+pub loop-init : goal.loop-init
+loop-init c = grind (arith, common_steps)

@@ -8,3 +8,15 @@ put_works-requires-clause-works c = grind (arith, common_steps)
 
 pub add_parts-requires-clause-plates : goal.add_parts-requires-clause-plates
 add_parts-requires-clause-plates c = grind (arith, common_steps)
+
+pub add_parts-requires-clause-parts : goal.add_parts-requires-clause-parts
+add_parts-requires-clause-parts c = grind (arith, common_steps)
+
+pub returns-clause-parts_room : goal.returns-clause-parts_room
+returns-clause-parts_room c = grind (arith, common_steps)
+
+pub returns-clause-rows : goal.returns-clause-rows
+returns-clause-rows c = grind (arith, common_steps)
+
+pub count_those_left-requires-clause-parts : goal.count_those_left-requires-clause-parts
+count_those_left-requires-clause-parts c = grind (arith, common_steps)

@@ -1,4 +1,5 @@
 -- trap_in: traps the page that the room was made for, by the workers that it has memory for.
+use Rattle.std.proofs.lemmas.Grind.{common_steps}
 use Rattle.std.proofs.Common.{◌≡◌, ◌∙◌, ap, arith, sym}
 use Rattle.std.proofs.lemmas.List.{with_items_is}
 use Rattle.band_claims.specs.declared.table_key.TableKey.{TableKey}
@@ -25,3 +26,12 @@ returns-clause-receipt g c = record {
 
 pub finish_table-closed-requires-clause-whole : goal.finish_table-closed-requires-clause-whole
 finish_table-closed-requires-clause-whole g c = same_whole c.room.inside.pass.view.share c.work_many-pass.result.view.share c.work_many-pass.ensures.share c.room.invariant.whole
+
+pub take_side_by_side-left-requires-clause-outcome : goal.take_side_by_side-left-requires-clause-outcome
+take_side_by_side-left-requires-clause-outcome g c = grind (arith, common_steps)
+
+pub take_side_by_side-left-requires-clause-parts : goal.take_side_by_side-left-requires-clause-parts
+take_side_by_side-left-requires-clause-parts g c = grind (arith, common_steps)
+
+pub into_trapped-requires : goal.into_trapped-requires
+into_trapped-requires g c = grind (arith, common_steps)

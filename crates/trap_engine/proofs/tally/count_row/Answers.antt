@@ -23,3 +23,15 @@ returns-clause-tally c =
 
 pub count_changed-requires-clause-each : goal.count_changed-requires-clause-each
 count_changed-requires-clause-each c = grind (arith, common_steps)
+
+pub note_changes-requires-clause-planes : goal.note_changes-requires-clause-planes
+note_changes-requires-clause-planes c = grind (arith, common_steps)
+
+pub overflow_add-tally : goal.overflow_add-tally
+overflow_add-tally c = grind (arith, common_steps)
+
+pub count_changed-requires-clause-counts : goal.count_changed-requires-clause-counts
+count_changed-requires-clause-counts c = grind (arith, common_steps)
+
+pub count_changed-requires-clause-zones : goal.count_changed-requires-clause-zones
+count_changed-requires-clause-zones c = grind (arith, common_steps)

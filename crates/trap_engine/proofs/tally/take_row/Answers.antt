@@ -13,3 +13,15 @@ count_row-requires-clause-marks g c = rw (with_items_is c.args.tally.now.marks c
 
 pub count_row-requires-clause-tally : goal.count_row-requires-clause-tally
 count_row-requires-clause-tally g c = grind (arith, common_steps)
+
+pub read_marks-requires-clause-fit : goal.read_marks-requires-clause-fit
+read_marks-requires-clause-fit g c = grind (arith, common_steps)
+
+pub count_row-requires-clause-planes : goal.count_row-requires-clause-planes
+count_row-requires-clause-planes g c = grind (arith, common_steps)
+
+pub returns-clause-tally : goal.returns-clause-tally
+returns-clause-tally g c = grind (arith, common_steps)
+
+pub returns-clause-seat : goal.returns-clause-seat
+returns-clause-seat g c = grind (arith, common_steps)

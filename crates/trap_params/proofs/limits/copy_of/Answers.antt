@@ -5,3 +5,6 @@ use Rattle.trap_params.proofs.limits.copy_of.Goals as goal
 
 pub loop-limit-preserved : goal.loop-limit-preserved
 loop-limit-preserved c = grind (arith, common_steps)
+
+pub returns : goal.returns
+returns c = grind (arith, common_steps)

@@ -1,5 +1,6 @@
 -- zone_limits: the step limits after the dictionary at a place.
-use Rattle.std.proofs.Common.{List}
+use Rattle.std.proofs.lemmas.Grind.{common_steps}
+use Rattle.std.proofs.Common.{arith, List}
 use Rattle.page_model.specs.declared.parts.Limit.{Limit}
 use Rattle.ps_tokens.specs.Dictionaries.{last_keys_of}
 use Rattle.ps_tokens.specs.EntryErrors.{unless}
@@ -14,3 +15,6 @@ returns-then-is_dict-clause-ascending c =
     let keys = last_keys_of objects c.in-Some.place in
     λ now. IfOk-given (λ (limits : List Limit). AscendByName limits) (unless (first_error objects keys) (limits_of objects keys)) c.limits_in.result c.limits_in.ensures
     (λ limits is. unless-ascend (first_error objects keys) (limits_of objects keys) limits (limits-ascend objects c.in-Some.place) is)
+
+pub returns-then-is_dict-clause-given : goal.returns-then-is_dict-clause-given
+returns-then-is_dict-clause-given c = grind (arith, common_steps)

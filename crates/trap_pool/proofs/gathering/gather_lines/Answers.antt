@@ -36,3 +36,6 @@ returns-clause-turn g c = grind (arith, common_steps)
 
 pub unreachable-requires-in_default-push : goal.unreachable-requires-in_default-push
 unreachable-requires-in_default-push g c = grind (arith, common_steps)
+
+pub loop-number-init : goal.loop-number-init
+loop-number-init g c = grind (arith, common_steps)

@@ -1,5 +1,6 @@
 -- pool_run: gathers the page of each line in order, traps the pages by so many workers, which take
 -- them by their line numbers from a queue, and gives a reply for each line.
+use Rattle.std.proofs.lemmas.Grind.{common_steps}
 use Rattle.std.proofs.Common.{◌∙◌, length, sym, ap, subst, arith}
 use Rattle.trap_pool.specs.Pools.{Pools}
 use Rattle.trap_pool.proofs.Pages.{as_many_pages}
@@ -43,3 +44,6 @@ trap_lines-gathered-requires-clause-numbered g c κs within =
     let many = as_many 0 0 c.args.lines.now (g.T.Tray.state c.args.tray.now) (g.T.Tray.state c.gather_lines-gathering.new.tray) c.gather_lines-gathering.result.lines.items c.gather_lines-gathering.ensures.turn in
     let numbered = c.requires.numbered in
     omega arith
+
+pub gather_lines-gathering-requires-clause-room : goal.gather_lines-gathering-requires-clause-room
+gather_lines-gathering-requires-clause-room g c = grind (arith, common_steps)

@@ -11,3 +11,9 @@ new-requires-clause-line g c = grind (arith, common_steps)
 
 pub returns : goal.returns
 returns c = grind (arith, common_steps)
+
+pub overflow_cast-line : goal.overflow_cast-line
+overflow_cast-line g c = grind (arith, common_steps)
+
+pub unreachable-requires : goal.unreachable-requires
+unreachable-requires g c = grind (arith, common_steps)

@@ -1,5 +1,6 @@
 -- What is made of one line more is put in.
-use Rattle.std.proofs.Common.{rules}
+use Rattle.std.proofs.lemmas.Grind.{common_steps}
+use Rattle.std.proofs.Common.{arith, rules}
 use Rattle.trap_pool.proofs.Settling.{all_then}
 use Rattle.trap_pool.proofs.taking.take_in.Goals as goal
 
@@ -10,3 +11,9 @@ loop-slot-preserved-in_default-Some g c =
 
 pub returns : goal.returns
 returns g c = search rules
+
+pub loop-slot-preserved : goal.loop-slot-preserved
+loop-slot-preserved g c = grind (arith, common_steps)
+
+pub loop-slot-init : goal.loop-slot-init
+loop-slot-init g c = grind (arith, common_steps)

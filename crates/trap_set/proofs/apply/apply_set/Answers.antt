@@ -1,5 +1,7 @@
 -- apply_set: applies the set of the file of that name to the planes, run by run, and takes no
 -- memory.
+use Rattle.std.proofs.lemmas.Grind.{common_steps}
+use Rattle.std.proofs.Common.{arith}
 use Rattle.trap_set.proofs.StandLemmas.{begun_applied, begin_failed}
 use Rattle.trap_set.proofs.apply.apply_set.Goals as goal
 
@@ -8,3 +10,6 @@ returns-in-Ok g c = begun_applied c.args.name.now (g.T.Tray.state c.args.tray.no
 
 pub returns-in-Err : goal.returns-in-Err
 returns-in-Err g c = begin_failed c.args.name.now (g.T.Tray.state c.args.tray.now) (g.T.Tray.state c.begin.new.self) c.in-Err.field-0 c.args.planes.now c.in-Err.ensures
+
+pub apply_text-requires-clause-full : goal.apply_text-requires-clause-full
+apply_text-requires-clause-full g c = grind (arith, common_steps)

@@ -56,3 +56,15 @@ apply_runs-requires-clause-full g c = grind (arith, common_steps)
 
 pub apply_runs-requires-clause-many : goal.apply_runs-requires-clause-many
 apply_runs-requires-clause-many g c = grind (arith, common_steps)
+
+pub apply_runs-requires-clause-head : goal.apply_runs-requires-clause-head
+apply_runs-requires-clause-head g c = grind (arith, common_steps)
+
+pub slice_bounds-apply_runs-end : goal.slice_bounds-apply_runs-end
+slice_bounds-apply_runs-end g c = grind (arith, common_steps)
+
+pub apply_runs-requires-clause-fits : goal.apply_runs-requires-clause-fits
+apply_runs-requires-clause-fits g c = grind (arith, common_steps)
+
+pub slice_bounds-apply_runs-end-2 : goal.slice_bounds-apply_runs-end-2
+slice_bounds-apply_runs-end-2 g c = grind (arith, common_steps)

@@ -1,5 +1,6 @@
 -- put: puts a piece after what is held back, which is written where there is no room for it.
-use Rattle.std.proofs.Common.{[], ap, refl}
+use Rattle.std.proofs.lemmas.Grind.{common_steps}
+use Rattle.std.proofs.Common.{arith, [], ap, refl}
 use Rattle.trap_set.proofs.HoldingLemmas.{puts_then, puts_failed, puts_as}
 use Rattle.trap_set.proofs.holding.put.Goals as goal
 
@@ -16,3 +17,6 @@ returns-in-Err-flush g c =
     puts_failed c.in-Err-flush.field-0 _ [] c.args.piece.now c.args.held.now.items c.flush.new.held.items c.flush.new.held.items
     (g.R.Rack.state c.args.rack.now) (g.R.Rack.state c.flush.new.rack)
     (puts_as _ [] [] c.try_extend_from_slice.new.self.items c.args.held.now.items c.flush.new.held.items _ _ refl kept c.in-Err-flush.ensures.puts)
+
+pub returns-in-Ok : goal.returns-in-Ok
+returns-in-Ok g c = grind (arith, common_steps)

@@ -29,3 +29,12 @@ returns-clause-some c =
 
 pub value_of-requires-clause-few : goal.value_of-requires-clause-few
 value_of-requires-clause-few c = grind (arith, common_steps)
+
+pub slice_bounds-result-count : goal.slice_bounds-result-count
+slice_bounds-result-count c = grind (arith, common_steps)
+
+pub slice_bounds-result-start : goal.slice_bounds-result-start
+slice_bounds-result-start c = grind (arith, common_steps)
+
+pub slice_bounds-value_of-end : goal.slice_bounds-value_of-end
+slice_bounds-value_of-end c = grind (arith, common_steps)

@@ -1,5 +1,6 @@
 -- next_in: what a whole line is.
-use Rattle.std.proofs.Common.{sym, ◌∙◌, subst, inl, inr}
+use Rattle.std.proofs.lemmas.Grind.{common_steps}
+use Rattle.std.proofs.Common.{arith, sym, ◌∙◌, subst, inl, inr}
 use Rattle.std.proofs.lemmas.Bool.{both_ways}
 use Rattle.trap_set.specs.Reading.{head_in, run_in}
 use Rattle.trap_set.specs.Standing.{IsAfter}
@@ -17,3 +18,6 @@ returns-else-is_after-clause-bad c bad may =
       | inr other ↦ both_ways _ c.if-is_after.false (c.is_after.ensures.1
           (subst (IsAfter c.args.place) (sym (one_run head mine other.0 c.requires.head is_mine other.1 (sym line_mine ∙ other.3))) other.2))
     ]
+
+pub returns-else-is_after-clause-run : goal.returns-else-is_after-clause-run
+returns-else-is_after-clause-run c = grind (arith, common_steps)

@@ -18,3 +18,6 @@ returns-in-Err g c =
 
 pub loop-n-preserved : goal.loop-n-preserved
 loop-n-preserved g c = grind (arith, common_steps)
+
+pub returns : goal.returns
+returns g c = grind (arith, common_steps)

@@ -1,4 +1,5 @@
 -- put_rows: puts the lines of all runs.
+use Rattle.std.proofs.lemmas.Grind.{common_steps}
 use Rattle.std.proofs.Common.{◌++◌, ◌+◌, sym, refl, arith, Ok, Err}
 use Rattle.plane_shapes.specs.Shapes.{wide, tall}
 use Rattle.trap_set.specs.Rows.{row_text, rows_text}
@@ -16,3 +17,6 @@ returns-in-Err g c =
 pub loop-y-preserved : goal.loop-y-preserved
 loop-y-preserved g c = puts_as (Ok tt) ((rows_text c.args.old.now c.args.new.now c.loop-y.y) ++ (row_text c.args.old.now c.args.new.now c.loop-y.y (wide c.args.old.now))) (rows_text c.args.old.now c.args.new.now (c.loop-y.y + 1)) c.args.held.now.items c.args.held.now.items c.put_row.new.held.items (g.R.Rack.state c.args.rack.now) (g.R.Rack.state c.put_row.new.rack) (sym (rows_next c.args.old.now c.args.new.now c.loop-y.y)) refl
     (puts_then tt (Ok tt) (rows_text c.args.old.now c.args.new.now c.loop-y.y) (row_text c.args.old.now c.args.new.now c.loop-y.y (wide c.args.old.now)) c.args.held.now.items c.loop-y.held.items c.put_row.new.held.items (g.R.Rack.state c.args.rack.now) (g.R.Rack.state c.loop-y.rack) (g.R.Rack.state c.put_row.new.rack) c.loop-y.invariant c.in-Ok.ensures)
+
+pub returns : goal.returns
+returns g c = grind (arith, common_steps)

@@ -5,3 +5,12 @@ use Rattle.trap_words.proofs.command.read_words.Goals as goal
 
 pub returns-then-eq-2-clause-meaning : goal.returns-then-eq-2-clause-meaning
 returns-then-eq-2-clause-meaning c = grind (arith, common_steps)
+
+pub returns-in-empty-clause-meaning : goal.returns-in-empty-clause-meaning
+returns-in-empty-clause-meaning c = grind (arith, common_steps)
+
+pub returns-then-eq-clause-memory : goal.returns-then-eq-clause-memory
+returns-then-eq-clause-memory c = grind (arith, common_steps)
+
+pub returns-then-eq-clause-meaning : goal.returns-then-eq-clause-meaning
+returns-then-eq-clause-meaning c = grind (arith, common_steps)

@@ -30,3 +30,9 @@ returns-else-across-lt0-clause-left c = λ x l.
 
 pub samples_below-requires-clause-rises : goal.samples_below-requires-clause-rises
 samples_below-requires-clause-rises c = grind (arith, common_steps)
+
+pub samples_below-requires-clause-across : goal.samples_below-requires-clause-across
+samples_below-requires-clause-across c = grind (arith, common_steps)
+
+pub samples_below-requires-clause-rise : goal.samples_below-requires-clause-rise
+samples_below-requires-clause-rise c = grind (arith, common_steps)

@@ -38,3 +38,6 @@ returns-then-tally_path-gt0-clause-no_ups c = grind (arith, common_steps)
 
 pub returns-then-tally_path-gt0-clause-no_downs : goal.returns-then-tally_path-gt0-clause-no_downs
 returns-then-tally_path-gt0-clause-no_downs c = grind (arith, common_steps)
+
+pub tally_path-requires-clause-path : goal.tally_path-requires-clause-path
+tally_path-requires-clause-path c = grind (arith, common_steps)

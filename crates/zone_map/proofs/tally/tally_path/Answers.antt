@@ -59,3 +59,6 @@ returns-clause-turns c = λ x l.
 
 pub point_of-b-requires-clause-vertex : goal.point_of-b-requires-clause-vertex
 point_of-b-requires-clause-vertex c = grind (arith, common_steps)
+
+pub returns-clause-few : goal.returns-clause-few
+returns-clause-few c = grind (arith, common_steps)

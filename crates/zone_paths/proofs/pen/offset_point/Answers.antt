@@ -1,5 +1,6 @@
 -- offset_point: the point that lies so far away from a near one; none where it is so far that it is
 -- no near one.
+use Rattle.std.proofs.lemmas.Grind.{common_steps}
 use Rattle.std.proofs.Common.{◌≡◌, ◌≤◌, ◌+ℤ◌, FitsSigned, w64, true, arith, ℕ, ℤ, refl}
 use Rattle.std.specs.Prelude.{nat_abs, nat_le}
 use Rattle.std.proofs.lemmas.Bool.{and_parts}
@@ -34,3 +35,6 @@ returns c =
     let x = near_sum c.args.point.x c.args.dx c.unsigned_abs.result both.0 c.ranges.dx c.unsigned_abs.ensures.value c.if-unsigned_abs.false in
     let y = near_sum c.args.point.y c.args.dy c.unsigned_abs-else-unsigned_abs.result both.1 c.ranges.dy c.unsigned_abs-else-unsigned_abs.ensures.value c.if-unsigned_abs-2.false in
     rw (x, y) refl
+
+pub returns-then-unsigned_abs : goal.returns-then-unsigned_abs
+returns-then-unsigned_abs c = grind (arith, common_steps)

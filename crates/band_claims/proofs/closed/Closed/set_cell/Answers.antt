@@ -5,3 +5,6 @@ use Rattle.band_claims.proofs.closed.Closed.set_cell.Goals as goal
 
 pub invariant_of-self : goal.invariant_of-self
 invariant_of-self c = grind (arith, common_steps)
+
+pub returns : goal.returns
+returns c = grind (arith, common_steps)

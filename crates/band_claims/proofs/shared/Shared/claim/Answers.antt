@@ -60,3 +60,6 @@ returns-clause-won c win =
 
 pub returns-then-not-is_done-clause-lost : goal.returns-then-not-is_done-clause-lost
 returns-then-not-is_done-clause-lost c = grind (arith, common_steps)
+
+pub loop-k-init : goal.loop-k-init
+loop-k-init c = grind (arith, common_steps)

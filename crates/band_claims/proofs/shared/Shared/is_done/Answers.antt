@@ -1,4 +1,5 @@
 -- Shared::is_done: whether a piece is done.
+use Rattle.std.proofs.lemmas.Grind.{common_steps}
 use Rattle.std.proofs.Common.{ap, ◌∙◌, sym, arith, ◌<◌}
 use Rattle.page_model.specs.Bands.{pieces_of}
 use Rattle.band_claims.proofs.Steps.{looks}
@@ -12,3 +13,6 @@ load-found-requires c =
       omega (arith, within, c.self.invariant.wide),
       looks key c.self.invariant.fit _ _ _ _ within,
     )
+
+pub returns-clause-answer : goal.returns-clause-answer
+returns-clause-answer c = grind (arith, common_steps)

@@ -13,3 +13,6 @@ returns-clause-new c = grind (arith, common_steps)
 
 pub invariant_of-shared : goal.invariant_of-shared
 invariant_of-shared c = grind (arith, common_steps)
+
+pub invariant_of-pass : goal.invariant_of-pass
+invariant_of-pass c = grind (arith, common_steps)

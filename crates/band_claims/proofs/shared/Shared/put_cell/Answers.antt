@@ -1,4 +1,5 @@
 -- Shared::put_cell: fills the next cell of the held piece with its defined value.
+use Rattle.std.proofs.lemmas.Grind.{common_steps}
 use Rattle.std.proofs.Common.{ap, ◌∙◌, sym, arith, ◌<◌, ◌≡◌, ℕ, ◌+◌, Some}
 use Rattle.band_claims.specs.TableKeys.{shape_of, cell}
 use Rattle.band_claims.proofs.Carrying.{carried}
@@ -41,3 +42,6 @@ overflow_add-pass c =
     let t = carried key v p c.pass.inside.piece c.pass.inside.next held page c.pass.invariant.1 in
     let here : Has k p (k.start p + v.filled) = record { piece = t.in_range; from = omega arith; below = omega (arith, room) } in
     omega (arith, t.word, (small_word key c.self.invariant.fit p (k.start p + v.filled) here).1)
+
+pub returns-clause-put : goal.returns-clause-put
+returns-clause-put c = grind (arith, common_steps)

@@ -1,4 +1,5 @@
 -- Shared::read_cell: the word of one cell of a piece that the pass saw done or published.
+use Rattle.std.proofs.lemmas.Grind.{common_steps}
 use Rattle.std.proofs.Common.{ap, ◌∙◌, sym, arith, ◌≡◌, ℕ, ◌+◌, Some}
 use Rattle.page_model.specs.Bands.{pieces_of}
 use Rattle.band_board.specs.Shapes.{Has}
@@ -28,3 +29,6 @@ load-requires c =
       omega (arith, word, (small_word key c.self.invariant.fit p c.args.j h).0, c.self.invariant.wide),
       reads_word key c.self.invariant.fit _ _ _ _ c.args.j p page word h knows,
     )
+
+pub returns-clause-pass : goal.returns-clause-pass
+returns-clause-pass c = grind (arith, common_steps)

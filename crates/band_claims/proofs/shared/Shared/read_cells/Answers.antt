@@ -1,5 +1,6 @@
 -- Shared::read_cells: the words of cells, from number `first` on, of pieces that the pass saw done
 -- or published.
+use Rattle.std.proofs.lemmas.Grind.{common_steps}
 use Rattle.std.proofs.Common.{ap, arith, ◌+◌}
 use Rattle.band_claims.specs.TableKeys.{shape_of}
 use Rattle.band_board.specs.Shapes.{Has}
@@ -22,3 +23,6 @@ overflow_add-first c =
     let h = c.requires.known c.loop-o.o (omega (arith, c.loop-o-test.true)) in
     let here : Has (shape_of key) h.0 (c.args.first + c.loop-o.o) = rw (ap (λ z. z.table_key) c.self.view_is) h.1 in
     omega (arith, (small_word key c.self.invariant.fit h.0 _ here).1)
+
+pub loop-o-preserved : goal.loop-o-preserved
+loop-o-preserved c = grind (arith, common_steps)

@@ -11,3 +11,6 @@ returns-in-None-clause-tray c = grind (arith, common_steps)
 
 pub returns-then-is_failing-clause-tray : goal.returns-then-is_failing-clause-tray
 returns-then-is_failing-clause-tray c = grind (arith, common_steps)
+
+pub invariant_of-self-in-None : goal.invariant_of-self-in-None
+invariant_of-self-in-None c = grind (arith, common_steps)

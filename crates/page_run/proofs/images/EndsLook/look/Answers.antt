@@ -1,4 +1,6 @@
 -- What `EndsLook::look` has to show.
+use Rattle.std.proofs.lemmas.Grind.{common_steps}
+use Rattle.std.proofs.Common.{arith}
 use Rattle.page_run.proofs.ImageLemmas.{end_extra, end_fails, end_unread}
 use Rattle.page_run.proofs.images.EndsLook.look.Goals as goal
 
@@ -10,3 +12,6 @@ returns-in-Err-Fault g c = end_fails c.args.self.now.pages c.args.number c.args.
 
 pub returns-in-Err-ReadFault : goal.returns-in-Err-ReadFault
 returns-in-Err-ReadFault g c = end_unread c.args.self.now.pages c.args.number c.args.name.now (g.T.Tray.state c.args.tray.now) (g.T.Tray.state c.read_page.new.tray) (rw c.in-Err-ReadFault.field-0-is at c.in-Err-ReadFault.ensures)
+
+pub returns : goal.returns
+returns g c = grind (arith, common_steps)

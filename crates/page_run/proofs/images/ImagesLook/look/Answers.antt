@@ -1,4 +1,6 @@
 -- What `ImagesLook::look` has to show.
+use Rattle.std.proofs.lemmas.Grind.{common_steps}
+use Rattle.std.proofs.Common.{arith}
 use Rattle.page_run.proofs.ImageLemmas.{image_ends, image_fails, image_read, image_unread}
 use Rattle.page_run.proofs.images.ImagesLook.look.Goals as goal
 
@@ -13,3 +15,6 @@ returns-in-Err-Fault g c = image_fails c.args.self.now.page c.args.number c.args
 
 pub returns-in-Err-ReadFault : goal.returns-in-Err-ReadFault
 returns-in-Err-ReadFault g c = image_unread c.args.self.now.page c.args.number c.args.name.now (g.T.Tray.state c.args.tray.now) (g.T.Tray.state c.read_page_plane.new.tray) (rw c.in-Err-ReadFault.field-0-is at c.in-Err-ReadFault.ensures.plate)
+
+pub returns-in-Err-OutOfMemory : goal.returns-in-Err-OutOfMemory
+returns-in-Err-OutOfMemory g c = grind (arith, common_steps)

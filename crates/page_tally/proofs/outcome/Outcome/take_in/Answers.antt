@@ -1,4 +1,5 @@
 -- Outcome::take_in: takes in row y, the next one.
+use Rattle.std.proofs.lemmas.Grind.{common_steps}
 use Rattle.std.proofs.Common.{◌∙◌, arith, length}
 use Rattle.std.proofs.lemmas.List.{with_items_is}
 use Rattle.page_model.specs.Page.{width}
@@ -31,3 +32,15 @@ returns-in_default-clause-rows c =
       few_edges = few_next c.args.y (width c.args.page.now) c.args.self.now.edges c.edges_in.result (length c.args.marks.now) c.requires.marks.wide c.requires.rows.few_edges c.edges_in.ensures.few;
       changes = c.requires.rows.changes;
     }
+
+pub take_tints-requires-clause-planes : goal.take_tints-requires-clause-planes
+take_tints-requires-clause-planes c = grind (arith, common_steps)
+
+pub take_tints-requires-clause-plate_changed : goal.take_tints-requires-clause-plate_changed
+take_tints-requires-clause-plate_changed c = grind (arith, common_steps)
+
+pub take_tints-requires-clause-row : goal.take_tints-requires-clause-row
+take_tints-requires-clause-row c = grind (arith, common_steps)
+
+pub take_tints-requires-clause-zone_changed : goal.take_tints-requires-clause-zone_changed
+take_tints-requires-clause-zone_changed c = grind (arith, common_steps)

@@ -8,3 +8,12 @@ returns-clause-plate_changed c = grind (arith, common_steps)
 
 pub returns-clause-zone_changed : goal.returns-clause-zone_changed
 returns-clause-zone_changed c = grind (arith, common_steps)
+
+pub count_changed-requires-clause-each : goal.count_changed-requires-clause-each
+count_changed-requires-clause-each c = grind (arith, common_steps)
+
+pub count_changed-requires-clause-zones : goal.count_changed-requires-clause-zones
+count_changed-requires-clause-zones c = grind (arith, common_steps)
+
+pub returns-clause-changes : goal.returns-clause-changes
+returns-clause-changes c = grind (arith, common_steps)

@@ -1,4 +1,5 @@
 -- Layout::first_cell: the number of the first cell of a piece.
+use Rattle.std.proofs.lemmas.Grind.{common_steps}
 use Rattle.std.proofs.Common.{◌≡◌, ℕ, ◌+◌, ◌*◌, ap, subst, arith}
 use Rattle.page_model.specs.Bands.{phase_of, band_of}
 use Rattle.page_model.proofs.BandLemmas.{band-less, piece-is}
@@ -20,3 +21,6 @@ pub returns-clause-value : goal.returns-clause-value
 returns-clause-value c =
     let inside : Layout = record { bands = c.self.inside.bands; width = c.self.inside.width; plates = c.self.inside.plates } in
     subst (λ (l : Layout). Joins inside l c.args.piece c.before_phase.result c.before_band.result) c.self.view_is (joined inside c.args.piece c.before_phase.result c.before_band.result c.self.invariant) c.before_phase.ensures.value c.before_band.ensures.value
+
+pub returns-clause-bound : goal.returns-clause-bound
+returns-clause-bound c = grind (arith, common_steps)

@@ -1,4 +1,5 @@
 -- PageRoom::new: the room for pages of this page's shape.
+use Rattle.std.proofs.lemmas.Grind.{common_steps}
 use Rattle.std.proofs.Common.{rules, arith}
 use Rattle.strip_engine.proofs.RoomLemmas.{outcome_shape}
 use Rattle.strip_engine.proofs.room.PageRoom.new.Goals as goal
@@ -14,3 +15,6 @@ returns-clause-room c = record {
 
 pub returns-clause-rows : goal.returns-clause-rows
 returns-clause-rows c = search rules
+
+pub same-result : goal.same-result
+same-result c = grind (arith, common_steps)

@@ -1,4 +1,5 @@
 -- PageRoom::trap_rows: traps all rows, and counts them if that is asked.
+use Rattle.std.proofs.lemmas.Grind.{common_steps}
 use Rattle.std.proofs.Common.{◌∙◌, ap, arith, length, List, ℕ}
 use Rattle.std.proofs.lemmas.List.{with_items_is}
 use Rattle.row_values.specs.Room.{Room}
@@ -21,3 +22,9 @@ returns-clause-room c =
 
 pub returns-clause-planes : goal.returns-clause-planes
 returns-clause-planes c = trapped_whole c.args.page.now c.trap_strips.new.outcome.planes c.trap_strips.ensures.outcome.tints.planes
+
+pub trap_strips-requires-clause-outcome : goal.trap_strips-requires-clause-outcome
+trap_strips-requires-clause-outcome c = grind (arith, common_steps)
+
+pub returns-clause-outcome : goal.returns-clause-outcome
+returns-clause-outcome c = grind (arith, common_steps)

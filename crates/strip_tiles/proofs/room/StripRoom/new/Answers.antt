@@ -24,3 +24,9 @@ returns-clause-columns c = grind (arith, common_steps)
 
 pub returns-clause-room : goal.returns-clause-room
 returns-clause-room c = grind (arith, common_steps)
+
+pub window_room-requires-clause-column : goal.window_room-requires-clause-column
+window_room-requires-clause-column c = grind (arith, common_steps)
+
+pub window_room-requires-clause-row : goal.window_room-requires-clause-row
+window_room-requires-clause-row c = grind (arith, common_steps)

@@ -37,3 +37,15 @@ returns-clause-page c = grind (arith, common_steps)
 
 pub returns-clause-workers : goal.returns-clause-workers
 returns-clause-workers c = grind (arith, common_steps)
+
+pub new-layout-requires-clause-some_width : goal.new-layout-requires-clause-some_width
+new-layout-requires-clause-some_width c = grind (arith, common_steps)
+
+pub new-requires-2-clause-bands : goal.new-requires-2-clause-bands
+new-requires-2-clause-bands c = grind (arith, common_steps)
+
+pub same-result : goal.same-result
+same-result c = grind (arith, common_steps)
+
+pub new-layout-requires-clause-narrow : goal.new-layout-requires-clause-narrow
+new-layout-requires-clause-narrow c = grind (arith, common_steps)

@@ -1,4 +1,5 @@
 -- What `Desk::trap` has to show.
+use Rattle.std.proofs.lemmas.Grind.{common_steps}
 use Rattle.std.proofs.Common.{◌≡◌, ◌∙◌, ◌≤◌, ◌*◌, All, List, length, sym, ap, subst, arith}
 use Rattle.page_model.specs.declared.parts.Counts.{Counts}
 use Rattle.page_model.specs.declared.parts.PageParts.{PageParts}
@@ -28,3 +29,9 @@ returns c =
         few_samples = subst (All (λ (plane : Plane). plane.width * plane.height ≤ most_samples)) (sym planes) c.trapped_planes_law.ensures.samples;
       };
     }
+
+pub invariant_of-self : goal.invariant_of-self
+invariant_of-self c = grind (arith, common_steps)
+
+pub counts_of-requires : goal.counts_of-requires
+counts_of-requires c = grind (arith, common_steps)

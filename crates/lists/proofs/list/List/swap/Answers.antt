@@ -1,0 +1,7 @@
+-- swap: goals that the search finds slowly.
+use Rattle.std.proofs.lemmas.Grind.{common_steps}
+use Rattle.std.proofs.Common.{arith}
+use Rattle.lists.proofs.list.List.swap.Goals as goal
+
+pub returns : goal.returns
+returns c = grind (arith, common_steps)

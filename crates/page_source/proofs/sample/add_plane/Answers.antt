@@ -1,0 +1,7 @@
+-- add_plane: goals that the search finds slowly.
+use Rattle.std.proofs.lemmas.Grind.{common_steps}
+use Rattle.std.proofs.Common.{arith}
+use Rattle.page_source.proofs.sample.add_plane.Goals as goal
+
+pub returns : goal.returns
+returns c = grind (arith, common_steps)

@@ -1,0 +1,10 @@
+-- names_of: goals that the search finds slowly.
+use Rattle.std.proofs.lemmas.Grind.{common_steps}
+use Rattle.std.proofs.Common.{arith}
+use Rattle.trap_c.proofs.names.names_of.Goals as goal
+
+pub loop-byte-preserved : goal.loop-byte-preserved
+loop-byte-preserved c = grind (arith, common_steps)
+
+pub returns : goal.returns
+returns c = grind (arith, common_steps)
