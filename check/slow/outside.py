@@ -46,14 +46,25 @@ class Held:
             raise WriteFault(name)
 
     def write_together(self, files):
-        """Files that grow side by side: all stand, or none where one of them can't be written."""
+        """Files that grow side by side, and take their names in order once all are whole. None stands where one of them can't be begun
+        or does not become whole; where one can't take its name, those before it stand."""
         before = dict(self.files)
+        nameless = [place for place, (name, _) in enumerate(files) if self.has_slash_alone(name)]
         try:
-            for name, data in files:
-                self.write(name, data)
+            for place, (name, data) in enumerate(files):
+                if place not in nameless:
+                    self.write(name, data)
         except WriteFault:
             self.files = before
             raise
+        if nameless:
+            self.files = {**before, **dict(files[:nameless[0]])}
+            raise WriteFault(files[nameless[0]][0])
+
+    def has_slash_alone(self, name):
+        """Whether nothing is wrong with a name but a slash at its end: its file is begun, and can't take it."""
+        plain = name.rstrip("/")
+        return plain != name and plain not in self.files and not self.unwritable(plain)
 
     def tell(self, text):
         if self.mute:
@@ -79,15 +90,28 @@ class Disk:
             raise WriteFault(name)
 
     def write_together(self, files):
+        """As files that are held in memory."""
+        nameless = [place for place, (name, _) in enumerate(files) if self.has_slash_alone(name)]
         written = []
         try:
-            for name, data in files:
-                self.write(name, data)
-                written.append(name)
+            for place, (name, data) in enumerate(files):
+                if place not in nameless:
+                    self.write(name, data)
+                    written.append((place, name))
         except WriteFault:
-            for name in written:
+            for _, name in written:
                 os.remove(name)
             raise
+        if nameless:
+            for place, name in written:
+                if place > nameless[0]:
+                    os.remove(name)
+            raise WriteFault(files[nameless[0]][0])
+
+    def has_slash_alone(self, name):
+        """Whether nothing is wrong with a name but a slash at its end."""
+        plain = name.rstrip("/")
+        return plain != name and not os.path.lexists(plain) and os.path.isdir(os.path.dirname(plain) or ".")
 
     def tell(self, text):
         try:

@@ -19,7 +19,7 @@ def write_plates(outside, names, plates, planes):
 
 
 def write_side_by_side(outside, names, plates, planes):
-    """Writes the plates, with new tints, side by side: all stand, or none."""
+    """Writes the plates, with new tints, side by side: all stand, none, or those before one whose name can't be taken."""
     files = [(name, spelled(plate_with(plate, tints))) for name, plate, tints in zip(names, plates, planes)]
     try:
         outside.write_together(files)
