@@ -147,8 +147,9 @@ same_pages() {
   done
 }
 
+# The farm, and what follows, refuse a page that is warned of; without mutool each page is, since images are not looked for.
 try_farm() {
-  have farm parallel && [ -d "$out/label/page-001" ] || return 0
+  have farm parallel mutool && [ -d "$out/label/page-001" ] || return 0
   "$here/farm" "$label/label.pdf" "$out/farm" --jobs 2 "${check[@]}"
   same_pages "$out/farm" farm
   say "farm: two pages at once by GNU parallel have the bytes of press/all"
@@ -156,7 +157,7 @@ try_farm() {
 
 # A label that is moved in, one that is written slowly, and a file that is no PDF.
 try_watch() {
-  have watch inotifywait && [ -d "$out/label/page-001" ] || return 0
+  have watch inotifywait mutool && [ -d "$out/label/page-001" ] || return 0
   local hot=$out/hot watcher file
   mkdir "$hot"
   : >"$out/watch.err"
@@ -190,7 +191,7 @@ try_watch() {
 
 try_slurm() {
   PATH=$PATH:/usr/sbin
-  have slurm sbatch slurmctld slurmd munged && [ -d "$out/label/page-001" ] || return 0
+  have slurm sbatch slurmctld slurmd munged mutool && [ -d "$out/label/page-001" ] || return 0
   if ! "$here/slurm-here" start "$out/slurm" 2 >"$out/slurm.told" 2>&1; then
     say "slurm: skipped, it does not start here: $(tail -n 1 "$out/slurm.told")"
     return 0
