@@ -327,6 +327,18 @@ def widths():
         check("reach of %s" % width, zone_reach(zone, resolution), reach)
 
 
+def sheets():
+    """The plates of a sheet take their names in order: where one can't, those before it stand."""
+    for outs, line, standing in (("a b", "", "ab"), ("a b/", "write fault: plate 1\n", "a"), ("a/ b", "write fault: plate 0\n", ""),
+                                 ("a/ b/", "write fault: plate 0\n", ""), ("a full", "write fault: plate 1\n", "")):
+        outside = Held({"job": job("/TrapWidth 2"), **TWO}, full=["full"])
+        words_ = ["1", "job", "report", *("%s:%s:%s" % (name, name, out) for name, out in zip(("Cyan", "Magenta"), outs.split()))]
+        status = run("trapsheet", words_, outside)
+        check("sheet to " + outs, (status, outside.told), (6 if line else 0, line))
+        check("what stands of it", "".join(name for name in "ab" if name in outside.files), standing)
+        check("its report", "report" in outside.files, not line)
+
+
 def sets():
     first = b"trap set\npage 6 1 255 plates 2\nrun 0 2 2 255 255\nend\n"
     one = {"job": job("/TrapWidth 2"), "scaled": job("/TrapWidth 2 /SlidingTrapLimit 1 /TrapColorScaling 0"), **TWO}
@@ -411,7 +423,7 @@ def pool():
 
 
 TABLES = (two_inks, equally_near, steps, kinds_of_ink, zones, tall, shop, two_bytes, plate_refusals, job_refusals,
-          at_limits, words, samples, room, numbers, headers, widths, sets, many_pages, press, pool)
+          at_limits, words, samples, room, numbers, headers, widths, sheets, sets, many_pages, press, pool)
 
 
 def main():
