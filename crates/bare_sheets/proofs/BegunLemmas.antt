@@ -70,7 +70,7 @@ module _ (bare : PageParts) (tints : ℕ → List ℕ) (is : IsBareSheet bare) (
   )
 
 pub begins_earlier : BeginsEarlier
-begins_earlier bare sheet tints more begins = record {
+begins_earlier bare _ tints more begins = record {
   valid = begins.valid;
   same = begins.same;
   each = λ c l. (let rest = begins.each c l in (more c ++ rest.0, rest.1 ∙ append_assoc (tints c) (more c) rest.0));

@@ -1,10 +1,9 @@
 // The first zone of a sheet with a vertex too far from a corner of it.
 
-ghost use Rattle.std.specs.Prelude.{◌≡◌, ◌<◌, ◌≤◌, ◌^◌, length};
+ghost use Rattle.std.specs.Prelude.{◌≡◌, ◌<◌, ◌^◌, length};
 ghost use Rattle.std.specs.List.{list_any};
 ghost use Rattle.lists.specs.Words.{first_some, or_else};
-ghost use Rattle.page_model.specs.Limits.{most_zones};
-ghost use Rattle.page_model.specs.Page.{height, path_at, width};
+ghost use Rattle.page_model.specs.Page.{height, width};
 ghost use Rattle.bare_sheets.specs.Refusals.{far, is_far_by};
 ghost use Rattle.bare_sheets.specs.Bare.{IsBareSheet};
 ghost use Rattle.sheet_windows.specs.Windows.{points_of};

@@ -39,8 +39,11 @@ pub fn first_of(
     }
 }
 
-/// Checks the plates of these files in order, file k by tray k, until one is refused, and writes their headers to
-/// `headers`. It reads by pieces of `PIECE` bytes: a parameter, so that no proof unfolds lists of that length.
+/// Checks the plates of these files one after the other, file k by tray k, and writes their headers to `headers`. It
+/// reads by pieces of `PIECE` bytes: a parameter, so that no proof unfolds lists of that length.
+///
+/// The error is the refusal of the first refused plate, a fault by the limits of a sheet or a failed read, with its
+/// number among these files; memory is never what was wanted. Whether a plate after it was begun is not said.
 pub fn judge_by<T: Tray, S: AsStr, const PIECE: usize>(
     inputs: &[S],
     trays: &mut [T],
