@@ -1,3 +1,4 @@
+# SPDX-License-Identifier: Apache-2.0
 # Installs what was built or released, and packs it. Programs are not built here: that is done by ./trap, or by rt. What is not
 # built, or is older than its sources, is taken from the release, where that was made of these very sources.
 #
@@ -37,6 +38,9 @@ INCLUDEDIR ?= $(PREFIX)/include
 LIBRARY := $(wildcard library/out/libtrap.so.1)
 DEB_PLACES = PREFIX=/usr LIBDIR=/usr/lib/$(shell $(CC) -print-multiarch)
 
+# The files that have a line with the licence: scripts, headers and sources, those in crates/ and press/ left out.
+LICENSED := Makefile test .ci/run tools library '*.py' '*.sh' '*.c' '*.h' '*.toml' ':!press' ':!crates'
+
 .PHONY: all library install install-library install-headers uninstall deb lint built
 
 all:
@@ -65,7 +69,8 @@ install: built $(if $(LIBRARY),install-library install-headers)
 	install -m 644 $(PAGES1) $(DESTDIR)$(MAN)/man1
 	install -m 644 $(PAGES5) $(DESTDIR)$(MAN)/man5
 	install -m 644 $(COMPLETIONS) $(DESTDIR)$(COMPLETION)
-	install -m 644 README.md docs/JOBS.md docs/STATUSES.md docs/PRESS.md docs/FARM.md docs/LIBRARY.md CHANGELOG.md $(DESTDIR)$(DOC)
+	install -m 644 README.md docs/JOBS.md docs/STATUSES.md docs/PRESS.md docs/FARM.md docs/LIBRARY.md CHANGELOG.md \
+	  LICENSE NOTICE THIRD-PARTY $(DESTDIR)$(DOC)
 
 # The shared object, for programs that are linked with it.
 install-library:
@@ -103,6 +108,7 @@ deb: built
 	$(if $(LIBRARY),press/lib/deb-control --dev out/deb-dev && dpkg-deb --build --root-owner-group out/deb-dev out)
 
 lint:
+	! git grep -L SPDX-License-Identifier -- $(LICENSED) | grep .
 	cd man && ! mandoc -Tlint *.[15] 2>/dev/null | grep -v 'referenced manual not found\|operating system explicitly specified'
 	! grep -L '^\.Os trap $(VERSION)$$\|^\.TH .*"trap $(VERSION)"' man/*.[15] | grep .
 	if command -v pandoc >/dev/null; then tools/pages --check; fi

@@ -1,4 +1,5 @@
 #!/usr/bin/env python3
+# SPDX-License-Identifier: Apache-2.0
 """Answers by name the goals of a crate that the search finds slowly. At each goal that has no answer and took LEAST million
 steps or more, `grind (arith, common_steps)` is tried as its answer, and kept where it takes less than seven tenths of the steps.
 

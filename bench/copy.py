@@ -1,4 +1,5 @@
 #!/usr/bin/env python3
+# SPDX-License-Identifier: Apache-2.0
 """Times the program on one large plate, as a ratio to `cat` of the same file: reading, checking and writing it again.
 
     bench/copy.py [--width 4961] [--height 7016] [--maxval 255] [--runs 5]

@@ -1,4 +1,5 @@
 #!/usr/bin/env python3
+# SPDX-License-Identifier: Apache-2.0
 """Times the engine of one thread, by `trapset traps`, on pages of several kinds, beside another program of the same words.
 
     bench/engine.py [--runs 5] [--program FILE] [--beside FILE] [--only WORD] [--large]

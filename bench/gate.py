@@ -1,4 +1,5 @@
 #!/usr/bin/env python3
+# SPDX-License-Identifier: Apache-2.0
 """What a run of the gate costs: runs `rt ci` and keeps, for each crate, the seconds of a processor that went into its proof,
 into the proof of its tests and into its wrong bodies, and for each wrong body its own. The tables are written anew every
 minute, so that a run that is ended leaves what it saw, and they are printed at the end.

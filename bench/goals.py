@@ -1,4 +1,5 @@
 #!/usr/bin/env python3
+# SPDX-License-Identifier: Apache-2.0
 """Which goals of a crate took the prover longest, by what `rt check` kept in the crate's folder. Nothing is run.
 
 goals.py CRATE [COUNT]     the COUNT dearest (20): the steps of each, in millions, the function, and the goal

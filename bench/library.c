@@ -1,3 +1,4 @@
+/* SPDX-License-Identifier: Apache-2.0 */
 /* library BANDS JOB NAME:IN ..: traps a page of PGM files in memory, by one call of a page where BANDS is 0, else from so many threads,
  * each a band of the page by one call of a window. It prints the seconds that passed while it trapped, and those that processors
  * worked. Each thread copies its window before the clock starts, as a RIP renders it. */

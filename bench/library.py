@@ -1,4 +1,5 @@
 #!/usr/bin/env python3
+# SPDX-License-Identifier: Apache-2.0
 """Times a call of the library on a page as a shop has it, beside the engine of one thread, and four threads with four bands.
 
     bench/library.py [--runs 5] [--width 4961] [--height 7016] [--trap-width 0.25] [--bands 4] [--program FILE]

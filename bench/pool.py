@@ -1,4 +1,5 @@
 #!/usr/bin/env python3
+# SPDX-License-Identifier: Apache-2.0
 """Times `trappool` on a list of pages as a shop has them, by one worker and by four, beside another program of the same words.
 
     bench/pool.py [--pages 40] [--side 1414] [--runs 3] [--program FILE] [--beside FILE]

@@ -1,4 +1,5 @@
 #!/usr/bin/env python3
+# SPDX-License-Identifier: Apache-2.0
 """Measures a run of many pages through `press/farm`.
 
     bench/press.py [--pages 200] [--jobs 2] [--in FILE] [--folder DIR] [FARM'S OPTION ..]

@@ -1,4 +1,5 @@
 #!/usr/bin/env python3
+# SPDX-License-Identifier: Apache-2.0
 """Times `trapsheet` on a page, on a sheet and on a level plate, beside another program of the same words.
 
     bench/sheets.py [--what page,sheet,level] [--workers 1,4] [--runs 5] [--program FILE] [--beside FILE] [--folder DIR]

@@ -1,4 +1,5 @@
 #!/usr/bin/env python3
+# SPDX-License-Identifier: Apache-2.0
 """Times the program on a page as a shop has it: A4 at 600 pixels per inch in four inks, three zones.
 
     bench/shop.py [--width 4961] [--height 7016] [--seed 1] [--maxval 255] [--trap-width 0.25] [--runs 5]

@@ -1,3 +1,4 @@
+# SPDX-License-Identifier: Apache-2.0
 """Makes a page as a shop has it, in four inks: a heading, a photograph, discs on a fade, small type, and a good deal of paper.
 
 The regions take their shares of the page, and what stands in them keeps its size, so that pages of any sides hold about as

@@ -1,4 +1,5 @@
 #!/usr/bin/env python3
+# SPDX-License-Identifier: Apache-2.0
 """What it costs that files are written through to the disk: times `trap page` on a page as a shop has it as it comes, and where the call
 that writes through is passed over by a library that is preloaded. Both take turns.
 

@@ -1,3 +1,4 @@
+# SPDX-License-Identifier: Apache-2.0
 """What the benches share: the program, and the least time and the peak memory of a command run several times.
 
 Beside the time that passes there is the time that processors worked on the command. Where other work goes on beside it, the

@@ -1,4 +1,5 @@
 #!/usr/bin/env python3
+# SPDX-License-Identifier: Apache-2.0
 """Times `trap page` on a page as a shop has it by 1, 2 and 4 workers, beside another program of the same words.
 
     bench/workers.py [--workers 1,2,4] [--width 4961] [--height 7016] [--trap-width 0.25] [--runs 5]

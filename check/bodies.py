@@ -1,4 +1,5 @@
 #!/usr/bin/env python3
+# SPDX-License-Identifier: Apache-2.0
 """Tries the wrong bodies of check/bodies, which the gate leaves out for its time: bodies.py [--texts] [CRATE ..], of all crates where none is named.
 
 `rt must-fail` tries them in a copy of the crates, proved from nothing; some 20 to 60 seconds each. Its status is this program's. With --texts nothing is

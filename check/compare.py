@@ -1,4 +1,5 @@
 #!/usr/bin/env python3
+# SPDX-License-Identifier: Apache-2.0
 """Compares the built programs with the slow program on random cases: status, what is told, and all files afterwards.
 
     run.sh COUNT SEED          so many cases for each program that is there, and the cases of check/cases first

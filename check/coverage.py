@@ -1,3 +1,4 @@
+# SPDX-License-Identifier: Apache-2.0
 """What the cases met: which status and line each program gave, and what the pages were like."""
 import re
 import sys

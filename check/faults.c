@@ -1,3 +1,4 @@
+/* SPDX-License-Identifier: Apache-2.0 */
 /* Preloaded into a program: numbers, from 1, the calls that it makes on files of relative names, on devices and on standard output,
    and lets some of them fail. FAULTS has words with commas between:
 

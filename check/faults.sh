@@ -1,4 +1,5 @@
 #!/usr/bin/env bash
+# SPDX-License-Identifier: Apache-2.0
 # Faults of the system and of disks, in turn, on the programs as they are built; check/README.md says which.
 # faults.sh [PROGRAM ..] [--short] [--side N]
 set -eu

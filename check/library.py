@@ -1,4 +1,5 @@
 #!/usr/bin/env python3
+# SPDX-License-Identifier: Apache-2.0
 """Compares the library with the slow program, through Python: library.py COUNT SEED.
 
 Each case is a page by the call of a page, and then a window of that page by the call of a window, with memory of its own, guards

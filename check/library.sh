@@ -1,4 +1,5 @@
 #!/usr/bin/env bash
+# SPDX-License-Identifier: Apache-2.0
 # Tries the library beside the slow program and under the eyes of Valgrind, AddressSanitizer and ThreadSanitizer: library.sh COUNT
 # SEED [--short]. The sanitizers see the C programs, each request for memory and each lock, and not what the library itself reads and
 # writes; Valgrind sees all. With --short the runs under Valgrind are left out. It says what it skips where a tool is not there.

@@ -1,4 +1,5 @@
 #!/usr/bin/env bash
+# SPDX-License-Identifier: Apache-2.0
 # Makes the expected files of examples/poster with the slow program and compares them with those that are kept there.
 # With --write they are put in their place; with --whole the nearest edge is sought over the whole page for each sample.
 set -eu

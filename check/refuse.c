@@ -1,3 +1,4 @@
+/* SPDX-License-Identifier: Apache-2.0 */
 /* Preloaded into a program: counts what is asked of the allocator, and refuses one request, that of the number in REFUSE, counted
    from 1. Where REFUSED names a file, it is made at the refusal, so that who runs the program knows whether it came. */
 #define _GNU_SOURCE

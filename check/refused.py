@@ -1,4 +1,5 @@
 #!/usr/bin/env python3
+# SPDX-License-Identifier: Apache-2.0
 """Refuses each allocation of a run in turn, on small pages, by a library that is preloaded into the built programs.
 
 refused.py [PROGRAM ..]     (all of them where none is named; what is not built is skipped)

@@ -1,4 +1,5 @@
 #!/usr/bin/env python3
+# SPDX-License-Identifier: Apache-2.0
 """Long runs of the built programs: whether memory stays level, and whether anything is left behind.
 
     soak.py pages COUNT       so many pages through traprun, and as many through trappool, in runs of 250 pages

@@ -1,4 +1,5 @@
 #!/usr/bin/env python3
+# SPDX-License-Identifier: Apache-2.0
 """Worked values, found apart from every program: the slow program has to give them.
 
 Each value was worked out by hand from the rule or the public format, and none is the output of a program.

@@ -1,3 +1,4 @@
+/* SPDX-License-Identifier: Apache-2.0 */
 /* trap.h - the trapping engine for C and C++ programs: libtrap.
  *
  * A call traps the planes of one page where they lie in memory, or the core of one window of a sheet. It opens no file, starts

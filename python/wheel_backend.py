@@ -1,3 +1,4 @@
+# SPDX-License-Identifier: Apache-2.0
 """Makes the wheel of the package for pip, by Python's own library alone, so that nothing has to be fetched to install it."""
 import base64
 import hashlib

@@ -1,3 +1,4 @@
+# SPDX-License-Identifier: Apache-2.0
 """Faults of the system, in turn, on small pages, and places on a disk that stand in the way (check/faults.sh).
 
 faults [PROGRAM ..] [--short] [--side N]

@@ -1,3 +1,4 @@
+# SPDX-License-Identifier: Apache-2.0
 """Each call of a run fails in turn, and the run is killed at each of its calls."""
 import errno
 

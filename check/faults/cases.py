@@ -1,3 +1,4 @@
+# SPDX-License-Identifier: Apache-2.0
 """The runs that faults are tried on: small pages, what stands there before, and what is told where a call fails."""
 from collections import namedtuple
 

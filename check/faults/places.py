@@ -1,3 +1,4 @@
+# SPDX-License-Identifier: Apache-2.0
 """Places on a disk that stand in the way of a run: folders, links, devices, pipes, rights, a full disk, and another run."""
 import os
 import select

@@ -1,3 +1,4 @@
+# SPDX-License-Identifier: Apache-2.0
 """Rights that are missing, as a user that is not root; disks that are full or read-only; and another run at the same time."""
 import errno
 import os

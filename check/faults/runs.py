@@ -1,3 +1,4 @@
+# SPDX-License-Identifier: Apache-2.0
 """Runs of a program in a folder of its own, with a fault or without, and what they left."""
 import os
 import pathlib

@@ -1,3 +1,4 @@
+# SPDX-License-Identifier: Apache-2.0
 """The trials of places, rights, disks and two runs at once."""
 from . import places, rights
 from .cases import CASES, WRITING, NAMES

@@ -1,4 +1,5 @@
 #!/usr/bin/env python3
+# SPDX-License-Identifier: Apache-2.0
 """Tries the package trapping on NumPy arrays as a program has them: arrays of rows and columns, views whose rows lie apart, planes of one
 stack, arrays that cannot be written, and four threads. The poster of examples/ says what has to come out."""
 import gzip

@@ -1,3 +1,4 @@
+/* SPDX-License-Identifier: Apache-2.0 */
 /* refused: traps a small page, and then a window, with each request for memory refused in turn. Each call has to answer TRAP_MEMORY, say so and leave the
  * samples as they were, until one has all that it asks for; and what was taken is always given back. It is linked with
  * --wrap=malloc, --wrap=realloc and --wrap=free. */

@@ -1,3 +1,4 @@
+/* SPDX-License-Identifier: Apache-2.0 */
 /* threads [PAGES]: eight threads trap pages at once, each its own, by the calls of a page and of a window; each has to come out as
  * it does alone. */
 #include <pthread.h>

@@ -1,3 +1,4 @@
+# SPDX-License-Identifier: Apache-2.0
 """Random cases: for each program a folder of files, and the words that it is called with in that folder."""
 import random
 from collections import namedtuple

@@ -1,3 +1,4 @@
+# SPDX-License-Identifier: Apache-2.0
 """Random jobs: lists of tokens, most of them jobs that are right, with one or two faults in the others."""
 from slow.entries import KINDS, PARAMETERS
 

@@ -1,3 +1,4 @@
+# SPDX-License-Identifier: Apache-2.0
 """Small pages: sides, maxvals, and plates that meet at many edges."""
 from collections import namedtuple
 

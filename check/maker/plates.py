@@ -1,3 +1,4 @@
+# SPDX-License-Identifier: Apache-2.0
 """Plate files of a picture, broken ones among them."""
 from . import spelling
 

@@ -1,3 +1,4 @@
+# SPDX-License-Identifier: Apache-2.0
 """Set files for a picture: right ones, and ones that are bad at some line."""
 
 

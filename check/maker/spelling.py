@@ -1,3 +1,4 @@
+# SPDX-License-Identifier: Apache-2.0
 """Odd but valid spellings of jobs and of plates."""
 
 DELIMITERS = b"()<>[]{}/%"

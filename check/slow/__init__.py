@@ -1,3 +1,4 @@
+# SPDX-License-Identifier: Apache-2.0
 """The whole specification as a plain, slow program: each module stands beside the definitions that it follows.
 
 It is written to be checked by reading, and not to be fast. Numbers of the rule are whole: parameters, densities and

@@ -1,3 +1,4 @@
+# SPDX-License-Identifier: Apache-2.0
 """python3 -m slow [--whole] PROGRAM WORD ...: the slow program on real files, with the words of the program named.
 
 With --whole the nearest edge of each sample is sought over the whole page, however large it is.

@@ -1,3 +1,4 @@
+# SPDX-License-Identifier: Apache-2.0
 """What the entries of a dictionary before `settrapparams` or `setpagedevice` may be, and their first misfit."""
 from collections import namedtuple
 

@@ -1,3 +1,4 @@
+# SPDX-License-Identifier: Apache-2.0
 """Jobs: the statements of a job, what is in force at each of them, and the first fault."""
 from collections import namedtuple
 

@@ -1,3 +1,4 @@
+# SPDX-License-Identifier: Apache-2.0
 """The objects of a job: what its tokens write out."""
 from collections import namedtuple
 

@@ -1,3 +1,4 @@
+# SPDX-License-Identifier: Apache-2.0
 """What is outside the programs: files that are read and written by name, and a text that is told."""
 import os
 import sys

@@ -1,3 +1,4 @@
+# SPDX-License-Identifier: Apache-2.0
 """The page that a job and its plates make.
 
 The job's fault comes first, then that of each plate in order, then a plate without details where some zone is enabled,

@@ -1,3 +1,4 @@
+# SPDX-License-Identifier: Apache-2.0
 """The path that a job draws. Points are pairs in ten-thousandths of a point, 1/72 inch."""
 from .refusals import JobFault
 

@@ -1,3 +1,4 @@
+# SPDX-License-Identifier: Apache-2.0
 """Plate files: raw PGM in this project's profile (Netpbm's PGM manual gives the format).
 
 A plate file is a header and a raster. The header is `P5`, a gap, the width, a gap, the height, a gap, the maxval and

@@ -1,3 +1,4 @@
+# SPDX-License-Identifier: Apache-2.0
 """The program presscheck: how many samples misregister could leave bare, before and after trapping.
 
 A sample is at risk where it has ink and each plate, shifted by itself by at most the radius along both axes, can bring

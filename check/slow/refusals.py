@@ -1,3 +1,4 @@
+# SPDX-License-Identifier: Apache-2.0
 """Refusals: each has the line that is told and the status that the program ends with."""
 
 USAGE, JOB, PAGE, READ, WRITE, SET, LINES = 2, 3, 4, 5, 6, 8, 9

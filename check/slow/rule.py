@@ -1,3 +1,4 @@
+# SPDX-License-Identifier: Apache-2.0
 """The trapping rule, for a whole page at once: each definition as it is written.
 
 Samples are (x, y) with row 0 at the top. Edges are points (X, Y) of the doubled grid, in which sample (x, y) stands at

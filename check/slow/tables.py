@@ -1,3 +1,4 @@
+# SPDX-License-Identifier: Apache-2.0
 """The tables of docs/JOBS.md that the second program goes by: the trapping parameters with their ranges and defaults, and the
 kinds of ink with what they do.
 """

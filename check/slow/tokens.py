@@ -1,3 +1,4 @@
+# SPDX-License-Identifier: Apache-2.0
 """The tokens of a job: the syntax is that of PLRM3, in this project's part of it."""
 import re
 from collections import namedtuple

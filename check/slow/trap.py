@@ -1,3 +1,4 @@
+# SPDX-License-Identifier: Apache-2.0
 """The program trap: `trap page` and `trap sample`."""
 from .entries import DEFAULTS, Ink
 from .jobs import Zone

@@ -1,3 +1,4 @@
+# SPDX-License-Identifier: Apache-2.0
 """The program trappool: a list of jobs, each a line, that are all read before the first is written.
 
 A list has 1 to 256 lines, each ended by LF, and at most 1,048,576 bytes. No output of the whole list stands twice. A

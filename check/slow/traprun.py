@@ -1,3 +1,4 @@
+# SPDX-License-Identifier: Apache-2.0
 """The program traprun: jobs of many pages, one `showpage` for each; a plate file has one image for each page.
 
 The tokens and objects of the whole job are judged first, then whether it has a `showpage`, ends with one, and has no

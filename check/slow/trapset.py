@@ -1,3 +1,4 @@
+# SPDX-License-Identifier: Apache-2.0
 """The program trapset: trap sets, which hold the traps alone as runs of samples with their new tints.
 
 A set file is these lines, each ended by LF, with single spaces and numbers without leading zeros: `trap set`;

@@ -1,3 +1,4 @@
+# SPDX-License-Identifier: Apache-2.0
 """The program trapsheet: sheets of any size, by the rule of a page."""
 from math import gcd
 

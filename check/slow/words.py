@@ -1,3 +1,4 @@
+# SPDX-License-Identifier: Apache-2.0
 """What words mean: numbers, colorants' names, and words of several parts."""
 import re
 

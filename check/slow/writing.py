@@ -1,3 +1,4 @@
+# SPDX-License-Identifier: Apache-2.0
 """What is written: the plates of a trapped page, and its report."""
 from .outside import WriteFault
 from .plates import plate_with, spelled

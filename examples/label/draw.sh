@@ -1,4 +1,5 @@
 #!/usr/bin/env bash
+# SPDX-License-Identifier: Apache-2.0
 # Draws the pictures of README.md here, from label.pdf.
 set -eu
 cd "$(dirname "$0")"

@@ -1,4 +1,5 @@
 #!/usr/bin/env python3
+# SPDX-License-Identifier: Apache-2.0
 """Makes the label: make.py OUT.pdf. Two pages of 252 by 168 points, front and back, in CMYK, a spot colour and a foil.
 
 Everything knocks out what lies under it, as a PDF does that asks for no overprint. All is reckoned in whole numbers or written

@@ -1,3 +1,4 @@
+/* SPDX-License-Identifier: Apache-2.0 */
 /* bands JOB REPORT NAME:IN:OUT ..: what page.c does, band by band from four threads, as a RIP that renders in bands may do it.
  *
  * The page is cut into bands of rows. Each band is a window of the page: its core are the band's rows, and round them stand as

@@ -1,3 +1,4 @@
+/* SPDX-License-Identifier: Apache-2.0 */
 /* page [-8] JOB REPORT NAME:IN:OUT ..: what `trap page JOB REPORT NAME:IN:OUT ..` does, by one call of the library. The plates are raw
  * PGM files, in which 0 is full ink. With -8 the planes are held as bytes, else as 16-bit numbers. It ends with the library's
  * status, and with 1 where a file cannot be read or written. */

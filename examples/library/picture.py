@@ -1,4 +1,5 @@
 #!/usr/bin/env python3
+# SPDX-License-Identifier: Apache-2.0
 """Draws what trapping changes on the poster, from its plates in memory.
 
     picture.py OUT.ppm

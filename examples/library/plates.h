@@ -1,3 +1,4 @@
+/* SPDX-License-Identifier: Apache-2.0 */
 /* Plates as raw PGM files, for the examples: read into planes in memory, and written out of them. In a file 0 is full ink. */
 #ifndef PLATES_H
 #define PLATES_H

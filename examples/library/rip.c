@@ -1,3 +1,4 @@
+/* SPDX-License-Identifier: Apache-2.0 */
 /* rip IN.pdf DPI WIDTHxHEIGHT JOB FOLDER: a small RIP. Ghostscript's library renders each page of a PDF into memory, a plane for each
  * colorant, and libtrap traps these planes where they lie, with the gaps that Ghostscript leaves after its rows. Nothing is copied from
  * the one to the other. A page's plates are written as FOLDER/PAGE-NAME.pgm, and its report as FOLDER/PAGE.report; with "-" in place of

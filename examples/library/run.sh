@@ -1,4 +1,5 @@
 #!/usr/bin/env bash
+# SPDX-License-Identifier: Apache-2.0
 # Compiles the examples of the library, runs each and compares what it makes with what must come out of examples/poster. It says
 # what it skips where a tool is not there. What it makes lies in out/.
 set -eu

@@ -1,4 +1,5 @@
 #!/usr/bin/env python3
+# SPDX-License-Identifier: Apache-2.0
 """Compares a plate file with what the program wrote of it: the canonical header, and the same raster.
 
 check.py READ WRITTEN ends with 0 where they agree. It reads headers as Netpbm's manual says, by itself.

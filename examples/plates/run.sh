@@ -1,4 +1,5 @@
 #!/usr/bin/env bash
+# SPDX-License-Identifier: Apache-2.0
 # Runs the program on each plate of this folder, and compares what it writes with a reader of its own.
 set -eu
 here=$(cd "$(dirname "$0")" && pwd)

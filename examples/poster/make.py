@@ -1,4 +1,5 @@
 #!/usr/bin/env python3
+# SPDX-License-Identifier: Apache-2.0
 """Makes the four plates of the poster: make.py FOLDER writes Cyan.pgm, Magenta.pgm, Yellow.pgm and Black.pgm there.
 
 Each shape knocks out what lies under it. The two halves of the page have the same shapes, so that their two ways of trapping

@@ -1,4 +1,5 @@
 #!/usr/bin/env bash
+# SPDX-License-Identifier: Apache-2.0
 # Traps the poster, compares its plates and its report with what must come out, and draws pictures of it where python3 is at hand.
 set -eu
 cd "$(dirname "$0")"

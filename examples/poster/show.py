@@ -1,4 +1,5 @@
 #!/usr/bin/env python3
+# SPDX-License-Identifier: Apache-2.0
 """Draws what a press prints of the poster's plates: show.py PLATES TRAPPED PICTURES, three folders.
 
 Into the last go before.png and after.png, the page as it is and as it is trapped; register.png, both with the plates out of

@@ -1,4 +1,5 @@
 #!/usr/bin/env bash
+# SPDX-License-Identifier: Apache-2.0
 # Traps a sample page of four million samples three times, with one worker twice and once with seven, and compares what is told.
 set -eu
 cd "$(dirname "$0")"

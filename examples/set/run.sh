@@ -1,4 +1,5 @@
 #!/usr/bin/env bash
+# SPDX-License-Identifier: Apache-2.0
 # The traps of the poster as a file of their own: makes the set, looks at it, puts it onto the plates, and compares these with
 # the plates that `trap page` has to write.
 set -eu

@@ -1,3 +1,4 @@
+# SPDX-License-Identifier: Apache-2.0
 """Traps the separated planes of a page where they lie in memory, over the shared library libtrap.
 
     report = trapping.trap(job, {"Cyan": cyan, "Magenta": magenta, "Yellow": yellow, "Black": black})

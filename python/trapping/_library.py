@@ -1,3 +1,4 @@
+# SPDX-License-Identifier: Apache-2.0
 """Finds the shared library, and declares what it exports."""
 import ctypes
 import os

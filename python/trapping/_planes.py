@@ -1,3 +1,4 @@
+# SPDX-License-Identifier: Apache-2.0
 """Planes as Python holds them: where the samples of a buffer lie."""
 import ctypes
 import sys

@@ -1,3 +1,4 @@
+# SPDX-License-Identifier: Apache-2.0
 """What is raised where a call is refused."""
 import re
 from typing import Any, Optional, Tuple

@@ -1,3 +1,4 @@
+# SPDX-License-Identifier: Apache-2.0
 """The calls that trap a page, or a window of a sheet."""
 import ctypes
 from typing import Any, List, Mapping, Optional, Sequence, Tuple, Union
