@@ -1,0 +1,63 @@
+# SPDX-License-Identifier: Apache-2.0
+"""Refusals: one exception with a status, a message and a place."""
+import enum
+
+# Made of the statuses of docs/PRESS.md by tools/pages.
+STATUSES = """Status:
+  0  done
+  1  some page failed; the others stand (press/all, press/farm)
+  2  the words are no command: an unknown option, a word too few or too many
+  3  a tool or a program is not there
+  4  a file cannot be read
+  5  Ghostscript cannot read the PDF, or the PDF has no such page
+  6  the folder has no plates
+  7  the plates make no page: two sizes, too many colorants or samples
+  8  an output cannot be written, stands in the way, or another run is at work there
+  9  a program of traps refuses the page or its job; its line is printed
+  10 the preflight warns of something, and --strict is given
+"""
+# End of what is made.
+
+
+class Status(enum.IntEnum):
+    """How a command ends: one status for each kind of refusal."""
+
+    DONE = 0
+    PAGES_FAILED = 1
+    USAGE = 2
+    NO_TOOL = 3
+    INPUT = 4
+    PDF = 5
+    NO_PLATES = 6
+    PLATES = 7
+    OUTPUT = 8
+    PROGRAM = 9
+    WARNED = 10
+
+
+class PressError(Exception):
+    """Why something is refused: the status that a command ends with, the message, and the file or page that it
+    speaks of."""
+
+    def __init__(self, status: Status, message: str, place: str | None = None) -> None:
+        super().__init__(status, message, place)
+        self.status = status
+        self.message = message
+        self.place = place
+
+    def __str__(self) -> str:
+        """The line that people read."""
+        return f"{self.place}: {self.message}" if self.place else self.message
+
+
+class UsageError(PressError):
+    """An option or an operand that a command does not take."""
+
+    def __init__(self, message: str) -> None:
+        super().__init__(Status.USAGE, message)
+        self.args = (message,)
+
+
+def reason(fault: Exception) -> str:
+    """The system's own words for a fault."""
+    return getattr(fault, "strerror", None) or str(fault)

@@ -1,0 +1,263 @@
+# SPDX-License-Identifier: Apache-2.0
+"""Files and folders that stand whole under their names or not at all; locks; what killed runs left; room on the
+disk."""
+import contextlib
+import errno
+import fcntl
+import logging
+import os
+import re
+import shutil
+import socket
+import stat
+import tempfile
+import time
+from collections.abc import Iterator
+
+from .errors import PressError, Status, reason
+
+LOG = logging.getLogger("press")
+LOCK = ".press-lock"
+HEAD_BYTES = 2048
+BYTE_ORDER_MARK = b"\xef\xbb\xbf"
+LEFT_OVER = re.compile(r"\.press-(\d+)-(.*)-[a-z0-9_]{8,10}(\.[^.]*)?")
+LOCK_TRIES, LOCK_WAIT = 10, 0.1
+PROBE_BYTES = 1 << 18
+NO_ROOM = (errno.ENOSPC, errno.EDQUOT, errno.EFBIG, errno.EROFS, errno.EIO)
+
+
+# Reading
+
+def head_of(path: str) -> bytes:
+    """The first bytes of a regular file. A folder, a pipe or a device is refused: reading it could wait for ever."""
+    try:
+        mode = os.stat(path).st_mode
+        if stat.S_ISDIR(mode):
+            raise PressError(Status.INPUT, "Is a directory", path)
+        if not stat.S_ISREG(mode):
+            raise PressError(Status.INPUT, "no regular file", path)
+        with open(path, "rb") as file:
+            return file.read(HEAD_BYTES)
+    except OSError as fault:
+        raise PressError(Status.INPUT, reason(fault), path) from fault
+
+
+def bytes_of(path: str) -> bytes:
+    """The bytes of a regular file."""
+    head_of(path)
+    try:
+        with open(path, "rb") as file:
+            return file.read()
+    except OSError as fault:
+        raise PressError(Status.INPUT, reason(fault), path) from fault
+
+
+def what_it_is(text: bytes) -> str:
+    """What a text is that is no UTF-8, and what is to be done."""
+    if is_utf16(text):
+        return "in UTF-16: save it as UTF-8"
+    for number, line in enumerate(text.split(b"\n"), 1):
+        try:
+            line.decode("utf-8")
+        except UnicodeDecodeError:
+            return f"line {number}: not UTF-8: save it as UTF-8"
+    return "not UTF-8"
+
+
+def is_utf16(text: bytes) -> bool:
+    """Whether a text begins as UTF-16 does."""
+    return text.startswith((b"\xff\xfe", b"\xfe\xff"))
+
+
+def table_lines(path: str) -> list[str]:
+    """The lines of a table in UTF-8. A byte order mark is left aside."""
+    try:
+        with open(path, "rb") as file:
+            text = file.read()
+    except OSError as fault:
+        raise PressError(Status.INPUT, reason(fault), path) from fault
+    try:
+        return text.removeprefix(BYTE_ORDER_MARK).decode("utf-8").splitlines()
+    except UnicodeDecodeError as fault:
+        raise PressError(Status.INPUT, what_it_is(text), path) from fault
+
+
+def need_folder(path: str) -> None:
+    """Refuses a path that is no folder."""
+    if not os.path.isdir(path):
+        message = "Not a directory" if os.path.lexists(path) else "No such file or directory"
+        raise PressError(Status.INPUT, message, path)
+
+
+# Writing
+
+def umasked(mode: int) -> int:
+    """The rights that a new file has."""
+    mask = os.umask(0)
+    os.umask(mask)
+    return mode & ~mask
+
+
+def temporary_name() -> str:
+    """How the name of an unfinished file begins: with the number of this process and the machine."""
+    return f".press-{os.getpid()}-{socket.gethostname()}-"
+
+
+def sweep(folder: str) -> None:
+    """Clears away what killed runs of this machine left in a folder."""
+    try:
+        with os.scandir(folder) as entries:
+            found = [(entry, LEFT_OVER.fullmatch(entry.name)) for entry in entries]
+    except OSError:
+        return
+    for entry, name in found:
+        if name is None or name.group(2) != socket.gethostname() or os.path.exists(f"/proc/{name.group(1)}"):
+            continue
+        if entry.is_dir(follow_symlinks=False):
+            shutil.rmtree(entry.path, ignore_errors=True)
+        else:
+            with contextlib.suppress(OSError):
+                os.remove(entry.path)
+
+
+@contextlib.contextmanager
+def whole_file(final: str) -> Iterator[str]:
+    """A path beside `final` to write to. It takes the name `final` if the block ends well, and is removed otherwise."""
+    parent = os.path.dirname(final) or "."
+    try:
+        if os.path.isdir(final):
+            raise PressError(Status.OUTPUT, "Is a directory", final)
+        sweep(parent)
+        handle, path = tempfile.mkstemp(prefix=temporary_name(), suffix=os.path.splitext(final)[1], dir=parent)
+        os.close(handle)
+    except OSError as fault:
+        raise PressError(Status.OUTPUT, reason(fault), final) from fault
+    try:
+        yield path
+        os.chmod(path, umasked(0o666))
+        os.replace(path, final)
+    finally:
+        if os.path.exists(path):
+            os.remove(path)
+
+
+def write_text(final: str, text: str, errors: str = "strict") -> None:
+    """Writes a text file as a whole."""
+    with whole_file(final) as path, open(path, "w", encoding="utf-8", errors=errors) as file:
+        file.write(text)
+
+
+@contextlib.contextmanager
+def folder_beside(final: str, inside: bool = False) -> Iterator[str]:
+    """A new folder beside `final`, or inside it, that is removed when the block ends, unless it was renamed."""
+    parent = final if inside else os.path.dirname(os.path.abspath(final))
+    try:
+        sweep(parent)
+        path = tempfile.mkdtemp(prefix=temporary_name(), dir=parent)
+    except OSError as fault:
+        raise PressError(Status.OUTPUT, reason(fault), final) from fault
+    os.chmod(path, umasked(0o777))
+    try:
+        yield path
+    finally:
+        shutil.rmtree(path, ignore_errors=True)
+
+
+def put_folder(made: str, final: str) -> None:
+    """Gives a folder its final name, in place of a folder of that name."""
+    if os.path.isdir(final):
+        old = tempfile.mkdtemp(prefix=temporary_name(), dir=os.path.dirname(os.path.abspath(final)))
+        os.rename(final, os.path.join(old, "old"))
+        os.rename(made, final)
+        shutil.rmtree(old, ignore_errors=True)
+    else:
+        os.rename(made, final)
+
+
+def link_or_copy(source: str, end: str) -> None:
+    """The same file under a second name if the disk allows it, else a copy."""
+    try:
+        os.link(source, end)
+    except OSError:
+        shutil.copyfile(source, end)
+
+
+# Locks
+
+@contextlib.contextmanager
+def locked(path: str, place: str, who: str, shared: bool = False) -> Iterator[None]:
+    """Holds a lock while the block runs: a file with the number of the process and its command, `who`. The
+    system releases it if the process ends in any way. If another run holds it, the refusal names that run."""
+    handle = take_lock(path, place, fcntl.LOCK_SH if shared else fcntl.LOCK_EX)
+    os.truncate(handle, 0)
+    os.pwrite(handle, f"process {os.getpid()} on {socket.gethostname()}: {who}\n".encode(), 0)
+    try:
+        yield
+    finally:
+        # The last one removes the file.
+        with contextlib.suppress(OSError):
+            fcntl.flock(handle, fcntl.LOCK_EX | fcntl.LOCK_NB)
+            os.remove(path)
+        os.close(handle)
+
+
+def take_lock(path: str, place: str, how: int) -> int:
+    """The open file of a lock that is held."""
+    for attempt in range(LOCK_TRIES):
+        handle = os.open(path, os.O_RDWR | os.O_CREAT | os.O_CLOEXEC, umasked(0o666))
+        try:
+            fcntl.flock(handle, how | fcntl.LOCK_NB)
+            with contextlib.suppress(OSError):
+                if os.path.samestat(os.fstat(handle), os.stat(path)):
+                    break
+        except BlockingIOError as fault:
+            # A run that removes the file of a lock holds it for a moment.
+            time.sleep(LOCK_WAIT)
+            if attempt == LOCK_TRIES - 1:
+                holder = os.pread(handle, 1000, 0).decode("utf-8", "replace").strip() or "its process is not told"
+                os.close(handle)
+                raise PressError(Status.OUTPUT, f"another run is at work here ({holder})", place) from fault
+        except OSError as fault:
+            LOG.warning("%s: no lock can be held here (%s): see to it that one run alone is at work", place,
+                        fault.strerror)
+            break
+        os.close(handle)
+    return handle
+
+
+# Room
+
+def need_room(folder: str, what: str) -> None:
+    """Refuses with the system's own reason if the folder takes no more: what tools print about a full disk is
+    mostly misleading."""
+    try:
+        with tempfile.TemporaryFile(prefix=temporary_name(), dir=folder) as file:
+            file.write(b"\1" * PROBE_BYTES)
+            file.flush()
+            os.fsync(file.fileno())
+    except OSError as fault:
+        if fault.errno in NO_ROOM:
+            raise PressError(Status.OUTPUT, f"{reason(fault)} (while {what})", os.fsdecode(folder)) from fault
+
+
+def free_room(place: str) -> int:
+    """The bytes that are free where a path is or will be."""
+    while not os.path.isdir(place):
+        place = os.path.dirname(os.path.abspath(place))
+    found = os.statvfs(place)
+    return found.f_bavail * found.f_frsize
+
+
+def disk_use(folder: str) -> int:
+    """The bytes that a folder takes, a file of two names once."""
+    seen = {}
+    for place, _, files in os.walk(folder):
+        for file in files:
+            found = os.lstat(os.path.join(place, file))
+            seen[found.st_dev, found.st_ino] = found.st_blocks * 512
+    return sum(seen.values())
+
+
+def size_text(count: int) -> str:
+    """A number of bytes as people read it."""
+    return f"{count / 1e9:.2f} GB" if count >= 1e9 else f"{count / 1e6:.1f} MB"

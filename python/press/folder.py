@@ -1,0 +1,185 @@
+# SPDX-License-Identifier: Apache-2.0
+"""The folder of a page, and the folder OUT of a run: the names of their files, and what stands in them."""
+import dataclasses
+import os
+import re
+import shutil
+from dataclasses import dataclass
+
+from . import plates
+from .errors import PressError, Status, reason
+from .files import need_folder
+from .inks import Ink
+from .names import from_table, table_name
+from .plates import Head, Plates
+
+TABLE, JOB, TRAPPED, REPORT, CHECK, JSON = "colorants.txt", "page.job", "trapped", "report", "check", "report.json"
+TIFF, WARNINGS, WHY, PART, SHEET = "tiff", "warnings.txt", "why", "proof.part", "proof.html"
+NO_PLATES = "no plates here (press/plates makes such a folder)"
+TABLE_HEAD = """\
+# The colorants that were found on a page. Of each: its name in the job, its neutral density, its kind, the process
+# inks that look like it in hundredths, whether its plate has ink, its name in tiffsep's file names, and in the PDF.
+"""
+
+
+@dataclass(frozen=True)
+class PageSource:
+    """What a page was made of: the file's name, the page's number from 1, and the resolution in pixels per inch."""
+
+    pdf: bytes
+    page: int
+    resolution: int
+
+
+@dataclass(frozen=True)
+class PageFolder:
+    """A folder with the plates of a page, all of one size."""
+
+    path: str
+    source: PageSource
+    inks: tuple[Ink, ...]
+    head: Head
+
+    @classmethod
+    def read(cls, path: str) -> "PageFolder":
+        """The page in a folder. Refuses a folder without plates, and plates that make no page."""
+        source, inks = read_table(path)
+        found = plates.read_plates({ink.name: os.path.join(path, ink.name + ".pgm") for ink in inks}, source.resolution)
+        return cls(path, source, inks, Head(found.width, found.height, found.maxval))
+
+    def file(self, *names: str) -> str:
+        """The path of a file of the page."""
+        return os.path.join(self.path, *names)
+
+    def plate(self, ink: Ink, trapped: bool = False) -> str:
+        """The path of a plate, as it came from the PDF or trapped."""
+        return self.file(TRAPPED, ink.name + ".pgm") if trapped else self.file(ink.name + ".pgm")
+
+    def plates(self, trapped: bool = False) -> Plates:
+        """The plates, mapped and not read."""
+        return plates.read_plates({ink.name: self.plate(ink, trapped) for ink in self.inks}, self.source.resolution)
+
+    @property
+    def inked(self) -> tuple[Ink, ...]:
+        """The inks whose plates have ink; the first one where none has."""
+        return tuple(ink for ink in self.inks if ink.has_ink) or self.inks[:1]
+
+    @property
+    def is_trapped(self) -> bool:
+        """Whether the page was trapped."""
+        return os.path.isdir(self.file(TRAPPED))
+
+    def need_trapped(self) -> None:
+        """Refuses a page that is not trapped, or whose trapped plates have another size."""
+        if not self.is_trapped:
+            raise PressError(Status.INPUT, "not trapped yet (press/trap does it; --untrapped takes the plates as they "
+                             "are)", self.path)
+        for ink in self.inks:
+            head = plates.head_of(self.plate(ink, True))
+            if dataclasses.replace(head, start=0) != self.head:
+                message = (f"{head.width} by {head.height} samples of maxval {head.maxval}, and the page has "
+                           f"{self.head.width} by {self.head.height} of {self.head.maxval}")
+                raise PressError(Status.PLATES, message, self.plate(ink, True))
+
+
+def write_table(path: str, source: PageSource, inks: tuple[Ink, ...]) -> None:
+    """Writes the table of colorants of a page's folder."""
+    lines = [f"pdf\t{table_name(source.pdf)}", f"page\t{source.page}", f"resolution\t{source.resolution}"]
+    for ink in inks:
+        lines.append("\t".join(("colorant", ink.name, ink.density, ink.kind, " ".join(f"{part:g}" for part in ink.look),
+                                "ink" if ink.has_ink else "blank", table_name(ink.suffix), table_name(ink.colorant))))
+    with open(os.path.join(path, TABLE), "w", encoding="utf-8") as file:
+        file.write(TABLE_HEAD + "\n".join(lines) + "\n")
+
+
+def read_table(folder: str) -> tuple[PageSource, tuple[Ink, ...]]:
+    """The table of colorants of a page's folder."""
+    need_folder(folder)
+    path = os.path.join(folder, TABLE)
+    try:
+        with open(path, encoding="utf-8") as file:
+            lines = [line.rstrip("\n").split("\t") for line in file if not line.startswith("#")]
+    except FileNotFoundError as fault:
+        raise PressError(Status.NO_PLATES, NO_PLATES, folder) from fault
+    except OSError as fault:
+        raise PressError(Status.INPUT, reason(fault), path) from fault
+    except UnicodeDecodeError as fault:
+        raise PressError(Status.INPUT, "not a table of colorants", path) from fault
+    try:
+        heads = {line[0]: line[1] for line in lines if line[0] != "colorant"}
+        inks = tuple(ink_of(line) for line in lines if line[0] == "colorant")
+        source = PageSource(from_table(heads["pdf"]), int(heads["page"]), int(heads["resolution"]))
+    except (IndexError, KeyError, ValueError) as fault:
+        raise PressError(Status.INPUT, "not a table of colorants", path) from fault
+    if not inks:
+        raise PressError(Status.NO_PLATES, NO_PLATES, folder)
+    return source, inks
+
+
+def ink_of(line: list[str]) -> Ink:
+    """The ink of a line of the table."""
+    _, name, density, kind, look_text, has_ink, suffix, colorant = line[:8]
+    cyan, magenta, yellow, black = (float(part) for part in look_text.split())
+    look = cyan, magenta, yellow, black
+    return Ink(name, from_table(colorant), from_table(suffix), density, kind, look, has_ink == "ink")
+
+
+# The folder of a run
+
+@dataclass(frozen=True)
+class JobFolder:
+    """The folder OUT of a run: a folder for each page, and what failed beside them."""
+
+    path: str
+
+    def page(self, number: int) -> str:
+        """The folder of a page that is done."""
+        return os.path.join(self.path, f"page-{number:03d}")
+
+    def failed(self, number: int) -> str:
+        """The folder of a page that failed."""
+        return self.page(number) + ".failed"
+
+    def make(self) -> None:
+        """Makes the folder if it is not there."""
+        if os.path.lexists(self.path) and not os.path.isdir(self.path):
+            raise PressError(Status.OUTPUT, "File exists", self.path)
+        os.makedirs(self.path, exist_ok=True)
+
+    def pages(self) -> tuple[dict[int, str], dict[int, str]]:
+        """The folders of the pages that are done and trapped, and of each page that failed the line that says why."""
+        done, failed = {}, {}
+        for name in sorted(os.listdir(self.path)):
+            found = re.fullmatch(r"page-(\d{3,})(\.failed)?", name)
+            if found and found.group(2):
+                failed[int(found.group(1))] = read_text(self.path, name, WHY).strip()
+            elif found and os.path.isdir(os.path.join(self.path, name, TRAPPED)):
+                done[int(found.group(1))] = os.path.join(self.path, name)
+        return done, failed
+
+    def remove_old(self, number: int) -> None:
+        """Removes what an earlier run made of a page, so that nothing old is taken for new."""
+        for path in (self.page(number), self.failed(number)):
+            if os.path.islink(path):
+                raise PressError(Status.OUTPUT, "is a link, and press/all did not make it: it is left as it is", path)
+            if os.path.isdir(path) and any(os.path.exists(os.path.join(path, name)) for name in (TABLE, WHY)):
+                shutil.rmtree(path)
+            elif os.path.lexists(path):
+                raise PressError(Status.OUTPUT, "stands in the way, and press/all did not make it", path)
+
+    def keep_failed(self, number: int, made: str, why: str) -> None:
+        """Keeps what was made of a page that failed, with the line that says why."""
+        os.makedirs(made, exist_ok=True)
+        with open(os.path.join(made, WHY), "w", encoding="utf-8", errors="surrogateescape") as file:
+            file.write(why + "\n")
+        if not os.path.lexists(self.failed(number)):
+            os.rename(made, self.failed(number))
+
+
+def read_text(*path: str) -> str:
+    """A text file, or nothing where it is not there."""
+    try:
+        with open(os.path.join(*path), encoding="utf-8", errors="replace") as file:
+            return file.read()
+    except OSError:
+        return ""

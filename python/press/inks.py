@@ -1,0 +1,283 @@
+# SPDX-License-Identifier: Apache-2.0
+"""Inks: what is known of each from the command line, tables, the house and the library in press/inks; what is
+guessed; and where each figure comes from.
+"""
+import fnmatch
+import os
+import re
+import shlex
+import unicodedata
+from collections.abc import Callable, Iterator, Sequence
+from dataclasses import dataclass, field
+
+from . import tables
+from .errors import UsageError
+from .files import table_lines
+from .names import PROCESS, file_name, readable
+from .settings import Settings, house_file
+from .tools import PRESS
+
+# An ink that looks like no ink at all, a white say, is not without density.
+LEAST_GUESS = 0.05
+# A spot of which Ghostscript does not say what it looks like is taken for a gray.
+UNKNOWN_LOOK = (0.0, 0.0, 0.0, 50.0)
+LIBRARY = os.path.join(PRESS, "inks")
+# Words that a name of a swatch book begins with. Such an ink is no technical one.
+SWATCH_BOOKS = ("pantone", "pms", "hks", "toyo", "dic", "ral", "ncs", "focoltone", "trumatch", "process")
+Look = tuple[float, float, float, float]
+
+
+@dataclass(frozen=True)
+class Separation:
+    """A colorant that Ghostscript made a plate of: its name in the PDF, in tiffsep's file names and in the job,
+    and the process inks that look like it, in per cent; None where nobody says it."""
+
+    colorant: bytes
+    suffix: bytes
+    look: Look | None
+    name: str
+
+
+@dataclass(frozen=True)
+class Origin:
+    """Where a figure comes from. The rank is "told" (the owner), "house", "library", "name" (a kind by the
+    ink's name), "guess" or "default"; the text names the place."""
+
+    rank: str
+    text: str
+
+
+FROM_TABLE = Origin("told", "colorants.txt")
+
+
+@dataclass(frozen=True)
+class Ink:
+    """An ink of a page.
+
+    `name` is its name in the job, `colorant` in the PDF, `suffix` in tiffsep's file names. `density` is the
+    neutral density of full ink, as the job writes it; `kind` is one of docs/JOBS.md; `look` are the process
+    inks that look like it, in per cent.
+    """
+
+    name: str
+    colorant: bytes
+    suffix: bytes
+    density: str
+    kind: str = "Normal"
+    look: Look = UNKNOWN_LOOK
+    has_ink: bool = True
+    density_from: Origin = FROM_TABLE
+    kind_from: Origin = FROM_TABLE
+
+    @property
+    def is_process(self) -> bool:
+        """Whether it is cyan, magenta, yellow or black."""
+        return self.name in PROCESS
+
+
+# Values
+
+def density_of(text: str, what: str) -> str:
+    """A neutral density, as a job may have it."""
+    if re.fullmatch(r"\d{1,2}(\.\d*)?|\.\d+", text) and 0.001 <= float(text) <= 10:
+        return text
+    raise UsageError(f"{what}: a density is a number from 0.001 to 10, and not '{text}'")
+
+
+def kind_of(text: str, what: str) -> str:
+    """A kind of ink."""
+    kinds = tables.kinds()
+    if text in kinds:
+        return text
+    *others, last = kinds
+    raise UsageError(f"{what}: a kind is {', '.join(others)} or {last}, and not '{text}'")
+
+
+def named_values(words: Sequence[str], read: Callable[[str, str], str], option: str) -> dict[bytes, str]:
+    """NAME=VALUE words by name."""
+    found = {}
+    for word in words:
+        name, equals, value = word.rpartition("=")
+        if not equals or not name:
+            raise UsageError(f"{option} is NAME=VALUE, and not '{word}'")
+        found[os.fsencode(name)] = read(value, f"{option} {name}")
+    return found
+
+
+@dataclass(frozen=True)
+class Known:
+    """What a source says of an ink: each figure may be None."""
+
+    density: str | None
+    kind: str | None
+    source: str
+
+
+def entries_of(path: str) -> list[tuple[int, str]]:
+    """The lines of a table that are no comment, with their numbers."""
+    return [(number, line) for number, line in enumerate(table_lines(path), 1)
+            if line.strip() and not line.startswith("#")]
+
+
+def inks_of_file(path: str) -> dict[bytes, tuple[int, Known]]:
+    """A table of inks by name: the line of each, and what is known."""
+    found = {}
+    for number, line in entries_of(path):
+        parts = [part for part in line.split("\t") if part]
+        place = f"{path}: line {number}"
+        if not 2 <= len(parts) <= 3:
+            raise UsageError(f"{place}: an ink is a name, a density and a kind, with tabs between them")
+        density = None if parts[1] == "-" else density_of(parts[1], place)
+        kind = kind_of(parts[2], place) if len(parts) == 3 else None
+        found[parts[0].encode()] = number, Known(density, kind, f"{file_name(path)}, line {number}")
+    return found
+
+
+# The library
+
+def folded(name: bytes | str) -> str:
+    """A name as the library compares it: the words in small letters, without accents, with a blank between them."""
+    text = name.decode("utf-8", "replace") if isinstance(name, bytes) else name
+    text = re.sub(r"(?<=[a-z])(?=[A-Z])", " ", text)
+    text = "".join(char for char in unicodedata.normalize("NFKD", text) if not unicodedata.combining(char))
+    return " ".join(re.findall(r"[^\W_]+", text.casefold()))
+
+
+def process_meant(name: bytes) -> str | None:
+    """The process ink that a spot is called like: cyan, PROCESS CYAN, Pantone Process Cyan C."""
+    words = folded(name).split()
+    # PANTONE Yellow C is an ink of its own.
+    if "process" in words:
+        words = [word for word in words if word not in ("pantone", "process", "c", "u", "m")]
+    return {one.lower(): one for one in PROCESS}.get(words[0]) if len(words) == 1 else None
+
+
+class Shelf:
+    """A table of the library: patterns of names, each with a density, a kind and its source's key. The sources
+    stand in the comments at its head."""
+
+    def __init__(self, name: str) -> None:
+        self.entries = []
+        for number, line in entries_of(os.path.join(LIBRARY, name)):
+            pattern, density, kind, source, *_ = line.split("\t")
+            known = Known(None if density == "-" else density, None if kind == "-" else kind,
+                          f"press/inks/{name}, line {number}: {source}")
+            self.entries.append((pattern.casefold(), known))
+
+    def whole(self, name: bytes) -> Known | None:
+        """What is known of an ink of this name."""
+        text = folded(name)
+        return next((known for pattern, known in self.entries if fnmatch.fnmatchcase(text, pattern)), None)
+
+    def within(self, name: bytes) -> Known | None:
+        """What is known of a name that has such words in it, one after another. A pattern after = is the whole name."""
+        words = folded(name).split()
+        if not words or words[0] in SWATCH_BOOKS:
+            return None
+        for pattern, known in self.entries:
+            if pattern.startswith("="):
+                if pattern[1:] == " ".join(words):
+                    return known
+                continue
+            parts = pattern.split()
+            for at in range(len(words) - len(parts) + 1):
+                if all(fnmatch.fnmatchcase(word, part) for word, part in zip(words[at:], parts)):
+                    return known
+        return None
+
+
+def guess(look: Look) -> str:
+    """A spot's density from the process inks that look like it."""
+    density = sum(density * part / 100 for (density, _), part in zip(PROCESS.values(), look))
+    return f"{min(10, max(LEAST_GUESS, density)):.2f}"
+
+
+@dataclass
+class InkBook:
+    """What is known of inks for one file: the command line before the table, the house, the library, and a
+    guess. It notes which names were met."""
+
+    settings: Settings
+    table: str | None
+    house: dict[bytes, tuple[int, Known]] = field(default_factory=dict)
+
+    def __post_init__(self) -> None:
+        self.of_table = inks_of_file(self.table) if self.table else {}
+        self.densities = named_values(self.settings.density, density_of, "--density")
+        self.kinds = named_values(self.settings.kind, kind_of, "--kind")
+        house = house_file("house.inks")
+        self.house = inks_of_file(house) if house else {}
+        self.technical, self.spots, self.process = Shelf("technical.inks"), Shelf("spots.inks"), Shelf("process.inks")
+        self.met: set[bytes] = set()
+
+    def meet(self, colorant: bytes, name: str) -> tuple[bytes, bytes]:
+        """Both spellings of an ink's name, which are noted as met."""
+        spellings = colorant, name.encode()
+        self.met.update(spellings)
+        return spellings
+
+    def ink(self, one: Separation, has_ink: bool = True) -> Ink:
+        """The ink of a separation."""
+        spellings = self.meet(one.colorant, one.name)
+        told = [Known(self.densities.get(key), self.kinds.get(key), "the command line") for key in spellings]
+        told += [self.of_table[key][1] for key in spellings if key in self.of_table]
+        house = [self.house[key][1] for key in spellings if key in self.house]
+        process = self.process.whole(one.colorant) if one.name in PROCESS else None
+        technical = None if process else self.technical.within(one.colorant)
+        spot = None if process else self.spots.whole(one.colorant)
+        ranks: list[tuple[str, Sequence[Known | None]]] = [
+            ("told", told), ("house", house), ("library", [process]), ("name", [technical]), ("library", [spot])]
+        look = one.look or UNKNOWN_LOOK
+        density, density_from = first_of(ranks, "density") or \
+            (guess(look), Origin("guess", "the process inks that look like it"))
+        kind, kind_from = first_of(ranks, "kind") or ("Normal", Origin("default", "nobody told a kind"))
+        return Ink(one.name, one.colorant, one.suffix, density, kind, look, has_ink, density_from, kind_from)
+
+    def is_technical(self, ink: Ink) -> bool:
+        """Whether an ink is technical, by its name or its kind."""
+        return not ink.is_process and (self.technical.within(ink.colorant) is not None or not tables.counts(ink.kind))
+
+    def strangers(self) -> Iterator[tuple[str, str | None]]:
+        """What was given for inks that were not met: a line for each, and the table that has it, or None for
+        the command line."""
+        for key in sorted(set(self.densities) | set(self.kinds)):
+            if key not in self.met:
+                yield f"no colorant of the page is called {readable(key)}", None
+        for key, (number, _) in self.of_table.items():
+            if key not in self.met:
+                same = [name for name in self.met if folded(name) == folded(key)]
+                like = f" (is {readable(min(same))} meant?)" if same else ""
+                yield f"{self.table}: line {number}: no colorant is called {readable(key)}{like}", self.table
+
+
+def first_of(ranks: Sequence[tuple[str, Sequence[Known | None]]], figure: str) -> tuple[str, Origin] | None:
+    """The first source that has a figure: the figure, and where it comes from."""
+    for rank, several in ranks:
+        for known in several:
+            value = getattr(known, figure, None)
+            if known is not None and value is not None:
+                return value, Origin(rank, known.source)
+    return None
+
+
+def unsure_lines(ink: Ink) -> Iterator[tuple[str, str, str]]:
+    """What has to be said of an ink of which the owner did not give everything: the kind of a finding, its
+    level, and the text."""
+    shown = readable(ink.colorant)
+    # Where the name cannot be typed, the job's spelling stands for it.
+    word = shlex.quote((shown if shown.encode() == ink.colorant else ink.name) + "=KIND")
+    if ink.kind_from.rank == "name":
+        yield "ink-kind", "warning", (f"{shown} is a technical ink by its name, and is taken as {ink.kind} "
+                                      f"({ink.kind_from.text}): say --kind {word}, or a line of --inks")
+    elif ink.kind_from.rank == "library" and ink.kind != "Normal":
+        yield "ink-kind", "warning", f"{shown} is taken as {ink.kind} ({ink.kind_from.text}): say --kind {word}"
+    if not ink.is_process and process_meant(ink.colorant):
+        yield "process-name", "warning", (f"{shown} is a spot with a plate of its own, and is called like a process "
+                                          f"ink: is {process_meant(ink.colorant)} meant?")
+    if not tables.counts(ink.kind):
+        return
+    if ink.density_from.rank == "guess":
+        yield "ink-density", "warning", (f"the density of {shown} is not told; {ink.density} is a guess "
+                                         f"(tell it by --density or --inks)")
+    elif ink.density_from.rank == "library" and not ink.is_process:
+        yield "ink-library", "note", f"the density of {shown} is {ink.density} by {ink.density_from.text}"

@@ -1,0 +1,291 @@
+# SPDX-License-Identifier: Apache-2.0
+"""What a page is made with: settings, the options that set them, presets, and where each value comes from."""
+import argparse
+import dataclasses
+import os
+import re
+from collections.abc import Callable, Mapping
+from dataclasses import dataclass, field
+from typing import Any
+
+from .errors import UsageError
+from .files import head_of, table_lines
+from .tools import PRESS
+
+BOXES = ("media", "crop", "bleed", "trim", "art")
+POINTS = {"mm": 72 / 25.4, "um": 72 / 25_400, "µm": 72 / 25_400, "pt": 1.0, "in": 72.0}
+MOST_WIDTH = 100
+MOST_PAGE, MOST_SECONDS, MOST_JOBS = 999_999, 86_400, 1024
+PRESETS = os.path.join(PRESS, "presets")
+
+
+# Values
+
+def whole_number(text: str, least: int, most: int, what: str) -> int:
+    """A whole number within limits."""
+    if re.fullmatch(r"\d{1,9}", text) and least <= int(text) <= most:
+        return int(text)
+    raise UsageError(f"{what} is a whole number from {least} to {most}, and not '{text}'")
+
+
+def number(text: str, least: float, most: float, what: str) -> float:
+    """A number with a point or without, as a job may have it."""
+    if re.fullmatch(r"\d{1,7}(\.\d*)?|\.\d+", text) and least <= float(text) <= most:
+        return float(text)
+    raise UsageError(f"{what} is a number from {least:g} to {most:g}, and not '{text}'")
+
+
+def whole(what: str, least: int, most: int) -> Callable[[str], int]:
+    """What argparse makes a whole number with."""
+    return lambda text: whole_number(text, least, most, what)
+
+
+def page_numbers(texts: list[str] | None) -> list[int]:
+    """The pages that --page asks for, each as K, J-K, or several of these with commas between them."""
+    pages: set[int] = set()
+    for part in ",".join(texts).split(",") if texts else []:
+        first_text, dash, last_text = part.partition("-")
+        first = whole_number(first_text, 1, MOST_PAGE, "--page")
+        last = whole_number(last_text, first, MOST_PAGE, "--page") if dash else first
+        pages.update(range(first, last + 1))
+    return sorted(pages)
+
+
+def width_of(text: str, what: str) -> float:
+    """A width in points, from a number and its unit."""
+    found = re.fullmatch(r"(\d{1,6}(?:\.\d*)?|\.\d+)\s*(mm|um|µm|pt|in)", text)
+    points = float(found.group(1)) * POINTS[found.group(2)] if found else 0
+    if not 0.0001 <= points <= MOST_WIDTH:
+        raise UsageError(f"{what} is a width with its unit, 0.1mm, 100um, 0.25pt or 0.004in, to 100pt, and not "
+                         f"'{text}'")
+    return points
+
+
+def factor_of(text: str, what: str) -> float:
+    """How many times as wide a trap is at black."""
+    return number(text, 0.0001, 10, what)
+
+
+def share_of(text: str, what: str) -> float:
+    """A share of 1, or hundredths with a % after them."""
+    bare, percent = (text[:-1], True) if text.endswith("%") else (text, False)
+    return number(bare, 0, 100 if percent else 1, what) / (100 if percent else 1)
+
+
+@dataclass(frozen=True)
+class Value:
+    """The value of a trapping parameter: the number that the job gets, the text that was given, and who gave it."""
+
+    number: float
+    text: str
+    source: str
+
+
+@dataclass(frozen=True)
+class Parameter:
+    """A trapping parameter: its key in the job, how its text is read, and the comment beside it in the job."""
+
+    key: str
+    read: Callable[[str, str], float]
+    comment: str = ""
+
+
+# The parameters by the names that options (--width) and lines of presets (width 0.1mm) have.
+PARAMETERS = {
+    "width": Parameter("TrapWidth", width_of),
+    "black-width": Parameter("BlackWidth", factor_of),
+    "step": Parameter("StepLimit", share_of,
+                      "how much two inks have to change, each its own way, for an edge to be trapped"),
+    "slide": Parameter("SlidingTrapLimit", share_of,
+                       "from which ratio of densities on a trap lies on both sides of the edge"),
+    "scale": Parameter("TrapColorScaling", share_of, "how much of the added ink a trap keeps"),
+}
+
+
+# Presets
+
+def house_folder() -> str | None:
+    """Where a house keeps its own table of inks and its presets: the folder that PRESS_HOUSE names, the user's,
+    or the machine's."""
+    named = os.environ.get("PRESS_HOUSE")
+    places = [named] if named else [os.path.expanduser("~/.config/press"), "/etc/press"]
+    return next((place for place in places if os.path.isdir(place)), None)
+
+
+def house_file(name: str) -> str | None:
+    """A file of the house's folder, if it is there."""
+    folder = house_folder()
+    path = os.path.join(folder, name) if folder else None
+    return path if path and os.path.isfile(path) else None
+
+
+def preset_path(name: str) -> str:
+    """The file of a preset: the house's, or one of press/presets."""
+    if not re.fullmatch(r"[\w.-]+", name) or name.startswith("."):
+        raise UsageError(f"--preset is a name, and not '{name}'")
+    places = [place for place in (house_folder(), PRESETS) if place]
+    for place in places:
+        path = os.path.join(place, name + ".preset")
+        if os.path.isfile(path):
+            return path
+    known = sorted({file.removesuffix(".preset") for place in places for file in os.listdir(place)
+                    if file.endswith(".preset")})
+    raise UsageError(f"--preset: there is no {name}; there are {', '.join(known)}")
+
+
+def preset_values(name: str) -> dict[str, Value]:
+    """The parameters of a preset."""
+    path, values = preset_path(name), {}
+    for count, line in enumerate(table_lines(path), 1):
+        words = line.partition("#")[0].split()
+        if not words:
+            continue
+        place = f"{path}: line {count}"
+        if len(words) != 2 or words[0] not in PARAMETERS:
+            raise UsageError(f"{place}: a line is one of {', '.join(PARAMETERS)}, and a value")
+        value = PARAMETERS[words[0]].read(words[1], f"{place}: {words[0]}")
+        values[words[0]] = Value(value, words[1], f"{name}.preset, line {count}")
+    return values
+
+
+def parameters(preset: str | None = None, **given: str | None) -> dict[str, Value]:
+    """Trapping parameters as options give them, `width="0.1mm"` or `black_width="1.5"`; they override those of
+    a preset."""
+    values = preset_values(preset) if preset else {}
+    for name, parameter in PARAMETERS.items():
+        text = given.get(name.replace("-", "_"))
+        if text is not None:
+            values[name] = Value(parameter.read(text, f"--{name}"), text, f"--{name}")
+    return values
+
+
+# Settings
+
+@dataclass(frozen=True)
+class Settings:
+    """What pages are made with. The fields are named after the options that set them."""
+
+    # Rendering: pixels per inch, the box that is drawn, the press's profile, and the most seconds for
+    # Ghostscript on a page.
+    dpi: int = 600
+    box: str = "media"
+    icc: str | None = None
+    time: int | None = None
+    # Inks: NAME=DENSITY and NAME=KIND as given, and a table of inks.
+    density: tuple[str, ...] = ()
+    kind: tuple[str, ...] = ()
+    inks: str | None = None
+    # Zones and parameters.
+    zones: str | None = None
+    trap_images: bool = False
+    parameters: Mapping[str, Value] = field(default_factory=dict)
+    # The engine: threads, rows of a band, and the radius of presscheck in samples.
+    workers: int | None = None
+    band: int | None = None
+    check: int | None = None
+    # Outputs.
+    channels: bool = False
+    tiff_only: bool = False
+    proof: bool = True
+    look: bool = False
+    # A run: whether warnings refuse a page, and how many pages are done at once.
+    strict: bool = False
+    jobs: int = 1
+
+    @classmethod
+    def of(cls, options: argparse.Namespace) -> "Settings":
+        """The settings that a command's options make. Refuses a preset that is not there, and a profile that
+        cannot be read."""
+        given: dict[str, Any] = vars(options)
+        names = {one.name for one in dataclasses.fields(cls)}
+        values = {name: tuple(value) if isinstance(value, list) else value for name, value in given.items()
+                  if name in names and value is not None}
+        words = {name: given.get(name) for name in ("preset", *(name.replace("-", "_") for name in PARAMETERS))}
+        settings = cls(**values, parameters=parameters(**words))
+        if settings.icc:
+            head_of(settings.icc)
+        return settings
+
+    def but(self, **changes: Any) -> "Settings":
+        """The same settings but for some."""
+        return dataclasses.replace(self, **changes)
+
+
+# Options
+
+def add_page_options(parser: argparse.ArgumentParser) -> None:
+    """The options of how a page is rendered, its inks, parameters and zones."""
+    add = parser.add_argument
+    add("-r", "--dpi", metavar="N", type=whole("--dpi", 1, 10_000),
+        help='pixels per inch, 600 where it is left out; with --tiff what the files say')
+    add("-b", "--box", metavar="BOX", type=box_of,
+        help='which box of the page is drawn: "media", where it is left out, "crop", "bleed", "trim" or "art"')
+    add("-d", "--density", metavar="NAME=D", action="append",
+        help="the neutral density of a colorant's full ink, from 0.001 to 10")
+    add("-k", "--kind", metavar="NAME=KIND", action="append",
+        help='how a colorant is trapped, by a kind of trap-job(5): "Transparent" for a varnish, say, or "OpaqueIgnore" '
+             'for a foil')
+    add("-i", "--inks", metavar="FILE",
+        help='a table of inks: in each line a name, a density, and a kind, with tabs between them; "-" leaves a '
+             'density open, and a kind may be left out')
+    add("-z", "--zones", metavar="FILE",
+        help='statements of the job language, see trap-job(5), that are put before "showpage": trapping parameters and '
+             'zones. What they set counts before the words of the command line')
+    add("--icc", metavar="FILE",
+        help="the profile of the press, by which colours that are no inks are separated, and inks are looked at")
+    add("-p", "--preset", metavar="NAME",
+        help='trapping parameters by a name: "offset", "flexo", "gravure", "screen", or one of the house')
+    add("-w", "--width", metavar="W", help="how far a trap reaches, with its unit: 0.1mm, 100um, 0.25pt or 0.004in")
+    add("--black-width", metavar="F", help="how many times as far a trap reaches at black, to 10")
+    add("--step", metavar="S",
+        help="how much two inks have to change, each its own way, for an edge to be trapped: 0.25 or 25%%")
+    add("--slide", metavar="S",
+        help="from which ratio of densities on a trap lies on both sides of the edge, at half its width each: 0.7 or "
+             "70%%")
+    add("--scale", metavar="S", help="how much of the added ink a trap keeps: 1 or 100%%")
+    add("--trap-images", action="store_true", default=None,
+        help="traps within images too; where it is left out, their places become zones that are not enabled")
+    add_time_option(parser)
+
+
+def box_of(text: str) -> str:
+    """The name of a box."""
+    if text not in BOXES:
+        raise UsageError(f"--box is one of {', '.join(BOXES)}, and not '{text}'")
+    return text
+
+
+def add_time_option(parser: argparse.ArgumentParser) -> None:
+    """The limit of Ghostscript's time."""
+    parser.add_argument("-t", "--time", metavar="S", type=whole("--time", 1, MOST_SECONDS),
+                        help="refuses a page that Ghostscript is at for more than S seconds")
+
+
+def add_engine_options(parser: argparse.ArgumentParser) -> None:
+    """The options of the trapping programs."""
+    add = parser.add_argument
+    add("--workers", metavar="N", type=whole("--workers", 1, 64), help="how many threads the program has, 1 to 64")
+    add("--band", metavar="B", type=whole("--band", 1, 4096), help="how many rows a band has, 1 to 4096")
+    add("-c", "--check", metavar="R", type=whole("--check", 0, 16),
+        help='runs the program "presscheck" too, with a radius of 0 to 16 samples, and keeps what it prints in '
+             'DIR/trapped/check: how many samples a press out of register by so much could leave bare, before and '
+             'after. Where the program is not there, that is printed and nothing is done')
+
+
+def add_tiff_options(parser: argparse.ArgumentParser) -> None:
+    """The options of TIFF files."""
+    parser.add_argument("--channels", action="store_true", default=None,
+                        help="makes the spots extra channels of the CMYK page, with their names and of no kind of "
+                             "transparency, as image editors and RIPs have them. ImageMagick takes the first of them "
+                             "for transparency all the same, and Netpbm reads no such file")
+
+
+def add_run_options(parser: argparse.ArgumentParser) -> None:
+    """The options of what a run keeps of each page."""
+    add = parser.add_argument
+    add("--tiff-only", action="store_true", default=None,
+        help="keeps no plates of a page that is done, but its TIFF files, job, report, table and proof")
+    add("--no-proof", dest="proof", action="store_false", default=None, help="makes no proof sheet")
+    add("--look", action="store_true", default=None,
+        help="draws pictures of each page too, by press/look: page.png, traps.png, and register.png, the part with "
+             "most traps out of register")
