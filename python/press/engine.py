@@ -1,0 +1,205 @@
+# SPDX-License-Identifier: Apache-2.0
+"""The trapping programs on the folder of a page; what they refuse, with the place that they speak of; and their
+report."""
+import contextlib
+import json
+import math
+import os
+import re
+import subprocess
+import tempfile
+from collections.abc import Sequence
+from dataclasses import dataclass
+from typing import Any
+
+from . import tools
+from .errors import PressError, Status
+from .files import folder_beside, link_or_copy, need_room, put_folder
+from .folder import CHECK, JOB, JSON, REPORT, TRAPPED, PageFolder
+from .inks import Ink
+from .job import Job, file_place, job_place
+from .names import readable
+from .plates import LONGEST_SIDE, MOST_SAMPLES, fits_page
+from .settings import Settings
+
+USUAL_THREADS = 4
+AT = re.compile(r"job: .* at (\d+)")
+
+
+@dataclass(frozen=True)
+class Report:
+    """What the program counted on a page: of each zone and each plate how many samples changed, and the edges."""
+
+    zones: tuple[dict[str, int], ...]
+    plates: dict[str, int]
+    edges: int
+
+    @classmethod
+    def of(cls, text: str) -> "Report":
+        """A report as the program writes it."""
+        zones, plates, edges = [], {}, 0
+        for line in text.splitlines():
+            words = line.split()
+            if words[:1] == ["zone"]:
+                zones.append({"zone": int(words[1]), "samples": int(words[3]), "changed": int(words[5])})
+            elif words[:1] == ["plate"]:
+                plates[words[1]] = int(words[3])
+            elif words[:1] == ["edges"]:
+                edges = int(words[1])
+        return cls(tuple(zones), plates, edges)
+
+    @property
+    def changed(self) -> int:
+        """How many samples changed, over all zones."""
+        return sum(zone["changed"] for zone in self.zones)
+
+
+@dataclass(frozen=True)
+class Trapped:
+    """What came of trapping a page: its report, and what the owner should know."""
+
+    report: Report
+    warnings: tuple[str, ...]
+
+
+def read_report(folder: str) -> Report:
+    """The report of a page that was trapped."""
+    with open(os.path.join(folder, TRAPPED, REPORT), encoding="utf-8") as file:
+        return Report.of(file.read())
+
+
+# A job before any plate
+
+def judge(job: Job, names: Sequence[str]) -> None:
+    """Refuses a job that the program does not take, by the file and the line that have the fault. The program
+    is run over plates of one sample."""
+    path = tools.program("trap")
+    with tempfile.TemporaryDirectory(prefix="press-") as folder:
+        with open(os.path.join(folder, "job"), "wb") as file:
+            file.write(job.text)
+        with open(os.path.join(folder, "plate"), "wb") as file:
+            file.write(b"P5\n1 1\n255\n\xff")
+        plates = [f"{name}:plate:out{at}" for at, name in enumerate(names)]
+        done = tools.run([path, "page", "job", "report", *plates], cwd=folder)
+    if done.returncode == 0:
+        return
+    line = tools.last_line(done)
+    at = AT.fullmatch(line)
+    if at is None or not job.parts:
+        place = job.parts[-1].path if job.parts else "the job"
+        raise PressError(Status.PROGRAM, f'the program refuses it: "{line}"', place)
+    path, number = file_place(int(at.group(1)), job.parts)
+    raise PressError(Status.PROGRAM, f'the program refuses it: "{line.partition(" at ")[0]}"', f"{path}: line {number}")
+
+
+# A page
+
+def most_dpi(size: tuple[float, float], inked: int, longest: int, most: int | None) -> int:
+    """The greatest resolution at which a page of this size in points and so many inks fits."""
+    width, height = size
+    by_side = longest * 72 / max(width, height)
+    by_samples = math.sqrt(most / inked / width / height) * 72 if most else by_side
+    return max(1, int(min(by_side, by_samples)))
+
+
+def trapper_of(page: PageFolder) -> str:
+    """The program that traps a page of this size: trap, or for larger ones trapsheet. Refuses a page that is
+    too large for trap where trapsheet is not there."""
+    (width, height), inked, dpi = (page.head.width, page.head.height), len(page.inked), page.source.resolution
+    if fits_page(width, height, inked):
+        tools.program("trap")
+        return "trap"
+    if tools.has_program("trapsheet"):
+        return "trapsheet"
+    fits = most_dpi((width / dpi * 72, height / dpi * 72), inked, LONGEST_SIDE, MOST_SAMPLES)
+    raise PressError(Status.PLATES, f"{width} by {height} samples in {inked} plates with ink are "
+                     f"{width * height * inked}, and a page has at most {MOST_SAMPLES}, and {LONGEST_SIDE} a side (at "
+                     f"most {min(fits, dpi)} pixels per inch fit here)", page.path)
+
+
+def words_of(name: str, page: PageFolder, out: str, settings: Settings) -> list[str]:
+    """The arguments of a trapping program."""
+    words = ["page"] if name == "trap" else [str(settings.workers or USUAL_THREADS)]
+    if name == "trap":
+        for option, value in (("--workers", settings.workers), ("--band", settings.band)):
+            words += [option, str(value)] if value is not None else []
+    return [*words, JOB, os.path.join(out, REPORT),
+            *(f"{ink.name}:{ink.name}.pgm:{out}/{ink.name}.pgm" for ink in page.inked)]
+
+
+def refusal(page: PageFolder, name: str, done: "subprocess.CompletedProcess[bytes]") -> PressError:
+    """Why a program refused the page: its own line, and the place that its numbers stand for."""
+    line = tools.last_line(done)
+    what = f'{name} ended with {done.returncode}: "{line}"'
+    place, at, plate = page.path, AT.fullmatch(line), re.search(r"plate (\d+)", line)
+    if at:
+        with open(page.file(JOB), "rb") as file:
+            place = f"{page.file(JOB)}: {job_place(file.read(), int(at.group(1)))}"
+    elif plate and int(plate.group(1)) < len(page.inked):
+        # The plate that could not be written is the trapped one.
+        place = page.plate(page.inked[int(plate.group(1))], line.startswith("write"))
+    return PressError(Status.PROGRAM, what, place)
+
+
+def run_on(page: PageFolder, name: str, words: list[str]) -> bytes:
+    """Runs a program in a page's folder, and answers what it printed."""
+    path = tools.program(name)
+    done = tools.run([path, *words], cwd=page.path, env=tools.environment(path))
+    if done.returncode != 0:
+        need_room(page.path, f"{name} wrote")
+        raise refusal(page, name, done)
+    return done.stdout
+
+
+def trap(page: PageFolder, settings: Settings) -> Trapped:
+    """Traps a page: trapped plates, report, report.json and, by settings.check, the numbers of presscheck come
+    into its folder "trapped", in place of what stood there."""
+    if not os.path.isfile(page.file(JOB)):
+        raise PressError(Status.INPUT, "No such file", page.file(JOB))
+    name = trapper_of(page)
+    if settings.check is not None:
+        tools.program("presscheck")
+    with folder_beside(page.path, inside=True) as made:
+        out = os.path.basename(made)
+        run_on(page, name, words_of(name, page, out, settings))
+        warnings = check(page, out, settings.check) if settings.check is not None else ()
+        with open(os.path.join(made, REPORT), encoding="utf-8") as file:
+            report = Report.of(file.read())
+        write_json(page, report, made)
+        for ink in page.inks:
+            if ink not in page.inked:
+                # No trap can come of a plate without ink, and it stays as it is.
+                link_or_copy(page.plate(ink), os.path.join(made, ink.name + ".pgm"))
+        put_folder(made, page.file(TRAPPED))
+    return Trapped(report, warnings)
+
+
+def check(page: PageFolder, out: str, radius: int) -> tuple[str, ...]:
+    """Has presscheck count the samples at risk. It takes no page that is too large for trap, which is a warning."""
+    if not fits_page(page.head.width, page.head.height, len(page.inked)):
+        return (f"{page.path}: presscheck takes no page of this size: not checked",)
+    printed = run_on(page, "presscheck", [str(radius), JOB, *(f"{ink.name}:{ink.name}.pgm" for ink in page.inked)])
+    with open(page.file(out, CHECK), "wb") as file:
+        file.write(printed)
+    return ()
+
+
+def json_of(page: PageFolder, ink: Ink, report: Report) -> dict[str, Any]:
+    """An ink of a page, as report.json has it."""
+    return {"ink": readable(ink.colorant), "name": ink.name, "density": float(ink.density), "kind": ink.kind,
+            "has_ink": ink.has_ink, "changed": report.plates.get(ink.name, 0)}
+
+
+def write_json(page: PageFolder, report: Report, made: str) -> None:
+    """The report as JSON, with what is known of the inks, and what presscheck counted."""
+    head, source = page.head, page.source
+    text: dict[str, Any] = {
+        "source": readable(source.pdf), "page": source.page, "resolution": source.resolution, "width": head.width,
+        "height": head.height, "maxval": head.maxval, "edges": report.edges, "zones": list(report.zones),
+        "inks": [json_of(page, ink, report) for ink in page.inks], "samples_changed": report.changed}
+    with contextlib.suppress(FileNotFoundError), open(os.path.join(made, CHECK), encoding="utf-8") as file:
+        counted = dict(line.split() for line in file if len(line.split()) == 2)
+        text["check"] = {key: int(counted[key]) for key in ("radius", "before", "after") if key in counted}
+    with open(os.path.join(made, JSON), "w", encoding="utf-8") as file:
+        json.dump(text, file, indent=1)
+        file.write("\n")

@@ -1,0 +1,182 @@
+# SPDX-License-Identifier: Apache-2.0
+"""Where a page has images, as rectangles in points from the lower left corner of the page as it is drawn.
+
+A place is an image's outline, cut by the clips that hold for it, and drawn in on all sides by a margin; images
+that lie side by side are taken as one first. So edges at an image's border belong to the zone around it. Masks
+of one bit are line work and no images here, and so is an image of fewer than 64 samples.
+"""
+from collections.abc import Sequence
+from dataclasses import dataclass
+from typing import NamedTuple
+
+from .source import PageInfo
+from .trace import Image, Polygon
+
+TOUCH, MOST_RECTS = 0.05, 3000
+LEAST_SLICE, MOST_SLICES, MOST_CROSSINGS = 1.0, 200, 200_000
+SAME, STRAIGHT = 3, 0.002
+Span = tuple[float, float]
+EVERYWHERE: list[Span] = [(float("-inf"), float("inf"))]
+
+
+class Rect(NamedTuple):
+    """A rectangle, in points."""
+
+    left: float
+    lower: float
+    right: float
+    upper: float
+
+    @property
+    def area(self) -> float:
+        """Its area, in square points."""
+        return (self.right - self.left) * (self.upper - self.lower)
+
+    def common(self, other: "Rect") -> "Rect":
+        """What it has in common with another; NOTHING where that is nothing."""
+        both = Rect(max(self.left, other.left), max(self.lower, other.lower), min(self.right, other.right),
+                    min(self.upper, other.upper))
+        return both if both.left < both.right and both.lower < both.upper else NOTHING
+
+    def drawn_in(self, margin: float) -> "Rect":
+        """The rectangle without a strip along its border."""
+        small = Rect(self.left + margin, self.lower + margin, self.right - margin, self.upper - margin)
+        return small if small.left < small.right and small.lower < small.upper else NOTHING
+
+
+NOTHING = Rect(0, 0, 0, 0)
+
+
+@dataclass(frozen=True)
+class Places:
+    """Where no trap comes because of images, the largest place first, and the rectangles around the images."""
+
+    places: list[Rect]
+    bounds: list[Rect]
+
+
+def rect_of(points: Polygon) -> Rect | None:
+    """The rectangle that a polygon is, or None where it is another shape."""
+    xs, ys = sorted({round(x, SAME) for x, _ in points}), sorted({round(y, SAME) for _, y in points})
+    if len(xs) != 2 or len(ys) != 2:
+        return None
+    sides = zip(points, points[1:] + points[:1])
+    is_upright = all(abs(a[0] - b[0]) < STRAIGHT or abs(a[1] - b[1]) < STRAIGHT for a, b in sides)
+    return Rect(xs[0], ys[0], xs[1], ys[1]) if is_upright else None
+
+
+def around(points: Polygon) -> Rect:
+    """The rectangle around a polygon."""
+    xs, ys = [x for x, _ in points], [y for _, y in points]
+    return Rect(min(xs), min(ys), max(xs), max(ys))
+
+
+def joined(rects: Sequence[Rect]) -> list[Rect]:
+    """The rectangles, those that lie side by side and have a whole side in common being one."""
+    left = list(rects)
+    changed = True
+    while changed:
+        changed = False
+        for along, across in (((0, 2), (1, 3)), ((1, 3), (0, 2))):
+            first, last_side, start = *along, across[0]
+            order = sorted((round(one[first], 1), round(one[last_side], 1), one[start], one) for one in left)
+            out: list[Rect] = []
+            for *_, one in order:
+                last = out[-1] if out else None
+                beside = last and all(abs(last[side] - one[side]) <= TOUCH for side in along)
+                if last and beside and one[start] <= last[across[1]] + TOUCH:
+                    out[-1] = Rect(min(last.left, one.left), min(last.lower, one.lower), max(last.right, one.right),
+                                   max(last.upper, one.upper))
+                    changed = True
+                else:
+                    out.append(one)
+            left = out
+    return left
+
+
+# Other shapes, by slices
+
+def spans_of(shape: list[list[Polygon]], y: float) -> list[Span]:
+    """The parts of a line that lie within a shape: within the image and within each clip."""
+    spans = EVERYWHERE
+    for path in shape:
+        spans = shared(spans, path_spans(path, y))
+    return spans
+
+
+def path_spans(path: list[Polygon], y: float) -> list[Span]:
+    """The parts of a line that lie within a path."""
+    crossings = []
+    for points in path:
+        for (x0, y0), (x1, y1) in zip(points, points[1:] + points[:1]):
+            if (y0 <= y) != (y1 <= y):
+                crossings.append(x0 + (x1 - x0) * (y - y0) / (y1 - y0))
+    crossings.sort()
+    return list(zip(crossings[::2], crossings[1::2]))
+
+
+def shared(some: list[Span], others: list[Span]) -> list[Span]:
+    """What two sets of spans have in common."""
+    found = [(max(a, c), min(b, d)) for a, b in some for c, d in others]
+    return [(a, b) for a, b in found if a < b]
+
+
+def sliced(shape: list[list[Polygon]], margin: float) -> list[Rect]:
+    """Rectangles that lie within a shape with the margin around them all within it too."""
+    bounds = around(shape[0][0])
+    corners = sum(len(points) for path in shape for points in path)
+    height = bounds.upper - bounds.lower
+    slice_height = max(LEAST_SLICE, height / max(8, min(MOST_SLICES, MOST_CROSSINGS // corners)))
+    step, rects, start = slice_height / 4, [], bounds.lower
+    while start < bounds.upper:
+        end = start + slice_height
+        spans, y = EVERYWHERE, start - margin
+        while spans and y <= end + margin + step:
+            spans = shared(spans, spans_of(shape, min(y, end + margin)))
+            y += step
+        rects += [Rect(left + margin, start, right - margin, end) for left, right in spans
+                  if left + margin < right - margin]
+        start = end
+    return rects
+
+
+def places_of(images: Sequence[Image], margin: float) -> tuple[list[Rect], list[Rect]]:
+    """The places of images, and the rectangles around the images as they are, both in the trace's own points."""
+    simple, shapes, bounds = [], [], []
+    for image in images:
+        rects = [rect_of(image.corners)] + [rect_of(clip[0]) if len(clip) == 1 else None for clip in image.clips]
+        whole = around(image.corners)
+        if all(rects):
+            for rect in rects[1:]:
+                whole = whole.common(rect or NOTHING)
+            if whole != NOTHING:
+                simple.append(whole)
+        else:
+            shapes.append([[image.corners], *image.clips])
+        bounds.append(whole)
+    places = [rect.drawn_in(margin) for rect in joined(simple)]
+    for shape in shapes:
+        places += sliced(shape, margin)
+    return [place for place in places if place != NOTHING], [one for one in bounds if one != NOTHING]
+
+
+def moved_to_page(rects: Sequence[Rect], info: PageInfo, box: str) -> list[Rect]:
+    """Rectangles of the trace in points from the lower left corner of the page as it is drawn."""
+    crop, drawn = info.box("crop")[0], info.box(box)[0]
+    left, lower, right, upper = (a - b for a, b in zip(crop, drawn))
+    moves = {0: (left, -upper), 90: (lower, left), 180: (-right, lower), 270: (-upper, -right)}
+    right_move, down_move = moves[info.rotate // 90 * 90]
+    width, height = info.size(box)
+    found = []
+    for rect in rects:
+        one = Rect(rect.left + right_move * info.unit, height - rect.upper - down_move * info.unit,
+                   rect.right + right_move * info.unit, height - rect.lower - down_move * info.unit)
+        found.append(one.common(Rect(0, 0, width, height)))
+    return [one for one in found if one != NOTHING]
+
+
+def image_places(images: Sequence[Image], info: PageInfo, box: str, margin: float) -> Places:
+    """The places of a page's images where no trap comes, drawn in by a margin in points."""
+    places, bounds = places_of(images, margin)
+    largest = sorted(moved_to_page(places, info, box), key=lambda one: -one.area)
+    return Places(largest[:MOST_RECTS], moved_to_page(bounds, info, box))

@@ -1,0 +1,120 @@
+# SPDX-License-Identifier: Apache-2.0
+"""A page of a PDF as plates: one run of Ghostscript's tiffsep, whose uncompressed planes are mapped and not read."""
+import os
+import re
+import subprocess
+import urllib.parse
+from dataclasses import dataclass
+
+import tifffile
+
+from .errors import PressError, Status
+from .inks import Look, Separation
+from .names import PROCESS, job_names
+from .plates import Array, Plates
+from .settings import Settings
+from .source import Source, complaint, ghostscript
+
+BOX_OPTIONS: dict[str, list[str]] = {
+    "media": [], "crop": ["-dUseCropBox"], "bleed": ["-dUseBleedBox"], "trim": ["-dUseTrimBox"], "art": ["-dUseArtBox"]}
+FULL = 32_760
+# What Ghostscript prints about a font that it looks for itself, of a font of CJK too, and about the file that it takes.
+LOADED = re.compile(r"^Loading (?:font (\S+) \(or substitute\)|CIDFont (\S+) substitute) from (?:.*/)?([^/\n]+)$",
+                    re.MULTILINE)
+# The fonts that every reader of PDF has a face for.
+STANDARD_FONT = re.compile(r"(Helvetica|Times|Courier)(-.*)?|Symbol|ZapfDingbats")
+
+
+@dataclass(frozen=True)
+class Rendering:
+    """The plates of a page as Ghostscript separates it.
+
+    `separations` are the colorants in the order of the plates: the process inks, then the spots by their names.
+    `plates` are mapped from files of the scratch folder. `repairs` are the faults of the PDF that Ghostscript
+    mended, `fonts` those that the PDF lacks, each with the file that stands in its place.
+    """
+
+    page: int
+    separations: tuple[Separation, ...]
+    plates: Plates
+    repairs: tuple[str, ...]
+    fonts: tuple[tuple[str, str], ...]
+
+
+def render(source: Source, page: int, settings: Settings, folder: str) -> Rendering:
+    """Renders a page in a scratch folder at the settings' resolution. Refuses a page that Ghostscript cannot read."""
+    words = ["-dBATCH", "-dPDFSTOPONERROR", "-sDEVICE=tiffsep", f"-r{settings.dpi}", "-sCompression=none",
+             "-dMaxSpots=60", "-dPrintSpotCMYK", f"-dFirstPage={page}", f"-dLastPage={page}", "-sOutputFile=page.tif",
+             *BOX_OPTIONS[settings.box]]
+    link(source.pdf, folder, "in.pdf")
+    if settings.icc:
+        link(settings.icc, folder, "output.icc")
+        words += ["-sOutputICCProfile=output.icc", "--permit-file-read=output.icc"]
+    done = ghostscript(folder, [*words, "in.pdf"], settings.time, source.place(page))
+    if done.returncode != 0:
+        raise PressError(Status.PDF, f"Ghostscript cannot read it: {complaint(done)}", source.place(page))
+    separations = separations_in(folder, done)
+    if separations is None:
+        raise PressError(Status.PDF, "Ghostscript made no page of it", source.place(page))
+    arrays = tuple(plane(folder, one) for one in separations)
+    plates = Plates(tuple(one.name for one in separations), arrays, 255, settings.dpi)
+    return Rendering(page, tuple(separations), plates, repairs_in(done), fonts_in(done))
+
+
+def link(path: str, folder: str, name: str) -> None:
+    """A file under a plain name in a scratch folder."""
+    inside = os.path.join(folder, name)
+    if not os.path.lexists(inside):
+        os.symlink(os.path.realpath(path), inside)
+
+
+def plane(folder: str, one: Separation) -> Array:
+    """The raster of a separation: rows × columns, 0 is full ink."""
+    path = os.path.join(os.fsencode(folder), b"page(" + one.suffix + b").tif")
+    array: Array = tifffile.memmap(os.fsdecode(path), mode="r")
+    return array
+
+
+def separations_in(folder: str, done: "subprocess.CompletedProcess[bytes]") -> list[Separation] | None:
+    """The colorants that Ghostscript made files of: the process inks, and then the spots by their names."""
+    printed = re.findall(rb'%%SeparationColor: "(.*?)" 100% ink = (\d+) (\d+) (\d+) (\d+) CMYK',
+                         done.stdout + b"\n" + done.stderr, re.DOTALL)
+    looks = {name: look_of(parts) for name, *parts in printed}
+    process = [name.encode() for name in PROCESS]
+    suffixes = {}
+    for file in os.listdir(os.fsencode(folder)):
+        if file.startswith(b"page(") and file.endswith(b").tif"):
+            suffixes[colorant_in(urllib.parse.unquote_to_bytes(file[5:-5]), [*process, *looks])] = file[5:-5]
+    if any(name not in suffixes for name in process):
+        return None
+    colorants = process + sorted(name for name in suffixes if name not in process)
+    looks.update({name.encode(): look for name, (_, look) in PROCESS.items()})
+    return [Separation(colorant, suffixes[colorant], looks.get(colorant), name)
+            for colorant, name in zip(colorants, job_names(colorants))]
+
+
+def look_of(parts: list[bytes]) -> Look:
+    """The process inks that look like a spot, in per cent."""
+    cyan, magenta, yellow, black = (round(int(part) * 100 / FULL, 1) for part in parts)
+    return cyan, magenta, yellow, black
+
+
+def colorant_in(name: bytes, known: list[bytes]) -> bytes:
+    """The colorant that a file is named for: tiffsep puts a number after a name that differs from another's
+    only in capitals."""
+    if name in known:
+        return name
+    return next((one for one in known if re.fullmatch(re.escape(one) + rb"\d+", name)), name)
+
+
+def repairs_in(done: "subprocess.CompletedProcess[bytes]") -> tuple[str, ...]:
+    """What Ghostscript mended in the PDF."""
+    lines = re.findall(rb"^\t(\S.*)$", done.stdout + b"\n" + done.stderr, re.MULTILINE)
+    return tuple(dict.fromkeys(line.decode("utf-8", "replace").strip() for line in lines))
+
+
+def fonts_in(done: "subprocess.CompletedProcess[bytes]") -> tuple[tuple[str, str], ...]:
+    """The fonts that the PDF lacks, each with the file that stands in its place."""
+    found = sorted({(font or other, taken) for font, other, taken in
+                    LOADED.findall(done.stdout.decode("utf-8", "replace"))})
+    return tuple((font, taken) for font, taken in found if not STANDARD_FONT.fullmatch(font))

@@ -1,0 +1,150 @@
+# SPDX-License-Identifier: Apache-2.0
+"""What a page paints, by mutool's trace of it: its images, each with the paths that clip it. Coordinates are in
+points; the origin is the upper left corner of the crop box, and y runs down.
+"""
+import subprocess
+import threading
+from dataclasses import dataclass, field
+
+from lxml import etree
+
+from . import tools
+from .source import Source
+
+Point = tuple[float, float]
+Polygon = list[Point]
+Matrix = tuple[float, float, float, float, float, float]
+IDENTITY: Matrix = (1.0, 0.0, 0.0, 1.0, 0.0, 0.0)
+LEAST_SAMPLES, CURVE_STEPS = 64, 8
+# How long mutool may be at a page if no limit is given.
+USUAL_SECONDS = 600
+CHUNK = 1 << 16
+
+
+@dataclass(frozen=True)
+class Image:
+    """An image that a page paints: its four corners, and the paths that clip it, each of one or more polygons."""
+
+    corners: Polygon
+    clips: list[list[Polygon]]
+
+
+@dataclass
+class Trace:
+    """What a page paints, filled by a parser of the trace."""
+
+    images: list[Image] = field(default_factory=list)
+    clips: list[list[Polygon]] = field(default_factory=list)
+    masks: int = 0
+    path: list[Polygon] | None = None
+    matrix: Matrix = IDENTITY
+    tiles: list[Polygon] = field(default_factory=list)
+
+    def start(self, tag: str, values: dict[str, str]) -> None:
+        """An element begins."""
+        if tag in ("moveto", "lineto", "curveto"):
+            if self.path is not None:
+                self.add_point(tag, values)
+        elif tag == "tile":
+            self.tiles.append(tile_of(values))
+        elif tag.startswith("clip_"):
+            # Polygons of a clip by a path are kept; any other, of text or of a mask, cuts nothing away here.
+            self.clips.append([])
+            self.path = [] if tag == "clip_path" else None
+            self.matrix = matrix_of(values)
+        elif tag == "pop_clip":
+            del self.clips[-1:]
+        elif tag == "begin_mask":
+            self.masks += 1
+        elif tag == "end_mask":
+            self.masks -= 1
+            self.clips.append([])
+        elif tag == "fill_image" and self.masks == 0:
+            self.add_image(values)
+
+    def end(self, tag: str) -> None:
+        """An element ends."""
+        if tag == "tile":
+            del self.tiles[-1:]
+        elif tag == "clip_path" and self.path is not None and self.clips:
+            self.clips[-1] = [points for points in self.path if len(points) > 2]
+            self.path = None
+
+    def close(self) -> "Trace":
+        """The trace is complete."""
+        return self
+
+    def add_point(self, tag: str, values: dict[str, str]) -> None:
+        """A point of the path that is read; a curve as several."""
+        assert self.path is not None
+        if tag == "moveto":
+            self.path.append([])
+        if not self.path:
+            return
+        points = self.path[-1]
+        if tag == "curveto":
+            ends = [mapped(self.matrix, float(values[f"x{k}"]), float(values[f"y{k}"])) for k in (1, 2, 3)]
+            curve = [points[-1] if points else ends[0], *ends]
+            points += [curve_point(curve, step / CURVE_STEPS) for step in range(1, CURVE_STEPS + 1)]
+        else:
+            points.append(mapped(self.matrix, float(values["x"]), float(values["y"])))
+
+    def add_image(self, values: dict[str, str]) -> None:
+        """An image that is no line work. A pattern with an image in it is image as far as it goes."""
+        if int(values.get("width", 0)) * int(values.get("height", 0)) < LEAST_SAMPLES:
+            return
+        corners = self.tiles[0] if self.tiles else corners_of(matrix_of(values), 0, 0, 1, 1)
+        if not self.images or self.images[-1].corners != corners:
+            self.images.append(Image(corners, [clip for clip in self.clips if clip]))
+
+
+def matrix_of(values: dict[str, str]) -> Matrix:
+    """The matrix of an element."""
+    parts = [float(part) for part in values.get("transform", "").split()]
+    return (parts[0], parts[1], parts[2], parts[3], parts[4], parts[5]) if len(parts) == 6 else IDENTITY
+
+
+def mapped(matrix: Matrix, x: float, y: float) -> Point:
+    """A point under a matrix."""
+    a, b, c, d, e, f = matrix
+    return a * x + c * y + e, b * x + d * y + f
+
+
+def corners_of(matrix: Matrix, left: float, lower: float, right: float, upper: float) -> Polygon:
+    """The corners of a rectangle under a matrix."""
+    return [mapped(matrix, x, y) for x, y in ((left, lower), (right, lower), (right, upper), (left, upper))]
+
+
+def tile_of(values: dict[str, str]) -> Polygon:
+    """The corners of what a pattern covers."""
+    area = [float(part) for part in values.get("area", "").split()]
+    left, lower, right, upper = area if len(area) == 4 else (0, 0, 0, 0)
+    return corners_of(matrix_of(values), left, lower, right, upper)
+
+
+def curve_point(points: Polygon, t: float) -> Point:
+    """A point of a cubic curve."""
+    parts = ((1 - t) ** 3, 3 * t * (1 - t) ** 2, 3 * t * t * (1 - t), t ** 3)
+    return (sum(part * x for part, (x, _) in zip(parts, points)), sum(part * y for part, (_, y) in zip(parts, points)))
+
+
+def trace_page(source: Source, page: int, seconds: int | None = None) -> Trace | None:
+    """The trace of a page, or None if mutool does not reach its end, or not in time."""
+    # Names of inks may be no UTF-8, and may hold any character.
+    parser = etree.XMLParser(target=Trace(), recover=True, encoding="iso-8859-1", huge_tree=True)
+    words = [tools.tool("mutool"), "trace", "in.pdf", str(page)]
+    with tools.running(words, cwd=source.folder, stderr=subprocess.DEVNULL) as child:
+        limit = threading.Timer(seconds or USUAL_SECONDS, child.terminate)
+        limit.start()
+        try:
+            assert child.stdout is not None
+            while chunk := child.stdout.read(CHUNK):
+                parser.feed(chunk)
+            if child.wait() != 0:
+                return None
+            found = parser.close()
+            return found if isinstance(found, Trace) else None
+        except etree.XMLSyntaxError:
+            return None
+        finally:
+            limit.cancel()
