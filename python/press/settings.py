@@ -289,3 +289,11 @@ def add_run_options(parser: argparse.ArgumentParser) -> None:
     add("--look", action="store_true", default=None,
         help="draws pictures of each page too, by press/look: page.png, traps.png, and register.png, the part with "
              "most traps out of register")
+
+
+def add_page_choice(parser: argparse.ArgumentParser) -> None:
+    """The option for pages, and those that judge them."""
+    add = parser.add_argument
+    add("-P", "--page", metavar="K", action="append", help="this page alone; also J-K, and several with commas between them")
+    add("-s", "--strict", action="store_true", default=None, help="a page that is warned of is refused")
+    add("-j", "--jobs", metavar="N", type=whole("--jobs", 1, MOST_JOBS), help="how many pages are done at once; 1 where it is left out")

@@ -1,0 +1,87 @@
+# SPDX-License-Identifier: Apache-2.0
+"""What happens in a run, as its observer is told it. Pages count from 1, seconds are wall time."""
+from collections.abc import Callable
+from dataclasses import dataclass
+from typing import Union
+
+from .errors import Status
+from .findings import Finding
+
+
+@dataclass(frozen=True)
+class RunStarted:
+    """The file was opened: the pages to do, of so many that it has; and whether it was PostScript."""
+
+    path: str
+    pages: tuple[int, ...]
+    count: int
+    converted: bool
+
+
+@dataclass(frozen=True)
+class FindingMade:
+    """Preflight found something."""
+
+    finding: Finding
+
+
+@dataclass(frozen=True)
+class StepStarted:
+    """A step of a page begins: a look, plates, traps, TIFF files, pictures or proof. Without a page: the proof
+    sheet of all."""
+
+    page: int | None
+    step: str
+
+
+@dataclass(frozen=True)
+class StepDone:
+    """A step of a page is done."""
+
+    page: int | None
+    step: str
+    seconds: float
+
+
+@dataclass(frozen=True)
+class Warned:
+    """Something that the owner should know, and the command that it concerns."""
+
+    page: int | None
+    command: str
+    text: str
+
+
+@dataclass(frozen=True)
+class PageDone:
+    """A page stands in OUT: how many plates it has, how many samples changed, and the bytes of disk that it takes."""
+
+    page: int
+    plates: int
+    changed: int
+    seconds: float
+    disk: int
+
+
+@dataclass(frozen=True)
+class PageFailed:
+    """A page failed: the status of the step that failed, and the line that says why."""
+
+    page: int
+    status: Status
+    why: str
+
+
+@dataclass(frozen=True)
+class RunDone:
+    """All pages are done or failed."""
+
+    failed: tuple[int, ...]
+
+
+Event = Union[RunStarted, FindingMade, StepStarted, StepDone, Warned, PageDone, PageFailed, RunDone]
+Observer = Callable[[Event], None]
+
+
+def silent(_: Event) -> None:
+    """An observer that ignores every event."""
